@@ -1,0 +1,11 @@
+pub mod ValueCode
+pub mod ElementNodes
+pub mod ElementDepth
+pub mod Elements
+pub mod Rows
+pub mod Trees
+pub mod Interpretations
+pub mod Frames
+pub mod BinderFrames
+pub mod Sequents
+pub mod TheoryNodes

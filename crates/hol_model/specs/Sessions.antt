@@ -1,0 +1,197 @@
+-- Which answers the commands of a script may have, and what a run writes.
+use Rattle.std.specs.Prelude.{◌≡◌, ℕ, ◌+◌, Bool, true, false, not, nat_eq, List, [], ◌∷◌, ◌++◌, map, Option, None, Some, IfSome, Result, Ok, Err, codes, decimal, if◌then◌else◌}
+use Rattle.std.specs.Str.{bytes_eq}
+use Rattle.std.specs.List.{ends_with}
+use Rattle.std.specs.Io.KnownBytes.{Appends}
+use Rattle.hol_model.specs.declared.fault.Fault.{Fault}
+use Rattle.hol_model.specs.declared.fault.Fault.TheVariants.{Memory, BadName, UnknownName, Syntax, NameTaken}
+use Rattle.hol_model.specs.declared.rule.TermRule.{TermRule}
+use Rattle.hol_model.specs.declared.rule.TermRule.TheVariants.{Refl, Beta, Assume}
+use Rattle.hol_model.specs.declared.rule.PairRule.{PairRule}
+use Rattle.hol_model.specs.declared.rule.PairRule.TheVariants.{Trans, MkComb, EqMp, DeductAntisym}
+use Rattle.hol_model.specs.declared.rule.Axiom.{Axiom}
+use Rattle.hol_model.specs.declared.rule.Axiom.TheVariants.{Eta, Select}
+use Rattle.hol_model.specs.Fault.{number_of, name_of}
+use Rattle.hol_model.specs.HolType.{HolType}
+use Rattle.hol_model.specs.NamedTerm.{NamedTerm}
+use Rattle.hol_model.specs.Nameless.{image}
+use Rattle.hol_model.specs.Theory.{Theory, generic_type, IsLegal}
+use Rattle.hol_model.specs.KnownTerm.{is_declared}
+use Rattle.hol_model.specs.Derivable.{Derivable}
+use Rattle.hol_model.specs.Holds.{Holds}
+use Rattle.hol_model.specs.Outcome.{given}
+use Rattle.hol_model.specs.Theorem.{Theorem}
+use Rattle.hol_model.specs.Rules.{refl_outcome, beta_outcome, assume_outcome, trans_outcome, mk_comb_outcome, eq_mp_outcome, deduct_antisym_outcome, abs_outcome}
+use Rattle.hol_model.specs.NamedAxioms.{eta_conclusion, select_hypothesis, select_conclusion}
+use Rattle.hol_model.specs.Reading.{Scope, meaning, ◌>>=◌}
+use Rattle.hol_model.specs.Texts.{text_of_sequent}
+use Rattle.hol_model.specs.Script.{Request, Cuts, requests}
+use Rattle.hol_model.specs.Commands.{RuleTree, by_term, by_pair, by_abs, by_axiom, CommandTree, thm_command, show_command, SpellsCommand}
+
+-- what a session keeps: the entries of its theory, the declared variables and the stored theorems
+pub record State : Type 0 where
+  pub theory : Theory
+  pub variables : List ℕ → Option HolType
+  pub theorems : List ℕ → Option Theorem
+
+-- the state in which a script begins
+abbrev pub start : State
+start = record { theory = []; variables = λ _. None; theorems = λ _. None }
+
+-- what the names of a text stand for in a state
+abbrev pub scope_in : State → Scope
+scope_in state = record { generic_type = generic_type state.theory; variable_type = state.variables; declares_type = is_declared state.theory }
+
+-- the state with one more theorem
+abbrev pub with_theorem : State → List ℕ → Theorem → State
+with_theorem state name theorem = record state { theorems = λ other. if bytes_eq name other then Some theorem else state.theorems other }
+
+-- ---- rules
+
+abbrev pub term_rule_outcome : TermRule → Theory → NamedTerm → Result Theorem Fault
+term_rule_outcome Refl = refl_outcome
+term_rule_outcome Beta = beta_outcome
+term_rule_outcome Assume = assume_outcome
+
+abbrev pub pair_rule_outcome : PairRule → Theory → Theorem → Theorem → Result Theorem Fault
+pair_rule_outcome Trans = trans_outcome
+pair_rule_outcome MkComb = mk_comb_outcome
+pair_rule_outcome EqMp = eq_mp_outcome
+pair_rule_outcome DeductAntisym = deduct_antisym_outcome
+
+abbrev pub axiom_theorem : Axiom → Theory → Theorem
+axiom_theorem Eta theory = record { theory = theory; hypotheses = []; conclusion = eta_conclusion }
+axiom_theorem Select theory = record { theory = theory; hypotheses = select_hypothesis ∷ []; conclusion = select_conclusion }
+
+-- the stored theorem of a name, and what follows with it
+abbrev pub stored : State → List ℕ → (Theorem → Result Theorem Fault) → Result Theorem Fault
+stored state name next = given (state.theorems name) UnknownName next
+
+-- what a rule gives: its arguments from left to right, then the rule
+abbrev pub rule_outcome : State → RuleTree → Result Theorem Fault
+rule_outcome state (by_term rule tree) = meaning (scope_in state) [] tree >>= λ term. term_rule_outcome rule state.theory term
+rule_outcome state (by_pair rule a b) = stored state a (λ first. stored state b (λ second. pair_rule_outcome rule state.theory first second))
+rule_outcome state (by_abs tree a) = meaning (scope_in state) [] tree >>= λ binder. stored state a (λ theorem. abs_outcome state.theory binder theorem)
+rule_outcome state (by_axiom rule) = Ok (axiom_theorem rule state.theory)
+
+-- ---- commands
+
+-- a name that `thm` may give: names that end in `_def` belong to definitions
+abbrev pub is_theorem_name : List ℕ → Bool
+is_theorem_name name = not (ends_with nat_eq name (codes "_def"))
+
+-- what a command answers
+pub data Reply : Type 0 where
+  proves : List ℕ → Theorem → Reply
+  refused : Fault → Reply
+
+-- In the old state the text, or what stands behind the last `;;`, may answer so and leave the new state. A refusal
+-- leaves the state as it was.
+pub data Allows : State → Option (List ℕ) → Reply → State → Type 0 where
+  finds_no_memory : {state : State} {text : Option (List ℕ)} → Allows state text (refused Memory) state
+  is_unfinished : {state : State} → Allows state None (refused Syntax) state
+  is_no_command : {state : State} {text : List ℕ} → ((tree : CommandTree) → ¬ (SpellsCommand text tree)) → Allows state (Some text) (refused Syntax) state
+  thm_has_bad_name : {state : State} {text name : List ℕ} {rule : RuleTree} → SpellsCommand text (thm_command name rule) → is_theorem_name name ≡ false → Allows state (Some text) (refused BadName) state
+  thm_has_taken_name : {state : State} {text name : List ℕ} {rule : RuleTree} {there : Theorem} → SpellsCommand text (thm_command name rule) → is_theorem_name name ≡ true → state.theorems name ≡ Some there → Allows state (Some text) (refused NameTaken) state
+  thm_is_refused : {state : State} {text name : List ℕ} {rule : RuleTree} {fault : Fault} → SpellsCommand text (thm_command name rule) → is_theorem_name name ≡ true → state.theorems name ≡ None → rule_outcome state rule ≡ Err fault → Allows state (Some text) (refused fault) state
+  thm_stores : {state : State} {text name : List ℕ} {rule : RuleTree} {theorem : Theorem} → SpellsCommand text (thm_command name rule) → is_theorem_name name ≡ true → state.theorems name ≡ None → rule_outcome state rule ≡ Ok theorem → Allows state (Some text) (proves name theorem) (with_theorem state name theorem)
+  show_finds_none : {state : State} {text name : List ℕ} → SpellsCommand text (show_command name) → state.theorems name ≡ None → Allows state (Some text) (refused UnknownName) state
+  show_prints : {state : State} {text name : List ℕ} {theorem : Theorem} → SpellsCommand text (show_command name) → state.theorems name ≡ Some theorem → Allows state (Some text) (proves name theorem) state
+
+-- ---- theorems
+
+-- the sequent follows from the entries of a legal theory, and holds in every finite standard model
+pub record IsProved (theory : Theory) (theorem : Theorem) : Type 0 where
+  pub legal : IsLegal theory
+  pub derivable : Derivable theory (map image theorem.hypotheses) (image theorem.conclusion)
+  pub holds : Holds theory (map image theorem.hypotheses) (image theorem.conclusion)
+
+-- a theorem that is printed is proved from the entries accepted so far
+abbrev pub IsProvedReply : Theory → Reply → Type 0
+IsProvedReply theory (proves name theorem) = IsProved theory theorem
+IsProvedReply theory (refused fault) = Unit {0}
+
+-- ---- what is printed
+
+-- a theorem's line
+abbrev pub theorem_line : Scope → List ℕ → Theorem → List ℕ
+theorem_line scope name theorem = name ++ codes ": " ++ text_of_sequent scope theorem.hypotheses theorem.conclusion ++ codes "\n"
+
+-- the line for a refusal
+abbrev pub refusal_line : ℕ → Fault → List ℕ
+refusal_line line fault = codes "line " ++ decimal line ++ codes ": E" ++ decimal (number_of fault) ++ codes " " ++ name_of fault ++ codes "\n"
+
+-- the text of a reply to the command in this line
+abbrev pub reply_text : ℕ → Scope → Reply → List ℕ
+reply_text line scope (proves name theorem) = theorem_line scope name theorem
+reply_text line scope (refused fault) = refusal_line line fault
+
+-- ---- sessions
+
+-- one command of a session
+pub record Turn (old : State) (text : Option (List ℕ)) (reply : Reply) (new : State) : Type 0 where
+  pub allowed : Allows old text reply new
+  pub proved : IsProvedReply new.theory reply
+
+-- From the old state a session of these requests may give these replies, one for each, write this text and end in the new
+-- state.
+abbrev pub Session : State → List Request → List Reply → List ℕ → State → Type 0
+Session old [] [] out new = (new ≡ old) × (out ≡ [])
+Session old (request ∷ requests) (reply ∷ replies) out new =
+    (mid : State) × (rest : List ℕ) × Turn old request.text reply mid × Session mid requests replies rest new
+    × (out ≡ reply_text request.line (scope_in mid) reply ++ rest)
+Session old [] (reply ∷ replies) out new = ⊥
+Session old (request ∷ requests) [] out new = ⊥
+
+-- how many commands were accepted and refused, and how many theorems were printed
+pub record Counts : Type 0 where
+  pub accepted_commands : ℕ
+  pub refused_commands : ℕ
+  pub theorem_lines : ℕ
+
+abbrev pub no_counts : Counts
+no_counts = record { accepted_commands = 0; refused_commands = 0; theorem_lines = 0 }
+
+-- the counts after one more reply
+abbrev pub counting : Counts → Reply → Counts
+counting counts (proves name theorem) = record { accepted_commands = counts.accepted_commands + 1; refused_commands = counts.refused_commands; theorem_lines = counts.theorem_lines + 1 }
+counting counts (refused fault) = record { accepted_commands = counts.accepted_commands; refused_commands = counts.refused_commands + 1; theorem_lines = counts.theorem_lines }
+
+-- the counts after these replies
+abbrev pub counts_after : Counts → List Reply → Counts
+counts_after counts [] = counts
+counts_after counts (reply ∷ replies) = counts_after (counting counts reply) replies
+
+-- ---- runs
+
+-- The text is what a session of this script writes, and its replies are counted so.
+pub record IsRun (script out : List ℕ) (counts : Counts) : Type 0 where
+  pub pieces : List (List ℕ)
+  pub last : List ℕ
+  pub cuts : Cuts script pieces last
+  pub replies : List Reply
+  pub final : State
+  pub session : Session start (requests 1 pieces last) replies out final
+  pub counted : counts ≡ counts_after no_counts replies
+
+-- the bytes are those that a device tells, where it tells any
+abbrev pub Tells : Option (List ℕ) → List ℕ → Type 0
+Tells known bytes = IfSome known (λ told. told ≡ bytes)
+
+-- What was read and written is a whole run.
+pub record Completes (input written new_written : Option (List ℕ)) (counts : Counts) : Type 0 where
+  pub script : List ℕ
+  pub out : List ℕ
+  pub read : Tells input script
+  pub wrote : Appends written new_written out
+  pub is_run : IsRun script out counts
+
+-- What was written is the front of what a run writes.
+pub record Stops (input written new_written : Option (List ℕ)) : Type 0 where
+  pub script : List ℕ
+  pub out : List ℕ
+  pub rest : List ℕ
+  pub counts : Counts
+  pub read : Tells input script
+  pub wrote : Appends written new_written out
+  pub is_run : IsRun script (out ++ rest) counts
