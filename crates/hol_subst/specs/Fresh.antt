@@ -1,0 +1,12 @@
+-- Names that are not taken.
+use Rattle.std.specs.Prelude.{◌≡◌, ℕ, ◌<◌, List, Bool, true, false}
+use Rattle.hol_model.specs.HolType.{HolType}
+use Rattle.hol_model.specs.NamedTerm.{NamedTerm, variable}
+use Rattle.hol_model.specs.Nameless.{Nameless}
+use Rattle.hol_model.specs.Substitution.{occurs_free, IsFirstFree}
+
+-- a variable of a type that is not free in a term, its name being another with as few primes as may be
+pub record IsFreshBinder (term : Nameless) (name : List ℕ) (ty : HolType) (binder : NamedTerm) : Type 0 where
+  pub fresh : List ℕ
+  pub is_variable : binder ≡ variable fresh ty
+  pub is_first_free : IsFirstFree (λ other. occurs_free other ty term) name fresh

@@ -1,0 +1,97 @@
+// Variables that are free in none of some terms.
+ghost use Rattle.std.specs.Prelude.{◌≡◌, ◌↔◌, [], ◌∷◌, IfOk, IfErr, IsTrue, IsFalse, Contains};
+ghost use Rattle.std.specs.String.{string_bytes};
+ghost use Rattle.hol_model.specs.NamedTerm.{variable, is_variable, type_of};
+ghost use Rattle.hol_model.specs.Name.{is_identifier};
+ghost use Rattle.hol_model.specs.Nameless.{image_under};
+ghost use Rattle.hol_model.specs.Substitution.{occurs_free, IsFirstFree, IsVariantOf};
+ghost use Rattle.hol_model.specs.Substitution as spec;
+ghost use Rattle.hol_subst.specs.Entries.{replaced};
+ghost use Rattle.hol_subst.specs.Replacements.{entries_of, binders_of};
+ghost use Rattle.hol_subst.specs.Fresh.{IsFreshBinder};
+ghost use Rattle.hol_model.specs.declared.fault.Fault.TheVariants.{Memory, NotVariable};
+
+use crate::passed::Passed;
+use crate::rebuild::variable_of;
+use crate::replacements::{Replacements, is_free_after};
+use hol_model::Fault;
+use hol_terms::{Term, is_free};
+use hol_types::Ty;
+use std::alloc::Global;
+
+/// The first of `v`, `v'`, `v''` .. that is free in no term of a list.
+pub fn variant(alloc: Global, avoid: &[Term], variable: &Term) -> Result<Term, Fault>
+    ensures ok { IfOk result (IsVariantOf avoid.now variable.now) }
+    ensures not_variable { (result ≡ Err NotVariable) ↔ IsFalse (is_variable variable.now) }
+    ensures refusals { IfErr result (Contains (NotVariable ∷ Memory ∷ [])) }
+{
+    match variable.dest_var() {
+        Some((name, ty)) => {
+            let fresh = name_free_in_none(alloc, avoid, name, ty)?;
+            variable_of(alloc, fresh.as_str(), ty)
+        }
+        None => Err(Fault::NotVariable),
+    }
+}
+
+// The name with so many primes that no term has a free variable of this name and type.
+fn name_free_in_none(alloc: Global, avoid: &[Term], name: &str, ty: &Ty) -> Result<String, Fault>
+    requires { IsTrue (is_identifier name.now) }
+    ensures fresh { IfOk result (λ fresh. IsFirstFree (λ other. spec.is_free_in_some avoid.now other ty.now) name.now (string_bytes fresh)) }
+    ensures named { IfOk result (λ fresh. IsTrue (is_identifier (string_bytes fresh))) }
+    ensures err { IfErr result (λ fault. fault ≡ Memory) }
+{
+    let mut fresh = String::from_str(alloc, name)?;
+    while is_free_in_some(avoid, fresh.as_str(), ty) {
+        fresh.push_str("'")?;
+    }
+    Ok(fresh)
+}
+
+fn is_free_in_some(terms: &[Term], name: &str, ty: &Ty) -> bool
+    ensures { result ≡ spec.is_free_in_some terms.now name.now ty.now }
+{
+    terms.iter().any(|term| is_free(term, name, ty))
+}
+
+/// A binder that captures nothing in a term, which stands under the passed binders, after the replacement.
+pub fn fresh_binder(
+    alloc: Global,
+    body: &Term,
+    name: &str,
+    ty: &Ty,
+    types: &[(Ty, Ty)],
+    passed: &Passed<'_>,
+    replacements: &Replacements<'_>,
+) -> Result<Term, Fault>
+    requires { IsTrue (is_identifier name.now) }
+    ensures fresh { IfOk result (IsFreshBinder (replaced (entries_of replacements.now) types.now (image_under (binders_of passed.now) body.now)) name.now ty.now) }
+    ensures variable { IfOk result (λ binder. IsTrue (is_variable binder)) }
+    ensures typed { IfOk result (λ binder. type_of binder ≡ Some ty.now) }
+    ensures err { IfErr result (λ fault. fault ≡ Memory) }
+{
+    let fresh = name_free_after(alloc, body, name, ty, types, &*passed, &*replacements)?;
+    variable_of(alloc, fresh.as_str(), ty)
+}
+
+// The name with so many primes that the variable of this name and type is not free in the term after the replacement.
+fn name_free_after(
+    alloc: Global,
+    body: &Term,
+    name: &str,
+    ty: &Ty,
+    types: &[(Ty, Ty)],
+    passed: &Passed<'_>,
+    replacements: &Replacements<'_>,
+) -> Result<String, Fault>
+    requires { IsTrue (is_identifier name.now) }
+    ensures fresh { IfOk result (λ fresh. IsFirstFree (λ other. occurs_free other ty.now (replaced (entries_of replacements.now) types.now (image_under (binders_of passed.now) body.now))) name.now (string_bytes fresh)) }
+    ensures named { IfOk result (λ fresh. IsTrue (is_identifier (string_bytes fresh))) }
+    ensures err { IfErr result (λ fault. fault ≡ Memory) }
+{
+    let mut fresh = String::from_str(alloc, name)?;
+    while is_free_after(body, fresh.as_str(), ty, types, &*passed, &*replacements) {
+        fresh.push_str("'")?;
+    }
+    Ok(fresh)
+}

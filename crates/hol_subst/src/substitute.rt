@@ -1,0 +1,84 @@
+// Substitution and the instantiation of types.
+ghost use Rattle.std.specs.Prelude.{◌≡◌, ◌↔◌, [], ◌∷◌, IfOk, IfErr, IsTrue, IsFalse, Contains, unwrap_or};
+ghost use Rattle.std.specs.Option.{option_map};
+ghost use Rattle.hol_model.specs.HolType as types_spec;
+ghost use Rattle.hol_model.specs.HolType.{type_instance_of, type_put};
+ghost use Rattle.hol_model.specs.NamedTerm.{type_of};
+ghost use Rattle.hol_model.specs.Nameless.{image};
+ghost use Rattle.hol_model.specs.Substitution.{put, replacement, instantiate};
+ghost use Rattle.hol_model.specs.Substitution as spec;
+ghost use Rattle.hol_model.specs.Measures.{nameless_within_limits};
+ghost use Rattle.hol_model.specs.declared.fault.Fault.TheVariants.{Memory, TooLarge, NotVariable, TypeMismatch};
+
+use crate::replace::replaced;
+use crate::replacements::Replacements;
+use hol_model::Fault;
+use hol_terms::Term;
+use hol_types::{Ty, replaces_type_variables};
+use std::alloc::Global;
+
+#[tactic(auto, using(crate::proofs::KeptTypes::keeping, crate::proofs::Putting::putting))]
+/// A term with free variables replaced, all at once, by a list of pairs (new, old), of which the first counts.
+pub fn vsubst(alloc: Global, theta: &[(Term, Term)], term: &Term) -> Result<Term, Fault>
+    ensures ok { IfOk result (λ new. image new ≡ put (replacement theta.now) (image term.now)) }
+    ensures typed { IfOk result (λ new. type_of new ≡ type_of term.now) }
+    ensures not_variable { (result ≡ Err NotVariable) ↔ IsFalse (spec.replaces_variables theta.now) }
+    ensures type_mismatch { (result ≡ Err TypeMismatch) ↔ (IsTrue (spec.replaces_variables theta.now) × IsFalse (spec.keeps_types theta.now)) }
+    ensures within_limits { IfOk result (λ new. IsTrue (nameless_within_limits (image new))) }
+    ensures too_large { result ≡ Err TooLarge → IsFalse (nameless_within_limits (put (replacement theta.now) (image term.now))) }
+    ensures refusals { IfErr result (Contains (NotVariable ∷ TypeMismatch ∷ TooLarge ∷ Memory ∷ [])) }
+{
+    if !replaces_variables(theta) {
+        return Err(Fault::NotVariable);
+    }
+    if !keeps_types(theta) {
+        return Err(Fault::TypeMismatch);
+    }
+    let changed = replaced(alloc, term, &[], &Replacements::Pairs(theta))?;
+    changed_or_copy(alloc, changed, term)
+}
+
+fn replaces_variables(theta: &[(Term, Term)]) -> bool
+    ensures { result ≡ spec.replaces_variables theta.now }
+{
+    theta.iter().all(|pair| pair.1.is_var())
+}
+
+fn keeps_types(theta: &[(Term, Term)]) -> bool
+    ensures { result ≡ spec.keeps_types theta.now }
+{
+    theta.iter().all(|pair| pair.0.ty().eq(pair.1.ty()))
+}
+
+#[tactic(auto, using(crate::proofs::KeptTypes::keeping, crate::proofs::Putting::putting))]
+/// A term with type variables replaced, all at once, by a list of pairs (new, old), of which the first counts.
+pub fn inst(alloc: Global, theta: &[(Ty, Ty)], term: &Term) -> Result<Term, Fault>
+    ensures ok { IfOk result (λ new. image new ≡ instantiate (type_instance_of theta.now) (image term.now)) }
+    ensures typed { IfOk result (λ new. type_of new ≡ option_map (type_put theta.now) (type_of term.now)) }
+    ensures not_variable { (result ≡ Err NotVariable) ↔ IsFalse (types_spec.replaces_type_variables theta.now) }
+    ensures within_limits { IfOk result (λ new. IsTrue (nameless_within_limits (image new))) }
+    ensures too_large { result ≡ Err TooLarge → IsFalse (nameless_within_limits (instantiate (type_instance_of theta.now) (image term.now))) }
+    ensures refusals { IfErr result (Contains (NotVariable ∷ TooLarge ∷ Memory ∷ [])) }
+{
+    if !replaces_type_variables(theta) {
+        return Err(Fault::NotVariable);
+    }
+    let changed = replaced(alloc, term, theta, &Replacements::Pairs(&[]))?;
+    changed_or_copy(alloc, changed, term)
+}
+
+// The changed term, or a copy where nothing changes.
+#[tactic(auto, using(hol_model::proofs::WithinLimits::limits))]
+fn changed_or_copy(alloc: Global, changed: Option<Term>, term: &Term) -> Result<Term, Fault>
+    ensures ok { IfOk result (λ new. new ≡ unwrap_or changed term.now) }
+    ensures within_limits { IfOk result (λ new. IsTrue (nameless_within_limits (image new))) }
+    ensures err { IfErr result (λ fault. fault ≡ Memory) }
+{
+    let new = match changed {
+        Some(new) => new,
+        None => term.copy(alloc)?,
+    };
+    let _typed = new.ty();
+    new.well_formed();
+    Ok(new)
+}
