@@ -1,0 +1,62 @@
+-- What passes the tests of definitions and declarations makes a legal theory, and the theorem of a definition.
+use Rattle.std.proofs.Common.{◌≡◌, ℕ, List, [], ◌∷◌, true, false, refl, inl, Some, None}
+use Rattle.hol_model.specs.HolType.{HolType}
+use Rattle.hol_model.specs.NamedTerm.{NamedTerm, constant, type_of, equation}
+use Rattle.hol_model.specs.Name.{is_constant_name, is_declared_type_name}
+use Rattle.hol_model.specs.Nameless.{image}
+use Rattle.hol_model.specs.Theory.{Theory, IsLegal, IsLegalDefinition, IsLegalConstant, IsLegalType, definition, declaration_of_type, declaration_of_constant}
+use Rattle.hol_model.specs.KnownTerm.{knows_type}
+use Rattle.hol_model.specs.Legality.{is_closed, reflects, is_fixed, is_new_name, own_type}
+use Rattle.hol_model.specs.Derivable.Derivable.{definition_rule}
+use Rattle.hol_model.proofs.Images.{image-equation}
+use Rattle.hol_model.proofs.KnownTerms.{knows_type-IsKnownType}
+use Rattle.hol_model.proofs.LegalEntries.{closed-HasNoFree, reflects-image, fixed-has_none, new_name-IsNewName}
+use Rattle.hol_model.specs.Theorem.{IsTheorem}
+use Rattle.hol_model.specs.Rules.{first_unknown, is_full, concluded, define_outcome}
+use Rattle.hol_kernel.proofs.RuleLemmas.{known_term}
+
+pub own_type-is : (term : NamedTerm) (ty : HolType) → type_of term ≡ Some ty → own_type term ≡ ty
+own_type-is term ty typed = rw typed refl
+
+pub definition-legal : (theory : Theory) → IsLegal theory → (name : List ℕ) (term : NamedTerm) (ty : HolType) → type_of term ≡ Some ty
+    → is_constant_name name ≡ true → first_unknown theory term ≡ None → is_closed term ≡ true → reflects ty term ≡ true → is_new_name theory name ≡ true
+    → IsLegal (definition name ty (image term) ∷ theory)
+definition-legal theory legal name term ty typed named known closed reflected new =
+    let entry : IsLegalDefinition theory name ty (image term) = record {
+      is_name = named;
+      is_new = new_name-IsNewName theory name new;
+      known = known_term theory term ty known typed;
+      closed = closed-HasNoFree term closed;
+      reflected = reflects-image ty term reflected;
+    } in
+    (entry, legal)
+
+pub definition-theorem : (theory : Theory) (name : List ℕ) (term : NamedTerm) (ty : HolType) → IsLegal (definition name ty (image term) ∷ theory)
+    → IsTheorem (record { theory = definition name ty (image term) ∷ theory; hypotheses = []; conclusion = equation (constant name ty) term })
+definition-theorem theory name term ty legal = record {
+  legal = legal;
+  derivable = rw (image-equation (constant name ty) term ty refl) (definition_rule name ty (image term) (inl refl));
+  ordered = tt;
+}
+
+pub declared_type-legal : (theory : Theory) → IsLegal theory → (name : List ℕ) → is_declared_type_name name ≡ true → is_new_name theory name ≡ true → IsLegal (declaration_of_type name ∷ theory)
+declared_type-legal theory legal name named new =
+    let entry : IsLegalType theory name = record { is_name = named; is_new = new_name-IsNewName theory name new } in
+    (entry, legal)
+
+pub declared_constant-legal : (theory : Theory) → IsLegal theory → (name : List ℕ) (ty : HolType) → is_constant_name name ≡ true → knows_type theory ty ≡ true → is_fixed ty ≡ true → is_new_name theory name ≡ true
+    → IsLegal (declaration_of_constant name ty ∷ theory)
+declared_constant-legal theory legal name ty named known fixed new =
+    let entry : IsLegalConstant theory name ty = record {
+      is_name = named;
+      is_new = new_name-IsNewName theory name new;
+      known = knows_type-IsKnownType theory ty known;
+      fixed = fixed-has_none ty fixed;
+    } in
+    (entry, legal)
+
+-- what a definition comes to, where nothing but the limits can refuse
+pub define-concluded : (theory : Theory) (name : List ℕ) (term : NamedTerm) (ty : HolType) → type_of term ≡ Some ty → is_constant_name name ≡ true
+    → first_unknown theory term ≡ None → is_closed term ≡ true → reflects ty term ≡ true → is_new_name theory name ≡ true → is_full theory ≡ false
+    → define_outcome theory name term ≡ concluded (definition name ty (image term) ∷ theory) [] (equation (constant name ty) term)
+define-concluded theory name term ty typed named known closed reflected new room = rw (typed, named, known, closed, reflected, new, room) refl

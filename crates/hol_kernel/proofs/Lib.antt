@@ -1,0 +1,6 @@
+pub mod HypothesesLemmas
+pub mod OrderLemmas
+pub mod RuleLemmas
+pub mod LimitLemmas
+pub mod DefinitionLemmas
+pub mod InstanceLemmas

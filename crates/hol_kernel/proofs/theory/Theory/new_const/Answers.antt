@@ -1,0 +1,17 @@
+use Rattle.std.proofs.Common.{◌≡◌, ◌∷◌, true}
+use Rattle.hol_model.specs.Theory.{declaration_of_constant}
+use Rattle.hol_model.specs.KnownTerm.{knows_type}
+use Rattle.hol_model.specs.Name.{is_constant_name}
+use Rattle.hol_model.specs.Legality.{is_new_name, is_fixed}
+use Rattle.hol_kernel.proofs.DefinitionLemmas.{declared_constant-legal}
+use Rattle.hol_kernel.proofs.theory.Theory.new_const.Goals as goal
+
+pub grow_by_constant-requires-clause-legal : goal.grow_by_constant-requires-clause-legal
+grow_by_constant-requires-clause-legal c =
+    let named : is_constant_name c.args.name.now ≡ true = cc (c.is_constant_name.ensures, c.if-not-is_constant_name.false, c.as_bytes.ensures.value) in
+    let new : is_new_name c.args.self.now c.args.name.now ≡ true = cc (c.is_new_name.ensures, c.if-not-is_new_name.false) in
+    let known : knows_type c.args.self.now c.args.ty.now ≡ true = cc (c.knows_type.ensures, c.if-not-knows_type.false) in
+    let fixed : is_fixed c.args.ty.now ≡ true = cc (c.is_fixed.ensures, c.if-not-is_fixed.false) in
+    let is : c.in_ok-entries-2.entries ≡ declaration_of_constant c.args.name.now c.args.ty.now ∷ c.args.self.now =
+    cc (c.in_ok-entries-2.ensures.ok, c.in_ok-entries.ensures.ok, c.in_ok-from_str.ensures.ok, c.in_ok-copy.ensures.ok) in
+    rw is (declared_constant-legal c.args.self.now c.entries.ensures.legal c.args.name.now c.args.ty.now named known fixed new)

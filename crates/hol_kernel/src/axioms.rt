@@ -1,0 +1,80 @@
+// The two axioms (HOL Light's ETA_AX and SELECT_AX without their quantifiers).
+ghost use Rattle.std.specs.Prelude.{◌≡◌, [], ◌∷◌, IfOk, IfErr};
+ghost use Rattle.hol_model.specs.HolType.{function_type, bool_type};
+ghost use Rattle.hol_model.specs.Theory.{type_a, type_b};
+ghost use Rattle.hol_model.specs.NamedAxioms as axioms;
+ghost use Rattle.hol_model.specs.declared.fault.Fault.TheVariants.{Memory};
+
+use crate::generic::choice;
+use crate::theory::Theory;
+use crate::thm::Thm;
+use hol_model::Fault;
+use hol_terms::{Term, mk_eq};
+use hol_types::Ty;
+use std::alloc::Global;
+
+impl Theory {
+    ghost use Rattle.hol_model.specs.Theorem.{Theorem};
+
+    /// ETA: `|- (\x:A. t x) = t`.
+    pub fn eta(&self, alloc: Global) -> Result<Thm, Fault>
+        ensures ok { IfOk result (λ theorem. theorem ≡ record { theory = self.now; hypotheses = []; conclusion = axioms.eta_conclusion }) }
+        ensures err { IfErr result (λ fault. fault ≡ Memory) }
+    {
+        let conclusion = eta_conclusion(alloc)?;
+        Thm::new(alloc, self.entries()?, Vec::new(alloc), conclusion)
+    }
+
+    /// SELECT: `P x |- P (@ P)`.
+    pub fn select(&self, alloc: Global) -> Result<Thm, Fault>
+        ensures ok { IfOk result (λ theorem. theorem ≡ record { theory = self.now; hypotheses = axioms.select_hypothesis ∷ []; conclusion = axioms.select_conclusion }) }
+        ensures err { IfErr result (λ fault. fault ≡ Memory) }
+    {
+        let predicate = select_predicate(alloc)?;
+        let mut hypotheses = Vec::new(alloc);
+        hypotheses.push(select_hypothesis(alloc, &predicate)?)?;
+        let conclusion = select_conclusion(alloc, &predicate)?;
+        Thm::new(alloc, self.entries()?, hypotheses, conclusion)
+    }
+}
+
+fn eta_conclusion(alloc: Global) -> Result<Term, Fault>
+    ensures ok { IfOk result (λ term. term ≡ axioms.eta_conclusion) }
+    ensures err { IfErr result (λ fault. fault ≡ Memory) }
+{
+    let a = Ty::tyvar(alloc, "A")?;
+    let b = Ty::tyvar(alloc, "B")?;
+    let function = Term::mk_var(alloc, "t", &Ty::fun(alloc, &a, &b)?)?;
+    let argument = Term::mk_var(alloc, "x", &a)?;
+    let applied = Term::mk_comb(alloc, &function, &argument)?;
+    let expanded = Term::mk_abs(alloc, &argument, &applied)?;
+    mk_eq(alloc, &expanded, &function)
+}
+
+fn select_predicate(alloc: Global) -> Result<Term, Fault>
+    ensures ok { IfOk result (λ term. term ≡ axioms.select_predicate) }
+    ensures err { IfErr result (λ fault. fault ≡ Memory) }
+{
+    let a = Ty::tyvar(alloc, "A")?;
+    let ty = Ty::fun(alloc, &a, &Ty::boolean(alloc)?)?;
+    Term::mk_var(alloc, "P", &ty)
+}
+
+fn select_hypothesis(alloc: Global, predicate: &Term) -> Result<Term, Fault>
+    requires { predicate.now ≡ axioms.select_predicate }
+    ensures ok { IfOk result (λ term. term ≡ axioms.select_hypothesis) }
+    ensures err { IfErr result (λ fault. fault ≡ Memory) }
+{
+    let argument = Term::mk_var(alloc, "x", &Ty::tyvar(alloc, "A")?)?;
+    Term::mk_comb(alloc, predicate, &argument)
+}
+
+fn select_conclusion(alloc: Global, predicate: &Term) -> Result<Term, Fault>
+    requires { predicate.now ≡ axioms.select_predicate }
+    ensures ok { IfOk result (λ term. term ≡ axioms.select_conclusion) }
+    ensures err { IfErr result (λ fault. fault ≡ Memory) }
+{
+    let choice = Term::mk_const(alloc, "@", &choice(alloc)?)?;
+    let chosen = Term::mk_comb(alloc, &choice, predicate)?;
+    Term::mk_comb(alloc, predicate, &chosen)
+}

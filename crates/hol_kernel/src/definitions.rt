@@ -1,0 +1,109 @@
+// Definitions and declarations (HOL Light's `new_basic_definition`, and constants and types without a definition).
+ghost use Rattle.std.specs.Prelude.{◌≡◌, ◌⊎◌, Ok, Err, IfOk, IfErr, OnErr};
+ghost use Rattle.hol_model.specs.KnownTerm as spec;
+ghost use Rattle.hol_model.specs.declared.fault.Fault.TheVariants.{Memory};
+ghost use Rattle.hol_model.specs.Rules as outcome;
+ghost use Rattle.hol_model.specs.Outcome.{Answers};
+
+use crate::entries::StoredEntry;
+use crate::equation::equation;
+use crate::known::{first_unknown, knows_type};
+use crate::legality::{is_closed, is_fixed, is_new_name, reflects};
+use crate::theory::Theory;
+use crate::thm::Thm;
+use hol_model::{Fault, is_constant_name, is_declared_type_name};
+use hol_terms::Term;
+use hol_types::Ty;
+use std::alloc::Global;
+
+impl Theory {
+    /// Defines a constant; the theorem is `|- c = t`, and stands on the theory with the definition.
+    pub fn define(&mut self, alloc: Global, name: &str, term: &Term) -> Result<Thm, Fault>
+        ensures outcome { Answers result (outcome.define_outcome self.old name.now term.now) }
+        ensures grown { IfOk result (λ theorem. self.new ≡ theorem.theory) }
+        ensures kept { OnErr result (self.new ≡ self.old) }
+    {
+        if !is_constant_name(name.as_bytes()) {
+            return Err(Fault::BadName);
+        }
+        if let Some(fault) = first_unknown(term, self) {
+            return Err(fault);
+        }
+        if !is_closed(term) {
+            return Err(Fault::NotClosed);
+        }
+        if !reflects(term, term.ty()) {
+            return Err(Fault::TypeVarsNotReflected);
+        }
+        if !is_new_name(self, name) {
+            return Err(Fault::AlreadyDefined);
+        }
+        if self.is_full() {
+            return Err(Fault::TooLarge);
+        }
+        let constant = Term::mk_const(alloc, name, term.ty())?;
+        let conclusion = equation(alloc, &constant, term)?;
+        let stored = StoredEntry::Definition(
+            String::from_str(alloc, name)?,
+            term.type_of(alloc)?,
+            term.copy(alloc)?,
+        );
+        let entries = self.entries()?.with(alloc, stored)?;
+        let theorem = Thm::new(alloc, entries.copy()?, Vec::new(alloc), conclusion)?;
+        self.grow_by_constant(alloc, name, term.ty(), entries)?;
+        Ok(theorem)
+    }
+
+    /// Declares a type.
+    pub fn new_type(&mut self, alloc: Global, name: &str) -> Result<(), Fault>
+        ensures ok { IfOk result (λ _. outcome.new_type_outcome self.old name.now ≡ Ok self.new) }
+        ensures err { IfErr result (λ fault. (fault ≡ Memory) ⊎ (outcome.new_type_outcome self.old name.now ≡ Err fault)) }
+        ensures kept { OnErr result (self.new ≡ self.old) }
+    {
+        if !is_declared_type_name(name.as_bytes()) {
+            return Err(Fault::BadName);
+        }
+        if !is_new_name(self, name) {
+            return Err(Fault::AlreadyDefined);
+        }
+        if self.is_full() {
+            return Err(Fault::TooLarge);
+        }
+        let stored = StoredEntry::DeclaredType(String::from_str(alloc, name)?);
+        let entries = self.entries()?.with(alloc, stored)?;
+        self.grow_by_type(alloc, name, entries)
+    }
+
+    /// Declares a constant of a type without type variables.
+    pub fn new_const(&mut self, alloc: Global, name: &str, ty: &Ty) -> Result<(), Fault>
+        ensures ok { IfOk result (λ _. outcome.new_const_outcome self.old name.now ty.now ≡ Ok self.new) }
+        ensures err { IfErr result (λ fault. (fault ≡ Memory) ⊎ (outcome.new_const_outcome self.old name.now ty.now ≡ Err fault)) }
+        ensures kept { OnErr result (self.new ≡ self.old) }
+    {
+        if !is_constant_name(name.as_bytes()) {
+            return Err(Fault::BadName);
+        }
+        if !knows_type(ty, self) {
+            return Err(Fault::UnknownType);
+        }
+        if !is_fixed(ty) {
+            return Err(Fault::TypeVarsNotReflected);
+        }
+        if !is_new_name(self, name) {
+            return Err(Fault::AlreadyDefined);
+        }
+        if self.is_full() {
+            return Err(Fault::TooLarge);
+        }
+        let stored = StoredEntry::DeclaredConstant(String::from_str(alloc, name)?, ty.copy(alloc)?);
+        let entries = self.entries()?.with(alloc, stored)?;
+        self.grow_by_constant(alloc, name, ty, entries)
+    }
+
+    /// Whether the types and the constants of a term are known.
+    pub fn known(&self, term: &Term) -> bool
+        ensures { result ≡ spec.is_known self.now term.now }
+    {
+        first_unknown(term, self).is_none()
+    }
+}

@@ -1,0 +1,77 @@
+// Which types and terms a theory knows.
+ghost use Rattle.std.specs.Prelude.{◌≡◌};
+ghost use Rattle.hol_model.specs.KnownTerm as spec;
+ghost use Rattle.hol_model.specs.Rules as rules;
+
+use crate::theory::Theory;
+use hol_model::Fault;
+use hol_terms::{Parts, Term};
+use hol_types::{Ty, TypeParts, is_instance};
+
+/// The refusal for a term of which a type or a constant is not known.
+pub fn first_unknown(term: &Term, theory: &Theory) -> Option<Fault>
+    ensures { result ≡ rules.first_unknown theory.now term.now }
+{
+    if !knows_types(term, theory) {
+        Some(Fault::UnknownType)
+    } else if !knows_constants(term, theory) {
+        Some(Fault::UnknownConst)
+    } else if !has_instances(term, theory) {
+        Some(Fault::NotInstance)
+    } else {
+        None
+    }
+}
+
+/// Whether each declared type in a type is known.
+pub fn knows_type(ty: &Ty, theory: &Theory) -> bool
+    ensures { result ≡ spec.knows_type theory.now ty.now }
+{
+    match ty.parts() {
+        TypeParts::Variable(_) | TypeParts::Bool => true,
+        TypeParts::Function(domain, codomain) => knows_type(domain, theory)
+            && knows_type(codomain, theory),
+        TypeParts::Declared(name) => theory.is_declared(name),
+    }
+}
+
+/// Whether each type in a term is known.
+pub fn knows_types(term: &Term, theory: &Theory) -> bool
+    ensures { result ≡ spec.knows_types theory.now term.now }
+{
+    match term.parts() {
+        Parts::Variable(_, ty) | Parts::Constant(_, ty) => knows_type(ty, theory),
+        Parts::Combination(function, argument) => knows_types(function, theory)
+            && knows_types(argument, theory),
+        Parts::Abstraction(_, ty, body) => knows_type(ty, theory) && knows_types(body, theory),
+    }
+}
+
+/// Whether each constant in a term is there.
+pub fn knows_constants(term: &Term, theory: &Theory) -> bool
+    ensures { result ≡ spec.knows_constants theory.now term.now }
+{
+    match term.parts() {
+        Parts::Variable(_, _) => true,
+        Parts::Constant(name, _) => theory.const_type(name).is_some(),
+        Parts::Combination(function, argument) => knows_constants(function, theory)
+            && knows_constants(argument, theory),
+        Parts::Abstraction(_, _, body) => knows_constants(body, theory),
+    }
+}
+
+/// Whether each constant in a term is there at an instance of its generic type.
+pub fn has_instances(term: &Term, theory: &Theory) -> bool
+    ensures { result ≡ spec.has_instances theory.now term.now }
+{
+    match term.parts() {
+        Parts::Variable(_, _) => true,
+        Parts::Constant(name, ty) => match theory.const_type(name) {
+            Some(generic) => is_instance(generic, ty),
+            None => false,
+        },
+        Parts::Combination(function, argument) => has_instances(function, theory)
+            && has_instances(argument, theory),
+        Parts::Abstraction(_, _, body) => has_instances(body, theory),
+    }
+}

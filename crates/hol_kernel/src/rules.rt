@@ -1,0 +1,180 @@
+// The rules of the kernel (those of HOL Light's `fusion.ml`). A theorem handed in stands on this theory or an earlier
+// state of it.
+ghost use Rattle.std.specs.Prelude.{◌≡◌, [], ◌∷◌, Some, IfOk};
+ghost use Rattle.hol_model.specs.HolType.{HolType};
+ghost use Rattle.hol_model.specs.NamedTerm.{type_of, equation};
+ghost use Rattle.hol_model.specs.Theory.{IsEarlier};
+ghost use Rattle.hol_model.specs.Theorem.{IsTheorem};
+ghost use Rattle.hol_model.specs.Rules as outcome;
+ghost use Rattle.hol_model.specs.Outcome.{Answers};
+
+use crate::entries::Entries;
+use crate::equation::{
+    abstraction, application, combination, dest_eq, dest_trivial_redex, equation,
+};
+use crate::hypotheses::{copies, is_free_in_hypotheses, with_hypotheses, without_hypothesis};
+use crate::known::{first_unknown, knows_type};
+use crate::theory::Theory;
+use crate::thm::Thm;
+use hol_alpha::aconv;
+use hol_model::Fault;
+use hol_terms::Term;
+use hol_types::Ty;
+use std::alloc::Global;
+
+// The theorem `left = right`, where it is shown to be one.
+fn equation_theorem(
+    alloc: Global,
+    entries: Entries,
+    hypotheses: Vec<Term>,
+    left: &Term,
+    right: &Term,
+) -> Result<Thm, Fault>
+    requires typed { type_of left.now ≡ type_of right.now }
+    requires theorem { (ty : HolType) → type_of left.now ≡ Some ty → IsTheorem (record { theory = entries; hypotheses = hypotheses.items; conclusion = equation left.now right.now }) }
+    ensures outcome { Answers result (outcome.concluded entries hypotheses.items (equation left.now right.now)) }
+    ensures stands_on { IfOk result (λ answer. answer.theory ≡ entries) }
+{
+    let _typed = left.ty();
+    let conclusion = equation(alloc, left, right)?;
+    Thm::new(alloc, entries, hypotheses, conclusion)
+}
+
+impl Theory {
+    /// REFL: `|- t = t`.
+    pub fn refl(&self, alloc: Global, term: &Term) -> Result<Thm, Fault>
+        ensures outcome { Answers result (outcome.refl_outcome self.now term.now) }
+        ensures stands_on { IfOk result (λ answer. answer.theory ≡ self.now) }
+    {
+        if let Some(fault) = first_unknown(term, self) {
+            return Err(fault);
+        }
+        equation_theorem(alloc, self.entries()?, Vec::new(alloc), term, term)
+    }
+
+    /// ASSUME: `p |- p`.
+    pub fn assume(&self, alloc: Global, term: &Term) -> Result<Thm, Fault>
+        ensures outcome { Answers result (outcome.assume_outcome self.now term.now) }
+        ensures stands_on { IfOk result (λ answer. answer.theory ≡ self.now) }
+    {
+        if !term.ty().is_bool() {
+            return Err(Fault::NotBool);
+        }
+        if let Some(fault) = first_unknown(term, self) {
+            return Err(fault);
+        }
+        let mut hypotheses = Vec::new(alloc);
+        hypotheses.push(term.copy(alloc)?)?;
+        Thm::new(alloc, self.entries()?, hypotheses, term.copy(alloc)?)
+    }
+
+    /// TRANS: from `a = b` and `b = c`, `a = c`.
+    pub fn trans(&self, alloc: Global, first: &Thm, second: &Thm) -> Result<Thm, Fault>
+        requires first { IsEarlier first.now.theory self.now }
+        requires second { IsEarlier second.now.theory self.now }
+        ensures outcome { Answers result (outcome.trans_outcome self.now first.now second.now) }
+        ensures stands_on { IfOk result (λ answer. answer.theory ≡ self.now) }
+    {
+        let Some((left, middle)) = dest_eq(first.concl()) else {
+            return Err(Fault::NotEquation);
+        };
+        let Some((other, right)) = dest_eq(second.concl()) else {
+            return Err(Fault::NotEquation);
+        };
+        if !aconv(middle, other) {
+            return Err(Fault::NotAlpha);
+        }
+        let hypotheses = with_hypotheses(alloc, first.hyps(), second.hyps())?;
+        equation_theorem(alloc, self.entries()?, hypotheses, left, right)
+    }
+
+    /// EQ_MP: from `p = q` and `p`, `q`.
+    pub fn eq_mp(&self, alloc: Global, first: &Thm, second: &Thm) -> Result<Thm, Fault>
+        requires first { IsEarlier first.now.theory self.now }
+        requires second { IsEarlier second.now.theory self.now }
+        ensures outcome { Answers result (outcome.eq_mp_outcome self.now first.now second.now) }
+        ensures stands_on { IfOk result (λ answer. answer.theory ≡ self.now) }
+    {
+        let Some((left, right)) = dest_eq(first.concl()) else {
+            return Err(Fault::NotEquation);
+        };
+        if !aconv(left, second.concl()) {
+            return Err(Fault::NotAlpha);
+        }
+        let hypotheses = with_hypotheses(alloc, first.hyps(), second.hyps())?;
+        Thm::new(alloc, self.entries()?, hypotheses, right.copy(alloc)?)
+    }
+
+    /// MK_COMB: from `f = g` and `x = y`, `f x = g y`.
+    pub fn mk_comb(&self, alloc: Global, first: &Thm, second: &Thm) -> Result<Thm, Fault>
+        requires first { IsEarlier first.now.theory self.now }
+        requires second { IsEarlier second.now.theory self.now }
+        ensures outcome { Answers result (outcome.mk_comb_outcome self.now first.now second.now) }
+        ensures stands_on { IfOk result (λ answer. answer.theory ≡ self.now) }
+    {
+        let Some((left_function, right_function)) = dest_eq(first.concl()) else {
+            return Err(Fault::NotEquation);
+        };
+        let Some((left_argument, right_argument)) = dest_eq(second.concl()) else {
+            return Err(Fault::NotEquation);
+        };
+        let entries = self.entries()?;
+        let hypotheses = with_hypotheses(alloc, first.hyps(), second.hyps())?;
+        let left = application(alloc, left_function, left_argument)?;
+        let right = combination(alloc, right_function, right_argument)?;
+        equation_theorem(alloc, entries, hypotheses, &left, &right)
+    }
+
+    /// ABS: from `s = t`, `(\x. s) = (\x. t)`, where `x` is free in no hypothesis.
+    pub fn abs(&self, alloc: Global, binder: &Term, theorem: &Thm) -> Result<Thm, Fault>
+        requires { IsEarlier theorem.now.theory self.now }
+        ensures outcome { Answers result (outcome.abs_outcome self.now binder.now theorem.now) }
+        ensures stands_on { IfOk result (λ answer. answer.theory ≡ self.now) }
+    {
+        let Some((name, ty)) = binder.dest_var() else {
+            return Err(Fault::NotVariable);
+        };
+        let Some((left_body, right_body)) = dest_eq(theorem.concl()) else {
+            return Err(Fault::NotEquation);
+        };
+        if !knows_type(ty, self) {
+            return Err(Fault::UnknownType);
+        }
+        if is_free_in_hypotheses(theorem.hyps(), name, ty) {
+            return Err(Fault::FreeInHypothesis);
+        }
+        let entries = self.entries()?;
+        let hypotheses = copies(alloc, theorem.hyps())?;
+        let left = abstraction(alloc, binder, left_body)?;
+        let right = abstraction(alloc, binder, right_body)?;
+        equation_theorem(alloc, entries, hypotheses, &left, &right)
+    }
+
+    /// BETA: `|- (\x. t) x = t`.
+    pub fn beta(&self, alloc: Global, term: &Term) -> Result<Thm, Fault>
+        ensures outcome { Answers result (outcome.beta_outcome self.now term.now) }
+        ensures stands_on { IfOk result (λ answer. answer.theory ≡ self.now) }
+    {
+        let Some(body) = dest_trivial_redex(term) else {
+            return Err(Fault::NotTrivialBeta);
+        };
+        if let Some(fault) = first_unknown(term, self) {
+            return Err(fault);
+        }
+        equation_theorem(alloc, self.entries()?, Vec::new(alloc), term, body)
+    }
+
+    /// DEDUCT_ANTISYM_RULE: from `p` and `q`, `p = q`, each without the other's conclusion among its hypotheses.
+    pub fn deduct_antisym(&self, alloc: Global, first: &Thm, second: &Thm) -> Result<Thm, Fault>
+        requires first { IsEarlier first.now.theory self.now }
+        requires second { IsEarlier second.now.theory self.now }
+        ensures outcome { Answers result (outcome.deduct_antisym_outcome self.now first.now second.now) }
+        ensures stands_on { IfOk result (λ answer. answer.theory ≡ self.now) }
+    {
+        let entries = self.entries()?;
+        let from_first = without_hypothesis(alloc, second.concl(), first.hyps())?;
+        let from_second = without_hypothesis(alloc, first.concl(), second.hyps())?;
+        let hypotheses = with_hypotheses(alloc, &from_first, &from_second)?;
+        equation_theorem(alloc, entries, hypotheses, first.concl(), second.concl())
+    }
+}

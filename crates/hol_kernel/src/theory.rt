@@ -1,0 +1,141 @@
+// Theories.
+ghost use Rattle.std.specs.Prelude.{◌≡◌, ◌+◌, ◌<◌, ◌||◌, ℕ, List, Some, IfOk, IfErr, OnOk, OnErr, [], length, if◌then◌else◌};
+ghost use Rattle.std.specs.Str.{bytes_eq};
+ghost use Rattle.hol_model.specs.Rules as rules;
+ghost use Rattle.std.specs.Option.{option_map};
+ghost use Rattle.hol_model.specs.Theory.{generic_type};
+ghost use Rattle.hol_model.specs.KnownTerm as spec;
+ghost use Rattle.hol_model.specs.declared.fault.Fault.TheVariants.{Memory};
+
+use crate::entries::Entries;
+use crate::generic::{choice, equality};
+use hol_model::{DEFINITIONS_LIMIT, Fault};
+use hol_types::Ty;
+use indexmap::{IndexMap, IndexSet};
+use std::alloc::Global;
+use std::marker::Model;
+
+/// A theory: definitions and declarations, which only grow.
+#[derive(Drop)]
+pub struct Theory {
+    entries: Entries,
+    // The number of entries.
+    count: usize,
+    // The generic type of each constant.
+    constants: IndexMap<String, Ty>,
+    declared_types: IndexSet<String>,
+}
+
+impl Model for Theory {
+    ghost use Rattle.std.specs.Prelude.{List};
+    ghost use Rattle.hol_model.specs.Theory.{Entry};
+    ghost use Rattle.hol_model.specs.NamelessCode.{theory_code};
+
+    ghost Value = { List Entry };
+
+    ghost coded = { theory_code };
+
+    ghost use Rattle.hol_kernel.specs.TheoryState.{IsTheoryState};
+
+    ghost view = { λ theory. theory.entries };
+
+    ghost invariant = { IsTheoryState };
+}
+
+impl Theory {
+    ghost use Rattle.hol_model.specs.Theory.{equality_name, choice_name, equality_type, choice_type, type_a, IsLegal};
+
+    /// The theory without definitions, of which `=` and `@` are the constants.
+    pub fn new(alloc: Global) -> Result<Theory, Fault>
+        ensures ok { IfOk result (λ theory. theory ≡ []) }
+        ensures err { IfErr result (λ fault. fault ≡ Memory) }
+    {
+        let mut constants = IndexMap::new(alloc);
+        constants.insert(String::from_str(alloc, "=")?, equality(alloc)?)?;
+        constants.insert(String::from_str(alloc, "@")?, choice(alloc)?)?;
+        Ok(Theory {
+            entries: Entries::new(),
+            count: 0,
+            constants,
+            declared_types: IndexSet::new(alloc),
+        })
+    }
+
+    /// The entries on which a new theorem stands.
+    pub(crate) fn entries(&self) -> Result<Entries, Fault>
+        ensures ok { IfOk result (λ entries. entries ≡ self.now) }
+        ensures err { IfErr result (λ fault. fault ≡ Memory) }
+        ensures legal { IsLegal self.now }
+    {
+        self.entries.copy()
+    }
+
+    /// The generic type of a constant.
+    pub fn const_type(&self, name: &str) -> Option<&Ty>
+        ensures { option_map (λ ty. ty.now) result ≡ generic_type self.now name.now }
+    {
+        self.constants.get(name)
+    }
+
+    /// Whether a type of this name was declared.
+    pub fn is_declared(&self, name: &str) -> bool
+        ensures { result ≡ spec.is_declared self.now name.now }
+    {
+        self.declared_types.contains(name)
+    }
+
+    /// Whether there is no room for a further entry.
+    pub(crate) fn is_full(&self) -> bool
+        ensures { result ≡ rules.is_full self.now }
+    {
+        self.count >= DEFINITIONS_LIMIT
+    }
+
+    // Grows by an entry that gives a constant its generic type.
+    pub(crate) fn grow_by_constant(
+        &mut self,
+        alloc: Global,
+        name: &str,
+        ty: &Ty,
+        entries: Entries,
+    ) -> Result<(), Fault>
+        requires legal { IsLegal entries }
+        requires one_more { length entries ≡ length self.old + 1 }
+        requires room { length self.old < DEFINITIONS_LIMIT }
+        requires constants { (other : List ℕ) → generic_type entries other ≡ (if bytes_eq name.now other then Some ty.now else generic_type self.old other) }
+        requires types { (other : List ℕ) → spec.is_declared entries other ≡ spec.is_declared self.old other }
+        ensures ok { OnOk result (self.new ≡ entries) }
+        ensures err { IfErr result (λ fault. fault ≡ Memory) }
+        ensures kept { OnErr result (self.new ≡ self.old) }
+    {
+        let name = String::from_str(alloc, name)?;
+        let ty = ty.copy(alloc)?;
+        self.constants.insert(name, ty)?;
+        self.entries = entries;
+        self.count += 1;
+        Ok(())
+    }
+
+    // Grows by an entry that declares a type.
+    pub(crate) fn grow_by_type(
+        &mut self,
+        alloc: Global,
+        name: &str,
+        entries: Entries,
+    ) -> Result<(), Fault>
+        requires legal { IsLegal entries }
+        requires one_more { length entries ≡ length self.old + 1 }
+        requires room { length self.old < DEFINITIONS_LIMIT }
+        requires constants { (other : List ℕ) → generic_type entries other ≡ generic_type self.old other }
+        requires types { (other : List ℕ) → spec.is_declared entries other ≡ (bytes_eq name.now other || spec.is_declared self.old other) }
+        ensures ok { OnOk result (self.new ≡ entries) }
+        ensures err { IfErr result (λ fault. fault ≡ Memory) }
+        ensures kept { OnErr result (self.new ≡ self.old) }
+    {
+        let name = String::from_str(alloc, name)?;
+        self.declared_types.insert(name)?;
+        self.entries = entries;
+        self.count += 1;
+        Ok(())
+    }
+}

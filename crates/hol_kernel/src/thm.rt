@@ -1,0 +1,93 @@
+// Theorems.
+ghost use Rattle.std.specs.Prelude.{◌≡◌, IfOk, IfErr};
+ghost use Rattle.hol_model.specs.declared.fault.Fault.TheVariants.{Memory};
+
+use crate::entries::Entries;
+use hol_model::Fault;
+use hol_terms::Term;
+use std::alloc::Global;
+use std::marker::Model;
+use std::rc::Rc;
+
+/// A theorem: hypotheses, a conclusion, and the entries of the theory on which it stands. Only the kernel's rules make
+/// one, so it is derivable there. Copies share one node.
+#[derive(Drop)]
+pub struct Thm {
+    node: Rc<TheoremNode>,
+}
+
+#[derive(Drop)]
+struct TheoremNode {
+    entries: Entries,
+    hypotheses: Vec<Term>,
+    conclusion: Term,
+}
+
+impl Model for Thm {
+    ghost use Rattle.hol_model.specs.Theorem.{Theorem, IsTheorem};
+    ghost use Rattle.hol_model.specs.TheoremCode.{theorem_code};
+
+    ghost Value = { Theorem };
+
+    ghost coded = { theorem_code };
+
+    ghost use Rattle.hol_kernel.specs.Thm.{viewed_theorem};
+
+    ghost view = { viewed_theorem };
+
+    ghost invariant = { λ thm. IsTheorem (viewed_theorem thm) };
+}
+
+impl Thm {
+    ghost use Rattle.hol_model.specs.Theorem.{Theorem, IsTheorem, AreOrdered};
+    ghost use Rattle.hol_model.specs.Derivable.{Derivable};
+
+    /// A theorem, where it is shown to be one.
+    pub(crate) fn new(
+        alloc: Global,
+        entries: Entries,
+        hypotheses: Vec<Term>,
+        conclusion: Term,
+    ) -> Result<Thm, Fault>
+        requires { IsTheorem (record { theory = entries; hypotheses = hypotheses.items; conclusion = conclusion }) }
+        ensures ok { IfOk result (λ thm. thm ≡ record { theory = entries; hypotheses = hypotheses.items; conclusion = conclusion }) }
+        ensures err { IfErr result (λ fault. fault ≡ Memory) }
+    {
+        let node = Rc::new(
+            alloc,
+            TheoremNode {
+                entries,
+                hypotheses,
+                conclusion,
+            },
+        )?;
+        Ok(Thm { node })
+    }
+
+    /// The same theorem.
+    pub fn copy(&self, _alloc: Global) -> Result<Thm, Fault>
+        ensures ok { IfOk result (λ thm. thm ≡ self.now) }
+        ensures err { IfErr result (λ fault. fault ≡ Memory) }
+    {
+        Ok(Thm {
+            node: self.node.clone()?,
+        })
+    }
+
+    /// The hypotheses, in order. What is known of a theorem is known of these.
+    pub fn hyps(&self) -> &[Term]
+        ensures value { result.now ≡ self.now.hypotheses }
+        ensures ordered { AreOrdered result.now }
+        ensures theorem { IsTheorem self.now }
+    {
+        &self.node.hypotheses
+    }
+
+    /// The conclusion.
+    pub fn concl(&self) -> &Term
+        ensures value { result.now ≡ self.now.conclusion }
+        ensures theorem { IsTheorem self.now }
+    {
+        &self.node.conclusion
+    }
+}
