@@ -1,0 +1,165 @@
+// Sequents, read from texts.
+ghost use Rattle.std.specs.Prelude.{◌≡◌, ◌∷◌, [], List, IfOk, IfErr};
+ghost use Rattle.hol_model.specs.TermGrammar.{TermTree};
+ghost use Rattle.hol_model.specs.Rules.{is_formula};
+ghost use Rattle.hol_model.specs.SequentGrammar.{formula_meaning, ReadsSequent, RefusesSequent};
+ghost use Rattle.hol_syntax.specs.Scope.{scope_of};
+ghost use Rattle.hol_syntax.specs.Steps.{flat_steps_of};
+ghost use Rattle.hol_syntax.specs.TermSteps.{flat_steps, term_steps};
+ghost use Rattle.hol_syntax.specs.TypeStack.{Agrees};
+ghost use Rattle.hol_syntax.specs.Views.{token_of, tokens_of};
+ghost use Rattle.hol_syntax.specs.SequentStates.{separates, IsFound, ParsesList, ParsesSequent, MeansFormulas};
+
+use crate::evaluate::term_of_steps;
+use crate::lexer::tokens_in;
+use crate::scope::Scope;
+use crate::steps::TermStep;
+use crate::term_reader::parse_term;
+use crate::token::Token;
+use crate::type_reader::ReadError;
+use hol_model::{Fault, Symbol};
+use hol_terms::Term;
+use std::alloc::Global;
+
+// What stands between the terms of a sequent.
+#[derive(Clone, Copy)]
+enum Separator {
+    Comma,
+    Turnstile,
+}
+
+fn separates(separator: Separator, token: Token) -> bool
+    ensures { result ≡ separates separator (token_of token.entry) }
+{
+    match separator {
+        Separator::Comma => match token {
+            Token::Mark(Symbol::Comma) => true,
+            Token::Name(_) | Token::Number(_) | Token::Mark(_) => false,
+        },
+        Separator::Turnstile => match token {
+            Token::Mark(Symbol::Turnstile) => true,
+            Token::Name(_) | Token::Number(_) | Token::Mark(_) => false,
+        },
+    }
+}
+
+// Where the first separator of this kind stands.
+fn find(separator: Separator, tokens: &[Token]) -> Option<usize>
+    ensures { IsFound result separator (tokens_of tokens.now) }
+{
+    for (i, token) in tokens.iter().enumerate() {
+        if separates(separator, *token) {
+            return Some(i);
+        }
+    }
+    None
+}
+
+// The steps of the terms, which have commas between them.
+fn parse_list<'a>(alloc: Global, tokens: &[Token<'a>]) -> Result<Vec<Vec<TermStep<'a>>>, ReadError>
+    ensures { ParsesList result (tokens_of tokens.now) }
+{
+    let mut parsed = Vec::new(alloc);
+    if tokens.is_empty() {
+        return Ok(parsed);
+    }
+    let mut at = 0;
+    while let Some(count) = find(Separator::Comma, &tokens[at..]) {
+        match parse_term(alloc, &tokens[at..at + count]) {
+            Ok(steps) => parsed.push(steps)?,
+            Err(error) => return Err(error),
+        }
+        at += count + 1;
+    }
+    match parse_term(alloc, &tokens[at..]) {
+        Ok(steps) => parsed.push(steps)?,
+        Err(error) => return Err(error),
+    }
+    Ok(parsed)
+}
+
+// The steps of the hypotheses and of the conclusion.
+fn parse_sequent<'a>(
+    alloc: Global,
+    tokens: &[Token<'a>],
+) -> Result<(Vec<Vec<TermStep<'a>>>, Vec<TermStep<'a>>), ReadError>
+    ensures { ParsesSequent result (tokens_of tokens.now) }
+{
+    let Some(count) = find(Separator::Turnstile, tokens) else {
+        return Err(ReadError::Syntax);
+    };
+    let hypotheses = match parse_list(alloc, &tokens[..count]) {
+        Ok(hypotheses) => hypotheses,
+        Err(error) => return Err(error),
+    };
+    match parse_term(alloc, &tokens[count + 1..]) {
+        Ok(conclusion) => Ok((hypotheses, conclusion)),
+        Err(error) => Err(error),
+    }
+}
+
+// The term of the type of truth values that the steps of a tree make.
+fn formula_of_steps(alloc: Global, scope: &Scope, steps: &[TermStep]) -> Result<Term, Fault>
+    ensures { (tree : TermTree) → flat_steps_of steps.now ≡ flat_steps (term_steps tree)
+        → Agrees result (formula_meaning (scope_of scope.now) tree) }
+{
+    let term = match term_of_steps(alloc, scope, steps) {
+        Ok(term) => term,
+        Err(fault) => return Err(fault),
+    };
+    if is_a_formula(&term) {
+        Ok(term)
+    } else {
+        Err(Fault::NotBool)
+    }
+}
+
+// Whether the term's type is that of truth values.
+fn is_a_formula(term: &Term) -> bool
+    ensures { result ≡ is_formula term.now }
+{
+    term.ty().is_bool()
+}
+
+// The terms of the type of truth values that the steps make, one after another.
+fn formulas_of_steps(
+    alloc: Global,
+    scope: &Scope,
+    parsed: &[Vec<TermStep>],
+) -> Result<Vec<Term>, Fault>
+    ensures { MeansFormulas result (scope_of scope.now) parsed.now }
+{
+    let mut terms = Vec::new(alloc);
+    for steps in parsed {
+        match formula_of_steps(alloc, scope, steps) {
+            Ok(term) => terms.push(term)?,
+            Err(fault) => return Err(fault),
+        }
+    }
+    Ok(terms)
+}
+
+/// The hypotheses and the conclusion that a text is read as.
+pub fn read_sequent(alloc: Global, scope: &Scope, text: &[u8]) -> Result<(Vec<Term>, Term), Fault>
+    ensures found { IfOk result (λ sequent. ReadsSequent (scope_of scope.now) text.now (sequent.0.items, sequent.1)) }
+    ensures refused { IfErr result (λ fault. RefusesSequent (scope_of scope.now) text.now fault) }
+{
+    let tokens = match tokens_in(alloc, text) {
+        Ok(tokens) => tokens,
+        Err(ReadError::Memory) => return Err(Fault::Memory),
+        Err(ReadError::Syntax) => return Err(Fault::Syntax),
+    };
+    let (parsed, last) = match parse_sequent(alloc, &tokens) {
+        Ok(parsed) => parsed,
+        Err(ReadError::Memory) => return Err(Fault::Memory),
+        Err(ReadError::Syntax) => return Err(Fault::Syntax),
+    };
+    let hypotheses = match formulas_of_steps(alloc, scope, &parsed) {
+        Ok(hypotheses) => hypotheses,
+        Err(fault) => return Err(fault),
+    };
+    match formula_of_steps(alloc, scope, &last) {
+        Ok(conclusion) => Ok((hypotheses, conclusion)),
+        Err(fault) => Err(fault),
+    }
+}

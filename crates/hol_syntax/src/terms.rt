@@ -1,0 +1,36 @@
+// Terms, read from texts.
+ghost use Rattle.std.specs.Prelude.{IfOk, IfErr};
+ghost use Rattle.hol_model.specs.Texts.{ReadsTerm, RefusesTerm, TermsAreUnambiguous};
+ghost use Rattle.hol_syntax.specs.Scope.{scope_of};
+
+use crate::evaluate::term_of_steps;
+use crate::lexer::tokens_in;
+use crate::scope::Scope;
+use crate::term_reader::parse_term;
+use crate::type_reader::ReadError;
+use hol_model::Fault;
+use hol_terms::Term;
+use std::alloc::Global;
+
+/// The term that a text is read as.
+pub fn read_term(alloc: Global, scope: &Scope, text: &[u8]) -> Result<Term, Fault>
+    ensures found { IfOk result (λ term. ReadsTerm (scope_of scope.now) text.now term) }
+    ensures refused { IfErr result (λ fault. RefusesTerm (scope_of scope.now) text.now fault) }
+{
+    let tokens = match tokens_in(alloc, text) {
+        Ok(tokens) => tokens,
+        Err(ReadError::Memory) => return Err(Fault::Memory),
+        Err(ReadError::Syntax) => return Err(Fault::Syntax),
+    };
+    let steps = match parse_term(alloc, &tokens) {
+        Ok(steps) => steps,
+        Err(ReadError::Memory) => return Err(Fault::Memory),
+        Err(ReadError::Syntax) => return Err(Fault::Syntax),
+    };
+    term_of_steps(alloc, scope, &steps)
+}
+
+/// A text is spelled as one tree of terms.
+pub fn terms_are_unambiguous()
+    ensures { TermsAreUnambiguous }
+{}
