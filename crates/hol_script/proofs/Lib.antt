@@ -1,0 +1,6 @@
+pub mod BytesLemmas
+pub mod CutLemmas
+pub mod ReadingLemmas
+pub mod RuleLemmas
+pub mod SessionLemmas
+pub mod RunLemmas

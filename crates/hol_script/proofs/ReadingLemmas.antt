@@ -1,0 +1,306 @@
+-- Names among tokens, where quoted terms end, and which words name rules.
+use Rattle.std.proofs.Common.{◌≡◌, ◌≢◌, ℕ, zero, suc, ◌+◌, ◌-◌, ◌<◌, ◌≤◌, arith, List, [], ◌∷◌, ◌++◌, length, get_or, take, drop, ◌==◌, eqb-true, Bool, true, false, ◌||◌, refl, sym, ◌∙◌, ap, subst, Option, None, Some, Result, Ok, Err, Bor}
+use Rattle.std.specs.Prelude.{codes, not, if◌then◌else◌}
+use Rattle.std.specs.Str.{bytes_eq}
+use Rattle.std.proofs.lemmas.Slice.Eq.{bytes_eq-Decides}
+use Rattle.std.proofs.lemmas.List.{take_all, length-drop}
+use borrow.Author.Count.{below_more}
+use Rattle.hol_model.specs.Name.{is_capital, is_small, continues_name, all_continue, is_identifier}
+use Rattle.hol_model.specs.declared.symbol.Symbol.TheVariants.{Backquote}
+use Rattle.hol_model.specs.declared.rule.TermRule.{TermRule}
+use Rattle.hol_model.specs.declared.rule.TermRule.TheVariants.{Refl, Beta, Assume}
+use Rattle.hol_model.specs.declared.rule.PairRule.TheVariants.{Trans, MkComb, EqMp, DeductAntisym}
+use Rattle.hol_model.specs.declared.rule.Axiom.TheVariants.{Eta, Select}
+use Rattle.hol_model.specs.declared.rule.RuleKind.{RuleKind}
+use Rattle.hol_model.specs.declared.rule.RuleKind.TheVariants.{Term, Pair, Abs, Axiom as OfAxiom}
+use Rattle.hol_model.specs.Token.{Token, Name, Number, Mark}
+use Rattle.hol_model.specs.Lexing.{Lexes, IsToken, IsIdentifier, Every, is_name_byte}
+use Rattle.hol_model.specs.TypeGrammar.{TypeTree, Named, Enclosed, Function, type_tokens}
+use Rattle.hol_model.specs.TermGrammar.{Bare, Variable, Constant, TermTree, Leaf, Apply, Not, Join, Bind, IsConstantName, IsTermTree, Infix, IffInfix, ImpliesInfix, OrInfix, AndInfix, EqualInfix, Binder, Lambda, ForAll, Exists, Choice, Lexeme, InfixPiece, BinderPiece, pieces, all_tokens, IsReadTerm}
+use Rattle.hol_model.specs.TermGrammar.{Enclosed as EnclosedTerm}
+use Rattle.hol_model.specs.Commands.{RuleTree, by_term, by_pair, by_abs, by_axiom, kind_of, rule_word, quote_tokens, argument_tokens, rule_tokens, IsQuotable, IsRuleTree}
+use Rattle.hol_model.proofs.Tests.{both}
+use Rattle.hol_syntax.specs.declared.token.Token.{Token as TokenHere}
+use Rattle.hol_syntax.specs.declared.token.Token.TheVariants.{Name as NameHere}
+use Rattle.hol_syntax.specs.Views.{token_of, tokens_of}
+use Rattle.hol_syntax.specs.declared.type_reader.ReadError.{ReadError}
+use Rattle.hol_syntax.specs.declared.type_reader.ReadError.TheVariants.{Memory, Syntax}
+use Rattle.hol_syntax.specs.TermStates.{Parses}
+use Rattle.hol_script.specs.Reading.{AreTokens, is_quote, HasNoQuote, quoted, rule_kind_of, ParsesQuote, ParsesArguments, ParsesRule}
+use Rattle.hol_script.specs.declared.command.Rule.{Rule}
+
+-- ---- tokens
+
+pub tokens-lexed : (text : List ℕ) (tokens : List Token) → Lexes text tokens → AreTokens tokens
+tokens-lexed text [] lexed = tt
+tokens-lexed text (token ∷ tokens) (gap, behind, rest, blank, whole, begins, further) = (begins.valid, tokens-lexed rest tokens further)
+
+-- ---- names
+
+every-continues : (bytes : List ℕ) → Every is_name_byte bytes → all_continue bytes ≡ true
+every-continues [] every = refl
+every-continues (b ∷ bytes) every = both (continues_name b) (all_continue bytes) every.0 (every-continues bytes every.1)
+
+pub identifier-test : (bytes : List ℕ) → IsIdentifier bytes → is_identifier bytes ≡ true
+identifier-test [] identifier = absurd identifier
+identifier-test (b ∷ bytes) identifier = both (is_capital b || is_small b) (all_continue bytes) identifier.0 (every-continues bytes identifier.1)
+
+-- the name at the front of tokens passes the test of names
+pub name-front : (tokens : List TokenHere) (default : TokenHere) (bytes : Bor (List ℕ)) → 1 ≤ length tokens → get_or tokens 0 default ≡ NameHere bytes → AreTokens (tokens_of tokens)
+    → is_identifier bytes.now ≡ true
+name-front [] default bytes within is all = absurd (omega arith)
+name-front (token ∷ tokens) default bytes within is all = identifier-test bytes.now (subst (λ (x : TokenHere). IsToken (token_of x)) is all.0)
+
+-- ---- quotes
+
+type-no_quote : (tree : TypeTree) (rest : List Token) → HasNoQuote rest → HasNoQuote (type_tokens tree rest)
+type-no_quote (Named name) rest none = (refl, none)
+type-no_quote (Enclosed tree) rest none = (refl, type-no_quote tree _ (refl, none))
+type-no_quote (Function a b) rest none = type-no_quote a _ (refl, type-no_quote b rest none)
+
+constant-no_quote : (token : Token) → IsConstantName token → is_quote token ≡ false
+constant-no_quote (Name name) named = refl
+constant-no_quote (Number digits) named = refl
+constant-no_quote (Mark Backquote) named = absurd named
+constant-no_quote (Mark symbol) named = refl
+
+infix-no_quote : (operation : Infix) (rest : List Lexeme) → HasNoQuote (all_tokens rest) → HasNoQuote (all_tokens (InfixPiece operation ∷ rest))
+infix-no_quote IffInfix rest none = (refl, none)
+infix-no_quote ImpliesInfix rest none = (refl, none)
+infix-no_quote OrInfix rest none = (refl, none)
+infix-no_quote AndInfix rest none = (refl, none)
+infix-no_quote EqualInfix rest none = (refl, none)
+
+binder-no_quote : (binder : Binder) (name : List ℕ) (tree : TypeTree) (rest : List Lexeme) → HasNoQuote (all_tokens rest) → HasNoQuote (all_tokens (BinderPiece binder name tree ∷ rest))
+binder-no_quote Lambda name tree rest none = (refl, (refl, (refl, type-no_quote tree _ (refl, none))))
+binder-no_quote ForAll name tree rest none = (refl, (refl, (refl, type-no_quote tree _ (refl, none))))
+binder-no_quote Exists name tree rest none = (refl, (refl, (refl, type-no_quote tree _ (refl, none))))
+binder-no_quote Choice name tree rest none = (refl, (refl, (refl, type-no_quote tree _ (refl, none))))
+
+term-no_quote : (tree : TermTree) (rest : List Lexeme) → IsTermTree tree → HasNoQuote (all_tokens rest) → HasNoQuote (all_tokens (pieces tree rest))
+term-no_quote (Leaf (Bare name)) rest grammatical none = (refl, none)
+term-no_quote (Leaf (Variable name type)) rest grammatical none = (refl, (refl, (refl, type-no_quote type _ (refl, none))))
+term-no_quote (Leaf (Constant name type)) rest grammatical none = (refl, (constant-no_quote name grammatical.0, (refl, type-no_quote type _ (refl, none))))
+term-no_quote (EnclosedTerm tree) rest grammatical none = (refl, term-no_quote tree _ grammatical (refl, none))
+term-no_quote (Apply f a) rest grammatical none = term-no_quote f _ grammatical.0 (term-no_quote a rest grammatical.1 none)
+term-no_quote (Not tree) rest grammatical none = (refl, term-no_quote tree rest grammatical.0 none)
+term-no_quote (Join operation a b) rest grammatical none =
+    term-no_quote a _ grammatical.0 (infix-no_quote operation (pieces b rest) (term-no_quote b rest grammatical.1 none))
+term-no_quote (Bind binder name type tree) rest grammatical none =
+    binder-no_quote binder name type (pieces tree rest) (term-no_quote tree rest grammatical.1 none)
+
+-- what stands before the first backquote, and behind it, is determined
+pub record SamePieces (a b r s : List Token) : Type 0 where
+  pub inner : a ≡ b
+  pub rest : r ≡ s
+
+never : {A : Type 0} → true ≡ false → A
+never same = cc
+
+split_once : (a b r s : List Token) → HasNoQuote a → HasNoQuote b → a ++ Mark Backquote ∷ r ≡ b ++ Mark Backquote ∷ s → SamePieces a b r s
+split_once [] [] r s none_a none_b same = record { inner = refl; rest = cc }
+split_once [] (y ∷ b) r s none_a none_b same =
+    let first : Mark Backquote ≡ y = cc in
+    never (ap is_quote first ∙ none_b.0)
+split_once (x ∷ a) [] r s none_a none_b same =
+    let first : Mark Backquote ≡ x = cc in
+    never (ap is_quote first ∙ none_a.0)
+split_once (x ∷ a) (y ∷ b) r s none_a none_b same =
+    let first : x ≡ y = cc in
+    let further : a ++ Mark Backquote ∷ r ≡ b ++ Mark Backquote ∷ s = cc in
+    let deeper : SamePieces a b r s = split_once a b r s none_a.1 none_b.1 further in
+    record { inner = λ i. first i ∷ deeper.inner i; rest = deeper.rest }
+
+pub quoted_once : (a b r s : List Token) → HasNoQuote a → HasNoQuote b → quoted a r ≡ quoted b s → SamePieces a b r s
+quoted_once a b r s none_a none_b same = split_once a b r s none_a none_b (let further : a ++ Mark Backquote ∷ r ≡ b ++ Mark Backquote ∷ s = cc in further)
+
+quotable-no_quote : (tree : TermTree) → IsQuotable tree → HasNoQuote (all_tokens (pieces tree []))
+quotable-no_quote tree quotable = term-no_quote tree [] quotable.0 tt
+
+-- two quoted terms with what follows them
+pub same_rest : (tokens r s : List Token) (a b : TermTree) → IsQuotable a → IsQuotable b → tokens ≡ quote_tokens a r → tokens ≡ quote_tokens b s → r ≡ s
+same_rest tokens r s a b quotable_a quotable_b first second =
+    (quoted_once (all_tokens (pieces a [])) (all_tokens (pieces b [])) r s (quotable-no_quote a quotable_a) (quotable-no_quote b quotable_b) (sym first ∙ second)).rest
+
+pub quote_refused : (tokens inner rest : List Token) → tokens ≡ quoted inner rest → HasNoQuote inner → ((tree : TermTree) → ¬ (IsReadTerm inner tree))
+    → (tree : TermTree) (other : List Token) → IsQuotable tree → tokens ≢ quote_tokens tree other
+quote_refused tokens inner rest whole none refused tree other quotable same =
+    refused tree (record {
+      grammatical = quotable.0;
+      depth = quotable.1;
+      spelled = (quoted_once inner (all_tokens (pieces tree [])) rest other none (quotable-no_quote tree quotable) (sym whole ∙ same)).inner;
+    })
+
+-- a backquote stands at a place
+abbrev pub is_quote_at : List TokenHere → ℕ → Bool
+is_quote_at [] at = false
+is_quote_at (token ∷ tokens) zero = is_quote (token_of token)
+is_quote_at (token ∷ tokens) (suc at) = is_quote_at tokens at
+
+pub is_quote_at-token : (tokens : List TokenHere) (at : ℕ) (default : TokenHere) → at < length tokens → is_quote_at tokens at ≡ is_quote (token_of (get_or tokens at default))
+is_quote_at-token [] at default within = absurd (omega arith)
+is_quote_at-token (first ∷ tokens) zero default within = refl
+is_quote_at-token (first ∷ tokens) (suc at) default within = is_quote_at-token tokens at default (omega (arith, within))
+
+no_quote-before : (tokens : List TokenHere) (at : ℕ) → ((before : ℕ) → before < at → is_quote_at tokens before ≡ false) → HasNoQuote (tokens_of (take at tokens))
+no_quote-before [] zero none = tt
+no_quote-before [] (suc at) none = tt
+no_quote-before (token ∷ tokens) zero none = tt
+no_quote-before (token ∷ tokens) (suc at) none = (none 0 (omega arith), no_quote-before tokens at (λ before less. none (suc before) (omega (arith, less))))
+
+quote-mark : (token : Token) → is_quote token ≡ true → token ≡ Mark Backquote
+quote-mark (Name name) is = cc
+quote-mark (Number digits) is = cc
+quote-mark (Mark Backquote) is = refl
+quote-mark (Mark symbol) is = never (sym is)
+
+quote-splits : (tokens : List TokenHere) (at : ℕ) → is_quote_at tokens at ≡ true → tokens_of tokens ≡ tokens_of (take at tokens) ++ Mark Backquote ∷ tokens_of (drop (suc at) tokens)
+quote-splits [] at is = cc
+quote-splits (token ∷ tokens) zero is = ap (λ (x : Token). x ∷ tokens_of tokens) (quote-mark (token_of token) is)
+quote-splits (token ∷ tokens) (suc at) is = ap (λ (xs : List Token). token_of token ∷ xs) (quote-splits tokens at is)
+
+-- the tokens behind a backquote, cut at the next one
+pub quote-taken : (tokens : List Token) (inner : List TokenHere) (at : ℕ) → tokens ≡ Mark Backquote ∷ tokens_of inner
+    → ((before : ℕ) → before < at → is_quote_at inner before ≡ false) → is_quote_at inner at ≡ true
+    → (tokens ≡ quoted (tokens_of (take at inner)) (tokens_of (take (length inner - (at + 1)) (drop (at + 1) inner)))) × HasNoQuote (tokens_of (take at inner))
+quote-taken tokens inner at begins none quote =
+    let one : at + 1 ≡ suc at = omega arith in
+    let whole : take (length inner - (at + 1)) (drop (at + 1) inner) ≡ drop (at + 1) inner =
+    take_all (length inner - (at + 1)) (drop (at + 1) inner) (omega (arith, length-drop (at + 1) inner)) in
+    let rest : drop (suc at) inner ≡ take (length inner - (at + 1)) (drop (at + 1) inner) = ap (λ (n : ℕ). drop n inner) (sym one) ∙ sym whole in
+    let splits = quote-splits inner at quote in
+    (begins ∙ ap (λ (ts : List Token). Mark Backquote ∷ ts) (splits ∙ ap (λ (ts : List TokenHere). tokens_of (take at inner) ++ Mark Backquote ∷ tokens_of ts) rest), no_quote-before inner at none)
+
+-- one more place without a backquote
+pub no_quote-more : (tokens : List TokenHere) (at : ℕ) → ((before : ℕ) → before < at → is_quote_at tokens before ≡ false) → is_quote_at tokens at ≡ false
+    → (before : ℕ) → before < at + 1 → is_quote_at tokens before ≡ false
+no_quote-more tokens at none here = below_more (λ (k : ℕ). is_quote_at tokens k ≡ false) at none here
+
+no_quote-within : (before rest : List Token) → HasNoQuote (before ++ Mark Backquote ∷ rest) → ⊥
+no_quote-within [] rest none = never none.0
+no_quote-within (token ∷ before) rest none = no_quote-within before rest none.1
+
+no_quote-all : (tokens : List TokenHere) → ((before : ℕ) → before < length tokens → is_quote_at tokens before ≡ false) → HasNoQuote (tokens_of tokens)
+no_quote-all [] none = tt
+no_quote-all (token ∷ tokens) none = (none 0 (omega arith), no_quote-all tokens (λ before less. none (suc before) (omega (arith, less))))
+
+-- no second backquote
+pub no_quote-taken : (tokens : List Token) (inner : List TokenHere) (at : ℕ) → tokens ≡ Mark Backquote ∷ tokens_of inner
+    → ((before : ℕ) → before < at → is_quote_at inner before ≡ false) → length inner ≤ at → (a r : List Token) → tokens ≢ quoted a r
+no_quote-taken tokens inner at begins none past a r same =
+    let further : tokens_of inner ≡ a ++ Mark Backquote ∷ r = (let both : Mark Backquote ∷ tokens_of inner ≡ quoted a r = sym begins ∙ same in cc) in
+    no_quote-within a r (subst HasNoQuote further (no_quote-all inner (λ before less. none before (omega arith))))
+
+pub quote-error : (error : ReadError) (tokens inner rest : List Token) → (tokens ≡ quoted inner rest) × HasNoQuote inner → Parses (Err error) inner → ParsesQuote (Err error) tokens
+quote-error Memory tokens inner rest taken refused = tt
+quote-error Syntax tokens inner rest taken refused = quote_refused tokens inner rest taken.0 taken.1 refused
+
+-- ---- arguments
+
+pub no-tokens : (tokens : List TokenHere) → true ≡ (length tokens == 0) → tokens_of tokens ≡ []
+no-tokens [] empty = refl
+no-tokens (token ∷ tokens) empty = absurd (let none : length (token ∷ tokens) ≡ 0 = eqb-true (length (token ∷ tokens)) 0 (sym empty) in omega arith)
+
+pub none-below : (tokens : List TokenHere) → length tokens < 1 → tokens_of tokens ≡ []
+none-below [] less = refl
+none-below (token ∷ tokens) less = absurd (omega arith)
+
+pub some-left : (tokens : List TokenHere) → 1 ≤ length tokens → tokens_of tokens ≢ []
+some-left [] more same = omega arith
+some-left (token ∷ tokens) more same = cc
+
+-- what follows a quoted term
+pub behind-quote : (tokens rest : List Token) (tree : TermTree) → tokens ≡ quote_tokens tree rest → AreTokens tokens → AreTokens rest
+behind-quote tokens rest tree same all = go (all_tokens (pieces tree [])) (subst AreTokens same all).1
+  where
+    go : (before : List Token) → AreTokens (before ++ Mark Backquote ∷ rest) → AreTokens rest
+    go [] all = all.1
+    go (token ∷ before) all = go before all.1
+
+-- a quoted term with more behind it is no argument of a rule for a term
+pub more-behind : (rule : TermRule) (tokens : List Token) (rest : List TokenHere) (tree : TermTree) → IsQuotable tree → tokens ≡ quote_tokens tree (tokens_of rest) → 1 ≤ length rest
+    → (other : RuleTree) → IsRuleTree other → kind_of other ≡ Term rule → tokens ≢ argument_tokens other
+more-behind rule tokens rest tree quotable read more (by_term named argument) grammatical kind same =
+    some-left rest more (same_rest tokens (tokens_of rest) [] tree argument quotable grammatical read same)
+more-behind rule tokens rest tree quotable read more (by_pair named a b) grammatical kind same = cc
+more-behind rule tokens rest tree quotable read more (by_abs argument a) grammatical kind same = cc
+more-behind rule tokens rest tree quotable read more (by_axiom named) grammatical kind same = cc
+
+-- a quoted term with no name alone behind it is no argument of ABS
+pub no-name-behind : (tokens rest : List Token) (tree : TermTree) → IsQuotable tree → tokens ≡ quote_tokens tree rest → ((name : List ℕ) → rest ≢ Name name ∷ [])
+    → (other : RuleTree) → IsRuleTree other → kind_of other ≡ Abs → tokens ≢ argument_tokens other
+no-name-behind tokens rest tree quotable read none (by_abs argument a) grammatical kind same =
+    none a (same_rest tokens rest (Name a ∷ []) tree argument quotable grammatical read same)
+no-name-behind tokens rest tree quotable read none (by_term named argument) grammatical kind same = cc
+no-name-behind tokens rest tree quotable read none (by_pair named a b) grammatical kind same = cc
+no-name-behind tokens rest tree quotable read none (by_axiom named) grammatical kind same = cc
+
+-- ---- words
+
+pub word-kind : (kind : RuleKind) → rule_kind_of (rule_word kind) ≡ Some kind
+word-kind (Term Refl) = refl
+word-kind (Term Beta) = refl
+word-kind (Term Assume) = refl
+word-kind (Pair Trans) = refl
+word-kind (Pair MkComb) = refl
+word-kind (Pair EqMp) = refl
+word-kind (Pair DeductAntisym) = refl
+word-kind Abs = refl
+word-kind (OfAxiom Eta) = refl
+word-kind (OfAxiom Select) = refl
+
+-- one test of a chain
+chosen : (word name : List ℕ) (here kind : RuleKind) (others : Option RuleKind) → name ≡ rule_word here → (if bytes_eq word name then Some here else others) ≡ Some kind
+    → (others ≡ Some kind → word ≡ rule_word kind) → word ≡ rule_word kind
+chosen word name here kind others named found later = go (bytes_eq word name) refl found
+  where
+    go : (test : Bool) → bytes_eq word name ≡ test → (if test then Some here else others) ≡ Some kind → word ≡ rule_word kind
+    go true passed found = (let same : here ≡ kind = cc in (bytes_eq-Decides word name).0 passed ∙ named ∙ ap rule_word same)
+    go false failed found = later found
+
+pub kind-word : (word : List ℕ) (kind : RuleKind) → rule_kind_of word ≡ Some kind → word ≡ rule_word kind
+kind-word word kind found =
+    chosen word (codes "REFL") (Term Refl) kind _ refl found (λ found.
+    chosen word (codes "BETA") (Term Beta) kind _ refl found (λ found.
+    chosen word (codes "ASSUME") (Term Assume) kind _ refl found (λ found.
+    chosen word (codes "TRANS") (Pair Trans) kind _ refl found (λ found.
+    chosen word (codes "MK_COMB") (Pair MkComb) kind _ refl found (λ found.
+    chosen word (codes "EQ_MP") (Pair EqMp) kind _ refl found (λ found.
+    chosen word (codes "DEDUCT_ANTISYM_RULE") (Pair DeductAntisym) kind _ refl found (λ found.
+    chosen word (codes "ABS") Abs kind _ refl found (λ found.
+    chosen word (codes "ETA") (OfAxiom Eta) kind _ refl found (λ found.
+    chosen word (codes "SELECT") (OfAxiom Select) kind None refl found (λ found. cc))))))))))
+
+-- a word that passes a test, or does not fail it
+pub same-word : (word name : List ℕ) → true ≡ bytes_eq word name → word ≡ name
+same-word word name passed = (bytes_eq-Decides word name).0 (sym passed)
+
+pub no-other-word : (word name : List ℕ) → false ≡ not (bytes_eq word name) → word ≡ name
+no-other-word word name passed = go (bytes_eq word name) refl passed
+  where
+    go : (test : Bool) → bytes_eq word name ≡ test → false ≡ not test → word ≡ name
+    go true is passed = (bytes_eq-Decides word name).0 is
+    go false is passed = cc
+
+-- ---- rules
+
+pub rule-parsed : (result : Result Rule ReadError) (kind : RuleKind) (tokens arguments : List Token) (word : List ℕ) → tokens ≡ Name word ∷ arguments → rule_kind_of word ≡ Some kind
+    → ParsesArguments result kind arguments → ParsesRule result tokens
+rule-parsed (Ok rule) kind tokens arguments word begins known parsed =
+    let spelled : word ≡ rule_word (kind_of parsed.0) = kind-word word kind known ∙ ap rule_word (sym parsed.2) in
+    (parsed.0, parsed.1, cc (begins, spelled, parsed.3), parsed.4)
+rule-parsed (Err Memory) kind tokens arguments word begins known parsed = tt
+rule-parsed (Err Syntax) kind tokens arguments word begins known refused = λ tree grammatical same.
+    let both : Name word ∷ arguments ≡ Name (rule_word (kind_of tree)) ∷ argument_tokens tree = sym begins ∙ same in
+    let spelled : word ≡ rule_word (kind_of tree) = cc in
+    let further : arguments ≡ argument_tokens tree = cc in
+    let found : Some (kind_of tree) ≡ Some kind = sym (word-kind (kind_of tree)) ∙ ap rule_kind_of (sym spelled) ∙ known in
+    let same_kind : kind_of tree ≡ kind = cc in
+    refused tree grammatical same_kind further
+
+pub rule-unknown : (tokens arguments : List Token) (word : List ℕ) → tokens ≡ Name word ∷ arguments → rule_kind_of word ≡ None → (tree : RuleTree) → tokens ≢ rule_tokens tree
+rule-unknown tokens arguments word begins unknown tree same =
+    let both : Name word ∷ arguments ≡ Name (rule_word (kind_of tree)) ∷ argument_tokens tree = sym begins ∙ same in
+    let spelled : word ≡ rule_word (kind_of tree) = cc in
+    let found : None ≡ Some (kind_of tree) = sym unknown ∙ ap rule_kind_of spelled ∙ word-kind (kind_of tree) in
+    cc

@@ -1,0 +1,296 @@
+-- How a run comes to its end, and what is left where it stops.
+use Rattle.std.proofs.Common.{◌≡◌, ℕ, zero, suc, ◌+◌, ◌<◌, ◌≤◌, List, [], ◌∷◌, ◌++◌, length, refl, sym, ap, subst, ◌∙◌, ◌⊎◌, inl, inr, arith, Bool, true, false, ◌==◌, ◌&&◌, ◌||◌, Option, None, Some, Result, Ok, Err, IfSome, append_assoc, append-nil, length-append, eqb-true, Global}
+use Rattle.std.specs.Prelude.{String, string_bytes, MatchOption}
+use Rattle.std.specs.Io.KnownBytes.{Appends}
+use Rattle.hol_model.specs.declared.fault.Fault.{Fault}
+use Rattle.hol_model.specs.declared.fault.Fault.TheVariants.{Memory, Syntax}
+use Rattle.hol_model.specs.Reading.{Scope}
+use Rattle.hol_model.specs.Script.{begins_mark, has_mark, IsCut, Cuts, Request, line_feeds, leading_line_feeds, is_blank_text, request_and, requests}
+use Rattle.hol_model.specs.Sessions.{State, start, scope_in, Reply, proves, refused, finds_no_memory, is_unfinished, Turn, Session, Counts, no_counts, counting, counts_after, reply_text, refusal_line, IsRun, Tells, Completes, Stops}
+use Rattle.hol_model.proofs.Tests.{first_of_both, second_of_both}
+use Rattle.hol_script.specs.Bytes.{AppendsFront}
+use Rattle.hol_script.specs.Answers.{Says, Turns, answer_text}
+use Rattle.hol_script.specs.Runs.{counting_answer}
+use Rattle.hol_script.proofs.BytesLemmas.{Appends-none, Appends-more}
+
+-- ---- each text has pieces
+
+-- what stands up to the first mark, or that there is none
+abbrev FirstCut : List ℕ → Type 0
+FirstCut bytes = (has_mark bytes ≡ false) ⊎ ((piece : List ℕ) × (rest : List ℕ) × IsCut bytes piece rest)
+
+neither : (p q : Bool) → p ≡ false → q ≡ false → (p || q) ≡ false
+neither p q first second = rw (first, second) refl
+
+-- the first byte of a piece with a mark's byte behind it
+begins-same : (a b : ℕ) (rest piece behind : List ℕ) → b ∷ rest ≡ piece ++ 59 ∷ 59 ∷ behind → begins_mark (a ∷ b ∷ rest) ≡ false → begins_mark (a ∷ (piece ++ 59 ∷ [])) ≡ false
+begins-same a b rest [] behind whole none = (let same : b ≡ 59 = cc in rw same at none)
+begins-same a b rest (x ∷ piece) behind whole none = (let same : b ≡ x = cc in rw same at none)
+
+first_cut : (bytes : List ℕ) → FirstCut bytes
+first_cut [] = inl refl
+first_cut (a ∷ []) = inl refl
+first_cut (a ∷ b ∷ rest) = go ((a == 59) && (b == 59)) refl (first_cut (b ∷ rest))
+  where
+    go : (test : Bool) → begins_mark (a ∷ b ∷ rest) ≡ test → FirstCut (b ∷ rest) → FirstCut (a ∷ b ∷ rest)
+    go true marked deeper =
+        let first : a ≡ 59 = eqb-true a 59 (first_of_both (a == 59) (b == 59) marked) in
+        let second : b ≡ 59 = eqb-true b 59 (second_of_both (a == 59) (b == 59) marked) in
+        inr ([], rest, record { whole = λ i. first i ∷ second i ∷ rest; first = refl })
+    go false none (inl further) = inl (neither (begins_mark (a ∷ b ∷ rest)) (has_mark (b ∷ rest)) none further)
+    go false none (inr (piece, behind, cut)) = inr (
+      a ∷ piece,
+      behind,
+      record {
+        whole = ap (λ l. a ∷ l) cut.whole;
+        first = neither (begins_mark (a ∷ (piece ++ 59 ∷ []))) (has_mark (piece ++ 59 ∷ [])) (begins-same a b rest piece behind cut.whole none) cut.first;
+      },
+    )
+
+-- the pieces of a text
+record HasPieces (bytes : List ℕ) : Type 0 where
+  pieces : List (List ℕ)
+  last : List ℕ
+  cuts : Cuts bytes pieces last
+
+pieces_within : (fuel : ℕ) (bytes : List ℕ) → length bytes ≤ fuel → HasPieces bytes
+pieces_within zero [] within = record { pieces = []; last = []; cuts = (refl, refl) }
+pieces_within zero (a ∷ bytes) within = absurd (omega (arith, within))
+pieces_within (suc fuel) bytes within = go (first_cut bytes) (λ rest less. pieces_within fuel rest less)
+  where
+    go : FirstCut bytes → ((rest : List ℕ) → length rest ≤ fuel → HasPieces rest) → HasPieces bytes
+    go (inl none) deeper = record { pieces = []; last = bytes; cuts = (refl, none) }
+    go (inr (piece, rest, cut)) deeper =
+        let longer : length bytes ≡ length piece + length (59 ∷ 59 ∷ rest) = ap length cut.whole ∙ length-append piece (59 ∷ 59 ∷ rest) in
+        let shorter : length rest ≤ fuel = omega arith in
+        let more : HasPieces rest = deeper rest shorter in
+        record { pieces = piece ∷ more.pieces; last = more.last; cuts = (rest, cut, more.cuts) }
+
+has_pieces : (bytes : List ℕ) → HasPieces bytes
+has_pieces bytes = pieces_within (length bytes) bytes (omega arith)
+
+-- ---- each command that is left may be refused for memory
+
+abbrev no_memory : List Request → List Reply
+no_memory [] = []
+no_memory (request ∷ requests) = refused Memory ∷ no_memory requests
+
+abbrev no_memory_text : List Request → List ℕ
+no_memory_text [] = []
+no_memory_text (request ∷ requests) = refusal_line request.line Memory ++ no_memory_text requests
+
+no_memory_session : (state : State) (requests : List Request) → Session state requests (no_memory requests) (no_memory_text requests) state
+no_memory_session state [] = (refl, refl)
+no_memory_session state (request ∷ requests) =
+    (state, no_memory_text requests, record { allowed = finds_no_memory; proved = tt }, no_memory_session state requests, refl)
+
+-- ---- how far a run has come
+
+module _ (script : List ℕ) where
+  -- what is left of a script decides the run: whatever its session replies, the whole is a run
+  pub record SoFar (state : State) (line : ℕ) (left out : List ℕ) (counts : Counts) : Type 0 where
+    pub decides : (pieces : List (List ℕ)) (last : List ℕ) → Cuts left pieces last → (replies : List Reply) (final : State) (text : List ℕ)
+        → Session state (requests line pieces last) replies text final → IsRun script (out ++ text) (counts_after counts replies)
+
+  pub begun : SoFar start 1 script [] no_counts
+  begun = record { decides = λ pieces last cuts replies final text session. record { pieces = pieces; last = last; cuts = cuts; replies = replies; final = final; session = session; counted = refl } }
+
+  -- a blank piece asks for nothing
+  pub passed : {state : State} {line : ℕ} {left out : List ℕ} {counts : Counts} (piece behind : List ℕ) → SoFar state line left out counts → IsCut left piece behind → is_blank_text piece ≡ true
+      → SoFar state (line + line_feeds piece) behind out counts
+  passed {state} {line} piece behind so_far cut blank = record {
+    decides = λ pieces last cuts replies final text session.
+        so_far.decides (piece ∷ pieces) last (behind, cut, cuts) replies final text
+        (subst (λ (b : Bool). Session state (request_and b (record { line = line + leading_line_feeds piece; text = Some piece }) (requests (line + line_feeds piece) pieces last)) replies text final) (sym blank) session);
+  }
+
+  -- a turn of the session
+  pub turned : {old new : State} {line : ℕ} {left out : List ℕ} {counts : Counts} (piece behind : List ℕ) (reply : Reply) → SoFar old line left out counts → IsCut left piece behind → is_blank_text piece ≡ false
+      → Turn old (Some piece) reply new
+      → SoFar new (line + line_feeds piece) behind (out ++ reply_text (line + leading_line_feeds piece) (scope_in new) reply) (counting counts reply)
+  turned {old} {new} {line} {left} {out} {counts} piece behind reply so_far cut filled turn = record {
+    decides = λ pieces last cuts replies final text session.
+        let here = reply_text (line + leading_line_feeds piece) (scope_in new) reply in
+        subst (λ (l : List ℕ). IsRun script l (counts_after (counting counts reply) replies)) (sym (append_assoc out here text))
+        (so_far.decides (piece ∷ pieces) last (behind, cut, cuts) (reply ∷ replies) final (here ++ text)
+        (subst (λ (b : Bool). Session old (request_and b (record { line = line + leading_line_feeds piece; text = Some piece }) (requests (line + line_feeds piece) pieces last)) (reply ∷ replies) (here ++ text) final)
+        (sym filled) (new, text, turn, session, refl)));
+  }
+
+  -- the end of a script, with nothing behind the last `;;`
+  pub ended : {state : State} {line : ℕ} {left out : List ℕ} {counts : Counts} → SoFar state line left out counts → has_mark left ≡ false → is_blank_text left ≡ true → IsRun script out counts
+  ended {state} {line} {left} {out} {counts} so_far none blank =
+      subst (λ (l : List ℕ). IsRun script l counts) (append-nil out)
+      (so_far.decides [] left (refl, none) [] state []
+      (subst (λ (b : Bool). Session state (request_and b (record { line = line + leading_line_feeds left; text = None }) []) [] [] state) (sym blank) (refl, refl)))
+
+  -- the end of a script, with a text behind the last `;;`
+  pub ended_within : {state : State} {line : ℕ} {left out : List ℕ} {counts : Counts} → SoFar state line left out counts → has_mark left ≡ false → is_blank_text left ≡ false
+      → IsRun script (out ++ refusal_line (line + leading_line_feeds left) Syntax) (counting counts (refused Syntax))
+  ended_within {state} {line} {left} {out} {counts} so_far none filled =
+      let here = refusal_line (line + leading_line_feeds left) Syntax in
+      so_far.decides [] left (refl, none) (refused Syntax ∷ []) state here
+      (subst (λ (b : Bool). Session state (request_and b (record { line = line + leading_line_feeds left; text = None }) []) (refused Syntax ∷ []) here state) (sym filled)
+      (state, [], record { allowed = is_unfinished; proved = tt }, (refl, refl), sym (append-nil here)))
+
+  -- what was written so far is the front of what a run writes
+  pub stopped : {state : State} {line : ℕ} {left out : List ℕ} {counts : Counts} {input written now : Option (List ℕ)} (front rest : List ℕ) → SoFar state line left out counts → out ≡ front ++ rest
+      → Tells input script → Appends written now front → Stops input written now
+  stopped {state} {line} {left} {out} {counts} front rest so_far same read wrote =
+      let more : HasPieces left = has_pieces left in
+      let asked = requests line more.pieces more.last in
+      record {
+        script = script;
+        out = front;
+        rest = rest ++ no_memory_text asked;
+        counts = counts_after counts (no_memory asked);
+        read = read;
+        wrote = wrote;
+        is_run =
+            subst (λ (l : List ℕ). IsRun script l (counts_after counts (no_memory asked))) (ap (λ l. l ++ no_memory_text asked) same ∙ append_assoc front rest (no_memory_text asked))
+            (so_far.decides more.pieces more.last more.cuts (no_memory asked) state (no_memory_text asked) (no_memory_session state asked));
+      }
+
+  -- how far a run has come: what it wrote, and what its session still has to do
+  pub record Underway (written now : Option (List ℕ)) (state : State) (line : ℕ) (left : List ℕ) (counts : Counts) : Type 0 where
+    pub out : List ℕ
+    pub so_far : SoFar state line left out counts
+    pub wrote : Appends written now out
+
+  pub underway_begun : (written : Option (List ℕ)) → Underway written written start 1 script no_counts
+  underway_begun written = record { out = []; so_far = begun; wrote = Appends-none written }
+
+  pub underway_stopped : {written now : Option (List ℕ)} {state : State} {line : ℕ} {left : List ℕ} {counts : Counts} → Underway written now state line left counts → Stops (Some script) written now
+  underway_stopped u = stopped u.out [] u.so_far (sym (append-nil u.out)) refl u.wrote
+
+  pub underway_passed : {written now : Option (List ℕ)} {state : State} {line : ℕ} {left : List ℕ} {counts : Counts} (piece behind : List ℕ) → Underway written now state line left counts → IsCut left piece behind → is_blank_text piece ≡ true
+      → Underway written now state (line + line_feeds piece) behind counts
+  underway_passed piece behind u cut blank = record { out = u.out; so_far = passed piece behind u.so_far cut blank; wrote = u.wrote }
+
+  -- what an answer writes and counts is what its reply does
+  answer_line : (line : ℕ) (scope : Scope) (reply : Reply) (answer : Result (String Global) Fault) → Says answer scope reply → answer_text line answer ≡ reply_text line scope reply
+  answer_line line scope (proves name theorem) (Ok text) says = says
+  answer_line line scope (refused fault) (Ok text) says = absurd says
+  answer_line line scope reply (Err fault) says = ap (reply_text line scope) (sym says)
+
+  answer_counts : (scope : Scope) (counts : Counts) (reply : Reply) (answer : Result (String Global) Fault) → Says answer scope reply → counting_answer counts answer ≡ counting counts reply
+  answer_counts scope counts (proves name theorem) (Ok text) says = refl
+  answer_counts scope counts (refused fault) (Ok text) says = absurd says
+  answer_counts scope counts reply (Err fault) says = ap (counting counts) (sym says)
+
+  -- a command has answered
+  answered : {written now : Option (List ℕ)} {old new : State} {line : ℕ} {left : List ℕ} {counts : Counts} (piece behind : List ℕ) (answer : Result (String Global) Fault) (u : Underway written now old line left counts) → IsCut left piece behind
+      → is_blank_text piece ≡ false → Turns old (Some piece) answer new
+      → SoFar new (line + line_feeds piece) behind (u.out ++ answer_text (line + leading_line_feeds piece) answer) (counting_answer counts answer)
+  answered {old} {new} {line} {left} {counts} piece behind answer u cut filled turns =
+      let same_text = answer_line (line + leading_line_feeds piece) (scope_in new) turns.reply answer turns.says in
+      let same_counts = answer_counts (scope_in new) counts turns.reply answer turns.says in
+      subst (λ (c : Counts). SoFar new (line + line_feeds piece) behind (u.out ++ answer_text (line + leading_line_feeds piece) answer) c) (sym same_counts)
+      (subst (λ (l : List ℕ). SoFar new (line + line_feeds piece) behind (u.out ++ l) (counting counts turns.reply)) (sym same_text)
+      (turned piece behind turns.reply u.so_far cut filled turns.turn))
+
+  pub underway_turned : {written now next : Option (List ℕ)} {old new : State} {line : ℕ} {left : List ℕ} {counts : Counts} (piece behind : List ℕ) (answer : Result (String Global) Fault) → Underway written now old line left counts
+      → IsCut left piece behind → is_blank_text piece ≡ false → Turns old (Some piece) answer new → Appends now next (answer_text (line + leading_line_feeds piece) answer)
+      → Underway written next new (line + line_feeds piece) behind (counting_answer counts answer)
+  underway_turned {written} {now} {next} {line} piece behind answer u cut filled turns wrote = record {
+    out = u.out ++ answer_text (line + leading_line_feeds piece) answer;
+    so_far = answered piece behind answer u cut filled turns;
+    wrote = Appends-more written now next u.out (answer_text (line + leading_line_feeds piece) answer) u.wrote wrote;
+  }
+
+  -- the line of an answer was written in part
+  pub underway_broken : {written now next : Option (List ℕ)} {old new : State} {line : ℕ} {left : List ℕ} {counts : Counts} (piece behind : List ℕ) (answer : Result (String Global) Fault) → Underway written now old line left counts
+      → IsCut left piece behind → is_blank_text piece ≡ false → Turns old (Some piece) answer new → AppendsFront now next (answer_text (line + leading_line_feeds piece) answer)
+      → Stops (Some script) written next
+  underway_broken {written} {now} {next} piece behind answer u cut filled turns wrote =
+      stopped (u.out ++ wrote.front) wrote.rest (answered piece behind answer u cut filled turns)
+      (ap (λ l. u.out ++ l) wrote.whole ∙ sym (append_assoc u.out wrote.front wrote.rest)) refl
+      (Appends-more written now next u.out wrote.front u.wrote wrote.taken)
+
+  pub underway_ended : {written now : Option (List ℕ)} {state : State} {line : ℕ} {left : List ℕ} {counts : Counts} → Underway written now state line left counts → has_mark left ≡ false → is_blank_text left ≡ true
+      → Completes (Some script) written now counts
+  underway_ended u none blank = record { script = script; out = u.out; read = refl; wrote = u.wrote; is_run = ended u.so_far none blank }
+
+  pub underway_ended_within : {written now next : Option (List ℕ)} {state : State} {line : ℕ} {left : List ℕ} {counts : Counts} → Underway written now state line left counts → has_mark left ≡ false → is_blank_text left ≡ false
+      → Appends now next (refusal_line (line + leading_line_feeds left) Syntax) → Completes (Some script) written next (counting counts (refused Syntax))
+  underway_ended_within {written} {now} {next} {line} {left} u none filled wrote = record {
+    script = script;
+    out = u.out ++ refusal_line (line + leading_line_feeds left) Syntax;
+    read = refl;
+    wrote = Appends-more written now next u.out (refusal_line (line + leading_line_feeds left) Syntax) u.wrote wrote;
+    is_run = ended_within u.so_far none filled;
+  }
+
+  -- the last line was written in part
+  pub underway_broken_within : {written now next : Option (List ℕ)} {state : State} {line : ℕ} {left : List ℕ} {counts : Counts} → Underway written now state line left counts → has_mark left ≡ false → is_blank_text left ≡ false
+      → AppendsFront now next (refusal_line (line + leading_line_feeds left) Syntax) → Stops (Some script) written next
+  underway_broken_within {written} {now} {next} {line} {left} {counts} u none filled wrote = record {
+    script = script;
+    out = u.out ++ wrote.front;
+    rest = wrote.rest;
+    counts = counting counts (refused Syntax);
+    read = refl;
+    wrote = Appends-more written now next u.out wrote.front u.wrote wrote.taken;
+    is_run =
+        subst (λ (l : List ℕ). IsRun script l (counting counts (refused Syntax))) (ap (λ l. u.out ++ l) wrote.whole ∙ sym (append_assoc u.out wrote.front wrote.rest))
+        (ended_within u.so_far none filled);
+  }
+
+-- the bytes of a device in place of the text itself
+
+Tells-by : (known : Option (List ℕ)) (text script : List ℕ) → Tells known text → text ≡ script → Tells known script
+Tells-by None text script tells same = tt
+Tells-by (Some told) text script tells same = tells ∙ same
+
+pub completes_by : {known written now : Option (List ℕ)} {counts : Counts} (text : List ℕ) → Tells known text → Completes (Some text) written now counts → Completes known written now counts
+completes_by {known} text tells c = record { script = c.script; out = c.out; read = Tells-by known text c.script tells c.read; wrote = c.wrote; is_run = c.is_run }
+
+pub stops_by : {known written now : Option (List ℕ)} (text : List ℕ) → Tells known text → Stops (Some text) written now → Stops known written now
+stops_by {known} text tells c = record { script = c.script; out = c.out; rest = c.rest; counts = c.counts; read = Tells-by known text c.script tells c.read; wrote = c.wrote; is_run = c.is_run }
+
+-- nothing was read, and nothing written
+pub unread : (known written : Option (List ℕ)) → Stops known written written
+unread None written = stopped [] [] [] (begun []) refl tt (Appends-none written)
+unread (Some script) written = stopped script [] [] (begun script) refl refl (Appends-none written)
+
+-- ---- the same for numbers and counts that a call answered
+
+pub cut_length : (left piece behind : List ℕ) → IsCut left piece behind → length left ≡ length piece + length behind + 2
+cut_length left piece behind cut =
+    let whole : length left ≡ length piece + length (59 ∷ 59 ∷ behind) = ap length cut.whole ∙ length-append piece (59 ∷ 59 ∷ behind) in
+    omega arith
+
+module _ (script : List ℕ) where
+  pub passed_by : {written now : Option (List ℕ)} {state : State} {line : ℕ} {left : List ℕ} {counts : Counts} (piece behind : List ℕ) (feeds : ℕ) → Underway script written now state line left counts → IsCut left piece behind
+      → is_blank_text piece ≡ true → feeds ≡ line_feeds piece → Underway script written now state (line + feeds) behind counts
+  passed_by {written} {now} {state} {line} {left} {counts} piece behind feeds u cut blank counted =
+      subst (λ (n : ℕ). Underway script written now state (line + n) behind counts) (sym counted) (underway_passed script piece behind u cut blank)
+
+  pub turned_by : {written now next : Option (List ℕ)} {old new : State} {line : ℕ} {left : List ℕ} {counts after : Counts} (piece behind : List ℕ) (answer : Result (String Global) Fault) (here feeds : ℕ)
+      → Underway script written now old line left counts → IsCut left piece behind → is_blank_text piece ≡ false → Turns old (Some piece) answer new → here ≡ leading_line_feeds piece → feeds ≡ line_feeds piece
+      → Appends now next (answer_text (line + here) answer) → after ≡ counting_answer counts answer → Underway script written next new (line + feeds) behind after
+  turned_by {written} {now} {next} {old} {new} {line} {left} {counts} {after} piece behind answer here feeds u cut filled turns led counted wrote same =
+      let wrote_there : Appends now next (answer_text (line + leading_line_feeds piece) answer) = subst (λ (n : ℕ). Appends now next (answer_text (line + n) answer)) led wrote in
+      subst (λ (n : ℕ). Underway script written next new (line + n) behind after) (sym counted)
+      (subst (λ (c : Counts). Underway script written next new (line + line_feeds piece) behind c) (sym same) (underway_turned script piece behind answer u cut filled turns wrote_there))
+
+  pub broken_by : {written now next : Option (List ℕ)} {old new : State} {line : ℕ} {left : List ℕ} {counts : Counts} (piece behind : List ℕ) (answer : Result (String Global) Fault) (here : ℕ)
+      → Underway script written now old line left counts → IsCut left piece behind → is_blank_text piece ≡ false → Turns old (Some piece) answer new → here ≡ leading_line_feeds piece
+      → AppendsFront now next (answer_text (line + here) answer) → Stops (Some script) written next
+  broken_by {written} {now} {next} {old} {new} {line} piece behind answer here u cut filled turns led wrote =
+      underway_broken script piece behind answer u cut filled turns (subst (λ (n : ℕ). AppendsFront now next (answer_text (line + n) answer)) led wrote)
+
+  pub ended_by : {written now next : Option (List ℕ)} {state : State} {line : ℕ} {left : List ℕ} {counts after : Counts} (here : ℕ) → Underway script written now state line left counts → has_mark left ≡ false → is_blank_text left ≡ false
+      → here ≡ leading_line_feeds left → Appends now next (refusal_line (line + here) Syntax) → after ≡ counting_answer counts (Err Syntax) → Completes (Some script) written next after
+  ended_by {written} {now} {next} {state} {line} {left} {counts} {after} here u none filled led wrote same =
+      subst (λ (c : Counts). Completes (Some script) written next c) (sym same)
+      (underway_ended_within script u none filled (subst (λ (n : ℕ). Appends now next (refusal_line (line + n) Syntax)) led wrote))
+
+  pub broken_within_by : {written now next : Option (List ℕ)} {state : State} {line : ℕ} {left : List ℕ} {counts : Counts} (here : ℕ) → Underway script written now state line left counts → has_mark left ≡ false → is_blank_text left ≡ false
+      → here ≡ leading_line_feeds left → AppendsFront now next (refusal_line (line + here) Syntax) → Stops (Some script) written next
+  broken_within_by {written} {now} {next} {state} {line} here u none filled led wrote =
+      underway_broken_within script u none filled (subst (λ (n : ℕ). AppendsFront now next (refusal_line (line + n) Syntax)) led wrote)
+
+-- no mark is left where none was found
+pub uncut : {A : Type 0} (found : Option A) (P : Type 0) (Q : A → Type 0) → MatchOption found P Q → found ≡ None → P
+uncut found P Q known none = rw none at known

@@ -1,0 +1,120 @@
+-- What a session is in, and the turns that it takes.
+use Rattle.std.proofs.Common.{◌≡◌, ℕ, List, refl, sym, subst, ap, ◌∙◌, Option, None, Some, Result, Ok, Err, Bor, Global, inl, inr, ◌⊎◌}
+use Rattle.std.specs.Prelude.{String, string_bytes, IfOk, IfErr, IfSome, Bool, true, false, cond}
+use Rattle.std.specs.Map.{update}
+use Rattle.std.specs.Str.{bytes_eq}
+use Rattle.indexmap.specs.IndexMap.{get_by_text}
+use Rattle.std.specs.Option.{option_map, is_some}
+use Rattle.hol_model.specs.declared.fault.Fault.{Fault}
+use Rattle.hol_model.specs.declared.fault.Fault.TheVariants.{Memory, Syntax}
+use Rattle.hol_model.specs.Token.{Token}
+use Rattle.hol_model.specs.Lexing.{Lexes}
+use Rattle.hol_model.specs.Commands.{RuleTree, CommandTree, thm_command, show_command, IsReadCommand, SpellsCommand}
+use Rattle.hol_model.specs.Reading.{Scope}
+use Rattle.hol_model.specs.Theory.{IsEarlier}
+use Rattle.hol_model.specs.Theorem.{Theorem}
+use Rattle.hol_model.specs.Sessions.{State, scope_in, Reply, proves, refused, Allows, finds_no_memory, is_no_command, thm_is_refused, thm_stores, is_theorem_name, rule_outcome, with_theorem, IsProved, theorem_line}
+use Rattle.hol_syntax.specs.Scope.{scope_of}
+use Rattle.hol_script.specs.declared.command.Rule.{Rule}
+use Rattle.hol_script.specs.declared.command.Command.TheVariants.{Thm, Show}
+use Rattle.hol_script.specs.Views.{IsRule, IsCommand}
+use Rattle.hol_script.specs.declared.session.Session.{Session}
+use Rattle.hol_script.specs.SessionState.{state_of, IsSession}
+use Rattle.hol_script.specs.Answers.{Turns}
+
+-- the scope of a session is that of its state
+pub scope_same : (session : Session) → IsSession session → scope_of session.scope ≡ scope_in (state_of session)
+scope_same session known = λ i. record {
+  generic_type = λ name. known.constants name i;
+  variable_type = (scope_of session.scope).variable_type;
+  declares_type = λ name. known.types name i;
+}
+
+-- a refusal that is allowed leaves the state
+pub refuses : (state : State) (text : Option (List ℕ)) (fault : Fault) → Allows state text (refused fault) state → Turns state text (Err fault) state
+refuses state text fault allowed = record { reply = refused fault; says = refl; turn = record { allowed = allowed; proved = tt } }
+
+pub forgets : (state : State) (text : Option (List ℕ)) (fault : Fault) → fault ≡ Memory → Turns state text (Err fault) state
+forgets state text fault same = refuses state text fault (subst (λ f. Allows state text (refused f) state) (sym same) finds_no_memory)
+
+-- a theorem that is allowed and proved, and its line
+pub prints : (old new : State) (text : Option (List ℕ)) (name : List ℕ) (theorem : Theorem) (line : String Global) → Allows old text (proves name theorem) new → IsProved new.theory theorem
+    → string_bytes line ≡ theorem_line (scope_in new) name theorem → Turns old text (Ok line) new
+prints old new text name theorem line allowed proved says = record { reply = proves name theorem; says = says; turn = record { allowed = allowed; proved = proved } }
+
+-- a line that is made, or no memory
+pub prints_or_forgets : (state : State) (text : Option (List ℕ)) (name : List ℕ) (theorem : Theorem) (result : Result (String Global) Fault) → Allows state text (proves name theorem) state
+    → IsProved state.theory theorem → IfOk result (λ line. string_bytes line ≡ theorem_line (scope_in state) name theorem) → IfErr result (λ fault. fault ≡ Memory)
+    → Turns state text result state
+prints_or_forgets state text name theorem (Ok line) allowed proved says memory = prints state state text name theorem line allowed proved says
+prints_or_forgets state text name theorem (Err fault) allowed proved says memory = forgets state text fault memory
+
+-- each stored theorem stands on an earlier theory
+pub found_earlier : (session : Session) (name : List ℕ) (found : Option (Bor Theorem)) → IsSession session → option_map (λ (theorem : Bor Theorem). theorem.now) found ≡ get_by_text session.theorems name
+    → IfSome found (λ (theorem : Bor Theorem). IsEarlier theorem.now.theory session.theory)
+found_earlier session name None known same = tt
+found_earlier session name (Some theorem) known same = known.earlier name theorem.now (sym same)
+
+-- also when one more that stands on it is stored
+pub stored_earlier : (session : Session) (theorem : Theorem) (name : List ℕ) (new : List ℕ → Option Theorem) → IsSession session → IsEarlier theorem.theory session.theory
+    → ((other : List ℕ) → new other ≡ update bytes_eq (get_by_text session.theorems) name (Some theorem) other)
+    → (other : List ℕ) (found : Theorem) → new other ≡ Some found → IsEarlier found.theory session.theory
+stored_earlier session theorem name new known earlier stored other found same = go (bytes_eq name other) (sym (stored other) ∙ same)
+  where
+    go : (test : Bool) → cond test (Some theorem) (get_by_text session.theorems other) ≡ Some found → IsEarlier found.theory session.theory
+    go true is = (let one : theorem ≡ found = cc in subst (λ (t : Theorem). IsEarlier t.theory session.theory) one earlier)
+    go false is = known.earlier other found is
+
+-- a name that is taken, and one that is not
+pub taken : (found : Option (Bor Theorem)) (stored : Option Theorem) → option_map (λ (theorem : Bor Theorem). theorem.now) found ≡ stored → true ≡ is_some found
+    → (there : Theorem) × (stored ≡ Some there)
+taken None stored same is = cc
+taken (Some theorem) stored same is = (theorem.now, sym same)
+
+pub untaken : (found : Option (Bor Theorem)) (stored : Option Theorem) → option_map (λ (theorem : Bor Theorem). theorem.now) found ≡ stored → false ≡ is_some found → stored ≡ None
+untaken None stored same is = sym same
+untaken (Some theorem) stored same is = cc
+
+-- a rule that is refused
+pub thm_refuses : (state : State) (text name : List ℕ) (tree : RuleTree) (fault : Fault) → SpellsCommand text (thm_command name tree) → is_theorem_name name ≡ true → state.theorems name ≡ None
+    → (fault ≡ Memory) ⊎ (rule_outcome state tree ≡ Err fault) → Turns state (Some text) (Err fault) state
+thm_refuses state text name tree fault spelled is_name new (inl memory) = forgets state (Some text) fault memory
+thm_refuses state text name tree fault spelled is_name new (inr outcome) = refuses state (Some text) fault (thm_is_refused spelled is_name new outcome)
+
+-- a theorem that is stored
+pub thm_prints : (old new : State) (text name : List ℕ) (tree : RuleTree) (theorem : Theorem) (line : String Global) → SpellsCommand text (thm_command name tree) → is_theorem_name name ≡ true
+    → old.theorems name ≡ None → rule_outcome old tree ≡ Ok theorem → IsProved old.theory theorem → string_bytes line ≡ theorem_line (scope_in old) name theorem
+    → new ≡ with_theorem old name theorem → Turns old (Some text) (Ok line) new
+thm_prints old new text name tree theorem line spelled is_name none outcome proved says stored =
+    subst (λ (state : State). Turns old (Some text) (Ok line) state) (sym stored)
+    (prints old (with_theorem old name theorem) (Some text) name theorem line (thm_stores spelled is_name none outcome) proved says)
+
+-- ---- commands
+
+spells : (text : List ℕ) (tokens : List Token) (tree : CommandTree) → Lexes text tokens → IsReadCommand tokens tree → SpellsCommand text tree
+spells text tokens tree lexed read = record { tokens = tokens; lexed = lexed; read = read }
+
+-- a text without tokens, and one whose tokens are no command
+pub unlexed : (state : State) (text : List ℕ) → ((tokens : List Token) → ¬ (Lexes text tokens)) → Turns state (Some text) (Err Syntax) state
+unlexed state text none = refuses state (Some text) Syntax (is_no_command (λ tree spelled. none spelled.tokens spelled.lexed))
+
+pub unread_command : (state : State) (text : List ℕ) (tokens : List Token) → ((other : List Token) → Lexes text other → tokens ≡ other) → ((tree : CommandTree) → ¬ (IsReadCommand tokens tree))
+    → Turns state (Some text) (Err Syntax) state
+unread_command state text tokens only none =
+    refuses state (Some text) Syntax
+    (is_no_command (λ tree spelled. none tree (subst (λ (ts : List Token). IsReadCommand ts tree) (sym (only spelled.tokens spelled.lexed)) spelled.read)))
+
+-- the turn of a command that was read
+pub thm_turns : (old new : State) (text : List ℕ) (tokens : List Token) (name : Bor (List ℕ)) (rule : Rule) (result : Result (String Global) Fault) → Lexes text tokens
+    → ((tree : CommandTree) × IsReadCommand tokens tree × IsCommand (Thm name rule) tree)
+    → ((given : List ℕ) (tree : RuleTree) → SpellsCommand given (thm_command name.now tree) → IsRule rule tree → Turns old (Some given) result new) → Turns old (Some text) result new
+thm_turns old new text tokens name rule result lexed (thm_command other tree, read, (same, is_rule)) turns =
+    turns text tree (subst (λ (n : List ℕ). SpellsCommand text (thm_command n tree)) (sym same) (spells text tokens (thm_command other tree) lexed read)) is_rule
+thm_turns old new text tokens name rule result lexed (show_command other, read, never) turns = absurd never
+
+pub show_turns : (old new : State) (text : List ℕ) (tokens : List Token) (name : Bor (List ℕ)) (result : Result (String Global) Fault) → Lexes text tokens
+    → ((tree : CommandTree) × IsReadCommand tokens tree × IsCommand (Show name) tree)
+    → ((given : List ℕ) → SpellsCommand given (show_command name.now) → Turns old (Some given) result new) → Turns old (Some text) result new
+show_turns old new text tokens name result lexed (thm_command other tree, read, never) turns = absurd never
+show_turns old new text tokens name result lexed (show_command other, read, same) turns =
+    turns text (subst (λ (n : List ℕ). SpellsCommand text (show_command n)) (sym same) (spells text tokens (show_command other) lexed read))

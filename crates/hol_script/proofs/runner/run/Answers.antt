@@ -1,0 +1,5 @@
+use Rattle.hol_script.proofs.RunLemmas.{unread, stops_by, completes_by}
+use Rattle.hol_script.proofs.runner.run.Goals as goal
+
+pub returns-in-Err-clause-err : goal.returns-in-Err-clause-err
+returns-in-Err-clause-err g c = unread _ _

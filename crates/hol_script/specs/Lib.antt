@@ -1,0 +1,6 @@
+pub mod Bytes
+pub mod Views
+pub mod Reading
+pub mod SessionState
+pub mod Answers
+pub mod Runs

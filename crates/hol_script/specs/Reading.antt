@@ -1,0 +1,100 @@
+-- What the readers of commands answer.
+use Rattle.std.specs.Prelude.{◌≡◌, ◌≢◌, ℕ, List, [], ◌∷◌, ◌++◌, Bool, true, false, Option, None, Some, Result, Ok, Err, codes, if◌then◌else◌}
+use Rattle.std.specs.Str.{bytes_eq}
+use Rattle.std.proofs.Common.{Vec, Bor, Global}
+use Rattle.hol_model.specs.declared.symbol.Symbol.{Symbol}
+use Rattle.hol_model.specs.declared.symbol.Symbol.TheVariants.{Backquote}
+use Rattle.hol_model.specs.declared.rule.TermRule.TheVariants.{Refl, Beta, Assume}
+use Rattle.hol_model.specs.declared.rule.PairRule.TheVariants.{Trans, MkComb, EqMp, DeductAntisym}
+use Rattle.hol_model.specs.declared.rule.Axiom.TheVariants.{Eta, Select}
+use Rattle.hol_model.specs.declared.rule.RuleKind.{RuleKind}
+use Rattle.hol_model.specs.declared.rule.RuleKind.TheVariants.{Term, Pair, Abs, Axiom as OfAxiom}
+use Rattle.hol_model.specs.Token.{Token, Name, Mark}
+use Rattle.hol_model.specs.Lexing.{IsToken}
+use Rattle.hol_model.specs.TermGrammar.{TermTree}
+use Rattle.hol_model.specs.Commands.{RuleTree, CommandTree, kind_of, quote_tokens, argument_tokens, rule_tokens, IsQuotable, IsRuleTree, IsReadCommand}
+use Rattle.hol_syntax.specs.declared.token.Token.{Token as TokenHere}
+use Rattle.hol_syntax.specs.declared.type_reader.ReadError.{ReadError}
+use Rattle.hol_syntax.specs.declared.type_reader.ReadError.TheVariants.{Memory, Syntax}
+use Rattle.hol_syntax.specs.declared.steps.TermStep.{TermStep}
+use Rattle.hol_syntax.specs.Views.{tokens_of}
+use Rattle.hol_syntax.specs.Steps.{flat_steps_of}
+use Rattle.hol_syntax.specs.TermSteps.{term_steps, flat_steps}
+use Rattle.hol_script.specs.declared.command.Rule.{Rule}
+use Rattle.hol_script.specs.declared.command.Command.{Command}
+use Rattle.hol_script.specs.Views.{IsRule, IsCommand}
+
+-- each of them is a token
+abbrev pub AreTokens : List Token → Type 0
+AreTokens [] = Unit {0}
+AreTokens (token ∷ tokens) = IsToken token × AreTokens tokens
+
+abbrev pub TakesName : Option (Bor (List ℕ) × Bor (List TokenHere)) → List Token → Type 0
+TakesName None tokens = (name : List ℕ) (rest : List Token) → tokens ≢ Name name ∷ rest
+TakesName (Some x) tokens = tokens ≡ Name x.0.now ∷ tokens_of x.1.now
+
+abbrev pub TakesOnlyName : Option (Bor (List ℕ)) → List Token → Type 0
+TakesOnlyName None tokens = (name : List ℕ) → tokens ≢ Name name ∷ []
+TakesOnlyName (Some x) tokens = tokens ≡ Name x.now ∷ []
+
+abbrev pub TakesMark : Option (Bor (List TokenHere)) → Symbol → List Token → Type 0
+TakesMark None symbol tokens = (rest : List Token) → tokens ≢ Mark symbol ∷ rest
+TakesMark (Some x) symbol tokens = tokens ≡ Mark symbol ∷ tokens_of x.now
+
+-- a backquote
+abbrev pub is_quote_symbol : Symbol → Bool
+is_quote_symbol Backquote = true
+is_quote_symbol _ = false
+
+abbrev pub is_quote : Token → Bool
+is_quote (Mark symbol) = is_quote_symbol symbol
+is_quote _ = false
+
+-- no backquote is among them
+abbrev pub HasNoQuote : List Token → Type 0
+HasNoQuote [] = Unit {0}
+HasNoQuote (token ∷ tokens) = (is_quote token ≡ false) × HasNoQuote tokens
+
+-- the tokens between two backquotes, and then the rest
+abbrev pub quoted : List Token → List Token → List Token
+quoted inner rest = Mark Backquote ∷ (inner ++ Mark Backquote ∷ rest)
+
+abbrev pub TakesQuote : Option (Bor (List TokenHere) × Bor (List TokenHere)) → List Token → Type 0
+TakesQuote None tokens = (inner rest : List Token) → tokens ≢ quoted inner rest
+TakesQuote (Some x) tokens = (tokens ≡ quoted (tokens_of x.0.now) (tokens_of x.1.now)) × HasNoQuote (tokens_of x.0.now)
+
+abbrev pub ParsesQuote : Result (Vec TermStep Global × Bor (List TokenHere)) ReadError → List Token → Type 0
+ParsesQuote (Ok x) tokens =
+    (tree : TermTree) × IsQuotable tree × (tokens ≡ quote_tokens tree (tokens_of x.1.now)) × (flat_steps_of x.0.items ≡ flat_steps (term_steps tree))
+ParsesQuote (Err Memory) tokens = Unit {0}
+ParsesQuote (Err Syntax) tokens = (tree : TermTree) (rest : List Token) → IsQuotable tree → tokens ≢ quote_tokens tree rest
+
+-- the kind of rule that a word names
+abbrev pub rule_kind_of : List ℕ → Option RuleKind
+rule_kind_of word =
+    if bytes_eq word (codes "REFL") then Some (Term Refl) else
+    (if bytes_eq word (codes "BETA") then Some (Term Beta) else
+    (if bytes_eq word (codes "ASSUME") then Some (Term Assume) else
+    (if bytes_eq word (codes "TRANS") then Some (Pair Trans) else
+    (if bytes_eq word (codes "MK_COMB") then Some (Pair MkComb) else
+    (if bytes_eq word (codes "EQ_MP") then Some (Pair EqMp) else
+    (if bytes_eq word (codes "DEDUCT_ANTISYM_RULE") then Some (Pair DeductAntisym) else
+    (if bytes_eq word (codes "ABS") then Some Abs else
+    (if bytes_eq word (codes "ETA") then Some (OfAxiom Eta) else
+    (if bytes_eq word (codes "SELECT") then Some (OfAxiom Select) else None)))))))))
+
+abbrev pub ParsesArguments : Result Rule ReadError → RuleKind → List Token → Type 0
+ParsesArguments (Ok rule) kind tokens =
+    (tree : RuleTree) × IsRuleTree tree × (kind_of tree ≡ kind) × (tokens ≡ argument_tokens tree) × IsRule rule tree
+ParsesArguments (Err Memory) kind tokens = Unit {0}
+ParsesArguments (Err Syntax) kind tokens = (tree : RuleTree) → IsRuleTree tree → kind_of tree ≡ kind → tokens ≢ argument_tokens tree
+
+abbrev pub ParsesRule : Result Rule ReadError → List Token → Type 0
+ParsesRule (Ok rule) tokens = (tree : RuleTree) × IsRuleTree tree × (tokens ≡ rule_tokens tree) × IsRule rule tree
+ParsesRule (Err Memory) tokens = Unit {0}
+ParsesRule (Err Syntax) tokens = (tree : RuleTree) → IsRuleTree tree → tokens ≢ rule_tokens tree
+
+abbrev pub ParsesCommand : Result Command ReadError → List Token → Type 0
+ParsesCommand (Ok command) tokens = (tree : CommandTree) × IsReadCommand tokens tree × IsCommand command tree
+ParsesCommand (Err Memory) tokens = Unit {0}
+ParsesCommand (Err Syntax) tokens = (tree : CommandTree) → ¬ (IsReadCommand tokens tree)

@@ -1,0 +1,22 @@
+-- The commands of the code as those of the grammar.
+use Rattle.std.specs.Prelude.{◌≡◌}
+use Rattle.hol_model.specs.Commands.{RuleTree, by_term, by_pair, by_abs, by_axiom, CommandTree, thm_command, show_command}
+use Rattle.hol_syntax.specs.TermSteps.{term_steps, flat_steps}
+use Rattle.hol_syntax.specs.Steps.{flat_steps_of}
+use Rattle.hol_script.specs.declared.command.Rule.{Rule}
+use Rattle.hol_script.specs.declared.command.Rule.TheVariants.{OfTerm, OfTheorems, Abs, OfAxiom}
+use Rattle.hol_script.specs.declared.command.Command.{Command}
+use Rattle.hol_script.specs.declared.command.Command.TheVariants.{Thm, Show}
+
+-- the rule has the arguments of the tree, its terms by their steps
+abbrev pub IsRule : Rule → RuleTree → Type 0
+IsRule (OfTerm rule steps) (by_term other tree) = (rule ≡ other) × (flat_steps_of steps.items ≡ flat_steps (term_steps tree))
+IsRule (OfTheorems rule a b) (by_pair other c d) = (rule ≡ other) × (a.now ≡ c) × (b.now ≡ d)
+IsRule (Abs steps a) (by_abs tree b) = (flat_steps_of steps.items ≡ flat_steps (term_steps tree)) × (a.now ≡ b)
+IsRule (OfAxiom rule) (by_axiom other) = rule ≡ other
+IsRule _ _ = ⊥
+
+abbrev pub IsCommand : Command → CommandTree → Type 0
+IsCommand (Thm name rule) (thm_command other tree) = (name.now ≡ other) × IsRule rule tree
+IsCommand (Show name) (show_command other) = name.now ≡ other
+IsCommand _ _ = ⊥

@@ -1,0 +1,223 @@
+// Commands, read from the tokens of a text.
+ghost use Rattle.std.specs.Prelude.{◌≡◌};
+ghost use Rattle.hol_syntax.specs.Views.{token_of, tokens_of};
+ghost use Rattle.hol_script.specs.Reading as reading;
+ghost use Rattle.hol_script.specs.Reading.{AreTokens, rule_kind_of, TakesName, TakesOnlyName, TakesMark, TakesQuote, ParsesQuote, ParsesArguments, ParsesRule, ParsesCommand};
+
+use hol_model::{Axiom, PairRule, RuleKind, Symbol, TermRule};
+use hol_syntax::{ReadError, TermStep, Token, identifier, parse_term};
+use std::alloc::Global;
+
+/// A rule with its arguments: terms by their steps, theorems by their names.
+#[derive(Drop)]
+pub enum Rule<'a> {
+    OfTerm(TermRule, Vec<TermStep<'a>>),
+    OfTheorems(PairRule, &'a str, &'a str),
+    Abs(Vec<TermStep<'a>>, &'a str),
+    OfAxiom(Axiom),
+}
+
+#[derive(Drop)]
+pub enum Command<'a> {
+    Thm(&'a str, Rule<'a>),
+    Show(&'a str),
+}
+
+// The name at the front of the tokens, and what follows it.
+fn take_name<'a>(tokens: &'a [Token<'a>]) -> Option<(&'a str, &'a [Token<'a>])>
+    requires { AreTokens (tokens_of tokens.now) }
+    ensures { TakesName result (tokens_of tokens.now) }
+{
+    match tokens {
+        [Token::Name(bytes), rest @ ..] => match identifier(bytes) {
+            Some(name) => Some((name, rest)),
+            None => None,
+        },
+        _ => None,
+    }
+}
+
+// The name that the tokens are.
+fn only_name<'a>(tokens: &'a [Token<'a>]) -> Option<&'a str>
+    requires { AreTokens (tokens_of tokens.now) }
+    ensures { TakesOnlyName result (tokens_of tokens.now) }
+{
+    let (name, rest) = take_name(tokens)?;
+    if rest.is_empty() { Some(name) } else { None }
+}
+
+// What follows a mark at the front of the tokens.
+fn take_mark<'a>(tokens: &'a [Token<'a>], symbol: Symbol) -> Option<&'a [Token<'a>]>
+    ensures { TakesMark result symbol (tokens_of tokens.now) }
+{
+    match tokens {
+        [Token::Mark(other), rest @ ..] => { if *other == symbol { Some(rest) } else { None } }
+        _ => None,
+    }
+}
+
+fn is_quote(token: &Token<'_>) -> bool
+    ensures { result ≡ reading.is_quote (token_of token.now) }
+{
+    matches!(token, Token::Mark(Symbol::Backquote))
+}
+
+// The tokens between two backquotes at the front, and what follows them.
+fn take_quote<'a>(tokens: &'a [Token<'a>]) -> Option<(&'a [Token<'a>], &'a [Token<'a>])>
+    ensures { TakesQuote result (tokens_of tokens.now) }
+{
+    let inner = take_mark(tokens, Symbol::Backquote)?;
+    let mut at = 0;
+    while at < inner.len() {
+        if is_quote(&inner[at]) {
+            return Some((&inner[..at], &inner[at + 1..]));
+        }
+        at += 1;
+    }
+    None
+}
+
+// The term between two backquotes at the front, and what follows them.
+fn parse_quote<'a>(
+    alloc: Global,
+    tokens: &'a [Token<'a>],
+) -> Result<(Vec<TermStep<'a>>, &'a [Token<'a>]), ReadError>
+    ensures { ParsesQuote result (tokens_of tokens.now) }
+{
+    let Some((inner, rest)) = take_quote(tokens) else {
+        return Err(ReadError::Syntax);
+    };
+    match parse_term(alloc, inner) {
+        Ok(steps) => Ok((steps, rest)),
+        Err(error) => Err(error),
+    }
+}
+
+// The kind of rule that a word names.
+fn rule_kind(word: &str) -> Option<RuleKind>
+    ensures { result ≡ rule_kind_of word.now }
+{
+    if word == "REFL" {
+        Some(RuleKind::Term(TermRule::Refl))
+    } else if word == "BETA" {
+        Some(RuleKind::Term(TermRule::Beta))
+    } else if word == "ASSUME" {
+        Some(RuleKind::Term(TermRule::Assume))
+    } else if word == "TRANS" {
+        Some(RuleKind::Pair(PairRule::Trans))
+    } else if word == "MK_COMB" {
+        Some(RuleKind::Pair(PairRule::MkComb))
+    } else if word == "EQ_MP" {
+        Some(RuleKind::Pair(PairRule::EqMp))
+    } else if word == "DEDUCT_ANTISYM_RULE" {
+        Some(RuleKind::Pair(PairRule::DeductAntisym))
+    } else if word == "ABS" {
+        Some(RuleKind::Abs)
+    } else if word == "ETA" {
+        Some(RuleKind::Axiom(Axiom::Eta))
+    } else if word == "SELECT" {
+        Some(RuleKind::Axiom(Axiom::Select))
+    } else {
+        None
+    }
+}
+
+// A quoted term and nothing else.
+fn parse_term_rule<'a>(
+    alloc: Global,
+    rule: TermRule,
+    tokens: &'a [Token<'a>],
+) -> Result<Rule<'a>, ReadError>
+    ensures { ParsesArguments result (RuleKind.Term rule) (tokens_of tokens.now) }
+{
+    match parse_quote(alloc, tokens) {
+        Ok((steps, [])) => Ok(Rule::OfTerm(rule, steps)),
+        Ok(_) => Err(ReadError::Syntax),
+        Err(error) => Err(error),
+    }
+}
+
+// The names of two theorems and nothing else.
+fn parse_pair_rule<'a>(rule: PairRule, tokens: &'a [Token<'a>]) -> Result<Rule<'a>, ReadError>
+    requires { AreTokens (tokens_of tokens.now) }
+    ensures { ParsesArguments result (RuleKind.Pair rule) (tokens_of tokens.now) }
+{
+    let Some((first, rest)) = take_name(tokens) else {
+        return Err(ReadError::Syntax);
+    };
+    match only_name(rest) {
+        Some(second) => Ok(Rule::OfTheorems(rule, first, second)),
+        None => Err(ReadError::Syntax),
+    }
+}
+
+// A quoted variable, the name of a theorem and nothing else.
+fn parse_abs<'a>(alloc: Global, tokens: &'a [Token<'a>]) -> Result<Rule<'a>, ReadError>
+    requires { AreTokens (tokens_of tokens.now) }
+    ensures { ParsesArguments result RuleKind.Abs (tokens_of tokens.now) }
+{
+    match parse_quote(alloc, tokens) {
+        Ok((steps, rest)) => match only_name(rest) {
+            Some(name) => Ok(Rule::Abs(steps, name)),
+            None => Err(ReadError::Syntax),
+        },
+        Err(error) => Err(error),
+    }
+}
+
+fn parse_axiom<'a>(named: Axiom, tokens: &'a [Token<'a>]) -> Result<Rule<'a>, ReadError>
+    ensures { ParsesArguments result (RuleKind.Axiom named) (tokens_of tokens.now) }
+{
+    if !tokens.is_empty() {
+        return Err(ReadError::Syntax);
+    }
+    Ok(Rule::OfAxiom(named))
+}
+
+// A rule with its arguments.
+fn parse_rule<'a>(alloc: Global, tokens: &'a [Token<'a>]) -> Result<Rule<'a>, ReadError>
+    requires { AreTokens (tokens_of tokens.now) }
+    ensures { ParsesRule result (tokens_of tokens.now) }
+{
+    let Some((word, arguments)) = take_name(tokens) else {
+        return Err(ReadError::Syntax);
+    };
+    let Some(kind) = rule_kind(word) else {
+        return Err(ReadError::Syntax);
+    };
+    match kind {
+        RuleKind::Term(rule) => parse_term_rule(alloc, rule, arguments),
+        RuleKind::Pair(rule) => parse_pair_rule(rule, arguments),
+        RuleKind::Abs => parse_abs(alloc, arguments),
+        RuleKind::Axiom(axiom) => parse_axiom(axiom, arguments),
+    }
+}
+
+/// The command that the tokens are.
+pub fn parse_command<'a>(alloc: Global, tokens: &'a [Token<'a>]) -> Result<Command<'a>, ReadError>
+    requires { AreTokens (tokens_of tokens.now) }
+    ensures { ParsesCommand result (tokens_of tokens.now) }
+{
+    let Some((word, rest)) = take_name(tokens) else {
+        return Err(ReadError::Syntax);
+    };
+    let Some((name, rest)) = take_name(rest) else {
+        return Err(ReadError::Syntax);
+    };
+    if word == "show" {
+        if !rest.is_empty() {
+            return Err(ReadError::Syntax);
+        }
+        return Ok(Command::Show(name));
+    }
+    if word != "thm" {
+        return Err(ReadError::Syntax);
+    }
+    let Some(rule) = take_mark(rest, Symbol::Equal) else {
+        return Err(ReadError::Syntax);
+    };
+    match parse_rule(alloc, rule) {
+        Ok(rule) => Ok(Command::Thm(name, rule)),
+        Err(error) => Err(error),
+    }
+}

@@ -1,0 +1,29 @@
+// What a command's text does.
+ghost use Rattle.std.specs.Prelude.{Some};
+ghost use Rattle.hol_script.specs.Answers.{Turns};
+ghost use Rattle.hol_script.specs.SessionState.{state_of, IsSession};
+
+use crate::command::{Command, parse_command};
+use crate::session::Session;
+use hol_model::Fault;
+use hol_syntax::{ReadError, tokens_in};
+use std::alloc::Global;
+
+/// Answers a command: the line of a theorem, or a refusal, which changes nothing.
+pub fn execute(session: &mut Session, alloc: Global, text: &[u8]) -> Result<String, Fault>
+    requires { IsSession session.old }
+    ensures turns { Turns (state_of session.old) (Some text.now) result (state_of session.new) }
+    ensures kept { IsSession session.new }
+{
+    let tokens = match tokens_in(alloc, text) {
+        Ok(tokens) => tokens,
+        Err(ReadError::Memory) => return Err(Fault::Memory),
+        Err(ReadError::Syntax) => return Err(Fault::Syntax),
+    };
+    match parse_command(alloc, &tokens) {
+        Ok(Command::Thm(name, rule)) => session.thm(alloc, name, &rule),
+        Ok(Command::Show(name)) => session.show(alloc, name),
+        Err(ReadError::Memory) => Err(Fault::Memory),
+        Err(ReadError::Syntax) => Err(Fault::Syntax),
+    }
+}

@@ -1,0 +1,244 @@
+// Sessions: what the commands of a script have stored.
+ghost use Rattle.std.specs.Prelude.{◌≡◌, ℕ, List, [], Some, OnOk, OnErr, IfOk, IfErr, IfSome, string_bytes};
+ghost use Rattle.std.specs.Option.{option_map};
+ghost use Rattle.indexmap.specs.IndexMap.{get_by_text};
+ghost use Rattle.hol_model.specs.Commands.{RuleTree, by_term, by_abs, thm_command, show_command, SpellsCommand};
+ghost use Rattle.hol_model.specs.Outcome.{Answers};
+ghost use Rattle.hol_model.specs.Reading.{meaning};
+ghost use Rattle.hol_model.specs.Sessions.{start, scope_in, with_theorem, rule_outcome, term_rule_outcome, pair_rule_outcome};
+ghost use Rattle.hol_model.specs.Sessions as spec;
+ghost use Rattle.hol_model.specs.TermGrammar.{TermTree};
+ghost use Rattle.hol_model.specs.Theory.{IsEarlier};
+ghost use Rattle.hol_model.specs.Theorem.{IsTheorem};
+ghost use Rattle.hol_model.specs.declared.fault.Fault.TheVariants.{Memory};
+ghost use Rattle.hol_syntax.specs.Scope.{scope_of};
+ghost use Rattle.hol_syntax.specs.Steps.{flat_steps_of};
+ghost use Rattle.hol_syntax.specs.TermSteps.{term_steps, flat_steps};
+ghost use Rattle.hol_script.specs.Answers.{Turns};
+ghost use Rattle.hol_script.specs.SessionState.{state_of, IsSession};
+ghost use Rattle.hol_script.specs.Views.{IsRule};
+
+use crate::command::Rule;
+use hol_kernel::{Theory, Thm};
+use hol_model::{Axiom, Fault, PairRule, TermRule};
+use hol_sound::sound;
+use hol_syntax::{Scope, TermStep, term_of_steps, text_of_sequent};
+use hol_terms::Term;
+use indexmap::IndexMap;
+use std::alloc::Global;
+
+/// A theory, what the names of texts stand for, and the stored theorems.
+#[derive(Drop)]
+pub struct Session {
+    theory: Theory,
+    scope: Scope,
+    theorems: IndexMap<String, Thm>,
+}
+
+/// Whether `thm` may give this name: names that end in `_def` belong to definitions.
+fn is_theorem_name(name: &str) -> bool
+    ensures { result ≡ spec.is_theorem_name name.now }
+{
+    !name.as_bytes().ends_with(b"_def")
+}
+
+/// The line of a theorem.
+fn theorem_line(alloc: Global, scope: &Scope, name: &str, theorem: &Thm) -> Result<String, Fault>
+    ensures ok { IfOk result (λ line. string_bytes line ≡ spec.theorem_line (scope_of scope.now) name.now theorem.now) }
+    ensures err { IfErr result (λ fault. fault ≡ Memory) }
+{
+    let sequent = text_of_sequent(alloc, scope, theorem.hyps(), theorem.concl())?;
+    let mut line = String::from_str(alloc, name)?;
+    line.push_str(": ")?;
+    line.push_str(sequent.as_str())?;
+    line.push_str("\n")?;
+    Ok(line)
+}
+
+impl Session {
+    /// The session in which a script begins.
+    pub fn new(alloc: Global) -> Result<Session, Fault>
+        ensures ok { IfOk result (λ session. state_of session ≡ start) }
+        ensures is_session { IfOk result IsSession }
+        ensures err { IfErr result (λ fault. fault ≡ Memory) }
+    {
+        let theory = Theory::new(alloc)?;
+        let scope = Scope::new(alloc)?;
+        Ok(Session {
+            theory,
+            scope,
+            theorems: IndexMap::new(alloc),
+        })
+    }
+
+    /// `thm NAME = RULE ..`: stores what the rule gives. A refusal changes nothing.
+    pub fn thm(&mut self, alloc: Global, name: &str, rule: &Rule) -> Result<String, Fault>
+        requires { IsSession self.old }
+        ensures turns { (text : List ℕ) (tree : RuleTree) → SpellsCommand text (thm_command name.now tree) → IsRule rule.now tree
+            → Turns (state_of self.old) (Some text) result (state_of self.new) }
+        ensures kept { IsSession self.new }
+    {
+        if !is_theorem_name(name) {
+            return Err(Fault::BadName);
+        }
+        if self.theorem(name).is_some() {
+            return Err(Fault::NameTaken);
+        }
+        let theorem = match self.apply(alloc, rule) {
+            Ok(theorem) => theorem,
+            Err(fault) => return Err(fault),
+        };
+        let line = match theorem_line(alloc, &self.scope, name, &theorem) {
+            Ok(line) => line,
+            Err(fault) => return Err(fault),
+        };
+        sound();
+        match self.store(alloc, name, theorem) {
+            Ok(()) => Ok(line),
+            Err(fault) => Err(fault),
+        }
+    }
+
+    // Stores a theorem. A refusal changes nothing.
+    fn store(&mut self, alloc: Global, name: &str, theorem: Thm) -> Result<(), Fault>
+        requires session { IsSession self.old }
+        requires earlier { IsEarlier theorem.theory self.old.theory }
+        ensures ok { OnOk result (state_of self.new ≡ with_theorem (state_of self.old) name.now theorem) }
+        ensures err { OnErr result (state_of self.new ≡ state_of self.old) }
+        ensures memory { IfErr result (λ fault. fault ≡ Memory) }
+        ensures scope { self.new.scope ≡ self.old.scope }
+        ensures kept { IsSession self.new }
+    {
+        let Ok(key) = String::from_str(alloc, name) else {
+            return Err(Fault::Memory);
+        };
+        match self.theorems.insert(key, theorem) {
+            Ok(_) => Ok(()),
+            Err(_) => Err(Fault::Memory),
+        }
+    }
+
+    /// `show NAME`: prints a stored theorem again.
+    pub fn show(&self, alloc: Global, name: &str) -> Result<String, Fault>
+        requires { IsSession self.now }
+        ensures { (text : List ℕ) → SpellsCommand text (show_command name.now)
+            → Turns (state_of self.now) (Some text) result (state_of self.now) }
+    {
+        let Some(theorem) = self.theorem(name) else {
+            return Err(Fault::UnknownName);
+        };
+        sound();
+        let _theorem = theorem.concl();
+        theorem_line(alloc, &self.scope, name, theorem)
+    }
+
+    // What a rule gives: its arguments from left to right, then the rule.
+    fn apply(&self, alloc: Global, rule: &Rule) -> Result<Thm, Fault>
+        requires { IsSession self.now }
+        ensures answers { (tree : RuleTree) → IsRule rule.now tree → Answers result (rule_outcome (state_of self.now) tree) }
+        ensures theorem { IfOk result IsTheorem }
+        ensures stands_on { IfOk result (λ answer. answer.theory ≡ self.now.theory) }
+    {
+        match rule {
+            Rule::OfTerm(rule, steps) => self.by_term(alloc, *rule, steps),
+            Rule::OfTheorems(rule, first, second) => {
+                let Some(first) = self.theorem(first) else {
+                    return Err(Fault::UnknownName);
+                };
+                let Some(second) = self.theorem(second) else {
+                    return Err(Fault::UnknownName);
+                };
+                self.by_theorems(alloc, *rule, first, second)
+            }
+            Rule::Abs(steps, name) => self.abs(alloc, steps, name),
+            Rule::OfAxiom(Axiom::Eta) => self.theory.eta(alloc),
+            Rule::OfAxiom(Axiom::Select) => self.theory.select(alloc),
+        }
+    }
+
+    // The stored theorem of a name.
+    fn theorem(&self, name: &str) -> Option<&Thm>
+        requires { IsSession self.now }
+        ensures found { option_map (λ theorem. theorem.now) result ≡ get_by_text self.now.theorems name.now }
+        ensures earlier { IfSome result (λ theorem. IsEarlier theorem.now.theory self.now.theory) }
+    {
+        self.find(name)
+    }
+
+    fn find(&self, name: &str) -> Option<&Thm>
+        ensures { option_map (λ theorem. theorem.now) result ≡ get_by_text self.now.theorems name.now }
+    {
+        self.theorems.get(name)
+    }
+
+    // The term of a rule's quoted argument.
+    fn term(&self, alloc: Global, steps: &[TermStep]) -> Result<Term, Fault>
+        requires { IsSession self.now }
+        ensures { (tree : TermTree) → flat_steps_of steps.now ≡ flat_steps (term_steps tree)
+            → Answers result (meaning (scope_in (state_of self.now)) [] tree) }
+    {
+        term_of_steps(alloc, &self.scope, steps)
+    }
+
+    fn by_term(&self, alloc: Global, rule: TermRule, steps: &[TermStep]) -> Result<Thm, Fault>
+        requires { IsSession self.now }
+        ensures answers { (tree : TermTree) → flat_steps_of steps.now ≡ flat_steps (term_steps tree)
+            → Answers result (rule_outcome (state_of self.now) (by_term rule tree)) }
+        ensures theorem { IfOk result IsTheorem }
+        ensures stands_on { IfOk result (λ answer. answer.theory ≡ self.now.theory) }
+    {
+        match self.term(alloc, steps) {
+            Ok(term) => self.on_term(alloc, rule, &term),
+            Err(fault) => Err(fault),
+        }
+    }
+
+    // ABS
+    fn abs(&self, alloc: Global, steps: &[TermStep], name: &str) -> Result<Thm, Fault>
+        requires { IsSession self.now }
+        ensures answers { (tree : TermTree) → flat_steps_of steps.now ≡ flat_steps (term_steps tree)
+            → Answers result (rule_outcome (state_of self.now) (by_abs tree name.now)) }
+        ensures theorem { IfOk result IsTheorem }
+        ensures stands_on { IfOk result (λ answer. answer.theory ≡ self.now.theory) }
+    {
+        let binder = match self.term(alloc, steps) {
+            Ok(binder) => binder,
+            Err(fault) => return Err(fault),
+        };
+        match self.theorem(name) {
+            Some(theorem) => self.theory.abs(alloc, &binder, theorem),
+            None => Err(Fault::UnknownName),
+        }
+    }
+
+    fn on_term(&self, alloc: Global, rule: TermRule, term: &Term) -> Result<Thm, Fault>
+        ensures answers { Answers result (term_rule_outcome rule self.now.theory term.now) }
+        ensures stands_on { IfOk result (λ answer. answer.theory ≡ self.now.theory) }
+    {
+        match rule {
+            TermRule::Refl => self.theory.refl(alloc, term),
+            TermRule::Beta => self.theory.beta(alloc, term),
+            TermRule::Assume => self.theory.assume(alloc, term),
+        }
+    }
+
+    fn by_theorems(
+        &self,
+        alloc: Global,
+        rule: PairRule,
+        first: &Thm,
+        second: &Thm,
+    ) -> Result<Thm, Fault>
+        requires first { IsEarlier first.now.theory self.now.theory }
+        requires second { IsEarlier second.now.theory self.now.theory }
+        ensures answers { Answers result (pair_rule_outcome rule self.now.theory first.now second.now) }
+        ensures stands_on { IfOk result (λ answer. answer.theory ≡ self.now.theory) }
+    {
+        match rule {
+            PairRule::Trans => self.theory.trans(alloc, first, second),
+            PairRule::MkComb => self.theory.mk_comb(alloc, first, second),
+            PairRule::EqMp => self.theory.eq_mp(alloc, first, second),
+            PairRule::DeductAntisym => self.theory.deduct_antisym(alloc, first, second),
+        }
+    }
+}

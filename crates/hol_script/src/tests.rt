@@ -1,0 +1,188 @@
+// Scripts with the output that each must have.
+ghost use Rattle.std.specs.Prelude.{◌≡◌, false};
+
+use crate::{Summary, run};
+use hol_model::{DeviceFail, Fault, FromRead, IntoWrite, Sink};
+use std::alloc::Global;
+use std::test::Fail;
+
+// A sink that compares what it takes with what is expected.
+#[derive(Drop)]
+struct Compared<'a> {
+    rest: &'a [u8],
+    differs: bool,
+}
+
+impl Compared<'_> {
+    fn is_whole(&self) -> bool {
+        !self.differs && self.rest.is_empty()
+    }
+}
+
+impl Sink for Compared<'_> {
+    ghost has_failed = { λ _. false };
+
+    fn emit(&mut self, piece: &[u8]) -> Result<usize, DeviceFail> {
+        match self.rest.strip_prefix(piece) {
+            Some(rest) => self.rest = rest,
+            None => self.differs = true,
+        }
+        Ok(piece.len())
+    }
+
+    fn failed(&self) -> bool {
+        false
+    }
+}
+
+// Whether a script writes this, and no more.
+fn writes(alloc: Global, script: &[u8], expected: &[u8]) -> Result<bool, Fault> {
+    let mut reader = FromRead::new(script);
+    let mut writer = Compared {
+        rest: expected,
+        differs: false,
+    };
+    run(alloc, &mut reader, &mut writer)?;
+    Ok(writer.is_whole())
+}
+
+fn summary(alloc: Global, script: &[u8]) -> Result<Summary, Fault> {
+    let mut reader = FromRead::new(script);
+    let mut writer = IntoWrite::new(Vec::new(alloc));
+    run(alloc, &mut reader, &mut writer)
+}
+
+#[test]
+fn prints_reflexivity(rt: HostRuntime) -> Result<(), Fail> {
+    let alloc = rt.alloc();
+    assert!(rt; writes(alloc, b"", b"")?);
+    assert!(rt;
+        writes(
+            alloc,
+            b"thm a = REFL `(x:bool)` ;;",
+            b"a: |- (x:bool) <=> (x:bool)\n"
+        )?
+    );
+    assert!(rt;
+        writes(
+            alloc,
+            b"thm a = REFL `(f:A->B) (x:A)` ;; thm b = TRANS a a ;;",
+            b"a: |- (f:A->B) (x:A) = (f:A->B) (x:A)\nb: |- (f:A->B) (x:A) = (f:A->B) (x:A)\n"
+        )?
+    );
+    Ok(())
+}
+
+#[test]
+fn refuses_names_and_rules(rt: HostRuntime) -> Result<(), Fail> {
+    let alloc = rt.alloc();
+    let script = b"thm a = REFL `(f:A->B) (x:A)` ;; thm d = REFL `(y:B)` ;;\n\
+thm c = TRANS a d ;;\n\
+thm c = TRANS a nil ;;\n\
+thm a = REFL `(y:B)` ;;\n\
+thm x_def = REFL `(y:B)` ;;\n";
+    let expected = b"a: |- (f:A->B) (x:A) = (f:A->B) (x:A)\n\
+d: |- (y:B) = (y:B)\n\
+line 2: E9 NotAlpha\n\
+line 3: E21 UnknownName\n\
+line 4: E29 NameTaken\n\
+line 5: E3 BadName\n";
+    assert!(rt; writes(alloc, script, expected)?);
+    Ok(())
+}
+
+#[test]
+fn refuses_terms(rt: HostRuntime) -> Result<(), Fail> {
+    let alloc = rt.alloc();
+    let script = b"thm a = REFL `x` ;;\n\
+thm a = REFL `(x:bool) (y:bool)` ;;\n\
+thm a = REFL `[k:bool]` ;;\n\
+thm a = REFL `[=:A->B->bool]` ;;\n\
+thm a = REFL `(x:nat)` ;;\n";
+    let expected = b"line 1: E21 UnknownName\n\
+line 2: E4 TypeMismatch\n\
+line 3: E5 UnknownConst\n\
+line 4: E6 NotInstance\n\
+line 5: E35 UnknownType\n";
+    assert!(rt; writes(alloc, script, expected)?);
+    Ok(())
+}
+
+#[test]
+fn refuses_what_is_no_command(rt: HostRuntime) -> Result<(), Fail> {
+    let alloc = rt.alloc();
+    assert!(rt; writes(alloc, b"show TRUTH", b"line 1: E28 Syntax\n")?);
+    assert!(rt; writes(alloc, b"\n ;;;\n\n show a ;;\n", b"line 2: E28 Syntax\n")?);
+    assert!(rt; writes(alloc, b"\n\n ;; ;;\n frob ;;", b"line 4: E28 Syntax\n")?);
+    assert!(rt;
+        writes(
+            alloc,
+            b"show a ;; \xc3\xa9 ;;",
+            b"line 1: E21 UnknownName\nline 1: E28 Syntax\n"
+        )?
+    );
+    Ok(())
+}
+
+#[test]
+fn compares_up_to_bound_names(rt: HostRuntime) -> Result<(), Fail> {
+    let alloc = rt.alloc();
+    let script =
+        b"thm f = REFL `\\x:bool. x` ;; thm g = REFL `\\y:bool. y` ;; thm h = TRANS f g ;;";
+    let expected = b"f: |- (\\x:bool. x) = (\\x:bool. x)\n\
+g: |- (\\y:bool. y) = (\\y:bool. y)\n\
+h: |- (\\x:bool. x) = (\\y:bool. y)\n";
+    assert!(rt; writes(alloc, script, expected)?);
+    Ok(())
+}
+
+#[test]
+fn abstracts_over_variables(rt: HostRuntime) -> Result<(), Fail> {
+    let alloc = rt.alloc();
+    let script = b"thm h = ASSUME `(x:bool) <=> (y:bool)` ;;\n\
+thm i = ABS `(x:bool)` h ;;\n\
+thm j = ABS `(x:A)` h ;;\n";
+    let expected = b"h: (x:bool) <=> (y:bool) |- (x:bool) <=> (y:bool)\n\
+line 2: E11 FreeInHypothesis\n\
+j: (x:bool) <=> (y:bool) |- (\\x:A. (x:bool)) = (\\x:A. (y:bool))\n";
+    assert!(rt; writes(alloc, script, expected)?);
+    Ok(())
+}
+
+#[test]
+fn deduces_equations(rt: HostRuntime) -> Result<(), Fail> {
+    let alloc = rt.alloc();
+    let script = b"thm p = ASSUME `(p:bool)` ;; thm q = ASSUME `(q:bool)` ;;\n\
+thm r = DEDUCT_ANTISYM_RULE p q ;; thm s = DEDUCT_ANTISYM_RULE p p ;;\n\
+thm t = TRANS p q ;; thm k = BETA `(\\x:bool. x) (y:bool)` ;;\n";
+    let expected = b"p: (p:bool) |- (p:bool)\n\
+q: (q:bool) |- (q:bool)\n\
+r: (p:bool), (q:bool) |- (p:bool) <=> (q:bool)\n\
+s: |- (p:bool) <=> (p:bool)\n\
+line 3: E8 NotEquation\n\
+line 3: E12 NotTrivialBeta\n";
+    assert!(rt; writes(alloc, script, expected)?);
+    Ok(())
+}
+
+#[test]
+fn states_the_axioms(rt: HostRuntime) -> Result<(), Fail> {
+    let alloc = rt.alloc();
+    let expected = b"e: |- (\\x:A. (t:A->B) x) = (t:A->B)\n\
+s: (P:A->bool) (x:A) |- (P:A->bool) ([@:(A->bool)->A] (P:A->bool))\n";
+    assert!(rt; writes(alloc, b"thm e = ETA ;; thm s = SELECT ;;", expected)?);
+    Ok(())
+}
+
+#[test]
+fn counts_commands(rt: HostRuntime) -> Result<(), Fail> {
+    let alloc = rt.alloc();
+    let counted = summary(
+        alloc,
+        b"thm a = REFL `(x:bool)` ;; show a ;; show b ;; c ;;",
+    )?;
+    assert_eq!(rt; counted.accepted, 2);
+    assert_eq!(rt; counted.refused, 2);
+    assert_eq!(rt; counted.printed, 2);
+    Ok(())
+}
