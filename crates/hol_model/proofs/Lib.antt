@@ -1,5 +1,6 @@
 pub mod HolTypeEq
 pub mod Refusals
+pub mod Outcomes
 pub mod Orders
 pub mod FreeVariables
 pub mod Tests
@@ -22,3 +23,6 @@ pub mod LegalLogic
 pub mod Measures
 pub mod WithinLimits
 pub mod Earlier
+pub mod LogTests
+pub mod AcceptedLog
+pub mod AcceptedText

@@ -1,7 +1,7 @@
 -- The grammar of commands.
 use Rattle.std.specs.Prelude.{◌≡◌, ℕ, ◌≤◌, List, [], ◌∷◌, ◌++◌, codes}
 use Rattle.hol_model.specs.declared.limits.TheConstants.{TERM_NESTING_LIMIT}
-use Rattle.hol_model.specs.declared.symbol.Symbol.TheVariants.{Backquote, Equal}
+use Rattle.hol_model.specs.declared.symbol.Symbol.TheVariants.{Backquote, Colon, Equal}
 use Rattle.hol_model.specs.declared.rule.TermRule.{TermRule}
 use Rattle.hol_model.specs.declared.rule.TermRule.TheVariants.{Refl, Beta, Assume}
 use Rattle.hol_model.specs.declared.rule.PairRule.{PairRule}
@@ -12,7 +12,8 @@ use Rattle.hol_model.specs.declared.rule.RuleKind.{RuleKind}
 use Rattle.hol_model.specs.declared.rule.RuleKind.TheVariants.{Term, Pair, Abs, Axiom as OfAxiom}
 use Rattle.hol_model.specs.Token.{Token, Name, Mark}
 use Rattle.hol_model.specs.Lexing.{Lexes}
-use Rattle.hol_model.specs.TermGrammar.{TermTree, IsTermTree, term_depth, pieces, all_tokens}
+use Rattle.hol_model.specs.TypeGrammar.{TypeTree, type_tokens}
+use Rattle.hol_model.specs.TermGrammar.{TermTree, IsWithin, IsTermTree, term_depth, pieces, all_tokens}
 
 -- A rule with its arguments; theorems are named.
 pub data RuleTree : Type 0 where
@@ -24,6 +25,10 @@ pub data RuleTree : Type 0 where
 pub data CommandTree : Type 0 where
   thm_command : List ℕ → RuleTree → CommandTree
   show_command : List ℕ → CommandTree
+  var_command : List ℕ → TypeTree → CommandTree
+  def_command : List ℕ → TermTree → CommandTree
+  newtype_command : List ℕ → CommandTree
+  newconst_command : List ℕ → TypeTree → CommandTree
 
 -- the kind of a rule
 abbrev pub kind_of : RuleTree → RuleKind
@@ -60,6 +65,10 @@ rule_tokens rule = Name (rule_word (kind_of rule)) ∷ argument_tokens rule
 abbrev pub command_tokens : CommandTree → List Token
 command_tokens (thm_command name rule) = Name (codes "thm") ∷ Name name ∷ Mark Equal ∷ rule_tokens rule
 command_tokens (show_command name) = Name (codes "show") ∷ Name name ∷ []
+command_tokens (var_command name tree) = Name (codes "var") ∷ Name name ∷ Mark Colon ∷ type_tokens tree []
+command_tokens (def_command name tree) = Name (codes "def") ∷ Name name ∷ Mark Equal ∷ quote_tokens tree []
+command_tokens (newtype_command name) = Name (codes "newtype") ∷ Name name ∷ []
+command_tokens (newconst_command name tree) = Name (codes "newconst") ∷ Name name ∷ Mark Colon ∷ type_tokens tree []
 
 -- a term of the grammar that is not nested too deep
 abbrev pub IsQuotable : TermTree → Type 0
@@ -74,6 +83,10 @@ IsRuleTree (by_axiom rule) = Unit {0}
 abbrev pub IsCommandTree : CommandTree → Type 0
 IsCommandTree (thm_command name rule) = IsRuleTree rule
 IsCommandTree (show_command name) = Unit {0}
+IsCommandTree (var_command name tree) = IsWithin tree
+IsCommandTree (def_command name tree) = IsQuotable tree
+IsCommandTree (newtype_command name) = Unit {0}
+IsCommandTree (newconst_command name tree) = IsWithin tree
 
 -- The tokens are those of this command.
 pub record IsReadCommand (tokens : List Token) (tree : CommandTree) : Type 0 where

@@ -24,6 +24,7 @@ pub mod Outcome
 pub mod Theorem
 pub mod TheoremCode
 pub mod Rules
+pub mod Constructors
 pub mod Instantiation
 pub mod NamedAxioms
 pub mod Token
@@ -38,3 +39,10 @@ pub mod SequentTexts
 pub mod Script
 pub mod Commands
 pub mod Sessions
+pub mod LogLine
+pub mod LogState
+pub mod LogSequents
+pub mod LogFaults
+pub mod LogText
+pub mod LogLaws
+pub mod LogClaims

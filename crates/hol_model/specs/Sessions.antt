@@ -21,12 +21,14 @@ use Rattle.hol_model.specs.Derivable.{Derivable}
 use Rattle.hol_model.specs.Holds.{Holds}
 use Rattle.hol_model.specs.Outcome.{given}
 use Rattle.hol_model.specs.Theorem.{Theorem}
-use Rattle.hol_model.specs.Rules.{refl_outcome, beta_outcome, assume_outcome, trans_outcome, mk_comb_outcome, eq_mp_outcome, deduct_antisym_outcome, abs_outcome}
+use Rattle.hol_model.specs.Rules.{refl_outcome, beta_outcome, assume_outcome, trans_outcome, mk_comb_outcome, eq_mp_outcome, deduct_antisym_outcome, abs_outcome, define_outcome, new_type_outcome, new_const_outcome}
 use Rattle.hol_model.specs.NamedAxioms.{eta_conclusion, select_hypothesis, select_conclusion}
-use Rattle.hol_model.specs.Reading.{Scope, meaning, ◌>>=◌}
+use Rattle.hol_model.specs.TypeGrammar.{TypeTree}
+use Rattle.hol_model.specs.TermGrammar.{TermTree}
+use Rattle.hol_model.specs.Reading.{Scope, type_meaning, meaning, ◌>>=◌}
 use Rattle.hol_model.specs.Texts.{text_of_sequent}
 use Rattle.hol_model.specs.Script.{Request, Cuts, requests}
-use Rattle.hol_model.specs.Commands.{RuleTree, by_term, by_pair, by_abs, by_axiom, CommandTree, thm_command, show_command, SpellsCommand}
+use Rattle.hol_model.specs.Commands.{RuleTree, by_term, by_pair, by_abs, by_axiom, CommandTree, thm_command, show_command, var_command, def_command, newtype_command, newconst_command, SpellsCommand}
 
 -- what a session keeps: the entries of its theory, the declared variables and the stored theorems
 pub record State : Type 0 where
@@ -45,6 +47,14 @@ scope_in state = record { generic_type = generic_type state.theory; variable_typ
 -- the state with one more theorem
 abbrev pub with_theorem : State → List ℕ → Theorem → State
 with_theorem state name theorem = record state { theorems = λ other. if bytes_eq name other then Some theorem else state.theorems other }
+
+-- the state with a declared variable, in place of an earlier one of the name
+abbrev pub with_variable : State → List ℕ → HolType → State
+with_variable state name ty = record state { variables = λ other. if bytes_eq name other then Some ty else state.variables other }
+
+-- the state over another theory
+abbrev pub over_theory : State → Theory → State
+over_theory state theory = record state { theory = theory }
 
 -- ---- rules
 
@@ -80,9 +90,26 @@ rule_outcome state (by_axiom rule) = Ok (axiom_theorem rule state.theory)
 abbrev pub is_theorem_name : List ℕ → Bool
 is_theorem_name name = not (ends_with nat_eq name (codes "_def"))
 
--- what a command answers
+-- the name under which the theorem of a definition is stored
+abbrev pub definition_name : List ℕ → List ℕ
+definition_name name = name ++ codes "_def"
+
+-- what `def` gives: the term, then the definition
+abbrev pub def_outcome : State → List ℕ → TermTree → Result Theorem Fault
+def_outcome state name tree = meaning (scope_in state) [] tree >>= λ term. define_outcome state.theory name term
+
+-- the state with the theorem of a definition, over the theory with it
+abbrev pub with_definition : State → List ℕ → Theorem → State
+with_definition state name theorem = with_theorem (over_theory state theorem.theory) (definition_name name) theorem
+
+-- what `newconst` gives: the type, then the theory with the constant
+abbrev pub newconst_outcome : State → List ℕ → TypeTree → Result Theory Fault
+newconst_outcome state name tree = type_meaning (scope_in state) tree >>= λ ty. new_const_outcome state.theory name ty
+
+-- what a command answers: a theorem that is stored or shown, an acceptance that prints nothing, or a refusal
 pub data Reply : Type 0 where
   proves : List ℕ → Theorem → Reply
+  accepts : Reply
   refused : Fault → Reply
 
 -- In the old state the text, or what stands behind the last `;;`, may answer so and leave the new state. A refusal
@@ -95,6 +122,14 @@ pub data Allows : State → Option (List ℕ) → Reply → State → Type 0 whe
   thm_has_taken_name : {state : State} {text name : List ℕ} {rule : RuleTree} {there : Theorem} → SpellsCommand text (thm_command name rule) → is_theorem_name name ≡ true → state.theorems name ≡ Some there → Allows state (Some text) (refused NameTaken) state
   thm_is_refused : {state : State} {text name : List ℕ} {rule : RuleTree} {fault : Fault} → SpellsCommand text (thm_command name rule) → is_theorem_name name ≡ true → state.theorems name ≡ None → rule_outcome state rule ≡ Err fault → Allows state (Some text) (refused fault) state
   thm_stores : {state : State} {text name : List ℕ} {rule : RuleTree} {theorem : Theorem} → SpellsCommand text (thm_command name rule) → is_theorem_name name ≡ true → state.theorems name ≡ None → rule_outcome state rule ≡ Ok theorem → Allows state (Some text) (proves name theorem) (with_theorem state name theorem)
+  var_is_refused : {state : State} {text name : List ℕ} {tree : TypeTree} {fault : Fault} → SpellsCommand text (var_command name tree) → type_meaning (scope_in state) tree ≡ Err fault → Allows state (Some text) (refused fault) state
+  var_declares : {state : State} {text name : List ℕ} {tree : TypeTree} {ty : HolType} → SpellsCommand text (var_command name tree) → type_meaning (scope_in state) tree ≡ Ok ty → Allows state (Some text) accepts (with_variable state name ty)
+  def_is_refused : {state : State} {text name : List ℕ} {tree : TermTree} {fault : Fault} → SpellsCommand text (def_command name tree) → def_outcome state name tree ≡ Err fault → Allows state (Some text) (refused fault) state
+  def_defines : {state : State} {text name : List ℕ} {tree : TermTree} {theorem : Theorem} → SpellsCommand text (def_command name tree) → def_outcome state name tree ≡ Ok theorem → Allows state (Some text) (proves (definition_name name) theorem) (with_definition state name theorem)
+  newtype_is_refused : {state : State} {text name : List ℕ} {fault : Fault} → SpellsCommand text (newtype_command name) → new_type_outcome state.theory name ≡ Err fault → Allows state (Some text) (refused fault) state
+  newtype_declares : {state : State} {text name : List ℕ} {theory : Theory} → SpellsCommand text (newtype_command name) → new_type_outcome state.theory name ≡ Ok theory → Allows state (Some text) accepts (over_theory state theory)
+  newconst_is_refused : {state : State} {text name : List ℕ} {tree : TypeTree} {fault : Fault} → SpellsCommand text (newconst_command name tree) → newconst_outcome state name tree ≡ Err fault → Allows state (Some text) (refused fault) state
+  newconst_declares : {state : State} {text name : List ℕ} {tree : TypeTree} {theory : Theory} → SpellsCommand text (newconst_command name tree) → newconst_outcome state name tree ≡ Ok theory → Allows state (Some text) accepts (over_theory state theory)
   show_finds_none : {state : State} {text name : List ℕ} → SpellsCommand text (show_command name) → state.theorems name ≡ None → Allows state (Some text) (refused UnknownName) state
   show_prints : {state : State} {text name : List ℕ} {theorem : Theorem} → SpellsCommand text (show_command name) → state.theorems name ≡ Some theorem → Allows state (Some text) (proves name theorem) state
 
@@ -109,6 +144,7 @@ pub record IsProved (theory : Theory) (theorem : Theorem) : Type 0 where
 -- a theorem that is printed is proved from the entries accepted so far
 abbrev pub IsProvedReply : Theory → Reply → Type 0
 IsProvedReply theory (proves name theorem) = IsProved theory theorem
+IsProvedReply theory accepts = Unit {0}
 IsProvedReply theory (refused fault) = Unit {0}
 
 -- ---- what is printed
@@ -124,6 +160,7 @@ refusal_line line fault = codes "line " ++ decimal line ++ codes ": E" ++ decima
 -- the text of a reply to the command in this line
 abbrev pub reply_text : ℕ → Scope → Reply → List ℕ
 reply_text line scope (proves name theorem) = theorem_line scope name theorem
+reply_text line scope accepts = []
 reply_text line scope (refused fault) = refusal_line line fault
 
 -- ---- sessions
@@ -155,6 +192,7 @@ no_counts = record { accepted_commands = 0; refused_commands = 0; theorem_lines 
 -- the counts after one more reply
 abbrev pub counting : Counts → Reply → Counts
 counting counts (proves name theorem) = record { accepted_commands = counts.accepted_commands + 1; refused_commands = counts.refused_commands; theorem_lines = counts.theorem_lines + 1 }
+counting counts accepts = record { accepted_commands = counts.accepted_commands + 1; refused_commands = counts.refused_commands; theorem_lines = counts.theorem_lines }
 counting counts (refused fault) = record { accepted_commands = counts.accepted_commands; refused_commands = counts.refused_commands + 1; theorem_lines = counts.theorem_lines }
 
 -- the counts after these replies

@@ -16,7 +16,8 @@ mod symbol;
 pub use device::DeviceFail;
 pub use fault::{Cause, Fault};
 pub use laws::{
-    checks_decide, fill_undoes_close, logical_definitions_are_legal, term_order, type_order,
+    accepted_logs_are_sound, checks_decide, fill_undoes_close, logical_definitions_are_legal,
+    term_order, type_order,
 };
 pub use limits::{
     ATOMS_LIMIT, DEFINITIONS_LIMIT, DESCENTS_LIMIT, EXPRESSION_NESTING_LIMIT, HOST_FUNCTIONS_LIMIT,

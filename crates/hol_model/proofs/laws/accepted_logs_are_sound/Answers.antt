@@ -1,0 +1,5 @@
+use Rattle.hol_model.proofs.AcceptedText.{accepted_logs_are_sound}
+use Rattle.hol_model.proofs.laws.accepted_logs_are_sound.Goals as goal
+
+pub returns : goal.returns
+returns c = accepted_logs_are_sound
