@@ -1,3 +1,4 @@
 pub mod Entries
 pub mod Replacements
 pub mod Fresh
+pub mod Touched

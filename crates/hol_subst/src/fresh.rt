@@ -8,12 +8,14 @@ ghost use Rattle.hol_model.specs.Substitution.{occurs_free, IsFirstFree, IsVaria
 ghost use Rattle.hol_model.specs.Substitution as spec;
 ghost use Rattle.hol_subst.specs.Entries.{replaced};
 ghost use Rattle.hol_subst.specs.Replacements.{entries_of, binders_of};
+ghost use Rattle.hol_subst.specs.Touched.{Covers};
 ghost use Rattle.hol_subst.specs.Fresh.{IsFreshBinder};
 ghost use Rattle.hol_model.specs.declared.fault.Fault.TheVariants.{Memory, NotVariable};
 
 use crate::passed::Passed;
 use crate::rebuild::variable_of;
 use crate::replacements::{Replacements, is_free_after};
+use crate::touched::Touched;
 use hol_model::Fault;
 use hol_terms::{Term, is_free};
 use hol_types::Ty;
@@ -63,14 +65,25 @@ pub fn fresh_binder(
     types: &[(Ty, Ty)],
     passed: &Passed<'_>,
     replacements: &Replacements<'_>,
+    touched: Touched,
 ) -> Result<Term, Fault>
-    requires { IsTrue (is_identifier name.now) }
+    requires named { IsTrue (is_identifier name.now) }
+    requires covered { Covers touched.old.bits touched.new.bits (entries_of replacements.now) }
     ensures fresh { IfOk result (IsFreshBinder (replaced (entries_of replacements.now) types.now (image_under (binders_of passed.now) body.now)) name.now ty.now) }
     ensures variable { IfOk result (λ binder. IsTrue (is_variable binder)) }
     ensures typed { IfOk result (λ binder. type_of binder ≡ Some ty.now) }
     ensures err { IfErr result (λ fault. fault ≡ Memory) }
 {
-    let fresh = name_free_after(alloc, body, name, ty, types, &*passed, &*replacements)?;
+    let fresh = name_free_after(
+        alloc,
+        body,
+        name,
+        ty,
+        types,
+        &*passed,
+        &*replacements,
+        touched,
+    )?;
     variable_of(alloc, fresh.as_str(), ty)
 }
 
@@ -83,14 +96,24 @@ fn name_free_after(
     types: &[(Ty, Ty)],
     passed: &Passed<'_>,
     replacements: &Replacements<'_>,
+    touched: Touched,
 ) -> Result<String, Fault>
-    requires { IsTrue (is_identifier name.now) }
+    requires named { IsTrue (is_identifier name.now) }
+    requires covered { Covers touched.old.bits touched.new.bits (entries_of replacements.now) }
     ensures fresh { IfOk result (λ fresh. IsFirstFree (λ other. occurs_free other ty.now (replaced (entries_of replacements.now) types.now (image_under (binders_of passed.now) body.now))) name.now (string_bytes fresh)) }
     ensures named { IfOk result (λ fresh. IsTrue (is_identifier (string_bytes fresh))) }
     ensures err { IfErr result (λ fault. fault ≡ Memory) }
 {
     let mut fresh = String::from_str(alloc, name)?;
-    while is_free_after(body, fresh.as_str(), ty, types, &*passed, &*replacements) {
+    while is_free_after(
+        body,
+        fresh.as_str(),
+        ty,
+        types,
+        &*passed,
+        &*replacements,
+        touched,
+    ) {
         fresh.push_str("'")?;
     }
     Ok(fresh)

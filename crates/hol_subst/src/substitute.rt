@@ -12,6 +12,7 @@ ghost use Rattle.hol_model.specs.declared.fault.Fault.TheVariants.{Memory, TooLa
 
 use crate::replace::replaced;
 use crate::replacements::Replacements;
+use crate::touched::Touched;
 use hol_model::Fault;
 use hol_terms::Term;
 use hol_types::{Ty, replaces_type_variables};
@@ -34,7 +35,8 @@ pub fn vsubst(alloc: Global, theta: &[(Term, Term)], term: &Term) -> Result<Term
     if !keeps_types(theta) {
         return Err(Fault::TypeMismatch);
     }
-    let changed = replaced(alloc, term, &[], &Replacements::Pairs(theta))?;
+    let touched = Touched::by_pairs(theta);
+    let changed = replaced(alloc, term, &[], &Replacements::Pairs(theta), touched)?;
     changed_or_copy(alloc, changed, term)
 }
 
@@ -63,7 +65,8 @@ pub fn inst(alloc: Global, theta: &[(Ty, Ty)], term: &Term) -> Result<Term, Faul
     if !replaces_type_variables(theta) {
         return Err(Fault::NotVariable);
     }
-    let changed = replaced(alloc, term, theta, &Replacements::Pairs(&[]))?;
+    let touched = Touched::by_pairs(&[]);
+    let changed = replaced(alloc, term, theta, &Replacements::Pairs(&[]), touched)?;
     changed_or_copy(alloc, changed, term)
 }
 

@@ -4,8 +4,12 @@ ghost use Rattle.std.specs.Option.{option_map};
 ghost use Rattle.hol_model.specs.NamedTerm as spec;
 ghost use Rattle.hol_model.specs.NamedTerm.{NamedTerm, variable, constant, combination, abstraction, height, nodes, type_of, is_within_limits, is_variable, abstract, dest_variable, dest_constant, dest_combination, dest_abstraction};
 ghost use Rattle.hol_model.specs.Name.{is_identifier, is_constant_name};
+ghost use Rattle.hol_model.specs.Outcome.{Answers};
+ghost use Rattle.hol_model.specs.Rules.{abstraction_outcome};
+ghost use Rattle.hol_model.specs.Constructors.{variable_outcome, constant_outcome, combination_outcome};
 ghost use Rattle.hol_model.specs.declared.fault.Fault.TheVariants.{Memory, TooLarge, BadName, TypeMismatch, NotVariable};
 
+use crate::NameClasses;
 use hol_model::{Fault, TERM_HEIGHT_LIMIT, TERM_NODES_LIMIT};
 use hol_types::Ty;
 use std::alloc::Global;
@@ -24,6 +28,10 @@ pub struct Term {
 struct TermNode {
     nodes: u32,
     height: u32,
+    // Whether a type variable stands in a type of the term.
+    has_tyvars: bool,
+    // The classes of the names of the variables in the term, binders left out.
+    names: NameClasses,
     ty: Ty,
     shape: TermShape,
 }
@@ -71,6 +79,8 @@ impl Model for Term {
 impl Term {
     ghost use Rattle.hol_terms.specs.Parts.{term_of_parts, HasNames};
     ghost use Rattle.hol_terms.specs.Term.{term_of_node, term_of_shape, IsTermNode, IsLeaf, IsNamed};
+    ghost use Rattle.hol_terms.specs.Classes.{classes_of_names};
+    ghost use Rattle.hol_terms.specs.TypeVariables.{has_type_variables};
 
     fn from_node(alloc: Global, node: TermNode) -> Result<Term, Fault>
         requires { IsTermNode node }
@@ -106,6 +116,21 @@ impl Term {
         self.node.height
     }
 
+    /// Whether a type variable stands in a type that the term is written with.
+    pub fn has_tyvars(&self) -> bool
+        ensures { result ≡ has_type_variables self.now }
+    {
+        self.node.has_tyvars
+    }
+
+    /// The classes of the names of the term's variables, binders left out: a variable whose name has another class is
+    /// not free in the term.
+    pub fn names(&self) -> NameClasses
+        ensures { result.bits ≡ classes_of_names self.now }
+    {
+        self.node.names
+    }
+
     /// A term is well typed and within the limits. Nothing is computed: the clauses are the law, for callers' proofs.
     pub fn well_formed(&self)
         ensures typed { IsSome (type_of self.now) }
@@ -131,44 +156,44 @@ impl Term {
 
     /// The variable of this name and type.
     pub fn mk_var(alloc: Global, name: &str, ty: &Ty) -> Result<Term, Fault>
-        ensures ok { IfOk result (λ term. term ≡ variable name.now ty.now) }
-        ensures bad_name { (result ≡ Err BadName) ↔ IsFalse (is_identifier name.now) }
-        ensures refusals { IfErr result (Contains (BadName ∷ Memory ∷ [])) }
+        ensures outcome { Answers result (variable_outcome name.now ty.now) }
     {
         if !hol_model::is_identifier(name.as_bytes()) {
             return Err(Fault::BadName);
         }
         let shape = TermShape::Variable(String::from_str(alloc, name)?);
-        Term::leaf(alloc, ty, shape)
+        Term::leaf(alloc, ty, NameClasses::of_name(name), shape)
     }
 
     /// The constant of this name and type.
     pub fn mk_const(alloc: Global, name: &str, ty: &Ty) -> Result<Term, Fault>
-        ensures ok { IfOk result (λ term. term ≡ constant name.now ty.now) }
-        ensures bad_name { (result ≡ Err BadName) ↔ IsFalse (is_constant_name name.now) }
-        ensures refusals { IfErr result (Contains (BadName ∷ Memory ∷ [])) }
+        ensures outcome { Answers result (constant_outcome name.now ty.now) }
     {
         if !hol_model::is_constant_name(name.as_bytes()) {
             return Err(Fault::BadName);
         }
         let shape = TermShape::Constant(String::from_str(alloc, name)?);
-        Term::leaf(alloc, ty, shape)
+        Term::leaf(alloc, ty, NameClasses::none(), shape)
     }
 
     // The variable or the constant of this shape.
-    fn leaf(alloc: Global, ty: &Ty, shape: TermShape) -> Result<Term, Fault>
+    fn leaf(alloc: Global, ty: &Ty, names: NameClasses, shape: TermShape) -> Result<Term, Fault>
         requires leaf { IsLeaf shape }
         requires named { IsNamed shape }
+        requires classed { names.bits ≡ classes_of_names (term_of_shape shape ty.now) }
         ensures ok { IfOk result (λ term. term ≡ term_of_shape shape ty.now) }
         ensures err { IfErr result (λ fault. fault ≡ Memory) }
     {
         let _within_limit = ty.nodes();
         let ty = ty.copy(alloc)?;
+        let has_tyvars = ty.has_tyvars();
         Term::from_node(
             alloc,
             TermNode {
                 nodes: 1,
                 height: 1,
+                has_tyvars,
+                names,
                 ty,
                 shape,
             },
@@ -177,11 +202,7 @@ impl Term {
 
     /// A function applied to an argument.
     pub fn mk_comb(alloc: Global, function: &Term, argument: &Term) -> Result<Term, Fault>
-        ensures ok { IfOk result (λ term. term ≡ combination function.now argument.now) }
-        ensures type_mismatch { (result ≡ Err TypeMismatch) ↔ IsNone (type_of (combination function.now argument.now)) }
-        ensures too_large { result ≡ Err TooLarge → IsFalse (is_within_limits (combination function.now argument.now)) }
-        ensures within_limits { IsOk result → IsTrue (is_within_limits (combination function.now argument.now)) }
-        ensures refusals { IfErr result (Contains (TypeMismatch ∷ TooLarge ∷ Memory ∷ [])) }
+        ensures outcome { Answers result (combination_outcome function.now argument.now) }
     {
         let Some(ty) = answer_type(&function.node.ty, &argument.node.ty) else {
             return Err(Fault::TypeMismatch);
@@ -192,12 +213,16 @@ impl Term {
             return Err(Fault::TooLarge);
         }
         let ty = ty.copy(alloc)?;
+        let has_tyvars = function.node.has_tyvars || argument.node.has_tyvars;
+        let names = function.node.names.union(argument.node.names);
         let shape = TermShape::Combination(function.copy(alloc)?, argument.copy(alloc)?);
         Term::from_node(
             alloc,
             TermNode {
                 nodes,
                 height,
+                has_tyvars,
+                names,
                 ty,
                 shape,
             },
@@ -206,11 +231,7 @@ impl Term {
 
     /// The abstraction of a variable over a body.
     pub fn mk_abs(alloc: Global, binder: &Term, body: &Term) -> Result<Term, Fault>
-        ensures ok { IfOk result (λ term. abstract binder.now body.now ≡ Some term) }
-        ensures not_variable { (result ≡ Err NotVariable) ↔ IsFalse (is_variable binder.now) }
-        ensures too_large { result ≡ Err TooLarge → IsSomeAnd (abstract binder.now body.now) (λ term. IsFalse (is_within_limits term)) }
-        ensures within_limits { IfOk result (λ term. IsTrue (is_within_limits term)) }
-        ensures refusals { IfErr result (Contains (NotVariable ∷ TooLarge ∷ Memory ∷ [])) }
+        ensures outcome { Answers result (abstraction_outcome binder.now body.now) }
     {
         let TermShape::Variable(_) = &binder.node.shape else {
             return Err(Fault::NotVariable);
@@ -222,12 +243,16 @@ impl Term {
         }
         let ty = Ty::fun(alloc, &binder.node.ty, &body.node.ty)?;
         let _within_limit = ty.nodes();
+        let has_tyvars = binder.node.has_tyvars || body.node.has_tyvars;
+        let names = body.node.names;
         let shape = TermShape::Abstraction(binder.copy(alloc)?, body.copy(alloc)?);
         Term::from_node(
             alloc,
             TermNode {
                 nodes,
                 height,
+                has_tyvars,
+                names,
                 ty,
                 shape,
             },

@@ -1,0 +1,40 @@
+-- What a replacement may touch, told by the classes of names that terms keep.
+use Rattle.std.specs.Prelude.{◌≡◌, ℕ, List, [], ◌∷◌, Bool, false, not, ◌&&◌, ◌||◌, Some, None, bit_and}
+use Rattle.hol_model.specs.HolType.{HolType}
+use Rattle.hol_model.specs.NamedTerm.{NamedTerm, is_free}
+use Rattle.hol_types.specs.Variables as types_spec
+use Rattle.hol_terms.specs.Classes.{class_of_name, have_common_class, classes_of_names}
+use Rattle.hol_terms.specs.TypeVariables as terms_spec
+use Rattle.hol_subst.specs.Entries.{Entry, looked_up}
+
+-- the variable is free in no term that replaces another
+pub record IsAbsent (env : List Entry) (name : List ℕ) (ty : HolType) : Type 0 where
+  pub absent : (other : List ℕ) (s : HolType) (term : NamedTerm) → looked_up env other s ≡ Some term → is_free name ty term ≡ false
+
+-- a variable of none of the first classes is kept, and one of none of the second is free in no new term
+pub record Covers (old new : ℕ) (env : List Entry) : Type 0 where
+  pub kept : (name : List ℕ) (ty : HolType) → bit_and old (class_of_name name) ≡ 0 → looked_up env name ty ≡ None
+  pub absent : (name : List ℕ) (ty : HolType) → bit_and new (class_of_name name) ≡ 0 → IsAbsent env name ty
+
+-- two lists of entries replace each variable alike
+pub record ReplacesAlike (env other : List Entry) : Type 0 where
+  pub alike : (name : List ℕ) (ty : HolType) → looked_up env name ty ≡ looked_up other name ty
+
+-- a list of pairs (new, old) may change the type
+abbrev pub changes_type : List (HolType × HolType) → HolType → Bool
+changes_type [] ty = false
+changes_type (pair ∷ rest) ty = types_spec.has_type_variables ty
+
+-- a list of pairs (new, old) may change a type that the term is written with
+abbrev pub changes_types : List (HolType × HolType) → NamedTerm → Bool
+changes_types [] term = false
+changes_types (pair ∷ rest) term = terms_spec.has_type_variables term
+
+-- no variable of these classes and no type that changes stands in the term
+abbrev pub stays : ℕ → List (HolType × HolType) → NamedTerm → Bool
+stays old types term = not (have_common_class old (classes_of_names term)) && not (changes_types types term)
+
+-- a variable of the class stands neither in the term nor, where it may be put, in what replaces variables of the term
+abbrev pub is_apart : ℕ → ℕ → Bool → NamedTerm → Bool
+is_apart old class may_be_put term =
+    not (have_common_class class (classes_of_names term)) && (not (have_common_class old (classes_of_names term)) || not may_be_put)

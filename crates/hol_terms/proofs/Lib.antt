@@ -1,0 +1,3 @@
+pub mod FreeNames
+pub mod TypePlaces
+mod Equations
