@@ -1,13 +1,15 @@
 -- What passes the tests of definitions and declarations makes a legal theory, and the theorem of a definition.
-use Rattle.std.proofs.Common.{◌≡◌, ℕ, List, [], ◌∷◌, true, false, refl, inl, Some, None}
+use Rattle.std.proofs.Common.{◌≡◌, ℕ, List, [], ◌∷◌, true, false, refl, sym, ◌∙◌, subst, inl, Some, None, Result, Ok, Err, OnOk, OnErr}
 use Rattle.hol_model.specs.HolType.{HolType}
 use Rattle.hol_model.specs.NamedTerm.{NamedTerm, constant, type_of, equation}
 use Rattle.hol_model.specs.Name.{is_constant_name, is_declared_type_name}
 use Rattle.hol_model.specs.Nameless.{image}
-use Rattle.hol_model.specs.Theory.{Theory, IsLegal, IsLegalDefinition, IsLegalConstant, IsLegalType, definition, declaration_of_type, declaration_of_constant}
+use Rattle.hol_model.specs.Theory.{Theory, Entry, IsEarlier, IsLegal, IsLegalDefinition, IsLegalConstant, IsLegalType, definition, declaration_of_type, declaration_of_constant}
 use Rattle.hol_model.specs.KnownTerm.{knows_type}
 use Rattle.hol_model.specs.Legality.{is_closed, reflects, is_fixed, is_new_name, own_type}
 use Rattle.hol_model.specs.Derivable.Derivable.{definition_rule}
+use Rattle.hol_model.specs.declared.fault.Fault.{Fault}
+use Rattle.hol_model.proofs.Earlier.{earlier-same, earlier-more}
 use Rattle.hol_model.proofs.Images.{image-equation}
 use Rattle.hol_model.proofs.KnownTerms.{knows_type-IsKnownType}
 use Rattle.hol_model.proofs.LegalEntries.{closed-HasNoFree, reflects-image, fixed-has_none, new_name-IsNewName}
@@ -60,3 +62,13 @@ pub define-concluded : (theory : Theory) (name : List ℕ) (term : NamedTerm) (t
     → first_unknown theory term ≡ None → is_closed term ≡ true → reflects ty term ≡ true → is_new_name theory name ≡ true → is_full theory ≡ false
     → define_outcome theory name term ≡ concluded (definition name ty (image term) ∷ theory) [] (equation (constant name ty) term)
 define-concluded theory name term ty typed named known closed reflected new room = rw (typed, named, known, closed, reflected, new, room) refl
+
+-- a theory that takes an entry, where the call succeeds, only grows
+pub only_grows : (entry : Entry) (old new entries : Theory) (result : Result (Unit {0}) Fault) → entries ≡ entry ∷ old
+    → OnOk result (new ≡ entries) → OnErr result (new ≡ old) → IsEarlier old new
+only_grows entry old new entries (Ok _) is grown kept = earlier-more entry old new (grown ∙ is)
+only_grows entry old new entries (Err _) is grown kept = earlier-same old new (sym kept)
+
+-- what is earlier than a state is earlier than each later one
+pub earlier_too : (first old new : Theory) → first ≡ old → IsEarlier old new → IsEarlier first new
+earlier_too first old new same earlier = subst (λ (state : Theory). IsEarlier state new) (sym same) earlier

@@ -4,3 +4,4 @@ pub mod RuleLemmas
 pub mod LimitLemmas
 pub mod DefinitionLemmas
 pub mod InstanceLemmas
+pub mod TheoremLemmas

@@ -1,17 +1,19 @@
 -- An equation is past the limits where one of its sides is.
-use Rattle.std.proofs.Common.{◌≡◌, ℕ, List, Ok, Err, ◌≤◌, Bool, true, false, ◌&&◌, refl, ap, Option, Some, None, arith}
-use Rattle.std.specs.Prelude.{nat_le}
+use Rattle.std.proofs.Common.{◌≡◌, ℕ, List, Ok, Err, ◌≤◌, Bool, true, false, ◌&&◌, refl, sym, ap, ◌∙◌, subst, Option, Some, None, arith, if◌then◌else◌}
+use Rattle.std.specs.Prelude.{Result, nat_le}
 use Rattle.std.specs.Option.{option_map_or, is_some}
 use Rattle.std.proofs.lemmas.Bool.{leb-true, le-leb}
 use Rattle.hol_model.specs.declared.limits.TheConstants.{TERM_NODES_LIMIT, TERM_HEIGHT_LIMIT}
-use Rattle.hol_model.specs.HolType.{HolType}
-use Rattle.hol_model.specs.NamedTerm.{NamedTerm, variable, combination, abstraction, dest_variable, type_of, equality, equation, height, nodes, types_fit, is_within_limits}
+use Rattle.hol_model.specs.HolType.{HolType, bool_type, function_type}
+use Rattle.hol_model.specs.NamedTerm.{NamedTerm, variable, combination, abstraction, dest_variable, application_type, type_of, equality, equation, height, nodes, types_fit, is_within_limits}
 use Rattle.hol_model.specs.declared.fault.Fault.{Fault}
 use Rattle.hol_model.specs.declared.fault.Fault.TheVariants.{TooLarge, TypeMismatch}
 use Rattle.hol_model.specs.Theory.{Theory}
-use Rattle.hol_model.specs.Outcome.{unless}
+use Rattle.hol_model.specs.Outcome.{Answers, unless}
 use Rattle.hol_model.specs.Theorem.{Theorem, with_hypotheses}
 use Rattle.hol_model.specs.Rules.{dest_equation, limited, concluded, abstraction_outcome, mk_comb_outcome}
+use Rattle.hol_model.specs.Constructors.{equation_outcome}
+use Rattle.hol_model.proofs.HolTypeEq.{type_eq-self}
 use Rattle.hol_model.proofs.Tests.{first_of_both, second_of_both, both}
 
 below : (n m limit : ℕ) → n ≤ m → nat_le m limit ≡ true → nat_le n limit ≡ true
@@ -92,6 +94,20 @@ concluded-made theory hypotheses conclusion made is = go (is_within_limits concl
         → unless {A = Theorem} test TooLarge (Ok (record { theory = theory; hypotheses = hypotheses; conclusion = conclusion })) ≡ Ok (record { theory = theory; hypotheses = hypotheses; conclusion = conclusion })
     go true is = refl
     go false is = cc
+
+equation-typed : (a b : NamedTerm) (ty : HolType) → type_of a ≡ Some ty → type_of b ≡ Some ty → type_of (equation a b) ≡ Some bool_type
+equation-typed a b ty typed_a typed_b =
+    ap (λ o. application_type (application_type (type_of (equality o)) o) (type_of b)) typed_a
+    ∙ ap (λ o. application_type (application_type (Some (function_type ty (function_type ty bool_type))) (Some ty)) o) typed_b
+    ∙ ap (λ x. application_type (if x then Some (function_type ty bool_type) else None) (Some ty)) (type_eq-self ty)
+    ∙ ap (λ x. if x then Some bool_type else None) (type_eq-self ty)
+
+-- the equation of two terms of one type is refused for its limits alone
+pub equation-limited : (result : Result NamedTerm Fault) (a b : NamedTerm) (ty : HolType) → type_of a ≡ Some ty → type_of a ≡ type_of b
+    → Answers result (equation_outcome a b) → Answers result (limited (equation a b))
+equation-limited result a b ty typed same answered =
+    subst (λ w. Answers result w)
+    (ap (λ o. unless (is_some o) TypeMismatch (limited (equation a b))) (equation-typed a b ty typed (sym same ∙ typed))) answered
 
 -- an application as the program makes it
 pub record IsApplied (function argument made : NamedTerm) : Type 0 where

@@ -1,9 +1,10 @@
 // Definitions and declarations (HOL Light's `new_basic_definition`, and constants and types without a definition).
-ghost use Rattle.std.specs.Prelude.{◌≡◌, ◌⊎◌, Ok, Err, IfOk, IfErr, OnErr};
+ghost use Rattle.std.specs.Prelude.{◌≡◌, IfOk, OnErr};
 ghost use Rattle.hol_model.specs.KnownTerm as spec;
-ghost use Rattle.hol_model.specs.declared.fault.Fault.TheVariants.{Memory};
+ghost use Rattle.hol_model.specs.Theory.{IsEarlier};
 ghost use Rattle.hol_model.specs.Rules as outcome;
 ghost use Rattle.hol_model.specs.Outcome.{Answers};
+ghost use Rattle.hol_kernel.specs.Leaving.{leaving};
 
 use crate::entries::StoredEntry;
 use crate::equation::equation;
@@ -22,6 +23,7 @@ impl Theory {
         ensures outcome { Answers result (outcome.define_outcome self.old name.now term.now) }
         ensures grown { IfOk result (λ theorem. self.new ≡ theorem.theory) }
         ensures kept { OnErr result (self.new ≡ self.old) }
+        ensures earlier { IsEarlier self.old self.new }
     {
         if !is_constant_name(name.as_bytes()) {
             return Err(Fault::BadName);
@@ -56,9 +58,9 @@ impl Theory {
 
     /// Declares a type.
     pub fn new_type(&mut self, alloc: Global, name: &str) -> Result<(), Fault>
-        ensures ok { IfOk result (λ _. outcome.new_type_outcome self.old name.now ≡ Ok self.new) }
-        ensures err { IfErr result (λ fault. (fault ≡ Memory) ⊎ (outcome.new_type_outcome self.old name.now ≡ Err fault)) }
+        ensures outcome { Answers (leaving result self.new) (outcome.new_type_outcome self.old name.now) }
         ensures kept { OnErr result (self.new ≡ self.old) }
+        ensures earlier { IsEarlier self.old self.new }
     {
         if !is_declared_type_name(name.as_bytes()) {
             return Err(Fault::BadName);
@@ -76,9 +78,9 @@ impl Theory {
 
     /// Declares a constant of a type without type variables.
     pub fn new_const(&mut self, alloc: Global, name: &str, ty: &Ty) -> Result<(), Fault>
-        ensures ok { IfOk result (λ _. outcome.new_const_outcome self.old name.now ty.now ≡ Ok self.new) }
-        ensures err { IfErr result (λ fault. (fault ≡ Memory) ⊎ (outcome.new_const_outcome self.old name.now ty.now ≡ Err fault)) }
+        ensures outcome { Answers (leaving result self.new) (outcome.new_const_outcome self.old name.now ty.now) }
         ensures kept { OnErr result (self.new ≡ self.old) }
+        ensures earlier { IsEarlier self.old self.new }
     {
         if !is_constant_name(name.as_bytes()) {
             return Err(Fault::BadName);

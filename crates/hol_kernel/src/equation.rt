@@ -38,6 +38,7 @@ pub fn equation(alloc: Global, left: &Term, right: &Term) -> Result<Term, Fault>
     requires { type_of left.now ≡ type_of right.now }
     ensures { Answers result (rules.limited (spec.equation left.now right.now)) }
 {
+    let _typed = left.ty();
     mk_eq(alloc, left, right)
 }
 

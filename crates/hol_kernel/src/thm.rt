@@ -1,9 +1,12 @@
 // Theorems.
-ghost use Rattle.std.specs.Prelude.{◌≡◌, IfOk, IfErr};
+ghost use Rattle.std.specs.Prelude.{◌≡◌, IfOk, IfErr, map};
+ghost use Rattle.std.specs.List.{All};
+ghost use Rattle.hol_kernel.specs.KnownFormula.{IsKnownFormula};
 ghost use Rattle.hol_model.specs.declared.fault.Fault.TheVariants.{Memory};
 
 use crate::entries::Entries;
 use hol_model::Fault;
+use hol_sound::sound;
 use hol_terms::Term;
 use std::alloc::Global;
 use std::marker::Model;
@@ -41,6 +44,8 @@ impl Model for Thm {
 impl Thm {
     ghost use Rattle.hol_model.specs.Theorem.{Theorem, IsTheorem, AreOrdered};
     ghost use Rattle.hol_model.specs.Derivable.{Derivable};
+    ghost use Rattle.hol_model.specs.Nameless.{image};
+    ghost use Rattle.hol_model.specs.Holds.{Holds};
 
     /// A theorem, where it is shown to be one.
     pub(crate) fn new(
@@ -79,7 +84,10 @@ impl Thm {
         ensures value { result.now ≡ self.now.hypotheses }
         ensures ordered { AreOrdered result.now }
         ensures theorem { IsTheorem self.now }
+        ensures known { All (IsKnownFormula self.now.theory) result.now }
+        ensures holds { Holds self.now.theory (map image result.now) (image self.now.conclusion) }
     {
+        sound();
         &self.node.hypotheses
     }
 
@@ -87,7 +95,10 @@ impl Thm {
     pub fn concl(&self) -> &Term
         ensures value { result.now ≡ self.now.conclusion }
         ensures theorem { IsTheorem self.now }
+        ensures known { IsKnownFormula self.now.theory result.now }
+        ensures holds { Holds self.now.theory (map image self.now.hypotheses) (image result.now) }
     {
+        sound();
         &self.node.conclusion
     }
 }

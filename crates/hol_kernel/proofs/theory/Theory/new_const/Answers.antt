@@ -3,7 +3,7 @@ use Rattle.hol_model.specs.Theory.{declaration_of_constant}
 use Rattle.hol_model.specs.KnownTerm.{knows_type}
 use Rattle.hol_model.specs.Name.{is_constant_name}
 use Rattle.hol_model.specs.Legality.{is_new_name, is_fixed}
-use Rattle.hol_kernel.proofs.DefinitionLemmas.{declared_constant-legal}
+use Rattle.hol_kernel.proofs.DefinitionLemmas.{declared_constant-legal, only_grows}
 use Rattle.hol_kernel.proofs.theory.Theory.new_const.Goals as goal
 
 pub grow_by_constant-requires-clause-legal : goal.grow_by_constant-requires-clause-legal
@@ -15,3 +15,9 @@ grow_by_constant-requires-clause-legal c =
     let is : c.in_ok-entries-2.entries ≡ declaration_of_constant c.args.name.now c.args.ty.now ∷ c.args.self.now =
     cc (c.in_ok-entries-2.ensures.ok, c.in_ok-entries.ensures.ok, c.in_ok-from_str.ensures.ok, c.in_ok-copy.ensures.ok) in
     rw is (declared_constant-legal c.args.self.now c.entries.ensures.legal c.args.name.now c.args.ty.now named known fixed new)
+
+pub returns-clause-earlier : goal.returns-clause-earlier
+returns-clause-earlier c =
+    let is : c.in_ok-entries-2.entries ≡ declaration_of_constant c.args.name.now c.args.ty.now ∷ c.args.self.now =
+    cc (c.in_ok-entries-2.ensures.ok, c.in_ok-entries.ensures.ok, c.in_ok-from_str.ensures.ok, c.in_ok-copy.ensures.ok) in
+    only_grows (declaration_of_constant c.args.name.now c.args.ty.now) c.args.self.now c.grow_by_constant.new.self c.in_ok-entries-2.entries c.grow_by_constant.result is c.grow_by_constant.ensures.ok c.grow_by_constant.ensures.kept
