@@ -7,11 +7,11 @@ use Rattle.hol_model.specs.Name.{is_identifier}
 use Rattle.hol_model.specs.HolType.{HolType}
 use Rattle.hol_model.specs.NamedTerm.{NamedTerm, variable}
 use Rattle.hol_model.specs.Reading.{Scope, bare_name, bare_constant, bare_identifier}
-use Rattle.hol_syntax.specs.TypeStack.{Agrees}
+use Rattle.hol_model.specs.Outcome.{Answers}
 
 pub bare_found : (scope : Scope) (bound : Option HolType) (name : List ℕ) (found : NamedTerm) (result : Result NamedTerm Fault)
     → Some found ≡ option_map (variable name) bound → is_identifier name ≡ true
-    → IfOk result (λ t. t ≡ found) → IfErr result (λ fault. fault ≡ Memory) → Agrees result (bare_name scope bound name)
+    → IfOk result (λ t. t ≡ found) → IfErr result (λ fault. fault ≡ Memory) → Answers result (bare_name scope bound name)
 bare_found scope None name found result e i ok err = absurd (let bad : ◌≡◌ {A = Option NamedTerm} (Some found) None = e in cc)
 bare_found scope (Some ty) name found (Ok t) e i ok err =
     let same : found ≡ variable name ty = cc in
@@ -20,6 +20,6 @@ bare_found scope (Some ty) name found (Err fault) e i ok err = inl err
 
 pub bare_free : (scope : Scope) (bound : Option HolType) (name : List ℕ) (result : Result NamedTerm Fault)
     → None ≡ option_map (variable name) bound → is_identifier name ≡ true
-    → Agrees result (bare_constant scope (scope.generic_type name) name) → Agrees result (bare_name scope bound name)
-bare_free scope None name result e i h = subst (λ w. Agrees result w) (sym (ap (λ b. if b then bare_identifier scope None name else Err BadName) i)) h
+    → Answers result (bare_constant scope (scope.generic_type name) name) → Answers result (bare_name scope bound name)
+bare_free scope None name result e i h = subst (λ w. Answers result w) (sym (ap (λ b. if b then bare_identifier scope None name else Err BadName) i)) h
 bare_free scope (Some ty) name result e i h = absurd (let bad : ◌≡◌ {A = Option NamedTerm} None (Some (variable name ty)) = e in cc)

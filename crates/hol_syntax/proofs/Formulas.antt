@@ -8,10 +8,10 @@ use Rattle.hol_model.specs.NamedTerm.{NamedTerm}
 use Rattle.hol_model.specs.TermGrammar.{TermTree}
 use Rattle.hol_model.specs.Reading.{Scope, ◌>>=◌}
 use Rattle.hol_model.specs.SequentGrammar.{formula_meaning, formulas_meaning}
+use Rattle.hol_model.specs.Outcome.{Answers}
 use Rattle.hol_syntax.specs.declared.steps.TermStep.{TermStep}
 use Rattle.hol_syntax.specs.Steps.{flat_steps_of}
 use Rattle.hol_syntax.specs.TermSteps.{flat_steps, term_steps}
-use Rattle.hol_syntax.specs.TypeStack.{Agrees}
 use Rattle.hol_syntax.specs.SequentStates.{AreSteps}
 
 -- terms before those of an answer
@@ -53,7 +53,7 @@ pub made_one : (scope : Scope) (done : List NamedTerm) (term : NamedTerm) (tree 
 made_one scope done term tree trees e =
     ap (λ m. behind done (m >>= λ t. formulas_meaning scope trees >>= λ terms. Ok (t ∷ terms))) e ∙ one_more done term (formulas_meaning scope trees)
 
-pub refused_one : (scope : Scope) (done : List NamedTerm) (fault : Fault) (tree : TermTree) (trees : List TermTree) → Agrees {A = NamedTerm} (Err fault) (formula_meaning scope tree)
+pub refused_one : (scope : Scope) (done : List NamedTerm) (fault : Fault) (tree : TermTree) (trees : List TermTree) → Answers {A = NamedTerm} (Err fault) (formula_meaning scope tree)
     → (fault ≡ Memory) ⊎ (behind done (formulas_meaning scope (tree ∷ trees)) ≡ Err fault)
 refused_one scope done fault tree trees h =
     ⊎_elim (λ m. inl m) (λ e. inr (ap (λ m. behind done (m >>= λ t. formulas_meaning scope trees >>= λ terms. Ok (t ∷ terms))) e)) h

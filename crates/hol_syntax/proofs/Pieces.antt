@@ -9,9 +9,9 @@ use Rattle.hol_syntax.specs.TypeReader.{run, role, Continues}
 use Rattle.hol_syntax.specs.TermReader.{Pending, Turn, Goes, Fails, turn}
 use Rattle.hol_syntax.specs.TermReader.{run as run_pieces}
 use Rattle.hol_syntax.specs.Pieces.{Ending, EndsVariable, EndsConstant, EndsBinder, EndsNothing, ending, type_until, ended_by, typed, made, when, if_else, is_colon, has_colon, names_constant, piece_at, parenthesis_piece, bracket_piece, binder_piece}
-use Rattle.hol_syntax.proofs.TypeReading.{complete, answers, Answers}
+use Rattle.hol_syntax.proofs.TypeReading.{complete, answers, AnswersType}
 use Rattle.hol_syntax.proofs.TermReading.{IsPiece, ArePieces, goes_on}
-use Rattle.hol_syntax.proofs.TermReading.{Answers as AnswersTerm, answers as answer_terms, complete as read_all}
+use Rattle.hol_syntax.proofs.TermReading.{AnswersTerm, answers as answer_terms, complete as read_all}
 
 -- no piece begins with a colon
 no_colon : (pieces : List Lexeme) → has_colon (all_tokens pieces) ≡ false
@@ -136,7 +136,7 @@ typed_says : (wanted : Ending) (tokens : List Token) → TypedSays wanted tokens
 typed_says wanted [] = tt
 typed_says wanted (colon ∷ tokens) = go (is_colon colon) refl (run tokens [] None) (answers tokens)
   where
-    go : (b : Bool) → is_colon colon ≡ b → (found : Option (TypeTree × List Token)) → Answers tokens found → TypedSays wanted (colon ∷ tokens) (when b (type_until wanted found))
+    go : (b : Bool) → is_colon colon ≡ b → (found : Option (TypeTree × List Token)) → AnswersType tokens found → TypedSays wanted (colon ∷ tokens) (when b (type_until wanted found))
     go false e found a = tt
     go true e None a = tt
     go true e (Some (tree, [])) a = tt

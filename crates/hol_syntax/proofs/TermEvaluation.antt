@@ -10,10 +10,10 @@ use Rattle.hol_model.specs.Token.{Token, token_text}
 use Rattle.hol_model.specs.TypeGrammar.{TypeTree, type_steps}
 use Rattle.hol_model.specs.TermGrammar.{Bare, Variable, Constant, TermTree}
 use Rattle.hol_model.specs.Reading.{Scope, ◌>>=◌, named_variable, named_binding, meaning}
+use Rattle.hol_model.specs.Outcome.{Answers}
 use Rattle.hol_syntax.specs.declared.steps.TermStep.{TermStep as HeldStep}
 use Rattle.hol_syntax.specs.declared.evaluate.Evaluator.{Evaluator}
 use Rattle.hol_syntax.specs.Steps.{flat_step_of, flat_steps_of}
-use Rattle.hol_syntax.specs.TypeStack.{Agrees}
 use Rattle.hol_syntax.specs.TermSteps.{TermStep, TakeAtom, MakeApply, MakeNot, MakeJoin, EnterBinder, LeaveBinder, FlatStep, FlatBare, FlatVariable, FlatConstant, FlatApply, FlatNot, FlatJoin, FlatEnter, FlatLeave, flat_step, flat_steps, term_steps, Workspace, enter, take_step, exec_term}
 use Rattle.hol_syntax.specs.OpenBinders.{IsOpened, Enters}
 use Rattle.hol_syntax.specs.Evaluating.{IsHeld, Arrives}
@@ -96,7 +96,7 @@ alone t = Ok ([], t ∷ [])
 -- a step that is refused
 pub refused : (scope : Scope) (here now : Evaluator) (flat : FlatStep) (others : List FlatStep) (rest : List TermStep) (tree : TermTree) (fault : Fault)
     → ((taken : TermStep) (work : Workspace) → flat ≡ flat_step taken → IsHeld here work → Arrives (Err fault) now (take_step scope taken work))
-    → flat ∷ others ≡ flat_steps rest → IsUnderway scope here rest (term_steps tree) → Agrees {A = NamedTerm} (Err fault) (meaning scope [] tree)
+    → flat ∷ others ≡ flat_steps rest → IsUnderway scope here rest (term_steps tree) → Answers {A = NamedTerm} (Err fault) (meaning scope [] tree)
 refused scope here now flat others rest tree fault takes e under =
     let n = next flat others rest e in
     ⊎_elim (λ m. inl m)

@@ -19,3 +19,4 @@ pub mod TypeStates
 pub mod Output
 pub mod PrintedType
 pub mod Shape
+pub mod Innermost

@@ -55,10 +55,10 @@ ParsesSequent (Err Memory) tokens = Unit {0}
 ParsesSequent (Err Syntax) tokens = (sequent : List TermTree × TermTree) → ¬ (IsReadSequent tokens sequent)
 
 -- a list is what is asked for, unless memory runs out
-abbrev pub AgreesAll : Result (Vec NamedTerm Global) Fault → Result (List NamedTerm) Fault → Type 0
-AgreesAll (Ok terms) wanted = wanted ≡ Ok terms.items
-AgreesAll (Err fault) wanted = (fault ≡ MemoryFault) ⊎ (wanted ≡ Err fault)
+abbrev pub AnswersAll : Result (Vec NamedTerm Global) Fault → Result (List NamedTerm) Fault → Type 0
+AnswersAll (Ok terms) wanted = wanted ≡ Ok terms.items
+AnswersAll (Err fault) wanted = (fault ≡ MemoryFault) ⊎ (wanted ≡ Err fault)
 
 -- The steps of trees give what the trees mean.
 abbrev pub MeansFormulas : Result (Vec NamedTerm Global) Fault → Scope → List (Vec TermStep Global) → Type 0
-MeansFormulas result scope parsed = (trees : List TermTree) → AreSteps parsed trees → AgreesAll result (formulas_meaning scope trees)
+MeansFormulas result scope parsed = (trees : List TermTree) → AreSteps parsed trees → AnswersAll result (formulas_meaning scope trees)

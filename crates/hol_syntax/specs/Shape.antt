@@ -1,5 +1,5 @@
 -- What is looked up before a term is printed: the binders round it, and the form that it is printed in.
-use Rattle.std.specs.Prelude.{◌≡◌, ℕ, ◌+◌, ◌<◌, List, [], ◌∷◌, Bool, true, false, ◌&&◌, Option, Some, None, is_none}
+use Rattle.std.specs.Prelude.{◌≡◌, ℕ, ◌+◌, ◌<◌, List, ◌∷◌, Bool, true, false, ◌&&◌, Option, Some, None, is_none}
 use Rattle.std.specs.Option.{option_map_or}
 use Rattle.hol_model.specs.Name.{is_identifier, is_constant_name}
 use Rattle.hol_model.specs.HolType.{HolType, bool_type, function_type, type_eq}
@@ -10,16 +10,10 @@ use Rattle.hol_model.specs.Printing as printing
 use Rattle.hol_model.specs.Printing.{type_tree, term_tree, variable_tree, constant_tree, apply_tree, enclose}
 use Rattle.hol_terms.specs.Term.{weight}
 use Rattle.hol_syntax.specs.Grammar.{infix_here, binder_here}
-use Rattle.hol_syntax.specs.declared.shape.Frames.{Frames, Outermost, Under'}
 use Rattle.hol_syntax.specs.declared.shape.Prefix.{Prefix}
 use Rattle.hol_syntax.specs.declared.shape.Prefix.TheVariants.{Negation, Quantifier, Nothing}
 use Rattle.hol_syntax.specs.declared.shape.Shape.{Shape}
 use Rattle.hol_syntax.specs.declared.shape.Shape.TheVariants.{Variable, Constant, Apply, Not, Join, Bind}
-
--- the innermost first
-abbrev pub bindings_of : Frames → Bindings
-bindings_of Outermost = []
-bindings_of (Under' name ty p outer) = (name.now, ty.now) ∷ bindings_of outer
 
 -- the innermost binder of the name has the type
 abbrev pub is_bound_at : Bindings → List ℕ → HolType → Bool

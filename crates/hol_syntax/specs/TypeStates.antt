@@ -2,7 +2,7 @@
 use Rattle.std.specs.Prelude.{◌≡◌, Bool, true, false, List, [], ◌∷◌, ◌++◌, Option, None, Some, Result, Ok, Err, is_some, ℕ, ◌<◌, ◌≤◌, length, drop}
 use Rattle.hol_model.specs.declared.limits.TheConstants.{TYPE_NESTING_LIMIT}
 use Rattle.hol_model.specs.Token.{Token}
-use Rattle.hol_model.specs.TypeGrammar.{TypeTree, type_steps}
+use Rattle.hol_model.specs.TypeGrammar.{TypeTree, type_steps, IsRead}
 use Rattle.hol_model.specs.TypeGrammar as grammar
 use Rattle.hol_syntax.specs.declared.type_reader.Open.{Open as Frame}
 use Rattle.hol_syntax.specs.declared.type_reader.Open.TheVariants.{Parenthesis as ParenthesisFrame, Arrow as ArrowFrame}
@@ -58,3 +58,9 @@ abbrev pub Reads : Result (Vec TypeStep Global × ℕ) ReadError → List Token 
 Reads (Ok x) tokens = (t : TypeTree) × (run tokens [] None ≡ Some (t, drop x.1 tokens)) × (steps_of x.0.items ≡ type_steps t)
 Reads (Err Memory) tokens = Unit {0}
 Reads (Err Syntax) tokens = run tokens [] None ≡ None
+
+-- The steps are those of the tree that the tokens are, or there is none.
+abbrev pub ParsesType : Result (Vec TypeStep Global) ReadError → List Token → Type 0
+ParsesType (Ok steps) tokens = (tree : TypeTree) × IsRead tokens tree [] × (steps_of steps.items ≡ type_steps tree)
+ParsesType (Err Memory) tokens = Unit {0}
+ParsesType (Err Syntax) tokens = (tree : TypeTree) → ¬ (IsRead tokens tree [])

@@ -6,12 +6,12 @@ ghost use Rattle.hol_model.specs.NamedTerm.{variable, abstraction, constant, com
 ghost use Rattle.hol_model.specs.Theory.{choice_name, choice_type};
 ghost use Rattle.hol_model.specs.TypeGrammar.{TypeTree, type_steps};
 ghost use Rattle.hol_model.specs.Reading.{Bindings, bound_type, bare_name, known_constant, fitting_type, quantifier_type, variable_meaning, constant_meaning, named_variable, well_typed, connective, truth_operation, infix_term, negation, join, bind, bare_constant, is_closed_type};
+ghost use Rattle.hol_model.specs.Outcome.{Answers};
 ghost use Rattle.hol_syntax.specs.Scope.{scope_of};
 ghost use Rattle.hol_syntax.specs.Views.{steps_of};
 ghost use Rattle.hol_syntax.specs.Grammar.{infix_here, binder_here};
 ghost use Rattle.hol_syntax.specs.Building.{limited_constant};
 ghost use Rattle.hol_syntax.specs.OpenBinders.{IsOpened};
-ghost use Rattle.hol_syntax.specs.TypeStack.{Agrees};
 
 use crate::binders::Binders;
 use crate::grammar::{Binder, Infix};
@@ -26,7 +26,7 @@ use std::alloc::Global;
 
 /// A function applied to an argument.
 pub fn apply(alloc: Global, function: &Term, argument: &Term) -> Result<Term, Fault>
-    ensures { Agrees result (well_typed (combination function.now argument.now)) }
+    ensures { Answers result (well_typed (combination function.now argument.now)) }
 {
     Term::mk_comb(alloc, function, argument)
 }
@@ -34,7 +34,7 @@ pub fn apply(alloc: Global, function: &Term, argument: &Term) -> Result<Term, Fa
 // An infix between two truth values.
 fn join_truths(alloc: Global, operator: &Term, left: &Term, right: &Term) -> Result<Term, Fault>
     requires { type_of operator.now ≡ Some truth_operation }
-    ensures { Agrees result (well_typed (combination (combination operator.now left.now) right.now)) }
+    ensures { Answers result (well_typed (combination (combination operator.now left.now) right.now)) }
 {
     let truth = Ty::boolean(alloc)?;
     if !truth.eq(left.ty()) || !truth.eq(right.ty()) {
@@ -46,7 +46,7 @@ fn join_truths(alloc: Global, operator: &Term, left: &Term, right: &Term) -> Res
 
 // The type of the connectives between truth values.
 fn truth_operation_type(alloc: Global) -> Result<Ty, Fault>
-    ensures { Agrees result (Ok truth_operation) }
+    ensures { Answers result (Ok truth_operation) }
 {
     let truth = Ty::boolean(alloc)?;
     let predicate = Ty::fun(alloc, &truth, &truth)?;
@@ -61,7 +61,7 @@ pub fn typed_variable(
     steps: &[TypeStep],
 ) -> Result<Term, Fault>
     ensures { (tree : TypeTree) → steps_of steps.now ≡ type_steps tree
-        → Agrees result (variable_meaning (scope_of scope.now) name.now tree) }
+        → Answers result (variable_meaning (scope_of scope.now) name.now tree) }
 {
     let ty = match build_type(alloc, scope, steps) {
         Ok(ty) => ty,
@@ -72,7 +72,7 @@ pub fn typed_variable(
 
 // The variable of this name and type.
 fn variable(alloc: Global, name: &[u8], ty: &Ty) -> Result<Term, Fault>
-    ensures { Agrees result (named_variable name.now ty.now) }
+    ensures { Answers result (named_variable name.now ty.now) }
 {
     match identifier(name) {
         Some(name) => Term::mk_var(alloc, name, ty),
@@ -93,7 +93,7 @@ pub fn is_closed(ty: &Ty) -> bool
 
 /// A negation.
 pub fn negate(alloc: Global, scope: &Scope, term: &Term) -> Result<Term, Fault>
-    ensures { Agrees result (negation (scope_of scope.now) term.now) }
+    ensures { Answers result (negation (scope_of scope.now) term.now) }
 {
     let Some(generic) = scope.const_type("~") else {
         return Err(Fault::UnknownConst);
@@ -116,7 +116,7 @@ fn join_known(
     right: &Term,
 ) -> Result<Term, Fault>
     requires { IsTrue (names.is_constant_name name.now) }
-    ensures { Agrees result (connective (scope_of scope.now) name.now truth_operation (infix_term name.now truth_operation left.now right.now)) }
+    ensures { Answers result (connective (scope_of scope.now) name.now truth_operation (infix_term name.now truth_operation left.now right.now)) }
 {
     let Some(generic) = scope.const_type(name) else {
         return Err(Fault::UnknownConst);
@@ -131,10 +131,8 @@ fn join_known(
 
 // An equation.
 fn equate(alloc: Global, left: &Term, right: &Term) -> Result<Term, Fault>
-    ensures { Agrees result (well_typed (equation left.now right.now)) }
+    ensures { Answers result (well_typed (equation left.now right.now)) }
 {
-    let _left_type = left.ty();
-    let _right_type = right.ty();
     mk_eq(alloc, left, right)
 }
 
@@ -146,7 +144,7 @@ pub fn join(
     left: &Term,
     right: &Term,
 ) -> Result<Term, Fault>
-    ensures { Agrees result (join (scope_of scope.now) (infix_here operation) left.now right.now) }
+    ensures { Answers result (join (scope_of scope.now) (infix_here operation) left.now right.now) }
 {
     match operation {
         Infix::Iff => {
@@ -168,7 +166,7 @@ pub fn typed_constant(
     steps: &[TypeStep],
 ) -> Result<Term, Fault>
     ensures { (tree : TypeTree) → steps_of steps.now ≡ type_steps tree
-        → Agrees result (constant_meaning (scope_of scope.now) name.now tree) }
+        → Answers result (constant_meaning (scope_of scope.now) name.now tree) }
 {
     let ty = match build_type(alloc, scope, steps) {
         Ok(ty) => ty,
@@ -192,7 +190,7 @@ fn constant_name(bytes: &[u8]) -> Option<&str>
 
 // The known constant of this name and type.
 fn constant(alloc: Global, scope: &Scope, bytes: &[u8], ty: &Ty) -> Result<Term, Fault>
-    ensures { Agrees result (known_constant (scope_of scope.now) bytes.now ty.now) }
+    ensures { Answers result (known_constant (scope_of scope.now) bytes.now ty.now) }
 {
     let Some(name) = constant_name(bytes) else {
         return Err(Fault::UnknownConst);
@@ -209,7 +207,7 @@ fn constant(alloc: Global, scope: &Scope, bytes: &[u8], ty: &Ty) -> Result<Term,
 // A constant or a declared variable of this name.
 fn known_name(alloc: Global, scope: &Scope, name: &str) -> Result<Term, Fault>
     requires { IsTrue (names.is_identifier name.now) }
-    ensures { Agrees result (bare_constant (scope_of scope.now) ((scope_of scope.now).generic_type name.now) name.now) }
+    ensures { Answers result (bare_constant (scope_of scope.now) ((scope_of scope.now).generic_type name.now) name.now) }
 {
     if let Some(generic) = scope.const_type(name) {
         if is_closed(generic) {
@@ -225,7 +223,7 @@ fn known_name(alloc: Global, scope: &Scope, name: &str) -> Result<Term, Fault>
 /// A bare name: the innermost binder's variable, else a constant without type variables, else a declared variable.
 pub fn bare(alloc: Global, scope: &Scope, binders: &Binders, bytes: &[u8]) -> Result<Term, Fault>
     ensures { (bindings : Bindings) → IsOpened binders.now bindings
-        → Agrees result (bare_name (scope_of scope.now) (bound_type bindings bytes.now) bytes.now) }
+        → Answers result (bare_name (scope_of scope.now) (bound_type bindings bytes.now) bytes.now) }
 {
     let Some(name) = identifier(bytes) else {
         return Err(Fault::BadName);
@@ -238,7 +236,7 @@ pub fn bare(alloc: Global, scope: &Scope, binders: &Binders, bytes: &[u8]) -> Re
 
 // The abstraction of a variable over a body.
 fn abstraction(alloc: Global, binder: &Term, body: &Term) -> Result<Term, Fault>
-    ensures { (name : List ℕ) (ty : HolType) → binder.now ≡ variable name ty → Agrees result (well_typed (abstraction name ty body.now)) }
+    ensures { (name : List ℕ) (ty : HolType) → binder.now ≡ variable name ty → Answers result (well_typed (abstraction name ty body.now)) }
 {
     let _body_type = body.ty();
     Term::mk_abs(alloc, binder, body)
@@ -247,7 +245,7 @@ fn abstraction(alloc: Global, binder: &Term, body: &Term) -> Result<Term, Fault>
 // A quantifier over a type.
 fn quantifier_operator(alloc: Global, name: &str, ty: &Ty) -> Result<Term, Fault>
     requires { IsTrue (names.is_constant_name name.now) }
-    ensures { Agrees result (limited_constant name.now (quantifier_type ty.now)) }
+    ensures { Answers result (limited_constant name.now (quantifier_type ty.now)) }
 {
     let truth = Ty::boolean(alloc)?;
     let domain = Ty::fun(alloc, ty, &truth)?;
@@ -265,7 +263,7 @@ fn quantify(
 ) -> Result<Term, Fault>
     requires { IsTrue (names.is_constant_name name.now) }
     ensures { (x : List ℕ) (ty : HolType) → binder.now ≡ variable x ty
-        → Agrees result (connective (scope_of scope.now) name.now (quantifier_type ty) (combination (constant name.now (quantifier_type ty)) (abstraction x ty body.now))) }
+        → Answers result (connective (scope_of scope.now) name.now (quantifier_type ty) (combination (constant name.now (quantifier_type ty)) (abstraction x ty body.now))) }
 {
     let Some(generic) = scope.const_type(name) else {
         return Err(Fault::UnknownConst);
@@ -292,7 +290,7 @@ fn quantify(
 
 // The choice operator of a type.
 fn choice_operator(alloc: Global, ty: &Ty) -> Result<Term, Fault>
-    ensures { Agrees result (limited_constant choice_name (choice_type ty.now)) }
+    ensures { Answers result (limited_constant choice_name (choice_type ty.now)) }
 {
     let truth = Ty::boolean(alloc)?;
     let domain = Ty::fun(alloc, ty, &truth)?;
@@ -303,7 +301,7 @@ fn choice_operator(alloc: Global, ty: &Ty) -> Result<Term, Fault>
 // The choice operator before an abstraction.
 fn choose(alloc: Global, binder: &Term, body: &Term) -> Result<Term, Fault>
     ensures { (x : List ℕ) (ty : HolType) → binder.now ≡ variable x ty
-        → Agrees result (well_typed (combination (constant choice_name (choice_type ty)) (abstraction x ty body.now))) }
+        → Answers result (well_typed (combination (constant choice_name (choice_type ty)) (abstraction x ty body.now))) }
 {
     let truth = Ty::boolean(alloc)?;
     let body_type = body.ty();
@@ -331,7 +329,7 @@ pub fn bind(
     body: &Term,
 ) -> Result<Term, Fault>
     ensures { (x : List ℕ) (ty : HolType) → binder.now ≡ variable x ty
-        → Agrees result (bind (scope_of scope.now) (binder_here quantifier) x ty body.now) }
+        → Answers result (bind (scope_of scope.now) (binder_here quantifier) x ty body.now) }
 {
     match quantifier {
         Binder::Lambda => abstraction(alloc, binder, body),

@@ -6,13 +6,14 @@ ghost use Rattle.hol_model.specs.TypeGrammar.{TypeTree, type_steps};
 ghost use Rattle.hol_model.specs.TermGrammar.{TermTree};
 ghost use Rattle.hol_model.specs.Reading as reading;
 ghost use Rattle.hol_model.specs.Reading.{meaning};
+ghost use Rattle.hol_model.specs.Outcome.{Answers};
 ghost use Rattle.hol_syntax.specs.Scope.{scope_of};
 ghost use Rattle.hol_syntax.specs.Views.{steps_of};
 ghost use Rattle.hol_syntax.specs.Grammar.{infix_here, binder_here};
 ghost use Rattle.hol_syntax.specs.Steps.{flat_step_of, flat_steps_of};
 ghost use Rattle.hol_syntax.specs.TermSteps as model;
 ghost use Rattle.hol_syntax.specs.TermSteps.{Workspace, MakeApply, MakeNot, MakeJoin, EnterBinder, LeaveBinder, flat_step, flat_steps, term_steps};
-ghost use Rattle.hol_syntax.specs.TypeStack.{Agrees, IsPopped};
+ghost use Rattle.hol_syntax.specs.TypeStack.{IsPopped};
 ghost use Rattle.hol_syntax.specs.Evaluating.{pushed, IsHeld, Arrives};
 
 use crate::binders::Binders;
@@ -49,7 +50,7 @@ fn pop_term(stack: &mut Vec<Term>) -> Option<Term>
 impl Evaluator {
     // Puts a term on those that wait.
     fn put(&mut self, made: Result<Term, Fault>) -> Result<(), Fault>
-        ensures { (work : Workspace) (wanted : Result NamedTerm Fault) → IsHeld self.old work → Agrees made wanted
+        ensures { (work : Workspace) (wanted : Result NamedTerm Fault) → IsHeld self.old work → Answers made wanted
             → Arrives result self.new (pushed work wanted) }
     {
         match made {
@@ -160,7 +161,7 @@ impl Evaluator {
 /// The term that the steps of a tree make, or the first refusal.
 pub fn term_of_steps(alloc: Global, scope: &Scope, steps: &[TermStep]) -> Result<Term, Fault>
     ensures { (tree : TermTree) → flat_steps_of steps.now ≡ flat_steps (term_steps tree)
-        → Agrees result (meaning (scope_of scope.now) [] tree) }
+        → Answers result (meaning (scope_of scope.now) [] tree) }
 {
     let mut evaluator = Evaluator {
         binders: Binders::new(alloc),

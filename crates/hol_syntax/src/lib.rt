@@ -5,6 +5,7 @@ mod binders;
 mod builder;
 mod evaluate;
 mod grammar;
+mod innermost;
 mod laws;
 mod lexer;
 mod output;
@@ -31,10 +32,20 @@ pub use steps::TermStep;
 pub use term_reader::parse_term;
 pub use terms::{read_term, terms_are_unambiguous};
 pub use token::Token;
-pub use type_reader::ReadError;
-pub use types::{identifier, read_type, types_are_unambiguous};
+pub use type_reader::{ReadError, TypeStep};
+pub use types::{build_type, identifier, parse_type, read_type, types_are_unambiguous};
 
+#[cfg(test)]
+mod nesting_tests;
 #[cfg(test)]
 mod printer_tests;
 #[cfg(test)]
+mod refusal_tests;
+#[cfg(test)]
+mod shadowing_tests;
+#[cfg(test)]
+mod test_tools;
+#[cfg(test)]
 mod tests;
+#[cfg(test)]
+mod token_tests;

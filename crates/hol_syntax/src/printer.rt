@@ -5,20 +5,20 @@ ghost use Rattle.hol_model.specs.declared.fault.Fault.TheVariants.{Memory};
 ghost use Rattle.hol_model.specs.Name.{is_constant_name};
 ghost use Rattle.hol_model.specs.Printing.{enclose, variable_tree, constant_tree, term_tree};
 ghost use Rattle.hol_model.specs.Reading as reading;
-ghost use Rattle.hol_model.specs.Reading.{bound_type};
+ghost use Rattle.hol_model.specs.Reading.{Bindings, bound_type};
 ghost use Rattle.hol_model.specs.SequentGrammar.{ReadsSequent};
 ghost use Rattle.hol_model.specs.SequentTexts.{IsReadableFormula, AreReadableFormulas};
 ghost use Rattle.hol_model.specs.Texts.{term_bytes, further_bytes, listed_bytes, IsNamedType, IsKnownTerm, ReadsType, ReadsTerm};
 ghost use Rattle.hol_model.specs.Texts as texts;
 ghost use Rattle.hol_syntax.specs.Output.{Appends};
 ghost use Rattle.hol_syntax.specs.Scope.{scope_of};
-ghost use Rattle.hol_syntax.specs.Shape.{bindings_of};
+ghost use Rattle.hol_syntax.specs.Innermost.{IsInnermost};
 
+use crate::innermost::Innermost;
 use crate::output::{append, close, open, print_type, print_typed};
 use crate::scope::Scope;
 use crate::shape::{
-    Frames, Shape, binder_text, infix_level, infix_text, is_bare_constant, is_bound, level,
-    shape_of,
+    Shape, binder_text, infix_level, infix_text, is_bare_constant, is_bound, level, shape_of,
 };
 use hol_model::Fault;
 use hol_terms::Term;
@@ -26,9 +26,9 @@ use hol_types::Ty;
 use std::alloc::Global;
 
 // Prints a variable: its bare name where the innermost binder of that name is its own, else its type too.
-fn print_variable(binders: &Frames<'_>, name: &str, ty: &Ty, out: &mut String) -> Result<(), Fault>
-    ensures ok { OnOk result (Appends (string_bytes out.old) (string_bytes out.new)
-        (term_bytes (variable_tree (bound_type (bindings_of binders.now) name.now) name.now ty.now))) }
+fn print_variable(binders: &Innermost, name: &str, ty: &Ty, out: &mut String) -> Result<(), Fault>
+    ensures ok { (bindings : Bindings) → IsInnermost binders.now bindings → OnOk result (Appends (string_bytes out.old) (string_bytes out.new)
+        (term_bytes (variable_tree (bound_type bindings name.now) name.now ty.now))) }
     ensures err { IfErr result (λ fault. fault ≡ Memory) }
 {
     if is_bound(binders, name, ty) {
@@ -41,14 +41,14 @@ fn print_variable(binders: &Frames<'_>, name: &str, ty: &Ty, out: &mut String) -
 // Prints a constant: its bare name where that says which constant it is, else its type too.
 fn print_constant(
     scope: &Scope,
-    binders: &Frames<'_>,
+    binders: &Innermost,
     name: &str,
     ty: &Ty,
     out: &mut String,
 ) -> Result<(), Fault>
     requires { IsTrue (is_constant_name name.now) }
-    ensures ok { OnOk result (Appends (string_bytes out.old) (string_bytes out.new)
-        (term_bytes (constant_tree (scope_of scope.now) (bindings_of binders.now) name.now ty.now))) }
+    ensures ok { (bindings : Bindings) → IsInnermost binders.now bindings → OnOk result (Appends (string_bytes out.old) (string_bytes out.new)
+        (term_bytes (constant_tree (scope_of scope.now) bindings name.now ty.now))) }
     ensures err { IfErr result (λ fault. fault ≡ Memory) }
 {
     if is_bare_constant(scope, binders, name) {
@@ -61,13 +61,15 @@ fn print_constant(
 // Prints a term that stands under binders, in parentheses where its form is below the level.
 fn print_term(
     term: &Term,
+    alloc: Global,
     scope: &Scope,
     min_level: u8,
+    binders: &mut Innermost,
     out: &mut String,
-    binders: &Frames<'_>,
 ) -> Result<(), Fault>
-    ensures ok { OnOk result (Appends (string_bytes out.old) (string_bytes out.new)
-        (term_bytes (enclose min_level (term_tree (scope_of scope.now) (bindings_of binders.now) term.now)))) }
+    ensures ok { (bindings : Bindings) → IsInnermost binders.old bindings → OnOk result (Appends (string_bytes out.old) (string_bytes out.new)
+        (term_bytes (enclose min_level (term_tree (scope_of scope.now) bindings term.now)))) }
+    ensures kept { (bindings : Bindings) → IsInnermost binders.old bindings → OnOk result (IsInnermost binders.new bindings) }
     ensures err { IfErr result (λ fault. fault ≡ Memory) }
 {
     let shape = shape_of(term);
@@ -75,68 +77,76 @@ fn print_term(
     open(out, enclosed)?;
     match shape {
         Shape::Variable(name, ty) => {
-            print_variable(&*binders, name, ty, out)?;
+            print_variable(binders, name, ty, out)?;
             close(out, enclosed)
         }
         Shape::Constant(name, ty) => {
-            print_constant(scope, &*binders, name, ty, out)?;
+            print_constant(scope, binders, name, ty, out)?;
             close(out, enclosed)
         }
         Shape::Apply(function, argument) => {
-            print_term(function, scope, 16, out, &*binders)?;
+            print_term(function, alloc, scope, 16, binders, out)?;
             append(out, " ")?;
-            print_term(argument, scope, 20, out, &*binders)?;
+            print_term(argument, alloc, scope, 20, binders, out)?;
             close(out, enclosed)
         }
         Shape::Not(operand) => {
             append(out, "~")?;
-            print_term(operand, scope, 14, out, &*binders)?;
+            print_term(operand, alloc, scope, 14, binders, out)?;
             close(out, enclosed)
         }
         Shape::Join(operation, left, right) => {
-            print_term(left, scope, infix_level(operation) + 1, out, &*binders)?;
+            print_term(left, alloc, scope, infix_level(operation) + 1, binders, out)?;
             append(out, infix_text(operation))?;
-            print_term(right, scope, infix_level(operation), out, &*binders)?;
+            print_term(right, alloc, scope, infix_level(operation), binders, out)?;
             close(out, enclosed)
         }
         Shape::Bind(binder, name, ty, body) => {
             print_typed(binder_text(binder), name, ty, ". ", out)?;
-            print_term(body, scope, 0, out, &Frames::Under(name, ty, &*binders))?;
+            let hidden = binders.enter(alloc, name, ty)?;
+            print_term(body, alloc, scope, 0, binders, out)?;
+            binders.leave(alloc, name, hidden)?;
             close(out, enclosed)
         }
     }
 }
 
 // Prints a term that stands under no binder.
-fn print_whole(scope: &Scope, term: &Term, out: &mut String) -> Result<(), Fault>
+fn print_whole(alloc: Global, scope: &Scope, term: &Term, out: &mut String) -> Result<(), Fault>
     ensures ok { OnOk result (Appends (string_bytes out.old) (string_bytes out.new) (term_bytes (term_tree (scope_of scope.now) [] term.now))) }
     ensures err { IfErr result (λ fault. fault ≡ Memory) }
 {
-    print_term(term, scope, 0, out, &Frames::Outermost)
+    let mut binders = Innermost::new(alloc);
+    print_term(term, alloc, scope, 0, &mut binders, out)
 }
 
 // Prints each term behind a comma.
-fn print_further(scope: &Scope, terms: &[Term], out: &mut String) -> Result<(), Fault>
+fn print_further(
+    alloc: Global,
+    scope: &Scope,
+    terms: &[Term],
+    out: &mut String,
+) -> Result<(), Fault>
     ensures ok { OnOk result (Appends (string_bytes out.old) (string_bytes out.new) (further_bytes (scope_of scope.now) terms.now)) }
     ensures err { IfErr result (λ fault. fault ≡ Memory) }
 {
     for term in terms {
         append(out, ", ")?;
-        print_whole(scope, term, out)?;
+        print_whole(alloc, scope, term, out)?;
     }
     Ok(())
 }
 
 // Prints the terms with commas between them and a space behind, if there are any.
-fn print_listed(scope: &Scope, terms: &[Term], out: &mut String) -> Result<(), Fault>
+fn print_listed(alloc: Global, scope: &Scope, terms: &[Term], out: &mut String) -> Result<(), Fault>
     ensures ok { OnOk result (Appends (string_bytes out.old) (string_bytes out.new) (listed_bytes (scope_of scope.now) terms.now)) }
     ensures err { IfErr result (λ fault. fault ≡ Memory) }
 {
     match terms {
         [] => Ok(()),
         [first, rest @ ..] => {
-            print_whole(scope, first, out)?;
-            print_further(scope, rest, out)?;
+            print_whole(alloc, scope, first, out)?;
+            print_further(alloc, scope, rest, out)?;
             append(out, " ")
         }
     }
@@ -162,7 +172,7 @@ pub fn text_of_term(alloc: Global, scope: &Scope, term: &Term) -> Result<String,
 {
     term.well_formed();
     let mut out = String::new(alloc);
-    print_whole(scope, term, &mut out)?;
+    print_whole(alloc, scope, term, &mut out)?;
     Ok(out)
 }
 
@@ -179,9 +189,9 @@ pub fn text_of_sequent(
     ensures err { IfErr result (λ fault. fault ≡ Memory) }
 {
     let mut out = String::new(alloc);
-    print_listed(scope, hyps, &mut out)?;
+    print_listed(alloc, scope, hyps, &mut out)?;
     append(&mut out, "|- ")?;
-    print_whole(scope, concl, &mut out)?;
+    print_whole(alloc, scope, concl, &mut out)?;
     Ok(out)
 }
 
@@ -196,8 +206,8 @@ pub fn text_of_goal(
     ensures err { IfErr result (λ fault. fault ≡ Memory) }
 {
     let mut out = String::new(alloc);
-    print_listed(scope, assumptions, &mut out)?;
+    print_listed(alloc, scope, assumptions, &mut out)?;
     append(&mut out, "?- ")?;
-    print_whole(scope, concl, &mut out)?;
+    print_whole(alloc, scope, concl, &mut out)?;
     Ok(out)
 }

@@ -3,7 +3,7 @@ ghost use Rattle.std.specs.Prelude.{◌≡◌, ◌↔◌, [], ◌∷◌, Some, N
 ghost use Rattle.std.specs.Option.{option_map};
 ghost use Rattle.hol_model.specs.Theory.{equality_type, choice_type, type_a};
 ghost use Rattle.hol_model.specs.declared.fault.Fault.TheVariants.{Memory, NameTaken};
-ghost use Rattle.hol_syntax.specs.Scope.{scope_of, IsStart, SetsConstant, SetsVariable, SetsType};
+ghost use Rattle.hol_syntax.specs.Scope.{scope_of, IsStart, SetsConstant, SetsVariable, SetsType, KeepsScope};
 
 use hol_model::Fault;
 use hol_types::Ty;
@@ -89,6 +89,7 @@ impl Scope {
     pub fn set_var(&mut self, alloc: Global, name: &str, ty: &Ty) -> Result<(), Fault>
         ensures ok { OnOk result (SetsVariable (scope_of self.old) (scope_of self.new) name.now ty.now) }
         ensures err { IfErr result (λ fault. fault ≡ Memory) }
+        ensures kept { OnErr result (KeepsScope (scope_of self.old) (scope_of self.new)) }
     {
         let key = String::from_str(alloc, name)?;
         self.variables.insert(key, ty.copy(alloc)?)?;
@@ -100,6 +101,7 @@ impl Scope {
         ensures ok { OnOk result (SetsConstant (scope_of self.old) (scope_of self.new) name.now (Some ty.now)) }
         ensures taken { (result ≡ Err NameTaken) ↔ IsSome ((scope_of self.old).generic_type name.now) }
         ensures refusals { IfErr result (Contains (NameTaken ∷ Memory ∷ [])) }
+        ensures kept { OnErr result (KeepsScope (scope_of self.old) (scope_of self.new)) }
     {
         if self.const_type(name).is_some() {
             return Err(Fault::NameTaken);
@@ -121,6 +123,7 @@ impl Scope {
         ensures ok { OnOk result (SetsType (scope_of self.old) (scope_of self.new) name.now true) }
         ensures taken { (result ≡ Err NameTaken) ↔ IsTrue ((scope_of self.old).declares_type name.now) }
         ensures refusals { IfErr result (Contains (NameTaken ∷ Memory ∷ [])) }
+        ensures kept { OnErr result (KeepsScope (scope_of self.old) (scope_of self.new)) }
     {
         if self.has_type(name) {
             return Err(Fault::NameTaken);

@@ -3,10 +3,10 @@ ghost use Rattle.std.specs.Prelude.{◌≡◌, ◌∷◌, [], List, IfOk, IfErr}
 ghost use Rattle.hol_model.specs.TermGrammar.{TermTree};
 ghost use Rattle.hol_model.specs.Rules.{is_formula};
 ghost use Rattle.hol_model.specs.SequentGrammar.{formula_meaning, ReadsSequent, RefusesSequent};
+ghost use Rattle.hol_model.specs.Outcome.{Answers};
 ghost use Rattle.hol_syntax.specs.Scope.{scope_of};
 ghost use Rattle.hol_syntax.specs.Steps.{flat_steps_of};
 ghost use Rattle.hol_syntax.specs.TermSteps.{flat_steps, term_steps};
-ghost use Rattle.hol_syntax.specs.TypeStack.{Agrees};
 ghost use Rattle.hol_syntax.specs.Views.{token_of, tokens_of};
 ghost use Rattle.hol_syntax.specs.SequentStates.{separates, IsFound, ParsesList, ParsesSequent, MeansFormulas};
 
@@ -101,7 +101,7 @@ fn parse_sequent<'a>(
 // The term of the type of truth values that the steps of a tree make.
 fn formula_of_steps(alloc: Global, scope: &Scope, steps: &[TermStep]) -> Result<Term, Fault>
     ensures { (tree : TermTree) → flat_steps_of steps.now ≡ flat_steps (term_steps tree)
-        → Agrees result (formula_meaning (scope_of scope.now) tree) }
+        → Answers result (formula_meaning (scope_of scope.now) tree) }
 {
     let term = match term_of_steps(alloc, scope, steps) {
         Ok(term) => term,

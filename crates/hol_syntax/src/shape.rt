@@ -13,22 +13,16 @@ ghost use Rattle.hol_terms.specs.Term.{weight};
 ghost use Rattle.hol_syntax.specs.Grammar.{infix_here, binder_here};
 ghost use Rattle.hol_syntax.specs.Scope.{scope_of};
 ghost use Rattle.hol_syntax.specs.Shape as spec;
-ghost use Rattle.hol_syntax.specs.Shape.{bindings_of, is_bound_at, prefix_here, shape_tree, shape_level, IsNamed, HasPartsBelow};
+ghost use Rattle.hol_syntax.specs.Innermost.{IsInnermost};
+ghost use Rattle.hol_syntax.specs.Shape.{is_bound_at, prefix_here, shape_tree, shape_level, IsNamed, HasPartsBelow};
 
 use crate::builder::is_closed;
 use crate::grammar::{Binder, Infix};
+use crate::innermost::Innermost;
 use crate::scope::Scope;
 use hol_model::is_identifier;
 use hol_terms::{Parts, Term};
 use hol_types::Ty;
-
-/// The binders round a part of a term.
-#[derive(Drop)]
-pub enum Frames<'a> {
-    Outermost,
-    // The name and the type of a binder, and those outside it.
-    Under(&'a str, &'a Ty, &'a Frames<'a>),
-}
 
 /// What a constant is before one operand.
 #[derive(Clone, Copy)]
@@ -49,39 +43,25 @@ pub enum Shape<'a> {
     Bind(Binder, &'a str, &'a Ty, &'a Term),
 }
 
-// The type of the innermost binder of the name.
-fn bound_type<'a>(binders: &Frames<'a>, name: &str) -> Option<&'a Ty>
-    ensures { option_map (λ ty. ty.now) result ≡ reading.bound_type (bindings_of binders.now) name.now }
-{
-    match binders {
-        Frames::Outermost => None,
-        Frames::Under(other, ty, outer) => if *other == name {
-            Some(*ty)
-        } else {
-            bound_type(outer, name)
-        },
-    }
-}
-
 /// Whether the innermost binder of the name has the type.
-pub fn is_bound(binders: &Frames<'_>, name: &str, ty: &Ty) -> bool
-    ensures { result ≡ is_bound_at (bindings_of binders.now) name.now ty.now }
+pub fn is_bound(binders: &Innermost, name: &str, ty: &Ty) -> bool
+    ensures { (bindings : Bindings) → IsInnermost binders.now bindings → result ≡ is_bound_at bindings name.now ty.now }
 {
-    match bound_type(binders, name) {
+    match binders.find(name) {
         Some(bound) => bound.eq(ty),
         None => false,
     }
 }
 
 /// Whether the constant's name alone says which constant it is.
-pub fn is_bare_constant(scope: &Scope, binders: &Frames<'_>, name: &str) -> bool
-    ensures { result ≡ spec.is_bare_constant (scope_of scope.now) (bindings_of binders.now) name.now }
+pub fn is_bare_constant(scope: &Scope, binders: &Innermost, name: &str) -> bool
+    ensures { (bindings : Bindings) → IsInnermost binders.now bindings → result ≡ spec.is_bare_constant (scope_of scope.now) bindings name.now }
 {
     if !is_identifier(name.as_bytes()) {
         return false;
     }
     match scope.const_type(name) {
-        Some(generic) => is_closed(generic) && bound_type(binders, name).is_none(),
+        Some(generic) => is_closed(generic) && binders.find(name).is_none(),
         None => false,
     }
 }

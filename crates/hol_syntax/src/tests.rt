@@ -1,45 +1,10 @@
 // Terms and sequents, read from small texts, with expected values by hand.
 use crate::lexer::tokens_in;
+use crate::test_tools::{refusal, sequent_refusal};
 use crate::{Scope, read_sequent, read_term};
 use hol_model::Fault;
 use hol_types::Ty;
-use std::alloc::{AllocError, Global};
 use std::test::Fail;
-
-// The refusal of a text as a term, if it is refused.
-fn refusal(alloc: Global, scope: &Scope, text: &str) -> Option<Fault> {
-    match read_term(alloc, scope, text.as_bytes()) {
-        Ok(_) => None,
-        Err(fault) => Some(fault),
-    }
-}
-
-// The refusal of a text as a sequent, if it is refused.
-fn sequent_refusal(alloc: Global, scope: &Scope, text: &str) -> Option<Fault> {
-    match read_sequent(alloc, scope, text.as_bytes()) {
-        Ok(_) => None,
-        Err(fault) => Some(fault),
-    }
-}
-
-// A text between as many openings and closings.
-fn nested(
-    alloc: Global,
-    count: u16,
-    open: &str,
-    middle: &str,
-    close: &str,
-) -> Result<String, AllocError> {
-    let mut text = String::new(alloc);
-    for _ in 0..count {
-        text.push_str(open)?;
-    }
-    text.push_str(middle)?;
-    for _ in 0..count {
-        text.push_str(close)?;
-    }
-    Ok(text)
-}
 
 // A name with its type is the binder's of this type, and a bare name the innermost binder's.
 #[test]
@@ -119,17 +84,6 @@ fn refuses_texts(rt: HostRuntime) -> Result<(), Fail> {
         Some(Fault::Syntax)
     );
     assert_eq!(rt; refusal(alloc, &scope, ""), Some(Fault::Syntax));
-    Ok(())
-}
-
-#[test]
-fn refuses_deep_nesting(rt: HostRuntime) -> Result<(), Fail> {
-    let alloc = rt.alloc();
-    let scope = Scope::new(alloc)?;
-    let deep = nested(alloc, 4000, "(", "(x:bool)", ")")?;
-    assert_eq!(rt; refusal(alloc, &scope, &deep), None);
-    let deeper = nested(alloc, 4001, "(", "(x:bool)", ")")?;
-    assert_eq!(rt; refusal(alloc, &scope, &deeper), Some(Fault::Syntax));
     Ok(())
 }
 
