@@ -1,5 +1,5 @@
 -- Lemmas on what sources give and sinks take.
-use Rattle.std.proofs.Common.{◌≡◌, ℕ, ◌<◌, ◌≤◌, List, [], ◌++◌, length, take, drop, IfSome, OnErr, Option, None, Some, Ok, Err, Result, refl, sym, ap, ◌∙◌, append-nil, append_assoc, take-append-drop, subst}
+use Rattle.std.proofs.Common.{◌≡◌, ℕ, List, [], ◌++◌, take, drop, OnErr, Option, None, Some, Ok, Err, Result, refl, sym, ap, ◌∙◌, append-nil, append_assoc, take-append-drop, subst}
 use Rattle.std.specs.Io.KnownBytes.{Consumes, Appends, IsAtEnd, Keeps}
 use Rattle.hol_model.specs.Sessions.{Tells}
 use Rattle.hol_script.specs.Bytes.{AppendsFront}

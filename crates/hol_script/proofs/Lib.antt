@@ -3,4 +3,5 @@ pub mod CutLemmas
 pub mod ReadingLemmas
 pub mod RuleLemmas
 pub mod SessionLemmas
+pub mod GrowthLemmas
 pub mod RunLemmas

@@ -1,12 +1,13 @@
 -- Names among tokens, where quoted terms end, and which words name rules.
-use Rattle.std.proofs.Common.{◌≡◌, ◌≢◌, ℕ, zero, suc, ◌+◌, ◌-◌, ◌<◌, ◌≤◌, arith, List, [], ◌∷◌, ◌++◌, length, get_or, take, drop, ◌==◌, eqb-true, Bool, true, false, ◌||◌, refl, sym, ◌∙◌, ap, subst, Option, None, Some, Result, Ok, Err, Bor}
-use Rattle.std.specs.Prelude.{codes, not, if◌then◌else◌}
+use Rattle.std.proofs.Common.{◌≡◌, ◌≢◌, ℕ, zero, suc, ◌+◌, ◌-◌, ◌<◌, ◌≤◌, arith, List, [], ◌∷◌, ◌++◌, length, get_or, take, drop, ◌==◌, eqb-true, Bool, true, false, ◌||◌, refl, sym, ◌∙◌, ap, subst, Option, None, Some, Result, Ok, Err, Bor, Vec, Global}
+use Rattle.std.specs.Prelude.{codes, if◌then◌else◌}
 use Rattle.std.specs.Str.{bytes_eq}
 use Rattle.std.proofs.lemmas.Slice.Eq.{bytes_eq-Decides}
 use Rattle.std.proofs.lemmas.List.{take_all, length-drop}
 use borrow.Author.Count.{below_more}
 use Rattle.hol_model.specs.Name.{is_capital, is_small, continues_name, all_continue, is_identifier}
-use Rattle.hol_model.specs.declared.symbol.Symbol.TheVariants.{Backquote}
+use Rattle.hol_model.specs.declared.symbol.Symbol.{Symbol}
+use Rattle.hol_model.specs.declared.symbol.Symbol.TheVariants.{Backquote, Colon, Equal}
 use Rattle.hol_model.specs.declared.rule.TermRule.{TermRule}
 use Rattle.hol_model.specs.declared.rule.TermRule.TheVariants.{Refl, Beta, Assume}
 use Rattle.hol_model.specs.declared.rule.PairRule.TheVariants.{Trans, MkComb, EqMp, DeductAntisym}
@@ -18,16 +19,21 @@ use Rattle.hol_model.specs.Lexing.{Lexes, IsToken, IsIdentifier, Every, is_name_
 use Rattle.hol_model.specs.TypeGrammar.{TypeTree, Named, Enclosed, Function, type_tokens}
 use Rattle.hol_model.specs.TermGrammar.{Bare, Variable, Constant, TermTree, Leaf, Apply, Not, Join, Bind, IsConstantName, IsTermTree, Infix, IffInfix, ImpliesInfix, OrInfix, AndInfix, EqualInfix, Binder, Lambda, ForAll, Exists, Choice, Lexeme, InfixPiece, BinderPiece, pieces, all_tokens, IsReadTerm}
 use Rattle.hol_model.specs.TermGrammar.{Enclosed as EnclosedTerm}
-use Rattle.hol_model.specs.Commands.{RuleTree, by_term, by_pair, by_abs, by_axiom, kind_of, rule_word, quote_tokens, argument_tokens, rule_tokens, IsQuotable, IsRuleTree}
+use Rattle.hol_model.specs.Commands.{RuleTree, by_term, by_pair, by_abs, by_axiom, CommandTree, thm_command, show_command, var_command, def_command, newtype_command, newconst_command, kind_of, rule_word, quote_tokens, argument_tokens, rule_tokens, command_tokens, IsQuotable, IsRuleTree, IsCommandTree, IsReadCommand}
 use Rattle.hol_model.proofs.Tests.{both}
 use Rattle.hol_syntax.specs.declared.token.Token.{Token as TokenHere}
 use Rattle.hol_syntax.specs.declared.token.Token.TheVariants.{Name as NameHere}
 use Rattle.hol_syntax.specs.Views.{token_of, tokens_of}
 use Rattle.hol_syntax.specs.declared.type_reader.ReadError.{ReadError}
 use Rattle.hol_syntax.specs.declared.type_reader.ReadError.TheVariants.{Memory, Syntax}
+use Rattle.hol_syntax.specs.declared.type_reader.TypeStep.{TypeStep}
 use Rattle.hol_syntax.specs.TermStates.{Parses}
-use Rattle.hol_script.specs.Reading.{AreTokens, is_quote, HasNoQuote, quoted, rule_kind_of, ParsesQuote, ParsesArguments, ParsesRule}
+use Rattle.hol_syntax.specs.TypeStates.{ParsesType}
+use Rattle.hol_script.specs.Reading.{AreTokens, is_quote, HasNoQuote, quoted, rule_kind_of, kind_of_command, command_word, command_kind_of, name_in_command, body_tokens, ParsesQuote, ParsesTyping, ParsesArguments, ParsesRule, ParsesBody, ParsesCommand}
 use Rattle.hol_script.specs.declared.command.Rule.{Rule}
+use Rattle.hol_script.specs.declared.command.Command.{Command}
+use Rattle.hol_script.specs.declared.command.CommandKind.{CommandKind}
+use Rattle.hol_script.specs.declared.command.CommandKind.TheVariants.{Thm, Show, Var, Def, NewType, NewConst}
 
 -- ---- tokens
 
@@ -271,17 +277,6 @@ kind-word word kind found =
     chosen word (codes "ETA") (OfAxiom Eta) kind _ refl found (λ found.
     chosen word (codes "SELECT") (OfAxiom Select) kind None refl found (λ found. cc))))))))))
 
--- a word that passes a test, or does not fail it
-pub same-word : (word name : List ℕ) → true ≡ bytes_eq word name → word ≡ name
-same-word word name passed = (bytes_eq-Decides word name).0 (sym passed)
-
-pub no-other-word : (word name : List ℕ) → false ≡ not (bytes_eq word name) → word ≡ name
-no-other-word word name passed = go (bytes_eq word name) refl passed
-  where
-    go : (test : Bool) → bytes_eq word name ≡ test → false ≡ not test → word ≡ name
-    go true is passed = (bytes_eq-Decides word name).0 is
-    go false is passed = cc
-
 -- ---- rules
 
 pub rule-parsed : (result : Result Rule ReadError) (kind : RuleKind) (tokens arguments : List Token) (word : List ℕ) → tokens ≡ Name word ∷ arguments → rule_kind_of word ≡ Some kind
@@ -304,3 +299,209 @@ rule-unknown tokens arguments word begins unknown tree same =
     let spelled : word ≡ rule_word (kind_of tree) = cc in
     let found : None ≡ Some (kind_of tree) = sym unknown ∙ ap rule_kind_of spelled ∙ word-kind (kind_of tree) in
     cc
+
+-- ---- commands
+
+pub command-kind : (kind : CommandKind) → command_kind_of (command_word kind) ≡ Some kind
+command-kind Thm = refl
+command-kind Show = refl
+command-kind Var = refl
+command-kind Def = refl
+command-kind NewType = refl
+command-kind NewConst = refl
+
+-- one test of a chain
+chosen-command : (word name : List ℕ) (here kind : CommandKind) (others : Option CommandKind) → name ≡ command_word here → (if bytes_eq word name then Some here else others) ≡ Some kind
+    → (others ≡ Some kind → word ≡ command_word kind) → word ≡ command_word kind
+chosen-command word name here kind others named found later = go (bytes_eq word name) refl found
+  where
+    go : (test : Bool) → bytes_eq word name ≡ test → (if test then Some here else others) ≡ Some kind → word ≡ command_word kind
+    go true passed found = (let same : here ≡ kind = cc in (bytes_eq-Decides word name).0 passed ∙ named ∙ ap command_word same)
+    go false failed found = later found
+
+pub kind-command : (word : List ℕ) (kind : CommandKind) → command_kind_of word ≡ Some kind → word ≡ command_word kind
+kind-command word kind found =
+    chosen-command word (codes "thm") Thm kind _ refl found (λ found.
+    chosen-command word (codes "show") Show kind _ refl found (λ found.
+    chosen-command word (codes "var") Var kind _ refl found (λ found.
+    chosen-command word (codes "def") Def kind _ refl found (λ found.
+    chosen-command word (codes "newtype") NewType kind _ refl found (λ found.
+    chosen-command word (codes "newconst") NewConst kind None refl found (λ found. cc))))))
+
+-- a command is its word, its name and what follows them
+pub command-parts : (tree : CommandTree) → command_tokens tree ≡ Name (command_word (kind_of_command tree)) ∷ Name (name_in_command tree) ∷ body_tokens tree
+command-parts (thm_command name rule) = refl
+command-parts (show_command name) = refl
+command-parts (var_command name tree) = refl
+command-parts (def_command name tree) = refl
+command-parts (newtype_command name) = refl
+command-parts (newconst_command name tree) = refl
+
+pub command-parsed : (result : Result Command ReadError) (kind : CommandKind) (tokens rest body : List Token) (word name : List ℕ) → tokens ≡ Name word ∷ rest → rest ≡ Name name ∷ body
+    → command_kind_of word ≡ Some kind → ParsesBody result kind name body → ParsesCommand result tokens
+command-parsed (Ok command) kind tokens rest body word name begins goes known (tree, grammatical, same_kind, same_name, same_body, is_command) =
+    let spelled : word ≡ command_word (kind_of_command tree) = kind-command word kind known ∙ ap command_word (sym same_kind) in
+    let parts = command-parts tree in
+    (tree, record { grammatical = grammatical; spelled = begins ∙ (λ i. Name (spelled i) ∷ goes i) ∙ (λ i. Name (command_word (kind_of_command tree)) ∷ Name (sym same_name i) ∷ same_body i) ∙ sym parts }, is_command)
+command-parsed (Err Memory) kind tokens rest body word name begins goes known parsed = tt
+command-parsed (Err Syntax) kind tokens rest body word name begins goes known refused = λ tree read.
+    let both : Name word ∷ Name name ∷ body ≡ Name (command_word (kind_of_command tree)) ∷ Name (name_in_command tree) ∷ body_tokens tree =
+    (λ i. Name word ∷ sym goes i) ∙ sym begins ∙ read.spelled ∙ command-parts tree in
+    let spelled : word ≡ command_word (kind_of_command tree) = cc in
+    let further : body ≡ body_tokens tree = cc in
+    let found : Some (kind_of_command tree) ≡ Some kind = sym (command-kind (kind_of_command tree)) ∙ ap command_kind_of (sym spelled) ∙ known in
+    let same_kind : kind_of_command tree ≡ kind = cc in
+    refused tree read.grammatical same_kind further
+
+pub command-unknown : (tokens rest : List Token) (word : List ℕ) → tokens ≡ Name word ∷ rest → command_kind_of word ≡ None → (tree : CommandTree) → ¬ (IsReadCommand tokens tree)
+command-unknown tokens rest word begins unknown tree read =
+    let both : Name word ∷ rest ≡ Name (command_word (kind_of_command tree)) ∷ Name (name_in_command tree) ∷ body_tokens tree = sym begins ∙ read.spelled ∙ command-parts tree in
+    let spelled : word ≡ command_word (kind_of_command tree) = cc in
+    let found : None ≡ Some (kind_of_command tree) = sym unknown ∙ ap command_kind_of spelled ∙ command-kind (kind_of_command tree) in
+    cc
+
+-- tokens that do not begin with a name, or with two of them, are no command
+pub command-without_word : (tokens : List Token) → ((name : List ℕ) (rest : List Token) → tokens ≢ Name name ∷ rest) → (tree : CommandTree) → ¬ (IsReadCommand tokens tree)
+command-without_word tokens none tree read = none (command_word (kind_of_command tree)) (Name (name_in_command tree) ∷ body_tokens tree) (read.spelled ∙ command-parts tree)
+
+pub command-without_name : (tokens rest : List Token) (word : List ℕ) → tokens ≡ Name word ∷ rest → ((name : List ℕ) (behind : List Token) → rest ≢ Name name ∷ behind) → (tree : CommandTree) → ¬ (IsReadCommand tokens tree)
+command-without_name tokens rest word begins none tree read =
+    let both : Name word ∷ rest ≡ Name (command_word (kind_of_command tree)) ∷ Name (name_in_command tree) ∷ body_tokens tree = sym begins ∙ read.spelled ∙ command-parts tree in
+    let further : rest ≡ Name (name_in_command tree) ∷ body_tokens tree = cc in
+    none (name_in_command tree) (body_tokens tree) further
+
+-- ---- bodies of commands
+
+pub typing-parsed : (result : Result (Vec TypeStep Global) ReadError) (tokens rest : List Token) → tokens ≡ Mark Colon ∷ rest → ParsesType result rest → ParsesTyping result tokens
+typing-parsed (Ok steps) tokens rest begins (tree, read, steps_are) = (tree, (read.grammatical, read.depth), begins ∙ ap (λ (ts : List Token). Mark Colon ∷ ts) read.spelled, steps_are)
+typing-parsed (Err Memory) tokens rest begins parsed = tt
+typing-parsed (Err Syntax) tokens rest begins refused = λ tree within same.
+    let both : Mark Colon ∷ rest ≡ Mark Colon ∷ type_tokens tree [] = sym begins ∙ same in
+    let further : rest ≡ type_tokens tree [] = cc in
+    refused tree (record { grammatical = within.0; depth = within.1; spelled = further })
+
+pub no-typing : (tokens : List Token) → ((rest : List Token) → tokens ≢ Mark Colon ∷ rest) → ParsesTyping (Err Syntax) tokens
+no-typing tokens none = λ tree within same. none (type_tokens tree []) same
+
+-- a refusal of the type is one of the command
+pub var-refused : (error : ReadError) (name : List ℕ) (tokens : List Token) → ParsesTyping (Err error) tokens → ParsesBody (Err error) Var name tokens
+var-refused Memory name tokens refused = tt
+var-refused Syntax name tokens refused = go
+  where
+    go : (tree : CommandTree) → IsCommandTree tree → kind_of_command tree ≡ Var → tokens ≢ body_tokens tree
+    go (var_command other tree) grammatical kind same = refused tree grammatical same
+    go (thm_command other rule) grammatical kind same = cc
+    go (show_command other) grammatical kind same = cc
+    go (def_command other tree) grammatical kind same = cc
+    go (newtype_command other) grammatical kind same = cc
+    go (newconst_command other tree) grammatical kind same = cc
+
+pub newconst-refused : (error : ReadError) (name : List ℕ) (tokens : List Token) → ParsesTyping (Err error) tokens → ParsesBody (Err error) NewConst name tokens
+newconst-refused Memory name tokens refused = tt
+newconst-refused Syntax name tokens refused = go
+  where
+    go : (tree : CommandTree) → IsCommandTree tree → kind_of_command tree ≡ NewConst → tokens ≢ body_tokens tree
+    go (newconst_command other tree) grammatical kind same = refused tree grammatical same
+    go (thm_command other rule) grammatical kind same = cc
+    go (show_command other) grammatical kind same = cc
+    go (def_command other tree) grammatical kind same = cc
+    go (newtype_command other) grammatical kind same = cc
+    go (var_command other tree) grammatical kind same = cc
+
+-- what stands behind the equals sign of `thm` and `def`
+pub thm-refused : (error : ReadError) (name : List ℕ) (tokens rest : List Token) → tokens ≡ Mark Equal ∷ rest → ParsesRule (Err error) rest → ParsesBody (Err error) Thm name tokens
+thm-refused Memory name tokens rest begins refused = tt
+thm-refused Syntax name tokens rest begins refused = go
+  where
+    go : (tree : CommandTree) → IsCommandTree tree → kind_of_command tree ≡ Thm → tokens ≢ body_tokens tree
+    go (thm_command other rule) grammatical kind same =
+        let both : Mark Equal ∷ rest ≡ Mark Equal ∷ rule_tokens rule = sym begins ∙ same in
+        let further : rest ≡ rule_tokens rule = cc in
+        refused rule grammatical further
+    go (show_command other) grammatical kind same = cc
+    go (var_command other tree) grammatical kind same = cc
+    go (def_command other tree) grammatical kind same = cc
+    go (newtype_command other) grammatical kind same = cc
+    go (newconst_command other tree) grammatical kind same = cc
+
+-- no quoted term alone stands behind it
+pub def-unquoted : (name : List ℕ) (tokens rest : List Token) → tokens ≡ Mark Equal ∷ rest → ((tree : TermTree) → IsQuotable tree → rest ≢ quote_tokens tree []) → ParsesBody (Err Syntax) Def name tokens
+def-unquoted name tokens rest begins none = go
+  where
+    go : (tree : CommandTree) → IsCommandTree tree → kind_of_command tree ≡ Def → tokens ≢ body_tokens tree
+    go (def_command other tree) grammatical kind same =
+        let both : Mark Equal ∷ rest ≡ Mark Equal ∷ quote_tokens tree [] = sym begins ∙ same in
+        let further : rest ≡ quote_tokens tree [] = cc in
+        none tree grammatical further
+    go (thm_command other rule) grammatical kind same = cc
+    go (show_command other) grammatical kind same = cc
+    go (var_command other tree) grammatical kind same = cc
+    go (newtype_command other) grammatical kind same = cc
+    go (newconst_command other tree) grammatical kind same = cc
+
+pub def-refused : (error : ReadError) (name : List ℕ) (tokens rest : List Token) → tokens ≡ Mark Equal ∷ rest → ParsesQuote (Err error) rest → ParsesBody (Err error) Def name tokens
+def-refused Memory name tokens rest begins refused = tt
+def-refused Syntax name tokens rest begins refused = def-unquoted name tokens rest begins (λ tree quotable. refused tree [] quotable)
+
+-- a quoted term with more behind it is no body of `def`
+pub def-followed : (name : List ℕ) (tokens rest : List Token) (more : List TokenHere) (tree : TermTree) → tokens ≡ Mark Equal ∷ rest → IsQuotable tree → rest ≡ quote_tokens tree (tokens_of more) → 1 ≤ length more
+    → ParsesBody (Err Syntax) Def name tokens
+def-followed name tokens rest more tree begins quotable read some =
+    def-unquoted name tokens rest begins (λ other grammatical same. some-left more some (same_rest rest (tokens_of more) [] tree other quotable grammatical read same))
+
+-- without an equals sign there is no body of `thm` or `def`
+pub thm-unequal : (name : List ℕ) (tokens : List Token) → ((rest : List Token) → tokens ≢ Mark Equal ∷ rest) → ParsesBody (Err Syntax) Thm name tokens
+thm-unequal name tokens none = go
+  where
+    go : (tree : CommandTree) → IsCommandTree tree → kind_of_command tree ≡ Thm → tokens ≢ body_tokens tree
+    go (thm_command other rule) grammatical kind same = none (rule_tokens rule) same
+    go (show_command other) grammatical kind same = cc
+    go (var_command other tree) grammatical kind same = cc
+    go (def_command other tree) grammatical kind same = cc
+    go (newtype_command other) grammatical kind same = cc
+    go (newconst_command other tree) grammatical kind same = cc
+
+pub def-unequal : (name : List ℕ) (tokens : List Token) → ((rest : List Token) → tokens ≢ Mark Equal ∷ rest) → ParsesBody (Err Syntax) Def name tokens
+def-unequal name tokens none = go
+  where
+    go : (tree : CommandTree) → IsCommandTree tree → kind_of_command tree ≡ Def → tokens ≢ body_tokens tree
+    go (def_command other tree) grammatical kind same = none (quote_tokens tree []) same
+    go (thm_command other rule) grammatical kind same = cc
+    go (show_command other) grammatical kind same = cc
+    go (var_command other tree) grammatical kind same = cc
+    go (newtype_command other) grammatical kind same = cc
+    go (newconst_command other tree) grammatical kind same = cc
+
+-- nothing may follow the name of `show` and `newtype`
+pub show-followed : (name : List ℕ) (tokens : List Token) → tokens ≢ [] → ParsesBody (Err Syntax) Show name tokens
+show-followed name tokens more = go
+  where
+    go : (tree : CommandTree) → IsCommandTree tree → kind_of_command tree ≡ Show → tokens ≢ body_tokens tree
+    go (show_command other) grammatical kind same = more same
+    go (thm_command other rule) grammatical kind same = cc
+    go (var_command other tree) grammatical kind same = cc
+    go (def_command other tree) grammatical kind same = cc
+    go (newtype_command other) grammatical kind same = cc
+    go (newconst_command other tree) grammatical kind same = cc
+
+pub newtype-followed : (name : List ℕ) (tokens : List Token) → tokens ≢ [] → ParsesBody (Err Syntax) NewType name tokens
+newtype-followed name tokens more = go
+  where
+    go : (tree : CommandTree) → IsCommandTree tree → kind_of_command tree ≡ NewType → tokens ≢ body_tokens tree
+    go (newtype_command other) grammatical kind same = more same
+    go (thm_command other rule) grammatical kind same = cc
+    go (show_command other) grammatical kind same = cc
+    go (var_command other tree) grammatical kind same = cc
+    go (def_command other tree) grammatical kind same = cc
+    go (newconst_command other tree) grammatical kind same = cc
+
+pub some-tokens : (tokens : List TokenHere) → false ≡ (length tokens == 0) → tokens_of tokens ≢ []
+some-tokens [] filled same = cc
+some-tokens (token ∷ tokens) filled same = cc
+
+-- what follows a mark
+pub behind-mark : (symbol : Symbol) (tokens rest : List Token) → tokens ≡ Mark symbol ∷ rest → AreTokens tokens → AreTokens rest
+behind-mark symbol tokens rest same all = (subst AreTokens same all).1
+
+pub behind-name : (name : List ℕ) (tokens rest : List Token) → tokens ≡ Name name ∷ rest → AreTokens tokens → AreTokens rest
+behind-name name tokens rest same all = (subst AreTokens same all).1

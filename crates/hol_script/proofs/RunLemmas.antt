@@ -1,13 +1,15 @@
 -- How a run comes to its end, and what is left where it stops.
-use Rattle.std.proofs.Common.{◌≡◌, ℕ, zero, suc, ◌+◌, ◌<◌, ◌≤◌, List, [], ◌∷◌, ◌++◌, length, refl, sym, ap, subst, ◌∙◌, ◌⊎◌, inl, inr, arith, Bool, true, false, ◌==◌, ◌&&◌, ◌||◌, Option, None, Some, Result, Ok, Err, IfSome, append_assoc, append-nil, length-append, eqb-true, Global}
-use Rattle.std.specs.Prelude.{String, string_bytes, MatchOption}
+use Rattle.std.proofs.Common.{◌≡◌, ℕ, zero, suc, ◌+◌, ◌≤◌, List, [], ◌∷◌, ◌++◌, length, refl, sym, ap, subst, ◌∙◌, ◌⊎◌, inl, inr, arith, Bool, true, false, ◌==◌, ◌&&◌, ◌||◌, Option, None, Some, Result, Ok, Err, append_assoc, append-nil, length-append, eqb-true}
+use Rattle.std.specs.Prelude.{MatchOption}
 use Rattle.std.specs.Io.KnownBytes.{Appends}
 use Rattle.hol_model.specs.declared.fault.Fault.{Fault}
 use Rattle.hol_model.specs.declared.fault.Fault.TheVariants.{Memory, Syntax}
 use Rattle.hol_model.specs.Reading.{Scope}
 use Rattle.hol_model.specs.Script.{begins_mark, has_mark, IsCut, Cuts, Request, line_feeds, leading_line_feeds, is_blank_text, request_and, requests}
-use Rattle.hol_model.specs.Sessions.{State, start, scope_in, Reply, proves, refused, finds_no_memory, is_unfinished, Turn, Session, Counts, no_counts, counting, counts_after, reply_text, refusal_line, IsRun, Tells, Completes, Stops}
+use Rattle.hol_model.specs.Sessions.{State, start, scope_in, Reply, proves, accepts, refused, finds_no_memory, is_unfinished, Turn, Session, Counts, no_counts, counting, counts_after, reply_text, refusal_line, IsRun, Tells, Completes, Stops}
 use Rattle.hol_model.proofs.Tests.{first_of_both, second_of_both}
+use Rattle.hol_script.specs.declared.session.Printed.{Printed}
+use Rattle.hol_script.specs.declared.session.Printed.TheVariants.{Nothing, Line}
 use Rattle.hol_script.specs.Bytes.{AppendsFront}
 use Rattle.hol_script.specs.Answers.{Says, Turns, answer_text}
 use Rattle.hol_script.specs.Runs.{counting_answer}
@@ -168,18 +170,26 @@ module _ (script : List ℕ) where
   underway_passed piece behind u cut blank = record { out = u.out; so_far = passed piece behind u.so_far cut blank; wrote = u.wrote }
 
   -- what an answer writes and counts is what its reply does
-  answer_line : (line : ℕ) (scope : Scope) (reply : Reply) (answer : Result (String Global) Fault) → Says answer scope reply → answer_text line answer ≡ reply_text line scope reply
-  answer_line line scope (proves name theorem) (Ok text) says = says
-  answer_line line scope (refused fault) (Ok text) says = absurd says
+  answer_line : (line : ℕ) (scope : Scope) (reply : Reply) (answer : Result Printed Fault) → Says answer scope reply → answer_text line answer ≡ reply_text line scope reply
+  answer_line line scope (proves name theorem) (Ok (Line text)) says = says
+  answer_line line scope (proves name theorem) (Ok Nothing) says = absurd says
+  answer_line line scope accepts (Ok (Line text)) says = absurd says
+  answer_line line scope accepts (Ok Nothing) says = refl
+  answer_line line scope (refused fault) (Ok (Line text)) says = absurd says
+  answer_line line scope (refused fault) (Ok Nothing) says = absurd says
   answer_line line scope reply (Err fault) says = ap (reply_text line scope) (sym says)
 
-  answer_counts : (scope : Scope) (counts : Counts) (reply : Reply) (answer : Result (String Global) Fault) → Says answer scope reply → counting_answer counts answer ≡ counting counts reply
-  answer_counts scope counts (proves name theorem) (Ok text) says = refl
-  answer_counts scope counts (refused fault) (Ok text) says = absurd says
+  answer_counts : (scope : Scope) (counts : Counts) (reply : Reply) (answer : Result Printed Fault) → Says answer scope reply → counting_answer counts answer ≡ counting counts reply
+  answer_counts scope counts (proves name theorem) (Ok (Line text)) says = refl
+  answer_counts scope counts (proves name theorem) (Ok Nothing) says = absurd says
+  answer_counts scope counts accepts (Ok (Line text)) says = absurd says
+  answer_counts scope counts accepts (Ok Nothing) says = refl
+  answer_counts scope counts (refused fault) (Ok (Line text)) says = absurd says
+  answer_counts scope counts (refused fault) (Ok Nothing) says = absurd says
   answer_counts scope counts reply (Err fault) says = ap (counting counts) (sym says)
 
   -- a command has answered
-  answered : {written now : Option (List ℕ)} {old new : State} {line : ℕ} {left : List ℕ} {counts : Counts} (piece behind : List ℕ) (answer : Result (String Global) Fault) (u : Underway written now old line left counts) → IsCut left piece behind
+  answered : {written now : Option (List ℕ)} {old new : State} {line : ℕ} {left : List ℕ} {counts : Counts} (piece behind : List ℕ) (answer : Result Printed Fault) (u : Underway written now old line left counts) → IsCut left piece behind
       → is_blank_text piece ≡ false → Turns old (Some piece) answer new
       → SoFar new (line + line_feeds piece) behind (u.out ++ answer_text (line + leading_line_feeds piece) answer) (counting_answer counts answer)
   answered {old} {new} {line} {left} {counts} piece behind answer u cut filled turns =
@@ -189,7 +199,7 @@ module _ (script : List ℕ) where
       (subst (λ (l : List ℕ). SoFar new (line + line_feeds piece) behind (u.out ++ l) (counting counts turns.reply)) (sym same_text)
       (turned piece behind turns.reply u.so_far cut filled turns.turn))
 
-  pub underway_turned : {written now next : Option (List ℕ)} {old new : State} {line : ℕ} {left : List ℕ} {counts : Counts} (piece behind : List ℕ) (answer : Result (String Global) Fault) → Underway written now old line left counts
+  pub underway_turned : {written now next : Option (List ℕ)} {old new : State} {line : ℕ} {left : List ℕ} {counts : Counts} (piece behind : List ℕ) (answer : Result Printed Fault) → Underway written now old line left counts
       → IsCut left piece behind → is_blank_text piece ≡ false → Turns old (Some piece) answer new → Appends now next (answer_text (line + leading_line_feeds piece) answer)
       → Underway written next new (line + line_feeds piece) behind (counting_answer counts answer)
   underway_turned {written} {now} {next} {line} piece behind answer u cut filled turns wrote = record {
@@ -199,7 +209,7 @@ module _ (script : List ℕ) where
   }
 
   -- the line of an answer was written in part
-  pub underway_broken : {written now next : Option (List ℕ)} {old new : State} {line : ℕ} {left : List ℕ} {counts : Counts} (piece behind : List ℕ) (answer : Result (String Global) Fault) → Underway written now old line left counts
+  pub underway_broken : {written now next : Option (List ℕ)} {old new : State} {line : ℕ} {left : List ℕ} {counts : Counts} (piece behind : List ℕ) (answer : Result Printed Fault) → Underway written now old line left counts
       → IsCut left piece behind → is_blank_text piece ≡ false → Turns old (Some piece) answer new → AppendsFront now next (answer_text (line + leading_line_feeds piece) answer)
       → Stops (Some script) written next
   underway_broken {written} {now} {next} piece behind answer u cut filled turns wrote =
@@ -266,7 +276,7 @@ module _ (script : List ℕ) where
   passed_by {written} {now} {state} {line} {left} {counts} piece behind feeds u cut blank counted =
       subst (λ (n : ℕ). Underway script written now state (line + n) behind counts) (sym counted) (underway_passed script piece behind u cut blank)
 
-  pub turned_by : {written now next : Option (List ℕ)} {old new : State} {line : ℕ} {left : List ℕ} {counts after : Counts} (piece behind : List ℕ) (answer : Result (String Global) Fault) (here feeds : ℕ)
+  pub turned_by : {written now next : Option (List ℕ)} {old new : State} {line : ℕ} {left : List ℕ} {counts after : Counts} (piece behind : List ℕ) (answer : Result Printed Fault) (here feeds : ℕ)
       → Underway script written now old line left counts → IsCut left piece behind → is_blank_text piece ≡ false → Turns old (Some piece) answer new → here ≡ leading_line_feeds piece → feeds ≡ line_feeds piece
       → Appends now next (answer_text (line + here) answer) → after ≡ counting_answer counts answer → Underway script written next new (line + feeds) behind after
   turned_by {written} {now} {next} {old} {new} {line} {left} {counts} {after} piece behind answer here feeds u cut filled turns led counted wrote same =
@@ -274,7 +284,7 @@ module _ (script : List ℕ) where
       subst (λ (n : ℕ). Underway script written next new (line + n) behind after) (sym counted)
       (subst (λ (c : Counts). Underway script written next new (line + line_feeds piece) behind c) (sym same) (underway_turned script piece behind answer u cut filled turns wrote_there))
 
-  pub broken_by : {written now next : Option (List ℕ)} {old new : State} {line : ℕ} {left : List ℕ} {counts : Counts} (piece behind : List ℕ) (answer : Result (String Global) Fault) (here : ℕ)
+  pub broken_by : {written now next : Option (List ℕ)} {old new : State} {line : ℕ} {left : List ℕ} {counts : Counts} (piece behind : List ℕ) (answer : Result Printed Fault) (here : ℕ)
       → Underway script written now old line left counts → IsCut left piece behind → is_blank_text piece ≡ false → Turns old (Some piece) answer new → here ≡ leading_line_feeds piece
       → AppendsFront now next (answer_text (line + here) answer) → Stops (Some script) written next
   broken_by {written} {now} {next} {old} {new} {line} piece behind answer here u cut filled turns led wrote =

@@ -1,6 +1,6 @@
 -- What a session is in, and the turns that it takes.
-use Rattle.std.proofs.Common.{◌≡◌, ℕ, List, refl, sym, subst, ap, ◌∙◌, Option, None, Some, Result, Ok, Err, Bor, Global, inl, inr, ◌⊎◌}
-use Rattle.std.specs.Prelude.{String, string_bytes, IfOk, IfErr, IfSome, Bool, true, false, cond}
+use Rattle.std.proofs.Common.{◌≡◌, ℕ, List, refl, sym, subst, ◌∙◌, Option, None, Some, Result, Ok, Err, Bor, Vec, Global, inl, inr, ◌⊎◌}
+use Rattle.std.specs.Prelude.{String, string_bytes, IfSome, Bool, true, false, cond}
 use Rattle.std.specs.Map.{update}
 use Rattle.std.specs.Str.{bytes_eq}
 use Rattle.indexmap.specs.IndexMap.{get_by_text}
@@ -9,16 +9,24 @@ use Rattle.hol_model.specs.declared.fault.Fault.{Fault}
 use Rattle.hol_model.specs.declared.fault.Fault.TheVariants.{Memory, Syntax}
 use Rattle.hol_model.specs.Token.{Token}
 use Rattle.hol_model.specs.Lexing.{Lexes}
-use Rattle.hol_model.specs.Commands.{RuleTree, CommandTree, thm_command, show_command, IsReadCommand, SpellsCommand}
-use Rattle.hol_model.specs.Reading.{Scope}
+use Rattle.hol_model.specs.Commands.{RuleTree, CommandTree, thm_command, show_command, var_command, def_command, newtype_command, newconst_command, IsReadCommand, SpellsCommand}
 use Rattle.hol_model.specs.Theory.{IsEarlier}
 use Rattle.hol_model.specs.Theorem.{Theorem}
-use Rattle.hol_model.specs.Sessions.{State, scope_in, Reply, proves, refused, Allows, finds_no_memory, is_no_command, thm_is_refused, thm_stores, is_theorem_name, rule_outcome, with_theorem, IsProved, theorem_line}
+use Rattle.hol_model.specs.Sessions.{State, scope_in, proves, accepts, refused, Allows, finds_no_memory, is_no_command, thm_is_refused, thm_stores, is_theorem_name, rule_outcome, with_theorem, IsProved, theorem_line}
+use Rattle.hol_model.specs.TypeGrammar.{TypeTree, type_steps}
+use Rattle.hol_model.specs.TermGrammar.{TermTree}
+use Rattle.hol_syntax.specs.declared.type_reader.TypeStep.{TypeStep}
+use Rattle.hol_syntax.specs.declared.steps.TermStep.{TermStep}
 use Rattle.hol_syntax.specs.Scope.{scope_of}
+use Rattle.hol_syntax.specs.Steps.{flat_steps_of}
+use Rattle.hol_syntax.specs.TermSteps.{term_steps, flat_steps}
+use Rattle.hol_syntax.specs.Views.{steps_of}
 use Rattle.hol_script.specs.declared.command.Rule.{Rule}
-use Rattle.hol_script.specs.declared.command.Command.TheVariants.{Thm, Show}
+use Rattle.hol_script.specs.declared.command.Command.TheVariants.{Thm, Show, Var, Def, NewType, NewConst}
 use Rattle.hol_script.specs.Views.{IsRule, IsCommand}
 use Rattle.hol_script.specs.declared.session.Session.{Session}
+use Rattle.hol_script.specs.declared.session.Printed.{Printed}
+use Rattle.hol_script.specs.declared.session.Printed.TheVariants.{Nothing, Line}
 use Rattle.hol_script.specs.SessionState.{state_of, IsSession}
 use Rattle.hol_script.specs.Answers.{Turns}
 
@@ -39,15 +47,21 @@ forgets state text fault same = refuses state text fault (subst (λ f. Allows st
 
 -- a theorem that is allowed and proved, and its line
 pub prints : (old new : State) (text : Option (List ℕ)) (name : List ℕ) (theorem : Theorem) (line : String Global) → Allows old text (proves name theorem) new → IsProved new.theory theorem
-    → string_bytes line ≡ theorem_line (scope_in new) name theorem → Turns old text (Ok line) new
+    → string_bytes line ≡ theorem_line (scope_in new) name theorem → Turns old text (Ok (Line line)) new
 prints old new text name theorem line allowed proved says = record { reply = proves name theorem; says = says; turn = record { allowed = allowed; proved = proved } }
 
--- a line that is made, or no memory
-pub prints_or_forgets : (state : State) (text : Option (List ℕ)) (name : List ℕ) (theorem : Theorem) (result : Result (String Global) Fault) → Allows state text (proves name theorem) state
-    → IsProved state.theory theorem → IfOk result (λ line. string_bytes line ≡ theorem_line (scope_in state) name theorem) → IfErr result (λ fault. fault ≡ Memory)
-    → Turns state text result state
-prints_or_forgets state text name theorem (Ok line) allowed proved says memory = prints state state text name theorem line allowed proved says
-prints_or_forgets state text name theorem (Err fault) allowed proved says memory = forgets state text fault memory
+-- an acceptance that prints nothing
+pub is_silent : (old new : State) (text : Option (List ℕ)) → Allows old text accepts new → Turns old text (Ok Nothing) new
+is_silent old new text allowed = record { reply = accepts; says = tt; turn = record { allowed = allowed; proved = tt } }
+
+-- no memory, where the state is that of before
+pub forgets_here : (old new : State) (text : Option (List ℕ)) (fault : Fault) → new ≡ old → fault ≡ Memory → Turns old text (Err fault) new
+forgets_here old new text fault same memory = subst (λ (state : State). Turns old text (Err fault) state) (sym same) (forgets old text fault memory)
+
+-- a refusal that is allowed, or no memory, where the state is that of before
+pub refuses_by : {P : Type 0} (old new : State) (text : Option (List ℕ)) (fault : Fault) → new ≡ old → (fault ≡ Memory) ⊎ P → (P → Allows old text (refused fault) old) → Turns old text (Err fault) new
+refuses_by old new text fault same (inl memory) allowed = subst (λ (state : State). Turns old text (Err fault) state) (sym same) (forgets old text fault memory)
+refuses_by old new text fault same (inr because) allowed = subst (λ (state : State). Turns old text (Err fault) state) (sym same) (refuses old text fault (allowed because))
 
 -- each stored theorem stands on an earlier theory
 pub found_earlier : (session : Session) (name : List ℕ) (found : Option (Bor Theorem)) → IsSession session → option_map (λ (theorem : Bor Theorem). theorem.now) found ≡ get_by_text session.theorems name
@@ -84,9 +98,9 @@ thm_refuses state text name tree fault spelled is_name new (inr outcome) = refus
 -- a theorem that is stored
 pub thm_prints : (old new : State) (text name : List ℕ) (tree : RuleTree) (theorem : Theorem) (line : String Global) → SpellsCommand text (thm_command name tree) → is_theorem_name name ≡ true
     → old.theorems name ≡ None → rule_outcome old tree ≡ Ok theorem → IsProved old.theory theorem → string_bytes line ≡ theorem_line (scope_in old) name theorem
-    → new ≡ with_theorem old name theorem → Turns old (Some text) (Ok line) new
+    → new ≡ with_theorem old name theorem → Turns old (Some text) (Ok (Line line)) new
 thm_prints old new text name tree theorem line spelled is_name none outcome proved says stored =
-    subst (λ (state : State). Turns old (Some text) (Ok line) state) (sym stored)
+    subst (λ (state : State). Turns old (Some text) (Ok (Line line)) state) (sym stored)
     (prints old (with_theorem old name theorem) (Some text) name theorem line (thm_stores spelled is_name none outcome) proved says)
 
 -- ---- commands
@@ -105,16 +119,68 @@ unread_command state text tokens only none =
     (is_no_command (λ tree spelled. none tree (subst (λ (ts : List Token). IsReadCommand ts tree) (sym (only spelled.tokens spelled.lexed)) spelled.read)))
 
 -- the turn of a command that was read
-pub thm_turns : (old new : State) (text : List ℕ) (tokens : List Token) (name : Bor (List ℕ)) (rule : Rule) (result : Result (String Global) Fault) → Lexes text tokens
+pub thm_turns : (old new : State) (text : List ℕ) (tokens : List Token) (name : Bor (List ℕ)) (rule : Rule) (result : Result Printed Fault) → Lexes text tokens
     → ((tree : CommandTree) × IsReadCommand tokens tree × IsCommand (Thm name rule) tree)
     → ((given : List ℕ) (tree : RuleTree) → SpellsCommand given (thm_command name.now tree) → IsRule rule tree → Turns old (Some given) result new) → Turns old (Some text) result new
 thm_turns old new text tokens name rule result lexed (thm_command other tree, read, (same, is_rule)) turns =
     turns text tree (subst (λ (n : List ℕ). SpellsCommand text (thm_command n tree)) (sym same) (spells text tokens (thm_command other tree) lexed read)) is_rule
 thm_turns old new text tokens name rule result lexed (show_command other, read, never) turns = absurd never
+thm_turns old new text tokens name rule result lexed (var_command other tree, read, never) turns = absurd never
+thm_turns old new text tokens name rule result lexed (def_command other tree, read, never) turns = absurd never
+thm_turns old new text tokens name rule result lexed (newtype_command other, read, never) turns = absurd never
+thm_turns old new text tokens name rule result lexed (newconst_command other tree, read, never) turns = absurd never
 
-pub show_turns : (old new : State) (text : List ℕ) (tokens : List Token) (name : Bor (List ℕ)) (result : Result (String Global) Fault) → Lexes text tokens
+pub show_turns : (old new : State) (text : List ℕ) (tokens : List Token) (name : Bor (List ℕ)) (result : Result Printed Fault) → Lexes text tokens
     → ((tree : CommandTree) × IsReadCommand tokens tree × IsCommand (Show name) tree)
     → ((given : List ℕ) → SpellsCommand given (show_command name.now) → Turns old (Some given) result new) → Turns old (Some text) result new
 show_turns old new text tokens name result lexed (thm_command other tree, read, never) turns = absurd never
 show_turns old new text tokens name result lexed (show_command other, read, same) turns =
     turns text (subst (λ (n : List ℕ). SpellsCommand text (show_command n)) (sym same) (spells text tokens (show_command other) lexed read))
+show_turns old new text tokens name result lexed (var_command other tree, read, never) turns = absurd never
+show_turns old new text tokens name result lexed (def_command other tree, read, never) turns = absurd never
+show_turns old new text tokens name result lexed (newtype_command other, read, never) turns = absurd never
+show_turns old new text tokens name result lexed (newconst_command other tree, read, never) turns = absurd never
+
+pub var_turns : (old new : State) (text : List ℕ) (tokens : List Token) (name : Bor (List ℕ)) (steps : Vec TypeStep Global) (result : Result Printed Fault) → Lexes text tokens
+    → ((tree : CommandTree) × IsReadCommand tokens tree × IsCommand (Var name steps) tree)
+    → ((given : List ℕ) (tree : TypeTree) → SpellsCommand given (var_command name.now tree) → steps_of steps.items ≡ type_steps tree → Turns old (Some given) result new) → Turns old (Some text) result new
+var_turns old new text tokens name steps result lexed (thm_command other tree, read, never) turns = absurd never
+var_turns old new text tokens name steps result lexed (show_command other, read, never) turns = absurd never
+var_turns old new text tokens name steps result lexed (var_command other tree, read, (same, are_steps)) turns =
+    turns text tree (subst (λ (n : List ℕ). SpellsCommand text (var_command n tree)) (sym same) (spells text tokens (var_command other tree) lexed read)) are_steps
+var_turns old new text tokens name steps result lexed (def_command other tree, read, never) turns = absurd never
+var_turns old new text tokens name steps result lexed (newtype_command other, read, never) turns = absurd never
+var_turns old new text tokens name steps result lexed (newconst_command other tree, read, never) turns = absurd never
+
+pub def_turns : (old new : State) (text : List ℕ) (tokens : List Token) (name : Bor (List ℕ)) (steps : Vec TermStep Global) (result : Result Printed Fault) → Lexes text tokens
+    → ((tree : CommandTree) × IsReadCommand tokens tree × IsCommand (Def name steps) tree)
+    → ((given : List ℕ) (tree : TermTree) → SpellsCommand given (def_command name.now tree) → flat_steps_of steps.items ≡ flat_steps (term_steps tree) → Turns old (Some given) result new) → Turns old (Some text) result new
+def_turns old new text tokens name steps result lexed (thm_command other tree, read, never) turns = absurd never
+def_turns old new text tokens name steps result lexed (show_command other, read, never) turns = absurd never
+def_turns old new text tokens name steps result lexed (var_command other tree, read, never) turns = absurd never
+def_turns old new text tokens name steps result lexed (def_command other tree, read, (same, are_steps)) turns =
+    turns text tree (subst (λ (n : List ℕ). SpellsCommand text (def_command n tree)) (sym same) (spells text tokens (def_command other tree) lexed read)) are_steps
+def_turns old new text tokens name steps result lexed (newtype_command other, read, never) turns = absurd never
+def_turns old new text tokens name steps result lexed (newconst_command other tree, read, never) turns = absurd never
+
+pub newtype_turns : (old new : State) (text : List ℕ) (tokens : List Token) (name : Bor (List ℕ)) (result : Result Printed Fault) → Lexes text tokens
+    → ((tree : CommandTree) × IsReadCommand tokens tree × IsCommand (NewType name) tree)
+    → ((given : List ℕ) → SpellsCommand given (newtype_command name.now) → Turns old (Some given) result new) → Turns old (Some text) result new
+newtype_turns old new text tokens name result lexed (thm_command other tree, read, never) turns = absurd never
+newtype_turns old new text tokens name result lexed (show_command other, read, never) turns = absurd never
+newtype_turns old new text tokens name result lexed (var_command other tree, read, never) turns = absurd never
+newtype_turns old new text tokens name result lexed (def_command other tree, read, never) turns = absurd never
+newtype_turns old new text tokens name result lexed (newtype_command other, read, same) turns =
+    turns text (subst (λ (n : List ℕ). SpellsCommand text (newtype_command n)) (sym same) (spells text tokens (newtype_command other) lexed read))
+newtype_turns old new text tokens name result lexed (newconst_command other tree, read, never) turns = absurd never
+
+pub newconst_turns : (old new : State) (text : List ℕ) (tokens : List Token) (name : Bor (List ℕ)) (steps : Vec TypeStep Global) (result : Result Printed Fault) → Lexes text tokens
+    → ((tree : CommandTree) × IsReadCommand tokens tree × IsCommand (NewConst name steps) tree)
+    → ((given : List ℕ) (tree : TypeTree) → SpellsCommand given (newconst_command name.now tree) → steps_of steps.items ≡ type_steps tree → Turns old (Some given) result new) → Turns old (Some text) result new
+newconst_turns old new text tokens name steps result lexed (thm_command other tree, read, never) turns = absurd never
+newconst_turns old new text tokens name steps result lexed (show_command other, read, never) turns = absurd never
+newconst_turns old new text tokens name steps result lexed (var_command other tree, read, never) turns = absurd never
+newconst_turns old new text tokens name steps result lexed (def_command other tree, read, never) turns = absurd never
+newconst_turns old new text tokens name steps result lexed (newtype_command other, read, never) turns = absurd never
+newconst_turns old new text tokens name steps result lexed (newconst_command other tree, read, (same, are_steps)) turns =
+    turns text tree (subst (λ (n : List ℕ). SpellsCommand text (newconst_command n tree)) (sym same) (spells text tokens (newconst_command other tree) lexed read)) are_steps

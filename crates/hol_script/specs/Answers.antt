@@ -1,16 +1,19 @@
 -- What a call on a session answers.
-use Rattle.std.specs.Prelude.{◌≡◌, ℕ, List, Option, Some, None, Result, Ok, Err, String, string_bytes}
-use Rattle.std.proofs.Common.{Bor, Global}
+use Rattle.std.specs.Prelude.{◌≡◌, ℕ, List, [], Option, Some, None, Result, Ok, Err, string_bytes}
+use Rattle.std.proofs.Common.{Bor}
 use Rattle.hol_model.specs.declared.fault.Fault.{Fault}
 use Rattle.hol_model.specs.declared.fault.Fault.TheVariants.{UnknownName}
 use Rattle.hol_model.specs.Theorem.{Theorem}
 use Rattle.hol_model.specs.Reading.{Scope}
-use Rattle.hol_model.specs.Sessions.{State, Reply, proves, refused, Turn, scope_in, theorem_line, refusal_line}
+use Rattle.hol_model.specs.Sessions.{State, Reply, proves, accepts, refused, Turn, scope_in, theorem_line, refusal_line}
+use Rattle.hol_script.specs.declared.session.Printed.{Printed}
+use Rattle.hol_script.specs.declared.session.Printed.TheVariants.{Nothing, Line}
 
--- the line of a theorem, or a refusal
-abbrev pub Says : Result (String Global) Fault → Scope → Reply → Type 0
-Says (Ok text) scope (proves name theorem) = string_bytes text ≡ theorem_line scope name theorem
-Says (Ok text) scope (refused fault) = ⊥
+-- the line of a theorem, nothing, or a refusal
+abbrev pub Says : Result Printed Fault → Scope → Reply → Type 0
+Says (Ok (Line text)) scope (proves name theorem) = string_bytes text ≡ theorem_line scope name theorem
+Says (Ok Nothing) scope accepts = Unit {0}
+Says (Ok printed) scope reply = ⊥
 Says (Err fault) scope reply = reply ≡ refused fault
 
 -- the stored theorem, or that there is none
@@ -19,12 +22,13 @@ IsStored (Ok theorem) found = found ≡ Some theorem.now
 IsStored (Err fault) found = (fault ≡ UnknownName) × (found ≡ None)
 
 -- a turn of a session, and what the call answers in it
-pub record Turns (old : State) (text : Option (List ℕ)) (result : Result (String Global) Fault) (new : State) : Type 0 where
+pub record Turns (old : State) (text : Option (List ℕ)) (result : Result Printed Fault) (new : State) : Type 0 where
   pub reply : Reply
   pub says : Says result (scope_in new) reply
   pub turn : Turn old text reply new
 
 -- the text that is written for an answer to the command in this line
-abbrev pub answer_text : ℕ → Result (String Global) Fault → List ℕ
-answer_text line (Ok text) = string_bytes text
+abbrev pub answer_text : ℕ → Result Printed Fault → List ℕ
+answer_text line (Ok Nothing) = []
+answer_text line (Ok (Line text)) = string_bytes text
 answer_text line (Err fault) = refusal_line line fault

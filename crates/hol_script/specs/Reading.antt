@@ -3,7 +3,7 @@ use Rattle.std.specs.Prelude.{◌≡◌, ◌≢◌, ℕ, List, [], ◌∷◌, �
 use Rattle.std.specs.Str.{bytes_eq}
 use Rattle.std.proofs.Common.{Vec, Bor, Global}
 use Rattle.hol_model.specs.declared.symbol.Symbol.{Symbol}
-use Rattle.hol_model.specs.declared.symbol.Symbol.TheVariants.{Backquote}
+use Rattle.hol_model.specs.declared.symbol.Symbol.TheVariants.{Backquote, Colon, Equal}
 use Rattle.hol_model.specs.declared.rule.TermRule.TheVariants.{Refl, Beta, Assume}
 use Rattle.hol_model.specs.declared.rule.PairRule.TheVariants.{Trans, MkComb, EqMp, DeductAntisym}
 use Rattle.hol_model.specs.declared.rule.Axiom.TheVariants.{Eta, Select}
@@ -11,17 +11,21 @@ use Rattle.hol_model.specs.declared.rule.RuleKind.{RuleKind}
 use Rattle.hol_model.specs.declared.rule.RuleKind.TheVariants.{Term, Pair, Abs, Axiom as OfAxiom}
 use Rattle.hol_model.specs.Token.{Token, Name, Mark}
 use Rattle.hol_model.specs.Lexing.{IsToken}
-use Rattle.hol_model.specs.TermGrammar.{TermTree}
-use Rattle.hol_model.specs.Commands.{RuleTree, CommandTree, kind_of, quote_tokens, argument_tokens, rule_tokens, IsQuotable, IsRuleTree, IsReadCommand}
+use Rattle.hol_model.specs.TypeGrammar.{TypeTree, type_tokens, type_steps}
+use Rattle.hol_model.specs.TermGrammar.{TermTree, IsWithin}
+use Rattle.hol_model.specs.Commands.{RuleTree, CommandTree, thm_command, show_command, var_command, def_command, newtype_command, newconst_command, kind_of, quote_tokens, argument_tokens, rule_tokens, IsQuotable, IsRuleTree, IsCommandTree, IsReadCommand}
 use Rattle.hol_syntax.specs.declared.token.Token.{Token as TokenHere}
 use Rattle.hol_syntax.specs.declared.type_reader.ReadError.{ReadError}
 use Rattle.hol_syntax.specs.declared.type_reader.ReadError.TheVariants.{Memory, Syntax}
+use Rattle.hol_syntax.specs.declared.type_reader.TypeStep.{TypeStep}
 use Rattle.hol_syntax.specs.declared.steps.TermStep.{TermStep}
-use Rattle.hol_syntax.specs.Views.{tokens_of}
+use Rattle.hol_syntax.specs.Views.{tokens_of, steps_of}
 use Rattle.hol_syntax.specs.Steps.{flat_steps_of}
 use Rattle.hol_syntax.specs.TermSteps.{term_steps, flat_steps}
 use Rattle.hol_script.specs.declared.command.Rule.{Rule}
 use Rattle.hol_script.specs.declared.command.Command.{Command}
+use Rattle.hol_script.specs.declared.command.CommandKind.{CommandKind}
+use Rattle.hol_script.specs.declared.command.CommandKind.TheVariants.{Thm, Show, Var, Def, NewType, NewConst}
 use Rattle.hol_script.specs.Views.{IsRule, IsCommand}
 
 -- each of them is a token
@@ -93,6 +97,63 @@ abbrev pub ParsesRule : Result Rule ReadError → List Token → Type 0
 ParsesRule (Ok rule) tokens = (tree : RuleTree) × IsRuleTree tree × (tokens ≡ rule_tokens tree) × IsRule rule tree
 ParsesRule (Err Memory) tokens = Unit {0}
 ParsesRule (Err Syntax) tokens = (tree : RuleTree) → IsRuleTree tree → tokens ≢ rule_tokens tree
+
+-- a colon, and then a type that is not nested too deep
+abbrev pub ParsesTyping : Result (Vec TypeStep Global) ReadError → List Token → Type 0
+ParsesTyping (Ok steps) tokens = (tree : TypeTree) × IsWithin tree × (tokens ≡ Mark Colon ∷ type_tokens tree []) × (steps_of steps.items ≡ type_steps tree)
+ParsesTyping (Err Memory) tokens = Unit {0}
+ParsesTyping (Err Syntax) tokens = (tree : TypeTree) → IsWithin tree → tokens ≢ Mark Colon ∷ type_tokens tree []
+
+-- the kind of a command
+abbrev pub kind_of_command : CommandTree → CommandKind
+kind_of_command (thm_command name rule) = Thm
+kind_of_command (show_command name) = Show
+kind_of_command (var_command name tree) = Var
+kind_of_command (def_command name tree) = Def
+kind_of_command (newtype_command name) = NewType
+kind_of_command (newconst_command name tree) = NewConst
+
+abbrev pub command_word : CommandKind → List ℕ
+command_word Thm = codes "thm"
+command_word Show = codes "show"
+command_word Var = codes "var"
+command_word Def = codes "def"
+command_word NewType = codes "newtype"
+command_word NewConst = codes "newconst"
+
+-- the kind of command that a word names
+abbrev pub command_kind_of : List ℕ → Option CommandKind
+command_kind_of word =
+    if bytes_eq word (codes "thm") then Some Thm else
+    (if bytes_eq word (codes "show") then Some Show else
+    (if bytes_eq word (codes "var") then Some Var else
+    (if bytes_eq word (codes "def") then Some Def else
+    (if bytes_eq word (codes "newtype") then Some NewType else
+    (if bytes_eq word (codes "newconst") then Some NewConst else None)))))
+
+-- the name that a command gives or shows
+abbrev pub name_in_command : CommandTree → List ℕ
+name_in_command (thm_command name rule) = name
+name_in_command (show_command name) = name
+name_in_command (var_command name tree) = name
+name_in_command (def_command name tree) = name
+name_in_command (newtype_command name) = name
+name_in_command (newconst_command name tree) = name
+
+-- what follows the name
+abbrev pub body_tokens : CommandTree → List Token
+body_tokens (thm_command name rule) = Mark Equal ∷ rule_tokens rule
+body_tokens (show_command name) = []
+body_tokens (var_command name tree) = Mark Colon ∷ type_tokens tree []
+body_tokens (def_command name tree) = Mark Equal ∷ quote_tokens tree []
+body_tokens (newtype_command name) = []
+body_tokens (newconst_command name tree) = Mark Colon ∷ type_tokens tree []
+
+abbrev pub ParsesBody : Result Command ReadError → CommandKind → List ℕ → List Token → Type 0
+ParsesBody (Ok command) kind name tokens =
+    (tree : CommandTree) × IsCommandTree tree × (kind_of_command tree ≡ kind) × (name_in_command tree ≡ name) × (tokens ≡ body_tokens tree) × IsCommand command tree
+ParsesBody (Err Memory) kind name tokens = Unit {0}
+ParsesBody (Err Syntax) kind name tokens = (tree : CommandTree) → IsCommandTree tree → kind_of_command tree ≡ kind → tokens ≢ body_tokens tree
 
 abbrev pub ParsesCommand : Result Command ReadError → List Token → Type 0
 ParsesCommand (Ok command) tokens = (tree : CommandTree) × IsReadCommand tokens tree × IsCommand command tree

@@ -1,12 +1,14 @@
 -- The commands of the code as those of the grammar.
 use Rattle.std.specs.Prelude.{◌≡◌}
-use Rattle.hol_model.specs.Commands.{RuleTree, by_term, by_pair, by_abs, by_axiom, CommandTree, thm_command, show_command}
+use Rattle.hol_model.specs.Commands.{RuleTree, by_term, by_pair, by_abs, by_axiom, CommandTree, thm_command, show_command, var_command, def_command, newtype_command, newconst_command}
+use Rattle.hol_model.specs.TypeGrammar.{type_steps}
 use Rattle.hol_syntax.specs.TermSteps.{term_steps, flat_steps}
+use Rattle.hol_syntax.specs.Views.{steps_of}
 use Rattle.hol_syntax.specs.Steps.{flat_steps_of}
 use Rattle.hol_script.specs.declared.command.Rule.{Rule}
 use Rattle.hol_script.specs.declared.command.Rule.TheVariants.{OfTerm, OfTheorems, Abs, OfAxiom}
 use Rattle.hol_script.specs.declared.command.Command.{Command}
-use Rattle.hol_script.specs.declared.command.Command.TheVariants.{Thm, Show}
+use Rattle.hol_script.specs.declared.command.Command.TheVariants.{Thm, Show, Var, Def, NewType, NewConst}
 
 -- the rule has the arguments of the tree, its terms by their steps
 abbrev pub IsRule : Rule → RuleTree → Type 0
@@ -19,4 +21,8 @@ IsRule _ _ = ⊥
 abbrev pub IsCommand : Command → CommandTree → Type 0
 IsCommand (Thm name rule) (thm_command other tree) = (name.now ≡ other) × IsRule rule tree
 IsCommand (Show name) (show_command other) = name.now ≡ other
+IsCommand (Var name steps) (var_command other tree) = (name.now ≡ other) × (steps_of steps.items ≡ type_steps tree)
+IsCommand (Def name steps) (def_command other tree) = (name.now ≡ other) × (flat_steps_of steps.items ≡ flat_steps (term_steps tree))
+IsCommand (NewType name) (newtype_command other) = name.now ≡ other
+IsCommand (NewConst name steps) (newconst_command other tree) = (name.now ≡ other) × (steps_of steps.items ≡ type_steps tree)
 IsCommand _ _ = ⊥

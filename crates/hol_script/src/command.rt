@@ -2,10 +2,10 @@
 ghost use Rattle.std.specs.Prelude.{◌≡◌};
 ghost use Rattle.hol_syntax.specs.Views.{token_of, tokens_of};
 ghost use Rattle.hol_script.specs.Reading as reading;
-ghost use Rattle.hol_script.specs.Reading.{AreTokens, rule_kind_of, TakesName, TakesOnlyName, TakesMark, TakesQuote, ParsesQuote, ParsesArguments, ParsesRule, ParsesCommand};
+ghost use Rattle.hol_script.specs.Reading.{AreTokens, rule_kind_of, command_kind_of, TakesName, TakesOnlyName, TakesMark, TakesQuote, ParsesQuote, ParsesTyping, ParsesArguments, ParsesRule, ParsesBody, ParsesCommand};
 
 use hol_model::{Axiom, PairRule, RuleKind, Symbol, TermRule};
-use hol_syntax::{ReadError, TermStep, Token, identifier, parse_term};
+use hol_syntax::{ReadError, TermStep, Token, TypeStep, identifier, parse_term, parse_type};
 use std::alloc::Global;
 
 /// A rule with its arguments: terms by their steps, theorems by their names.
@@ -17,10 +17,26 @@ pub enum Rule<'a> {
     OfAxiom(Axiom),
 }
 
+/// A command with its arguments: terms and types by their steps.
 #[derive(Drop)]
 pub enum Command<'a> {
     Thm(&'a str, Rule<'a>),
     Show(&'a str),
+    Var(&'a str, Vec<TypeStep<'a>>),
+    Def(&'a str, Vec<TermStep<'a>>),
+    NewType(&'a str),
+    NewConst(&'a str, Vec<TypeStep<'a>>),
+}
+
+// A command without its arguments.
+#[derive(Clone, Copy, Debug, Drop)]
+enum CommandKind {
+    Thm,
+    Show,
+    Var,
+    Def,
+    NewType,
+    NewConst,
 }
 
 // The name at the front of the tokens, and what follows it.
@@ -193,6 +209,115 @@ fn parse_rule<'a>(alloc: Global, tokens: &'a [Token<'a>]) -> Result<Rule<'a>, Re
     }
 }
 
+// The type behind a colon and nothing else.
+fn parse_typing<'a>(alloc: Global, tokens: &'a [Token<'a>]) -> Result<Vec<TypeStep<'a>>, ReadError>
+    ensures { ParsesTyping result (tokens_of tokens.now) }
+{
+    match take_mark(tokens, Symbol::Colon) {
+        Some(ty) => parse_type(alloc, ty),
+        None => Err(ReadError::Syntax),
+    }
+}
+
+fn parse_thm<'a>(
+    alloc: Global,
+    name: &'a str,
+    tokens: &'a [Token<'a>],
+) -> Result<Command<'a>, ReadError>
+    requires { AreTokens (tokens_of tokens.now) }
+    ensures { ParsesBody result CommandKind.Thm name.now (tokens_of tokens.now) }
+{
+    let Some(rule) = take_mark(tokens, Symbol::Equal) else {
+        return Err(ReadError::Syntax);
+    };
+    match parse_rule(alloc, rule) {
+        Ok(rule) => Ok(Command::Thm(name, rule)),
+        Err(error) => Err(error),
+    }
+}
+
+fn parse_show<'a>(name: &'a str, tokens: &'a [Token<'a>]) -> Result<Command<'a>, ReadError>
+    ensures { ParsesBody result CommandKind.Show name.now (tokens_of tokens.now) }
+{
+    if !tokens.is_empty() {
+        return Err(ReadError::Syntax);
+    }
+    Ok(Command::Show(name))
+}
+
+fn parse_var<'a>(
+    alloc: Global,
+    name: &'a str,
+    tokens: &'a [Token<'a>],
+) -> Result<Command<'a>, ReadError>
+    ensures { ParsesBody result CommandKind.Var name.now (tokens_of tokens.now) }
+{
+    match parse_typing(alloc, tokens) {
+        Ok(ty) => Ok(Command::Var(name, ty)),
+        Err(error) => Err(error),
+    }
+}
+
+fn parse_def<'a>(
+    alloc: Global,
+    name: &'a str,
+    tokens: &'a [Token<'a>],
+) -> Result<Command<'a>, ReadError>
+    ensures { ParsesBody result CommandKind.Def name.now (tokens_of tokens.now) }
+{
+    let Some(quote) = take_mark(tokens, Symbol::Equal) else {
+        return Err(ReadError::Syntax);
+    };
+    match parse_quote(alloc, quote) {
+        Ok((steps, [])) => Ok(Command::Def(name, steps)),
+        Ok(_) => Err(ReadError::Syntax),
+        Err(error) => Err(error),
+    }
+}
+
+fn parse_newtype<'a>(name: &'a str, tokens: &'a [Token<'a>]) -> Result<Command<'a>, ReadError>
+    ensures { ParsesBody result CommandKind.NewType name.now (tokens_of tokens.now) }
+{
+    if !tokens.is_empty() {
+        return Err(ReadError::Syntax);
+    }
+    Ok(Command::NewType(name))
+}
+
+fn parse_newconst<'a>(
+    alloc: Global,
+    name: &'a str,
+    tokens: &'a [Token<'a>],
+) -> Result<Command<'a>, ReadError>
+    ensures { ParsesBody result CommandKind.NewConst name.now (tokens_of tokens.now) }
+{
+    match parse_typing(alloc, tokens) {
+        Ok(ty) => Ok(Command::NewConst(name, ty)),
+        Err(error) => Err(error),
+    }
+}
+
+// The kind of command that a word names.
+fn command_kind(word: &str) -> Option<CommandKind>
+    ensures { result ≡ command_kind_of word.now }
+{
+    if word == "thm" {
+        Some(CommandKind::Thm)
+    } else if word == "show" {
+        Some(CommandKind::Show)
+    } else if word == "var" {
+        Some(CommandKind::Var)
+    } else if word == "def" {
+        Some(CommandKind::Def)
+    } else if word == "newtype" {
+        Some(CommandKind::NewType)
+    } else if word == "newconst" {
+        Some(CommandKind::NewConst)
+    } else {
+        None
+    }
+}
+
 /// The command that the tokens are.
 pub fn parse_command<'a>(alloc: Global, tokens: &'a [Token<'a>]) -> Result<Command<'a>, ReadError>
     requires { AreTokens (tokens_of tokens.now) }
@@ -201,23 +326,18 @@ pub fn parse_command<'a>(alloc: Global, tokens: &'a [Token<'a>]) -> Result<Comma
     let Some((word, rest)) = take_name(tokens) else {
         return Err(ReadError::Syntax);
     };
-    let Some((name, rest)) = take_name(rest) else {
+    let Some((name, body)) = take_name(rest) else {
         return Err(ReadError::Syntax);
     };
-    if word == "show" {
-        if !rest.is_empty() {
-            return Err(ReadError::Syntax);
-        }
-        return Ok(Command::Show(name));
-    }
-    if word != "thm" {
-        return Err(ReadError::Syntax);
-    }
-    let Some(rule) = take_mark(rest, Symbol::Equal) else {
+    let Some(kind) = command_kind(word) else {
         return Err(ReadError::Syntax);
     };
-    match parse_rule(alloc, rule) {
-        Ok(rule) => Ok(Command::Thm(name, rule)),
-        Err(error) => Err(error),
+    match kind {
+        CommandKind::Thm => parse_thm(alloc, name, body),
+        CommandKind::Show => parse_show(name, body),
+        CommandKind::Var => parse_var(alloc, name, body),
+        CommandKind::Def => parse_def(alloc, name, body),
+        CommandKind::NewType => parse_newtype(name, body),
+        CommandKind::NewConst => parse_newconst(alloc, name, body),
     }
 }

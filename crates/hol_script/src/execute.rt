@@ -4,13 +4,13 @@ ghost use Rattle.hol_script.specs.Answers.{Turns};
 ghost use Rattle.hol_script.specs.SessionState.{state_of, IsSession};
 
 use crate::command::{Command, parse_command};
-use crate::session::Session;
+use crate::session::{Printed, Session};
 use hol_model::Fault;
 use hol_syntax::{ReadError, tokens_in};
 use std::alloc::Global;
 
-/// Answers a command: the line of a theorem, or a refusal, which changes nothing.
-pub fn execute(session: &mut Session, alloc: Global, text: &[u8]) -> Result<String, Fault>
+/// Answers a command: what it prints, or a refusal, which changes nothing.
+pub fn execute(session: &mut Session, alloc: Global, text: &[u8]) -> Result<Printed, Fault>
     requires { IsSession session.old }
     ensures turns { Turns (state_of session.old) (Some text.now) result (state_of session.new) }
     ensures kept { IsSession session.new }
@@ -23,6 +23,10 @@ pub fn execute(session: &mut Session, alloc: Global, text: &[u8]) -> Result<Stri
     match parse_command(alloc, &tokens) {
         Ok(Command::Thm(name, rule)) => session.thm(alloc, name, &rule),
         Ok(Command::Show(name)) => session.show(alloc, name),
+        Ok(Command::Var(name, ty)) => session.var(alloc, name, &ty),
+        Ok(Command::Def(name, term)) => session.def(alloc, name, &term),
+        Ok(Command::NewType(name)) => session.newtype(alloc, name),
+        Ok(Command::NewConst(name, ty)) => session.newconst(alloc, name, &ty),
         Err(ReadError::Memory) => Err(Fault::Memory),
         Err(ReadError::Syntax) => Err(Fault::Syntax),
     }

@@ -12,7 +12,7 @@ ghost use Rattle.hol_script.specs.SessionState.{state_of, IsSession};
 use crate::bytes::{read_all, write_all, write_pieces};
 use crate::cut::{cut, is_blank_text, leading_line_feeds, line_feeds};
 use crate::execute::execute;
-use crate::session::Session;
+use crate::session::{Printed, Session};
 use hol_model::{Fault, Sink, Source, TEXT_BYTES_LIMIT};
 use itoa::Buffer;
 use std::alloc::Global;
@@ -54,7 +54,7 @@ fn write_refusal<W: Sink>(writer: &mut W, line: u64, fault: Fault) -> Result<(),
 fn write_answer<W: Sink>(
     writer: &mut W,
     line: u64,
-    answer: &Result<String, Fault>,
+    answer: &Result<Printed, Fault>,
 ) -> Result<(), Fault>
     requires { W.has_failed writer.old ≡ false }
     ensures ok { OnOk result (Appends (W.contents writer.old) (W.contents writer.new) (answer_text line answer.now)) }
@@ -64,14 +64,15 @@ fn write_answer<W: Sink>(
     ensures kinds { IfErr result (λ e. e ≡ WriteFault) }
 {
     match answer {
-        Ok(text) => write_all(writer, text.as_bytes()),
+        Ok(Printed::Nothing) => Ok(()),
+        Ok(Printed::Line(text)) => write_all(writer, text.as_bytes()),
         Err(fault) => write_refusal(writer, line, *fault),
     }
 }
 
 impl Summary {
     // The summary after one more answer.
-    fn counting(&self, answer: &Result<String, Fault>) -> Summary
+    fn counting(&self, answer: &Result<Printed, Fault>) -> Summary
         requires accepted { self.now.accepted < 2 ^ 63 }
         requires refused { self.now.refused < 2 ^ 63 }
         requires printed { self.now.printed < 2 ^ 63 }
@@ -81,7 +82,12 @@ impl Summary {
         ensures printed { result.printed ≤ self.now.printed + 1 }
     {
         match answer {
-            Ok(_) => Summary {
+            Ok(Printed::Nothing) => Summary {
+                accepted: self.accepted + 1,
+                refused: self.refused,
+                printed: self.printed,
+            },
+            Ok(Printed::Line(_)) => Summary {
                 accepted: self.accepted + 1,
                 refused: self.refused,
                 printed: self.printed + 1,

@@ -1,20 +1,26 @@
 // Sessions: what the commands of a script have stored.
-ghost use Rattle.std.specs.Prelude.{◌≡◌, ℕ, List, [], Some, OnOk, OnErr, IfOk, IfErr, IfSome, string_bytes};
+ghost use Rattle.std.specs.Prelude.{◌≡◌, ◌⊎◌, ◌<◌, ◌++◌, ℕ, List, [], Some, OnOk, OnErr, IfOk, IfErr, IfSome, codes, string_bytes};
+ghost use Rattle.std.specs.Map.{update};
 ghost use Rattle.std.specs.Option.{option_map};
-ghost use Rattle.indexmap.specs.IndexMap.{get_by_text};
-ghost use Rattle.hol_model.specs.Commands.{RuleTree, by_term, by_abs, thm_command, show_command, SpellsCommand};
+ghost use Rattle.std.specs.Str.{bytes_eq};
+ghost use Rattle.indexmap.specs.IndexMap.{get_by_text, spare};
+ghost use Rattle.hol_model.specs.Commands.{RuleTree, by_term, by_abs, thm_command, show_command, var_command, def_command, newtype_command, newconst_command, SpellsCommand};
 ghost use Rattle.hol_model.specs.Outcome.{Answers};
-ghost use Rattle.hol_model.specs.Reading.{meaning};
+ghost use Rattle.hol_model.specs.Reading.{type_meaning, meaning};
+ghost use Rattle.hol_model.specs.Rules.{define_outcome, new_type_outcome, new_const_outcome};
 ghost use Rattle.hol_model.specs.Sessions.{start, scope_in, with_theorem, rule_outcome, term_rule_outcome, pair_rule_outcome};
 ghost use Rattle.hol_model.specs.Sessions as spec;
 ghost use Rattle.hol_model.specs.TermGrammar.{TermTree};
+ghost use Rattle.hol_model.specs.TypeGrammar.{TypeTree, type_steps};
 ghost use Rattle.hol_model.specs.Theory.{IsEarlier};
 ghost use Rattle.hol_model.specs.Theorem.{IsTheorem};
 ghost use Rattle.hol_model.specs.declared.fault.Fault.TheVariants.{Memory};
 ghost use Rattle.hol_syntax.specs.Scope.{scope_of};
 ghost use Rattle.hol_syntax.specs.Steps.{flat_steps_of};
 ghost use Rattle.hol_syntax.specs.TermSteps.{term_steps, flat_steps};
+ghost use Rattle.hol_syntax.specs.Views.{steps_of};
 ghost use Rattle.hol_script.specs.Answers.{Turns};
+ghost use Rattle.hol_script.specs.Growth.{IsRefused, LeavesNone, MakesEquation, MakesLine, Defines, KeepsSession};
 ghost use Rattle.hol_script.specs.SessionState.{state_of, IsSession};
 ghost use Rattle.hol_script.specs.Views.{IsRule};
 
@@ -22,10 +28,18 @@ use crate::command::Rule;
 use hol_kernel::{Theory, Thm};
 use hol_model::{Axiom, Fault, PairRule, TermRule};
 use hol_sound::sound;
-use hol_syntax::{Scope, TermStep, term_of_steps, text_of_sequent};
-use hol_terms::Term;
+use hol_syntax::{Scope, TermStep, TypeStep, build_type, term_of_steps, text_of_sequent};
+use hol_terms::{Term, mk_eq};
+use hol_types::Ty;
 use indexmap::IndexMap;
 use std::alloc::Global;
+
+/// What an accepted command prints.
+#[derive(Drop)]
+pub enum Printed {
+    Nothing,
+    Line(String),
+}
 
 /// A theory, what the names of texts stand for, and the stored theorems.
 #[derive(Drop)]
@@ -42,17 +56,85 @@ fn is_theorem_name(name: &str) -> bool
     !name.as_bytes().ends_with(b"_def")
 }
 
-/// The line of a theorem.
-fn theorem_line(alloc: Global, scope: &Scope, name: &str, theorem: &Thm) -> Result<String, Fault>
-    ensures ok { IfOk result (λ line. string_bytes line ≡ spec.theorem_line (scope_of scope.now) name.now theorem.now) }
+// A name, a colon and a sequent.
+fn sequent_line(
+    alloc: Global,
+    scope: &Scope,
+    name: &str,
+    hyps: &[Term],
+    concl: &Term,
+) -> Result<String, Fault>
+    ensures ok { IfOk result (λ line. string_bytes line ≡ spec.theorem_line (scope_of scope.now) name.now (record { theory = []; hypotheses = hyps.now; conclusion = concl.now })) }
     ensures err { IfErr result (λ fault. fault ≡ Memory) }
 {
-    let sequent = text_of_sequent(alloc, scope, theorem.hyps(), theorem.concl())?;
+    let sequent = text_of_sequent(alloc, scope, hyps, concl)?;
     let mut line = String::from_str(alloc, name)?;
     line.push_str(": ")?;
     line.push_str(sequent.as_str())?;
     line.push_str("\n")?;
     Ok(line)
+}
+
+/// The line of a theorem.
+fn theorem_line(alloc: Global, scope: &Scope, name: &str, theorem: &Thm) -> Result<String, Fault>
+    ensures ok { IfOk result (λ line. string_bytes line ≡ spec.theorem_line (scope_of scope.now) name.now theorem.now) }
+    ensures err { IfErr result (λ fault. fault ≡ Memory) }
+{
+    sequent_line(alloc, scope, name, theorem.hyps(), theorem.concl())
+}
+
+// The name under which the theorem of a definition is stored.
+fn definition_name(alloc: Global, name: &str) -> Result<String, Fault>
+    ensures ok { IfOk result (λ stored. string_bytes stored ≡ spec.definition_name name.now) }
+    ensures err { IfErr result (λ fault. fault ≡ Memory) }
+{
+    let mut stored = String::from_str(alloc, name)?;
+    stored.push_str("_def")?;
+    Ok(stored)
+}
+
+// Want of memory is told; any other refusal leaves no equation.
+fn no_equation(fault: Fault) -> Result<Option<Term>, Fault>
+    ensures { LeavesNone result fault }
+{
+    match fault {
+        Fault::Memory => Err(Fault::Memory),
+        _ => Ok(None),
+    }
+}
+
+// The equation `c = t` of a definition; `None` where there is none within the limits.
+fn definition_equation(alloc: Global, name: &str, term: &Term) -> Result<Option<Term>, Fault>
+    ensures { MakesEquation result name.now term.now }
+{
+    let constant = match Term::mk_const(alloc, name, term.ty()) {
+        Ok(constant) => constant,
+        Err(fault) => return no_equation(fault),
+    };
+    match mk_eq(alloc, &constant, term) {
+        Ok(equation) => Ok(Some(equation)),
+        Err(fault) => no_equation(fault),
+    }
+}
+
+// The line of the theorem of a definition; `None` where its equation is not within the limits.
+fn definition_line(
+    alloc: Global,
+    scope: &Scope,
+    name: &str,
+    stored: &str,
+    term: &Term,
+) -> Result<Option<String>, Fault>
+    ensures { MakesLine result (scope_of scope.now) name.now stored.now term.now }
+{
+    match definition_equation(alloc, name, term) {
+        Ok(Some(equation)) => match sequent_line(alloc, scope, stored, &[], &equation) {
+            Ok(line) => Ok(Some(line)),
+            Err(fault) => Err(fault),
+        },
+        Ok(None) => Ok(None),
+        Err(fault) => Err(fault),
+    }
 }
 
 impl Session {
@@ -72,7 +154,7 @@ impl Session {
     }
 
     /// `thm NAME = RULE ..`: stores what the rule gives. A refusal changes nothing.
-    pub fn thm(&mut self, alloc: Global, name: &str, rule: &Rule) -> Result<String, Fault>
+    pub fn thm(&mut self, alloc: Global, name: &str, rule: &Rule) -> Result<Printed, Fault>
         requires { IsSession self.old }
         ensures turns { (text : List ℕ) (tree : RuleTree) → SpellsCommand text (thm_command name.now tree) → IsRule rule.now tree
             → Turns (state_of self.old) (Some text) result (state_of self.new) }
@@ -94,7 +176,7 @@ impl Session {
         };
         sound();
         match self.store(alloc, name, theorem) {
-            Ok(()) => Ok(line),
+            Ok(()) => Ok(Printed::Line(line)),
             Err(fault) => Err(fault),
         }
     }
@@ -119,7 +201,7 @@ impl Session {
     }
 
     /// `show NAME`: prints a stored theorem again.
-    pub fn show(&self, alloc: Global, name: &str) -> Result<String, Fault>
+    pub fn show(&self, alloc: Global, name: &str) -> Result<Printed, Fault>
         requires { IsSession self.now }
         ensures { (text : List ℕ) → SpellsCommand text (show_command name.now)
             → Turns (state_of self.now) (Some text) result (state_of self.now) }
@@ -129,7 +211,179 @@ impl Session {
         };
         sound();
         let _theorem = theorem.concl();
-        theorem_line(alloc, &self.scope, name, theorem)
+        match theorem_line(alloc, &self.scope, name, theorem) {
+            Ok(line) => Ok(Printed::Line(line)),
+            Err(fault) => Err(fault),
+        }
+    }
+
+    /// `var NAME : type`: declares a variable for bare names, in place of an earlier one. A refusal changes nothing.
+    pub fn var(&mut self, alloc: Global, name: &str, steps: &[TypeStep]) -> Result<Printed, Fault>
+        requires { IsSession self.old }
+        ensures turns { (text : List ℕ) (tree : TypeTree) → SpellsCommand text (var_command name.now tree) → steps_of steps.now ≡ type_steps tree
+            → Turns (state_of self.old) (Some text) result (state_of self.new) }
+        ensures kept { IsSession self.new }
+    {
+        let ty = match self.ty(alloc, steps) {
+            Ok(ty) => ty,
+            Err(fault) => return Err(fault),
+        };
+        match self.scope.set_var(alloc, name, &ty) {
+            Ok(()) => Ok(Printed::Nothing),
+            Err(fault) => Err(fault),
+        }
+    }
+
+    /// `def NAME = t`: defines a constant, and stores and prints the theorem as `NAME_def`. A refusal changes nothing.
+    pub fn def(&mut self, alloc: Global, name: &str, steps: &[TermStep]) -> Result<Printed, Fault>
+        requires { IsSession self.old }
+        ensures turns { (text : List ℕ) (tree : TermTree) → SpellsCommand text (def_command name.now tree) → flat_steps_of steps.now ≡ flat_steps (term_steps tree)
+            → Turns (state_of self.old) (Some text) result (state_of self.new) }
+        ensures kept { IsSession self.new }
+    {
+        let term = match self.term(alloc, steps) {
+            Ok(term) => term,
+            Err(fault) => return Err(fault),
+        };
+        match self.scope.add_const(alloc, name, term.ty()) {
+            Ok(()) => {}
+            Err(Fault::NameTaken) => return Err(self.refusal_of_definition(alloc, name, &term)),
+            Err(_) => return Err(Fault::Memory),
+        }
+        sound();
+        match self.define(alloc, name, &term) {
+            Ok(line) => Ok(Printed::Line(line)),
+            Err(fault) => {
+                self.scope.remove_const(name);
+                Err(fault)
+            }
+        }
+    }
+
+    /// `newtype NAME`: declares a type. A refusal changes nothing.
+    pub fn newtype(&mut self, alloc: Global, name: &str) -> Result<Printed, Fault>
+        requires { IsSession self.old }
+        ensures turns { (text : List ℕ) → SpellsCommand text (newtype_command name.now) → Turns (state_of self.old) (Some text) result (state_of self.new) }
+        ensures kept { IsSession self.new }
+    {
+        match self.scope.add_type(alloc, name) {
+            Ok(()) => {}
+            Err(Fault::NameTaken) => return Err(self.refusal_of_type(alloc, name)),
+            Err(_) => return Err(Fault::Memory),
+        }
+        match self.theory.new_type(alloc, name) {
+            Ok(()) => Ok(Printed::Nothing),
+            Err(fault) => {
+                self.scope.remove_type(name);
+                Err(fault)
+            }
+        }
+    }
+
+    /// `newconst NAME : type`: declares a constant. A refusal changes nothing.
+    pub fn newconst(
+        &mut self,
+        alloc: Global,
+        name: &str,
+        steps: &[TypeStep],
+    ) -> Result<Printed, Fault>
+        requires { IsSession self.old }
+        ensures turns { (text : List ℕ) (tree : TypeTree) → SpellsCommand text (newconst_command name.now tree) → steps_of steps.now ≡ type_steps tree
+            → Turns (state_of self.old) (Some text) result (state_of self.new) }
+        ensures kept { IsSession self.new }
+    {
+        let ty = match self.ty(alloc, steps) {
+            Ok(ty) => ty,
+            Err(fault) => return Err(fault),
+        };
+        match self.scope.add_const(alloc, name, &ty) {
+            Ok(()) => {}
+            Err(Fault::NameTaken) => return Err(self.refusal_of_const(alloc, name, &ty)),
+            Err(_) => return Err(Fault::Memory),
+        }
+        match self.theory.new_const(alloc, name, &ty) {
+            Ok(()) => Ok(Printed::Nothing),
+            Err(fault) => {
+                self.scope.remove_const(name);
+                Err(fault)
+            }
+        }
+    }
+
+    // Defines a constant that the scope has, stores the theorem and answers its line. A refusal changes nothing.
+    fn define(&mut self, alloc: Global, name: &str, term: &Term) -> Result<String, Fault>
+        ensures ok { IfOk result (λ line. Defines self.old self.new name.now term.now (string_bytes line)) }
+        ensures kept { OnErr result (KeepsSession self.old self.new) }
+        ensures err { IfErr result (λ fault. (fault ≡ Memory) ⊎ (define_outcome self.old.theory name.now term.now ≡ Err fault)) }
+    {
+        let key = match definition_name(alloc, name) {
+            Ok(key) => key,
+            Err(fault) => return Err(fault),
+        };
+        let line = match definition_line(alloc, &self.scope, name, key.as_str(), term) {
+            Ok(Some(line)) => line,
+            Ok(None) => return Err(self.refusal_of_definition(alloc, name, term)),
+            Err(fault) => return Err(fault),
+        };
+        if self.theorems.reserve(1).is_err() {
+            return Err(Fault::Memory);
+        }
+        let theorem = match self.theory.define(alloc, name, term) {
+            Ok(theorem) => theorem,
+            Err(fault) => return Err(fault),
+        };
+        let _theorem = theorem.concl();
+        self.put(key, theorem);
+        Ok(line)
+    }
+
+    // Stores a theorem, for which there is room.
+    fn put(&mut self, key: String, theorem: Thm)
+        requires { 0 < spare self.old.theorems }
+        ensures stored { (other : List ℕ) → get_by_text self.new.theorems other ≡ update bytes_eq (get_by_text self.old.theorems) (string_bytes key) (Some theorem) other }
+        ensures theory { self.new.theory ≡ self.old.theory }
+        ensures scope { self.new.scope ≡ self.old.scope }
+    {
+        match self.theorems.insert(key, theorem) {
+            Ok(_) => {}
+            Err(_) => unreachable!(),
+        }
+    }
+
+    // The refusal of a definition that the theory does not accept.
+    fn refusal_of_definition(&mut self, alloc: Global, name: &str, term: &Term) -> Fault
+        requires { IsRefused (define_outcome self.old.theory name.now term.now) }
+        ensures fault { (result ≡ Memory) ⊎ (define_outcome self.old.theory name.now term.now ≡ Err result) }
+        ensures kept { self.new ≡ self.old }
+    {
+        match self.theory.define(alloc, name, term) {
+            Ok(_) => unreachable!(),
+            Err(fault) => fault,
+        }
+    }
+
+    // The refusal of a type that the theory does not accept.
+    fn refusal_of_type(&mut self, alloc: Global, name: &str) -> Fault
+        requires { IsRefused (new_type_outcome self.old.theory name.now) }
+        ensures fault { (result ≡ Memory) ⊎ (new_type_outcome self.old.theory name.now ≡ Err result) }
+        ensures kept { self.new ≡ self.old }
+    {
+        match self.theory.new_type(alloc, name) {
+            Ok(()) => unreachable!(),
+            Err(fault) => fault,
+        }
+    }
+
+    // The refusal of a constant that the theory does not accept.
+    fn refusal_of_const(&mut self, alloc: Global, name: &str, ty: &Ty) -> Fault
+        requires { IsRefused (new_const_outcome self.old.theory name.now ty.now) }
+        ensures fault { (result ≡ Memory) ⊎ (new_const_outcome self.old.theory name.now ty.now ≡ Err result) }
+        ensures kept { self.new ≡ self.old }
+    {
+        match self.theory.new_const(alloc, name, ty) {
+            Ok(()) => unreachable!(),
+            Err(fault) => fault,
+        }
     }
 
     // What a rule gives: its arguments from left to right, then the rule.
@@ -178,6 +432,14 @@ impl Session {
             → Answers result (meaning (scope_in (state_of self.now)) [] tree) }
     {
         term_of_steps(alloc, &self.scope, steps)
+    }
+
+    // The type of a command's argument.
+    fn ty(&self, alloc: Global, steps: &[TypeStep]) -> Result<Ty, Fault>
+        requires { IsSession self.now }
+        ensures { (tree : TypeTree) → steps_of steps.now ≡ type_steps tree → Answers result (type_meaning (scope_in (state_of self.now)) tree) }
+    {
+        build_type(alloc, &self.scope, steps)
     }
 
     fn by_term(&self, alloc: Global, rule: TermRule, steps: &[TermStep]) -> Result<Thm, Fault>

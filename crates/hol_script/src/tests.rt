@@ -186,3 +186,148 @@ fn counts_commands(rt: HostRuntime) -> Result<(), Fail> {
     assert_eq!(rt; counted.printed, 2);
     Ok(())
 }
+
+#[test]
+fn declares_variables_again(rt: HostRuntime) -> Result<(), Fail> {
+    let alloc = rt.alloc();
+    let script = b"var p:bool ;; thm a = ASSUME `p` ;;\n\
+var p:A ;; thm b = REFL `p` ;;\n\
+var q:nat ;; thm c = REFL `q` ;;\n";
+    let expected = b"a: (p:bool) |- (p:bool)\n\
+b: |- (p:A) = (p:A)\n\
+line 3: E35 UnknownType\n\
+line 3: E21 UnknownName\n";
+    assert!(rt; writes(alloc, script, expected)?);
+    Ok(())
+}
+
+#[test]
+fn hides_variables_by_constants(rt: HostRuntime) -> Result<(), Fail> {
+    let alloc = rt.alloc();
+    let script = b"var c:bool ;; thm a = REFL `c` ;; newconst c : bool ;; thm b = REFL `c` ;;\n\
+var c:A ;; thm d = REFL `c` ;;\n";
+    let expected = b"a: |- (c:bool) <=> (c:bool)\nb: |- c <=> c\nd: |- c <=> c\n";
+    assert!(rt; writes(alloc, script, expected)?);
+    Ok(())
+}
+
+#[test]
+fn defines_constants(rt: HostRuntime) -> Result<(), Fail> {
+    let alloc = rt.alloc();
+    let script = b"def c = `(\\x:A. x) = (\\x:A. x)` ;;\n\
+def c = `(x:bool)` ;;\n\
+def c = `(\\x:bool. x) = (\\x:bool. x)` ;;\n\
+def c = `\\x:bool. x` ;;\n\
+show c_def ;;\n";
+    let expected = b"line 1: E14 TypeVarsNotReflected\n\
+line 2: E13 NotClosed\n\
+c_def: |- c <=> (\\x:bool. x) = (\\x:bool. x)\n\
+line 4: E15 AlreadyDefined\n\
+c_def: |- c <=> (\\x:bool. x) = (\\x:bool. x)\n";
+    assert!(rt; writes(alloc, script, expected)?);
+    Ok(())
+}
+
+#[test]
+fn forgets_refused_definitions(rt: HostRuntime) -> Result<(), Fail> {
+    let alloc = rt.alloc();
+    let script = b"def c = `(x:bool)` ;; thm a = REFL `c` ;; show c_def ;;\n\
+newconst k : A ;; thm b = REFL `k` ;;\n\
+newtype Num ;; newconst n : num ;;\n";
+    let expected = b"line 1: E13 NotClosed\n\
+line 1: E21 UnknownName\n\
+line 1: E21 UnknownName\n\
+line 2: E14 TypeVarsNotReflected\n\
+line 2: E21 UnknownName\n\
+line 3: E3 BadName\n\
+line 3: E35 UnknownType\n";
+    assert!(rt; writes(alloc, script, expected)?);
+    Ok(())
+}
+
+#[test]
+fn keeps_the_names_of_definitions(rt: HostRuntime) -> Result<(), Fail> {
+    let alloc = rt.alloc();
+    let script = b"def x_def = `\\x:bool. x` ;; show x_def ;; thm y_def = REFL `x_def` ;;";
+    let expected = b"x_def_def: |- x_def = (\\x:bool. x)\n\
+line 1: E21 UnknownName\n\
+line 1: E3 BadName\n";
+    assert!(rt; writes(alloc, script, expected)?);
+    Ok(())
+}
+
+#[test]
+fn declares_types_and_constants(rt: HostRuntime) -> Result<(), Fail> {
+    let alloc = rt.alloc();
+    let script = b"newtype num ;;\n\
+newconst zero : num ;;\n\
+newconst suc : num->num ;;\n\
+thm a = REFL `suc zero` ;;\n\
+newtype num ;;\n\
+newconst zero : bool ;;\n\
+newconst k : A ;;\n\
+thm b = REFL `(x:nat)` ;;\n\
+newtype Num ;;\n";
+    let expected = b"a: |- suc zero = suc zero\n\
+line 5: E15 AlreadyDefined\n\
+line 6: E15 AlreadyDefined\n\
+line 7: E14 TypeVarsNotReflected\n\
+line 8: E35 UnknownType\n\
+line 9: E3 BadName\n";
+    assert!(rt; writes(alloc, script, expected)?);
+    Ok(())
+}
+
+#[test]
+fn takes_a_name_once(rt: HostRuntime) -> Result<(), Fail> {
+    let alloc = rt.alloc();
+    let script = b"newtype num ;; newconst num : bool ;; def num = `\\x:bool. x` ;;\n\
+newconst c : bool ;; newtype c ;; def c = `\\x:bool. x` ;;\n";
+    let expected = b"line 1: E15 AlreadyDefined\n\
+line 1: E15 AlreadyDefined\n\
+line 2: E15 AlreadyDefined\n\
+line 2: E15 AlreadyDefined\n";
+    assert!(rt; writes(alloc, script, expected)?);
+    Ok(())
+}
+
+#[test]
+fn counts_what_prints_nothing(rt: HostRuntime) -> Result<(), Fail> {
+    let alloc = rt.alloc();
+    let counted = summary(
+        alloc,
+        b"var p:bool ;; newtype num ;; newconst n : num ;; def c = `\\x:bool. x` ;; newtype num ;;",
+    )?;
+    assert_eq!(rt; counted.accepted, 4);
+    assert_eq!(rt; counted.refused, 1);
+    assert_eq!(rt; counted.printed, 1);
+    Ok(())
+}
+
+// Appends `RULE` of `f (f .. (f p))` with so many applications as a command.
+fn push_tower(script: &mut Vec<u8>, command: &[u8], applications: usize) -> Result<(), Fault> {
+    script.extend_from_slice(command)?;
+    for _ in 0..applications {
+        script.extend_from_slice(b"((f:bool->bool) ")?;
+    }
+    script.extend_from_slice(b"(p:bool)")?;
+    for _ in 0..applications {
+        script.extend_from_slice(b")")?;
+    }
+    script.extend_from_slice(b"` ;;")?;
+    Ok(())
+}
+
+#[test]
+fn limits_the_height_of_terms(rt: HostRuntime) -> Result<(), Fail> {
+    let alloc = rt.alloc();
+    let mut script = Vec::new(alloc);
+    push_tower(&mut script, b"thm a = ASSUME `", 1999)?;
+    push_tower(&mut script, b"thm b = ASSUME `", 2000)?;
+    push_tower(&mut script, b"thm c = REFL `", 1997)?;
+    push_tower(&mut script, b"thm d = REFL `", 1998)?;
+    let counted = summary(alloc, &script)?;
+    assert_eq!(rt; counted.accepted, 2);
+    assert_eq!(rt; counted.refused, 2);
+    Ok(())
+}

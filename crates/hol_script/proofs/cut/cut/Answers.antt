@@ -1,4 +1,3 @@
-use Rattle.std.proofs.Common.{arith}
 use Rattle.hol_script.proofs.CutLemmas.{is_cut_at, no_mark_up_to}
 use Rattle.hol_script.proofs.cut.cut.Goals as goal
 

@@ -1,4 +1,4 @@
-use Rattle.hol_script.proofs.RunLemmas.{unread, stops_by, completes_by}
+use Rattle.hol_script.proofs.RunLemmas.{unread}
 use Rattle.hol_script.proofs.runner.run.Goals as goal
 
 pub returns-in-Err-clause-err : goal.returns-in-Err-clause-err

@@ -1,9 +1,9 @@
 use Rattle.std.proofs.Common.{◌≡◌, ◌+◌, ◌≤◌, sym, subst, arith, lit<, length}
 use Rattle.hol_model.specs.Sessions.{State}
 use Rattle.hol_script.specs.Runs.{counts_of}
-use Rattle.hol_script.proofs.RunLemmas.{Underway, underway_begun, underway_ended, underway_stopped, cut_length, passed_by, turned_by, broken_by, ended_by, broken_within_by, unread}
+use Rattle.hol_script.proofs.RunLemmas.{Underway, underway_begun, underway_ended, cut_length, passed_by, turned_by, broken_by, ended_by, broken_within_by, unread}
 use Rattle.hol_script.proofs.runner.run_script.Goals as goal
-use Rattle.hol_script.proofs.runner.run_script.Goals.{then-not-is_blank_text+in-Ok-write_answer+in-Ok-1, then-not-is_blank_text+in-Ok-write_answer+in-Err-1, else-not-is_blank_text}
+use Rattle.hol_script.proofs.runner.run_script.Goals.{then-not-is_blank_text+in-Ok-write_answer+in-Ok+in-Line-1, then-not-is_blank_text+in-Ok-write_answer+in-Ok+in-Nothing-1, then-not-is_blank_text+in-Ok-write_answer+in-Err-1, else-not-is_blank_text}
 
 pub returns-in-Err-clause-err : goal.returns-in-Err-clause-err
 returns-in-Err-clause-err g c = unread _ _
@@ -34,7 +34,17 @@ pieces-preserved g c =
     let refused = c.pieces.invariant.refused in
     let printed = c.pieces.invariant.printed in
     elim c.if-not-is_blank_text.branch [
-      | then-not-is_blank_text+in-Ok-write_answer+in-Ok-1 w ↦ rw (w.writer-is, w.session-is, w.summary-is) (record {
+      | then-not-is_blank_text+in-Ok-write_answer+in-Ok+in-Line-1 w ↦ rw (w.writer-is, w.session-is, w.summary-is) (record {
+        underway = turned_by c.args.script.now c.in-Some.piece.now c.in-Some.behind.now w.execute-answer.result w.leading_line_feeds.result c.line_feeds.result c.pieces.invariant.underway c.in-Some.ensures
+            (sym w.if-not-is_blank_text.ensures) w.execute-answer.ensures.turns w.leading_line_feeds.ensures.count c.line_feeds.ensures.count w.in-Ok-write_answer.ensures.ok w.counting-summary.ensures.counts;
+        session = w.execute-answer.ensures.kept;
+        unfailed = w.in-Ok-write_answer.ensures.unfailed;
+        lines = omega arith;
+        accepted = omega (arith, w.counting-summary.ensures.accepted);
+        refused = omega (arith, w.counting-summary.ensures.refused);
+        printed = omega (arith, w.counting-summary.ensures.printed);
+      })
+      | then-not-is_blank_text+in-Ok-write_answer+in-Ok+in-Nothing-1 w ↦ rw (w.writer-is, w.session-is, w.summary-is) (record {
         underway = turned_by c.args.script.now c.in-Some.piece.now c.in-Some.behind.now w.execute-answer.result w.leading_line_feeds.result c.line_feeds.result c.pieces.invariant.underway c.in-Some.ensures
             (sym w.if-not-is_blank_text.ensures) w.execute-answer.ensures.turns w.leading_line_feeds.ensures.count c.line_feeds.ensures.count w.in-Ok-write_answer.ensures.ok w.counting-summary.ensures.counts;
         session = w.execute-answer.ensures.kept;
