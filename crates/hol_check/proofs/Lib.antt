@@ -1,0 +1,16 @@
+pub mod TableLemmas
+pub mod NamesLemmas
+pub mod TypeLemmas
+pub mod TermLemmas
+pub mod MemoLemmas
+pub mod PairLemmas
+pub mod TypeChangeLemmas
+pub mod ChangeLemmas
+pub mod LeafLemmas
+pub mod NumberLemmas
+pub mod OccursLemmas
+pub mod ReflectionLemmas
+pub mod TypingLemmas
+pub mod KnownLemmas
+pub mod KnownGrowth
+pub mod LimitLemmas

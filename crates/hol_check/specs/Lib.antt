@@ -1,0 +1,16 @@
+pub mod Growth
+pub mod Names
+pub mod Table
+pub mod Types
+pub mod TypeTable
+pub mod Terms
+pub mod TermTable
+pub mod Entries
+pub mod Pairs
+pub mod TypeChange
+pub mod Change
+pub mod Numbers
+pub mod Occurs
+pub mod Reflection
+pub mod Typing
+pub mod Known

@@ -1,0 +1,18 @@
+//! The checker of proof logs: it reads a log line by line, with types and terms of its own.
+#![tactic(auto)]
+
+mod change;
+mod compare;
+mod instance;
+mod known;
+mod leaves;
+mod matching;
+mod memo;
+mod names;
+mod numbers;
+mod occurs;
+mod pairs;
+mod reflection;
+mod terms;
+mod types;
+mod typing;

@@ -1,0 +1,20 @@
+// The lines of a proof log as text.
+#![tactic(auto)]
+
+mod arguments;
+mod field;
+mod laws;
+mod line;
+mod output;
+mod reader;
+mod rules;
+mod writer;
+
+pub use field::{read_name, read_number};
+pub use laws::{reading_is_exact, small_logs};
+pub use line::{Line, Rule, Version};
+pub use reader::read_line;
+pub use writer::write_line;
+
+#[cfg(test)]
+mod tests;
