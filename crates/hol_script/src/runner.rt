@@ -162,6 +162,7 @@ pub fn run<R: Source, W: Sink>(
     ensures ok { IfOk result (λ summary. Completes (R.remaining reader.old) (W.contents writer.old) (W.contents writer.new) (counts_of summary)) }
     ensures err { OnErr result (Stops (R.remaining reader.old) (W.contents writer.old) (W.contents writer.new)) }
     ensures read_fault { IsErrOf result ReadFault → R.has_failed reader.new ≡ true }
+    ensures within_limit { IfOk result (λ _. IfSome (R.remaining reader.old) (λ told. length told ≤ TEXT_BYTES_LIMIT)) }
     ensures too_long { IsErrOf result TooLong → IfSome (R.remaining reader.old) (λ told. TEXT_BYTES_LIMIT < length told) }
     ensures write_fault { IsErrOf result WriteFault → W.has_failed writer.new ≡ true }
     ensures unwritten { (IsErrOf result ReadFault ⊎ (IsErrOf result TooLong ⊎ IsErrOf result Memory)) → writer.new ≡ writer.old }

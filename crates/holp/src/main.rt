@@ -29,9 +29,10 @@ fn run_file(rt: &HostRuntime, name: &str) -> io::Result<u8> {
     }
 }
 
-fn main(rt: HostRuntime) -> anyhow::Result<ExitCode> {
+/// Reads the command line, runs the script that it names, and answers the exit status.
+fn run_command(rt: &HostRuntime) -> anyhow::Result<u8> {
     let alloc = rt.alloc();
-    let words: Vec<String> = env::args(&rt)?.collect(alloc)?;
+    let words: Vec<String> = env::args(rt)?.collect(alloc)?;
     let script = Arg::new(alloc, "SCRIPT")
         .help("The file of the proof script")
         .required(true)
@@ -41,13 +42,29 @@ fn main(rt: HostRuntime) -> anyhow::Result<ExitCode> {
     let matches = match command.try_get_matches_from(words.as_slice()) {
         Ok(matches) => matches,
         Err(error) => {
-            error.print(&rt)?;
-            return Ok(ExitCode::from(error.exit_code() as u8));
+            error.print(rt)?;
+            return Ok(error.exit_code() as u8);
         }
     };
     let name = matches
         .subcommand_matches("run")
-        .and_then(|matches| matches.get_str("SCRIPT"))
-        .unwrap_or("");
-    Ok(ExitCode::from(run_file(&rt, name)?))
+        .and_then(|matches| matches.get_str("SCRIPT"));
+    match name {
+        Some(name) => Ok(run_file(rt, name)?),
+        None => {
+            eprintln!(rt; "holp: a command is missing; `holp --help` lists them")?;
+            Ok(2)
+        }
+    }
+}
+
+fn main(rt: HostRuntime) -> ExitCode {
+    match run_command(&rt) {
+        Ok(status) => ExitCode::from(status),
+        Err(error) => {
+            // Where standard error fails too, only the status tells.
+            let _ = eprintln!(rt; "holp: {error}");
+            ExitCode::from(2)
+        }
+    }
 }
