@@ -3,7 +3,7 @@
 # Each round has six theorem lines (REFL, MK_COMB, TRANS, ASSUME, EQ_MP, INST) over a term that is one application higher
 # than the last round's; after DEPTH rounds (at least 1, at most 3900) a new variable begins. The last theorem but one is
 # claimed. Time a check with
-#     sh bench/log.sh 160000 20 > /tmp/large.log && time crates/holp/out/holp check /tmp/large.log
+#     sh bench/log.sh 130000 20 > /tmp/large.log && time crates/holp/out/holp check /tmp/large.log
 if [ $# -ne 2 ]; then
     echo "usage: log.sh ROUNDS DEPTH" >&2
     exit 2
