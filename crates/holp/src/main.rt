@@ -1,44 +1,56 @@
-//! Runs proof scripts: `holp run SCRIPT`.
+//! Runs proof scripts and checks proof logs: `holp run SCRIPT`, `holp check LOG`, `holp migrate LOG NEW`.
 #![tactic(auto)]
 
+mod files;
+mod new_file;
 mod status;
 
-use clap::{Arg, ArgAction, Command};
-use hol_model::{Fault, FromRead, IntoWrite};
-use hol_script::run;
-use status::status;
+use clap::{Arg, ArgAction, ArgMatches, Command};
+use files::{check_file, migrate_file, run_file, tell};
+use std::alloc::Global;
+use std::env;
 use std::process::ExitCode;
-use std::{env, fs, io};
 
-/// Runs the script of this name, and answers its exit status.
-fn run_file(rt: &HostRuntime, name: &str) -> io::Result<u8> {
-    let answer = match fs::open(rt, name) {
-        Ok(file) => {
-            let mut reader = FromRead::new(file);
-            let mut writer = IntoWrite::new(io::writer(rt));
-            run(rt.alloc(), &mut reader, &mut writer)
-        }
-        Err(_) => Err(Fault::ReadFault),
-    };
-    match answer {
-        Ok(summary) => Ok(status(summary.refused, None)),
-        Err(fault) => {
-            eprintln!(rt; "holp: {fault}")?;
-            Ok(status(0, Some(fault)))
-        }
+// An argument that names a file.
+fn file_argument<'a>(alloc: Global, name: &'a str, help: &'a str) -> Arg<'a> {
+    Arg::new(alloc, name)
+        .help(help)
+        .required(true)
+        .action(ArgAction::Set)
+}
+
+// The commands with their arguments.
+fn command_line<'a>(alloc: Global) -> anyhow::Result<Command<'a>> {
+    let run = Command::new(alloc, "run")
+        .about("Runs a proof script")
+        .arg(file_argument(alloc, "SCRIPT", "The file of the proof script"))?;
+    let check = Command::new(alloc, "check")
+        .about("Checks a proof log and lists its claims")
+        .arg(file_argument(alloc, "LOG", "The file of the proof log"))?;
+    let migrate = Command::new(alloc, "migrate")
+        .about("Checks a proof log and writes it in the second version")
+        .arg(file_argument(alloc, "LOG", "The file of the proof log"))?
+        .arg(file_argument(alloc, "NEW", "The file to write"))?;
+    Ok(Command::new(alloc, "holp")
+        .about("A theorem prover for higher-order logic")
+        .subcommand(run)?
+        .subcommand(check)?
+        .subcommand(migrate)?)
+}
+
+// The value of an argument, which clap has asked for.
+fn value<'a>(matches: &'a ArgMatches<'_>, name: &str) -> &'a str {
+    match matches.get_str(name) {
+        Some(value) => value,
+        None => "",
     }
 }
 
-/// Reads the command line, runs the script that it names, and answers the exit status.
+// Runs the command that the words on the command line name.
 fn run_command(rt: &HostRuntime) -> anyhow::Result<u8> {
     let alloc = rt.alloc();
     let words: Vec<String> = env::args(rt)?.collect(alloc)?;
-    let script = Arg::new(alloc, "SCRIPT")
-        .help("The file of the proof script")
-        .required(true)
-        .action(ArgAction::Set);
-    let run = Command::new(alloc, "run").arg(script)?;
-    let command = Command::new(alloc, "holp").subcommand(run)?;
+    let command = command_line(alloc)?;
     let matches = match command.try_get_matches_from(words.as_slice()) {
         Ok(matches) => matches,
         Err(error) => {
@@ -46,16 +58,18 @@ fn run_command(rt: &HostRuntime) -> anyhow::Result<u8> {
             return Ok(error.exit_code() as u8);
         }
     };
-    let name = matches
-        .subcommand_matches("run")
-        .and_then(|matches| matches.get_str("SCRIPT"));
-    match name {
-        Some(name) => Ok(run_file(rt, name)?),
-        None => {
-            eprintln!(rt; "holp: a command is missing; `holp --help` lists them")?;
-            Ok(2)
-        }
+    if let Some(run) = matches.subcommand_matches("run") {
+        return Ok(tell(rt, run_file(rt, value(run, "SCRIPT")))?);
     }
+    if let Some(check) = matches.subcommand_matches("check") {
+        return Ok(tell(rt, check_file(rt, value(check, "LOG")))?);
+    }
+    if let Some(migrate) = matches.subcommand_matches("migrate") {
+        let answer = migrate_file(rt, value(migrate, "LOG"), value(migrate, "NEW"));
+        return Ok(tell(rt, answer)?);
+    }
+    eprintln!(rt; "holp: a command is missing; `holp --help` lists them")?;
+    Ok(2)
 }
 
 fn main(rt: HostRuntime) -> ExitCode {

@@ -1,0 +1,81 @@
+// What the commands do with the files that they name.
+ghost use Rattle.std.specs.Prelude.{◌≡◌, false, IfOk};
+
+use crate::new_file::NewFile;
+use crate::status::status;
+use hol_check::{check, migrate, text_of_claim};
+use hol_model::{Fault, FromRead, IntoWrite};
+use hol_script::run;
+use std::fs::File;
+use std::io::Write;
+use std::{fs, io};
+
+// The file of this name, to be read.
+fn open(rt: &HostRuntime, name: &str) -> Result<FromRead<File>, Fault>
+    ensures { IfOk result (λ reader. reader.failed ≡ false) }
+{
+    match fs::open(rt, name) {
+        Ok(file) => Ok(FromRead::new(file)),
+        Err(_) => Err(Fault::ReadFault),
+    }
+}
+
+// Prints on standard output.
+fn print(rt: &HostRuntime, text: &[u8]) -> Result<(), Fault> {
+    match io::writer(rt).write_all(text) {
+        Ok(()) => Ok(()),
+        Err(_) => Err(Fault::WriteFault),
+    }
+}
+
+/// Runs a script, and answers how many of its commands were refused.
+pub fn run_file(rt: &HostRuntime, script: &str) -> Result<u64, Fault> {
+    let mut reader = open(rt, script)?;
+    let mut writer = IntoWrite::new(io::writer(rt));
+    let summary = run(rt.alloc(), &mut reader, &mut writer)?;
+    Ok(summary.refused)
+}
+
+/// Checks a log, and prints its claims and their number.
+pub fn check_file(rt: &HostRuntime, log: &str) -> Result<u64, Fault> {
+    let alloc = rt.alloc();
+    let mut reader = open(rt, log)?;
+    let claims = check(alloc, &mut reader)?;
+    for claim in &claims {
+        print(rt, &text_of_claim(alloc, claim)?)?;
+        print(rt, b"\n")?;
+    }
+    match println!(rt; "claims: {}", claims.len()) {
+        Ok(()) => Ok(0),
+        Err(_) => Err(Fault::WriteFault),
+    }
+}
+
+/// Checks a log, writes it in the second version to a new file, and prints the number of its claims. The log is read to
+/// its end before the new file is made, and the file is made for an accepted log alone.
+pub fn migrate_file(rt: &HostRuntime, log: &str, new: &str) -> Result<u64, Fault> {
+    let mut reader = open(rt, log)?;
+    let mut writer = NewFile::new(rt, new);
+    let claims = migrate(rt.alloc(), &mut reader, &mut writer)?;
+    match println!(rt; "migrated: {} claims", claims.len()) {
+        Ok(()) => Ok(0),
+        Err(_) => Err(Fault::WriteFault),
+    }
+}
+
+/// Tells how a command ended, and answers the exit status: a refused log on standard output, another fault on standard
+/// error.
+pub fn tell(rt: &HostRuntime, answer: Result<u64, Fault>) -> io::Result<u8> {
+    let fault = match answer {
+        Ok(refused) => return Ok(status(refused, None)),
+        Err(Fault::LogFault { line, cause }) => {
+            match println!(rt; "refused at line {line}: {cause}") {
+                Ok(()) => return Ok(status(0, Some(Fault::LogFault { line, cause }))),
+                Err(_) => Fault::WriteFault,
+            }
+        }
+        Err(fault) => fault,
+    };
+    eprintln!(rt; "holp: {fault}")?;
+    Ok(status(0, Some(fault)))
+}
