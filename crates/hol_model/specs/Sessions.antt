@@ -78,19 +78,20 @@ axiom_theorem Select theory = record { theory = theory; hypotheses = select_hypo
 abbrev pub stored : State → List ℕ → (Theorem → Result Theorem Fault) → Result Theorem Fault
 stored state name next = given (state.theorems name) UnknownName next
 
--- the replacements that pairs of INST are, from left to right
-abbrev pub replacements : Scope → List (TermTree × TermTree) → Result (List (NamedTerm × NamedTerm)) Fault
-replacements scope [] = Ok []
-replacements scope (pair ∷ pairs) =
-    meaning scope [] pair.0 >>= λ new. meaning scope [] pair.1 >>= λ old. replacements scope pairs >>= λ theta. Ok ((new, old) ∷ theta)
+-- the replacement that a pair of INST is
+abbrev pub replacement : Scope → TermTree × TermTree → Result (NamedTerm × NamedTerm) Fault
+replacement scope pair = meaning scope [] pair.0 >>= λ new. meaning scope [] pair.1 >>= λ old. Ok (new, old)
 
--- the replacements that pairs of INST_TYPE are
-abbrev pub type_replacements : Scope → List (TypeTree × List ℕ) → Result (List (HolType × HolType)) Fault
-type_replacements scope [] = Ok []
-type_replacements scope (pair ∷ pairs) =
-    type_meaning scope pair.0 >>= λ new. type_replacements scope pairs >>= λ theta. Ok ((new, type_variable pair.1) ∷ theta)
+-- the replacement that a pair of INST_TYPE is
+abbrev pub type_replacement : Scope → TypeTree × List ℕ → Result (HolType × HolType) Fault
+type_replacement scope pair = type_meaning scope pair.0 >>= λ new. Ok (new, type_variable pair.1)
 
--- replacements, and then the stored theorem of a name
+-- what each of a list is read as, from left to right
+abbrev pub each : {A B : Type 0} → (A → Result B Fault) → List A → Result (List B) Fault
+each read [] = Ok []
+each read (x ∷ xs) = read x >>= λ first. each read xs >>= λ others. Ok (first ∷ others)
+
+-- what was read, and then the stored theorem of a name
 abbrev pub with_stored : {A : Type 0} → Result A Fault → State → List ℕ → Result (A × Theorem) Fault
 with_stored read state name = read >>= λ theta. given (state.theorems name) UnknownName (λ theorem. Ok (theta, theorem))
 
@@ -116,9 +117,9 @@ IsRuleAnswer state (by_pair rule a b) answer =
     stored state a (λ first. stored state b (λ second. pair_rule_outcome rule state.theory first second)) ≡ answer
 IsRuleAnswer state (by_abs tree a) answer =
     (meaning (scope_in state) [] tree >>= λ binder. stored state a (λ theorem. abs_outcome state.theory binder theorem)) ≡ answer
-IsRuleAnswer state (by_inst pairs a) answer = IsInstAnswer state.theory (with_stored (replacements (scope_in state) pairs) state a) answer
+IsRuleAnswer state (by_inst pairs a) answer = IsInstAnswer state.theory (with_stored (each (replacement (scope_in state)) pairs) state a) answer
 IsRuleAnswer state (by_inst_type pairs a) answer =
-    IsInstTypeAnswer state.theory (with_stored (type_replacements (scope_in state) pairs) state a) answer
+    IsInstTypeAnswer state.theory (with_stored (each (type_replacement (scope_in state)) pairs) state a) answer
 IsRuleAnswer state (by_axiom rule) answer = Ok (axiom_theorem rule state.theory) ≡ answer
 
 -- ---- commands

@@ -5,8 +5,10 @@ mod bytes;
 mod command;
 mod cut;
 mod execute;
+mod pairs;
 mod runner;
 mod session;
+mod tokens;
 
 pub use runner::{Summary, run};
 
