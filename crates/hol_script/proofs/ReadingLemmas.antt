@@ -59,7 +59,7 @@ name-front (token ∷ tokens) default bytes within is all = identifier-test byte
 
 -- ---- quotes
 
-type-no_quote : (tree : TypeTree) (rest : List Token) → HasNoQuote rest → HasNoQuote (type_tokens tree rest)
+pub type-no_quote : (tree : TypeTree) (rest : List Token) → HasNoQuote rest → HasNoQuote (type_tokens tree rest)
 type-no_quote (Named name) rest none = (refl, none)
 type-no_quote (Enclosed tree) rest none = (refl, type-no_quote tree _ (refl, none))
 type-no_quote (Function a b) rest none = type-no_quote a _ (refl, type-no_quote b rest none)
@@ -120,7 +120,7 @@ split_once (x ∷ a) (y ∷ b) r s none_a none_b same =
 pub quoted_once : (a b r s : List Token) → HasNoQuote a → HasNoQuote b → quoted a r ≡ quoted b s → SamePieces a b r s
 quoted_once a b r s none_a none_b same = split_once a b r s none_a none_b (let further : a ++ Mark Backquote ∷ r ≡ b ++ Mark Backquote ∷ s = cc in further)
 
-quotable-no_quote : (tree : TermTree) → IsQuotable tree → HasNoQuote (all_tokens (pieces tree []))
+pub quotable-no_quote : (tree : TermTree) → IsQuotable tree → HasNoQuote (all_tokens (pieces tree []))
 quotable-no_quote tree quotable = term-no_quote tree [] quotable.0 tt
 
 -- two quoted terms with what follows them
