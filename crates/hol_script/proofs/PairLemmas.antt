@@ -1,6 +1,6 @@
 -- Lists of replacements among tokens: what the pairs of a list are is determined.
-use Rattle.std.proofs.Common.{◌≡◌, ◌≢◌, ℕ, ◌+◌, ◌-◌, ◌≤◌, arith, true, List, [], ◌∷◌, ◌++◌, length, drop, map, refl, sym, ◌∙◌, ap, subst, Option, None, Some, Result, Ok, Err, Bor, Vec, Global}
-use Rattle.std.proofs.lemmas.List.{drop-map, length-map, length-append, append-nil, append_assoc}
+use Rattle.std.proofs.Common.{◌≡◌, ◌≢◌, ℕ, ◌+◌, ◌-◌, ◌≤◌, arith, true, List, [], ◌∷◌, ◌++◌, length, take, drop, map, refl, sym, ◌∙◌, ap, subst, Option, None, Some, Result, Ok, Err, Bor, Vec, Global}
+use Rattle.std.proofs.lemmas.List.{drop-map, drop-drop, take_rest, map-append, length-map, length-append, append-nil, append_assoc}
 use Rattle.std.proofs.Math.Seq.{drop-append_seam}
 use Rattle.hol_model.specs.declared.symbol.Symbol.{Symbol}
 use Rattle.hol_model.specs.declared.symbol.Symbol.TheVariants.{Backquote, Comma, Semicolon, OpenBracket, CloseBracket}
@@ -279,3 +279,28 @@ inst_type-unread Syntax tokens pairs name unquoted read refused = go
     go (by_abs argument a) grammatical kind same = cc
     go (by_inst trees a) grammatical kind same = cc
     go (by_axiom named) grammatical kind same = cc
+
+-- ---- the loop over a list
+
+-- the pairs in hand, the last of them pushed
+pub begun_with : (tokens : List TokenHere) (pushed new : List QuotedPair) (first : QuotedPair) (at : ℕ) → new ≡ [] → pushed ≡ new ++ first ∷ [] → IsUnquoted (parts_of first)
+    → tokens_of tokens ≡ Mark OpenBracket ∷ pair_tokens (parts_of first) (tokens_of (drop at tokens)) → IsListFront (tokens_of tokens) (map parts_of pushed) (tokens_of (drop at tokens))
+begun_with tokens pushed new first at empty put none begins =
+    subst (λ (ps : List QuotedPair). IsListFront (tokens_of tokens) (map parts_of ps) (tokens_of (drop at tokens))) (sym (put ∙ ap (λ (ps : List QuotedPair). ps ++ first ∷ []) empty))
+    (begun (tokens_of tokens) (tokens_of (drop at tokens)) (parts_of first) none begins)
+
+pub taken_with : (tokens : List TokenHere) (pushed old : List QuotedPair) (pair : QuotedPair) (at count : ℕ) → pushed ≡ old ++ pair ∷ []
+    → IsListFront (tokens_of tokens) (map parts_of old) (tokens_of (drop at tokens)) → IsUnquoted (parts_of pair)
+    → tokens_of (take (length tokens - at) (drop at tokens)) ≡ Mark Semicolon ∷ pair_tokens (parts_of pair) (tokens_of (drop count (take (length tokens - at) (drop at tokens))))
+    → IsListFront (tokens_of tokens) (map parts_of pushed) (tokens_of (drop (at + count) tokens))
+taken_with tokens pushed old pair at count put front none begins =
+    let left : take (length tokens - at) (drop at tokens) ≡ drop at tokens = take_rest tokens at in
+    let next : drop count (take (length tokens - at) (drop at tokens)) ≡ drop (at + count) tokens = ap (drop count) left ∙ drop-drop count at tokens in
+    subst (λ (ps : List Parts). IsListFront (tokens_of tokens) ps (tokens_of (drop (at + count) tokens)))
+    (sym (ap (map parts_of) put ∙ map-append parts_of old (pair ∷ [])))
+    (taken (tokens_of tokens) (tokens_of (drop at tokens)) (tokens_of (drop (at + count) tokens)) (map parts_of old) (parts_of pair) front none
+    (ap tokens_of (sym left) ∙ begins ∙ ap (λ (ts : List TokenHere). Mark Semicolon ∷ pair_tokens (parts_of pair) (tokens_of ts)) next))
+
+-- what is left, as a slice
+pub left-slice : (tokens : List TokenHere) (at : ℕ) → tokens_of (drop at tokens) ≡ tokens_of (take (length tokens - at) (drop at tokens))
+left-slice tokens at = ap tokens_of (sym (take_rest tokens at))
