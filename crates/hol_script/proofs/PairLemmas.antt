@@ -1,6 +1,6 @@
 -- Lists of replacements among tokens: what the pairs of a list are is determined.
-use Rattle.std.proofs.Common.{◌≡◌, ◌≢◌, ℕ, ◌+◌, ◌-◌, ◌≤◌, arith, true, List, [], ◌∷◌, ◌++◌, length, take, drop, map, refl, sym, ◌∙◌, ap, subst, Option, None, Some, Result, Ok, Err, Bor, Vec, Global}
-use Rattle.std.proofs.lemmas.List.{drop-map, drop-drop, take_rest, map-append, length-map, length-append, append-nil, append_assoc}
+use Rattle.std.proofs.Common.{◌≡◌, ◌≢◌, ℕ, zero, suc, ◌+◌, ◌-◌, ◌<◌, ◌≤◌, arith, true, List, [], ◌∷◌, ◌++◌, length, get_or, take, drop, map, refl, sym, ◌∙◌, ap, subst, Option, None, Some, Result, Ok, Err, Bor, Vec, Global}
+use Rattle.std.proofs.lemmas.List.{drop-map, take_more, drop-drop, take_rest, map-append, length-map, length-append, append-nil, append_assoc}
 use Rattle.std.proofs.Math.Seq.{drop-append_seam}
 use Rattle.hol_model.specs.declared.symbol.Symbol.{Symbol}
 use Rattle.hol_model.specs.declared.symbol.Symbol.TheVariants.{Backquote, Comma, Semicolon, OpenBracket, CloseBracket}
@@ -18,7 +18,9 @@ use Rattle.hol_script.specs.declared.pairs.QuotedPair.{QuotedPair}
 use Rattle.hol_script.specs.declared.pairs.TermPair.{TermPair}
 use Rattle.hol_script.specs.declared.pairs.TypePair.{TypePair}
 use Rattle.hol_script.specs.Reading.{AreTokens, HasNoQuote, ParsesArguments}
-use Rattle.hol_script.specs.Pairs.{parts_of, IsUnquoted, AreUnquoted, TakesPairs, ParsesPairs, ParsesTermPairs, ParsesTypePairs}
+use Rattle.hol_script.specs.Pairs.{parts_of, IsUnquoted, AreUnquoted, TakesPairs, ParsesPairs, ParsesTermPair, ParsesTypePair, ParsesTermPairs, ParsesTypePairs}
+use Rattle.hol_script.specs.Views.{IsTermPair, AreTermPairs, IsTypePair}
+use Rattle.hol_script.specs.Views as views
 use Rattle.hol_script.proofs.ReadingLemmas.{SamePieces, quoted_once, quotable-no_quote, type-no_quote}
 
 -- the tokens of the two parts of a pair
@@ -304,3 +306,77 @@ taken_with tokens pushed old pair at count put front none begins =
 -- what is left, as a slice
 pub left-slice : (tokens : List TokenHere) (at : ℕ) → tokens_of (drop at tokens) ≡ tokens_of (take (length tokens - at) (drop at tokens))
 left-slice tokens at = ap tokens_of (sym (take_rest tokens at))
+
+-- ---- parts
+
+-- the parts of each pair of terms
+pairs-more : (trees : List (TermTree × TermTree)) (tree : TermTree × TermTree) → ArePairs trees → IsQuotable tree.0 → IsQuotable tree.1 → ArePairs (trees ++ tree ∷ [])
+pairs-more [] tree all new old = (new, old, tt)
+pairs-more (first ∷ trees) tree all new old = (all.0, all.1, pairs-more trees tree all.2 new old)
+
+term_pairs-more : (parsed : List TermPair) (trees : List (TermTree × TermTree)) (pair : TermPair) (tree : TermTree × TermTree) → AreTermPairs parsed trees → IsTermPair pair tree
+    → AreTermPairs (parsed ++ pair ∷ []) (trees ++ tree ∷ [])
+term_pairs-more [] [] pair tree all one = (one, tt)
+term_pairs-more [] (first ∷ trees) pair tree all one = absurd all
+term_pairs-more (first ∷ parsed) [] pair tree all one = absurd all
+term_pairs-more (first ∷ parsed) (here ∷ trees) pair tree all one = (all.0, term_pairs-more parsed trees pair tree all.1 one)
+
+pub more-terms : (pairs : List QuotedPair) (at : ℕ) (default : QuotedPair) (pushed old : List TermPair) (pair : TermPair) → at < length pairs → pushed ≡ old ++ pair ∷ []
+    → ((trees : List (TermTree × TermTree)) × ArePairs trees × (map term_pair trees ≡ map parts_of (take at pairs)) × AreTermPairs old trees)
+    → ((tree : TermTree × TermTree) × IsQuotable tree.0 × IsQuotable tree.1 × (term_pair tree ≡ parts_of (get_or pairs at default)) × IsTermPair pair tree)
+    → (trees : List (TermTree × TermTree)) × ArePairs trees × (map term_pair trees ≡ map parts_of (take (at + 1) pairs)) × AreTermPairs pushed trees
+more-terms pairs at default pushed old pair within put (trees, all, same, parsed) (tree, new_quotable, old_quotable, here, is_pair) =
+    (trees ++ tree ∷ [], pairs-more trees tree all new_quotable old_quotable,
+    map-append term_pair trees (tree ∷ []) ∙ (λ i. same i ++ here i ∷ []) ∙ sym (map-append parts_of (take at pairs) (get_or pairs at default ∷ [])) ∙ ap (map parts_of) (sym (take_more pairs at default within)),
+    subst (λ (ps : List TermPair). AreTermPairs ps (trees ++ tree ∷ [])) (sym put) (term_pairs-more old trees pair tree parsed is_pair))
+
+terms-at : (trees : List (TermTree × TermTree)) (pairs : List QuotedPair) (at : ℕ) (default : QuotedPair) → ArePairs trees → map term_pair trees ≡ map parts_of pairs → at < length pairs
+    → (tree : TermTree × TermTree) × IsQuotable tree.0 × IsQuotable tree.1 × (term_pair tree ≡ parts_of (get_or pairs at default))
+terms-at trees [] at default all same within = absurd (omega arith)
+terms-at [] (pair ∷ pairs) at default all same within = cc
+terms-at (tree ∷ trees) (pair ∷ pairs) zero default all same within = (tree, all.0, all.1, cc)
+terms-at (tree ∷ trees) (pair ∷ pairs) (suc at) default all same within =
+    terms-at trees pairs at default all.2 (let further : map term_pair trees ≡ map parts_of pairs = cc in further) (omega (arith, within))
+
+pub terms-refused : (error : ReadError) (pairs : List QuotedPair) (at : ℕ) (default : QuotedPair) → at < length pairs → ParsesTermPair (Err error) (parts_of (get_or pairs at default))
+    → ParsesTermPairs (Err error) (map parts_of pairs)
+terms-refused Memory pairs at default within refused = tt
+terms-refused Syntax pairs at default within refused = λ trees all same.
+    let found = terms-at trees pairs at default all same within in
+    refused found.0 found.1 found.2 found.3
+
+-- the parts of each pair of a type and a type variable
+type_names-more : (trees : List (TypeTree × List ℕ)) (tree : TypeTree × List ℕ) → AreTypePairs trees → IsWithin tree.0 → (is_type_variable_name tree.1 ≡ true) → AreTypePairs (trees ++ tree ∷ [])
+type_names-more [] tree all new old = (new, old, tt)
+type_names-more (first ∷ trees) tree all new old = (all.0, all.1, type_names-more trees tree all.2 new old)
+
+type_pairs-more : (parsed : List TypePair) (trees : List (TypeTree × List ℕ)) (pair : TypePair) (tree : TypeTree × List ℕ) → views.AreTypePairs parsed trees → IsTypePair pair tree
+    → views.AreTypePairs (parsed ++ pair ∷ []) (trees ++ tree ∷ [])
+type_pairs-more [] [] pair tree all one = (one, tt)
+type_pairs-more [] (first ∷ trees) pair tree all one = absurd all
+type_pairs-more (first ∷ parsed) [] pair tree all one = absurd all
+type_pairs-more (first ∷ parsed) (here ∷ trees) pair tree all one = (all.0, type_pairs-more parsed trees pair tree all.1 one)
+
+pub more-types : (pairs : List QuotedPair) (at : ℕ) (default : QuotedPair) (pushed old : List TypePair) (pair : TypePair) → at < length pairs → pushed ≡ old ++ pair ∷ []
+    → ((trees : List (TypeTree × List ℕ)) × AreTypePairs trees × (map type_pair trees ≡ map parts_of (take at pairs)) × views.AreTypePairs old trees)
+    → ((tree : TypeTree × List ℕ) × IsWithin tree.0 × (type_pair tree ≡ parts_of (get_or pairs at default)) × IsTypePair pair tree)
+    → (trees : List (TypeTree × List ℕ)) × AreTypePairs trees × (map type_pair trees ≡ map parts_of (take (at + 1) pairs)) × views.AreTypePairs pushed trees
+more-types pairs at default pushed old pair within put (trees, all, same, parsed) (tree, within_limits, here, is_pair) =
+    (trees ++ tree ∷ [], type_names-more trees tree all within_limits is_pair.2,
+    map-append type_pair trees (tree ∷ []) ∙ (λ i. same i ++ here i ∷ []) ∙ sym (map-append parts_of (take at pairs) (get_or pairs at default ∷ [])) ∙ ap (map parts_of) (sym (take_more pairs at default within)),
+    subst (λ (ps : List TypePair). views.AreTypePairs ps (trees ++ tree ∷ [])) (sym put) (type_pairs-more old trees pair tree parsed is_pair))
+
+types-at : (trees : List (TypeTree × List ℕ)) (pairs : List QuotedPair) (at : ℕ) (default : QuotedPair) → AreTypePairs trees → map type_pair trees ≡ map parts_of pairs → at < length pairs
+    → (tree : TypeTree × List ℕ) × IsWithin tree.0 × (is_type_variable_name tree.1 ≡ true) × (type_pair tree ≡ parts_of (get_or pairs at default))
+types-at trees [] at default all same within = absurd (omega arith)
+types-at [] (pair ∷ pairs) at default all same within = cc
+types-at (tree ∷ trees) (pair ∷ pairs) zero default all same within = (tree, all.0, all.1, cc)
+types-at (tree ∷ trees) (pair ∷ pairs) (suc at) default all same within =
+    types-at trees pairs at default all.2 (let further : map type_pair trees ≡ map parts_of pairs = cc in further) (omega (arith, within))
+
+pub types-refused : (error : ReadError) (pairs : List QuotedPair) (at : ℕ) (default : QuotedPair) → at < length pairs → ParsesTypePair (Err error) (parts_of (get_or pairs at default))
+    → ParsesTypePairs (Err error) (map parts_of pairs)
+types-refused Memory pairs at default within refused = tt
+types-refused Syntax pairs at default within refused = λ trees all same.
+    let found = types-at trees pairs at default all same within in
+    refused found.0 found.1 found.2 found.3
