@@ -100,15 +100,10 @@ abbrev pub IsSettled : Option Fault → (Theorem → Type 0) → Result Theorem 
 IsSettled refusal fact (Ok theorem) = (refusal ≡ None) × fact theorem
 IsSettled refusal fact (Err fault) = refusal ≡ Some fault
 
--- the answer of INST for its arguments, where they were read
-abbrev pub IsInstAnswer : Theory → Result (List (NamedTerm × NamedTerm) × Theorem) Fault → Result Theorem Fault → Type 0
-IsInstAnswer theory (Ok read) answer = IsSettled (inst_refusal theory read.0 read.1) (IsInst theory read.0 read.1) answer
-IsInstAnswer theory (Err fault) answer = answer ≡ Err fault
-
--- the answer of INST_TYPE for its arguments, where they were read
-abbrev pub IsInstTypeAnswer : Theory → Result (List (HolType × HolType) × Theorem) Fault → Result Theorem Fault → Type 0
-IsInstTypeAnswer theory (Ok read) answer = IsSettled (inst_type_refusal theory read.0 read.1) (IsInstType theory read.0 read.1) answer
-IsInstTypeAnswer theory (Err fault) answer = answer ≡ Err fault
+-- the answer for what was read, by the refusal and the fact of a rule
+abbrev pub IsAnswerFor : {A : Type 0} → (A → Theorem → Option Fault) → (A → Theorem → Theorem → Type 0) → Result (A × Theorem) Fault → Result Theorem Fault → Type 0
+IsAnswerFor refusal fact (Ok read) answer = IsSettled (refusal read.0 read.1) (fact read.0 read.1) answer
+IsAnswerFor refusal fact (Err fault) answer = answer ≡ Err fault
 
 -- what a rule answers: its arguments from left to right, then the rule
 abbrev pub IsRuleAnswer : State → RuleTree → Result Theorem Fault → Type 0
@@ -117,9 +112,10 @@ IsRuleAnswer state (by_pair rule a b) answer =
     stored state a (λ first. stored state b (λ second. pair_rule_outcome rule state.theory first second)) ≡ answer
 IsRuleAnswer state (by_abs tree a) answer =
     (meaning (scope_in state) [] tree >>= λ binder. stored state a (λ theorem. abs_outcome state.theory binder theorem)) ≡ answer
-IsRuleAnswer state (by_inst pairs a) answer = IsInstAnswer state.theory (with_stored (each (replacement (scope_in state)) pairs) state a) answer
+IsRuleAnswer state (by_inst pairs a) answer =
+    IsAnswerFor (inst_refusal state.theory) (IsInst state.theory) (with_stored (each (replacement (scope_in state)) pairs) state a) answer
 IsRuleAnswer state (by_inst_type pairs a) answer =
-    IsInstTypeAnswer state.theory (with_stored (each (type_replacement (scope_in state)) pairs) state a) answer
+    IsAnswerFor (inst_type_refusal state.theory) (IsInstType state.theory) (with_stored (each (type_replacement (scope_in state)) pairs) state a) answer
 IsRuleAnswer state (by_axiom rule) answer = Ok (axiom_theorem rule state.theory) ≡ answer
 
 -- ---- commands

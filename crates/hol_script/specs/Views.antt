@@ -14,23 +14,25 @@ use Rattle.hol_script.specs.declared.pairs.TypePair.{TypePair}
 use Rattle.hol_script.specs.declared.command.Command.{Command}
 use Rattle.hol_script.specs.declared.command.Command.TheVariants.{Thm, Show, Var, Def, NewType, NewConst}
 
+-- the relation holds of the items of two lists, one by one
+abbrev pub Match : {A B : Type 0} → (A → B → Type 0) → List A → List B → Type 0
+Match fact [] [] = Unit {0}
+Match fact (x ∷ xs) (y ∷ ys) = fact x y × Match fact xs ys
+Match fact _ _ = ⊥
+
 -- the pair has the terms of the trees by their steps
 abbrev pub IsTermPair : TermPair → TermTree × TermTree → Type 0
 IsTermPair pair trees = (flat_steps_of pair.new.items ≡ flat_steps (term_steps trees.0)) × (flat_steps_of pair.old.items ≡ flat_steps (term_steps trees.1))
 
 abbrev pub AreTermPairs : List TermPair → List (TermTree × TermTree) → Type 0
-AreTermPairs [] [] = Unit {0}
-AreTermPairs (pair ∷ pairs) (trees ∷ others) = IsTermPair pair trees × AreTermPairs pairs others
-AreTermPairs _ _ = ⊥
+AreTermPairs pairs trees = Match IsTermPair pairs trees
 
 -- the pair has the type of the tree by its steps, and the type variable
 abbrev pub IsTypePair : TypePair → TypeTree × List ℕ → Type 0
 IsTypePair pair parts = (steps_of pair.new.items ≡ type_steps parts.0) × (pair.old.now ≡ parts.1) × (is_type_variable_name parts.1 ≡ true)
 
 abbrev pub AreTypePairs : List TypePair → List (TypeTree × List ℕ) → Type 0
-AreTypePairs [] [] = Unit {0}
-AreTypePairs (pair ∷ pairs) (parts ∷ others) = IsTypePair pair parts × AreTypePairs pairs others
-AreTypePairs _ _ = ⊥
+AreTypePairs pairs trees = Match IsTypePair pairs trees
 
 -- the rule has the arguments of the tree, its terms by their steps
 abbrev pub IsRule : Rule → RuleTree → Type 0
