@@ -13,4 +13,6 @@ mod tokens;
 pub use runner::{Summary, run};
 
 #[cfg(test)]
+mod replacement_tests;
+#[cfg(test)]
 mod tests;
