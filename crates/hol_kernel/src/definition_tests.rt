@@ -172,6 +172,11 @@ fn declared_types(rt: HostRuntime) -> Result<(), Fail> {
         defines(alloc, &mut theory, "num", &TRUTH),
         Some(Fault::AlreadyDefined)
     );
+    let truth = Ty::boolean(alloc)?;
+    assert_eq!(rt;
+        refusal(theory.new_const(alloc, "num", &truth)),
+        Some(Fault::AlreadyDefined)
+    );
     Ok(())
 }
 

@@ -48,6 +48,8 @@ pub enum Proof<'a> {
     Inst(&'a [(Tree<'a>, Tree<'a>)], &'a Proof<'a>),
     /// Pairs (new, old) of names of types.
     InstType(&'a [(&'a str, &'a str)], &'a Proof<'a>),
+    /// INST_TYPE of `A` by a function type with so many arrows.
+    InstArrows(u16, &'a Proof<'a>),
 }
 
 /// Whether the proof gives a theorem of this text.
@@ -127,6 +129,10 @@ pub fn prove(alloc: Global, theory: &Theory, proof: &Proof<'_>) -> Result<Thm, F
             let theorem = prove(alloc, theory, theorem)?;
             inst_type(alloc, theory, pairs, &theorem)
         }
+        Proof::InstArrows(arrows, theorem) => {
+            let theorem = prove(alloc, theory, theorem)?;
+            inst_arrows(alloc, theory, *arrows, &theorem)
+        }
     }
 }
 
@@ -179,6 +185,30 @@ fn inst_type(
 {
     let theta = types(alloc, pairs)?;
     theory.inst_type(alloc, &theta, theorem)
+}
+
+fn inst_arrows(
+    alloc: Global,
+    theory: &Theory,
+    arrows: u16,
+    theorem: &Thm,
+) -> Result<Thm, Fault>
+    requires { IsEarlier theorem.now.theory theory.now }
+    ensures { IfOk result (λ theorem. theorem.theory ≡ theory.now) }
+{
+    let mut theta = Vec::new(alloc);
+    theta.push((function_type(alloc, arrows)?, Ty::tyvar(alloc, "A")?))?;
+    theory.inst_type(alloc, &theta, theorem)
+}
+
+// `bool->bool->..` with so many arrows.
+fn function_type(alloc: Global, arrows: u16) -> Result<Ty, Fault> {
+    let truth = Ty::boolean(alloc)?;
+    let mut ty = Ty::boolean(alloc)?;
+    for _ in 0..arrows {
+        ty = Ty::fun(alloc, &truth, &ty)?;
+    }
+    Ok(ty)
 }
 
 fn terms(alloc: Global, pairs: &[(Tree<'_>, Tree<'_>)]) -> Result<Vec<(Term, Term)>, Fault> {

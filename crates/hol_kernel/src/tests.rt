@@ -29,6 +29,8 @@ const UNKNOWN: Tree<'static> = Tree::Unknown;
 
 const NO_INSTANCE: Tree<'static> = Tree::NoInstance;
 
+const UNDECLARED_EQUATION: Tree<'static> = Tree::Equal(&UNDECLARED, &UNDECLARED);
+
 const X_IS_Y: Tree<'static> = Tree::Equal(&X, &Y);
 
 const F_IS_G: Tree<'static> = Tree::Equal(&F, &G);
@@ -96,11 +98,15 @@ fn refl_at_the_height_limit(rt: HostRuntime) {
 #[test]
 fn assume(rt: HostRuntime) {
     const OF_ANOTHER_TYPE: Proof<'static> = Proof::Assume(&UNDECLARED);
+    const UNKNOWN_TYPE: Proof<'static> = Proof::Assume(&UNDECLARED_EQUATION);
     const UNKNOWN_CONSTANT: Proof<'static> = Proof::Assume(&UNKNOWN);
+    const OTHER_INSTANCE: Proof<'static> = Proof::Assume(&NO_INSTANCE);
     let alloc = rt.alloc();
     assert!(rt; gives(alloc, &ASSUME_P, "p:bool, |- p:bool"));
     assert!(rt; refuses(alloc, &OF_ANOTHER_TYPE, Fault::NotBool));
+    assert!(rt; refuses(alloc, &UNKNOWN_TYPE, Fault::UnknownType));
     assert!(rt; refuses(alloc, &UNKNOWN_CONSTANT, Fault::UnknownConst));
+    assert!(rt; refuses(alloc, &OTHER_INSTANCE, Fault::NotInstance));
 }
 
 #[test]
@@ -251,6 +257,19 @@ fn beta(rt: HostRuntime) {
 }
 
 #[test]
+fn beta_refuses_unknown_types_and_instances(rt: HostRuntime) {
+    const UNDECLARED_IDENTITY: Tree<'static> = Tree::Bind(&UNDECLARED, &UNDECLARED);
+    const UNDECLARED_REDEX: Tree<'static> = Tree::Apply(&UNDECLARED_IDENTITY, &UNDECLARED);
+    const CONSTANT: Tree<'static> = Tree::Bind(&X, &NO_INSTANCE);
+    const REDEX: Tree<'static> = Tree::Apply(&CONSTANT, &X);
+    const BETA_UNDECLARED: Proof<'static> = Proof::Beta(&UNDECLARED_REDEX);
+    const BETA_OTHER_INSTANCE: Proof<'static> = Proof::Beta(&REDEX);
+    let alloc = rt.alloc();
+    assert!(rt; refuses(alloc, &BETA_UNDECLARED, Fault::UnknownType));
+    assert!(rt; refuses(alloc, &BETA_OTHER_INSTANCE, Fault::NotInstance));
+}
+
+#[test]
 fn deduct_antisym(rt: HostRuntime) {
     const P_Q: Proof<'static> = Proof::DeductAntisym(&ASSUME_P, &ASSUME_Q);
     const Q_P: Proof<'static> = Proof::DeductAntisym(&ASSUME_Q, &ASSUME_P);
@@ -359,6 +378,17 @@ fn inst_refuses(rt: HostRuntime) {
     assert!(rt; refuses(alloc, &INST_OTHER_INSTANCE, Fault::NotInstance));
 }
 
+#[test]
+fn inst_at_the_height_limit(rt: HostRuntime) {
+    const LOWER: [(Tree<'static>, Tree<'static>); 1] = [(Tree::Tower(1997), P)];
+    const HIGHER: [(Tree<'static>, Tree<'static>); 1] = [(Tree::Tower(1998), P)];
+    const LOW: Proof<'static> = Proof::Inst(&LOWER, &REFL_P);
+    const HIGH: Proof<'static> = Proof::Inst(&HIGHER, &REFL_P);
+    let alloc = rt.alloc();
+    assert!(rt; succeeds(alloc, &LOW));
+    assert!(rt; refuses(alloc, &HIGH, Fault::TooLarge));
+}
+
 // All at once, the first pair for a type variable counts, and a binder that would capture is renamed.
 #[test]
 fn inst_type(rt: HostRuntime) {
@@ -382,6 +412,17 @@ fn inst_type_refuses(rt: HostRuntime) {
     let alloc = rt.alloc();
     assert!(rt; refuses(alloc, &INST_NO_VARIABLE, Fault::NotVariable));
     assert!(rt; refuses(alloc, &INST_UNKNOWN_TYPE, Fault::UnknownType));
+}
+
+// `=` has a type of `2 * (2 * arrows + 1) + 3` nodes there.
+#[test]
+fn inst_type_at_the_limit_of_types(rt: HostRuntime) {
+    const REFL: Proof<'static> = Proof::Refl(&ELEMENT);
+    const SMALLER: Proof<'static> = Proof::InstArrows(998, &REFL);
+    const LARGER: Proof<'static> = Proof::InstArrows(999, &REFL);
+    let alloc = rt.alloc();
+    assert!(rt; succeeds(alloc, &SMALLER));
+    assert!(rt; refuses(alloc, &LARGER, Fault::TooLarge));
 }
 
 #[test]

@@ -1,5 +1,5 @@
 -- What an outcome says of what a call answers.
-use Rattle.std.proofs.Common.{◌≡◌, inl, inr, List, [], ◌∷◌, Bool, true, false, sym, IfErr, Ok, Err, lit<}
+use Rattle.std.proofs.Common.{◌≡◌, inl, inr, [], ◌∷◌, Bool, true, false, sym, IfErr, Ok, Err, lit<}
 use Rattle.std.specs.Prelude.{Contains, Result}
 use Rattle.hol_model.specs.declared.fault.Fault.{Fault}
 use Rattle.hol_model.specs.declared.fault.Fault.TheVariants.{Memory}

@@ -1,5 +1,5 @@
 -- The image of a term within the limits is within them.
-use Rattle.std.proofs.Common.{◌≡◌, ℕ, List, [], ◌∷◌, Bool, true, ◌&&◌, refl, sym, ◌∙◌, ap, Option, Some, None, nat_le, IsTrue}
+use Rattle.std.proofs.Common.{◌≡◌, ℕ, List, [], ◌∷◌, true, ◌&&◌, refl, sym, ◌∙◌, ap, Option, Some, None, nat_le, IsTrue}
 use Rattle.std.specs.Option.{option_map, option_map_or}
 use Rattle.hol_model.specs.declared.limits.TheConstants.{TERM_NODES_LIMIT, TERM_HEIGHT_LIMIT}
 use Rattle.hol_model.specs.HolType.{HolType, function_type}

@@ -1,7 +1,7 @@
 -- The grammar of commands.
-use Rattle.std.specs.Prelude.{◌≡◌, ℕ, ◌≤◌, List, [], ◌∷◌, ◌++◌, codes}
+use Rattle.std.specs.Prelude.{◌≡◌, ℕ, ◌≤◌, true, List, [], ◌∷◌, ◌++◌, map, codes}
 use Rattle.hol_model.specs.declared.limits.TheConstants.{TERM_NESTING_LIMIT}
-use Rattle.hol_model.specs.declared.symbol.Symbol.TheVariants.{Backquote, Colon, Equal}
+use Rattle.hol_model.specs.declared.symbol.Symbol.TheVariants.{Backquote, Colon, Comma, Equal, Semicolon, OpenBracket, CloseBracket}
 use Rattle.hol_model.specs.declared.rule.TermRule.{TermRule}
 use Rattle.hol_model.specs.declared.rule.TermRule.TheVariants.{Refl, Beta, Assume}
 use Rattle.hol_model.specs.declared.rule.PairRule.{PairRule}
@@ -9,17 +9,20 @@ use Rattle.hol_model.specs.declared.rule.PairRule.TheVariants.{Trans, MkComb, Eq
 use Rattle.hol_model.specs.declared.rule.Axiom.{Axiom}
 use Rattle.hol_model.specs.declared.rule.Axiom.TheVariants.{Eta, Select}
 use Rattle.hol_model.specs.declared.rule.RuleKind.{RuleKind}
-use Rattle.hol_model.specs.declared.rule.RuleKind.TheVariants.{Term, Pair, Abs, Axiom as OfAxiom}
+use Rattle.hol_model.specs.declared.rule.RuleKind.TheVariants.{Term, Pair, Abs, Inst, InstType, Axiom as OfAxiom}
+use Rattle.hol_model.specs.Name.{is_type_variable_name}
 use Rattle.hol_model.specs.Token.{Token, Name, Mark}
 use Rattle.hol_model.specs.Lexing.{Lexes}
 use Rattle.hol_model.specs.TypeGrammar.{TypeTree, type_tokens}
 use Rattle.hol_model.specs.TermGrammar.{TermTree, IsWithin, IsTermTree, term_depth, pieces, all_tokens}
 
--- A rule with its arguments; theorems are named.
+-- A rule with its arguments; theorems and type variables are named. Pairs are (new, old).
 pub data RuleTree : Type 0 where
   by_term : TermRule → TermTree → RuleTree
   by_pair : PairRule → List ℕ → List ℕ → RuleTree
   by_abs : TermTree → List ℕ → RuleTree
+  by_inst : List (TermTree × TermTree) → List ℕ → RuleTree
+  by_inst_type : List (TypeTree × List ℕ) → List ℕ → RuleTree
   by_axiom : Axiom → RuleTree
 
 pub data CommandTree : Type 0 where
@@ -35,6 +38,8 @@ abbrev pub kind_of : RuleTree → RuleKind
 kind_of (by_term rule tree) = Term rule
 kind_of (by_pair rule a b) = Pair rule
 kind_of (by_abs tree a) = Abs
+kind_of (by_inst pairs a) = Inst
+kind_of (by_inst_type pairs a) = InstType
 kind_of (by_axiom axiom') = OfAxiom axiom'
 
 abbrev pub rule_word : RuleKind → List ℕ
@@ -46,17 +51,50 @@ rule_word (Pair MkComb) = codes "MK_COMB"
 rule_word (Pair EqMp) = codes "EQ_MP"
 rule_word (Pair DeductAntisym) = codes "DEDUCT_ANTISYM_RULE"
 rule_word Abs = codes "ABS"
+rule_word Inst = codes "INST"
+rule_word InstType = codes "INST_TYPE"
 rule_word (OfAxiom Eta) = codes "ETA"
 rule_word (OfAxiom Select) = codes "SELECT"
 
+-- tokens between two backquotes, and then the rest
+abbrev pub quoted : List Token → List Token → List Token
+quoted inner rest = Mark Backquote ∷ (inner ++ Mark Backquote ∷ rest)
+
 -- a term between backquotes, and then the rest
 abbrev pub quote_tokens : TermTree → List Token → List Token
-quote_tokens tree rest = Mark Backquote ∷ (all_tokens (pieces tree []) ++ Mark Backquote ∷ rest)
+quote_tokens tree rest = quoted (all_tokens (pieces tree [])) rest
+
+-- two quoted parts with a comma between them, and then the rest
+abbrev pub pair_tokens : List Token × List Token → List Token → List Token
+pair_tokens pair rest = quoted pair.0 (Mark Comma ∷ quoted pair.1 rest)
+
+-- pairs, each behind a semicolon, the bracket that closes the list, and then the rest
+abbrev pub further_tokens : List (List Token × List Token) → List Token → List Token
+further_tokens [] rest = Mark CloseBracket ∷ rest
+further_tokens (pair ∷ pairs) rest = Mark Semicolon ∷ pair_tokens pair (further_tokens pairs rest)
+
+-- the pairs of a list, the first without a semicolon, and the bracket that closes the list, and then the rest
+abbrev pub first_tokens : List (List Token × List Token) → List Token → List Token
+first_tokens [] rest = Mark CloseBracket ∷ rest
+first_tokens (pair ∷ pairs) rest = pair_tokens pair (further_tokens pairs rest)
+
+-- a list of pairs in brackets, and then the rest
+abbrev pub list_tokens : List (List Token × List Token) → List Token → List Token
+list_tokens pairs rest = Mark OpenBracket ∷ first_tokens pairs rest
+
+-- the tokens of the parts of a pair
+abbrev pub term_pair : TermTree × TermTree → List Token × List Token
+term_pair pair = (all_tokens (pieces pair.0 []), all_tokens (pieces pair.1 []))
+
+abbrev pub type_pair : TypeTree × List ℕ → List Token × List Token
+type_pair pair = (type_tokens pair.0 [], Name pair.1 ∷ [])
 
 abbrev pub argument_tokens : RuleTree → List Token
 argument_tokens (by_term rule tree) = quote_tokens tree []
 argument_tokens (by_pair rule a b) = Name a ∷ Name b ∷ []
 argument_tokens (by_abs tree a) = quote_tokens tree (Name a ∷ [])
+argument_tokens (by_inst pairs a) = list_tokens (map term_pair pairs) (Name a ∷ [])
+argument_tokens (by_inst_type pairs a) = list_tokens (map type_pair pairs) (Name a ∷ [])
 argument_tokens (by_axiom axiom') = []
 
 abbrev pub rule_tokens : RuleTree → List Token
@@ -74,10 +112,22 @@ command_tokens (newconst_command name tree) = Name (codes "newconst") ∷ Name n
 abbrev pub IsQuotable : TermTree → Type 0
 IsQuotable tree = IsTermTree tree × (term_depth tree ≤ TERM_NESTING_LIMIT)
 
+-- each part is quotable
+abbrev pub ArePairs : List (TermTree × TermTree) → Type 0
+ArePairs [] = Unit {0}
+ArePairs (pair ∷ pairs) = IsQuotable pair.0 × IsQuotable pair.1 × ArePairs pairs
+
+-- each new part is a type that is not nested too deep, each old part a type variable
+abbrev pub AreTypePairs : List (TypeTree × List ℕ) → Type 0
+AreTypePairs [] = Unit {0}
+AreTypePairs (pair ∷ pairs) = IsWithin pair.0 × (is_type_variable_name pair.1 ≡ true) × AreTypePairs pairs
+
 abbrev pub IsRuleTree : RuleTree → Type 0
 IsRuleTree (by_term rule tree) = IsQuotable tree
 IsRuleTree (by_pair rule a b) = Unit {0}
 IsRuleTree (by_abs tree a) = IsQuotable tree
+IsRuleTree (by_inst pairs a) = ArePairs pairs
+IsRuleTree (by_inst_type pairs a) = AreTypePairs pairs
 IsRuleTree (by_axiom rule) = Unit {0}
 
 abbrev pub IsCommandTree : CommandTree → Type 0

@@ -47,7 +47,7 @@ request_and true request others = others
 request_and false request others = request ∷ others
 
 -- the requests of a script's pieces from a line on: a blank piece asks for nothing
-abbrev pub requests : ℕ → List (List ℕ) → List ℕ → List Request
-requests line [] last = request_and (is_blank_text last) (record { line = line + leading_line_feeds last; text = None }) []
-requests line (piece ∷ pieces) last =
-    request_and (is_blank_text piece) (record { line = line + leading_line_feeds piece; text = Some piece }) (requests (line + line_feeds piece) pieces last)
+abbrev pub requested : ℕ → List (List ℕ) → List ℕ → List Request
+requested line [] last = request_and (is_blank_text last) (record { line = line + leading_line_feeds last; text = None }) []
+requested line (piece ∷ pieces) last =
+    request_and (is_blank_text piece) (record { line = line + leading_line_feeds piece; text = Some piece }) (requested (line + line_feeds piece) pieces last)

@@ -12,7 +12,7 @@ use Rattle.hol_model.specs.declared.rule.PairRule.TheVariants.{Trans, MkComb, Eq
 use Rattle.hol_model.specs.declared.rule.Axiom.{Axiom}
 use Rattle.hol_model.specs.declared.rule.Axiom.TheVariants.{Eta, Select}
 use Rattle.hol_model.specs.Fault.{number_of, name_of}
-use Rattle.hol_model.specs.HolType.{HolType}
+use Rattle.hol_model.specs.HolType.{HolType, type_variable}
 use Rattle.hol_model.specs.NamedTerm.{NamedTerm}
 use Rattle.hol_model.specs.Nameless.{image}
 use Rattle.hol_model.specs.Theory.{Theory, generic_type, IsLegal}
@@ -22,13 +22,14 @@ use Rattle.hol_model.specs.Holds.{Holds}
 use Rattle.hol_model.specs.Outcome.{given}
 use Rattle.hol_model.specs.Theorem.{Theorem}
 use Rattle.hol_model.specs.Rules.{refl_outcome, beta_outcome, assume_outcome, trans_outcome, mk_comb_outcome, eq_mp_outcome, deduct_antisym_outcome, abs_outcome, define_outcome, new_type_outcome, new_const_outcome}
+use Rattle.hol_model.specs.Instantiation.{inst_refusal, IsInst, inst_type_refusal, IsInstType}
 use Rattle.hol_model.specs.NamedAxioms.{eta_conclusion, select_hypothesis, select_conclusion}
 use Rattle.hol_model.specs.TypeGrammar.{TypeTree}
 use Rattle.hol_model.specs.TermGrammar.{TermTree}
 use Rattle.hol_model.specs.Reading.{Scope, type_meaning, meaning, ◌>>=◌}
 use Rattle.hol_model.specs.Texts.{text_of_sequent}
-use Rattle.hol_model.specs.Script.{Request, Cuts, requests}
-use Rattle.hol_model.specs.Commands.{RuleTree, by_term, by_pair, by_abs, by_axiom, CommandTree, thm_command, show_command, var_command, def_command, newtype_command, newconst_command, SpellsCommand}
+use Rattle.hol_model.specs.Script.{Request, Cuts, requested}
+use Rattle.hol_model.specs.Commands.{RuleTree, by_term, by_pair, by_abs, by_inst, by_inst_type, by_axiom, CommandTree, thm_command, show_command, var_command, def_command, newtype_command, newconst_command, SpellsCommand}
 
 -- what a session keeps: the entries of its theory, the declared variables and the stored theorems
 pub record State : Type 0 where
@@ -77,12 +78,45 @@ axiom_theorem Select theory = record { theory = theory; hypotheses = select_hypo
 abbrev pub stored : State → List ℕ → (Theorem → Result Theorem Fault) → Result Theorem Fault
 stored state name next = given (state.theorems name) UnknownName next
 
--- what a rule gives: its arguments from left to right, then the rule
-abbrev pub rule_outcome : State → RuleTree → Result Theorem Fault
-rule_outcome state (by_term rule tree) = meaning (scope_in state) [] tree >>= λ term. term_rule_outcome rule state.theory term
-rule_outcome state (by_pair rule a b) = stored state a (λ first. stored state b (λ second. pair_rule_outcome rule state.theory first second))
-rule_outcome state (by_abs tree a) = meaning (scope_in state) [] tree >>= λ binder. stored state a (λ theorem. abs_outcome state.theory binder theorem)
-rule_outcome state (by_axiom rule) = Ok (axiom_theorem rule state.theory)
+-- the replacement that a pair of INST is
+abbrev pub replacement : Scope → TermTree × TermTree → Result (NamedTerm × NamedTerm) Fault
+replacement scope pair = meaning scope [] pair.0 >>= λ new. meaning scope [] pair.1 >>= λ old. Ok (new, old)
+
+-- the replacement that a pair of INST_TYPE is
+abbrev pub type_replacement : Scope → TypeTree × List ℕ → Result (HolType × HolType) Fault
+type_replacement scope pair = type_meaning scope pair.0 >>= λ new. Ok (new, type_variable pair.1)
+
+-- what each of a list is read as, from left to right
+abbrev pub each : {A B : Type 0} → (A → Result B Fault) → List A → Result (List B) Fault
+each read [] = Ok []
+each read (x ∷ xs) = read x >>= λ first. each read xs >>= λ others. Ok (first ∷ others)
+
+-- what was read, and then the stored theorem of a name
+abbrev pub with_stored : {A : Type 0} → Result A Fault → State → List ℕ → Result (A × Theorem) Fault
+with_stored read state name = read >>= λ theta. given (state.theorems name) UnknownName (λ theorem. Ok (theta, theorem))
+
+-- the answer is the refusal, where there is one, else a theorem of which the fact holds
+abbrev pub IsSettled : Option Fault → (Theorem → Type 0) → Result Theorem Fault → Type 0
+IsSettled refusal fact (Ok theorem) = (refusal ≡ None) × fact theorem
+IsSettled refusal fact (Err fault) = refusal ≡ Some fault
+
+-- the answer for what was read, by the refusal and the fact of a rule
+abbrev pub IsAnswerFor : {A : Type 0} → (A → Theorem → Option Fault) → (A → Theorem → Theorem → Type 0) → Result (A × Theorem) Fault → Result Theorem Fault → Type 0
+IsAnswerFor refusal fact (Ok read) answer = IsSettled (refusal read.0 read.1) (fact read.0 read.1) answer
+IsAnswerFor refusal fact (Err fault) answer = answer ≡ Err fault
+
+-- what a rule answers: its arguments from left to right, then the rule
+abbrev pub IsRuleAnswer : State → RuleTree → Result Theorem Fault → Type 0
+IsRuleAnswer state (by_term rule tree) answer = (meaning (scope_in state) [] tree >>= λ term. term_rule_outcome rule state.theory term) ≡ answer
+IsRuleAnswer state (by_pair rule a b) answer =
+    stored state a (λ first. stored state b (λ second. pair_rule_outcome rule state.theory first second)) ≡ answer
+IsRuleAnswer state (by_abs tree a) answer =
+    (meaning (scope_in state) [] tree >>= λ binder. stored state a (λ theorem. abs_outcome state.theory binder theorem)) ≡ answer
+IsRuleAnswer state (by_inst pairs a) answer =
+    IsAnswerFor (inst_refusal state.theory) (IsInst state.theory) (with_stored (each (replacement (scope_in state)) pairs) state a) answer
+IsRuleAnswer state (by_inst_type pairs a) answer =
+    IsAnswerFor (inst_type_refusal state.theory) (IsInstType state.theory) (with_stored (each (type_replacement (scope_in state)) pairs) state a) answer
+IsRuleAnswer state (by_axiom rule) answer = Ok (axiom_theorem rule state.theory) ≡ answer
 
 -- ---- commands
 
@@ -120,8 +154,8 @@ pub data Allows : State → Option (List ℕ) → Reply → State → Type 0 whe
   is_no_command : {state : State} {text : List ℕ} → ((tree : CommandTree) → ¬ (SpellsCommand text tree)) → Allows state (Some text) (refused Syntax) state
   thm_has_bad_name : {state : State} {text name : List ℕ} {rule : RuleTree} → SpellsCommand text (thm_command name rule) → is_theorem_name name ≡ false → Allows state (Some text) (refused BadName) state
   thm_has_taken_name : {state : State} {text name : List ℕ} {rule : RuleTree} {there : Theorem} → SpellsCommand text (thm_command name rule) → is_theorem_name name ≡ true → state.theorems name ≡ Some there → Allows state (Some text) (refused NameTaken) state
-  thm_is_refused : {state : State} {text name : List ℕ} {rule : RuleTree} {fault : Fault} → SpellsCommand text (thm_command name rule) → is_theorem_name name ≡ true → state.theorems name ≡ None → rule_outcome state rule ≡ Err fault → Allows state (Some text) (refused fault) state
-  thm_stores : {state : State} {text name : List ℕ} {rule : RuleTree} {theorem : Theorem} → SpellsCommand text (thm_command name rule) → is_theorem_name name ≡ true → state.theorems name ≡ None → rule_outcome state rule ≡ Ok theorem → Allows state (Some text) (proves name theorem) (with_theorem state name theorem)
+  thm_is_refused : {state : State} {text name : List ℕ} {rule : RuleTree} {fault : Fault} → SpellsCommand text (thm_command name rule) → is_theorem_name name ≡ true → state.theorems name ≡ None → IsRuleAnswer state rule (Err fault) → Allows state (Some text) (refused fault) state
+  thm_stores : {state : State} {text name : List ℕ} {rule : RuleTree} {theorem : Theorem} → SpellsCommand text (thm_command name rule) → is_theorem_name name ≡ true → state.theorems name ≡ None → IsRuleAnswer state rule (Ok theorem) → Allows state (Some text) (proves name theorem) (with_theorem state name theorem)
   var_is_refused : {state : State} {text name : List ℕ} {tree : TypeTree} {fault : Fault} → SpellsCommand text (var_command name tree) → type_meaning (scope_in state) tree ≡ Err fault → Allows state (Some text) (refused fault) state
   var_declares : {state : State} {text name : List ℕ} {tree : TypeTree} {ty : HolType} → SpellsCommand text (var_command name tree) → type_meaning (scope_in state) tree ≡ Ok ty → Allows state (Some text) accepts (with_variable state name ty)
   def_is_refused : {state : State} {text name : List ℕ} {tree : TermTree} {fault : Fault} → SpellsCommand text (def_command name tree) → def_outcome state name tree ≡ Err fault → Allows state (Some text) (refused fault) state
@@ -209,7 +243,7 @@ pub record IsRun (script out : List ℕ) (counts : Counts) : Type 0 where
   pub cuts : Cuts script pieces last
   pub replies : List Reply
   pub final : State
-  pub session : Session start (requests 1 pieces last) replies out final
+  pub session : Session start (requested 1 pieces last) replies out final
   pub counted : counts ≡ counts_after no_counts replies
 
 -- the bytes are those that a device tells, where it tells any

@@ -24,11 +24,14 @@ pub enum Axiom {
     Select,
 }
 
-/// A rule, by the arguments that it takes: a term, two theorems, a variable and a theorem, or none.
+/// A rule, by the arguments that it takes: a term, two theorems, a variable and a theorem, replacements and a theorem, or
+/// none.
 #[derive(Clone, Copy, Debug, PartialEq, Eq)]
 pub enum RuleKind {
     Term(TermRule),
     Pair(PairRule),
     Abs,
+    Inst,
+    InstType,
     Axiom(Axiom),
 }

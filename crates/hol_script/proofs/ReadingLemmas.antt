@@ -13,13 +13,13 @@ use Rattle.hol_model.specs.declared.rule.TermRule.TheVariants.{Refl, Beta, Assum
 use Rattle.hol_model.specs.declared.rule.PairRule.TheVariants.{Trans, MkComb, EqMp, DeductAntisym}
 use Rattle.hol_model.specs.declared.rule.Axiom.TheVariants.{Eta, Select}
 use Rattle.hol_model.specs.declared.rule.RuleKind.{RuleKind}
-use Rattle.hol_model.specs.declared.rule.RuleKind.TheVariants.{Term, Pair, Abs, Axiom as OfAxiom}
+use Rattle.hol_model.specs.declared.rule.RuleKind.TheVariants.{Term, Pair, Abs, Inst, InstType, Axiom as OfAxiom}
 use Rattle.hol_model.specs.Token.{Token, Name, Number, Mark}
 use Rattle.hol_model.specs.Lexing.{Lexes, IsToken, IsIdentifier, Every, is_name_byte}
 use Rattle.hol_model.specs.TypeGrammar.{TypeTree, Named, Enclosed, Function, type_tokens}
 use Rattle.hol_model.specs.TermGrammar.{Bare, Variable, Constant, TermTree, Leaf, Apply, Not, Join, Bind, IsConstantName, IsTermTree, Infix, IffInfix, ImpliesInfix, OrInfix, AndInfix, EqualInfix, Binder, Lambda, ForAll, Exists, Choice, Lexeme, InfixPiece, BinderPiece, pieces, all_tokens, IsReadTerm}
 use Rattle.hol_model.specs.TermGrammar.{Enclosed as EnclosedTerm}
-use Rattle.hol_model.specs.Commands.{RuleTree, by_term, by_pair, by_abs, by_axiom, CommandTree, thm_command, show_command, var_command, def_command, newtype_command, newconst_command, kind_of, rule_word, quote_tokens, argument_tokens, rule_tokens, command_tokens, IsQuotable, IsRuleTree, IsCommandTree, IsReadCommand}
+use Rattle.hol_model.specs.Commands.{RuleTree, by_term, by_pair, by_abs, by_inst, by_inst_type, by_axiom, CommandTree, thm_command, show_command, var_command, def_command, newtype_command, newconst_command, kind_of, rule_word, quoted, quote_tokens, argument_tokens, rule_tokens, command_tokens, IsQuotable, IsRuleTree, IsCommandTree, IsReadCommand}
 use Rattle.hol_model.proofs.Tests.{both}
 use Rattle.hol_syntax.specs.declared.token.Token.{Token as TokenHere}
 use Rattle.hol_syntax.specs.declared.token.Token.TheVariants.{Name as NameHere}
@@ -29,7 +29,7 @@ use Rattle.hol_syntax.specs.declared.type_reader.ReadError.TheVariants.{Memory, 
 use Rattle.hol_syntax.specs.declared.type_reader.TypeStep.{TypeStep}
 use Rattle.hol_syntax.specs.TermStates.{Parses}
 use Rattle.hol_syntax.specs.TypeStates.{ParsesType}
-use Rattle.hol_script.specs.Reading.{AreTokens, is_quote, HasNoQuote, quoted, rule_kind_of, kind_of_command, command_word, command_kind_of, name_in_command, body_tokens, ParsesQuote, ParsesTyping, ParsesArguments, ParsesRule, ParsesBody, ParsesCommand}
+use Rattle.hol_script.specs.Reading.{AreTokens, is_quote, HasNoQuote, rule_kind_of, kind_of_command, command_word, command_kind_of, name_in_command, body_tokens, ParsesQuote, ParsesTyping, ParsesArguments, ParsesRule, ParsesBody, ParsesCommand}
 use Rattle.hol_script.specs.declared.command.Rule.{Rule}
 use Rattle.hol_script.specs.declared.command.Command.{Command}
 use Rattle.hol_script.specs.declared.command.CommandKind.{CommandKind}
@@ -59,7 +59,7 @@ name-front (token ∷ tokens) default bytes within is all = identifier-test byte
 
 -- ---- quotes
 
-type-no_quote : (tree : TypeTree) (rest : List Token) → HasNoQuote rest → HasNoQuote (type_tokens tree rest)
+pub type-no_quote : (tree : TypeTree) (rest : List Token) → HasNoQuote rest → HasNoQuote (type_tokens tree rest)
 type-no_quote (Named name) rest none = (refl, none)
 type-no_quote (Enclosed tree) rest none = (refl, type-no_quote tree _ (refl, none))
 type-no_quote (Function a b) rest none = type-no_quote a _ (refl, type-no_quote b rest none)
@@ -120,7 +120,7 @@ split_once (x ∷ a) (y ∷ b) r s none_a none_b same =
 pub quoted_once : (a b r s : List Token) → HasNoQuote a → HasNoQuote b → quoted a r ≡ quoted b s → SamePieces a b r s
 quoted_once a b r s none_a none_b same = split_once a b r s none_a none_b (let further : a ++ Mark Backquote ∷ r ≡ b ++ Mark Backquote ∷ s = cc in further)
 
-quotable-no_quote : (tree : TermTree) → IsQuotable tree → HasNoQuote (all_tokens (pieces tree []))
+pub quotable-no_quote : (tree : TermTree) → IsQuotable tree → HasNoQuote (all_tokens (pieces tree []))
 quotable-no_quote tree quotable = term-no_quote tree [] quotable.0 tt
 
 -- two quoted terms with what follows them
@@ -230,6 +230,8 @@ more-behind rule tokens rest tree quotable read more (by_term named argument) gr
     some-left rest more (same_rest tokens (tokens_of rest) [] tree argument quotable grammatical read same)
 more-behind rule tokens rest tree quotable read more (by_pair named a b) grammatical kind same = cc
 more-behind rule tokens rest tree quotable read more (by_abs argument a) grammatical kind same = cc
+more-behind rule tokens rest tree quotable read more (by_inst pairs a) grammatical kind same = cc
+more-behind rule tokens rest tree quotable read more (by_inst_type pairs a) grammatical kind same = cc
 more-behind rule tokens rest tree quotable read more (by_axiom named) grammatical kind same = cc
 
 -- a quoted term with no name alone behind it is no argument of ABS
@@ -239,6 +241,8 @@ no-name-behind tokens rest tree quotable read none (by_abs argument a) grammatic
     none a (same_rest tokens rest (Name a ∷ []) tree argument quotable grammatical read same)
 no-name-behind tokens rest tree quotable read none (by_term named argument) grammatical kind same = cc
 no-name-behind tokens rest tree quotable read none (by_pair named a b) grammatical kind same = cc
+no-name-behind tokens rest tree quotable read none (by_inst pairs a) grammatical kind same = cc
+no-name-behind tokens rest tree quotable read none (by_inst_type pairs a) grammatical kind same = cc
 no-name-behind tokens rest tree quotable read none (by_axiom named) grammatical kind same = cc
 
 -- ---- words
@@ -252,6 +256,8 @@ word-kind (Pair MkComb) = refl
 word-kind (Pair EqMp) = refl
 word-kind (Pair DeductAntisym) = refl
 word-kind Abs = refl
+word-kind Inst = refl
+word-kind InstType = refl
 word-kind (OfAxiom Eta) = refl
 word-kind (OfAxiom Select) = refl
 
@@ -274,8 +280,10 @@ kind-word word kind found =
     chosen word (codes "EQ_MP") (Pair EqMp) kind _ refl found (λ found.
     chosen word (codes "DEDUCT_ANTISYM_RULE") (Pair DeductAntisym) kind _ refl found (λ found.
     chosen word (codes "ABS") Abs kind _ refl found (λ found.
+    chosen word (codes "INST") Inst kind _ refl found (λ found.
+    chosen word (codes "INST_TYPE") InstType kind _ refl found (λ found.
     chosen word (codes "ETA") (OfAxiom Eta) kind _ refl found (λ found.
-    chosen word (codes "SELECT") (OfAxiom Select) kind None refl found (λ found. cc))))))))))
+    chosen word (codes "SELECT") (OfAxiom Select) kind None refl found (λ found. cc))))))))))))
 
 -- ---- rules
 

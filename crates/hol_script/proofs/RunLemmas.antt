@@ -5,7 +5,7 @@ use Rattle.std.specs.Io.KnownBytes.{Appends}
 use Rattle.hol_model.specs.declared.fault.Fault.{Fault}
 use Rattle.hol_model.specs.declared.fault.Fault.TheVariants.{Memory, Syntax}
 use Rattle.hol_model.specs.Reading.{Scope}
-use Rattle.hol_model.specs.Script.{begins_mark, has_mark, IsCut, Cuts, Request, line_feeds, leading_line_feeds, is_blank_text, request_and, requests}
+use Rattle.hol_model.specs.Script.{begins_mark, has_mark, IsCut, Cuts, Request, line_feeds, leading_line_feeds, is_blank_text, request_and, requested}
 use Rattle.hol_model.specs.Sessions.{State, start, scope_in, Reply, proves, accepts, refused, finds_no_memory, is_unfinished, Turn, Session, Counts, no_counts, counting, counts_after, reply_text, refusal_line, IsRun, Tells, Completes, Stops}
 use Rattle.hol_model.proofs.Tests.{first_of_both, second_of_both}
 use Rattle.hol_script.specs.declared.session.Printed.{Printed}
@@ -92,7 +92,7 @@ module _ (script : List ℕ) where
   -- what is left of a script decides the run: whatever its session replies, the whole is a run
   pub record SoFar (state : State) (line : ℕ) (left out : List ℕ) (counts : Counts) : Type 0 where
     pub decides : (pieces : List (List ℕ)) (last : List ℕ) → Cuts left pieces last → (replies : List Reply) (final : State) (text : List ℕ)
-        → Session state (requests line pieces last) replies text final → IsRun script (out ++ text) (counts_after counts replies)
+        → Session state (requested line pieces last) replies text final → IsRun script (out ++ text) (counts_after counts replies)
 
   pub begun : SoFar start 1 script [] no_counts
   begun = record { decides = λ pieces last cuts replies final text session. record { pieces = pieces; last = last; cuts = cuts; replies = replies; final = final; session = session; counted = refl } }
@@ -103,7 +103,7 @@ module _ (script : List ℕ) where
   passed {state} {line} piece behind so_far cut blank = record {
     decides = λ pieces last cuts replies final text session.
         so_far.decides (piece ∷ pieces) last (behind, cut, cuts) replies final text
-        (subst (λ (b : Bool). Session state (request_and b (record { line = line + leading_line_feeds piece; text = Some piece }) (requests (line + line_feeds piece) pieces last)) replies text final) (sym blank) session);
+        (subst (λ (b : Bool). Session state (request_and b (record { line = line + leading_line_feeds piece; text = Some piece }) (requested (line + line_feeds piece) pieces last)) replies text final) (sym blank) session);
   }
 
   -- a turn of the session
@@ -115,7 +115,7 @@ module _ (script : List ℕ) where
         let here = reply_text (line + leading_line_feeds piece) (scope_in new) reply in
         subst (λ (l : List ℕ). IsRun script l (counts_after (counting counts reply) replies)) (sym (append_assoc out here text))
         (so_far.decides (piece ∷ pieces) last (behind, cut, cuts) (reply ∷ replies) final (here ++ text)
-        (subst (λ (b : Bool). Session old (request_and b (record { line = line + leading_line_feeds piece; text = Some piece }) (requests (line + line_feeds piece) pieces last)) (reply ∷ replies) (here ++ text) final)
+        (subst (λ (b : Bool). Session old (request_and b (record { line = line + leading_line_feeds piece; text = Some piece }) (requested (line + line_feeds piece) pieces last)) (reply ∷ replies) (here ++ text) final)
         (sym filled) (new, text, turn, session, refl)));
   }
 
@@ -140,7 +140,7 @@ module _ (script : List ℕ) where
       → Tells input script → Appends written now front → Stops input written now
   stopped {state} {line} {left} {out} {counts} front rest so_far same read wrote =
       let more : HasPieces left = has_pieces left in
-      let asked = requests line more.pieces more.last in
+      let asked = requested line more.pieces more.last in
       record {
         script = script;
         out = front;

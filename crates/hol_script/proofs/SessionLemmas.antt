@@ -12,7 +12,7 @@ use Rattle.hol_model.specs.Lexing.{Lexes}
 use Rattle.hol_model.specs.Commands.{RuleTree, CommandTree, thm_command, show_command, var_command, def_command, newtype_command, newconst_command, IsReadCommand, SpellsCommand}
 use Rattle.hol_model.specs.Theory.{IsEarlier}
 use Rattle.hol_model.specs.Theorem.{Theorem}
-use Rattle.hol_model.specs.Sessions.{State, scope_in, proves, accepts, refused, Allows, finds_no_memory, is_no_command, thm_is_refused, thm_stores, is_theorem_name, rule_outcome, with_theorem, IsProved, theorem_line}
+use Rattle.hol_model.specs.Sessions.{State, scope_in, proves, accepts, refused, Allows, finds_no_memory, is_no_command, thm_is_refused, thm_stores, is_theorem_name, IsRuleAnswer, with_theorem, IsProved, theorem_line}
 use Rattle.hol_model.specs.TypeGrammar.{TypeTree, type_steps}
 use Rattle.hol_model.specs.TermGrammar.{TermTree}
 use Rattle.hol_syntax.specs.declared.type_reader.TypeStep.{TypeStep}
@@ -91,13 +91,13 @@ untaken (Some theorem) stored same is = cc
 
 -- a rule that is refused
 pub thm_refuses : (state : State) (text name : List ℕ) (tree : RuleTree) (fault : Fault) → SpellsCommand text (thm_command name tree) → is_theorem_name name ≡ true → state.theorems name ≡ None
-    → (fault ≡ Memory) ⊎ (rule_outcome state tree ≡ Err fault) → Turns state (Some text) (Err fault) state
+    → (fault ≡ Memory) ⊎ (IsRuleAnswer state tree (Err fault)) → Turns state (Some text) (Err fault) state
 thm_refuses state text name tree fault spelled is_name new (inl memory) = forgets state (Some text) fault memory
 thm_refuses state text name tree fault spelled is_name new (inr outcome) = refuses state (Some text) fault (thm_is_refused spelled is_name new outcome)
 
 -- a theorem that is stored
 pub thm_prints : (old new : State) (text name : List ℕ) (tree : RuleTree) (theorem : Theorem) (line : String Global) → SpellsCommand text (thm_command name tree) → is_theorem_name name ≡ true
-    → old.theorems name ≡ None → rule_outcome old tree ≡ Ok theorem → IsProved old.theory theorem → string_bytes line ≡ theorem_line (scope_in old) name theorem
+    → old.theorems name ≡ None → IsRuleAnswer old tree (Ok theorem) → IsProved old.theory theorem → string_bytes line ≡ theorem_line (scope_in old) name theorem
     → new ≡ with_theorem old name theorem → Turns old (Some text) (Ok (Line line)) new
 thm_prints old new text name tree theorem line spelled is_name none outcome proved says stored =
     subst (λ (state : State). Turns old (Some text) (Ok (Line line)) state) (sym stored)

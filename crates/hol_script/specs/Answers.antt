@@ -1,11 +1,12 @@
 -- What a call on a session answers.
-use Rattle.std.specs.Prelude.{◌≡◌, ℕ, List, [], Option, Some, None, Result, Ok, Err, string_bytes}
-use Rattle.std.proofs.Common.{Bor}
+use Rattle.std.specs.Prelude.{◌≡◌, ◌⊎◌, ℕ, List, [], Option, Some, None, Result, Ok, Err, string_bytes}
+use Rattle.std.proofs.Common.{Bor, Vec, Global}
 use Rattle.hol_model.specs.declared.fault.Fault.{Fault}
-use Rattle.hol_model.specs.declared.fault.Fault.TheVariants.{UnknownName}
+use Rattle.hol_model.specs.declared.fault.Fault.TheVariants.{Memory, UnknownName}
 use Rattle.hol_model.specs.Theorem.{Theorem}
+use Rattle.hol_model.specs.Commands.{RuleTree}
 use Rattle.hol_model.specs.Reading.{Scope}
-use Rattle.hol_model.specs.Sessions.{State, Reply, proves, accepts, refused, Turn, scope_in, theorem_line, refusal_line}
+use Rattle.hol_model.specs.Sessions.{State, IsRuleAnswer, Reply, proves, accepts, refused, Turn, scope_in, theorem_line, refusal_line}
 use Rattle.hol_script.specs.declared.session.Printed.{Printed}
 use Rattle.hol_script.specs.declared.session.Printed.TheVariants.{Nothing, Line}
 
@@ -20,6 +21,16 @@ Says (Err fault) scope reply = reply ≡ refused fault
 abbrev pub IsStored : Result (Bor Theorem) Fault → Option Theorem → Type 0
 IsStored (Ok theorem) found = found ≡ Some theorem.now
 IsStored (Err fault) found = (fault ≡ UnknownName) × (found ≡ None)
+
+-- what the rule may answer, or that there is no memory
+abbrev pub AnswersRule : Result Theorem Fault → State → RuleTree → Type 0
+AnswersRule (Ok theorem) state tree = IsRuleAnswer state tree (Ok theorem)
+AnswersRule (Err fault) state tree = (fault ≡ Memory) ⊎ IsRuleAnswer state tree (Err fault)
+
+-- the items of this outcome, or that there is no memory
+abbrev pub AnswersItems : {A : Type 0} → Result (Vec A Global) Fault → Result (List A) Fault → Type 0
+AnswersItems (Ok x) outcome = outcome ≡ Ok x.items
+AnswersItems (Err fault) outcome = (fault ≡ Memory) ⊎ (outcome ≡ Err fault)
 
 -- a turn of a session, and what the call answers in it
 pub record Turns (old : State) (text : Option (List ℕ)) (result : Result Printed Fault) (new : State) : Type 0 where

@@ -1,6 +1,7 @@
 pub mod Bytes
 pub mod Views
 pub mod Reading
+pub mod Pairs
 pub mod SessionState
 pub mod Answers
 pub mod Growth

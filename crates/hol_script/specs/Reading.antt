@@ -8,12 +8,12 @@ use Rattle.hol_model.specs.declared.rule.TermRule.TheVariants.{Refl, Beta, Assum
 use Rattle.hol_model.specs.declared.rule.PairRule.TheVariants.{Trans, MkComb, EqMp, DeductAntisym}
 use Rattle.hol_model.specs.declared.rule.Axiom.TheVariants.{Eta, Select}
 use Rattle.hol_model.specs.declared.rule.RuleKind.{RuleKind}
-use Rattle.hol_model.specs.declared.rule.RuleKind.TheVariants.{Term, Pair, Abs, Axiom as OfAxiom}
+use Rattle.hol_model.specs.declared.rule.RuleKind.TheVariants.{Term, Pair, Abs, Inst, InstType, Axiom as OfAxiom}
 use Rattle.hol_model.specs.Token.{Token, Name, Mark}
 use Rattle.hol_model.specs.Lexing.{IsToken}
 use Rattle.hol_model.specs.TypeGrammar.{TypeTree, type_tokens, type_steps}
 use Rattle.hol_model.specs.TermGrammar.{TermTree, IsWithin}
-use Rattle.hol_model.specs.Commands.{RuleTree, CommandTree, thm_command, show_command, var_command, def_command, newtype_command, newconst_command, kind_of, quote_tokens, argument_tokens, rule_tokens, IsQuotable, IsRuleTree, IsCommandTree, IsReadCommand}
+use Rattle.hol_model.specs.Commands.{RuleTree, CommandTree, thm_command, show_command, var_command, def_command, newtype_command, newconst_command, kind_of, quoted, quote_tokens, list_tokens, argument_tokens, rule_tokens, IsQuotable, IsRuleTree, IsCommandTree, IsReadCommand}
 use Rattle.hol_syntax.specs.declared.token.Token.{Token as TokenHere}
 use Rattle.hol_syntax.specs.declared.type_reader.ReadError.{ReadError}
 use Rattle.hol_syntax.specs.declared.type_reader.ReadError.TheVariants.{Memory, Syntax}
@@ -59,10 +59,6 @@ abbrev pub HasNoQuote : List Token → Type 0
 HasNoQuote [] = Unit {0}
 HasNoQuote (token ∷ tokens) = (is_quote token ≡ false) × HasNoQuote tokens
 
--- the tokens between two backquotes, and then the rest
-abbrev pub quoted : List Token → List Token → List Token
-quoted inner rest = Mark Backquote ∷ (inner ++ Mark Backquote ∷ rest)
-
 abbrev pub TakesQuote : Option (Bor (List TokenHere) × Bor (List TokenHere)) → List Token → Type 0
 TakesQuote None tokens = (inner rest : List Token) → tokens ≢ quoted inner rest
 TakesQuote (Some x) tokens = (tokens ≡ quoted (tokens_of x.0.now) (tokens_of x.1.now)) × HasNoQuote (tokens_of x.0.now)
@@ -84,8 +80,10 @@ rule_kind_of word =
     (if bytes_eq word (codes "EQ_MP") then Some (Pair EqMp) else
     (if bytes_eq word (codes "DEDUCT_ANTISYM_RULE") then Some (Pair DeductAntisym) else
     (if bytes_eq word (codes "ABS") then Some Abs else
+    (if bytes_eq word (codes "INST") then Some Inst else
+    (if bytes_eq word (codes "INST_TYPE") then Some InstType else
     (if bytes_eq word (codes "ETA") then Some (OfAxiom Eta) else
-    (if bytes_eq word (codes "SELECT") then Some (OfAxiom Select) else None)))))))))
+    (if bytes_eq word (codes "SELECT") then Some (OfAxiom Select) else None)))))))))))
 
 abbrev pub ParsesArguments : Result Rule ReadError → RuleKind → List Token → Type 0
 ParsesArguments (Ok rule) kind tokens =

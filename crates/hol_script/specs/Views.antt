@@ -1,20 +1,46 @@
 -- The commands of the code as those of the grammar.
-use Rattle.std.specs.Prelude.{◌≡◌}
-use Rattle.hol_model.specs.Commands.{RuleTree, by_term, by_pair, by_abs, by_axiom, CommandTree, thm_command, show_command, var_command, def_command, newtype_command, newconst_command}
-use Rattle.hol_model.specs.TypeGrammar.{type_steps}
+use Rattle.std.specs.Prelude.{◌≡◌, ℕ, true, List, [], ◌∷◌}
+use Rattle.hol_model.specs.Name.{is_type_variable_name}
+use Rattle.hol_model.specs.Commands.{RuleTree, by_term, by_pair, by_abs, by_inst, by_inst_type, by_axiom, CommandTree, thm_command, show_command, var_command, def_command, newtype_command, newconst_command}
+use Rattle.hol_model.specs.TypeGrammar.{TypeTree, type_steps}
+use Rattle.hol_model.specs.TermGrammar.{TermTree}
 use Rattle.hol_syntax.specs.TermSteps.{term_steps, flat_steps}
 use Rattle.hol_syntax.specs.Views.{steps_of}
 use Rattle.hol_syntax.specs.Steps.{flat_steps_of}
 use Rattle.hol_script.specs.declared.command.Rule.{Rule}
-use Rattle.hol_script.specs.declared.command.Rule.TheVariants.{OfTerm, OfTheorems, Abs, OfAxiom}
+use Rattle.hol_script.specs.declared.command.Rule.TheVariants.{OfTerm, OfTheorems, Abs, Inst, InstType, OfAxiom}
+use Rattle.hol_script.specs.declared.pairs.TermPair.{TermPair}
+use Rattle.hol_script.specs.declared.pairs.TypePair.{TypePair}
 use Rattle.hol_script.specs.declared.command.Command.{Command}
 use Rattle.hol_script.specs.declared.command.Command.TheVariants.{Thm, Show, Var, Def, NewType, NewConst}
+
+-- the relation holds of the items of two lists, one by one
+abbrev pub Match : {A B : Type 0} → (A → B → Type 0) → List A → List B → Type 0
+Match fact [] [] = Unit {0}
+Match fact (x ∷ xs) (y ∷ ys) = fact x y × Match fact xs ys
+Match fact _ _ = ⊥
+
+-- the pair has the terms of the trees by their steps
+abbrev pub IsTermPair : TermPair → TermTree × TermTree → Type 0
+IsTermPair pair trees = (flat_steps_of pair.new.items ≡ flat_steps (term_steps trees.0)) × (flat_steps_of pair.old.items ≡ flat_steps (term_steps trees.1))
+
+abbrev pub AreTermPairs : List TermPair → List (TermTree × TermTree) → Type 0
+AreTermPairs pairs trees = Match IsTermPair pairs trees
+
+-- the pair has the type of the tree by its steps, and the type variable
+abbrev pub IsTypePair : TypePair → TypeTree × List ℕ → Type 0
+IsTypePair pair parts = (steps_of pair.new.items ≡ type_steps parts.0) × (pair.old.now ≡ parts.1) × (is_type_variable_name parts.1 ≡ true)
+
+abbrev pub AreTypePairs : List TypePair → List (TypeTree × List ℕ) → Type 0
+AreTypePairs pairs trees = Match IsTypePair pairs trees
 
 -- the rule has the arguments of the tree, its terms by their steps
 abbrev pub IsRule : Rule → RuleTree → Type 0
 IsRule (OfTerm rule steps) (by_term other tree) = (rule ≡ other) × (flat_steps_of steps.items ≡ flat_steps (term_steps tree))
 IsRule (OfTheorems rule a b) (by_pair other c d) = (rule ≡ other) × (a.now ≡ c) × (b.now ≡ d)
 IsRule (Abs steps a) (by_abs tree b) = (flat_steps_of steps.items ≡ flat_steps (term_steps tree)) × (a.now ≡ b)
+IsRule (Inst pairs a) (by_inst others b) = AreTermPairs pairs.items others × (a.now ≡ b)
+IsRule (InstType pairs a) (by_inst_type others b) = AreTypePairs pairs.items others × (a.now ≡ b)
 IsRule (OfAxiom rule) (by_axiom other) = rule ≡ other
 IsRule _ _ = ⊥
 

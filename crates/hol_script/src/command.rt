@@ -1,19 +1,23 @@
 // Commands, read from the tokens of a text.
 ghost use Rattle.std.specs.Prelude.{◌≡◌};
-ghost use Rattle.hol_syntax.specs.Views.{token_of, tokens_of};
-ghost use Rattle.hol_script.specs.Reading as reading;
-ghost use Rattle.hol_script.specs.Reading.{AreTokens, rule_kind_of, command_kind_of, TakesName, TakesOnlyName, TakesMark, TakesQuote, ParsesQuote, ParsesTyping, ParsesArguments, ParsesRule, ParsesBody, ParsesCommand};
+ghost use Rattle.hol_syntax.specs.Views.{tokens_of};
+ghost use Rattle.hol_script.specs.Reading.{AreTokens, rule_kind_of, command_kind_of, ParsesQuote, ParsesTyping, ParsesArguments, ParsesRule, ParsesBody, ParsesCommand};
+ghost use Rattle.hol_script.specs.Pairs.{ParsesPairs};
 
+use crate::pairs::{QuotedPair, TermPair, TypePair, parse_term_pairs, parse_type_pairs, take_pairs};
+use crate::tokens::{only_name, take_mark, take_name, take_quote};
 use hol_model::{Axiom, PairRule, RuleKind, Symbol, TermRule};
-use hol_syntax::{ReadError, TermStep, Token, TypeStep, identifier, parse_term, parse_type};
+use hol_syntax::{ReadError, TermStep, Token, TypeStep, parse_term, parse_type};
 use std::alloc::Global;
 
-/// A rule with its arguments: terms by their steps, theorems by their names.
+/// A rule with its arguments: terms and types by their steps, theorems and type variables by their names.
 #[derive(Drop)]
 pub enum Rule<'a> {
     OfTerm(TermRule, Vec<TermStep<'a>>),
     OfTheorems(PairRule, &'a str, &'a str),
     Abs(Vec<TermStep<'a>>, &'a str),
+    Inst(Vec<TermPair<'a>>, &'a str),
+    InstType(Vec<TypePair<'a>>, &'a str),
     OfAxiom(Axiom),
 }
 
@@ -37,60 +41,6 @@ enum CommandKind {
     Def,
     NewType,
     NewConst,
-}
-
-// The name at the front of the tokens, and what follows it.
-fn take_name<'a>(tokens: &'a [Token<'a>]) -> Option<(&'a str, &'a [Token<'a>])>
-    requires { AreTokens (tokens_of tokens.now) }
-    ensures { TakesName result (tokens_of tokens.now) }
-{
-    match tokens {
-        [Token::Name(bytes), rest @ ..] => match identifier(bytes) {
-            Some(name) => Some((name, rest)),
-            None => None,
-        },
-        _ => None,
-    }
-}
-
-// The name that the tokens are.
-fn only_name<'a>(tokens: &'a [Token<'a>]) -> Option<&'a str>
-    requires { AreTokens (tokens_of tokens.now) }
-    ensures { TakesOnlyName result (tokens_of tokens.now) }
-{
-    let (name, rest) = take_name(tokens)?;
-    if rest.is_empty() { Some(name) } else { None }
-}
-
-// What follows a mark at the front of the tokens.
-fn take_mark<'a>(tokens: &'a [Token<'a>], symbol: Symbol) -> Option<&'a [Token<'a>]>
-    ensures { TakesMark result symbol (tokens_of tokens.now) }
-{
-    match tokens {
-        [Token::Mark(other), rest @ ..] => { if *other == symbol { Some(rest) } else { None } }
-        _ => None,
-    }
-}
-
-fn is_quote(token: &Token<'_>) -> bool
-    ensures { result ≡ reading.is_quote (token_of token.now) }
-{
-    matches!(token, Token::Mark(Symbol::Backquote))
-}
-
-// The tokens between two backquotes at the front, and what follows them.
-fn take_quote<'a>(tokens: &'a [Token<'a>]) -> Option<(&'a [Token<'a>], &'a [Token<'a>])>
-    ensures { TakesQuote result (tokens_of tokens.now) }
-{
-    let inner = take_mark(tokens, Symbol::Backquote)?;
-    let mut at = 0;
-    while at < inner.len() {
-        if is_quote(&inner[at]) {
-            return Some((&inner[..at], &inner[at + 1..]));
-        }
-        at += 1;
-    }
-    None
 }
 
 // The term between two backquotes at the front, and what follows them.
@@ -129,6 +79,10 @@ fn rule_kind(word: &str) -> Option<RuleKind>
         Some(RuleKind::Pair(PairRule::DeductAntisym))
     } else if word == "ABS" {
         Some(RuleKind::Abs)
+    } else if word == "INST" {
+        Some(RuleKind::Inst)
+    } else if word == "INST_TYPE" {
+        Some(RuleKind::InstType)
     } else if word == "ETA" {
         Some(RuleKind::Axiom(Axiom::Eta))
     } else if word == "SELECT" {
@@ -181,6 +135,54 @@ fn parse_abs<'a>(alloc: Global, tokens: &'a [Token<'a>]) -> Result<Rule<'a>, Rea
     }
 }
 
+// A list of pairs in brackets and the name of a theorem, and nothing else.
+fn parse_pairs<'a>(
+    alloc: Global,
+    tokens: &'a [Token<'a>],
+) -> Result<(Vec<QuotedPair<'a>>, &'a str), ReadError>
+    requires { AreTokens (tokens_of tokens.now) }
+    ensures { ParsesPairs result (tokens_of tokens.now) }
+{
+    let (pairs, rest) = match take_pairs(alloc, tokens) {
+        Ok(taken) => taken,
+        Err(error) => return Err(error),
+    };
+    match only_name(rest) {
+        Some(name) => Ok((pairs, name)),
+        None => Err(ReadError::Syntax),
+    }
+}
+
+// Pairs of quoted terms and the name of a theorem.
+fn parse_inst<'a>(alloc: Global, tokens: &'a [Token<'a>]) -> Result<Rule<'a>, ReadError>
+    requires { AreTokens (tokens_of tokens.now) }
+    ensures { ParsesArguments result RuleKind.Inst (tokens_of tokens.now) }
+{
+    let (pairs, name) = match parse_pairs(alloc, tokens) {
+        Ok(parsed) => parsed,
+        Err(error) => return Err(error),
+    };
+    match parse_term_pairs(alloc, &pairs) {
+        Ok(pairs) => Ok(Rule::Inst(pairs, name)),
+        Err(error) => Err(error),
+    }
+}
+
+// Pairs of a quoted type and a quoted type variable, and the name of a theorem.
+fn parse_inst_type<'a>(alloc: Global, tokens: &'a [Token<'a>]) -> Result<Rule<'a>, ReadError>
+    requires { AreTokens (tokens_of tokens.now) }
+    ensures { ParsesArguments result RuleKind.InstType (tokens_of tokens.now) }
+{
+    let (pairs, name) = match parse_pairs(alloc, tokens) {
+        Ok(parsed) => parsed,
+        Err(error) => return Err(error),
+    };
+    match parse_type_pairs(alloc, &pairs) {
+        Ok(pairs) => Ok(Rule::InstType(pairs, name)),
+        Err(error) => Err(error),
+    }
+}
+
 fn parse_axiom<'a>(named: Axiom, tokens: &'a [Token<'a>]) -> Result<Rule<'a>, ReadError>
     ensures { ParsesArguments result (RuleKind.Axiom named) (tokens_of tokens.now) }
 {
@@ -205,6 +207,8 @@ fn parse_rule<'a>(alloc: Global, tokens: &'a [Token<'a>]) -> Result<Rule<'a>, Re
         RuleKind::Term(rule) => parse_term_rule(alloc, rule, arguments),
         RuleKind::Pair(rule) => parse_pair_rule(rule, arguments),
         RuleKind::Abs => parse_abs(alloc, arguments),
+        RuleKind::Inst => parse_inst(alloc, arguments),
+        RuleKind::InstType => parse_inst_type(alloc, arguments),
         RuleKind::Axiom(axiom) => parse_axiom(axiom, arguments),
     }
 }

@@ -5,10 +5,14 @@ mod bytes;
 mod command;
 mod cut;
 mod execute;
+mod pairs;
 mod runner;
 mod session;
+mod tokens;
 
 pub use runner::{Summary, run};
 
+#[cfg(test)]
+mod replacement_tests;
 #[cfg(test)]
 mod tests;

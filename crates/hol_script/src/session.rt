@@ -4,11 +4,11 @@ ghost use Rattle.std.specs.Map.{update};
 ghost use Rattle.std.specs.Option.{option_map};
 ghost use Rattle.std.specs.Str.{bytes_eq};
 ghost use Rattle.indexmap.specs.IndexMap.{get_by_text, spare};
-ghost use Rattle.hol_model.specs.Commands.{RuleTree, by_term, by_abs, thm_command, show_command, var_command, def_command, newtype_command, newconst_command, SpellsCommand};
+ghost use Rattle.hol_model.specs.Commands.{RuleTree, by_term, by_abs, by_inst, by_inst_type, thm_command, show_command, var_command, def_command, newtype_command, newconst_command, SpellsCommand};
 ghost use Rattle.hol_model.specs.Outcome.{Answers};
 ghost use Rattle.hol_model.specs.Reading.{type_meaning, meaning};
 ghost use Rattle.hol_model.specs.Rules.{define_outcome, new_type_outcome, new_const_outcome};
-ghost use Rattle.hol_model.specs.Sessions.{start, scope_in, with_theorem, rule_outcome, term_rule_outcome, pair_rule_outcome};
+ghost use Rattle.hol_model.specs.Sessions.{start, each, scope_in, with_theorem, term_rule_outcome, pair_rule_outcome};
 ghost use Rattle.hol_model.specs.Sessions as spec;
 ghost use Rattle.hol_model.specs.TermGrammar.{TermTree};
 ghost use Rattle.hol_model.specs.TypeGrammar.{TypeTree, type_steps};
@@ -19,12 +19,13 @@ ghost use Rattle.hol_syntax.specs.Scope.{scope_of};
 ghost use Rattle.hol_syntax.specs.Steps.{flat_steps_of};
 ghost use Rattle.hol_syntax.specs.TermSteps.{term_steps, flat_steps};
 ghost use Rattle.hol_syntax.specs.Views.{steps_of};
-ghost use Rattle.hol_script.specs.Answers.{Turns};
+ghost use Rattle.hol_script.specs.Answers.{Turns, AnswersRule, AnswersItems};
 ghost use Rattle.hol_script.specs.Growth.{IsRefused, LeavesNone, MakesEquation, MakesLine, Defines, KeepsSession};
 ghost use Rattle.hol_script.specs.SessionState.{state_of, IsSession};
-ghost use Rattle.hol_script.specs.Views.{IsRule};
+ghost use Rattle.hol_script.specs.Views.{IsRule, IsTermPair, AreTermPairs, IsTypePair, AreTypePairs};
 
 use crate::command::Rule;
+use crate::pairs::{TermPair, TypePair};
 use hol_kernel::{Theory, Thm};
 use hol_model::{Axiom, Fault, PairRule, TermRule};
 use hol_sound::sound;
@@ -389,7 +390,7 @@ impl Session {
     // What a rule gives: its arguments from left to right, then the rule.
     fn apply(&self, alloc: Global, rule: &Rule) -> Result<Thm, Fault>
         requires { IsSession self.now }
-        ensures answers { (tree : RuleTree) → IsRule rule.now tree → Answers result (rule_outcome (state_of self.now) tree) }
+        ensures answers { (tree : RuleTree) → IsRule rule.now tree → AnswersRule result (state_of self.now) tree }
         ensures theorem { IfOk result IsTheorem }
         ensures stands_on { IfOk result (λ answer. answer.theory ≡ self.now.theory) }
     {
@@ -405,6 +406,8 @@ impl Session {
                 self.by_theorems(alloc, *rule, first, second)
             }
             Rule::Abs(steps, name) => self.abs(alloc, steps, name),
+            Rule::Inst(pairs, name) => self.inst(alloc, pairs, name),
+            Rule::InstType(pairs, name) => self.inst_type(alloc, pairs, name),
             Rule::OfAxiom(Axiom::Eta) => self.theory.eta(alloc),
             Rule::OfAxiom(Axiom::Select) => self.theory.select(alloc),
         }
@@ -445,7 +448,7 @@ impl Session {
     fn by_term(&self, alloc: Global, rule: TermRule, steps: &[TermStep]) -> Result<Thm, Fault>
         requires { IsSession self.now }
         ensures answers { (tree : TermTree) → flat_steps_of steps.now ≡ flat_steps (term_steps tree)
-            → Answers result (rule_outcome (state_of self.now) (by_term rule tree)) }
+            → AnswersRule result (state_of self.now) (by_term rule tree) }
         ensures theorem { IfOk result IsTheorem }
         ensures stands_on { IfOk result (λ answer. answer.theory ≡ self.now.theory) }
     {
@@ -459,7 +462,7 @@ impl Session {
     fn abs(&self, alloc: Global, steps: &[TermStep], name: &str) -> Result<Thm, Fault>
         requires { IsSession self.now }
         ensures answers { (tree : TermTree) → flat_steps_of steps.now ≡ flat_steps (term_steps tree)
-            → Answers result (rule_outcome (state_of self.now) (by_abs tree name.now)) }
+            → AnswersRule result (state_of self.now) (by_abs tree name.now) }
         ensures theorem { IfOk result IsTheorem }
         ensures stands_on { IfOk result (λ answer. answer.theory ≡ self.now.theory) }
     {
@@ -469,6 +472,106 @@ impl Session {
         };
         match self.theorem(name) {
             Some(theorem) => self.theory.abs(alloc, &binder, theorem),
+            None => Err(Fault::UnknownName),
+        }
+    }
+
+    // The terms of a pair.
+    fn replacement(&self, alloc: Global, pair: &TermPair) -> Result<(Term, Term), Fault>
+        requires { IsSession self.now }
+        ensures { (trees : TermTree × TermTree) → IsTermPair pair.now trees
+            → Answers result (spec.replacement (scope_in (state_of self.now)) trees) }
+    {
+        let new = match self.term(alloc, &pair.new) {
+            Ok(new) => new,
+            Err(fault) => return Err(fault),
+        };
+        match self.term(alloc, &pair.old) {
+            Ok(old) => Ok((new, old)),
+            Err(fault) => Err(fault),
+        }
+    }
+
+    // The replacements that pairs of terms are.
+    fn replacements(&self, alloc: Global, pairs: &[TermPair]) -> Result<Vec<(Term, Term)>, Fault>
+        requires { IsSession self.now }
+        ensures { (trees : List (TermTree × TermTree)) → AreTermPairs pairs.now trees
+            → AnswersItems result (each (spec.replacement (scope_in (state_of self.now))) trees) }
+    {
+        let mut theta = Vec::new(alloc);
+        for pair in pairs {
+            match self.replacement(alloc, pair) {
+                Ok(replacement) => theta.push(replacement)?,
+                Err(fault) => return Err(fault),
+            }
+        }
+        Ok(theta)
+    }
+
+    // INST
+    fn inst(&self, alloc: Global, pairs: &[TermPair], name: &str) -> Result<Thm, Fault>
+        requires { IsSession self.now }
+        ensures answers { (trees : List (TermTree × TermTree)) → AreTermPairs pairs.now trees
+            → AnswersRule result (state_of self.now) (by_inst trees name.now) }
+        ensures theorem { IfOk result IsTheorem }
+        ensures stands_on { IfOk result (λ answer. answer.theory ≡ self.now.theory) }
+    {
+        let theta = match self.replacements(alloc, pairs) {
+            Ok(theta) => theta,
+            Err(fault) => return Err(fault),
+        };
+        match self.theorem(name) {
+            Some(theorem) => self.theory.inst(alloc, &theta, theorem),
+            None => Err(Fault::UnknownName),
+        }
+    }
+
+    // The type and the type variable of a pair.
+    fn type_replacement(&self, alloc: Global, pair: &TypePair) -> Result<(Ty, Ty), Fault>
+        requires { IsSession self.now }
+        ensures { (trees : TypeTree × List ℕ) → IsTypePair pair.now trees
+            → Answers result (spec.type_replacement (scope_in (state_of self.now)) trees) }
+    {
+        let new = match self.ty(alloc, &pair.new) {
+            Ok(new) => new,
+            Err(fault) => return Err(fault),
+        };
+        match Ty::tyvar(alloc, pair.old) {
+            Ok(old) => Ok((new, old)),
+            Err(fault) => Err(fault),
+        }
+    }
+
+    // The replacements that pairs of a type and a type variable are.
+    fn type_replacements(&self, alloc: Global, pairs: &[TypePair]) -> Result<Vec<(Ty, Ty)>, Fault>
+        requires { IsSession self.now }
+        ensures { (trees : List (TypeTree × List ℕ)) → AreTypePairs pairs.now trees
+            → AnswersItems result (each (spec.type_replacement (scope_in (state_of self.now))) trees) }
+    {
+        let mut theta = Vec::new(alloc);
+        for pair in pairs {
+            match self.type_replacement(alloc, pair) {
+                Ok(replacement) => theta.push(replacement)?,
+                Err(fault) => return Err(fault),
+            }
+        }
+        Ok(theta)
+    }
+
+    // INST_TYPE
+    fn inst_type(&self, alloc: Global, pairs: &[TypePair], name: &str) -> Result<Thm, Fault>
+        requires { IsSession self.now }
+        ensures answers { (trees : List (TypeTree × List ℕ)) → AreTypePairs pairs.now trees
+            → AnswersRule result (state_of self.now) (by_inst_type trees name.now) }
+        ensures theorem { IfOk result IsTheorem }
+        ensures stands_on { IfOk result (λ answer. answer.theory ≡ self.now.theory) }
+    {
+        let theta = match self.type_replacements(alloc, pairs) {
+            Ok(theta) => theta,
+            Err(fault) => return Err(fault),
+        };
+        match self.theorem(name) {
+            Some(theorem) => self.theory.inst_type(alloc, &theta, theorem),
             None => Err(Fault::UnknownName),
         }
     }

@@ -35,8 +35,8 @@ impl Sink for Compared<'_> {
     }
 }
 
-// Whether a script writes this, and no more.
-fn writes(alloc: Global, script: &[u8], expected: &[u8]) -> Result<bool, Fault> {
+/// Whether a script writes this, and no more.
+pub fn writes(alloc: Global, script: &[u8], expected: &[u8]) -> Result<bool, Fault> {
     let mut reader = FromRead::new(script);
     let mut writer = Compared {
         rest: expected,

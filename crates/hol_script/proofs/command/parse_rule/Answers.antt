@@ -1,5 +1,5 @@
 use Rattle.std.proofs.Common.{◌≡◌, Some}
-use Rattle.hol_model.specs.declared.rule.RuleKind.TheVariants.{Term, Pair, Abs, Axiom}
+use Rattle.hol_model.specs.declared.rule.RuleKind.TheVariants.{Term, Pair, Abs, Inst, InstType, Axiom}
 use Rattle.hol_syntax.specs.Views.{tokens_of}
 use Rattle.hol_script.specs.Reading.{rule_kind_of}
 use Rattle.hol_script.proofs.ReadingLemmas.{rule-parsed}
@@ -19,6 +19,16 @@ pub returns-in-Abs : goal.returns-in-Abs
 returns-in-Abs c =
     let known : rule_kind_of c.in-Some.word.now ≡ Some Abs = cc (c.in-Some-rule_kind.ensures, c.in-Abs.is) in
     rule-parsed c.parse_abs.result Abs (tokens_of c.args.tokens.now) (tokens_of c.in-Some.arguments.now) c.in-Some.word.now c.in-Some.ensures known c.parse_abs.ensures
+
+pub returns-in-Inst : goal.returns-in-Inst
+returns-in-Inst c =
+    let known : rule_kind_of c.in-Some.word.now ≡ Some Inst = cc (c.in-Some-rule_kind.ensures, c.in-Inst.is) in
+    rule-parsed c.parse_inst.result Inst (tokens_of c.args.tokens.now) (tokens_of c.in-Some.arguments.now) c.in-Some.word.now c.in-Some.ensures known c.parse_inst.ensures
+
+pub returns-in-InstType : goal.returns-in-InstType
+returns-in-InstType c =
+    let known : rule_kind_of c.in-Some.word.now ≡ Some InstType = cc (c.in-Some-rule_kind.ensures, c.in-InstType.is) in
+    rule-parsed c.parse_inst_type.result InstType (tokens_of c.args.tokens.now) (tokens_of c.in-Some.arguments.now) c.in-Some.word.now c.in-Some.ensures known c.parse_inst_type.ensures
 
 pub returns-in-Axiom : goal.returns-in-Axiom
 returns-in-Axiom c =

@@ -2,7 +2,7 @@ use Rattle.std.proofs.Common.{◌≡◌, [], true, false, get_or, rules}
 use Rattle.hol_model.specs.Name.{is_identifier}
 use Rattle.hol_syntax.specs.declared.token.Token.TheVariants.{Name}
 use Rattle.hol_script.proofs.ReadingLemmas.{name-front}
-use Rattle.hol_script.proofs.command.take_name.Goals as goal
+use Rattle.hol_script.proofs.tokens.take_name.Goals as goal
 
 pub returns-in-None : goal.returns-in-None
 returns-in-None c =

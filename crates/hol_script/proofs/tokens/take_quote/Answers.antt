@@ -1,7 +1,7 @@
 use Rattle.std.proofs.Common.{◌≡◌, ◌∙◌, sym, true, false, arith}
 use Rattle.hol_syntax.specs.Views.{tokens_of}
 use Rattle.hol_script.proofs.ReadingLemmas.{is_quote_at, is_quote_at-token, quote-taken, no_quote-taken, no_quote-more}
-use Rattle.hol_script.proofs.command.take_quote.Goals as goal
+use Rattle.hol_script.proofs.tokens.take_quote.Goals as goal
 
 pub returns-then-is_quote : goal.returns-then-is_quote
 returns-then-is_quote c =

@@ -1,0 +1,124 @@
+-- What the pairs of INST and INST_TYPE are read as, and what the rules answer for them.
+use Rattle.std.proofs.Common.{◌≡◌, ◌⊎◌, inl, inr, ℕ, suc, ◌+◌, ◌<◌, ◌≤◌, List, [], ◌∷◌, ◌++◌, length, get_or, drop, refl, sym, ◌∙◌, ap, subst, Option, None, Some, Result, Ok, Err, Bor, drop-cons, add-one}
+use Rattle.std.proofs.lemmas.List.{append-nil, append_assoc, drop_all}
+use Rattle.std.specs.Option.{option_map}
+use Rattle.hol_model.specs.declared.fault.Fault.{Fault}
+use Rattle.hol_model.specs.declared.fault.Fault.TheVariants.{Memory, UnknownName}
+use Rattle.hol_model.specs.Outcome.{given, AnswersSuch}
+use Rattle.hol_model.specs.HolType.{HolType}
+use Rattle.hol_model.specs.NamedTerm.{NamedTerm}
+use Rattle.hol_model.specs.TypeGrammar.{TypeTree}
+use Rattle.hol_model.specs.TermGrammar.{TermTree}
+use Rattle.hol_model.specs.Reading.{◌>>=◌}
+use Rattle.hol_model.specs.Instantiation.{inst_refusal, IsInst, inst_type_refusal, IsInstType}
+use Rattle.hol_model.specs.Commands.{by_inst, by_inst_type}
+use Rattle.hol_model.specs.Theorem.{Theorem}
+use Rattle.hol_model.specs.Sessions.{State, scope_in, replacement, type_replacement, each, with_stored, IsAnswerFor}
+use Rattle.hol_script.specs.Answers.{AnswersRule}
+use Rattle.hol_script.specs.Views.{Match}
+
+-- ---- one pair after another
+
+-- what was read goes before what the others are read as
+abbrev pub preceded : {B : Type 0} → List B → Result (List B) Fault → Result (List B) Fault
+preceded done (Ok others) = Ok (done ++ others)
+preceded done (Err fault) = Err fault
+
+preceded-nothing : {B : Type 0} → (read : Result (List B) Fault) → read ≡ preceded [] read
+preceded-nothing (Ok others) = refl
+preceded-nothing (Err fault) = refl
+
+preceded-more : {B : Type 0} → (done : List B) (first : B) (read : Result (List B) Fault) → preceded done (read >>= λ others. Ok (first ∷ others)) ≡ preceded (done ++ first ∷ []) read
+preceded-more done first (Ok others) = ap (λ xs. Ok xs) (sym (append_assoc done (first ∷ []) others))
+preceded-more done first (Err fault) = refl
+
+-- the items up to what is left were read as what is done
+pub record IsReadTo {A X B : Type 0} (fact : X → A → Type 0) (read : A → Result B Fault) (left : List X) (done : List B) (trees : List A) : Type 0 where
+  pub later : List A
+  pub matched : Match fact left later
+  pub same : each read trees ≡ preceded done (each read later)
+
+pub unread : {A X B : Type 0} → (fact : X → A → Type 0) (read : A → Result B Fault) (items : List X) (done : List B) (trees : List A) → done ≡ [] → Match fact items trees → IsReadTo fact read items done trees
+unread fact read items done trees empty matched =
+    record { later = trees; matched = matched; same = preceded-nothing (each read trees) ∙ ap (λ (d : List _). preceded d (each read trees)) (sym empty) }
+
+pub read-further : {A X B : Type 0} → (fact : X → A → Type 0) (read : A → Result B Fault) (item : X) (left : List X) (done : List B) (first : B) (trees : List A) → IsReadTo fact read (item ∷ left) done trees
+    → ((tree : A) → fact item tree → read tree ≡ Ok first) → IsReadTo fact read left (done ++ first ∷ []) trees
+read-further fact read item left done first trees under reads = go under.later under.matched under.same
+  where
+    go : (later : List _) → Match fact (item ∷ left) later → each read trees ≡ preceded done (each read later) → IsReadTo fact read left (done ++ first ∷ []) trees
+    go [] matched same = absurd matched
+    go (tree ∷ later) matched same = record {
+      later = later;
+      matched = matched.1;
+      same = same ∙ ap (λ r. preceded done (r >>= λ x. each read later >>= λ others. Ok (x ∷ others))) (reads tree matched.0) ∙ preceded-more done first (each read later);
+    }
+
+pub read-refused : {A X B : Type 0} → (fact : X → A → Type 0) (read : A → Result B Fault) (item : X) (left : List X) (done : List B) (fault : Fault) (trees : List A) → IsReadTo fact read (item ∷ left) done trees
+    → ((tree : A) → fact item tree → (fault ≡ Memory) ⊎ (read tree ≡ Err fault)) → (fault ≡ Memory) ⊎ (each read trees ≡ Err fault)
+read-refused fact read item left done fault trees under refuses = go under.later under.matched under.same
+  where
+    go : (later : List _) → Match fact (item ∷ left) later → each read trees ≡ preceded done (each read later) → (fault ≡ Memory) ⊎ (each read trees ≡ Err fault)
+    go [] matched same = absurd matched
+    go (tree ∷ later) matched same = refusal (refuses tree matched.0)
+      where
+        refusal : (fault ≡ Memory) ⊎ (read tree ≡ Err fault) → (fault ≡ Memory) ⊎ (each read trees ≡ Err fault)
+        refusal (inl memory) = inl memory
+        refusal (inr because) = inr (same ∙ ap (λ r. preceded done (r >>= λ x. each read later >>= λ others. Ok (x ∷ others))) because)
+
+pub read-all : {A X B : Type 0} → (fact : X → A → Type 0) (read : A → Result B Fault) (left : List X) (done : List B) (trees : List A) → left ≡ [] → IsReadTo fact read left done trees → each read trees ≡ Ok done
+read-all fact read left done trees none under = go under.later (subst (λ (xs : List _). Match fact xs under.later) none under.matched) under.same
+  where
+    go : (later : List _) → Match fact [] later → each read trees ≡ preceded done (each read later) → each read trees ≡ Ok done
+    go [] matched same = same ∙ ap (λ xs. Ok xs) (append-nil done)
+    go (tree ∷ later) matched same = absurd matched
+
+-- the item at a place, before what is left behind it
+pub item-at : {X : Type 0} → (items : List X) (at : ℕ) (default : X) → at < length items → drop at items ≡ get_or items at default ∷ drop (at + 1) items
+item-at items at default within = drop-cons items at default within ∙ ap (λ (n : ℕ). get_or items at default ∷ drop n items) (sym (add-one at))
+
+-- ---- what the rules answer
+
+-- a refusal of the pairs, where no answer but the refusal is one
+pub pairs-refused : {A : Type 0} → (refusal : A → Theorem → Option Fault) (fact : A → Theorem → Theorem → Type 0) (read : Result A Fault) (state : State) (a : List ℕ) (fault : Fault)
+    → (fault ≡ Memory) ⊎ (read ≡ Err fault) → (fault ≡ Memory) ⊎ IsAnswerFor refusal fact (with_stored read state a) (Err fault)
+pairs-refused refusal fact read state a fault (inl memory) = inl memory
+pairs-refused refusal fact read state a fault (inr because) = inr (subst (λ (r : Result _ Fault). IsAnswerFor refusal fact (with_stored r state a) (Err fault)) (sym because) refl)
+
+stored-is : {A : Type 0} → (read : Result A Fault) (theta : A) (state : State) (a : List ℕ) (found : Option Theorem) → read ≡ Ok theta → state.theorems a ≡ found
+    → with_stored read state a ≡ given found UnknownName (λ theorem. Ok (theta, theorem))
+stored-is read theta state a found is known =
+    ap (λ r. with_stored r state a) is ∙ ap (λ (f : Option Theorem). given f UnknownName (λ theorem. Ok (theta, theorem))) known
+
+-- no theorem of the name
+pub none-stored : {A : Type 0} → (refusal : A → Theorem → Option Fault) (fact : A → Theorem → Theorem → Type 0) (read : Result A Fault) (theta : A) (state : State) (a : List ℕ)
+    → read ≡ Ok theta → state.theorems a ≡ None → IsAnswerFor refusal fact (with_stored read state a) (Err UnknownName)
+none-stored refusal fact read theta state a is none =
+    subst (λ (r : Result (_ × Theorem) Fault). IsAnswerFor refusal fact r (Err UnknownName)) (sym (stored-is read theta state a None is none)) refl
+
+-- what the rule answers for the pairs and the theorem
+pub rule-answers : {A : Type 0} → (refusal : A → Theorem → Option Fault) (fact : A → Theorem → Theorem → Type 0) (read : Result A Fault) (theta : A) (state : State) (a : List ℕ) (theorem answer : Theorem)
+    → read ≡ Ok theta → state.theorems a ≡ Some theorem → (refusal theta theorem ≡ None) × fact theta theorem answer → IsAnswerFor refusal fact (with_stored read state a) (Ok answer)
+rule-answers refusal fact read theta state a theorem answer is known settled =
+    subst (λ (r : Result (_ × Theorem) Fault). IsAnswerFor refusal fact r (Ok answer)) (sym (stored-is read theta state a (Some theorem) is known)) settled
+
+pub rule-refused : {A : Type 0} → (refusal : A → Theorem → Option Fault) (fact : A → Theorem → Theorem → Type 0) (read : Result A Fault) (theta : A) (state : State) (a : List ℕ) (theorem : Theorem) (fault : Fault)
+    → read ≡ Ok theta → state.theorems a ≡ Some theorem → (fault ≡ Memory) ⊎ (refusal theta theorem ≡ Some fault)
+    → (fault ≡ Memory) ⊎ IsAnswerFor refusal fact (with_stored read state a) (Err fault)
+rule-refused refusal fact read theta state a theorem fault is known (inl memory) = inl memory
+rule-refused refusal fact read theta state a theorem fault is known (inr because) =
+    inr (subst (λ (r : Result (_ × Theorem) Fault). IsAnswerFor refusal fact r (Err fault)) (sym (stored-is read theta state a (Some theorem) is known)) because)
+
+pub inst-answers : (result : Result Theorem Fault) (state : State) (pairs : List (TermTree × TermTree)) (a : List ℕ) (theta given_theta : List (NamedTerm × NamedTerm)) (theorem : Theorem) → each (replacement (scope_in state)) pairs ≡ Ok theta → given_theta ≡ theta
+    → state.theorems a ≡ Some theorem → AnswersSuch result (inst_refusal state.theory given_theta theorem) (IsInst state.theory given_theta theorem) → AnswersRule result state (by_inst pairs a)
+inst-answers (Ok answer) state pairs a theta given_theta theorem is same known settled =
+    rule-answers (inst_refusal state.theory) (IsInst state.theory) (each (replacement (scope_in state)) pairs) given_theta state a theorem answer (is ∙ ap (λ t. Ok t) (sym same)) known settled
+inst-answers (Err fault) state pairs a theta given_theta theorem is same known settled =
+    rule-refused (inst_refusal state.theory) (IsInst state.theory) (each (replacement (scope_in state)) pairs) given_theta state a theorem fault (is ∙ ap (λ t. Ok t) (sym same)) known settled
+
+pub inst_type-answers : (result : Result Theorem Fault) (state : State) (pairs : List (TypeTree × List ℕ)) (a : List ℕ) (theta given_theta : List (HolType × HolType)) (theorem : Theorem) → each (type_replacement (scope_in state)) pairs ≡ Ok theta → given_theta ≡ theta
+    → state.theorems a ≡ Some theorem → AnswersSuch result (inst_type_refusal state.theory given_theta theorem) (IsInstType state.theory given_theta theorem) → AnswersRule result state (by_inst_type pairs a)
+inst_type-answers (Ok answer) state pairs a theta given_theta theorem is same known settled =
+    rule-answers (inst_type_refusal state.theory) (IsInstType state.theory) (each (type_replacement (scope_in state)) pairs) given_theta state a theorem answer (is ∙ ap (λ t. Ok t) (sym same)) known settled
+inst_type-answers (Err fault) state pairs a theta given_theta theorem is same known settled =
+    rule-refused (inst_type_refusal state.theory) (IsInstType state.theory) (each (type_replacement (scope_in state)) pairs) given_theta state a theorem fault (is ∙ ap (λ t. Ok t) (sym same)) known settled

@@ -1,0 +1,12 @@
+use Rattle.std.proofs.Common.{ℕ, List, drop}
+use Rattle.hol_model.specs.TermGrammar.{TermTree}
+use Rattle.hol_model.specs.Sessions.{scope_in, replacement}
+use Rattle.hol_script.specs.SessionState.{state_of}
+use Rattle.hol_script.specs.Views.{Match, IsTermPair}
+use Rattle.hol_script.proofs.ReplacementLemmas.{IsReadTo}
+use Rattle.hol_script.proofs.session.Session.replacements.Given as goal
+
+-- the pairs so far are read
+abbrev pub invariant-loop-pair : goal.invariant-loop-pair
+invariant-loop-pair l = (trees : List (TermTree × TermTree)) → Match IsTermPair l.pairs trees
+    → IsReadTo IsTermPair (replacement (scope_in (state_of l.self))) (drop l.pair-index l.pairs) l.theta.items trees
