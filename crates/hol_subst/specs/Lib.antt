@@ -2,3 +2,5 @@ pub mod Entries
 pub mod Replacements
 pub mod Fresh
 pub mod Touched
+pub mod Occurrences
+pub mod Sought

@@ -1,5 +1,5 @@
 -- What a replacement may touch, told by the classes of names that terms keep.
-use Rattle.std.specs.Prelude.{◌≡◌, ℕ, List, [], ◌∷◌, Bool, false, not, ◌&&◌, ◌||◌, Some, None, bit_and}
+use Rattle.std.specs.Prelude.{◌≡◌, ℕ, List, [], ◌∷◌, Bool, false, not, ◌&&◌, Some, None, bit_and}
 use Rattle.hol_model.specs.HolType.{HolType}
 use Rattle.hol_model.specs.NamedTerm.{NamedTerm, is_free}
 use Rattle.hol_types.specs.Variables as types_spec
@@ -33,8 +33,3 @@ changes_types (pair ∷ rest) term = terms_spec.has_type_variables term
 -- no variable of these classes and no type that changes stands in the term
 abbrev pub stays : ℕ → List (HolType × HolType) → NamedTerm → Bool
 stays old types term = not (have_common_class old (classes_of_names term)) && not (changes_types types term)
-
--- a variable of the class stands neither in the term nor, where it may be put, in what replaces variables of the term
-abbrev pub is_apart : ℕ → ℕ → Bool → NamedTerm → Bool
-is_apart old class may_be_put term =
-    not (have_common_class class (classes_of_names term)) && (not (have_common_class old (classes_of_names term)) || not may_be_put)

@@ -12,9 +12,10 @@ ghost use Rattle.hol_subst.specs.Touched.{Covers};
 ghost use Rattle.hol_subst.specs.Fresh.{IsFreshBinder};
 ghost use Rattle.hol_model.specs.declared.fault.Fault.TheVariants.{Memory, NotVariable};
 
+use crate::capture::is_free_after;
 use crate::passed::Passed;
 use crate::rebuild::variable_of;
-use crate::replacements::{Replacements, is_free_after};
+use crate::replacements::Replacements;
 use crate::touched::Touched;
 use hol_model::Fault;
 use hol_terms::{Term, is_free};

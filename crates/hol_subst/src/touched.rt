@@ -81,11 +81,3 @@ pub fn stays(term: &Term, types: &[(Ty, Ty)], touched: Touched) -> bool
 {
     !touched.old.meets(term.names()) && !changes_types(types, term)
 }
-
-/// Whether no variable of a class is in the term or, where it may be put, in what replaces variables of the term.
-pub fn is_apart(term: &Term, class: NameClasses, touched: Touched, may_be_put: bool) -> bool
-    ensures { result ≡ spec.is_apart touched.old.bits class.bits may_be_put term.now }
-{
-    let names = term.names();
-    !class.meets(names) && (!touched.old.meets(names) || !may_be_put)
-}
