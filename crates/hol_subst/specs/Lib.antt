@@ -4,3 +4,4 @@ pub mod Fresh
 pub mod Touched
 pub mod Occurrences
 pub mod Sought
+pub mod VariableTypes
