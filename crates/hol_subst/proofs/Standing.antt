@@ -14,6 +14,7 @@ use Rattle.hol_terms.proofs.FreeNames.{nothing_common, apart_from_first, apart_f
 use Rattle.hol_subst.specs.Entries.{Entry, entries, looked_up, instance_of, mapped, replaced}
 use Rattle.hol_subst.specs.Touched.{Covers, IsAbsent, changes_type, changes_types}
 use Rattle.hol_subst.specs.Occurrences.{OccursIn}
+use Rattle.hol_subst.specs.VariableTypes.{Admits, HasVariables}
 use Rattle.hol_subst.specs.Sought.{IsBroughtBy, IsKeptIn, is_apart}
 use Rattle.hol_subst.proofs.Apart.{first_apart, second_apart, type_stays, function_stays, argument_stays, body_stays, leaf_stays}
 
@@ -143,6 +144,35 @@ IsKeptIn-types_stay classes types name ty new_type body typed kept none = record
       rw (typed, type_stays types ty kept, variable_stays types other s body occurs none) (unbound_differs name ty other s unbound);
 }
 
+-- nor where the variables of its name have its type
+pub IsKeptIn-one_type : (classes : ℕ) (table : List ℕ → Option (Option HolType)) (types : List (HolType × HolType)) (name : List ℕ) (ty new_type : HolType) (body : NamedTerm)
+    → HasVariables table body → ((s : HolType) → Admits (table name) s → ty ≡ s)
+    → IsKeptIn classes types ((name, ty) ∷ []) name new_type body
+IsKeptIn-one_type classes table types name ty new_type body has only = record {
+  differs = λ other s occurs far unbound. go (same_variable name new_type other (type_put types s)) other s refl (has.has other s occurs) unbound;
+}
+  where
+    go : (test : Bool) (other : List ℕ) (s : HolType) → same_variable name new_type other (type_put types s) ≡ test → Admits (table other) s
+        → binder_index ((name, ty) ∷ []) other s ≡ None → test ≡ false
+    go true other s same admitted unbound =
+        let named : name ≡ other = same_name name other new_type (type_put types s) same in
+        let typed : ty ≡ s = only s (rw named admitted) in
+        let differs : same_variable name ty name ty ≡ false = ap (λ v. same_variable name ty v ty) named ∙ ap (λ t. same_variable name ty other t) typed ∙ unbound_differs name ty other s unbound in
+        sym (same_variable-self name ty) ∙ differs
+    go false other s same admitted unbound = refl
+
+-- nor does one where its name does not occur
+pub IsKeptIn-absent : (classes : ℕ) (table : List ℕ → Option (Option HolType)) (types : List (HolType × HolType)) (binders : List Binder) (name : List ℕ) (ty : HolType) (term : NamedTerm)
+    → HasVariables table term → ((s : HolType) → Admits (table name) s → ⊥)
+    → IsKeptIn classes types binders name ty term
+IsKeptIn-absent classes table types binders name ty term has none = record {
+  differs = λ other s occurs far unbound. go (same_variable name ty other (type_put types s)) other s refl (has.has other s occurs);
+}
+  where
+    go : (test : Bool) (other : List ℕ) (s : HolType) → same_variable name ty other (type_put types s) ≡ test → Admits (table other) s → test ≡ false
+    go true other s same admitted = absurd (none s (rw (same_name name other ty (type_put types s) same) admitted))
+    go false other s same admitted = refl
+
 -- the parts of a term
 pub IsKeptIn-function : (classes : ℕ) (types : List (HolType × HolType)) (binders : List Binder) (name : List ℕ) (ty : HolType) (f x whole : NamedTerm)
     → combination f x ≡ whole → IsKeptIn classes types binders name ty whole → IsKeptIn classes types binders name ty f
@@ -241,7 +271,7 @@ other_instance env types brought class other s name ty is is_class apart differs
 
 pub ruleset bringing_classes = (IsBroughtBy-none, IsBroughtBy-keeping, IsBroughtBy-beside, IsBroughtBy-putting, IsBroughtBy-pairs)
 
-pub ruleset keeping_classes = (IsKeptIn-name, IsKeptIn-types_stay)
+pub ruleset keeping_classes = (IsKeptIn-name, IsKeptIn-types_stay, IsKeptIn-one_type, IsKeptIn-absent)
 
 pub ruleset seeking = (apart-after, IsKeptIn-function, IsKeptIn-argument, IsKeptIn-body)
 

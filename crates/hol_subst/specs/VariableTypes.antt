@@ -1,6 +1,5 @@
 -- What is known of the types of a term's variables, by their names.
-use Rattle.std.specs.Prelude.{◌≡◌, ◌⊎◌, ℕ, List, Bool, Option, Some, None}
-use Rattle.std.specs.Option.{option_map_or, is_some}
+use Rattle.std.specs.Prelude.{◌≡◌, ◌⊎◌, ℕ, List, Option, Some, None, if◌then◌else◌}
 use Rattle.indexmap.specs.IndexMap.{get_by_text}
 use Rattle.hol_model.specs.HolType.{HolType}
 use Rattle.hol_model.specs.NamedTerm.{NamedTerm}
@@ -23,11 +22,7 @@ pub record Grows (old new : List ℕ → Option (Option HolType)) : Type 0 where
 
 -- the table; where nothing is known, each name may have any type
 abbrev pub table_of : VariableTypes → List ℕ → Option (Option HolType)
-table_of types name = option_map_or (λ by_name. get_by_text by_name name) types.by_name (Some None)
-
--- there is a table
-abbrev pub is_known : VariableTypes → Bool
-is_known types = is_some types.by_name
+table_of types name = if types.is_known then get_by_text types.by_name name else Some None
 
 -- a name that a table lacks gets its only type, and one that it has gets any
 abbrev pub IsOnlyType : Option (Option HolType) → Option HolType → Type 0

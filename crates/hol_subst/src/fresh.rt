@@ -10,6 +10,7 @@ ghost use Rattle.hol_subst.specs.Entries.{replaced};
 ghost use Rattle.hol_subst.specs.Replacements.{entries_of, binders_of};
 ghost use Rattle.hol_subst.specs.Touched.{Covers};
 ghost use Rattle.hol_subst.specs.Fresh.{IsFreshBinder};
+ghost use Rattle.hol_subst.specs.VariableTypes.{HasVariables, table_of};
 ghost use Rattle.hol_model.specs.declared.fault.Fault.TheVariants.{Memory, NotVariable};
 
 use crate::capture::is_free_after;
@@ -17,6 +18,7 @@ use crate::passed::Passed;
 use crate::rebuild::variable_of;
 use crate::replacements::Replacements;
 use crate::touched::Touched;
+use crate::variable_types::VariableTypes;
 use hol_model::Fault;
 use hol_terms::{Term, is_free};
 use hol_types::Ty;
@@ -67,9 +69,11 @@ pub fn fresh_binder(
     passed: &Passed<'_>,
     replacements: &Replacements<'_>,
     touched: Touched,
+    variables: &VariableTypes,
 ) -> Result<Term, Fault>
     requires named { IsTrue (is_identifier name.now) }
     requires covered { Covers touched.old.bits touched.new.bits (entries_of replacements.now) }
+    requires known { HasVariables (table_of variables.now) body.now }
     ensures fresh { IfOk result (IsFreshBinder (replaced (entries_of replacements.now) types.now (image_under (binders_of passed.now) body.now)) name.now ty.now) }
     ensures variable { IfOk result (λ binder. IsTrue (is_variable binder)) }
     ensures typed { IfOk result (λ binder. type_of binder ≡ Some ty.now) }
@@ -84,6 +88,7 @@ pub fn fresh_binder(
         &*passed,
         &*replacements,
         touched,
+        variables,
     )?;
     variable_of(alloc, fresh.as_str(), ty)
 }
@@ -98,9 +103,11 @@ fn name_free_after(
     passed: &Passed<'_>,
     replacements: &Replacements<'_>,
     touched: Touched,
+    variables: &VariableTypes,
 ) -> Result<String, Fault>
     requires named { IsTrue (is_identifier name.now) }
     requires covered { Covers touched.old.bits touched.new.bits (entries_of replacements.now) }
+    requires known { HasVariables (table_of variables.now) body.now }
     ensures fresh { IfOk result (λ fresh. IsFirstFree (λ other. occurs_free other ty.now (replaced (entries_of replacements.now) types.now (image_under (binders_of passed.now) body.now))) name.now (string_bytes fresh)) }
     ensures named { IfOk result (λ fresh. IsTrue (is_identifier (string_bytes fresh))) }
     ensures err { IfErr result (λ fault. fault ≡ Memory) }
@@ -114,6 +121,7 @@ fn name_free_after(
         &*passed,
         &*replacements,
         touched,
+        variables,
     ) {
         fresh.push_str("'")?;
     }

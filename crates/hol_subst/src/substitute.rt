@@ -10,9 +10,7 @@ ghost use Rattle.hol_model.specs.Substitution as spec;
 ghost use Rattle.hol_model.specs.Measures.{nameless_within_limits};
 ghost use Rattle.hol_model.specs.declared.fault.Fault.TheVariants.{Memory, TooLarge, NotVariable, TypeMismatch};
 
-use crate::replace::replaced;
-use crate::replacements::Replacements;
-use crate::touched::Touched;
+use crate::replace::replaced_by;
 use hol_model::Fault;
 use hol_terms::Term;
 use hol_types::{Ty, replaces_type_variables};
@@ -35,8 +33,7 @@ pub fn vsubst(alloc: Global, theta: &[(Term, Term)], term: &Term) -> Result<Term
     if !keeps_types(theta) {
         return Err(Fault::TypeMismatch);
     }
-    let touched = Touched::by_pairs(theta);
-    let changed = replaced(alloc, term, &[], &Replacements::Pairs(theta), touched)?;
+    let changed = replaced_by(alloc, term, &[], theta)?;
     changed_or_copy(alloc, changed, term)
 }
 
@@ -65,8 +62,7 @@ pub fn inst(alloc: Global, theta: &[(Ty, Ty)], term: &Term) -> Result<Term, Faul
     if !replaces_type_variables(theta) {
         return Err(Fault::NotVariable);
     }
-    let touched = Touched::by_pairs(&[]);
-    let changed = replaced(alloc, term, theta, &Replacements::Pairs(&[]), touched)?;
+    let changed = replaced_by(alloc, term, theta, &[])?;
     changed_or_copy(alloc, changed, term)
 }
 

@@ -5,7 +5,6 @@ ghost use Rattle.hol_model.specs.HolType.{HolType};
 ghost use Rattle.hol_model.specs.NamedTerm.{NamedTerm};
 ghost use Rattle.hol_model.specs.declared.fault.Fault.TheVariants.{Memory};
 ghost use Rattle.hol_subst.specs.VariableTypes.{Admits, HasVariables, Grows, IsOnlyType, table_of};
-ghost use Rattle.hol_subst.specs.VariableTypes as spec;
 
 use hol_model::Fault;
 use hol_terms::{Parts, Term};
@@ -16,16 +15,20 @@ use std::alloc::Global;
 /// The types of the variables that occur in a term, by their names, as far as they are known.
 #[derive(Drop)]
 pub struct VariableTypes {
-    // A name's type, or `None` where its variables have several. Where there is no map, nothing is known.
-    by_name: Option<IndexMap<String, Option<Ty>>>,
+    is_known: bool,
+    // A name's type, or `None` where its variables have several.
+    by_name: IndexMap<String, Option<Ty>>,
 }
 
 impl VariableTypes {
     /// Of these variables nothing is known.
-    pub fn unknown() -> VariableTypes
+    pub fn unknown(alloc: Global) -> VariableTypes
         ensures { (term : NamedTerm) → HasVariables (table_of result) term }
     {
-        VariableTypes { by_name: None }
+        VariableTypes {
+            is_known: false,
+            by_name: IndexMap::new(alloc),
+        }
     }
 
     /// The types of the variables of a term.
@@ -36,39 +39,37 @@ impl VariableTypes {
         let mut by_name = IndexMap::new(alloc);
         add_variables(alloc, term, &mut by_name)?;
         Ok(VariableTypes {
-            by_name: Some(by_name),
+            is_known: true,
+            by_name,
         })
     }
 
     /// Whether anything is known.
     pub fn is_known(&self) -> bool
-        ensures { result ≡ spec.is_known self.now }
+        ensures { result ≡ self.now.is_known }
     {
-        self.by_name.is_some()
+        self.is_known
     }
 
     /// Whether a variable of this name may occur.
     pub fn has_name(&self, name: &str) -> bool
         ensures { IsFalse result → (ty : HolType) → Admits (table_of self.now name.now) ty → ⊥ }
     {
-        match &self.by_name {
-            None => true,
-            Some(by_name) => by_name.get(name).is_some(),
-        }
+        !self.is_known || self.by_name.get(name).is_some()
     }
 
     /// Whether a variable of this name, but not of this type, may occur.
     pub fn has_other_type(&self, name: &str, ty: &Ty) -> bool
         ensures { IsFalse result → (other : HolType) → Admits (table_of self.now name.now) other → ty.now ≡ other }
     {
-        match &self.by_name {
-            None => true,
-            Some(by_name) => match by_name.get(name) {
-                None => false,
-                Some(known) => match known {
-                    None => true,
-                    Some(known) => !known.eq(ty),
-                },
+        if !self.is_known {
+            return true;
+        }
+        match self.by_name.get(name) {
+            None => false,
+            Some(known) => match known {
+                None => true,
+                Some(known) => !known.eq(ty),
             },
         }
     }
