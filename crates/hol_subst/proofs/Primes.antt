@@ -85,6 +85,11 @@ one_more_prime taken name fresh next known is_taken is =
       is_named = rw is (is_identifier-prime fresh known.is_named);
     }
 
+-- a taken name with one prime
+pub one_prime : (taken : List ℕ → Bool) (name fresh : List ℕ) → is_identifier name ≡ true → taken name ≡ true → fresh ≡ name ++ 39 ∷ []
+    → HasPrimes taken name fresh
+one_prime taken name fresh named is_taken is = one_more_prime taken name name fresh (no_primes taken name name named refl) is_taken is
+
 -- the name that is not taken is the first one
 pub free_at_last : (taken : List ℕ → Bool) (name fresh : List ℕ) → HasPrimes taken name fresh → taken fresh ≡ false → IsFirstFree taken name fresh
 free_at_last taken name fresh known is_free =

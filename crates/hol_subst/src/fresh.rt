@@ -1,5 +1,5 @@
 // Variables that are free in none of some terms.
-ghost use Rattle.std.specs.Prelude.{◌≡◌, ◌↔◌, [], ◌∷◌, IfOk, IfErr, IsTrue, IsFalse, Contains};
+ghost use Rattle.std.specs.Prelude.{◌≡◌, ◌↔◌, [], ◌∷◌, ◌++◌, true, IfOk, IfErr, IsTrue, IsFalse, Contains};
 ghost use Rattle.std.specs.String.{string_bytes};
 ghost use Rattle.hol_model.specs.NamedTerm.{variable, is_variable, type_of};
 ghost use Rattle.hol_model.specs.Name.{is_identifier};
@@ -59,7 +59,8 @@ fn is_free_in_some(terms: &[Term], name: &str, ty: &Ty) -> bool
     terms.iter().any(|term| is_free(term, name, ty))
 }
 
-/// A binder that captures nothing in a term, which stands under the passed binders, after the replacement.
+/// A binder that captures nothing in a term, which stands under the passed binders, after the replacement, in place of
+/// one that would capture.
 pub fn fresh_binder(
     alloc: Global,
     body: &Term,
@@ -74,6 +75,7 @@ pub fn fresh_binder(
     requires named { IsTrue (is_identifier name.now) }
     requires covered { Covers touched.old.bits touched.new.bits (entries_of replacements.now) }
     requires known { HasVariables (table_of variables.now) body.now }
+    requires taken { occurs_free name.now ty.now (replaced (entries_of replacements.now) types.now (image_under (binders_of passed.now) body.now)) ≡ true }
     ensures fresh { IfOk result (IsFreshBinder (replaced (entries_of replacements.now) types.now (image_under (binders_of passed.now) body.now)) name.now ty.now) }
     ensures variable { IfOk result (λ binder. IsTrue (is_variable binder)) }
     ensures typed { IfOk result (λ binder. type_of binder ≡ Some ty.now) }
@@ -108,11 +110,12 @@ fn name_free_after(
     requires named { IsTrue (is_identifier name.now) }
     requires covered { Covers touched.old.bits touched.new.bits (entries_of replacements.now) }
     requires known { HasVariables (table_of variables.now) body.now }
+    requires taken { occurs_free name.now ty.now (replaced (entries_of replacements.now) types.now (image_under (binders_of passed.now) body.now)) ≡ true }
     ensures fresh { IfOk result (λ fresh. IsFirstFree (λ other. occurs_free other ty.now (replaced (entries_of replacements.now) types.now (image_under (binders_of passed.now) body.now))) name.now (string_bytes fresh)) }
     ensures named { IfOk result (λ fresh. IsTrue (is_identifier (string_bytes fresh))) }
     ensures err { IfErr result (λ fault. fault ≡ Memory) }
 {
-    let mut fresh = String::from_str(alloc, name)?;
+    let mut fresh = with_prime(alloc, name)?;
     while is_free_after(
         body,
         fresh.as_str(),
@@ -125,5 +128,15 @@ fn name_free_after(
     ) {
         fresh.push_str("'")?;
     }
+    Ok(fresh)
+}
+
+// The name with one prime.
+fn with_prime(alloc: Global, name: &str) -> Result<String, Fault>
+    ensures ok { IfOk result (λ fresh. string_bytes fresh ≡ name.now ++ 39 ∷ []) }
+    ensures err { IfErr result (λ fault. fault ≡ Memory) }
+{
+    let mut fresh = String::from_str(alloc, name)?;
+    fresh.push_str("'")?;
     Ok(fresh)
 }
