@@ -13,7 +13,12 @@ use std::time::Instant;
 use term::{joined, nested, variable};
 
 // Writes how long a call took.
-fn report(rt: &HostRuntime, what: &str, start: Instant, answer: Result<Term, Fault>) -> io::Result<()> {
+fn report(
+    rt: &HostRuntime,
+    what: &str,
+    start: Instant,
+    answer: Result<Term, Fault>,
+) -> io::Result<()> {
     let micros = start.elapsed(rt)?.as_micros();
     match answer {
         Ok(term) => {
@@ -24,7 +29,13 @@ fn report(rt: &HostRuntime, what: &str, start: Instant, answer: Result<Term, Fau
     }
 }
 
-fn put(rt: &HostRuntime, what: &str, new: Result<Term, Fault>, old: Result<Term, Fault>, term: &Term) -> io::Result<()> {
+fn put(
+    rt: &HostRuntime,
+    what: &str,
+    new: Result<Term, Fault>,
+    old: Result<Term, Fault>,
+    term: &Term,
+) -> io::Result<()> {
     let (Ok(new), Ok(old)) = (new, old) else {
         return eprintln!(rt; "{what}: no memory");
     };
@@ -34,7 +45,13 @@ fn put(rt: &HostRuntime, what: &str, new: Result<Term, Fault>, old: Result<Term,
     report(rt, what, start, answer)
 }
 
-fn instantiate(rt: &HostRuntime, what: &str, new: Result<Ty, Fault>, old: &str, term: &Term) -> io::Result<()> {
+fn instantiate(
+    rt: &HostRuntime,
+    what: &str,
+    new: Result<Ty, Fault>,
+    old: &str,
+    term: &Term,
+) -> io::Result<()> {
     let (Ok(new), Ok(old)) = (new, Ty::tyvar(rt.alloc(), old)) else {
         return eprintln!(rt; "{what}: no memory");
     };
@@ -46,19 +63,67 @@ fn instantiate(rt: &HostRuntime, what: &str, new: Result<Ty, Fault>, old: &str, 
 
 fn on_many_names(rt: &HostRuntime, term: &Term) -> io::Result<()> {
     let alloc = rt.alloc();
-    put(rt, "vsubst, absent variable", variable(alloc, "y", 0, "A"), variable(alloc, "w", 0, "A"), term)?;
-    put(rt, "vsubst, no capture", variable(alloc, "y", 0, "A"), variable(alloc, "z", 0, "A"), term)?;
-    put(rt, "vsubst, one binder captures", variable(alloc, "x", 500, "A"), variable(alloc, "z", 0, "A"), term)?;
-    put(rt, "vsubst, each binder captures", joined(alloc), variable(alloc, "z", 0, "A"), term)?;
+    put(
+        rt,
+        "vsubst, absent variable",
+        variable(alloc, "y", 0, "A"),
+        variable(alloc, "w", 0, "A"),
+        term,
+    )?;
+    put(
+        rt,
+        "vsubst, no capture",
+        variable(alloc, "y", 0, "A"),
+        variable(alloc, "z", 0, "A"),
+        term,
+    )?;
+    put(
+        rt,
+        "vsubst, one binder captures",
+        variable(alloc, "x", 500, "A"),
+        variable(alloc, "z", 0, "A"),
+        term,
+    )?;
+    put(
+        rt,
+        "vsubst, each binder captures",
+        joined(alloc),
+        variable(alloc, "z", 0, "A"),
+        term,
+    )?;
     instantiate(rt, "inst, each type", Ty::boolean(alloc), "A", term)?;
-    instantiate(rt, "inst, absent type variable", Ty::boolean(alloc), "C", term)
+    instantiate(
+        rt,
+        "inst, absent type variable",
+        Ty::boolean(alloc),
+        "C",
+        term,
+    )
 }
 
 fn on_two_types(rt: &HostRuntime, term: &Term) -> io::Result<()> {
     let alloc = rt.alloc();
-    instantiate(rt, "two types, inst, each type", Ty::boolean(alloc), "A", term)?;
-    instantiate(rt, "two types, inst, absent type variable", Ty::boolean(alloc), "C", term)?;
-    instantiate(rt, "two types, inst, each binder captures", Ty::tyvar(alloc, "A"), "B", term)
+    instantiate(
+        rt,
+        "two types, inst, each type",
+        Ty::boolean(alloc),
+        "A",
+        term,
+    )?;
+    instantiate(
+        rt,
+        "two types, inst, absent type variable",
+        Ty::boolean(alloc),
+        "C",
+        term,
+    )?;
+    instantiate(
+        rt,
+        "two types, inst, each binder captures",
+        Ty::tyvar(alloc, "A"),
+        "B",
+        term,
+    )
 }
 
 fn main(rt: HostRuntime) -> io::Result<()> {

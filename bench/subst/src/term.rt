@@ -5,6 +5,7 @@ use hol_types::Ty;
 use std::alloc::Global;
 
 const BINDERS: u32 = 1000;
+
 const LEAVES: u32 = 27201;
 
 // The variable of a letter and a number.

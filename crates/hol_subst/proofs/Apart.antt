@@ -1,17 +1,14 @@
 -- What a replacement cannot touch stays as it is.
-use Rattle.std.proofs.Common.{◌≡◌, ◌⊎◌, inl, inr, ℕ, suc, List, [], ◌∷◌, Bool, true, false, ◌&&◌, ◌||◌, not, Some, None, refl, sym, ◌∙◌, ap}
+use Rattle.std.proofs.Common.{◌≡◌, ℕ, List, [], ◌∷◌, Bool, true, false, ◌&&◌, ◌||◌, not, Some, None, refl, sym, ◌∙◌, ap}
 use Rattle.std.specs.Prelude.{Option, if◌then◌else◌, fold, bit_and, bit_or}
 use Rattle.std.specs.List.{list_any}
-use Rattle.std.specs.Option.{option_map, option_map_or, is_some}
-use Rattle.std.specs.Int.Bits.{and_zero_l}
+use Rattle.std.specs.Option.{option_map, option_map_or}
 use Rattle.std.proofs.lemmas.Nat.{and_comm}
 use Rattle.hol_model.specs.HolType.{HolType, function_type, type_put}
 use Rattle.hol_model.specs.NamedTerm.{NamedTerm, variable, constant, combination, abstraction, Binder, same_variable, is_free, type_of}
-use Rattle.hol_model.specs.Nameless.{Nameless, free, const, bound, app, lam, image, image_under, variable_image, binder_index}
-use Rattle.hol_model.specs.Substitution.{occurs_free}
-use Rattle.hol_model.proofs.Tests.{same_name, same_variable-type, same_variable-self, first_of_both, second_of_both, first_of_neither, second_of_neither}
-use Rattle.hol_model.proofs.Images.{occurs_free-image, application-typed}
-use Rattle.hol_model.proofs.Measures.{some_type}
+use Rattle.hol_model.specs.Nameless.{Nameless, free, const, bound, app, lam, image, image_under, binder_index}
+use Rattle.hol_model.proofs.Tests.{same_name, same_variable-type, first_of_neither, second_of_neither}
+use Rattle.hol_model.proofs.Images.{application-typed}
 use Rattle.hol_types.specs.Variables as types_spec
 use Rattle.hol_types.proofs.Closed.{unchanged}
 use Rattle.hol_terms.specs.Classes.{class_of_name, have_common_class, classes_of_names}

@@ -1,7 +1,6 @@
 -- Why a name with enough primes is not taken.
-use Rattle.std.proofs.Common.{◌≡◌, ℕ, zero, suc, ◌+◌, ◌<◌, ◌≤◌, max, List, [], ◌∷◌, ◌++◌, Bool, true, false, not, ◌&&◌, ◌||◌, length, ◌-◌, refl, sym, ◌∙◌, ap, arith, below_more, length-append, Some, Ok, Err, IfOk}
+use Rattle.std.proofs.Common.{◌≡◌, ℕ, zero, suc, ◌+◌, ◌<◌, ◌≤◌, max, List, [], ◌∷◌, ◌++◌, Bool, true, false, ◌&&◌, ◌||◌, length, ◌-◌, refl, ◌∙◌, ap, arith, below_more, length-append, Some, Ok, Err, IfOk}
 use Rattle.std.specs.Prelude.{Result}
-use Rattle.std.specs.List.{list_all, list_any}
 use Rattle.hol_model.specs.HolType.{HolType}
 use Rattle.hol_model.specs.Name.{is_identifier, is_capital, is_small, continues_name, all_continue}
 use Rattle.hol_model.specs.NamedTerm.{NamedTerm, variable, constant, combination, abstraction, dest_variable, is_free}

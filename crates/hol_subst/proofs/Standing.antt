@@ -1,18 +1,17 @@
 -- Where a variable is sought after a replacement, and that it is nowhere else.
-use Rattle.std.proofs.Common.{◌≡◌, ◌⊎◌, inl, inr, ℕ, suc, List, [], ◌∷◌, Bool, true, false, ◌||◌, not, Some, None, refl, sym, ◌∙◌, ap}
+use Rattle.std.proofs.Common.{◌≡◌, inl, inr, ℕ, suc, List, [], ◌∷◌, Bool, true, false, ◌||◌, not, Some, None, refl, sym, ◌∙◌, ap}
 use Rattle.std.specs.Prelude.{Option, if◌then◌else◌, fold, bit_and, bit_or}
 use Rattle.std.specs.Option.{option_map, option_map_or}
-use Rattle.std.proofs.lemmas.Nat.{and_comm}
 use Rattle.hol_model.specs.HolType.{HolType, type_put}
 use Rattle.hol_model.specs.NamedTerm.{NamedTerm, variable, constant, combination, abstraction, Binder, same_variable, is_free}
-use Rattle.hol_model.specs.Nameless.{Nameless, free, const, bound, app, lam, image, image_under, binder_index}
+use Rattle.hol_model.specs.Nameless.{free, bound, image, image_under, binder_index}
 use Rattle.hol_model.specs.Substitution.{occurs_free}
-use Rattle.hol_model.proofs.Tests.{same_name, same_variable-type, same_variable-self}
+use Rattle.hol_model.proofs.Tests.{same_name, same_variable-self}
 use Rattle.hol_model.proofs.Images.{occurs_free-image}
 use Rattle.hol_terms.specs.Classes.{class_of_name, have_common_class, classes_of_names}
 use Rattle.hol_terms.proofs.FreeNames.{nothing_common, apart_from_first, apart_from_second, other_names, has_class}
 use Rattle.hol_subst.specs.Entries.{Entry, entries, looked_up, instance_of, mapped, replaced}
-use Rattle.hol_subst.specs.Touched.{Covers, IsAbsent, changes_type, changes_types}
+use Rattle.hol_subst.specs.Touched.{Covers, changes_type, changes_types}
 use Rattle.hol_subst.specs.Occurrences.{OccursIn}
 use Rattle.hol_subst.specs.VariableTypes.{Admits, HasVariables}
 use Rattle.hol_subst.specs.Sought.{IsBroughtBy, IsKeptIn, is_apart}
@@ -197,8 +196,10 @@ pub IsKeptIn-body : (classes : ℕ) (types : List (HolType × HolType)) (binders
     → IsKeptIn classes types ((bound_name, bound_type) ∷ binders) name ty body
 IsKeptIn-body classes types binders name ty bound_name bound_type body whole is kept =
     let of_parts : IsKeptIn classes types binders name ty (abstraction bound_name bound_type body) = rw is kept in
-    record { differs = λ other s occurs far unbound.
-      of_parts.differs other s occurs far (still_unbound (same_variable bound_name bound_type other s) (binder_index binders other s) unbound); }
+    record {
+      differs = λ other s occurs far unbound.
+          of_parts.differs other s occurs far (still_unbound (same_variable bound_name bound_type other s) (binder_index binders other s) unbound);
+    }
 
 -- a variable of a term that lacks some classes has none of them
 variable_apart : (classes : ℕ) (name : List ℕ) (ty : HolType) (term : NamedTerm) → OccursIn name ty term → bit_and classes (classes_of_names term) ≡ 0

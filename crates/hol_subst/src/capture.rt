@@ -99,12 +99,7 @@ pub fn captures(
 
 // The classes of the variables that are replaced by a term in which a variable is free.
 #[tactic(auto, using(crate::proofs::Standing::bringing_classes))]
-fn brought_by(
-    name: &str,
-    ty: &Ty,
-    replacements: &Replacements<'_>,
-    touched: Touched,
-) -> NameClasses
+fn brought_by(name: &str, ty: &Ty, replacements: &Replacements<'_>, touched: Touched) -> NameClasses
     requires { Covers touched.old.bits touched.new.bits (entries_of replacements.now) }
     ensures { IsBroughtBy result.bits (entries_of replacements.now) name.now ty.now }
 {

@@ -44,13 +44,6 @@ impl VariableTypes {
         })
     }
 
-    /// Whether anything is known.
-    pub fn is_known(&self) -> bool
-        ensures { result ≡ self.now.is_known }
-    {
-        self.is_known
-    }
-
     /// Whether a variable of this name may occur.
     pub fn has_name(&self, name: &str) -> bool
         ensures { IsFalse result → (ty : HolType) → Admits (table_of self.now name.now) ty → ⊥ }

@@ -1,8 +1,7 @@
-use Rattle.std.proofs.Common.{◌≡◌, rules, Some, ap, subst, sym}
+use Rattle.std.proofs.Common.{◌≡◌, rules, Some}
 use Rattle.std.specs.String.{string_bytes}
 use Rattle.std.proofs.lemmas.Map.Text.{hash_map_updates_text}
 use Rattle.indexmap.specs.IndexMap.{get_by_text}
-use Rattle.hol_subst.specs.VariableTypes.{IsOnlyType}
 use Rattle.hol_subst.proofs.Variables.{Grows-noting}
 use Rattle.hol_subst.proofs.variable_types.add_variable.Goals as goal
 
