@@ -1,32 +1,29 @@
 -- What a replacement cannot touch stays as it is.
-use Rattle.std.proofs.Common.{◌≡◌, ◌⊎◌, inl, inr, ℕ, suc, List, [], ◌∷◌, Bool, true, false, ◌&&◌, ◌||◌, not, Some, None, refl, sym, ◌∙◌, ap}
+use Rattle.std.proofs.Common.{◌≡◌, ℕ, List, [], ◌∷◌, Bool, true, false, ◌&&◌, ◌||◌, not, Some, None, refl, sym, ◌∙◌, ap}
 use Rattle.std.specs.Prelude.{Option, if◌then◌else◌, fold, bit_and, bit_or}
 use Rattle.std.specs.List.{list_any}
-use Rattle.std.specs.Option.{option_map, option_map_or, is_some}
-use Rattle.std.specs.Int.Bits.{and_zero_l}
+use Rattle.std.specs.Option.{option_map, option_map_or}
 use Rattle.std.proofs.lemmas.Nat.{and_comm}
 use Rattle.hol_model.specs.HolType.{HolType, function_type, type_put}
 use Rattle.hol_model.specs.NamedTerm.{NamedTerm, variable, constant, combination, abstraction, Binder, same_variable, is_free, type_of}
-use Rattle.hol_model.specs.Nameless.{Nameless, free, const, bound, app, lam, image, image_under, variable_image, binder_index}
-use Rattle.hol_model.specs.Substitution.{occurs_free}
-use Rattle.hol_model.proofs.Tests.{same_name, same_variable-type, same_variable-self, first_of_both, second_of_both, first_of_neither, second_of_neither}
-use Rattle.hol_model.proofs.Images.{occurs_free-image, application-typed}
-use Rattle.hol_model.proofs.Measures.{some_type}
+use Rattle.hol_model.specs.Nameless.{Nameless, free, const, bound, app, lam, image, image_under, binder_index}
+use Rattle.hol_model.proofs.Tests.{same_name, same_variable-type, first_of_neither, second_of_neither}
+use Rattle.hol_model.proofs.Images.{application-typed}
 use Rattle.hol_types.specs.Variables as types_spec
 use Rattle.hol_types.proofs.Closed.{unchanged}
 use Rattle.hol_terms.specs.Classes.{class_of_name, have_common_class, classes_of_names}
 use Rattle.hol_terms.specs.TypeVariables.{has_type_variables}
 use Rattle.hol_terms.proofs.FreeNames.{nothing_common, apart_from_first, apart_from_second, other_names, apart_not_free}
 use Rattle.hol_subst.specs.Entries.{Entry, entries, looked_up, instance_of, mapped, replaced, KeepsTypes}
-use Rattle.hol_subst.specs.Touched.{Covers, IsAbsent, ReplacesAlike, changes_type, changes_types, stays, is_apart}
+use Rattle.hol_subst.specs.Touched.{Covers, IsAbsent, ReplacesAlike, changes_type, changes_types, stays}
 use Rattle.hol_subst.proofs.Putting.{type_put-none}
 use Rattle.hol_subst.proofs.KeptTypes.{unchanged_type, KeepsTypes-keeping}
 
 -- the parts of a union have nothing in common with what the union has nothing in common with
-first_apart : (a b m : ℕ) → bit_and (bit_or a b) m ≡ 0 → bit_and a m ≡ 0
+pub first_apart : (a b m : ℕ) → bit_and (bit_or a b) m ≡ 0 → bit_and a m ≡ 0
 first_apart a b m apart = and_comm a m ∙ apart_from_first m a b (and_comm m (bit_or a b) ∙ apart)
 
-second_apart : (a b m : ℕ) → bit_and (bit_or a b) m ≡ 0 → bit_and b m ≡ 0
+pub second_apart : (a b m : ℕ) → bit_and (bit_or a b) m ≡ 0 → bit_and b m ≡ 0
 second_apart a b m apart = and_comm b m ∙ apart_from_second m a b (and_comm m (bit_or a b) ∙ apart)
 
 not_free_in : (term : NamedTerm) (name : List ℕ) (ty : HolType) → bit_and (classes_of_names term) (class_of_name name) ≡ 0 → is_free name ty term ≡ false
@@ -66,11 +63,6 @@ IsAbsent-pairs ((new, combination f x) ∷ rest) name ty none =
     IsAbsent-pairs rest name ty (second_of_neither (is_free name ty new) (list_any (λ (pair : NamedTerm × NamedTerm). is_free name ty pair.0) rest) none)
 IsAbsent-pairs ((new, abstraction third t body) ∷ rest) name ty none =
     IsAbsent-pairs rest name ty (second_of_neither (is_free name ty new) (list_any (λ (pair : NamedTerm × NamedTerm). is_free name ty pair.0) rest) none)
-
--- the same, from a test
-pub IsAbsent-from_test : (env : List Entry) (old new class : ℕ) (name : List ℕ) (ty : HolType) → Covers old new env → class ≡ class_of_name name
-    → have_common_class new class ≡ false → IsAbsent env name ty
-IsAbsent-from_test env old new class name ty covers is apart = covers.absent name ty (ap (bit_and new) (sym is) ∙ nothing_common new class apart)
 
 -- one more variable that is kept
 Covers-keeping : (old new : ℕ) (env : List Entry) (name : List ℕ) (ty : HolType) → Covers old new env → Covers old new (((name, ty), None) ∷ env)
@@ -187,16 +179,16 @@ Covers-pairs theta old new is_old is_new = record {
 }
 
 -- a type that the pairs cannot change
-type_stays : (types : List (HolType × HolType)) (ty : HolType) → changes_type types ty ≡ false → type_put types ty ≡ ty
+pub type_stays : (types : List (HolType × HolType)) (ty : HolType) → changes_type types ty ≡ false → type_put types ty ≡ ty
 type_stays [] ty none = type_put-none ty
 type_stays (pair ∷ rest) ty none = unchanged (pair ∷ rest) ty none
 
 -- the parts of a term that the pairs cannot change
-function_stays : (types : List (HolType × HolType)) (f x : NamedTerm) → changes_types types (combination f x) ≡ false → changes_types types f ≡ false
+pub function_stays : (types : List (HolType × HolType)) (f x : NamedTerm) → changes_types types (combination f x) ≡ false → changes_types types f ≡ false
 function_stays [] f x none = refl
 function_stays (pair ∷ rest) f x none = first_of_neither (has_type_variables f) (has_type_variables x) none
 
-argument_stays : (types : List (HolType × HolType)) (f x : NamedTerm) → changes_types types (combination f x) ≡ false → changes_types types x ≡ false
+pub argument_stays : (types : List (HolType × HolType)) (f x : NamedTerm) → changes_types types (combination f x) ≡ false → changes_types types x ≡ false
 argument_stays [] f x none = refl
 argument_stays (pair ∷ rest) f x none = second_of_neither (has_type_variables f) (has_type_variables x) none
 
@@ -204,11 +196,11 @@ binder_stays : (types : List (HolType × HolType)) (name : List ℕ) (ty : HolTy
 binder_stays [] name ty body none = refl
 binder_stays (pair ∷ rest) name ty body none = first_of_neither (types_spec.has_type_variables ty) (has_type_variables body) none
 
-body_stays : (types : List (HolType × HolType)) (name : List ℕ) (ty : HolType) (body : NamedTerm) → changes_types types (abstraction name ty body) ≡ false → changes_types types body ≡ false
+pub body_stays : (types : List (HolType × HolType)) (name : List ℕ) (ty : HolType) (body : NamedTerm) → changes_types types (abstraction name ty body) ≡ false → changes_types types body ≡ false
 body_stays [] name ty body none = refl
 body_stays (pair ∷ rest) name ty body none = second_of_neither (types_spec.has_type_variables ty) (has_type_variables body) none
 
-leaf_stays : (types : List (HolType × HolType)) (name : List ℕ) (ty : HolType) → changes_types types (variable name ty) ≡ false → changes_type types ty ≡ false
+pub leaf_stays : (types : List (HolType × HolType)) (name : List ℕ) (ty : HolType) → changes_types types (variable name ty) ≡ false → changes_type types ty ≡ false
 leaf_stays [] name ty none = refl
 leaf_stays (pair ∷ rest) name ty none = none
 
@@ -235,87 +227,6 @@ module _ (env : List Entry) (types : List (HolType × HolType)) (old new : ℕ) 
   replaced-apart (abstraction name ty body) binders apart none =
       λ i. lam (type_stays types ty (binder_stays types name ty body none) i)
       (replaced-apart body ((name, ty) ∷ binders) apart (body_stays types name ty body none) i)
-
-  -- what stands for a variable has no free variable of a class that neither the variable nor the new terms have
-  instance-apart : (other : List ℕ) (s : HolType) (name : List ℕ) (ty : HolType) → bit_and (class_of_name name) (class_of_name other) ≡ 0
-      → (bit_and old (class_of_name other) ≡ 0) ⊎ IsAbsent env name ty
-      → occurs_free name ty (instance_of env types other s) ≡ false
-  instance-apart other s name ty apart beside = go (looked_up env other s) refl
-    where
-      replaced_by : (term : NamedTerm) → looked_up env other s ≡ Some term → (bit_and old (class_of_name other) ≡ 0) ⊎ IsAbsent env name ty
-          → is_free name ty term ≡ false
-      replaced_by term is (inl kept) = let none : Some term ≡ None = sym is ∙ covers.kept other s kept in cc
-      replaced_by term is (inr absent) = absent.absent other s term is
-
-      go : (found : Option NamedTerm) → looked_up env other s ≡ found → occurs_free name ty (option_map_or image found (free other (type_put types s))) ≡ false
-      go None is = other_names name other ty (type_put types s) apart
-      go (Some term) is = occurs_free-image name ty term ∙ replaced_by term is beside
-
-  neither : (p q : Bool) → p ≡ false → q ≡ false → (p || q) ≡ false
-  neither p q first second = cc
-
-  -- nor has a term
-  occurs-apart : (term : NamedTerm) (binders : List Binder) (name : List ℕ) (ty : HolType) → bit_and (class_of_name name) (classes_of_names term) ≡ 0
-      → (bit_and old (classes_of_names term) ≡ 0) ⊎ IsAbsent env name ty
-      → occurs_free name ty (replaced env types (image_under binders term)) ≡ false
-  occurs-apart (variable other s) binders name ty apart beside = go (binder_index binders other s)
-    where
-      go : (index : Option ℕ) → occurs_free name ty (mapped (instance_of env types) (type_put types) (option_map_or bound index (free other s))) ≡ false
-      go None = instance-apart other s name ty apart beside
-      go (Some index) = refl
-  occurs-apart (constant other s) binders name ty apart beside = refl
-  occurs-apart (combination f x) binders name ty apart beside =
-      neither (occurs_free name ty (replaced env types (image_under binders f))) (occurs_free name ty (replaced env types (image_under binders x)))
-      (occurs-apart f binders name ty (apart_from_first (class_of_name name) (classes_of_names f) (classes_of_names x) apart) (first beside))
-      (occurs-apart x binders name ty (apart_from_second (class_of_name name) (classes_of_names f) (classes_of_names x) apart) (second beside))
-    where
-      first : (bit_and old (bit_or (classes_of_names f) (classes_of_names x)) ≡ 0) ⊎ IsAbsent env name ty
-          → (bit_and old (classes_of_names f) ≡ 0) ⊎ IsAbsent env name ty
-      first (inl none) = inl (apart_from_first old (classes_of_names f) (classes_of_names x) none)
-      first (inr none) = inr none
-
-      second : (bit_and old (bit_or (classes_of_names f) (classes_of_names x)) ≡ 0) ⊎ IsAbsent env name ty
-          → (bit_and old (classes_of_names x) ≡ 0) ⊎ IsAbsent env name ty
-      second (inl none) = inl (apart_from_second old (classes_of_names f) (classes_of_names x) none)
-      second (inr none) = inr none
-  occurs-apart (abstraction other s body) binders name ty apart beside = occurs-apart body ((other, s) ∷ binders) name ty apart beside
-
-  -- the variable of a binder, its type kept, is not free under it where no new term has its class
-  bound-apart : (term : NamedTerm) (binders : List Binder) (name : List ℕ) (ty : HolType) → is_some (binder_index binders name ty) ≡ true
-      → IsAbsent env name ty → changes_types types term ≡ false
-      → occurs_free name ty (replaced env types (image_under binders term)) ≡ false
-  bound-apart (variable other s) binders name ty is_bound absent none = go (binder_index binders other s) refl
-    where
-      itself : binder_index binders other s ≡ None → (test : Bool) → same_variable name ty other s ≡ test → test ≡ false
-      itself is true same =
-          let here : binder_index binders name ty ≡ None = rw (same_name name other ty s same, same_variable-type name other ty s same) is in
-          let not_bound : is_some (binder_index binders name ty) ≡ false = ap is_some here in
-          let clash : true ≡ false = sym is_bound ∙ not_bound in
-          cc
-      itself is false same = refl
-
-      stands : (found : Option NamedTerm) → looked_up env other s ≡ found → binder_index binders other s ≡ None
-          → occurs_free name ty (option_map_or image found (free other (type_put types s))) ≡ false
-      stands None is outside =
-          rw (type_stays types s (leaf_stays types other s none)) (itself outside (same_variable name ty other s) refl)
-      stands (Some term) is outside = occurs_free-image name ty term ∙ absent.absent other s term is
-
-      go : (index : Option ℕ) → binder_index binders other s ≡ index
-          → occurs_free name ty (mapped (instance_of env types) (type_put types) (option_map_or bound index (free other s))) ≡ false
-      go None is = stands (looked_up env other s) refl is
-      go (Some index) is = refl
-  bound-apart (constant other s) binders name ty is_bound absent none = refl
-  bound-apart (combination f x) binders name ty is_bound absent none =
-      neither (occurs_free name ty (replaced env types (image_under binders f))) (occurs_free name ty (replaced env types (image_under binders x)))
-      (bound-apart f binders name ty is_bound absent (function_stays types f x none))
-      (bound-apart x binders name ty is_bound absent (argument_stays types f x none))
-  bound-apart (abstraction other s body) binders name ty is_bound absent none =
-      bound-apart body ((other, s) ∷ binders) name ty (still (same_variable other s name ty) (binder_index binders name ty) is_bound) absent (body_stays types other s body none)
-    where
-      still : (test : Bool) (index : Option ℕ) → is_some index ≡ true → is_some (if test then Some 0 else option_map suc index) ≡ true
-      still true index is = refl
-      still false None is = cc
-      still false (Some index) is = refl
 
 -- a type of a term without type variables has none
 type_has_none : (term : NamedTerm) (ty : HolType) → type_of term ≡ Some ty → has_type_variables term ≡ false → types_spec.has_type_variables ty ≡ false
@@ -369,37 +280,6 @@ stays-typed types old term ty typed passed = go types (failed_second (have_commo
         let same : type_put (pair ∷ rest) ty ≡ ty = unchanged (pair ∷ rest) ty (type_has_none term ty typed none) in
         typed ∙ sym (ap Some same) ∙ sym (ap (option_map (type_put (pair ∷ rest))) typed)
 
-pub is_apart-after : (env : List Entry) (types : List (HolType × HolType)) (old new class : ℕ) (may_be_put : Bool) (term : NamedTerm) (binders : List Binder) (name : List ℕ) (ty : HolType)
-    → Covers old new env → class ≡ class_of_name name → (may_be_put ≡ false → IsAbsent env name ty) → is_apart old class may_be_put term ≡ true
-    → occurs_free name ty (replaced env types (image_under binders term)) ≡ false
-is_apart-after env types old new class may_be_put term binders name ty covers is put passed =
-    let classes = classes_of_names term in
-    let far = first_of_both (not (have_common_class class classes)) (not (have_common_class old classes) || not may_be_put) passed in
-    let near = second_of_both (not (have_common_class class classes)) (not (have_common_class old classes) || not may_be_put) passed in
-    occurs-apart env types old new covers term binders name ty
-    (ap (λ c. bit_and c classes) (sym is) ∙ nothing_common class classes (failed (have_common_class class classes) far))
-    (go (have_common_class old classes) may_be_put refl put near)
-  where
-    failed : (p : Bool) → not p ≡ true → p ≡ false
-    failed true is = cc
-    failed false is = refl
-
-    go : (p q : Bool) → have_common_class old (classes_of_names term) ≡ p → (q ≡ false → IsAbsent env name ty) → (not p || not q) ≡ true
-        → (bit_and old (classes_of_names term) ≡ 0) ⊎ IsAbsent env name ty
-    go false q first second either = inl (nothing_common old (classes_of_names term) first)
-    go true false first second either = inr (second refl)
-    go true true first second either = cc
-
-pub bound-after : (env : List Entry) (types : List (HolType × HolType)) (old new : ℕ) (body : NamedTerm) (name : List ℕ) (ty new_type : HolType)
-    → Covers old new env → new_type ≡ type_put types ty
-    → IsAbsent env name new_type → changes_type types ty ≡ false → changes_types types body ≡ false
-    → occurs_free name new_type (replaced env types (image_under ((name, ty) ∷ []) body)) ≡ false
-bound-after env types old new body name ty new_type covers typed absent kept none =
-    let same : new_type ≡ ty = typed ∙ type_stays types ty kept in
-    let of_binder : IsAbsent env name ty = rw (← same) absent in
-    rw same
-    (bound-apart env types old new covers body ((name, ty) ∷ []) name ty (rw (same_variable-self name ty) refl) of_binder none)
-
 -- what a test says of a variable of another class
 pub kept-from_test : (env : List Entry) (old new class : ℕ) (name : List ℕ) (ty : HolType) → Covers old new env → class ≡ class_of_name name
     → have_common_class old class ≡ false → None ≡ looked_up env name ty
@@ -412,8 +292,4 @@ pub ruleset covering = (Covers-alike, KeepsTypes-alike, Covers-and_putting, Cove
 
 pub ruleset keeping_variable = (alike-itself, alike-kept)
 
-pub ruleset absence = (IsAbsent-keeping, IsAbsent-putting, IsAbsent-pairs, IsAbsent-from_test)
-
 pub ruleset handing_on = (stays-image, stays-typed)
-
-pub ruleset passing_over = (is_apart-after, bound-after)

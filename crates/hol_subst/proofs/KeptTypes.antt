@@ -1,9 +1,9 @@
 -- Replacements keep types: a term has its old type, with type variables replaced.
-use Rattle.std.proofs.Common.{◌≡◌, ℕ, List, [], ◌∷◌, Bool, true, false, ◌&&◌, Some, None, refl, sym, ◌∙◌, ap}
+use Rattle.std.proofs.Common.{◌≡◌, ℕ, List, [], ◌∷◌, Bool, true, false, Some, None, refl, sym, ◌∙◌, ap}
 use Rattle.std.specs.Prelude.{Option, if◌then◌else◌}
 use Rattle.std.specs.Option.{option_map}
-use Rattle.hol_model.specs.HolType.{HolType, function_type, type_eq, type_put}
-use Rattle.hol_model.specs.NamedTerm.{NamedTerm, variable, constant, combination, abstraction, same_variable, type_of, application_type}
+use Rattle.hol_model.specs.HolType.{HolType, function_type, type_put}
+use Rattle.hol_model.specs.NamedTerm.{NamedTerm, variable, constant, combination, abstraction, same_variable, type_of}
 use Rattle.hol_model.proofs.HolTypeEq.{same_from_type_eq, type_eq-self}
 use Rattle.hol_model.proofs.Tests.{first_of_both, second_of_both, same_variable-type}
 use Rattle.hol_model.proofs.Images.{application-typed}

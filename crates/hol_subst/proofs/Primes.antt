@@ -1,7 +1,6 @@
 -- Why a name with enough primes is not taken.
-use Rattle.std.proofs.Common.{◌≡◌, ℕ, zero, suc, ◌+◌, ◌<◌, ◌≤◌, max, List, [], ◌∷◌, ◌++◌, Bool, true, false, not, ◌&&◌, ◌||◌, length, ◌-◌, refl, sym, ◌∙◌, ap, arith, below_more, length-append, Some, Ok, Err, IfOk}
+use Rattle.std.proofs.Common.{◌≡◌, ℕ, zero, suc, ◌+◌, ◌<◌, ◌≤◌, max, List, [], ◌∷◌, ◌++◌, Bool, true, false, ◌&&◌, ◌||◌, length, ◌-◌, refl, ◌∙◌, ap, arith, below_more, length-append, Some, Ok, Err, IfOk}
 use Rattle.std.specs.Prelude.{Result}
-use Rattle.std.specs.List.{list_all, list_any}
 use Rattle.hol_model.specs.HolType.{HolType}
 use Rattle.hol_model.specs.Name.{is_identifier, is_capital, is_small, continues_name, all_continue}
 use Rattle.hol_model.specs.NamedTerm.{NamedTerm, variable, constant, combination, abstraction, dest_variable, is_free}
@@ -84,6 +83,11 @@ one_more_prime taken name fresh next known is_taken is =
           below_more (λ k. taken (primed k name) ≡ true) known.primes known.all_taken (rw (← known.is_primed) is_taken) fewer at_most;
       is_named = rw is (is_identifier-prime fresh known.is_named);
     }
+
+-- a taken name with one prime
+pub one_prime : (taken : List ℕ → Bool) (name fresh : List ℕ) → is_identifier name ≡ true → taken name ≡ true → fresh ≡ name ++ 39 ∷ []
+    → HasPrimes taken name fresh
+one_prime taken name fresh named is_taken is = one_more_prime taken name name fresh (no_primes taken name name named refl) is_taken is
 
 -- the name that is not taken is the first one
 pub free_at_last : (taken : List ℕ → Bool) (name fresh : List ℕ) → HasPrimes taken name fresh → taken fresh ≡ false → IsFirstFree taken name fresh

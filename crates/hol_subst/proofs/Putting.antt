@@ -7,7 +7,7 @@ use Rattle.hol_model.specs.NamedTerm.{NamedTerm, variable, constant, combination
 use Rattle.hol_model.specs.Nameless.{Nameless, free, const, bound, app, lam, image}
 use Rattle.hol_model.specs.Substitution.{is_variable_named, put, replacement, instantiate}
 use Rattle.hol_model.proofs.Images.{occurs_free-image}
-use Rattle.hol_subst.specs.Entries.{Entry, entries, looked_up, replaced}
+use Rattle.hol_subst.specs.Entries.{entries, looked_up, replaced}
 
 found_choice : (here : Bool) (pair : NamedTerm × NamedTerm) (rest : Option (NamedTerm × NamedTerm))
     → option_map (λ (p : NamedTerm × NamedTerm). p.0) (if here then Some pair else rest)

@@ -1,7 +1,7 @@
 -- What a replacement may touch, told by the classes of names that terms keep.
-use Rattle.std.specs.Prelude.{◌≡◌, ℕ, List, [], ◌∷◌, Bool, false, not, ◌&&◌, ◌||◌, Some, None, bit_and}
-use Rattle.hol_model.specs.HolType.{HolType}
-use Rattle.hol_model.specs.NamedTerm.{NamedTerm, is_free}
+use Rattle.std.specs.Prelude.{◌≡◌, ℕ, List, [], ◌∷◌, Bool, false, not, ◌&&◌, Some, None, bit_and}
+use Rattle.hol_model.specs.HolType.{HolType, type_eq, type_put}
+use Rattle.hol_model.specs.NamedTerm.{NamedTerm, variable, constant, combination, abstraction, is_free}
 use Rattle.hol_types.specs.Variables as types_spec
 use Rattle.hol_terms.specs.Classes.{class_of_name, have_common_class, classes_of_names}
 use Rattle.hol_terms.specs.TypeVariables as terms_spec
@@ -34,7 +34,9 @@ changes_types (pair ∷ rest) term = terms_spec.has_type_variables term
 abbrev pub stays : ℕ → List (HolType × HolType) → NamedTerm → Bool
 stays old types term = not (have_common_class old (classes_of_names term)) && not (changes_types types term)
 
--- a variable of the class stands neither in the term nor, where it may be put, in what replaces variables of the term
-abbrev pub is_apart : ℕ → ℕ → Bool → NamedTerm → Bool
-is_apart old class may_be_put term =
-    not (have_common_class class (classes_of_names term)) && (not (have_common_class old (classes_of_names term)) || not may_be_put)
+-- each type that the term is written with stays
+abbrev pub keeps_all_types : List (HolType × HolType) → NamedTerm → Bool
+keeps_all_types types (variable name ty) = type_eq ty (type_put types ty)
+keeps_all_types types (constant name ty) = type_eq ty (type_put types ty)
+keeps_all_types types (combination function argument) = keeps_all_types types function && keeps_all_types types argument
+keeps_all_types types (abstraction name ty body) = type_eq ty (type_put types ty) && keeps_all_types types body

@@ -1,5 +1,5 @@
 // Variables that are free in none of some terms.
-ghost use Rattle.std.specs.Prelude.{◌≡◌, ◌↔◌, [], ◌∷◌, IfOk, IfErr, IsTrue, IsFalse, Contains};
+ghost use Rattle.std.specs.Prelude.{◌≡◌, ◌↔◌, [], ◌∷◌, ◌++◌, true, IfOk, IfErr, IsTrue, IsFalse, Contains};
 ghost use Rattle.std.specs.String.{string_bytes};
 ghost use Rattle.hol_model.specs.NamedTerm.{variable, is_variable, type_of};
 ghost use Rattle.hol_model.specs.Name.{is_identifier};
@@ -10,12 +10,15 @@ ghost use Rattle.hol_subst.specs.Entries.{replaced};
 ghost use Rattle.hol_subst.specs.Replacements.{entries_of, binders_of};
 ghost use Rattle.hol_subst.specs.Touched.{Covers};
 ghost use Rattle.hol_subst.specs.Fresh.{IsFreshBinder};
+ghost use Rattle.hol_subst.specs.VariableTypes.{HasVariables, table_of};
 ghost use Rattle.hol_model.specs.declared.fault.Fault.TheVariants.{Memory, NotVariable};
 
+use crate::capture::is_free_after;
 use crate::passed::Passed;
 use crate::rebuild::variable_of;
-use crate::replacements::{Replacements, is_free_after};
+use crate::replacements::Replacements;
 use crate::touched::Touched;
+use crate::variable_types::VariableTypes;
 use hol_model::Fault;
 use hol_terms::{Term, is_free};
 use hol_types::Ty;
@@ -56,7 +59,8 @@ fn is_free_in_some(terms: &[Term], name: &str, ty: &Ty) -> bool
     terms.iter().any(|term| is_free(term, name, ty))
 }
 
-/// A binder that captures nothing in a term, which stands under the passed binders, after the replacement.
+/// A binder that captures nothing in a term, which stands under the passed binders, after the replacement, in place of
+/// one that would capture.
 pub fn fresh_binder(
     alloc: Global,
     body: &Term,
@@ -66,9 +70,12 @@ pub fn fresh_binder(
     passed: &Passed<'_>,
     replacements: &Replacements<'_>,
     touched: Touched,
+    variables: &VariableTypes,
 ) -> Result<Term, Fault>
     requires named { IsTrue (is_identifier name.now) }
     requires covered { Covers touched.old.bits touched.new.bits (entries_of replacements.now) }
+    requires known { HasVariables (table_of variables.now) body.now }
+    requires taken { occurs_free name.now ty.now (replaced (entries_of replacements.now) types.now (image_under (binders_of passed.now) body.now)) ≡ true }
     ensures fresh { IfOk result (IsFreshBinder (replaced (entries_of replacements.now) types.now (image_under (binders_of passed.now) body.now)) name.now ty.now) }
     ensures variable { IfOk result (λ binder. IsTrue (is_variable binder)) }
     ensures typed { IfOk result (λ binder. type_of binder ≡ Some ty.now) }
@@ -83,6 +90,7 @@ pub fn fresh_binder(
         &*passed,
         &*replacements,
         touched,
+        variables,
     )?;
     variable_of(alloc, fresh.as_str(), ty)
 }
@@ -97,14 +105,17 @@ fn name_free_after(
     passed: &Passed<'_>,
     replacements: &Replacements<'_>,
     touched: Touched,
+    variables: &VariableTypes,
 ) -> Result<String, Fault>
     requires named { IsTrue (is_identifier name.now) }
     requires covered { Covers touched.old.bits touched.new.bits (entries_of replacements.now) }
+    requires known { HasVariables (table_of variables.now) body.now }
+    requires taken { occurs_free name.now ty.now (replaced (entries_of replacements.now) types.now (image_under (binders_of passed.now) body.now)) ≡ true }
     ensures fresh { IfOk result (λ fresh. IsFirstFree (λ other. occurs_free other ty.now (replaced (entries_of replacements.now) types.now (image_under (binders_of passed.now) body.now))) name.now (string_bytes fresh)) }
     ensures named { IfOk result (λ fresh. IsTrue (is_identifier (string_bytes fresh))) }
     ensures err { IfErr result (λ fault. fault ≡ Memory) }
 {
-    let mut fresh = String::from_str(alloc, name)?;
+    let mut fresh = with_prime(alloc, name)?;
     while is_free_after(
         body,
         fresh.as_str(),
@@ -113,8 +124,19 @@ fn name_free_after(
         &*passed,
         &*replacements,
         touched,
+        variables,
     ) {
         fresh.push_str("'")?;
     }
+    Ok(fresh)
+}
+
+// The name with one prime.
+fn with_prime(alloc: Global, name: &str) -> Result<String, Fault>
+    ensures ok { IfOk result (λ fresh. string_bytes fresh ≡ name.now ++ 39 ∷ []) }
+    ensures err { IfErr result (λ fault. fault ≡ Memory) }
+{
+    let mut fresh = String::from_str(alloc, name)?;
+    fresh.push_str("'")?;
     Ok(fresh)
 }

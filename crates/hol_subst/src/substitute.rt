@@ -10,9 +10,8 @@ ghost use Rattle.hol_model.specs.Substitution as spec;
 ghost use Rattle.hol_model.specs.Measures.{nameless_within_limits};
 ghost use Rattle.hol_model.specs.declared.fault.Fault.TheVariants.{Memory, TooLarge, NotVariable, TypeMismatch};
 
-use crate::replace::replaced;
-use crate::replacements::Replacements;
-use crate::touched::Touched;
+use crate::replace::replaced_by;
+use crate::touched::keeps_all_types;
 use hol_model::Fault;
 use hol_terms::Term;
 use hol_types::{Ty, replaces_type_variables};
@@ -35,8 +34,7 @@ pub fn vsubst(alloc: Global, theta: &[(Term, Term)], term: &Term) -> Result<Term
     if !keeps_types(theta) {
         return Err(Fault::TypeMismatch);
     }
-    let touched = Touched::by_pairs(theta);
-    let changed = replaced(alloc, term, &[], &Replacements::Pairs(theta), touched)?;
+    let changed = replaced_by(alloc, term, &[], theta)?;
     changed_or_copy(alloc, changed, term)
 }
 
@@ -52,7 +50,7 @@ fn keeps_types(theta: &[(Term, Term)]) -> bool
     theta.iter().all(|pair| pair.0.ty().eq(pair.1.ty()))
 }
 
-#[tactic(auto, using(crate::proofs::KeptTypes::keeping, crate::proofs::Putting::putting))]
+#[tactic(auto, using(crate::proofs::KeptTypes::keeping, crate::proofs::Putting::putting, crate::proofs::StayingTypes::staying))]
 /// A term with type variables replaced, all at once, by a list of pairs (new, old), of which the first counts.
 pub fn inst(alloc: Global, theta: &[(Ty, Ty)], term: &Term) -> Result<Term, Fault>
     ensures ok { IfOk result (λ new. image new ≡ instantiate (type_instance_of theta.now) (image term.now)) }
@@ -65,8 +63,10 @@ pub fn inst(alloc: Global, theta: &[(Ty, Ty)], term: &Term) -> Result<Term, Faul
     if !replaces_type_variables(theta) {
         return Err(Fault::NotVariable);
     }
-    let touched = Touched::by_pairs(&[]);
-    let changed = replaced(alloc, term, theta, &Replacements::Pairs(&[]), touched)?;
+    if keeps_all_types(theta, term) {
+        return changed_or_copy(alloc, None, term);
+    }
+    let changed = replaced_by(alloc, term, theta, &[])?;
     changed_or_copy(alloc, changed, term)
 }
 

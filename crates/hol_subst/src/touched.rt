@@ -6,8 +6,8 @@ ghost use Rattle.hol_subst.specs.Entries.{Entry, entries};
 ghost use Rattle.hol_subst.specs.Touched.{Covers};
 ghost use Rattle.hol_subst.specs.Touched as spec;
 
-use hol_terms::{NameClasses, Term};
-use hol_types::Ty;
+use hol_terms::{NameClasses, Parts, Term};
+use hol_types::{Ty, is_replaced_type};
 
 /// The classes of the names that may be replaced, and of those that may be free in what replaces them.
 #[derive(Clone, Copy)]
@@ -82,10 +82,21 @@ pub fn stays(term: &Term, types: &[(Ty, Ty)], touched: Touched) -> bool
     !touched.old.meets(term.names()) && !changes_types(types, term)
 }
 
-/// Whether no variable of a class is in the term or, where it may be put, in what replaces variables of the term.
-pub fn is_apart(term: &Term, class: NameClasses, touched: Touched, may_be_put: bool) -> bool
-    ensures { result ≡ spec.is_apart touched.old.bits class.bits may_be_put term.now }
+/// Whether a list of pairs (new, old) changes no type that the term is written with.
+#[tactic(auto, using(crate::proofs::StayingTypes::closed))]
+pub fn keeps_all_types(types: &[(Ty, Ty)], term: &Term) -> bool
+    ensures { result ≡ spec.keeps_all_types types.now term.now }
 {
-    let names = term.names();
-    !class.meets(names) && (!touched.old.meets(names) || !may_be_put)
+    if !term.has_tyvars() {
+        return true;
+    }
+    match term.parts() {
+        Parts::Variable(_, ty) | Parts::Constant(_, ty) => is_replaced_type(types, ty, ty),
+        Parts::Combination(function, argument) => {
+            keeps_all_types(types, function) && keeps_all_types(types, argument)
+        }
+        Parts::Abstraction(_, ty, body) => {
+            is_replaced_type(types, ty, ty) && keeps_all_types(types, body)
+        }
+    }
 }

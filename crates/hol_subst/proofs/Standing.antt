@@ -1,0 +1,279 @@
+-- Where a variable is sought after a replacement, and that it is nowhere else.
+use Rattle.std.proofs.Common.{◌≡◌, inl, inr, ℕ, suc, List, [], ◌∷◌, Bool, true, false, ◌||◌, not, Some, None, refl, sym, ◌∙◌, ap}
+use Rattle.std.specs.Prelude.{Option, if◌then◌else◌, fold, bit_and, bit_or}
+use Rattle.std.specs.Option.{option_map, option_map_or}
+use Rattle.hol_model.specs.HolType.{HolType, type_put}
+use Rattle.hol_model.specs.NamedTerm.{NamedTerm, variable, constant, combination, abstraction, Binder, same_variable, is_free}
+use Rattle.hol_model.specs.Nameless.{free, bound, image, image_under, binder_index}
+use Rattle.hol_model.specs.Substitution.{occurs_free}
+use Rattle.hol_model.proofs.Tests.{same_name, same_variable-self}
+use Rattle.hol_model.proofs.Images.{occurs_free-image}
+use Rattle.hol_terms.specs.Classes.{class_of_name, have_common_class, classes_of_names}
+use Rattle.hol_terms.proofs.FreeNames.{nothing_common, apart_from_first, apart_from_second, other_names, has_class}
+use Rattle.hol_subst.specs.Entries.{Entry, entries, looked_up, instance_of, mapped, replaced}
+use Rattle.hol_subst.specs.Touched.{Covers, changes_type, changes_types}
+use Rattle.hol_subst.specs.Occurrences.{OccursIn}
+use Rattle.hol_subst.specs.VariableTypes.{Admits, HasVariables}
+use Rattle.hol_subst.specs.Sought.{IsBroughtBy, IsKeptIn, is_apart}
+use Rattle.hol_subst.proofs.Apart.{first_apart, second_apart, type_stays, function_stays, argument_stays, body_stays, leaf_stays}
+
+-- a variable that is free in no new term is brought by none
+pub IsBroughtBy-none : (classes : ℕ) (env : List Entry) (old new class : ℕ) (name : List ℕ) (ty : HolType) → Covers old new env → class ≡ class_of_name name
+    → have_common_class new class ≡ false → IsBroughtBy classes env name ty
+IsBroughtBy-none classes env old new class name ty covers is apart = record {
+  absent = λ other s term far looked.
+      (covers.absent name ty (ap (bit_and new) (sym is) ∙ nothing_common new class apart)).absent other s term looked;
+}
+
+-- one more that is kept
+pub IsBroughtBy-keeping : (classes : ℕ) (env : List Entry) (name : List ℕ) (ty : HolType) (kept : List ℕ) (kept_type : HolType)
+    → IsBroughtBy classes env name ty → IsBroughtBy classes (((kept, kept_type), None) ∷ env) name ty
+IsBroughtBy-keeping classes env name ty kept kept_type is =
+    record { absent = λ other s term far looked. go (same_variable kept kept_type other s) other s term far looked }
+  where
+    go : (test : Bool) (other : List ℕ) (s : HolType) (term : NamedTerm) → bit_and classes (class_of_name other) ≡ 0
+        → (if test then None else looked_up env other s) ≡ Some term → is_free name ty term ≡ false
+    go true other s term far looked = cc
+    go false other s term far looked = is.absent other s term far looked
+
+-- one more that is replaced by a term without the variable
+pub IsBroughtBy-beside : (classes : ℕ) (env : List Entry) (name : List ℕ) (ty : HolType) (put : List ℕ) (put_type : HolType) (new : NamedTerm)
+    → is_free name ty new ≡ false → IsBroughtBy classes env name ty → IsBroughtBy classes (((put, put_type), Some new) ∷ env) name ty
+IsBroughtBy-beside classes env name ty put put_type new none is =
+    record { absent = λ other s term far looked. go (same_variable put put_type other s) other s term far looked }
+  where
+    go : (test : Bool) (other : List ℕ) (s : HolType) (term : NamedTerm) → bit_and classes (class_of_name other) ≡ 0
+        → (if test then Some new else looked_up env other s) ≡ Some term → is_free name ty term ≡ false
+    go true other s term far looked = let same : new ≡ term = cc in ap (is_free name ty) (sym same) ∙ none
+    go false other s term far looked = is.absent other s term far looked
+
+-- one more that is replaced
+IsBroughtBy-union : (classes : ℕ) (env : List Entry) (name : List ℕ) (ty : HolType) (put : List ℕ) (put_type : HolType) (new : NamedTerm)
+    → IsBroughtBy classes env name ty → IsBroughtBy (bit_or classes (class_of_name put)) (((put, put_type), Some new) ∷ env) name ty
+IsBroughtBy-union classes env name ty put put_type new is =
+    record { absent = λ other s term far looked. go (same_variable put put_type other s) other s term refl far looked }
+  where
+    go : (test : Bool) (other : List ℕ) (s : HolType) (term : NamedTerm) → same_variable put put_type other s ≡ test
+        → bit_and (bit_or classes (class_of_name put)) (class_of_name other) ≡ 0
+        → (if test then Some new else looked_up env other s) ≡ Some term → is_free name ty term ≡ false
+    go true other s term same far looked =
+        absurd (has_class put (ap (λ n. bit_and (class_of_name put) (class_of_name n)) (same_name put other put_type s same)
+        ∙ second_apart classes (class_of_name put) (class_of_name other) far))
+    go false other s term same far looked = is.absent other s term (first_apart classes (class_of_name put) (class_of_name other) far) looked
+
+pub IsBroughtBy-putting : (more classes class : ℕ) (env : List Entry) (name : List ℕ) (ty : HolType) (put : List ℕ) (put_type : HolType) (new : NamedTerm)
+    → more ≡ bit_or classes class → class ≡ class_of_name put
+    → IsBroughtBy classes env name ty → IsBroughtBy more (((put, put_type), Some new) ∷ env) name ty
+IsBroughtBy-putting more classes class env name ty put put_type new union is brought = rw (union, is) (IsBroughtBy-union classes env name ty put put_type new brought)
+
+-- the classes of the variables that a list of pairs replaces by terms in which the variable is free
+abbrev bringing : List ℕ → HolType → ℕ → List (NamedTerm × NamedTerm) → ℕ
+bringing name ty start theta = fold (λ bits (pair : NamedTerm × NamedTerm). if is_free name ty pair.0 then bit_or bits (classes_of_names pair.1) else bits) start theta
+
+bringing-start : (name : List ℕ) (ty : HolType) (theta : List (NamedTerm × NamedTerm)) (start m : ℕ) → bit_and (bringing name ty start theta) m ≡ 0 → bit_and start m ≡ 0
+bringing-start name ty [] start m apart = apart
+bringing-start name ty (pair ∷ rest) start m apart =
+    go (is_free name ty pair.0) (bringing-start name ty rest (if is_free name ty pair.0 then bit_or start (classes_of_names pair.1) else start) m apart)
+  where
+    go : (test : Bool) → bit_and (if test then bit_or start (classes_of_names pair.1) else start) m ≡ 0 → bit_and start m ≡ 0
+    go true both = first_apart start (classes_of_names pair.1) m both
+    go false none = none
+
+bringing-absent : (name : List ℕ) (ty : HolType) (theta : List (NamedTerm × NamedTerm)) (start : ℕ) (other : List ℕ) (s : HolType) (term : NamedTerm)
+    → bit_and (bringing name ty start theta) (class_of_name other) ≡ 0 → looked_up (entries theta) other s ≡ Some term → is_free name ty term ≡ false
+bringing-absent name ty [] start other s term far looked = cc
+bringing-absent name ty ((new, variable third t) ∷ rest) start other s term far looked =
+    go (same_variable third t other s) (is_free name ty new) refl refl looked
+    (bringing-start name ty rest (if is_free name ty new then bit_or start (class_of_name third) else start) (class_of_name other) far)
+    (bringing-absent name ty rest (if is_free name ty new then bit_or start (class_of_name third) else start) other s term far)
+  where
+    go : (same test : Bool) → same_variable third t other s ≡ same → is_free name ty new ≡ test
+        → (if same then Some new else looked_up (entries rest) other s) ≡ Some term
+        → bit_and (if test then bit_or start (class_of_name third) else start) (class_of_name other) ≡ 0
+        → (looked_up (entries rest) other s ≡ Some term → is_free name ty term ≡ false)
+        → is_free name ty term ≡ false
+    go true true is found looked apart later =
+        absurd (has_class third (ap (λ n. bit_and (class_of_name third) (class_of_name n)) (same_name third other t s is)
+        ∙ second_apart start (class_of_name third) (class_of_name other) apart))
+    go true false is found looked apart later = let same : new ≡ term = cc in ap (is_free name ty) (sym same) ∙ found
+    go false test is found looked apart later = later looked
+bringing-absent name ty ((new, constant third t) ∷ rest) start other s term far looked =
+    bringing-absent name ty rest (if is_free name ty new then bit_or start 0 else start) other s term far looked
+bringing-absent name ty ((new, combination f x) ∷ rest) start other s term far looked =
+    bringing-absent name ty rest (if is_free name ty new then bit_or start (classes_of_names (combination f x)) else start) other s term far looked
+bringing-absent name ty ((new, abstraction third t body) ∷ rest) start other s term far looked =
+    bringing-absent name ty rest (if is_free name ty new then bit_or start (classes_of_names body) else start) other s term far looked
+
+pub IsBroughtBy-pairs : (classes : ℕ) (theta : List (NamedTerm × NamedTerm)) (name : List ℕ) (ty : HolType)
+    → classes ≡ bringing name ty 0 theta → IsBroughtBy classes (entries theta) name ty
+IsBroughtBy-pairs classes theta name ty is = record {
+  absent = λ other s term far looked. bringing-absent name ty theta 0 other s term (ap (λ n. bit_and n (class_of_name other)) (sym is) ∙ far) looked;
+}
+
+-- only variables of its name become a variable
+pub IsKeptIn-name : (class : ℕ) (types : List (HolType × HolType)) (binders : List Binder) (name : List ℕ) (ty : HolType) (term : NamedTerm)
+    → class ≡ class_of_name name → IsKeptIn class types binders name ty term
+IsKeptIn-name class types binders name ty term is = record {
+  differs = λ other s occurs far unbound. other_names name other ty (type_put types s) (ap (λ n. bit_and n (class_of_name other)) (sym is) ∙ far);
+}
+
+-- a variable of a term whose types stay keeps its type
+variable_stays : (types : List (HolType × HolType)) (name : List ℕ) (ty : HolType) (term : NamedTerm) → OccursIn name ty term → changes_types types term ≡ false
+    → type_put types ty ≡ ty
+variable_stays types name ty (variable other s) occurs none = rw (occurs.1) (type_stays types s (leaf_stays types other s none))
+variable_stays types name ty (constant other s) occurs none = absurd occurs
+variable_stays types name ty (combination f x) (inl occurs) none = variable_stays types name ty f occurs (function_stays types f x none)
+variable_stays types name ty (combination f x) (inr occurs) none = variable_stays types name ty x occurs (argument_stays types f x none)
+variable_stays types name ty (abstraction other s body) occurs none = variable_stays types name ty body occurs (body_stays types other s body none)
+
+-- the variable that the one binder binds is not free under it
+unbound_differs : (name : List ℕ) (ty : HolType) (other : List ℕ) (s : HolType) → binder_index ((name, ty) ∷ []) other s ≡ None → same_variable name ty other s ≡ false
+unbound_differs name ty other s unbound = go (same_variable name ty other s) unbound
+  where
+    go : (test : Bool) → (if test then Some 0 else option_map suc None) ≡ None → test ≡ false
+    go true none = cc
+    go false none = refl
+
+-- where types stay, no other variable becomes the binder's
+pub IsKeptIn-types_stay : (classes : ℕ) (types : List (HolType × HolType)) (name : List ℕ) (ty new_type : HolType) (body : NamedTerm)
+    → new_type ≡ type_put types ty → changes_type types ty ≡ false → changes_types types body ≡ false
+    → IsKeptIn classes types ((name, ty) ∷ []) name new_type body
+IsKeptIn-types_stay classes types name ty new_type body typed kept none = record {
+  differs = λ other s occurs far unbound.
+      rw (typed, type_stays types ty kept, variable_stays types other s body occurs none) (unbound_differs name ty other s unbound);
+}
+
+-- nor where the variables of its name have its type
+pub IsKeptIn-one_type : (classes : ℕ) (table : List ℕ → Option (Option HolType)) (types : List (HolType × HolType)) (name : List ℕ) (ty new_type : HolType) (body : NamedTerm)
+    → HasVariables table body → ((s : HolType) → Admits (table name) s → ty ≡ s)
+    → IsKeptIn classes types ((name, ty) ∷ []) name new_type body
+IsKeptIn-one_type classes table types name ty new_type body has only = record {
+  differs = λ other s occurs far unbound. go (same_variable name new_type other (type_put types s)) other s refl (has.has other s occurs) unbound;
+}
+  where
+    go : (test : Bool) (other : List ℕ) (s : HolType) → same_variable name new_type other (type_put types s) ≡ test → Admits (table other) s
+        → binder_index ((name, ty) ∷ []) other s ≡ None → test ≡ false
+    go true other s same admitted unbound =
+        let named : name ≡ other = same_name name other new_type (type_put types s) same in
+        let typed : ty ≡ s = only s (rw named admitted) in
+        let differs : same_variable name ty name ty ≡ false = ap (λ v. same_variable name ty v ty) named ∙ ap (λ t. same_variable name ty other t) typed ∙ unbound_differs name ty other s unbound in
+        sym (same_variable-self name ty) ∙ differs
+    go false other s same admitted unbound = refl
+
+-- nor does one where its name does not occur
+pub IsKeptIn-absent : (classes : ℕ) (table : List ℕ → Option (Option HolType)) (types : List (HolType × HolType)) (binders : List Binder) (name : List ℕ) (ty : HolType) (term : NamedTerm)
+    → HasVariables table term → ((s : HolType) → Admits (table name) s → ⊥)
+    → IsKeptIn classes types binders name ty term
+IsKeptIn-absent classes table types binders name ty term has none = record {
+  differs = λ other s occurs far unbound. go (same_variable name ty other (type_put types s)) other s refl (has.has other s occurs);
+}
+  where
+    go : (test : Bool) (other : List ℕ) (s : HolType) → same_variable name ty other (type_put types s) ≡ test → Admits (table other) s → test ≡ false
+    go true other s same admitted = absurd (none s (rw (same_name name other ty (type_put types s) same) admitted))
+    go false other s same admitted = refl
+
+-- the parts of a term
+pub IsKeptIn-function : (classes : ℕ) (types : List (HolType × HolType)) (binders : List Binder) (name : List ℕ) (ty : HolType) (f x whole : NamedTerm)
+    → combination f x ≡ whole → IsKeptIn classes types binders name ty whole → IsKeptIn classes types binders name ty f
+IsKeptIn-function classes types binders name ty f x whole is kept =
+    let of_parts : IsKeptIn classes types binders name ty (combination f x) = rw is kept in
+    record { differs = λ other s occurs far unbound. of_parts.differs other s (inl occurs) far unbound }
+
+pub IsKeptIn-argument : (classes : ℕ) (types : List (HolType × HolType)) (binders : List Binder) (name : List ℕ) (ty : HolType) (f x whole : NamedTerm)
+    → combination f x ≡ whole → IsKeptIn classes types binders name ty whole → IsKeptIn classes types binders name ty x
+IsKeptIn-argument classes types binders name ty f x whole is kept =
+    let of_parts : IsKeptIn classes types binders name ty (combination f x) = rw is kept in
+    record { differs = λ other s occurs far unbound. of_parts.differs other s (inr occurs) far unbound }
+
+still_unbound : (test : Bool) (index : Option ℕ) → (if test then Some 0 else option_map suc index) ≡ None → index ≡ None
+still_unbound true index none = cc
+still_unbound false None none = refl
+still_unbound false (Some index) none = cc
+
+pub IsKeptIn-body : (classes : ℕ) (types : List (HolType × HolType)) (binders : List Binder) (name : List ℕ) (ty : HolType)
+    (bound_name : List ℕ) (bound_type : HolType) (body whole : NamedTerm)
+    → abstraction bound_name bound_type body ≡ whole → IsKeptIn classes types binders name ty whole
+    → IsKeptIn classes types ((bound_name, bound_type) ∷ binders) name ty body
+IsKeptIn-body classes types binders name ty bound_name bound_type body whole is kept =
+    let of_parts : IsKeptIn classes types binders name ty (abstraction bound_name bound_type body) = rw is kept in
+    record {
+      differs = λ other s occurs far unbound.
+          of_parts.differs other s occurs far (still_unbound (same_variable bound_name bound_type other s) (binder_index binders other s) unbound);
+    }
+
+-- a variable of a term that lacks some classes has none of them
+variable_apart : (classes : ℕ) (name : List ℕ) (ty : HolType) (term : NamedTerm) → OccursIn name ty term → bit_and classes (classes_of_names term) ≡ 0
+    → bit_and classes (class_of_name name) ≡ 0
+variable_apart classes name ty (variable other s) occurs apart = ap (λ n. bit_and classes (class_of_name n)) occurs.0 ∙ apart
+variable_apart classes name ty (constant other s) occurs apart = absurd occurs
+variable_apart classes name ty (combination f x) (inl occurs) apart =
+    variable_apart classes name ty f occurs (apart_from_first classes (classes_of_names f) (classes_of_names x) apart)
+variable_apart classes name ty (combination f x) (inr occurs) apart =
+    variable_apart classes name ty x occurs (apart_from_second classes (classes_of_names f) (classes_of_names x) apart)
+variable_apart classes name ty (abstraction other s body) occurs apart = variable_apart classes name ty body occurs apart
+
+-- what stands for a variable of no class that is sought lacks the variable
+pub instance-apart : (env : List Entry) (types : List (HolType × HolType)) (brought : ℕ) (other : List ℕ) (s : HolType) (name : List ℕ) (ty : HolType)
+    → IsBroughtBy brought env name ty → bit_and brought (class_of_name other) ≡ 0 → same_variable name ty other (type_put types s) ≡ false
+    → occurs_free name ty (instance_of env types other s) ≡ false
+instance-apart env types brought other s name ty is far differs = go (looked_up env other s) refl
+  where
+    go : (found : Option NamedTerm) → looked_up env other s ≡ found → occurs_free name ty (option_map_or image found (free other (type_put types s))) ≡ false
+    go None looked = differs
+    go (Some term) looked = occurs_free-image name ty term ∙ is.absent other s term far looked
+
+neither : (p q : Bool) → p ≡ false → q ≡ false → (p || q) ≡ false
+neither p q first second = cc
+
+-- a variable that stands for no free variable of a term is not free after the replacement
+nowhere : (env : List Entry) (types : List (HolType × HolType)) (name : List ℕ) (ty : HolType) (term : NamedTerm) (binders : List Binder)
+    → ((other : List ℕ) (s : HolType) → OccursIn other s term → binder_index binders other s ≡ None → occurs_free name ty (instance_of env types other s) ≡ false)
+    → occurs_free name ty (replaced env types (image_under binders term)) ≡ false
+nowhere env types name ty (variable other s) binders none = go (binder_index binders other s) refl
+  where
+    go : (index : Option ℕ) → binder_index binders other s ≡ index
+        → occurs_free name ty (mapped (instance_of env types) (type_put types) (option_map_or bound index (free other s))) ≡ false
+    go None is = none other s (refl, refl) is
+    go (Some index) is = refl
+nowhere env types name ty (constant other s) binders none = refl
+nowhere env types name ty (combination f x) binders none =
+    neither (occurs_free name ty (replaced env types (image_under binders f))) (occurs_free name ty (replaced env types (image_under binders x)))
+    (nowhere env types name ty f binders (λ other s occurs unbound. none other s (inl occurs) unbound))
+    (nowhere env types name ty x binders (λ other s occurs unbound. none other s (inr occurs) unbound))
+nowhere env types name ty (abstraction bound_name bound_type body) binders none =
+    nowhere env types name ty body ((bound_name, bound_type) ∷ binders)
+    (λ other s occurs unbound.
+    none other s occurs (still_unbound (same_variable bound_name bound_type other s) (binder_index binders other s) unbound))
+
+-- nor is it where the term lacks the classes that are sought
+pub apart-after : (env : List Entry) (types : List (HolType × HolType)) (brought kept : ℕ) (term : NamedTerm) (binders : List Binder) (name : List ℕ) (ty : HolType)
+    → IsBroughtBy brought env name ty → IsKeptIn kept types binders name ty term → is_apart brought kept term ≡ true
+    → occurs_free name ty (replaced env types (image_under binders term)) ≡ false
+apart-after env types brought kept term binders name ty is_brought is_kept passed =
+    nowhere env types name ty term binders
+    (λ other s occurs unbound.
+    let far : bit_and (bit_or brought kept) (class_of_name other) ≡ 0 =
+    variable_apart (bit_or brought kept) other s term occurs
+    (nothing_common (bit_or brought kept) (classes_of_names term) (failed (have_common_class (bit_or brought kept) (classes_of_names term)) passed)) in
+    instance-apart env types brought other s name ty is_brought (first_apart brought kept (class_of_name other) far)
+    (is_kept.differs other s occurs (second_apart brought kept (class_of_name other) far) unbound))
+  where
+    failed : (p : Bool) → not p ≡ true → p ≡ false
+    failed true is = cc
+    failed false is = refl
+
+-- the same of one variable, from what tests answer
+pub other_instance : (env : List Entry) (types : List (HolType × HolType)) (brought class : ℕ) (other : List ℕ) (s : HolType) (name : List ℕ) (ty : HolType)
+    → IsBroughtBy brought env name ty → class ≡ class_of_name other → have_common_class brought class ≡ false
+    → same_variable name ty other (type_put types s) ≡ false
+    → occurs_free name ty (instance_of env types other s) ≡ false
+other_instance env types brought class other s name ty is is_class apart differs =
+    instance-apart env types brought other s name ty is (ap (bit_and brought) (sym is_class) ∙ nothing_common brought class apart) differs
+
+pub ruleset bringing_classes = (IsBroughtBy-none, IsBroughtBy-keeping, IsBroughtBy-beside, IsBroughtBy-putting, IsBroughtBy-pairs)
+
+pub ruleset keeping_classes = (IsKeptIn-name, IsKeptIn-types_stay, IsKeptIn-one_type, IsKeptIn-absent)
+
+pub ruleset seeking = (apart-after, IsKeptIn-function, IsKeptIn-argument, IsKeptIn-body)
+
+pub ruleset standing_for = (other_instance, occurs_free-image)

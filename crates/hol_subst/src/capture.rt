@@ -1,0 +1,323 @@
+// Which variables are free in a term after the replacement, and which binders would capture them.
+ghost use Rattle.std.specs.Prelude.{◌≡◌, List, [], ◌∷◌, IfOk, IfErr, fold, bit_or, if◌then◌else◌};
+ghost use Rattle.hol_model.specs.HolType.{HolType, type_put};
+ghost use Rattle.hol_model.specs.NamedTerm.{NamedTerm, Binder};
+ghost use Rattle.hol_model.specs.NamedTerm as terms;
+ghost use Rattle.hol_model.specs.Nameless.{image_under};
+ghost use Rattle.hol_model.specs.Substitution.{occurs_free};
+ghost use Rattle.hol_model.specs.declared.fault.Fault.TheVariants.{Memory};
+ghost use Rattle.hol_terms.specs.Classes.{classes_of_names};
+ghost use Rattle.hol_subst.specs.Entries.{entries, instance_of, replaced};
+ghost use Rattle.hol_subst.specs.Replacements.{entries_of, binders_of};
+ghost use Rattle.hol_subst.specs.Touched.{Covers};
+ghost use Rattle.hol_subst.specs.Sought.{IsBroughtBy, IsKeptIn};
+ghost use Rattle.hol_subst.specs.Sought as spec;
+ghost use Rattle.hol_subst.specs.VariableTypes.{HasVariables, table_of};
+
+use crate::passed::{Passed, is_bound};
+use crate::replacements::{Replacements, look_up};
+use crate::touched::{Touched, changes_type, changes_types, stays};
+use crate::variable_types::VariableTypes;
+use hol_model::Fault;
+use hol_terms::{NameClasses, Parts, Term, is_free};
+use hol_types::{Ty, is_replaced_type};
+use std::alloc::Global;
+
+// The classes of the names of variables in whose place a variable may stand free: of those that are replaced by a term
+// in which it is free, and of those that become it.
+#[derive(Clone, Copy)]
+struct Sought {
+    brought_by: NameClasses,
+    kept_in: NameClasses,
+}
+
+/// Whether a variable is free in a term, which stands under the passed binders, after the replacement.
+#[tactic(auto, using(crate::proofs::Standing::keeping_classes))]
+pub fn is_free_after(
+    term: &Term,
+    name: &str,
+    ty: &Ty,
+    types: &[(Ty, Ty)],
+    passed: &Passed<'_>,
+    replacements: &Replacements<'_>,
+    touched: Touched,
+    variables: &VariableTypes,
+) -> bool
+    requires covered { Covers touched.old.bits touched.new.bits (entries_of replacements.now) }
+    requires known { HasVariables (table_of variables.now) term.now }
+    ensures { result ≡ occurs_free name.now ty.now (replaced (entries_of replacements.now) types.now (image_under (binders_of passed.now) term.now)) }
+{
+    let sought = Sought {
+        brought_by: brought_by(name, ty, &*replacements, touched),
+        kept_in: kept_in(name, variables),
+    };
+    stands_after(
+        term,
+        sought,
+        name,
+        ty,
+        types,
+        &*passed,
+        &*replacements,
+        touched,
+    )
+}
+
+/// Whether a binder, its type replaced by the new one, would capture in its body after the replacement.
+pub fn captures(
+    name: &str,
+    ty: &Ty,
+    new_type: &Ty,
+    body: &Term,
+    types: &[(Ty, Ty)],
+    replacements: &Replacements<'_>,
+    touched: Touched,
+    variables: &VariableTypes,
+) -> bool
+    requires typed { new_type.now ≡ type_put types.now ty.now }
+    requires covered { Covers touched.old.bits touched.new.bits (entries_of replacements.now) }
+    requires known { HasVariables (table_of variables.now) body.now }
+    ensures { result ≡ occurs_free name.now new_type.now (replaced (entries_of replacements.now) types.now (image_under ((name.now, ty.now) ∷ []) body.now)) }
+{
+    let sought = Sought {
+        brought_by: brought_by(name, new_type, &*replacements, touched),
+        kept_in: kept_in_body(name, ty, new_type, body, types, variables),
+    };
+    let outermost = Passed::Outermost;
+    let passed = Passed::Under(name, ty, &outermost);
+    stands_after(
+        body,
+        sought,
+        name,
+        new_type,
+        types,
+        &passed,
+        &*replacements,
+        touched,
+    )
+}
+
+// The classes of the variables that are replaced by a term in which a variable is free.
+#[tactic(auto, using(crate::proofs::Standing::bringing_classes))]
+fn brought_by(name: &str, ty: &Ty, replacements: &Replacements<'_>, touched: Touched) -> NameClasses
+    requires { Covers touched.old.bits touched.new.bits (entries_of replacements.now) }
+    ensures { IsBroughtBy result.bits (entries_of replacements.now) name.now ty.now }
+{
+    if !touched.new.meets(NameClasses::of_name(name)) {
+        return NameClasses::none();
+    }
+    brought_by_entries(&*replacements, name, ty)
+}
+
+#[tactic(auto, using(crate::proofs::Standing::bringing_classes))]
+fn brought_by_entries(replacements: &Replacements<'_>, name: &str, ty: &Ty) -> NameClasses
+    ensures { IsBroughtBy result.bits (entries_of replacements.now) name.now ty.now }
+{
+    match replacements {
+        Replacements::Pairs(pairs) => brought_by_pairs(pairs, name, ty),
+        Replacements::Keeping(_, _, outer) => brought_by_entries(outer, name, ty),
+        Replacements::Putting(other, _, new, outer) => {
+            let classes = brought_by_entries(outer, name, ty);
+            if is_free(new, name, ty) {
+                classes.union(NameClasses::of_name(other))
+            } else {
+                classes
+            }
+        }
+    }
+}
+
+fn brought_by_pairs(pairs: &[(Term, Term)], name: &str, ty: &Ty) -> NameClasses
+    ensures { result.bits ≡ fold (λ bits pair. if terms.is_free name.now ty.now pair.0 then bit_or bits (classes_of_names pair.1) else bits) 0 pairs.now }
+{
+    NameClasses {
+        bits: pairs.iter().fold(0, |bits, pair| {
+            if is_free(&pair.0, name, ty) {
+                bits | pair.1.names().bits
+            } else {
+                bits
+            }
+        }),
+    }
+}
+
+// The classes of the variables that are free under a binder and may become the binder's.
+#[tactic(auto, using(crate::proofs::Standing::keeping_classes))]
+fn kept_in_body(
+    name: &str,
+    ty: &Ty,
+    new_type: &Ty,
+    body: &Term,
+    types: &[(Ty, Ty)],
+    variables: &VariableTypes,
+) -> NameClasses
+    requires typed { new_type.now ≡ type_put types.now ty.now }
+    requires known { HasVariables (table_of variables.now) body.now }
+    ensures { IsKeptIn result.bits types.now ((name.now, ty.now) ∷ []) name.now new_type.now body.now }
+{
+    if !changes_type(types, ty) && !changes_types(types, body) {
+        return NameClasses::none();
+    }
+    if !variables.has_other_type(name, ty) {
+        return NameClasses::none();
+    }
+    NameClasses::of_name(name)
+}
+
+// The classes of the variables that may become a variable of this name.
+#[tactic(auto, using(crate::proofs::Standing::keeping_classes))]
+fn kept_in(name: &str, variables: &VariableTypes) -> NameClasses
+    ensures { (types : List (HolType × HolType)) (binders : List Binder) (ty : HolType) (term : NamedTerm) → HasVariables (table_of variables.now) term
+        → IsKeptIn result.bits types binders name.now ty term }
+{
+    if !variables.has_name(name) {
+        return NameClasses::none();
+    }
+    NameClasses::of_name(name)
+}
+
+/// The types of a term's variables, known where a binder of the term may capture.
+pub fn variables_where_needed(
+    alloc: Global,
+    term: &Term,
+    types: &[(Ty, Ty)],
+    replacements: &Replacements<'_>,
+    touched: Touched,
+) -> Result<VariableTypes, Fault>
+    ensures ok { IfOk result (λ variables. HasVariables (table_of variables) term.now) }
+    ensures err { IfErr result (λ fault. fault ≡ Memory) }
+{
+    if may_capture(term, types, &*replacements, touched) {
+        return VariableTypes::of(alloc, term);
+    }
+    Ok(VariableTypes::unknown(alloc))
+}
+
+// Whether a binder may capture: a type under it changes, or its variable is free in a new term. Nothing rests on the
+// answer but the time that the replacement takes.
+fn may_capture(
+    term: &Term,
+    types: &[(Ty, Ty)],
+    replacements: &Replacements<'_>,
+    touched: Touched,
+) -> bool {
+    if stays(term, types, touched) {
+        return false;
+    }
+    match term.parts() {
+        Parts::Variable(_, _) | Parts::Constant(_, _) => false,
+        Parts::Combination(function, argument) => {
+            may_capture(function, types, &*replacements, touched)
+                || may_capture(argument, types, &*replacements, touched)
+        }
+        Parts::Abstraction(name, ty, body) => changes_types(types, body)
+            || is_put(name, ty, &*replacements, touched)
+            || may_capture(body, types, &*replacements, touched),
+    }
+}
+
+// Whether a variable is free in a new term.
+fn is_put(name: &str, ty: &Ty, replacements: &Replacements<'_>, touched: Touched) -> bool {
+    touched.new.meets(NameClasses::of_name(name))
+        && brought_by_entries(&*replacements, name, ty).bits != 0
+}
+
+// Whether no variable in whose place the sought one may stand is in the term.
+fn is_apart(term: &Term, sought: Sought) -> bool
+    ensures { result ≡ spec.is_apart sought.brought_by.bits sought.kept_in.bits term.now }
+{
+    !sought.brought_by.union(sought.kept_in).meets(term.names())
+}
+
+// Whether a variable is free in a term after the replacement, given where it may be.
+#[tactic(auto, using(crate::proofs::Standing::seeking))]
+fn stands_after(
+    term: &Term,
+    sought: Sought,
+    name: &str,
+    ty: &Ty,
+    types: &[(Ty, Ty)],
+    passed: &Passed<'_>,
+    replacements: &Replacements<'_>,
+    touched: Touched,
+) -> bool
+    requires covered { Covers touched.old.bits touched.new.bits (entries_of replacements.now) }
+    requires brought { IsBroughtBy sought.brought_by.bits (entries_of replacements.now) name.now ty.now }
+    requires kept { IsKeptIn sought.kept_in.bits types.now (binders_of passed.now) name.now ty.now term.now }
+    ensures { result ≡ occurs_free name.now ty.now (replaced (entries_of replacements.now) types.now (image_under (binders_of passed.now) term.now)) }
+{
+    if is_apart(term, sought) {
+        return false;
+    }
+    match term.parts() {
+        Parts::Variable(other, s) => {
+            is_free_in_instance(other, s, sought, name, ty, types, &*replacements, touched)
+                && !is_bound(&*passed, other, s)
+        }
+        Parts::Constant(_, _) => false,
+        Parts::Combination(function, argument) => {
+            stands_after(
+                function,
+                sought,
+                name,
+                ty,
+                types,
+                &*passed,
+                &*replacements,
+                touched,
+            ) || stands_after(
+                argument,
+                sought,
+                name,
+                ty,
+                types,
+                &*passed,
+                &*replacements,
+                touched,
+            )
+        }
+        Parts::Abstraction(other, s, body) => stands_after(
+            body,
+            sought,
+            name,
+            ty,
+            types,
+            &Passed::Under(other, s, &*passed),
+            &*replacements,
+            touched,
+        ),
+    }
+}
+
+// Whether a variable is free in what stands for another after the replacement.
+#[tactic(auto, using(crate::proofs::Standing::standing_for))]
+fn is_free_in_instance(
+    other: &str,
+    other_ty: &Ty,
+    sought: Sought,
+    name: &str,
+    ty: &Ty,
+    types: &[(Ty, Ty)],
+    replacements: &Replacements<'_>,
+    touched: Touched,
+) -> bool
+    requires covered { Covers touched.old.bits touched.new.bits (entries_of replacements.now) }
+    requires brought { IsBroughtBy sought.brought_by.bits (entries_of replacements.now) name.now ty.now }
+    ensures { result ≡ occurs_free name.now ty.now (instance_of (entries_of replacements.now) types.now other.now other_ty.now) }
+{
+    let becomes = becomes(other, other_ty, name, ty, types);
+    if !becomes && !sought.brought_by.meets(NameClasses::of_name(other)) {
+        return false;
+    }
+    match look_up(&*replacements, touched, other, other_ty) {
+        Some(new) => is_free(new, name, ty),
+        None => becomes,
+    }
+}
+
+// Whether a variable that is kept becomes the other with its new type.
+fn becomes(other: &str, other_ty: &Ty, name: &str, ty: &Ty, types: &[(Ty, Ty)]) -> bool
+    ensures { result ≡ terms.same_variable name.now ty.now other.now (type_put types.now other_ty.now) }
+{
+    name == other && is_replaced_type(types, other_ty, ty)
+}
