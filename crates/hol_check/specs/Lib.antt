@@ -14,3 +14,4 @@ pub mod Occurs
 pub mod Reflection
 pub mod Typing
 pub mod Known
+pub mod Reading

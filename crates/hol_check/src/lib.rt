@@ -12,6 +12,7 @@ mod names;
 mod numbers;
 mod occurs;
 mod pairs;
+mod reading;
 mod reflection;
 mod terms;
 mod types;
