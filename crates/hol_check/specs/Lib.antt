@@ -14,3 +14,7 @@ pub mod Occurs
 pub mod Reflection
 pub mod Typing
 pub mod Known
+pub mod State
+pub mod Judged
+pub mod LogCode
+pub mod Log
