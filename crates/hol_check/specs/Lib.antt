@@ -15,3 +15,7 @@ pub mod Reflection
 pub mod Typing
 pub mod Known
 pub mod Reading
+pub mod State
+pub mod Judged
+pub mod LogCode
+pub mod Log
