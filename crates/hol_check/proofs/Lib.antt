@@ -14,3 +14,4 @@ pub mod TypingLemmas
 pub mod KnownLemmas
 pub mod KnownGrowth
 pub mod LimitLemmas
+pub mod JudgingLemmas

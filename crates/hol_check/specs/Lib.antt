@@ -19,3 +19,4 @@ pub mod State
 pub mod Judged
 pub mod LogCode
 pub mod Log
+pub mod Judging

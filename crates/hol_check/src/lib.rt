@@ -4,6 +4,7 @@
 mod change;
 mod compare;
 mod instance;
+mod judge;
 mod known;
 mod leaves;
 mod log;
@@ -16,6 +17,7 @@ mod pairs;
 mod reading;
 mod reflection;
 mod state;
+mod take;
 mod terms;
 mod types;
 mod typing;
