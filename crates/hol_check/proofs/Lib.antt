@@ -14,3 +14,5 @@ pub mod TypingLemmas
 pub mod KnownLemmas
 pub mod KnownGrowth
 pub mod LimitLemmas
+pub mod StateLemmas
+pub mod AdditionLemmas

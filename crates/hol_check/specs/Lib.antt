@@ -16,5 +16,6 @@ pub mod Typing
 pub mod Known
 pub mod State
 pub mod Judged
+pub mod Added
 pub mod LogCode
 pub mod Log

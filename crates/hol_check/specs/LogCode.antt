@@ -11,25 +11,25 @@ use Rattle.hol_model.specs.LogLine.{LogVersion, first_version, second_version}
 use Rattle.hol_model.specs.LogState.{LogState, LogClaim}
 use Rattle.hol_model.specs.LogFaults.{is_first_version}
 
-sequent_code : Coded Sequent
+abbrev sequent_code : Coded Sequent
 sequent_code =
     code_by (List Nameless × Nameless) (coded× (coded_list nameless_code) nameless_code)
     (λ s. (s.hypotheses, s.conclusion)) (λ p. record { hypotheses = p.0; conclusion = p.1 }) (λ _. refl)
 
-claim_code : Coded LogClaim
+abbrev claim_code : Coded LogClaim
 claim_code =
     code_by (List ℕ × Sequent) (coded× (coded_list coded_ℕ) sequent_code)
     (λ c. (c.name, c.sequent)) (λ p. record { name = p.0; sequent = p.1 }) (λ _. refl)
 
-version_from : Bool → LogVersion
+abbrev version_from : Bool → LogVersion
 version_from true = first_version
 version_from false = second_version
 
-version_back : (version : LogVersion) → version_from (is_first_version version) ≡ version
+pub version_back : (version : LogVersion) → version_from (is_first_version version) ≡ version
 version_back first_version = refl
 version_back second_version = refl
 
-version_code : Coded LogVersion
+abbrev version_code : Coded LogVersion
 version_code = code_by Bool coded_bool is_first_version version_from version_back
 
 abbrev pub log_code : Coded LogState

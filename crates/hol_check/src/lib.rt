@@ -1,6 +1,7 @@
 //! The checker of proof logs: it reads a log line by line, with types and terms of its own.
 #![tactic(auto)]
 
+mod addition;
 mod change;
 mod compare;
 mod instance;

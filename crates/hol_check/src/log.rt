@@ -1,13 +1,11 @@
 // The state of a log that is read line by line.
 ghost use Rattle.std.specs.Prelude.{◌≡◌};
-ghost use Rattle.hol_model.specs.LogState.{first_state};
-ghost use Rattle.hol_logtext.specs.Lines.{version_of};
 
 use crate::state::Contents;
 use crate::terms::Terms;
 use std::marker::Model;
 
-/// What the lines of a log have given so far, with the types and terms in it.
+/// What the lines of a log have given so far, with the tables of the types and terms in it.
 #[derive(Drop)]
 pub(crate) struct Log {
     table: Terms,
@@ -27,4 +25,13 @@ impl Model for Log {
     ghost view = { viewed_log };
 
     ghost invariant = { IsLog };
+}
+
+impl Log {
+    /// The number of claims.
+    pub(crate) fn is_ended(&self) -> bool
+        ensures { result ≡ self.now.is_ended }
+    {
+        self.contents.is_ended
+    }
 }
