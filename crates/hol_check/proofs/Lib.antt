@@ -16,3 +16,4 @@ pub mod KnownGrowth
 pub mod LimitLemmas
 pub mod StateLemmas
 pub mod AdditionLemmas
+pub mod StartLemmas

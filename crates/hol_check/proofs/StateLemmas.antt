@@ -42,13 +42,13 @@ All-weaker P Q weaker xs all k d within = weaker _ (all k d within)
 
 -- tables
 
-longer-within : {X : Type 0} (earlier now : List X) (n : ℕ) → IsLonger earlier now → n < length earlier → n < length now
+pub longer-within : {X : Type 0} (earlier now : List X) (n : ℕ) → IsLonger earlier now → n < length earlier → n < length now
 longer-within earlier now n longer within =
     let longest = length-append earlier longer.added in
     let same : length now ≡ length (earlier ++ longer.added) = ap length longer.is_added in
     omega arith
 
-longer-place : {X : Type 0} (earlier now : List X) (n : ℕ) (x : X) → IsLonger earlier now → slice_get earlier n ≡ Some x → slice_get now n ≡ Some x
+pub longer-place : {X : Type 0} (earlier now : List X) (n : ℕ) (x : X) → IsLonger earlier now → slice_get earlier n ≡ Some x → slice_get now n ≡ Some x
 longer-place earlier now n x longer there = ap (λ l. slice_get l n) longer.is_added ∙ slice_get-longer earlier longer.added n x there
 
 pub name-grown : (earlier now : TermTable) (n : ℕ) → IsGrown earlier now → n < length earlier.names → name_at now.names n ≡ name_at earlier.names n

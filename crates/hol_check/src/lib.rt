@@ -15,6 +15,7 @@ mod numbers;
 mod occurs;
 mod pairs;
 mod reflection;
+mod start;
 mod state;
 mod terms;
 mod types;
