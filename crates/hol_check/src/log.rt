@@ -1,8 +1,15 @@
 // The state of a log that is read line by line.
-ghost use Rattle.std.specs.Prelude.{◌≡◌};
+ghost use Rattle.std.specs.Prelude.{◌≡◌, IfOk, IfErr};
+ghost use Rattle.hol_model.specs.declared.fault.Fault.TheVariants.{Memory};
+ghost use Rattle.hol_model.specs.LogState.{first_state};
+ghost use Rattle.hol_logtext.specs.Lines.{version_of};
 
+use crate::start::first_known;
 use crate::state::Contents;
 use crate::terms::Terms;
+use hol_logtext::Version;
+use hol_model::Fault;
+use std::alloc::Global;
 use std::marker::Model;
 
 /// What the lines of a log have given so far, with the tables of the types and terms in it.
@@ -28,10 +35,23 @@ impl Model for Log {
 }
 
 impl Log {
-    /// The number of claims.
-    pub(crate) fn is_ended(&self) -> bool
-        ensures { result ≡ self.now.is_ended }
+    /// The state after the header.
+    pub(crate) fn new(alloc: Global, version: Version) -> Result<Log, Fault>
+        ensures log { IfOk result (λ log. log ≡ first_state (version_of version)) }
+        ensures refused { IfErr result (λ fault. fault ≡ Memory) }
     {
-        self.contents.is_ended
+        let mut table = Terms::new(alloc);
+        let known = first_known(alloc, &mut table)?;
+        let contents = Contents {
+            version,
+            types: Vec::new(alloc),
+            terms: Vec::new(alloc),
+            theorems: Vec::new(alloc),
+            entries: Vec::new(alloc),
+            known,
+            claims: Vec::new(alloc),
+            is_ended: false,
+        };
+        Ok(Log { table, contents })
     }
 }
