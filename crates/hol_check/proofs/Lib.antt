@@ -15,3 +15,6 @@ pub mod KnownLemmas
 pub mod KnownGrowth
 pub mod LimitLemmas
 pub mod JudgingLemmas
+pub mod StateLemmas
+pub mod AdditionLemmas
+pub mod StartLemmas

@@ -1,6 +1,7 @@
 //! The checker of proof logs: it reads a log line by line, with types and terms of its own.
 #![tactic(auto)]
 
+mod addition;
 mod change;
 mod compare;
 mod instance;
@@ -16,6 +17,7 @@ mod occurs;
 mod pairs;
 mod reading;
 mod reflection;
+mod start;
 mod state;
 mod take;
 mod terms;

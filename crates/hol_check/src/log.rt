@@ -3,7 +3,9 @@ ghost use Rattle.std.specs.Prelude.{◌≡◌, IfOk, IfErr};
 ghost use Rattle.hol_model.specs.declared.fault.Fault.TheVariants.{Memory};
 ghost use Rattle.hol_model.specs.LogState.{first_state};
 ghost use Rattle.hol_logtext.specs.Lines.{version_of};
+ghost use Rattle.hol_check.specs.State.{state_of, IsContents};
 
+use crate::start::first_known;
 use crate::state::Contents;
 use crate::terms::Terms;
 use hol_logtext::Version;
@@ -34,19 +36,38 @@ impl Model for Log {
 }
 
 impl Log {
-    /// The number of claims.
+    /// The state after the header.
+    pub(crate) fn new(alloc: Global, version: Version) -> Result<Log, Fault>
+        ensures log { IfOk result (λ log. log ≡ first_state (version_of version)) }
+        ensures refused { IfErr result (λ fault. fault ≡ Memory) }
+    {
+        let mut table = Terms::new(alloc);
+        let known = first_known(alloc, &mut table)?;
+        let contents = Contents {
+            version,
+            types: Vec::new(alloc),
+            terms: Vec::new(alloc),
+            theorems: Vec::new(alloc),
+            entries: Vec::new(alloc),
+            known,
+            claims: Vec::new(alloc),
+            is_ended: false,
+        };
+        Ok(Log { table, contents })
+    }
+
+    /// Whether the last line was read.
     pub(crate) fn is_ended(&self) -> bool
         ensures { result ≡ self.now.is_ended }
     {
         self.contents.is_ended
     }
-}
 
-impl Log {
-    pub(crate) fn new(_alloc: Global, _version: Version) -> Result<Log, Fault>
-        ensures begun { IfOk result (λ log. log ≡ first_state (version_of _version)) }
-        ensures refused { IfErr result (λ fault. fault ≡ Memory) }
+    /// The tables, and what the lines have given.
+    pub(crate) fn parts(&self) -> (&Terms, &Contents)
+        ensures state { self.now ≡ state_of result.0.now result.1.now }
+        ensures kept { IsContents result.0.now result.1.now }
     {
-        Err(Fault::Memory)
+        (&self.table, &self.contents)
     }
 }
