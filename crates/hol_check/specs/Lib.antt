@@ -21,3 +21,4 @@ pub mod Added
 pub mod LogCode
 pub mod Log
 pub mod Judging
+pub mod PrintedClaims

@@ -15,6 +15,7 @@ mod names;
 mod numbers;
 mod occurs;
 mod pairs;
+mod print;
 mod reading;
 mod reflection;
 mod start;
