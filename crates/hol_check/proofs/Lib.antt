@@ -18,3 +18,4 @@ pub mod JudgingLemmas
 pub mod StateLemmas
 pub mod AdditionLemmas
 pub mod StartLemmas
+pub mod ClaimLemmas

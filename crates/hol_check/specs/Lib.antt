@@ -22,3 +22,4 @@ pub mod LogCode
 pub mod Log
 pub mod Judging
 pub mod PrintedClaims
+pub mod Claims

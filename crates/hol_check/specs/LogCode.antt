@@ -16,7 +16,7 @@ sequent_code =
     code_by (List Nameless × Nameless) (coded× (coded_list nameless_code) nameless_code)
     (λ s. (s.hypotheses, s.conclusion)) (λ p. record { hypotheses = p.0; conclusion = p.1 }) (λ _. refl)
 
-abbrev claim_code : Coded LogClaim
+abbrev pub claim_code : Coded LogClaim
 claim_code =
     code_by (List ℕ × Sequent) (coded× (coded_list coded_ℕ) sequent_code)
     (λ c. (c.name, c.sequent)) (λ p. record { name = p.0; sequent = p.1 }) (λ _. refl)

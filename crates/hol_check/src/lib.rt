@@ -3,6 +3,7 @@
 
 mod addition;
 mod change;
+mod claim;
 mod compare;
 mod instance;
 mod judge;

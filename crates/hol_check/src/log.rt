@@ -1,5 +1,5 @@
 // The state of a log that is read line by line.
-ghost use Rattle.std.specs.Prelude.{◌≡◌, IfOk, IfErr};
+ghost use Rattle.std.specs.Prelude.{◌≡◌, length, IfOk, IfErr};
 ghost use Rattle.hol_model.specs.declared.fault.Fault.TheVariants.{Memory};
 ghost use Rattle.hol_model.specs.LogState.{first_state};
 ghost use Rattle.hol_logtext.specs.Lines.{version_of};
@@ -69,5 +69,12 @@ impl Log {
         ensures kept { IsContents result.0.now result.1.now }
     {
         (&self.table, &self.contents)
+    }
+
+    /// The number of claims.
+    pub(crate) fn claims(&self) -> usize
+        ensures { result ≡ length self.now.claims }
+    {
+        self.contents.claims.len()
     }
 }
