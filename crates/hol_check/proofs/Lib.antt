@@ -19,3 +19,4 @@ pub mod StateLemmas
 pub mod AdditionLemmas
 pub mod StartLemmas
 pub mod ClaimLemmas
+pub mod CheckingLemmas

@@ -23,3 +23,4 @@ pub mod Log
 pub mod Judging
 pub mod PrintedClaims
 pub mod Claims
+pub mod Checking

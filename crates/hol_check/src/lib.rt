@@ -3,6 +3,7 @@
 
 mod addition;
 mod change;
+mod checker;
 mod claim;
 mod compare;
 mod instance;
@@ -25,3 +26,6 @@ mod take;
 mod terms;
 mod types;
 mod typing;
+
+pub use checker::check;
+pub use claim::{Claim, text_of_claim};

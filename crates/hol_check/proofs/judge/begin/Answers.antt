@@ -17,7 +17,7 @@ returns-then-not-is_line-clause-refused g c = λ input unread. record {
 
 pub returns-in-Ok-Some-clause-begun : goal.returns-in-Ok-Some-clause-begun
 returns-in-Ok-Some-clause-begun g c = λ input unread.
-    begun c.new.result input c.next_line.new.self (g.R.Source.remaining c.next_line.new.reader) c.next_line.new.line.items (version_of c.in-Ok-Some.version) c.new.ensures.begun
+    begun c.new.result input c.next_line.new.self (g.R.Source.remaining c.next_line.new.reader) c.next_line.new.line.items (version_of c.in-Ok-Some.version) c.new.ensures.log
     (rw c.if-not-is_line.false at (c.in-Ok.ensures.read input [] unread)) c.in-Ok.ensures.one (rw (c.in-Ok-Some.field-0-is, c.as_slice.ensures.value) at c.in-Ok-Some.ensures.header)
 
 pub returns-then-not-is_line-2-clause-refused : goal.returns-then-not-is_line-2-clause-refused
