@@ -20,3 +20,4 @@ pub mod AdditionLemmas
 pub mod StartLemmas
 pub mod ClaimLemmas
 pub mod CheckingLemmas
+pub mod MigrationLemmas

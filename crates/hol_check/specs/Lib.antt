@@ -24,3 +24,4 @@ pub mod Judging
 pub mod PrintedClaims
 pub mod Claims
 pub mod Checking
+pub mod Migration

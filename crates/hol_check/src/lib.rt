@@ -9,6 +9,7 @@ mod compare;
 mod instance;
 mod judge;
 mod known;
+mod laws;
 mod leaves;
 mod log;
 mod matching;
@@ -28,4 +29,5 @@ mod types;
 mod typing;
 
 pub use checker::check;
+pub use laws::migration_keeps_claims;
 pub use claim::{Claim, text_of_claim};
