@@ -1,12 +1,16 @@
 -- A log under the header of the second version.
 use Rattle.std.specs.Prelude.{◌≡◌, ℕ, List, ◌∷◌, ◌++◌, Option, Some, Ok}
+use Rattle.std.specs.Io.KnownBytes.{Appends}
+use Rattle.hol_model.specs.declared.fault.Fault.{Fault}
+use Rattle.hol_model.specs.declared.fault.Fault.TheVariants.{Memory, WriteFault, LogFault}
 use Rattle.hol_model.specs.LogLine.{LogVersion}
 use Rattle.hol_model.specs.LogLine.LogVersion.{second_version}
 use Rattle.hol_model.specs.LogLine.LogLine.{header_line}
 use Rattle.hol_model.specs.LogState.{LogState, LogClaim}
 use Rattle.hol_logtext.specs.LineText.{line_bytes}
 use Rattle.hol_check.specs.Reading.{IsRead}
-use Rattle.hol_check.specs.Judging.{log_answer}
+use Rattle.hol_bytes.specs.Bytes.{AppendsFront}
+use Rattle.hol_check.specs.Judging.{log_answer, IsRefusal}
 use Rattle.hol_check.specs.Checking.{HasClaims}
 
 -- the text is a header and the rest
@@ -44,3 +48,38 @@ pub record IsMigration (input : Option (List ℕ)) (claims : List LogClaim) (new
   pub checked : HasClaims (Some text) claims
   pub migrated : IsMigrated text new
   pub accepted : HasClaims (Some new) claims
+
+-- the text begins with a header
+pub record IsHeaded (text : List ℕ) : Type 0 where
+  pub version : LogVersion
+  pub rest : List ℕ
+  pub has : HasHeader text version rest
+
+-- the migrated log was written
+pub record Migrates (input : Option (List ℕ)) (claims : List LogClaim) (written new_written : Option (List ℕ)) : Type 0 where
+  pub new : List ℕ
+  pub migration : IsMigration input claims new
+  pub wrote : Appends written new_written new
+
+-- a front of the migrated log was written
+pub record MigratesFront (input written new_written : Option (List ℕ)) : Type 0 where
+  pub claims : List LogClaim
+  pub new : List ℕ
+  pub migration : IsMigration input claims new
+  pub wrote : AppendsFront written new_written new
+
+-- the refusals of a log that is a text
+abbrev pub IsTextRefusal : Fault → Type 0
+IsTextRefusal Memory = Unit {0}
+IsTextRefusal (LogFault line cause) = Unit {0}
+IsTextRefusal _ = ⊥
+
+-- those of a log that is read and written
+abbrev pub IsMigrationRefusal : Fault → Type 0
+IsMigrationRefusal WriteFault = Unit {0}
+IsMigrationRefusal fault = IsRefusal fault
+
+-- what holds after each fault but that of a sink
+abbrev pub UnlessWriteFault : Fault → Type 0 → Type 0
+UnlessWriteFault WriteFault Fact = Unit {0}
+UnlessWriteFault fault Fact = Fact

@@ -14,6 +14,7 @@ mod leaves;
 mod log;
 mod matching;
 mod memo;
+mod migration;
 mod names;
 mod numbers;
 mod occurs;
@@ -25,6 +26,7 @@ mod start;
 mod state;
 mod take;
 mod terms;
+mod text_source;
 mod types;
 mod typing;
 
