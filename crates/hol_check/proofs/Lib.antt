@@ -21,3 +21,4 @@ pub mod StartLemmas
 pub mod ClaimLemmas
 pub mod CheckingLemmas
 pub mod MigrationLemmas
+pub mod HeaderLemmas

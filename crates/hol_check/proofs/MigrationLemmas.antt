@@ -1,19 +1,22 @@
 -- An accepted log stays accepted under the header of the second version.
-use Rattle.std.proofs.Common.{◌≡◌, ℕ, ◌+◌, List, [], ◌∷◌, ◌++◌, Option, Some, None, Result, Ok, Err, Bool, true, false, if◌then◌else◌, refl, sym, ap, ◌∙◌, drop}
+use Rattle.std.proofs.Common.{◌≡◌, ℕ, ◌+◌, List, [], ◌∷◌, ◌++◌, Option, Some, None, Result, Ok, Err, Bool, true, false, if◌then◌else◌, refl, sym, ap, ◌∙◌, subst, drop, length, ◌≤◌}
 use Rattle.hol_model.specs.declared.fault.Cause.{Cause}
 use Rattle.hol_model.specs.declared.fault.Cause.TheVariants.{Shape}
 use Rattle.hol_model.specs.LogLine.{LogVersion, LogRule, LogLine}
 use Rattle.hol_model.specs.LogLine.LogVersion.{first_version, second_version}
 use Rattle.hol_model.specs.LogLine.LogRule.{refl_step, trans_step, mk_comb_step, abs_step, beta_step, assume_step, eq_mp_step, deduct_step, inst_step, inst_type_step, eta_step, select_step, definition_step}
 use Rattle.hol_model.specs.LogLine.LogLine.{header_line, type_variable_line, bool_line, function_type_line, declared_type_line, variable_line, constant_line, combination_line, abstraction_line, new_type_line, new_constant_line, theorem_line, claim_line, end_line}
-use Rattle.hol_model.specs.LogState.{LogState, first_state}
+use Rattle.hol_model.specs.LogState.{LogState, LogClaim, first_state}
 use Rattle.hol_model.specs.LogSequents.{after_line}
 use Rattle.hol_model.specs.LogFaults.{first_cause, first_applying, cause_tests, is_first_version}
 use Rattle.hol_model.specs.LogText.{ReadLine, LogText, LogOutcome, from_line, at_last, at_end, unless_refused, after_header, dest_header, log_outcome}
 use Rattle.hol_logtext.specs.LineText.{line_text, line_bytes}
 use Rattle.hol_logtext.specs.LogBytes.{log_text}
 use Rattle.hol_check.specs.Judging.{log_answer, answer_from}
-use Rattle.hol_check.specs.Migration.{in_second, IsMigrated, MigrationKeepsClaims}
+use Rattle.hol_model.specs.declared.limits.TheConstants.{TEXT_BYTES_LIMIT}
+use Rattle.hol_model.specs.Sessions.{Tells}
+use Rattle.hol_check.specs.Checking.{HasClaims}
+use Rattle.hol_check.specs.Migration.{in_second, IsMigrated, IsMigration, MigrationKeepsClaims}
 use Rattle.hol_check.proofs.JudgingLemmas.{log_text_line}
 
 -- a test that fails does not change what is the first cause
@@ -138,3 +141,33 @@ migrated_again old new newer first second =
 
 pub migration_keeps_claims : MigrationKeepsClaims
 migration_keeps_claims = record { accepted = accepted_in_second; again = migrated_again }
+
+-- what was read and migrated
+
+pub text_accepted : (text : List ℕ) (claims : List LogClaim) (checked : HasClaims (Some text) claims) → log_answer text ≡ Ok checked.state
+text_accepted text claims checked = ap log_answer checked.read.whole ∙ checked.accepted
+
+header_length : (version : LogVersion) (rest : List ℕ) → length (line_bytes (header_line second_version) ++ rest) ≡ length (line_bytes (header_line version) ++ rest)
+header_length first_version rest = refl
+header_length second_version rest = refl
+
+same_length : (old new : List ℕ) → IsMigrated old new → length new ≡ length old
+same_length old new migrated = ap length migrated.is.headed ∙ header_length migrated.version migrated.rest ∙ sym (ap length migrated.was.headed)
+
+pub is_migration : (input : Option (List ℕ)) (text new : List ℕ) (claims : List LogClaim) → MigrationKeepsClaims → Tells input text → length text ≤ TEXT_BYTES_LIMIT
+    → HasClaims (Some text) claims → IsMigrated text new → IsMigration input claims new
+is_migration input text new claims keeps told within checked migrated = record {
+  text = text;
+  read = record { whole = told; within_limit = within };
+  checked = checked;
+  migrated = migrated;
+  accepted = record {
+    text = new;
+    read = record { whole = refl; within_limit = subst (λ n. n ≤ TEXT_BYTES_LIMIT) (sym (same_length text new migrated)) within };
+    state = in_second checked.state;
+    accepted = keeps.accepted text new checked.state (text_accepted text claims checked) migrated;
+    listed = checked.listed;
+    derivable = checked.derivable;
+    hold = checked.hold;
+  };
+}
