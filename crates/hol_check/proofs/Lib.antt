@@ -14,3 +14,11 @@ pub mod TypingLemmas
 pub mod KnownLemmas
 pub mod KnownGrowth
 pub mod LimitLemmas
+pub mod JudgingLemmas
+pub mod StateLemmas
+pub mod AdditionLemmas
+pub mod StartLemmas
+pub mod ClaimLemmas
+pub mod CheckingLemmas
+pub mod MigrationLemmas
+pub mod HeaderLemmas

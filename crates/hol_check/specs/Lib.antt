@@ -14,3 +14,14 @@ pub mod Occurs
 pub mod Reflection
 pub mod Typing
 pub mod Known
+pub mod Reading
+pub mod State
+pub mod Judged
+pub mod Added
+pub mod LogCode
+pub mod Log
+pub mod Judging
+pub mod PrintedClaims
+pub mod Claims
+pub mod Checking
+pub mod Migration

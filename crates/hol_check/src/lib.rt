@@ -1,18 +1,35 @@
 //! The checker of proof logs: it reads a log line by line, with types and terms of its own.
 #![tactic(auto)]
 
+mod addition;
 mod change;
+mod checker;
+mod claim;
 mod compare;
 mod instance;
+mod judge;
 mod known;
+mod laws;
 mod leaves;
+mod log;
 mod matching;
 mod memo;
+mod migration;
 mod names;
 mod numbers;
 mod occurs;
 mod pairs;
+mod print;
+mod reading;
 mod reflection;
+mod start;
+mod state;
+mod take;
 mod terms;
+mod text_source;
 mod types;
 mod typing;
+
+pub use checker::check;
+pub use laws::migration_keeps_claims;
+pub use claim::{Claim, text_of_claim};

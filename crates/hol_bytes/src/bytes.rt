@@ -1,0 +1,71 @@
+// Whole inputs and whole pieces of output.
+ghost use Rattle.std.specs.Prelude.{◌≡◌, ◌≤◌, ◌^◌, List, ℕ, [], ◌∷◌, ◌++◌, true, false, length, take, drop, Ok, Err, IfOk, OnOk, OnErr, IsErrOf, IfErr, IfSome, Contains, ◌<◌, ◌⊎◌, vec_len};
+ghost use Rattle.std.specs.Io.KnownBytes.{Consumes, Appends, IsAtEnd, Keeps};
+ghost use Rattle.hol_model.specs.declared.fault.Fault.TheVariants.{Memory, ReadFault, WriteFault, TooLong};
+ghost use Rattle.hol_model.specs.Sessions.{Tells};
+ghost use Rattle.hol_bytes.specs.Bytes.{AppendsFront, joined};
+
+use hol_model::{Fault, Sink, Source, TEXT_BYTES_LIMIT};
+use std::alloc::Global;
+
+/// All that is left of a source, within the limit on texts.
+pub fn read_all<R: Source>(alloc: Global, reader: &mut R) -> Result<Vec<u8>, Fault>
+    requires { R.has_failed reader.old ≡ false }
+    ensures all { IfOk result (λ bytes. Tells (R.remaining reader.old) bytes.items) }
+    ensures within_limit { IfOk result (λ bytes. length bytes.items ≤ TEXT_BYTES_LIMIT) }
+    ensures too_long { IsErrOf result TooLong → IfSome (R.remaining reader.old) (λ told. TEXT_BYTES_LIMIT < length told) }
+    ensures failed { IsErrOf result ReadFault → R.has_failed reader.new ≡ true }
+    ensures unfailed { OnOk result (R.has_failed reader.new ≡ false) }
+    ensures refusals { IfErr result (Contains (ReadFault ∷ TooLong ∷ Memory ∷ [])) }
+{
+    let mut bytes = Vec::new(alloc);
+    let mut buffer = [0u8; 4096];
+    while bytes.len() <= TEXT_BYTES_LIMIT {
+        let Ok(count) = reader.pull(&mut buffer) else {
+            return Err(Fault::ReadFault);
+        };
+        if count == 0 {
+            return Ok(bytes);
+        }
+        bytes.extend_from_slice(&buffer[..count])?;
+    }
+    Err(Fault::TooLong)
+}
+
+/// Gives a sink the whole piece, unless it fails.
+pub fn write_all<W: Sink>(writer: &mut W, piece: &[u8]) -> Result<(), Fault>
+    requires { W.has_failed writer.old ≡ false }
+    ensures ok { OnOk result (Appends (W.contents writer.old) (W.contents writer.new) piece.now) }
+    ensures unfailed { OnOk result (W.has_failed writer.new ≡ false) }
+    ensures err { OnErr result (AppendsFront (W.contents writer.old) (W.contents writer.new) piece.now) }
+    ensures failed { OnErr result (W.has_failed writer.new ≡ true) }
+    ensures kinds { IfErr result (λ e. e ≡ WriteFault) }
+{
+    let mut rest = piece;
+    while !rest.is_empty() {
+        let Ok(n) = writer.emit(rest) else {
+            return Err(Fault::WriteFault);
+        };
+        let (_, after) = rest.split_at(n);
+        rest = after;
+    }
+    Ok(())
+}
+
+/// Gives a sink the pieces, one after another, unless it fails.
+pub fn write_pieces<W: Sink>(writer: &mut W, pieces: &[&[u8]]) -> Result<(), Fault>
+    requires { W.has_failed writer.old ≡ false }
+    ensures ok { OnOk result (Appends (W.contents writer.old) (W.contents writer.new) (joined pieces.now)) }
+    ensures unfailed { OnOk result (W.has_failed writer.new ≡ false) }
+    ensures err { OnErr result (AppendsFront (W.contents writer.old) (W.contents writer.new) (joined pieces.now)) }
+    ensures failed { OnErr result (W.has_failed writer.new ≡ true) }
+    ensures kinds { IfErr result (λ e. e ≡ WriteFault) }
+{
+    let Some((first, rest)) = pieces.split_first() else {
+        return Ok(());
+    };
+    match write_all(writer, first) {
+        Ok(()) => write_pieces(writer, rest),
+        Err(fault) => Err(fault),
+    }
+}

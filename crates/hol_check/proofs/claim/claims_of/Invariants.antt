@@ -1,0 +1,9 @@
+use Rattle.std.proofs.Common.{◌≡◌, ◌≤◌, ◌-◌, take, length}
+use Rattle.hol_check.proofs.claim.claims_of.Given as goal
+
+abbrev pub invariant-loop-place : goal.invariant-loop-place
+invariant-loop-place l =
+    (l.claims.items ≡ take l.place l.fn.log.claims) × (l.log.value ≡ l.fn.log) × (l.count ≡ length l.fn.log.claims) × (l.place ≤ l.count)
+
+abbrev pub decreases-loop-place : goal.decreases-loop-place
+decreases-loop-place l = l.count - l.place

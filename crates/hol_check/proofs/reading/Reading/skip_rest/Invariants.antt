@@ -1,0 +1,11 @@
+use Rattle.std.proofs.Common.{◌≡◌, ◌++◌, ◌-◌, ℕ, List, Option, false}
+use Rattle.hol_check.specs.Reading.{IsUnread, IsSkipped}
+use Rattle.hol_check.proofs.reading.Reading.skip_rest.Given as goal
+
+abbrev pub invariant-loop-byte : goal.invariant-loop-byte
+invariant-loop-byte g l =
+    ((input : Option (List ℕ)) (handed : List ℕ) → IsUnread input handed l.fn.self (g.R.Source.remaining l.fn.reader) → IsSkipped input handed l.self (g.R.Source.remaining l.reader))
+    × (g.R.Source.has_failed l.reader ≡ false)
+
+abbrev pub decreases-loop-byte : goal.decreases-loop-byte
+decreases-loop-byte g l = 16777217 - l.self.given

@@ -1,0 +1,19 @@
+-- What the claims of an accepted log say.
+use Rattle.std.specs.Prelude.{◌≡◌, ℕ, List, Option, Ok}
+use Rattle.std.specs.List.{All}
+use Rattle.hol_model.specs.LogState.{LogState, LogClaim}
+use Rattle.hol_model.specs.LogLaws.{IsDerivableClaim}
+use Rattle.hol_sound.specs.LogClaims.{ClaimHolds}
+use Rattle.hol_check.specs.Reading.{IsRead}
+use Rattle.hol_check.specs.Judging.{log_answer}
+
+-- The input is the text of an accepted log with these claims; each of them is derivable from the log's entries and holds
+-- in every finite standard model of them.
+pub record HasClaims (input : Option (List ℕ)) (claims : List LogClaim) : Type 0 where
+  pub text : List ℕ
+  pub read : IsRead input text
+  pub state : LogState
+  pub accepted : log_answer text ≡ Ok state
+  pub listed : claims ≡ state.claims
+  pub derivable : All (IsDerivableClaim state.theory) claims
+  pub hold : All (ClaimHolds state.theory) claims

@@ -1,0 +1,55 @@
+-- What is left of a log's text while it is read.
+use Rattle.std.specs.Prelude.{◌≡◌, ◌≤◌, ◌+◌, ◌==◌, ℕ, List, [], ◌∷◌, ◌++◌, Bool, true, false, take, drop, length, Option, None, Some}
+use Rattle.std.specs.List.{list_any}
+use Rattle.std.specs.Io.KnownBytes.{Consumes}
+use Rattle.hol_model.specs.Sessions.{Tells}
+use Rattle.hol_model.specs.declared.limits.TheConstants.{TEXT_BYTES_LIMIT}
+use Rattle.hol_logtext.specs.Fields.{line_feed}
+use Rattle.hol_check.specs.declared.reading.Reading.TheInside.{Inside}
+
+-- the bytes that the source has given and that are not handed out yet, and how many were handed out
+pub record Unread : Type 0 where
+  pub pending : List ℕ
+  pub given : ℕ
+
+abbrev pub unread_of : Inside → Unread
+unread_of inside = record { pending = drop inside.next (take inside.filled inside.bytes); given = inside.given }
+
+pub record IsReading (inside : Inside) : Type 0 where
+  pub placed : inside.next ≤ inside.filled
+  pub filled : inside.filled ≤ length inside.bytes
+  pub room : length inside.bytes ≡ 4096
+  pub within_limit : inside.given + inside.filled ≤ TEXT_BYTES_LIMIT + inside.next
+
+-- of the input these bytes were handed out; the pending ones and what the source has left are still to come
+pub record IsUnread (input : Option (List ℕ)) (handed : List ℕ) (unread : Unread) (left : Option (List ℕ)) : Type 0 where
+  pub told : Consumes input left (handed ++ unread.pending)
+  pub counted : unread.given ≡ length handed
+
+-- all of the input was handed out
+pub record IsRead (input : Option (List ℕ)) (handed : List ℕ) : Type 0 where
+  pub whole : Tells input handed
+  pub within_limit : length handed ≤ TEXT_BYTES_LIMIT
+
+-- the next byte was handed out, or there is none
+abbrev pub IsNext : Option (List ℕ) → List ℕ → Unread → Option (List ℕ) → Option ℕ → Type 0
+IsNext input handed unread left None = IsRead input handed
+IsNext input handed unread left (Some byte) = IsUnread input (handed ++ byte ∷ []) unread left
+
+abbrev pub has_line_feed : List ℕ → Bool
+has_line_feed bytes = list_any (λ byte. byte == line_feed) bytes
+
+-- the bytes up to the next line feed and that line feed were handed out, or all bytes that were left
+abbrev pub IsLine : Option (List ℕ) → List ℕ → List ℕ → Unread → Option (List ℕ) → Bool → Type 0
+IsLine input handed line unread left true = IsUnread input ((handed ++ line) ++ line_feed ∷ []) unread left
+IsLine input handed line unread left false = IsRead input (handed ++ line)
+
+-- all of the input was handed out, more than these bytes or these alone
+pub record IsReadOn (input : Option (List ℕ)) (handed : List ℕ) : Type 0 where
+  pub rest : List ℕ
+  pub read : IsRead input (handed ++ rest)
+
+-- these bytes were handed out, and perhaps more
+pub record IsSkipped (input : Option (List ℕ)) (handed : List ℕ) (unread : Unread) (left : Option (List ℕ)) : Type 0 where
+  pub more : List ℕ
+  pub still : IsUnread input (handed ++ more) unread left

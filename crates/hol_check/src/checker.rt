@@ -1,0 +1,33 @@
+// The check of a whole log.
+ghost use Rattle.std.specs.Prelude.{◌≡◌, ◌<◌, true, false, length, IfOk, OnOk, IfErr, IfSome, IsErrOf};
+ghost use Rattle.hol_model.specs.declared.fault.Fault.TheVariants.{ReadFault, TooLong};
+ghost use Rattle.hol_check.specs.Judging.{TellsRefusal, IsRefusal};
+ghost use Rattle.hol_check.specs.Checking.{HasClaims};
+
+use crate::claim::{Claim, claims_of};
+use crate::judge::judge;
+use hol_model::{Fault, Source, TEXT_BYTES_LIMIT, accepted_logs_are_sound};
+use hol_sound::accepted_claims_hold;
+use std::alloc::Global;
+
+/// The claims of the log that a source gives, in the order of their lines. Each of them is derivable from the
+/// definitions and declarations of the log, and holds in every finite standard model of them, whatever the bytes are.
+///
+/// Refusals: ReadFault, where the source fails, and TooLong, where the log is longer than the limit on texts, even if a
+/// line before is faulty; LogFault with the first faulty line and the first cause that applies to it; Memory.
+pub fn check<R: Source>(alloc: Global, reader: &mut R) -> Result<Vec<Claim>, Fault>
+    requires unfailed { R.has_failed reader.old ≡ false }
+    ensures claims { IfOk result (λ claims. HasClaims (R.remaining reader.old) claims.items) }
+    ensures refused { IfErr result (TellsRefusal (R.remaining reader.old)) }
+    ensures read_fault { IsErrOf result ReadFault → R.has_failed reader.new ≡ true }
+    ensures too_long { IsErrOf result TooLong → IfSome (R.remaining reader.old) (λ told. TEXT_BYTES_LIMIT < length told) }
+    ensures unfailed { OnOk result (R.has_failed reader.new ≡ false) }
+    ensures refusals { IfErr result IsRefusal }
+{
+    accepted_logs_are_sound();
+    accepted_claims_hold();
+    match judge(alloc, reader) {
+        Ok(log) => claims_of(alloc, log),
+        Err(fault) => Err(fault),
+    }
+}
