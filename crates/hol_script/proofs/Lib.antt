@@ -1,4 +1,3 @@
-pub mod BytesLemmas
 pub mod CutLemmas
 pub mod ReadingLemmas
 pub mod PairLemmas

@@ -10,10 +10,10 @@ use Rattle.hol_model.specs.Sessions.{State, start, scope_in, Reply, proves, acce
 use Rattle.hol_model.proofs.Tests.{first_of_both, second_of_both}
 use Rattle.hol_script.specs.declared.session.Printed.{Printed}
 use Rattle.hol_script.specs.declared.session.Printed.TheVariants.{Nothing, Line}
-use Rattle.hol_script.specs.Bytes.{AppendsFront}
+use Rattle.hol_bytes.specs.Bytes.{AppendsFront}
 use Rattle.hol_script.specs.Answers.{Says, Turns, answer_text}
 use Rattle.hol_script.specs.Runs.{counting_answer}
-use Rattle.hol_script.proofs.BytesLemmas.{Appends-none, Appends-more}
+use Rattle.hol_bytes.proofs.BytesLemmas.{Appends-none, Appends-more}
 
 -- ---- each text has pieces
 

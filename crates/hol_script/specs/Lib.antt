@@ -1,4 +1,3 @@
-pub mod Bytes
 pub mod Views
 pub mod Reading
 pub mod Pairs

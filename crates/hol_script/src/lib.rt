@@ -1,7 +1,6 @@
 // Runs proof scripts.
 #![tactic(auto, using(hol_model::proofs::Refusals::refusals))]
 
-mod bytes;
 mod command;
 mod cut;
 mod execute;

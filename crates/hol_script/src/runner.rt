@@ -5,14 +5,14 @@ ghost use Rattle.hol_model.specs.Sessions.{Completes, Stops, Tells};
 ghost use Rattle.hol_model.specs.Sessions as spec;
 ghost use Rattle.hol_model.specs.declared.fault.Fault.TheVariants.{Memory, ReadFault, WriteFault, TooLong};
 ghost use Rattle.hol_script.specs.Answers.{Turns, answer_text};
-ghost use Rattle.hol_script.specs.Bytes.{AppendsFront, joined};
+ghost use Rattle.hol_bytes.specs.Bytes.{AppendsFront, joined};
 ghost use Rattle.hol_script.specs.Runs.{counts_of, counting_answer};
 ghost use Rattle.hol_script.specs.SessionState.{state_of, IsSession};
 
-use crate::bytes::{read_all, write_all, write_pieces};
 use crate::cut::{cut, is_blank_text, leading_line_feeds, line_feeds};
 use crate::execute::execute;
 use crate::session::{Printed, Session};
+use hol_bytes::{read_all, write_all, write_pieces};
 use hol_model::{Fault, Sink, Source, TEXT_BYTES_LIMIT};
 use itoa::Buffer;
 use std::alloc::Global;
