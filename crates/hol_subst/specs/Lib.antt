@@ -5,3 +5,4 @@ pub mod Touched
 pub mod Occurrences
 pub mod Sought
 pub mod VariableTypes
+pub mod Outcomes

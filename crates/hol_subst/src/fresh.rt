@@ -1,5 +1,5 @@
 // Variables that are free in none of some terms.
-ghost use Rattle.std.specs.Prelude.{◌≡◌, ◌↔◌, [], ◌∷◌, ◌++◌, true, IfOk, IfErr, IsTrue, IsFalse, Contains};
+ghost use Rattle.std.specs.Prelude.{◌≡◌, [], ◌∷◌, ◌++◌, true, IfOk, IfErr, IsTrue};
 ghost use Rattle.std.specs.String.{string_bytes};
 ghost use Rattle.hol_model.specs.NamedTerm.{variable, is_variable, type_of};
 ghost use Rattle.hol_model.specs.Name.{is_identifier};
@@ -10,8 +10,10 @@ ghost use Rattle.hol_subst.specs.Entries.{replaced};
 ghost use Rattle.hol_subst.specs.Replacements.{entries_of, binders_of};
 ghost use Rattle.hol_subst.specs.Touched.{Covers};
 ghost use Rattle.hol_subst.specs.Fresh.{IsFreshBinder};
+ghost use Rattle.hol_subst.specs.Outcomes.{variant_refusal};
 ghost use Rattle.hol_subst.specs.VariableTypes.{HasVariables, table_of};
-ghost use Rattle.hol_model.specs.declared.fault.Fault.TheVariants.{Memory, NotVariable};
+ghost use Rattle.hol_model.specs.Outcome.{AnswersSuch};
+ghost use Rattle.hol_model.specs.declared.fault.Fault.TheVariants.{Memory};
 
 use crate::capture::is_free_after;
 use crate::passed::Passed;
@@ -24,11 +26,10 @@ use hol_terms::{Term, is_free};
 use hol_types::Ty;
 use std::alloc::Global;
 
-/// The first of `v`, `v'`, `v''` .. that is free in no term of a list.
+/// The first of `v`, `v'`, `v''` .. that is free in no term of a list. What is no variable is refused (`NotVariable`).
+#[tactic(auto, using(crate::proofs::Answering::answering))]
 pub fn variant(alloc: Global, avoid: &[Term], variable: &Term) -> Result<Term, Fault>
-    ensures ok { IfOk result (IsVariantOf avoid.now variable.now) }
-    ensures not_variable { (result ≡ Err NotVariable) ↔ IsFalse (is_variable variable.now) }
-    ensures refusals { IfErr result (Contains (NotVariable ∷ Memory ∷ [])) }
+    ensures outcome { AnswersSuch result (variant_refusal variable.now) (IsVariantOf avoid.now variable.now) }
 {
     match variable.dest_var() {
         Some((name, ty)) => {
