@@ -1,7 +1,6 @@
 -- What the pairs of INST and INST_TYPE are read as, and what the rules answer for them.
-use Rattle.std.proofs.Common.{◌≡◌, ◌⊎◌, inl, inr, ℕ, suc, ◌+◌, ◌<◌, ◌≤◌, List, [], ◌∷◌, ◌++◌, length, get_or, drop, refl, sym, ◌∙◌, ap, subst, Option, None, Some, Result, Ok, Err, Bor, drop-cons, add-one}
-use Rattle.std.proofs.lemmas.List.{append-nil, append_assoc, drop_all}
-use Rattle.std.specs.Option.{option_map}
+use Rattle.std.proofs.Common.{◌≡◌, ◌⊎◌, inl, inr, ℕ, ◌+◌, ◌<◌, List, [], ◌∷◌, ◌++◌, length, get_or, drop, refl, sym, ◌∙◌, ap, subst, Option, None, Some, Result, Ok, Err, drop-cons, add-one}
+use Rattle.std.proofs.lemmas.List.{append_assoc}
 use Rattle.hol_model.specs.declared.fault.Fault.{Fault}
 use Rattle.hol_model.specs.declared.fault.Fault.TheVariants.{Memory, UnknownName}
 use Rattle.hol_model.specs.Outcome.{given, AnswersSuch}
@@ -24,10 +23,6 @@ abbrev pub preceded : {B : Type 0} → List B → Result (List B) Fault → Resu
 preceded done (Ok others) = Ok (done ++ others)
 preceded done (Err fault) = Err fault
 
-preceded-nothing : {B : Type 0} → (read : Result (List B) Fault) → read ≡ preceded [] read
-preceded-nothing (Ok others) = refl
-preceded-nothing (Err fault) = refl
-
 preceded-more : {B : Type 0} → (done : List B) (first : B) (read : Result (List B) Fault) → preceded done (read >>= λ others. Ok (first ∷ others)) ≡ preceded (done ++ first ∷ []) read
 preceded-more done first (Ok others) = ap (λ xs. Ok xs) (sym (append_assoc done (first ∷ []) others))
 preceded-more done first (Err fault) = refl
@@ -37,10 +32,6 @@ pub record IsReadTo {A X B : Type 0} (fact : X → A → Type 0) (read : A → R
   pub later : List A
   pub matched : Match fact left later
   pub same : each read trees ≡ preceded done (each read later)
-
-pub unread : {A X B : Type 0} → (fact : X → A → Type 0) (read : A → Result B Fault) (items : List X) (done : List B) (trees : List A) → done ≡ [] → Match fact items trees → IsReadTo fact read items done trees
-unread fact read items done trees empty matched =
-    record { later = trees; matched = matched; same = preceded-nothing (each read trees) ∙ ap (λ (d : List _). preceded d (each read trees)) (sym empty) }
 
 pub read-further : {A X B : Type 0} → (fact : X → A → Type 0) (read : A → Result B Fault) (item : X) (left : List X) (done : List B) (first : B) (trees : List A) → IsReadTo fact read (item ∷ left) done trees
     → ((tree : A) → fact item tree → read tree ≡ Ok first) → IsReadTo fact read left (done ++ first ∷ []) trees
@@ -54,55 +45,24 @@ read-further fact read item left done first trees under reads = go under.later u
       same = same ∙ ap (λ r. preceded done (r >>= λ x. each read later >>= λ others. Ok (x ∷ others))) (reads tree matched.0) ∙ preceded-more done first (each read later);
     }
 
-pub read-refused : {A X B : Type 0} → (fact : X → A → Type 0) (read : A → Result B Fault) (item : X) (left : List X) (done : List B) (fault : Fault) (trees : List A) → IsReadTo fact read (item ∷ left) done trees
-    → ((tree : A) → fact item tree → (fault ≡ Memory) ⊎ (read tree ≡ Err fault)) → (fault ≡ Memory) ⊎ (each read trees ≡ Err fault)
-read-refused fact read item left done fault trees under refuses = go under.later under.matched under.same
-  where
-    go : (later : List _) → Match fact (item ∷ left) later → each read trees ≡ preceded done (each read later) → (fault ≡ Memory) ⊎ (each read trees ≡ Err fault)
-    go [] matched same = absurd matched
-    go (tree ∷ later) matched same = refusal (refuses tree matched.0)
-      where
-        refusal : (fault ≡ Memory) ⊎ (read tree ≡ Err fault) → (fault ≡ Memory) ⊎ (each read trees ≡ Err fault)
-        refusal (inl memory) = inl memory
-        refusal (inr because) = inr (same ∙ ap (λ r. preceded done (r >>= λ x. each read later >>= λ others. Ok (x ∷ others))) because)
-
-pub read-all : {A X B : Type 0} → (fact : X → A → Type 0) (read : A → Result B Fault) (left : List X) (done : List B) (trees : List A) → left ≡ [] → IsReadTo fact read left done trees → each read trees ≡ Ok done
-read-all fact read left done trees none under = go under.later (subst (λ (xs : List _). Match fact xs under.later) none under.matched) under.same
-  where
-    go : (later : List _) → Match fact [] later → each read trees ≡ preceded done (each read later) → each read trees ≡ Ok done
-    go [] matched same = same ∙ ap (λ xs. Ok xs) (append-nil done)
-    go (tree ∷ later) matched same = absurd matched
-
 -- the item at a place, before what is left behind it
 pub item-at : {X : Type 0} → (items : List X) (at : ℕ) (default : X) → at < length items → drop at items ≡ get_or items at default ∷ drop (at + 1) items
 item-at items at default within = drop-cons items at default within ∙ ap (λ (n : ℕ). get_or items at default ∷ drop n items) (sym (add-one at))
 
 -- ---- what the rules answer
 
--- a refusal of the pairs, where no answer but the refusal is one
-pub pairs-refused : {A : Type 0} → (refusal : A → Theorem → Option Fault) (fact : A → Theorem → Theorem → Type 0) (read : Result A Fault) (state : State) (a : List ℕ) (fault : Fault)
-    → (fault ≡ Memory) ⊎ (read ≡ Err fault) → (fault ≡ Memory) ⊎ IsAnswerFor refusal fact (with_stored read state a) (Err fault)
-pairs-refused refusal fact read state a fault (inl memory) = inl memory
-pairs-refused refusal fact read state a fault (inr because) = inr (subst (λ (r : Result _ Fault). IsAnswerFor refusal fact (with_stored r state a) (Err fault)) (sym because) refl)
-
 stored-is : {A : Type 0} → (read : Result A Fault) (theta : A) (state : State) (a : List ℕ) (found : Option Theorem) → read ≡ Ok theta → state.theorems a ≡ found
     → with_stored read state a ≡ given found UnknownName (λ theorem. Ok (theta, theorem))
 stored-is read theta state a found is known =
     ap (λ r. with_stored r state a) is ∙ ap (λ (f : Option Theorem). given f UnknownName (λ theorem. Ok (theta, theorem))) known
 
--- no theorem of the name
-pub none-stored : {A : Type 0} → (refusal : A → Theorem → Option Fault) (fact : A → Theorem → Theorem → Type 0) (read : Result A Fault) (theta : A) (state : State) (a : List ℕ)
-    → read ≡ Ok theta → state.theorems a ≡ None → IsAnswerFor refusal fact (with_stored read state a) (Err UnknownName)
-none-stored refusal fact read theta state a is none =
-    subst (λ (r : Result (_ × Theorem) Fault). IsAnswerFor refusal fact r (Err UnknownName)) (sym (stored-is read theta state a None is none)) refl
-
 -- what the rule answers for the pairs and the theorem
-pub rule-answers : {A : Type 0} → (refusal : A → Theorem → Option Fault) (fact : A → Theorem → Theorem → Type 0) (read : Result A Fault) (theta : A) (state : State) (a : List ℕ) (theorem answer : Theorem)
+rule-answers : {A : Type 0} → (refusal : A → Theorem → Option Fault) (fact : A → Theorem → Theorem → Type 0) (read : Result A Fault) (theta : A) (state : State) (a : List ℕ) (theorem answer : Theorem)
     → read ≡ Ok theta → state.theorems a ≡ Some theorem → (refusal theta theorem ≡ None) × fact theta theorem answer → IsAnswerFor refusal fact (with_stored read state a) (Ok answer)
 rule-answers refusal fact read theta state a theorem answer is known settled =
     subst (λ (r : Result (_ × Theorem) Fault). IsAnswerFor refusal fact r (Ok answer)) (sym (stored-is read theta state a (Some theorem) is known)) settled
 
-pub rule-refused : {A : Type 0} → (refusal : A → Theorem → Option Fault) (fact : A → Theorem → Theorem → Type 0) (read : Result A Fault) (theta : A) (state : State) (a : List ℕ) (theorem : Theorem) (fault : Fault)
+rule-refused : {A : Type 0} → (refusal : A → Theorem → Option Fault) (fact : A → Theorem → Theorem → Type 0) (read : Result A Fault) (theta : A) (state : State) (a : List ℕ) (theorem : Theorem) (fault : Fault)
     → read ≡ Ok theta → state.theorems a ≡ Some theorem → (fault ≡ Memory) ⊎ (refusal theta theorem ≡ Some fault)
     → (fault ≡ Memory) ⊎ IsAnswerFor refusal fact (with_stored read state a) (Err fault)
 rule-refused refusal fact read theta state a theorem fault is known (inl memory) = inl memory

@@ -1,4 +1,4 @@
-use Rattle.std.proofs.Common.{◌≡◌, ◌∙◌, map, length, take, drop, arith, ◌≤◌, ◌+◌, ◌-◌, ap, ◌++◌, [], ◌∷◌, List, sym}
+use Rattle.std.proofs.Common.{◌∙◌, map, length, drop, arith, ap, sym}
 use Rattle.std.proofs.lemmas.List.{length-drop, take_rest}
 use Rattle.hol_syntax.specs.Views.{tokens_of}
 use Rattle.hol_script.specs.Pairs.{parts_of}
