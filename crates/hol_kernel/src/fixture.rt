@@ -187,12 +187,7 @@ fn inst_type(
     theory.inst_type(alloc, &theta, theorem)
 }
 
-fn inst_arrows(
-    alloc: Global,
-    theory: &Theory,
-    arrows: u16,
-    theorem: &Thm,
-) -> Result<Thm, Fault>
+fn inst_arrows(alloc: Global, theory: &Theory, arrows: u16, theorem: &Thm) -> Result<Thm, Fault>
     requires { IsEarlier theorem.now.theory theory.now }
     ensures { IfOk result (λ theorem. theorem.theory ≡ theory.now) }
 {

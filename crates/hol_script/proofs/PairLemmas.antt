@@ -1,5 +1,5 @@
 -- Lists of replacements among tokens: what the pairs of a list are is determined.
-use Rattle.std.proofs.Common.{◌≡◌, ◌≢◌, ℕ, zero, suc, ◌+◌, ◌-◌, ◌<◌, ◌≤◌, arith, true, List, [], ◌∷◌, ◌++◌, length, get_or, take, drop, map, refl, sym, ◌∙◌, ap, subst, Option, None, Some, Result, Ok, Err, Bor, Vec, Global}
+use Rattle.std.proofs.Common.{◌≡◌, ◌≢◌, ℕ, zero, suc, ◌+◌, ◌-◌, ◌<◌, ◌≤◌, arith, true, List, [], ◌∷◌, ◌++◌, length, get_or, take, drop, map, refl, sym, ◌∙◌, ap, subst, Err}
 use Rattle.std.proofs.lemmas.List.{drop-map, take_more, drop-drop, take_rest, map-append, length-map, length-append, append-nil, append_assoc}
 use Rattle.std.proofs.Math.Seq.{drop-append_seam}
 use Rattle.hol_model.specs.declared.symbol.Symbol.{Symbol}
@@ -7,8 +7,8 @@ use Rattle.hol_model.specs.declared.symbol.Symbol.TheVariants.{Backquote, Comma,
 use Rattle.hol_model.specs.declared.rule.RuleKind.TheVariants.{Inst, InstType}
 use Rattle.hol_model.specs.Name.{is_type_variable_name}
 use Rattle.hol_model.specs.Token.{Token, Name, Mark}
-use Rattle.hol_model.specs.TypeGrammar.{TypeTree, type_tokens}
-use Rattle.hol_model.specs.TermGrammar.{TermTree, IsWithin, pieces, all_tokens}
+use Rattle.hol_model.specs.TypeGrammar.{TypeTree}
+use Rattle.hol_model.specs.TermGrammar.{TermTree, IsWithin}
 use Rattle.hol_model.specs.Commands.{RuleTree, by_term, by_pair, by_abs, by_inst, by_inst_type, by_axiom, kind_of, quoted, pair_tokens, further_tokens, first_tokens, list_tokens, term_pair, type_pair, argument_tokens, ArePairs, AreTypePairs, IsQuotable, IsRuleTree}
 use Rattle.hol_syntax.specs.declared.token.Token.{Token as TokenHere}
 use Rattle.hol_syntax.specs.declared.type_reader.ReadError.{ReadError}
@@ -325,10 +325,12 @@ pub more-terms : (pairs : List QuotedPair) (at : ℕ) (default : QuotedPair) (pu
     → ((trees : List (TermTree × TermTree)) × ArePairs trees × (map term_pair trees ≡ map parts_of (take at pairs)) × AreTermPairs old trees)
     → ((tree : TermTree × TermTree) × IsQuotable tree.0 × IsQuotable tree.1 × (term_pair tree ≡ parts_of (get_or pairs at default)) × IsTermPair pair tree)
     → (trees : List (TermTree × TermTree)) × ArePairs trees × (map term_pair trees ≡ map parts_of (take (at + 1) pairs)) × AreTermPairs pushed trees
-more-terms pairs at default pushed old pair within put (trees, all, same, parsed) (tree, new_quotable, old_quotable, here, is_pair) =
-    (trees ++ tree ∷ [], pairs-more trees tree all new_quotable old_quotable,
-    map-append term_pair trees (tree ∷ []) ∙ (λ i. same i ++ here i ∷ []) ∙ sym (map-append parts_of (take at pairs) (get_or pairs at default ∷ [])) ∙ ap (map parts_of) (sym (take_more pairs at default within)),
-    subst (λ (ps : List TermPair). AreTermPairs ps (trees ++ tree ∷ [])) (sym put) (term_pairs-more old trees pair tree parsed is_pair))
+more-terms pairs at default pushed old pair within put (trees, all, same, parsed) (tree, new_quotable, old_quotable, here, is_pair) = (
+  trees ++ tree ∷ [],
+  pairs-more trees tree all new_quotable old_quotable,
+  map-append term_pair trees (tree ∷ []) ∙ (λ i. same i ++ here i ∷ []) ∙ sym (map-append parts_of (take at pairs) (get_or pairs at default ∷ [])) ∙ ap (map parts_of) (sym (take_more pairs at default within)),
+  subst (λ (ps : List TermPair). AreTermPairs ps (trees ++ tree ∷ [])) (sym put) (term_pairs-more old trees pair tree parsed is_pair),
+)
 
 terms-at : (trees : List (TermTree × TermTree)) (pairs : List QuotedPair) (at : ℕ) (default : QuotedPair) → ArePairs trees → map term_pair trees ≡ map parts_of pairs → at < length pairs
     → (tree : TermTree × TermTree) × IsQuotable tree.0 × IsQuotable tree.1 × (term_pair tree ≡ parts_of (get_or pairs at default))
@@ -361,10 +363,12 @@ pub more-types : (pairs : List QuotedPair) (at : ℕ) (default : QuotedPair) (pu
     → ((trees : List (TypeTree × List ℕ)) × AreTypePairs trees × (map type_pair trees ≡ map parts_of (take at pairs)) × views.AreTypePairs old trees)
     → ((tree : TypeTree × List ℕ) × IsWithin tree.0 × (type_pair tree ≡ parts_of (get_or pairs at default)) × IsTypePair pair tree)
     → (trees : List (TypeTree × List ℕ)) × AreTypePairs trees × (map type_pair trees ≡ map parts_of (take (at + 1) pairs)) × views.AreTypePairs pushed trees
-more-types pairs at default pushed old pair within put (trees, all, same, parsed) (tree, within_limits, here, is_pair) =
-    (trees ++ tree ∷ [], type_names-more trees tree all within_limits is_pair.2,
-    map-append type_pair trees (tree ∷ []) ∙ (λ i. same i ++ here i ∷ []) ∙ sym (map-append parts_of (take at pairs) (get_or pairs at default ∷ [])) ∙ ap (map parts_of) (sym (take_more pairs at default within)),
-    subst (λ (ps : List TypePair). views.AreTypePairs ps (trees ++ tree ∷ [])) (sym put) (type_pairs-more old trees pair tree parsed is_pair))
+more-types pairs at default pushed old pair within put (trees, all, same, parsed) (tree, within_limits, here, is_pair) = (
+  trees ++ tree ∷ [],
+  type_names-more trees tree all within_limits is_pair.2,
+  map-append type_pair trees (tree ∷ []) ∙ (λ i. same i ++ here i ∷ []) ∙ sym (map-append parts_of (take at pairs) (get_or pairs at default ∷ [])) ∙ ap (map parts_of) (sym (take_more pairs at default within)),
+  subst (λ (ps : List TypePair). views.AreTypePairs ps (trees ++ tree ∷ [])) (sym put) (type_pairs-more old trees pair tree parsed is_pair),
+)
 
 types-at : (trees : List (TypeTree × List ℕ)) (pairs : List QuotedPair) (at : ℕ) (default : QuotedPair) → AreTypePairs trees → map type_pair trees ≡ map parts_of pairs → at < length pairs
     → (tree : TypeTree × List ℕ) × IsWithin tree.0 × (is_type_variable_name tree.1 ≡ true) × (type_pair tree ≡ parts_of (get_or pairs at default))

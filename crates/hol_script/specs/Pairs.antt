@@ -2,7 +2,6 @@
 use Rattle.std.specs.Prelude.{◌≡◌, ◌≢◌, ℕ, ◌≤◌, true, List, [], ◌∷◌, map, length, drop, Option, None, Some, Result, Ok, Err}
 use Rattle.std.proofs.Common.{Vec, Bor, Global}
 use Rattle.hol_model.specs.declared.symbol.Symbol.{Symbol}
-use Rattle.hol_model.specs.declared.symbol.Symbol.TheVariants.{OpenBracket, CloseBracket}
 use Rattle.hol_model.specs.Name.{is_type_variable_name}
 use Rattle.hol_model.specs.Token.{Token, Name, Mark}
 use Rattle.hol_model.specs.TypeGrammar.{TypeTree}

@@ -1,5 +1,5 @@
 -- What the readers of commands answer.
-use Rattle.std.specs.Prelude.{◌≡◌, ◌≢◌, ℕ, List, [], ◌∷◌, ◌++◌, Bool, true, false, Option, None, Some, Result, Ok, Err, codes, if◌then◌else◌}
+use Rattle.std.specs.Prelude.{◌≡◌, ◌≢◌, ℕ, List, [], ◌∷◌, Bool, true, false, Option, None, Some, Result, Ok, Err, codes, if◌then◌else◌}
 use Rattle.std.specs.Str.{bytes_eq}
 use Rattle.std.proofs.Common.{Vec, Bor, Global}
 use Rattle.hol_model.specs.declared.symbol.Symbol.{Symbol}
@@ -13,7 +13,7 @@ use Rattle.hol_model.specs.Token.{Token, Name, Mark}
 use Rattle.hol_model.specs.Lexing.{IsToken}
 use Rattle.hol_model.specs.TypeGrammar.{TypeTree, type_tokens, type_steps}
 use Rattle.hol_model.specs.TermGrammar.{TermTree, IsWithin}
-use Rattle.hol_model.specs.Commands.{RuleTree, CommandTree, thm_command, show_command, var_command, def_command, newtype_command, newconst_command, kind_of, quoted, quote_tokens, list_tokens, argument_tokens, rule_tokens, IsQuotable, IsRuleTree, IsCommandTree, IsReadCommand}
+use Rattle.hol_model.specs.Commands.{RuleTree, CommandTree, thm_command, show_command, var_command, def_command, newtype_command, newconst_command, kind_of, quoted, quote_tokens, argument_tokens, rule_tokens, IsQuotable, IsRuleTree, IsCommandTree, IsReadCommand}
 use Rattle.hol_syntax.specs.declared.token.Token.{Token as TokenHere}
 use Rattle.hol_syntax.specs.declared.type_reader.ReadError.{ReadError}
 use Rattle.hol_syntax.specs.declared.type_reader.ReadError.TheVariants.{Memory, Syntax}

@@ -4,7 +4,9 @@ ghost use Rattle.hol_syntax.specs.Views.{tokens_of};
 ghost use Rattle.hol_script.specs.Reading.{AreTokens, rule_kind_of, command_kind_of, ParsesQuote, ParsesTyping, ParsesArguments, ParsesRule, ParsesBody, ParsesCommand};
 ghost use Rattle.hol_script.specs.Pairs.{ParsesPairs};
 
-use crate::pairs::{QuotedPair, TermPair, TypePair, parse_term_pairs, parse_type_pairs, take_pairs};
+use crate::pairs::{
+    QuotedPair, TermPair, TypePair, parse_term_pairs, parse_type_pairs, take_pairs,
+};
 use crate::tokens::{only_name, take_mark, take_name, take_quote};
 use hol_model::{Axiom, PairRule, RuleKind, Symbol, TermRule};
 use hol_syntax::{ReadError, TermStep, Token, TypeStep, parse_term, parse_type};

@@ -109,7 +109,13 @@ fn type_variable<'a>(tokens: &'a [Token<'a>]) -> Option<&'a str>
     ensures { TakesTypeVariable result (tokens_of tokens.now) }
 {
     match tokens {
-        [Token::Name(bytes)] => { if is_type_variable_name(bytes) { identifier(bytes) } else { None } }
+        [Token::Name(bytes)] => {
+            if is_type_variable_name(bytes) {
+                identifier(bytes)
+            } else {
+                None
+            }
+        }
         _ => None,
     }
 }

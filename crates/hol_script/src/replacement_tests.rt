@@ -105,9 +105,27 @@ fn refuses(alloc: Global, rule: &[u8], refusal: &[u8]) -> Result<bool, Fault> {
 fn inst_refuses_arguments(rt: HostRuntime) -> Result<(), Fail> {
     let alloc = rt.alloc();
     assert!(rt; refuses(alloc, b"INST [`(y:num)`, `[k:A]`] nil", b"E35 UnknownType")?);
-    assert!(rt; refuses(alloc, b"INST [`(y:A)`, `[k:A]`; `x`, `x`] nil", b"E5 UnknownConst")?);
-    assert!(rt; refuses(alloc, b"INST [`[=:A->B->bool]`, `x`] nil", b"E6 NotInstance")?);
-    assert!(rt; refuses(alloc, b"INST [`(y:A)`, `x`; `[k:A]`, `x`] nil", b"E21 UnknownName")?);
+    assert!(rt;
+        refuses(
+            alloc,
+            b"INST [`(y:A)`, `[k:A]`; `x`, `x`] nil",
+            b"E5 UnknownConst"
+        )?
+    );
+    assert!(rt;
+        refuses(
+            alloc,
+            b"INST [`[=:A->B->bool]`, `x`] nil",
+            b"E6 NotInstance"
+        )?
+    );
+    assert!(rt;
+        refuses(
+            alloc,
+            b"INST [`(y:A)`, `x`; `[k:A]`, `x`] nil",
+            b"E21 UnknownName"
+        )?
+    );
     Ok(())
 }
 
@@ -141,7 +159,13 @@ fn inst_type_reads_variables(rt: HostRuntime) -> Result<(), Fail> {
     let alloc = rt.alloc();
     assert!(rt; refuses(alloc, b"INST_TYPE [`B`, `bool`] a", b"E28 Syntax")?);
     assert!(rt; refuses(alloc, b"INST_TYPE [`B`, `A->A`] a", b"E28 Syntax")?);
-    assert!(rt; refuses(alloc, b"INST_TYPE [`B`, `A`; `B`, `num`] nil", b"E28 Syntax")?);
+    assert!(rt;
+        refuses(
+            alloc,
+            b"INST_TYPE [`B`, `A`; `B`, `num`] nil",
+            b"E28 Syntax"
+        )?
+    );
     Ok(())
 }
 

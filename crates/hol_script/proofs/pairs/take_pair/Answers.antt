@@ -1,9 +1,8 @@
-use Rattle.std.proofs.Common.{◌≡◌, List, ◌∷◌, sym, ap, ◌∙◌, subst, arith}
+use Rattle.std.proofs.Common.{◌≡◌, List, ◌∷◌, sym, ap, ◌∙◌, arith}
 use Rattle.hol_model.specs.declared.symbol.Symbol.TheVariants.{Comma}
 use Rattle.hol_model.specs.Token.{Token, Mark}
 use Rattle.hol_model.specs.Commands.{quoted, pair_tokens}
 use Rattle.hol_syntax.specs.Views.{tokens_of}
-use Rattle.hol_script.specs.Pairs.{TakesPair}
 use Rattle.hol_script.proofs.PairLemmas.{pair-front, no-pair, no-second, no-quote-behind}
 use Rattle.hol_script.proofs.pairs.take_pair.Goals as goal
 

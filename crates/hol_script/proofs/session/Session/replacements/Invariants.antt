@@ -1,4 +1,4 @@
-use Rattle.std.proofs.Common.{ℕ, List, drop}
+use Rattle.std.proofs.Common.{List, drop}
 use Rattle.hol_model.specs.TermGrammar.{TermTree}
 use Rattle.hol_model.specs.Sessions.{scope_in, replacement}
 use Rattle.hol_script.specs.SessionState.{state_of}
