@@ -22,3 +22,4 @@ pub mod ClaimLemmas
 pub mod CheckingLemmas
 pub mod MigrationLemmas
 pub mod HeaderLemmas
+pub mod ReportLemmas

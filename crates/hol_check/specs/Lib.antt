@@ -25,3 +25,4 @@ pub mod PrintedClaims
 pub mod Claims
 pub mod Checking
 pub mod Migration
+pub mod Report

@@ -1,6 +1,6 @@
 use Rattle.hol_check.proofs.HeaderLemmas.{is_headed}
 use Rattle.hol_check.proofs.MigrationLemmas.{text_accepted, is_migration}
-use Rattle.hol_check.proofs.migration.migration.Goals as goal
+use Rattle.hol_check.proofs.migrating.migration.Goals as goal
 
 pub set_second_version-requires : goal.set_second_version-requires
 set_second_version-requires g c =
