@@ -14,7 +14,7 @@ pub mod TypingLemmas
 pub mod KnownLemmas
 pub mod KnownGrowth
 pub mod LimitLemmas
-pub mod JudgingLemmas
+pub mod LogAnswerLemmas
 pub mod StateLemmas
 pub mod AdditionLemmas
 pub mod StartLemmas

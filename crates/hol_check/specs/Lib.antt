@@ -20,7 +20,7 @@ pub mod Judged
 pub mod Added
 pub mod LogCode
 pub mod Log
-pub mod Judging
+pub mod LogAnswers
 pub mod PrintedClaims
 pub mod Claims
 pub mod Checking

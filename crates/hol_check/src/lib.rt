@@ -7,7 +7,7 @@ mod checker;
 mod claim;
 mod compare;
 mod instance;
-mod judge;
+mod log_reader;
 mod known;
 mod laws;
 mod leaves;

@@ -1,7 +1,7 @@
 // Logs under the header of the second version.
 ghost use Rattle.std.specs.Prelude.{◌≡◌, ◌≤◌, ◌<◌, true, false, Some, length, IfOk, OnOk, IfErr, IfSome, IsErrOf};
 ghost use Rattle.hol_model.specs.declared.fault.Fault.TheVariants.{ReadFault, WriteFault, TooLong};
-ghost use Rattle.hol_check.specs.Judging.{TellsRefusal, IsRefusal};
+ghost use Rattle.hol_check.specs.LogAnswers.{TellsRefusal, IsRefusal};
 ghost use Rattle.hol_check.specs.Checking.{HasClaims};
 ghost use Rattle.hol_check.specs.Migration.{IsHeaded, IsMigrated, IsMigration, Migrates, MigratesFront, IsTextRefusal, IsMigrationRefusal, UnlessWriteFault};
 

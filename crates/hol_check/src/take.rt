@@ -2,7 +2,7 @@
 ghost use Rattle.std.specs.Prelude.{◌≡◌, IfOk, IfErr};
 ghost use Rattle.hol_model.specs.declared.fault.Fault.TheVariants.{Memory};
 ghost use Rattle.hol_logtext.specs.Lines.{line_of};
-ghost use Rattle.hol_check.specs.Judging.{IsTaken};
+ghost use Rattle.hol_check.specs.LogAnswers.{IsTaken};
 
 use crate::log::Log;
 use hol_logtext::Line;

@@ -1,6 +1,6 @@
 use Rattle.std.proofs.Common.{◌≡◌, ◌≤◌, ◌+◌, ◌-◌, ℕ, List, Option, false}
-use Rattle.hol_check.specs.Judging.{IsUnderway}
-use Rattle.hol_check.proofs.judge.judge_lines.Given as goal
+use Rattle.hol_check.specs.LogAnswers.{IsUnderway}
+use Rattle.hol_check.proofs.log_reader.read_lines.Given as goal
 
 abbrev pub invariant-loop-number : goal.invariant-loop-number
 invariant-loop-number g l =

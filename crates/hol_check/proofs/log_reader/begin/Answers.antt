@@ -2,8 +2,8 @@ use Rattle.std.proofs.Common.{[], ◌∷◌, ◌++◌, Err, ap}
 use Rattle.hol_model.specs.declared.fault.Fault.TheVariants.{TooLong}
 use Rattle.hol_logtext.specs.Fields.{line_feed}
 use Rattle.hol_logtext.specs.Lines.{version_of}
-use Rattle.hol_check.proofs.JudgingLemmas.{begun, refused_first, cut_first, headless_first, fault_is}
-use Rattle.hol_check.proofs.judge.begin.Goals as goal
+use Rattle.hol_check.proofs.LogAnswerLemmas.{begun, refused_first, cut_first, headless_first, fault_is}
+use Rattle.hol_check.proofs.log_reader.begin.Goals as goal
 
 pub returns-in-Err-clause-too_long : goal.returns-in-Err-clause-too_long
 returns-in-Err-clause-too_long g c = λ input unread wrong. c.in-Err.ensures.too_long input [] unread (ap Err (fault_is c.in-Err.fault TooLong wrong))

@@ -1,7 +1,7 @@
 use Rattle.std.proofs.Common.{◌≡◌, ◌++◌, ◌∷◌, [], sym, ap, ◌∙◌, subst, true}
 use Rattle.hol_logtext.specs.Fields.{line_feed}
-use Rattle.hol_check.proofs.JudgingLemmas.{leads_on, refused_on, ended_on}
-use Rattle.hol_check.proofs.judge.judge_next.Goals as goal
+use Rattle.hol_check.proofs.LogAnswerLemmas.{leads_on, refused_on, ended_on}
+use Rattle.hol_check.proofs.log_reader.read_next.Goals as goal
 
 pub returns-in-Ok-Ok-clause-judged : goal.returns-in-Ok-Ok-clause-judged
 returns-in-Ok-Ok-clause-judged g c = λ input underway. record {

@@ -6,7 +6,7 @@ ghost use Rattle.std.specs.Option.{option_map};
 ghost use Rattle.hol_logtext.specs.Lines.{version_of};
 ghost use Rattle.hol_logtext.specs.LineReading.{read_text};
 ghost use Rattle.hol_check.specs.Reading.{IsUnread};
-ghost use Rattle.hol_check.specs.Judging.{IsTakenText, IsEnded, IsRefusedAt, IsUnderway, IsAcceptedLog, TellsRefusal, IsRefusal};
+ghost use Rattle.hol_check.specs.LogAnswers.{IsTakenText, IsEnded, IsRefusedAt, IsUnderway, IsAcceptedLog, TellsRefusal, IsRefusal};
 
 use crate::log::Log;
 use crate::reading::Reading;
@@ -66,7 +66,7 @@ fn refuse<R: Source>(reader: &mut R, reading: &mut Reading, line: u64, cause: Ca
 }
 
 // Reads the next line and judges it; false where the text ended behind the last line.
-fn judge_next<R: Source>(
+fn read_next<R: Source>(
     alloc: Global,
     reader: &mut R,
     reading: &mut Reading,
@@ -104,7 +104,7 @@ fn judge_next<R: Source>(
 }
 
 // Judges the lines behind the header.
-fn judge_lines<R: Source>(
+fn read_lines<R: Source>(
     alloc: Global,
     reader: &mut R,
     reading: &mut Reading,
@@ -122,7 +122,7 @@ fn judge_lines<R: Source>(
     let mut line = Vec::new(alloc);
     let mut number = 2u64;
     loop {
-        match judge_next(alloc, reader, reading, log, &mut line, number) {
+        match read_next(alloc, reader, reading, log, &mut line, number) {
             Ok(true) => number += 1,
             Ok(false) => return Ok(()),
             Err(fault) => return Err(fault),
@@ -174,7 +174,7 @@ fn begin<R: Source>(alloc: Global, reader: &mut R, reading: &mut Reading) -> Res
 ///
 /// Refusals: ReadFault and TooLong, even where a line is faulty; LogFault with the first faulty line and its cause;
 /// Memory.
-pub(crate) fn judge<R: Source>(alloc: Global, reader: &mut R) -> Result<Log, Fault>
+pub(crate) fn read_log<R: Source>(alloc: Global, reader: &mut R) -> Result<Log, Fault>
     requires unfailed { R.has_failed reader.old ≡ false }
     ensures accepted { IfOk result (IsAcceptedLog (R.remaining reader.old)) }
     ensures refused { IfErr result (TellsRefusal (R.remaining reader.old)) }
@@ -188,7 +188,7 @@ pub(crate) fn judge<R: Source>(alloc: Global, reader: &mut R) -> Result<Log, Fau
         Ok(log) => log,
         Err(fault) => return Err(fault),
     };
-    match judge_lines(alloc, reader, &mut reading, &mut log) {
+    match read_lines(alloc, reader, &mut reading, &mut log) {
         Ok(()) => Ok(log),
         Err(fault) => Err(fault),
     }

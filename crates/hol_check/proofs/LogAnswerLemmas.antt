@@ -13,7 +13,7 @@ use Rattle.hol_logtext.specs.Fields.{line_feed, split_on, onto_first}
 use Rattle.hol_logtext.specs.LineReading.{read_text}
 use Rattle.hol_logtext.specs.LogBytes.{log_text, last_part, with_line, lines_of_parts}
 use Rattle.hol_check.specs.Reading.{Unread, IsUnread, has_line_feed}
-use Rattle.hol_check.specs.Judging.{log_answer, answer_from, IsTakenText, LeadsTo, IsRefusedAt, IsUnderway}
+use Rattle.hol_check.specs.LogAnswers.{log_answer, answer_from, IsTakenText, LeadsTo, IsRefusedAt, IsUnderway}
 
 -- the parts of a text
 
