@@ -17,3 +17,5 @@ pub mod LimitLemmas
 pub mod StateLemmas
 pub mod AdditionLemmas
 pub mod StartLemmas
+pub mod FaultLemmas
+pub mod TypeLineLemmas

@@ -18,5 +18,6 @@ mod reflection;
 mod start;
 mod state;
 mod terms;
+mod type_lines;
 mod types;
 mod typing;

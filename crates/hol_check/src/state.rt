@@ -1,4 +1,7 @@
 // What the lines of a log have given so far, as numbers of tables.
+ghost use Rattle.std.specs.Prelude.{◌≡◌};
+ghost use Rattle.hol_model.specs.LogFaults.{is_first_version};
+ghost use Rattle.hol_logtext.specs.Lines.{version_of};
 ghost use Rattle.hol_check.specs.Terms.{TermTable};
 ghost use Rattle.hol_check.specs.State.{state_of, IsContents};
 ghost use Rattle.hol_check.specs.Judged.{FindsType, FindsTerm, FindsTheorem};
@@ -57,6 +60,16 @@ pub(crate) enum Addition {
     NewConstant(usize, usize),
     Claimed(ListedClaim),
     Ended,
+}
+
+/// Whether a log is of the first version.
+pub(crate) fn is_of_first_version(contents: &Contents) -> bool
+    ensures { result ≡ is_first_version (version_of contents.now.version) }
+{
+    match contents.version {
+        Version::First => true,
+        Version::Second => false,
+    }
 }
 
 /// The number in the tables of the type that a line names.
