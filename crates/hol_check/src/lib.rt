@@ -17,6 +17,7 @@ mod pairs;
 mod reflection;
 mod start;
 mod state;
+mod term_lines;
 mod terms;
 mod type_lines;
 mod types;
