@@ -19,3 +19,4 @@ pub mod Judged
 pub mod Added
 pub mod LogCode
 pub mod Log
+pub mod Steps

@@ -4,6 +4,7 @@
 mod addition;
 mod change;
 mod compare;
+mod equation;
 mod instance;
 mod known;
 mod leaves;
