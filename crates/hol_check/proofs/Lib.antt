@@ -17,3 +17,4 @@ pub mod LimitLemmas
 pub mod StateLemmas
 pub mod AdditionLemmas
 pub mod StartLemmas
+pub mod FormingLemmas

@@ -5,6 +5,7 @@ mod addition;
 mod change;
 mod compare;
 mod equation;
+mod forming;
 mod instance;
 mod known;
 mod leaves;
