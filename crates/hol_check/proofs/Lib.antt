@@ -18,3 +18,4 @@ pub mod StateLemmas
 pub mod AdditionLemmas
 pub mod StartLemmas
 pub mod FormingLemmas
+pub mod HypothesesLemmas

@@ -6,6 +6,7 @@ mod change;
 mod compare;
 mod equation;
 mod forming;
+mod hypotheses;
 mod instance;
 mod known;
 mod leaves;
