@@ -19,3 +19,5 @@ pub mod AdditionLemmas
 pub mod StartLemmas
 pub mod FaultLemmas
 pub mod TypeLineLemmas
+pub mod FormingLemmas
+pub mod HypothesesLemmas

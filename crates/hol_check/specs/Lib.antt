@@ -19,3 +19,5 @@ pub mod Judged
 pub mod Added
 pub mod LogCode
 pub mod Log
+pub mod Hypotheses
+pub mod Steps

@@ -4,6 +4,9 @@
 mod addition;
 mod change;
 mod compare;
+mod equation;
+mod forming;
+mod hypotheses;
 mod instance;
 mod known;
 mod leaves;
