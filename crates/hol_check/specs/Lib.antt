@@ -17,6 +17,7 @@ pub mod Known
 pub mod State
 pub mod Judged
 pub mod Added
+pub mod TermLines
 pub mod LogCode
 pub mod Log
 pub mod Hypotheses
