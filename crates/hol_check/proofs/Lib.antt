@@ -21,3 +21,4 @@ pub mod FaultLemmas
 pub mod TypeLineLemmas
 pub mod FormingLemmas
 pub mod HypothesesLemmas
+pub mod TermLineLemmas
