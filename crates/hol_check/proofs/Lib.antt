@@ -22,3 +22,4 @@ pub mod TypeLineLemmas
 pub mod FormingLemmas
 pub mod HypothesesLemmas
 pub mod TermLineLemmas
+pub mod EntryLineLemmas

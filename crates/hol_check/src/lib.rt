@@ -4,6 +4,7 @@
 mod addition;
 mod change;
 mod compare;
+mod entry_lines;
 mod equation;
 mod forming;
 mod hypotheses;

@@ -1,5 +1,6 @@
 // What the lines of a log have given so far, as numbers of tables.
-ghost use Rattle.std.specs.Prelude.{◌≡◌};
+ghost use Rattle.std.specs.Prelude.{◌≡◌, nat_le, length};
+ghost use Rattle.hol_model.specs.declared.limits.TheConstants.{DEFINITIONS_LIMIT};
 ghost use Rattle.hol_model.specs.LogFaults.{is_first_version};
 ghost use Rattle.hol_logtext.specs.Lines.{version_of};
 ghost use Rattle.hol_check.specs.Terms.{TermTable};
@@ -8,6 +9,7 @@ ghost use Rattle.hol_check.specs.Judged.{FindsType, FindsTerm, FindsTheorem};
 
 use crate::known::Known;
 use hol_logtext::Version;
+use hol_model::DEFINITIONS_LIMIT;
 
 /// A theorem: its hypotheses in the order of terms, each once, and its conclusion, by the numbers of terms.
 #[derive(Debug, Drop)]
@@ -70,6 +72,13 @@ pub(crate) fn is_of_first_version(contents: &Contents) -> bool
         Version::First => true,
         Version::Second => false,
     }
+}
+
+/// Whether there is no room for a further entry of the theory.
+pub(crate) fn is_full(contents: &Contents) -> bool
+    ensures { result ≡ nat_le DEFINITIONS_LIMIT (length contents.now.entries.items) }
+{
+    contents.entries.len() >= DEFINITIONS_LIMIT
 }
 
 /// The number in the tables of the type that a line names.
