@@ -23,3 +23,4 @@ pub mod FormingLemmas
 pub mod HypothesesLemmas
 pub mod TermLineLemmas
 pub mod EntryLineLemmas
+pub mod ClaimLineLemmas

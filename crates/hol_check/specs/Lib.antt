@@ -18,6 +18,7 @@ pub mod State
 pub mod Judged
 pub mod Added
 pub mod TermLines
+pub mod ClaimLines
 pub mod LogCode
 pub mod Log
 pub mod Hypotheses

@@ -3,6 +3,7 @@
 
 mod addition;
 mod change;
+mod claim_lines;
 mod compare;
 mod entry_lines;
 mod equation;
