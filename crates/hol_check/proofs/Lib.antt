@@ -24,3 +24,4 @@ pub mod HypothesesLemmas
 pub mod TermLineLemmas
 pub mod EntryLineLemmas
 pub mod ClaimLineLemmas
+pub mod TakeLemmas
