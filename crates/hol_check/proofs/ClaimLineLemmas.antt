@@ -41,7 +41,7 @@ same-numbers terms one [] (y ∷ ys) first second = refl
 same-numbers terms one (x ∷ xs) [] first second = refl
 same-numbers terms one (x ∷ xs) (y ∷ ys) first second =
     let here : nat_eq x y ≡ same_term (term_at terms x) (term_at terms y) =
-        same_term-same_number terms x y one (All-head (IsFitting terms) x xs first).within (All-head (IsFitting terms) y ys second).within in
+    same_term-same_number terms x y one (All-head (IsFitting terms) x xs first).within (All-head (IsFitting terms) y ys second).within in
     let rest : bytes_eq xs ys ≡ same_terms (terms_in terms xs) (terms_in terms ys) = same-numbers terms one xs ys (All-tail (IsFitting terms) x xs first) (All-tail (IsFitting terms) y ys second) in
     λ i. here i && rest i
 
@@ -59,7 +59,6 @@ none-numbered state lines terms numbers none = record {
 }
 
 module _ (state : LogState) (lines : List ℕ) (index line : ℕ) (within : index < length lines) (is : line ≡ get_or lines index 0) (terms : List Nameless) (numbers : List ℕ) (numbered : AreNumbered state lines index terms numbers) where
-
   here : drop index lines ≡ line ∷ drop (index + 1) lines
   here = drop-here lines index line within is
 

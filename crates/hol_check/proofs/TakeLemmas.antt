@@ -38,7 +38,6 @@ first-none (test ∷ tests) rest none = go test.0 none (first-none tests rest)
     go false none later = later none
 
 module _ (state : LogState) (line : LogLine) where
-
   -- all tests but that for `end`
   abbrev earlier-tests : List (Bool × Cause)
   earlier-tests =
