@@ -23,3 +23,11 @@ pub mod CheckingLemmas
 pub mod MigrationLemmas
 pub mod HeaderLemmas
 pub mod ReportLemmas
+pub mod FaultLemmas
+pub mod TypeLineLemmas
+pub mod FormingLemmas
+pub mod HypothesesLemmas
+pub mod TermLineLemmas
+pub mod EntryLineLemmas
+pub mod ClaimLineLemmas
+pub mod TakeLemmas

@@ -63,7 +63,7 @@ from_text number state text = from_line text.rest text.lines number state
 
 taken_line : (text : LogText) (number : ℕ) (state now : LogState) (found : ReadLine) → IsTakenText state found (Ok tt) now
     → from_text number state (with_line found text) ≡ from_text (number + 1) now text
-taken_line text number state now (Some line) taken = rw (taken.0, taken.1) refl
+taken_line text number state now (Some line) taken = rw (taken.accepted, taken.after) refl
 taken_line text number state now None taken = absurd taken
 
 refused_line : (text : LogText) (number : ℕ) (state now : LogState) (found : ReadLine) (cause : Cause) → IsTakenText state found (Err cause) now

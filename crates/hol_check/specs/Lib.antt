@@ -18,6 +18,9 @@ pub mod Reading
 pub mod State
 pub mod Judged
 pub mod Added
+pub mod TermLines
+pub mod ClaimLines
+pub mod Taken
 pub mod LogCode
 pub mod Log
 pub mod LogAnswers
@@ -26,3 +29,5 @@ pub mod Claims
 pub mod Checking
 pub mod Migration
 pub mod Report
+pub mod Hypotheses
+pub mod Steps

@@ -1,16 +1,14 @@
 -- How a whole log is judged line by line.
-use Rattle.std.specs.Prelude.{◌≡◌, ℕ, ◌+◌, List, [], ◌∷◌, ◌++◌, Option, Some, None, Result, Ok, Err}
+use Rattle.std.specs.Prelude.{◌≡◌, ℕ, List, ◌++◌, Option, Some, None, Result, Ok, Err}
 use Rattle.hol_model.specs.declared.fault.Fault.{Fault}
 use Rattle.hol_model.specs.declared.fault.Fault.TheVariants.{Memory, ReadFault, TooLong, LogFault}
 use Rattle.hol_model.specs.declared.fault.Cause.{Cause}
 use Rattle.hol_model.specs.declared.fault.Cause.TheVariants.{Shape}
-use Rattle.hol_model.specs.LogLine.{LogLine}
 use Rattle.hol_model.specs.LogState.{LogState}
-use Rattle.hol_model.specs.LogSequents.{after_line}
-use Rattle.hol_model.specs.LogFaults.{first_cause}
 use Rattle.hol_model.specs.LogText.{ReadLine, LogOutcome, from_line, at_last, log_outcome}
 use Rattle.hol_logtext.specs.LineReading.{read_text}
 use Rattle.hol_logtext.specs.LogBytes.{log_text, last_part}
+use Rattle.hol_check.specs.Taken.{IsTaken}
 use Rattle.hol_check.specs.Reading.{Unread, IsUnread, IsRead}
 
 -- the answer of the bytes of a whole log
@@ -21,14 +19,9 @@ log_answer bytes = log_outcome (log_text bytes)
 abbrev pub answer_from : ℕ → LogState → List ℕ → LogOutcome
 answer_from number state bytes = let text = log_text bytes in from_line text.rest text.lines number state
 
--- the answer for a line: it is accepted and leads to the new state, or it is refused for its first cause
-abbrev pub IsTaken : LogState → LogLine → Result (Unit {0}) Cause → LogState → Type 0
-IsTaken state line (Ok done) now = (first_cause state line ≡ None) × (now ≡ after_line state line)
-IsTaken state line (Err cause) now = first_cause state line ≡ Some cause
-
--- the same for the text of a line, which may have no form
+-- the answer for the text of a line, which may have no form
 abbrev pub IsTakenText : LogState → ReadLine → Result (Unit {0}) Cause → LogState → Type 0
-IsTakenText state (Some line) answer now = IsTaken state line answer now
+IsTakenText state (Some line) answer now = IsTaken state line now answer
 IsTakenText state None (Ok done) now = ⊥
 IsTakenText state None (Err cause) now = cause ≡ Shape
 
