@@ -45,3 +45,6 @@ pub use claim::{Claim, text_of_claim};
 pub use laws::migration_keeps_claims;
 pub use migrating::{migrate, migration};
 pub use report::write_claims;
+
+#[cfg(test)]
+mod tests;

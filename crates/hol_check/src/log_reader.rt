@@ -46,7 +46,11 @@ fn end(log: &Log, line: &[u8], number: u64) -> Result<(), Cause>
     if !line.is_empty() {
         return Err(Cause::Cut);
     }
-    if log.is_ended() { Ok(()) } else { Err(Cause::End) }
+    if log.is_ended() {
+        Ok(())
+    } else {
+        Err(Cause::End)
+    }
 }
 
 // The fault of a line that is refused, once the text is read to its end.

@@ -32,11 +32,7 @@ fn write_claim<W: Sink>(alloc: Global, claim: &Claim, writer: &mut W) -> Result<
 }
 
 /// Writes a line for each claim. Refusals: WriteFault, where the sink fails; Memory, for the text of a claim.
-pub fn write_claims<W: Sink>(
-    alloc: Global,
-    claims: &[Claim],
-    writer: &mut W,
-) -> Result<(), Fault>
+pub fn write_claims<W: Sink>(alloc: Global, claims: &[Claim], writer: &mut W) -> Result<(), Fault>
     requires unfailed { W.has_failed writer.old ≡ false }
     ensures ok { OnOk result (Appends (W.contents writer.old) (W.contents writer.new) (claim_lines claims.now)) }
     ensures unfailed { OnOk result (W.has_failed writer.new ≡ false) }
