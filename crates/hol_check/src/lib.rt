@@ -20,6 +20,7 @@ mod pairs;
 mod reflection;
 mod start;
 mod state;
+mod steps;
 mod terms;
 mod types;
 mod typing;
