@@ -19,3 +19,4 @@ pub mod AdditionLemmas
 pub mod StartLemmas
 pub mod FormingLemmas
 pub mod HypothesesLemmas
+pub mod StepLemmas
