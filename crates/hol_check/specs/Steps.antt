@@ -1,6 +1,7 @@
 -- What the steps of a proof log make of earlier theorems, by numbers.
 use Rattle.std.specs.Prelude.{◌≡◌, ◌⊎◌, ◌<◌, ℕ, List, [], ◌∷◌, ◌++◌, Bool, true, false, not, ◌&&◌, ◌||◌, map, Option, Some, None, Result, Ok, Err, slice_get, IfOk, IfErr}
 use Rattle.std.specs.List.{All, list_all}
+use Rattle.std.proofs.Common.{Vec, Global}
 use Rattle.hol_model.specs.declared.fault.Fault.{Fault}
 use Rattle.hol_model.specs.declared.fault.Fault.TheVariants.{Memory, TooLarge}
 use Rattle.hol_model.specs.declared.fault.Cause.{Cause}
@@ -47,6 +48,12 @@ pub record IsFormed (wanted : Nameless) (result : Result ℕ Fault) (terms : Lis
   pub number : IfOk result (λ new. slice_get terms new ≡ Some wanted)
   pub fits : IfOk result (λ _. nameless_within_limits wanted ≡ true)
   pub refused : IfErr result (λ fault. (fault ≡ Memory) ⊎ ((fault ≡ TooLarge) × (nameless_within_limits wanted ≡ false)))
+
+-- the same of a list of terms
+pub record AreFormed (wanted : List Nameless) (result : Result (Vec ℕ Global) Fault) (terms : List Nameless) : Type 0 where
+  pub named : IfOk result (λ news. terms_in terms news.items ≡ wanted)
+  pub fitting : IfOk result (λ news. All (IsFitting terms) news.items)
+  pub refused : IfErr result (λ fault. (fault ≡ Memory) ⊎ ((fault ≡ TooLarge) × (list_all nameless_within_limits wanted ≡ false)))
 
 -- the numbers are those of the terms in order, each once, and these are within the limits
 pub record AreInOrder (terms : List Nameless) (numbers : List ℕ) (wanted : List Nameless) : Type 0 where
@@ -127,6 +134,10 @@ abbrev pub deduct_step : Sequent → Sequent → Step
 deduct_step first second =
     plain
     (supposing (without second.conclusion first.hypotheses ++ without first.conclusion second.hypotheses) (equation_of first.conclusion second.conclusion))
+
+-- each term is changed
+abbrev pub changed_step : (Nameless → Nameless) → Sequent → Step
+changed_step change premise = plain (supposing (map change premise.hypotheses) (change premise.conclusion))
 
 abbrev pub inst_step : Sequent → List (Nameless × Nameless) → Step
 inst_step premise pairs =
