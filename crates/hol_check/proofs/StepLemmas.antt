@@ -26,7 +26,7 @@ use Rattle.hol_check.specs.declared.leaves.Change.{Change}
 use Rattle.hol_check.specs.Terms.{TermTable, term_at, IsGrown}
 use Rattle.hol_check.specs.Hypotheses.{terms_in}
 use Rattle.hol_check.specs.State.{sequent_in, IsFitting, IsFittingTheorem}
-use Rattle.hol_check.specs.Steps.{AreInOrder, IsFormed, Step, step_cause, ruled, typed, plain, IsTaken, Takes}
+use Rattle.hol_check.specs.Steps.{AreInOrder, IsFormed, AreFormed, Step, step_cause, ruled, typed, plain, IsTaken, Takes}
 use Rattle.hol_check.specs.declared.state.Theorem.{Theorem}
 use Rattle.hol_check.proofs.TableLemmas.{is_within}
 use Rattle.hol_check.proofs.ChangeLemmas.{term-there, term-grown, place-grown}
@@ -104,6 +104,9 @@ formed-earlier earlier now n grows fitting = record {
   fits = fitting.fits;
   refused = tt;
 }
+
+pub refused-made : (wanted : Nameless) (fault : Fault) (terms : List Nameless) → IsMade wanted (Err fault) terms → IsFormed wanted (Err fault) terms
+refused-made wanted fault terms made = record { number = tt; fits = tt; refused = made.refused }
 
 -- a side that passes a limit makes the equation pass it
 pub right-refused : (left right : Nameless) (fault : Fault) (now : List Nameless) → IsMade right (Err fault) now → IsFormed (equation_of left right) (Err fault) now
@@ -220,3 +223,7 @@ hypotheses-large now wanted formed past = record {
     second-fails : (p q : Bool) → q ≡ false → (p && q) ≡ false
     second-fails true q failed = failed
     second-fails false q failed = refl
+
+-- a list that was refused for a limit passes it
+pub large-only : (wanted : List Nameless) (terms : List Nameless) → AreFormed wanted (Err TooLarge) terms → list_all nameless_within_limits wanted ≡ false
+large-only wanted terms formed = elim formed.refused [ inl memory ↦ cc | inr large ↦ large.1 ]

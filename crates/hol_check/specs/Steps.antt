@@ -49,7 +49,17 @@ pub record IsFormed (wanted : Nameless) (result : Result ℕ Fault) (terms : Lis
   pub fits : IfOk result (λ _. nameless_within_limits wanted ≡ true)
   pub refused : IfErr result (λ fault. (fault ≡ Memory) ⊎ ((fault ≡ TooLarge) × (nameless_within_limits wanted ≡ false)))
 
--- the same of a list of terms
+-- the wanted type or term has the number; only memory that is used up refuses it
+pub record IsNamedType (wanted : HolType) (result : Result ℕ Fault) (types : List HolType) : Type 0 where
+  pub number : IfOk result (λ ty. slice_get types ty ≡ Some wanted)
+  pub refused : IfErr result (λ fault. fault ≡ Memory)
+
+pub record IsNamed (wanted : Nameless) (result : Result ℕ Fault) (terms : List Nameless) : Type 0 where
+  pub number : IfOk result (λ new. slice_get terms new ≡ Some wanted)
+  pub refused : IfErr result (λ fault. fault ≡ Memory)
+
+-- the wanted terms are within the limits and have the numbers; only memory that is used up, or a limit that one of them
+-- passes, refuses them
 pub record AreFormed (wanted : List Nameless) (result : Result (Vec ℕ Global) Fault) (terms : List Nameless) : Type 0 where
   pub named : IfOk result (λ news. terms_in terms news.items ≡ wanted)
   pub fitting : IfOk result (λ news. All (IsFitting terms) news.items)
