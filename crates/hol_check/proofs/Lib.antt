@@ -20,3 +20,4 @@ pub mod StartLemmas
 pub mod FormingLemmas
 pub mod HypothesesLemmas
 pub mod StepLemmas
+pub mod AxiomLemmas
