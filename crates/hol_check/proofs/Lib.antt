@@ -21,3 +21,4 @@ pub mod FormingLemmas
 pub mod HypothesesLemmas
 pub mod StepLemmas
 pub mod AxiomLemmas
+pub mod JudgedSteps

@@ -16,8 +16,8 @@ use Rattle.hol_model.specs.Checks.{has_no_free, reflects_nameless}
 use Rattle.hol_model.specs.Goals.{Sequent}
 use Rattle.hol_model.specs.LogLine.{LogRule}
 use Rattle.hol_model.specs.LogState.{LogState, set_of, term_type}
-use Rattle.hol_model.specs.LogSequents.{is_free_variable, is_equation, left_side, right_side, side_type, redex_body, equation_of, abstraction_over, term_instance_of, supposing, sequent_of}
-use Rattle.hol_model.specs.LogFaults.{takes, is_replacement, is_free_in_any, is_trivial_redex, sequent_fits, first_applying, rule_has_name_fault, rule_has_type_fault, rule_has_rule_fault}
+use Rattle.hol_model.specs.LogSequents.{is_free_variable, is_equation, left_side, right_side, side_type, redex_body, equation_of, abstraction_over, term_instance_of, supposing, sequent_of, rule_entries}
+use Rattle.hol_model.specs.LogFaults.{takes, is_replacement, is_free_in_any, is_trivial_redex, sequent_fits, first_applying, rule_has_number_fault, rule_has_name_fault, rule_has_type_fault, rule_has_rule_fault}
 use Rattle.hol_check.specs.Terms.{term_at}
 use Rattle.hol_check.specs.Hypotheses.{terms_in}
 use Rattle.hol_check.specs.State.{sequent_in, IsFitting, IsFittingTheorem}
@@ -87,6 +87,12 @@ step_of state rule = record {
   has_rule_fault = rule_has_rule_fault state rule;
   sequent = sequent_of state rule;
 }
+
+-- the numbers of a rule name terms and theorems, and with these it is the step; it defines nothing
+pub record IsStep (state : LogState) (rule : LogRule) (step : Step) : Type 0 where
+  pub numbers : rule_has_number_fault state rule ≡ false
+  pub is_step : step_of state rule ≡ step
+  pub entries : rule_entries state rule ≡ []
 
 -- why a step is refused, where it is
 abbrev pub step_cause : Step → Option Cause

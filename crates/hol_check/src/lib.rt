@@ -20,6 +20,7 @@ mod pairs;
 mod reflection;
 mod start;
 mod state;
+mod step;
 mod steps;
 mod terms;
 mod types;
