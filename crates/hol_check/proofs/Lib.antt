@@ -17,8 +17,13 @@ pub mod LimitLemmas
 pub mod StateLemmas
 pub mod AdditionLemmas
 pub mod StartLemmas
+pub mod FaultLemmas
+pub mod TypeLineLemmas
 pub mod FormingLemmas
 pub mod HypothesesLemmas
 pub mod StepLemmas
 pub mod AxiomLemmas
 pub mod JudgedSteps
+pub mod TermLineLemmas
+pub mod EntryLineLemmas
+pub mod ClaimLineLemmas

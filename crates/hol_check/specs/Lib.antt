@@ -17,6 +17,8 @@ pub mod Known
 pub mod State
 pub mod Judged
 pub mod Added
+pub mod TermLines
+pub mod ClaimLines
 pub mod LogCode
 pub mod Log
 pub mod Hypotheses

@@ -3,7 +3,9 @@
 
 mod addition;
 mod change;
+mod claim_lines;
 mod compare;
+mod entry_lines;
 mod equation;
 mod forming;
 mod hypotheses;
@@ -22,6 +24,8 @@ mod start;
 mod state;
 mod step;
 mod steps;
+mod term_lines;
 mod terms;
+mod type_lines;
 mod types;
 mod typing;
