@@ -27,3 +27,4 @@ pub mod JudgedSteps
 pub mod TermLineLemmas
 pub mod EntryLineLemmas
 pub mod ClaimLineLemmas
+pub mod InstanceLemmas

@@ -23,3 +23,4 @@ pub mod LogCode
 pub mod Log
 pub mod Hypotheses
 pub mod Steps
+pub mod StepPairs

@@ -387,3 +387,21 @@ pub(crate) fn is_formula(terms: &mut Terms, number: usize) -> Result<bool, Fault
         Err(fault) => Err(fault),
     }
 }
+
+/// Whether two terms within the limits have one type.
+pub(crate) fn have_one_type(terms: &mut Terms, first: usize, second: usize) -> Result<bool, Fault>
+    requires first { IsFitting terms.old.terms first }
+    requires second { IsFitting terms.old.terms second }
+    ensures one { IfOk result (λ answer. answer ≡ type_eq (term_type (term_at terms.old.terms first)) (term_type (term_at terms.old.terms second))) }
+    ensures refused { IfErr result (λ fault. fault ≡ Memory) }
+    ensures grows { IsGrown terms.old terms.new }
+{
+    let first_ty = match type_of(terms, first) {
+        Ok(first_ty) => first_ty,
+        Err(_fault) => return Err(Fault::Memory),
+    };
+    match type_of(terms, second) {
+        Ok(second_ty) => Ok(terms.is_same_type(first_ty, second_ty)),
+        Err(_fault) => Err(Fault::Memory),
+    }
+}
