@@ -28,3 +28,4 @@ pub mod TermLineLemmas
 pub mod EntryLineLemmas
 pub mod ClaimLineLemmas
 pub mod InstanceLemmas
+pub mod StepPairLemmas

@@ -24,3 +24,4 @@ pub mod Log
 pub mod Hypotheses
 pub mod Steps
 pub mod StepPairs
+pub mod Definitions

@@ -171,6 +171,14 @@ eta_step = plain (supposing [] eta_axiom)
 abbrev pub select_step : Step
 select_step = plain (supposing (select_hypothesis ∷ []) select_conclusion)
 
+-- what a constant of a type may be defined as
+abbrev pub is_definable : HolType → Nameless → Bool
+is_definable ty body = has_no_free body && reflects_nameless ty body
+
+-- the definition of a constant of a new name
+abbrev pub definition_step : List ℕ → Nameless → Step
+definition_step name body = ruled (not (is_definable (term_type body) body)) (supposing [] (equation_of (const name (term_type body)) body))
+
 -- what a step answers
 
 abbrev pub IsTaken : Step → List Nameless → Result Theorem Cause → Type 0

@@ -23,6 +23,7 @@ mod reflection;
 mod start;
 mod state;
 mod step;
+mod step_pairs;
 mod steps;
 mod term_lines;
 mod terms;
