@@ -29,3 +29,4 @@ pub mod EntryLineLemmas
 pub mod ClaimLineLemmas
 pub mod InstanceLemmas
 pub mod StepPairLemmas
+pub mod DefinitionLemmas

@@ -47,10 +47,10 @@ fits-conclusion : (hypotheses : List Nameless) (conclusion : Nameless) → list_
     → (nameless_within_limits conclusion && list_all nameless_within_limits hypotheses) ≡ true
 fits-conclusion hypotheses conclusion all fits = ap (λ b. b && list_all nameless_within_limits hypotheses) fits ∙ all
 
-no_cause : (sequent : Sequent) → sequent_fits sequent ≡ true → step_cause (plain sequent) ≡ None
+pub no_cause : (sequent : Sequent) → sequent_fits sequent ≡ true → step_cause (plain sequent) ≡ None
 no_cause sequent fits = ap (λ b. if not b then Some Large else None) fits
 
-large_cause : (sequent : Sequent) → sequent_fits sequent ≡ false → step_cause (plain sequent) ≡ Some Large
+pub large_cause : (sequent : Sequent) → sequent_fits sequent ≡ false → step_cause (plain sequent) ≡ Some Large
 large_cause sequent past = ap (λ b. if not b then Some Large else None) past
 
 -- the hypotheses and the conclusion that were made are those of the step

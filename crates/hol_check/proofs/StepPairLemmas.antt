@@ -62,11 +62,11 @@ module _ {Value : Type 0} (missing : ℕ × ℕ → Bool) (at here : ℕ × ℕ 
 
 abbrev pub AreTermsPaired : LogState → List Nameless → List (ℕ × ℕ) → ℕ → List (ℕ × ℕ) → Type 0
 AreTermsPaired state terms =
-    ArePaired (λ pair. is_no_term state pair.0 || is_no_term state pair.1) (λ pair. (given.term_at state pair.0, given.term_at state pair.1)) (λ pair. (term_at terms pair.0, term_at terms pair.1)) (IsFittingPair terms)
+    ArePaired {Value = Nameless × Nameless} (λ pair. is_no_term state pair.0 || is_no_term state pair.1) (λ pair. (given.term_at state pair.0, given.term_at state pair.1)) (λ pair. (term_at terms pair.0, term_at terms pair.1)) (IsFittingPair terms)
 
 abbrev pub AreTypesPaired : LogState → List HolType → List (ℕ × ℕ) → ℕ → List (ℕ × ℕ) → Type 0
 AreTypesPaired state types =
-    ArePaired (λ pair. is_no_type state pair.0 || is_no_type state pair.1) (λ pair. (given.type_at state pair.0, given.type_at state pair.1)) (λ pair. (type_at types pair.0, type_at types pair.1)) (IsTypePair types)
+    ArePaired {Value = HolType × HolType} (λ pair. is_no_type state pair.0 || is_no_type state pair.1) (λ pair. (given.type_at state pair.0, given.type_at state pair.1)) (λ pair. (type_at types pair.0, type_at types pair.1)) (IsTypePair types)
 
 neither-true : (p q : Bool) → p ≡ false → q ≡ false → (p || q) ≡ false
 neither-true p q first second = grind arith
@@ -74,23 +74,23 @@ neither-true p q first second = grind arith
 pub terms-paired : (state : LogState) (terms : List Nameless) (lines : List (ℕ × ℕ)) (index : ℕ) (pairs now : List (ℕ × ℕ)) (new old : ℕ) → index < length lines → AreTermsPaired state terms lines index pairs
     → NamesTerm state (get_or lines index (0, 0)).0 terms new → NamesTerm state (get_or lines index (0, 0)).1 terms old → now ≡ pairs ++ (new, old) ∷ [] → AreTermsPaired state terms lines (index + 1) now
 terms-paired state terms lines index pairs now new old within paired one two pushed =
-    one-paired _ _ _ (IsFittingPair terms) lines index (0, 0) within pairs paired (new, old) now (neither-true _ _ one.is_there two.is_there) (λ i. (one.named i, two.named i)) (record { new = one.fits; old = two.fits }) pushed
+    one-paired {Value = Nameless × Nameless} (λ pair. is_no_term state pair.0 || is_no_term state pair.1) (λ pair. (given.term_at state pair.0, given.term_at state pair.1)) (λ pair. (term_at terms pair.0, term_at terms pair.1)) (IsFittingPair terms) lines index (0, 0) within pairs paired (new, old) now (neither-true _ _ one.is_there two.is_there) (λ i. (one.named i, two.named i)) (record { new = one.fits; old = two.fits }) pushed
 
 pub types-paired : (state : LogState) (types : List HolType) (lines : List (ℕ × ℕ)) (index : ℕ) (pairs now : List (ℕ × ℕ)) (new old : ℕ) → index < length lines → AreTypesPaired state types lines index pairs
     → NamesType state (get_or lines index (0, 0)).0 types new → NamesType state (get_or lines index (0, 0)).1 types old → now ≡ pairs ++ (new, old) ∷ [] → AreTypesPaired state types lines (index + 1) now
 types-paired state types lines index pairs now new old within paired one two pushed =
-    one-paired _ _ _ (IsTypePair types) lines index (0, 0) within pairs paired (new, old) now (neither-true _ _ one.is_there two.is_there) (λ i. (one.named i, two.named i)) (record { new = one.within; old = two.within }) pushed
+    one-paired {Value = HolType × HolType} (λ pair. is_no_type state pair.0 || is_no_type state pair.1) (λ pair. (given.type_at state pair.0, given.type_at state pair.1)) (λ pair. (type_at types pair.0, type_at types pair.1)) (IsTypePair types) lines index (0, 0) within pairs paired (new, old) now (neither-true _ _ one.is_there two.is_there) (λ i. (one.named i, two.named i)) (record { new = one.within; old = two.within }) pushed
 
 pub all-terms-paired : (state : LogState) (terms : List Nameless) (lines : List (ℕ × ℕ)) (index : ℕ) (pairs : List (ℕ × ℕ)) → length lines ≤ index → AreTermsPaired state terms lines index pairs → NamesTermPairs state lines terms pairs
 all-terms-paired state terms lines index pairs past paired = record {
-  are_there = all-paired-there _ _ _ (IsFittingPair terms) lines index pairs past paired;
-  named = all-paired-named _ _ _ (IsFittingPair terms) lines index pairs past paired;
+  are_there = all-paired-there {Value = Nameless × Nameless} (λ pair. is_no_term state pair.0 || is_no_term state pair.1) (λ pair. (given.term_at state pair.0, given.term_at state pair.1)) (λ pair. (term_at terms pair.0, term_at terms pair.1)) (IsFittingPair terms) lines index pairs past paired;
+  named = all-paired-named {Value = Nameless × Nameless} (λ pair. is_no_term state pair.0 || is_no_term state pair.1) (λ pair. (given.term_at state pair.0, given.term_at state pair.1)) (λ pair. (term_at terms pair.0, term_at terms pair.1)) (IsFittingPair terms) lines index pairs past paired;
   fitting = paired.fitting;
 }
 
 pub all-types-paired : (state : LogState) (types : List HolType) (lines : List (ℕ × ℕ)) (index : ℕ) (pairs : List (ℕ × ℕ)) → length lines ≤ index → AreTypesPaired state types lines index pairs → NamesTypePairs state lines types pairs
 all-types-paired state types lines index pairs past paired = record {
-  are_there = all-paired-there _ _ _ (IsTypePair types) lines index pairs past paired;
-  named = all-paired-named _ _ _ (IsTypePair types) lines index pairs past paired;
+  are_there = all-paired-there {Value = HolType × HolType} (λ pair. is_no_type state pair.0 || is_no_type state pair.1) (λ pair. (given.type_at state pair.0, given.type_at state pair.1)) (λ pair. (type_at types pair.0, type_at types pair.1)) (IsTypePair types) lines index pairs past paired;
+  named = all-paired-named {Value = HolType × HolType} (λ pair. is_no_type state pair.0 || is_no_type state pair.1) (λ pair. (given.type_at state pair.0, given.type_at state pair.1)) (λ pair. (type_at types pair.0, type_at types pair.1)) (IsTypePair types) lines index pairs past paired;
   within = paired.fitting;
 }
