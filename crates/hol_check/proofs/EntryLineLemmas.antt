@@ -58,7 +58,7 @@ unknown : (found : Option HolType) → is_some found ≡ false → found ≡ Non
 unknown None is = refl
 unknown (Some ty) is = cc
 
-no-type : (theory : Theory) (name : List ℕ) → is_new_name theory name ≡ true → generic_type theory name ≡ None
+pub no-type : (theory : Theory) (name : List ℕ) → is_new_name theory name ≡ true → generic_type theory name ≡ None
 no-type theory name is = unknown (generic_type theory name) (new-first (is_some (generic_type theory name)) (is_declared theory name) is)
 
 both : (p q : Bool) → p ≡ true → q ≡ true → not (p && q) ≡ false
@@ -69,7 +69,6 @@ not-second p q one two = cc
 
 -- a line with a new name, while the tables grow
 module _ (t0 t1 : TermTable) (contents : Contents) (is : IsContents t0 contents) (name : List ℕ) (number : ℕ) (grown : IsGrown t0 t1) (named : slice_get t1.names number ≡ Some name) (second : is_first_version (version_of contents.version) ≡ false) where
-
   theory : Theory
   theory = theory_in t0 contents.entries.items
 
@@ -109,7 +108,6 @@ module _ (t0 t1 : TermTable) (contents : Contents) (is : IsContents t0 contents)
   }
 
   module _ (line ty : ℕ) (type_named : NamesType (state_of t0 contents) line t0.types ty) (legal : is_constant_name name ≡ true) where
-
     type-is : given.type_at (state_of t0 contents) line ≡ type_at t1.types ty
     type-is = type_named.named ∙ sym (type-grown t0.types t1.types ty grown.types type_named.within)
 
@@ -121,7 +119,6 @@ module _ (t0 t1 : TermTable) (contents : Contents) (is : IsContents t0 contents)
     }
 
     module _ (new : is_new_name (theory_in t0 contents.entries.items) (name_at t1.names number) ≡ true) where
-
       named-well : not (is_constant_name name && is_new_name (theory_in t0 contents.entries.items) name) ≡ false
       named-well = both (is_constant_name name) (is_new_name (theory_in t0 contents.entries.items) name) legal (same-name ∙ new)
 

@@ -22,7 +22,6 @@ applies : (test : Bool) (cause : Cause) (rest : List (Bool × Cause)) → test �
 applies test cause rest holds = ap (λ b. if b then Some cause else first_applying rest) holds
 
 module _ (state : LogState) (line : LogLine) where
-
   -- the tests from each cause on
   abbrev after-claim : List (Bool × Cause)
   after-claim = (has_size_fault state line, Large) ∷ []

@@ -15,6 +15,8 @@ use Rattle.hol_model.specs.LogFaults.{rule_has_number_fault, rule_has_name_fault
 use Rattle.hol_check.specs.Terms.{TermTable, term_at, IsGrown}
 use Rattle.hol_check.specs.State.{sequent_in, state_of, entry_in}
 use Rattle.hol_check.specs.Judged.{NamesTerm, NamesTheorem, first_fault, IsAccepted, Judges}
+use Rattle.hol_check.specs.StepPairs.{term_pairs_in, type_pairs_in, NamesTermPairs, NamesTypePairs}
+use Rattle.hol_model.specs.HolType.{HolType}
 use Rattle.hol_check.specs.Steps as steps
 use Rattle.hol_check.specs.Steps.{Step, IsStep, step_of, step_cause, IsTaken, Takes}
 use Rattle.hol_check.specs.declared.state.Theorem.{Theorem}
@@ -96,6 +98,14 @@ module _ (state : LogState) (terms : List Nameless) where
 
   pub deduct-step : (i j : ℕ) (first second : Theorem) → NamesTheorem state i terms first → NamesTheorem state j terms second → IsStep state (deduct_step i j) (steps.deduct_step (sequent_in terms first) (sequent_in terms second))
   deduct-step i j first second one two = record { numbers = neither-true _ _ one.is_there two.is_there; is_step = λ k. steps.deduct_step (one.named k) (two.named k); entries = refl }
+
+  pub inst-step : (i : ℕ) (lines pairs : List (ℕ × ℕ)) (premise : Theorem) → NamesTheorem state i terms premise → NamesTermPairs state lines terms pairs
+      → IsStep state (inst_step i lines) (steps.inst_step (sequent_in terms premise) (term_pairs_in terms pairs))
+  inst-step i lines pairs premise one two = record { numbers = neither-true _ _ one.is_there two.are_there; is_step = λ k. steps.inst_step (one.named k) (two.named k); entries = refl }
+
+  pub inst_type-step : (types : List HolType) (i : ℕ) (lines pairs : List (ℕ × ℕ)) (premise : Theorem) → NamesTheorem state i terms premise → NamesTypePairs state lines types pairs
+      → IsStep state (inst_type_step i lines) (steps.inst_type_step (sequent_in terms premise) (type_pairs_in types pairs))
+  inst_type-step types i lines pairs premise one two = record { numbers = neither-true _ _ one.is_there two.are_there; is_step = λ k. steps.inst_type_step (one.named k) (two.named k); entries = refl }
 
 pub eta-step : (state : LogState) → IsStep state eta_step steps.eta_step
 eta-step state = record { numbers = refl; is_step = refl; entries = refl }

@@ -30,3 +30,5 @@ pub mod ClaimLineLemmas
 pub mod InstanceLemmas
 pub mod StepPairLemmas
 pub mod DefinitionLemmas
+pub mod TakeLemmas
+pub mod JudgedDefinitions

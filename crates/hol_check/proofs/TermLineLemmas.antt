@@ -50,7 +50,6 @@ pub record AddsOneTerm (state : LogState) (line : LogLine) (wanted : Nameless) :
   pub ends : ends line ≡ false
 
 module _ (state : LogState) (line : LogLine) (wanted : Nameless) (adds : AddsOneTerm state line wanted) (theory_fits : nat_le (0 + length state.theory) DEFINITIONS_LIMIT ≡ true) where
-
   size : has_size_fault state line ≡ not (true && (nameless_within_limits wanted && true) && true && nat_le (0 + length state.theory) DEFINITIONS_LIMIT)
   size = λ i. not (list_all type_fits (adds.types i) && list_all nameless_within_limits (adds.terms i) && list_all sequent_fits (adds.theorems i) && nat_le (length (adds.entries i) + length state.theory) DEFINITIONS_LIMIT)
 
@@ -174,7 +173,6 @@ adds-abstraction state binder body v b first second binder_is body_is is = recor
 -- a combination's parts, while the tables grow
 module _ (t0 t1 t2 : TermTable) (contents : Contents) (function argument f a function_ty argument_ty : ℕ) (first : NamesTerm (state_of t0 contents) function t0.terms f) (second : NamesTerm (state_of t0 contents) argument t0.terms a) (one : IsGrown t0 t1) (two : IsGrown t1 t2)
     (function_typed : slice_get t1.types function_ty ≡ Some (nameless_type [] (term_at t0.terms f))) (argument_typed : slice_get t2.types argument_ty ≡ Some (nameless_type [] (term_at t1.terms a))) where
-
   both-grown : IsGrown t0 t2
   both-grown = IsGrown-trans t0 t1 t2 one two
 
@@ -212,7 +210,6 @@ memory-made wanted (Err fault) terms made refused = record { number = tt; refuse
 
 -- a constant, while the tables grow
 module _ (t0 t1 : TermTable) (contents : Contents) (name : List ℕ) (line number ty : ℕ) (type_named : NamesType (state_of t0 contents) line t0.types ty) (grown : IsGrown t0 t1) (named : slice_get t1.names number ≡ Some name) where
-
   type-is : given.type_at (state_of t0 contents) line ≡ type_at t1.types ty
   type-is = type_named.named ∙ sym (type-grown t0.types t1.types ty grown.types type_named.within)
 
