@@ -31,3 +31,5 @@ pub mod Migration
 pub mod Report
 pub mod Hypotheses
 pub mod Steps
+pub mod StepPairs
+pub mod Definitions

@@ -32,6 +32,8 @@ mod report;
 mod start;
 mod state;
 mod step;
+mod step_pairs;
+mod steps;
 mod take;
 mod term_lines;
 mod terms;
