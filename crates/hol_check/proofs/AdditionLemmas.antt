@@ -76,7 +76,6 @@ added-term table contents terms number is fitting pushed = record {
 
 -- claims keep their theorems as theorems are added
 module _ (table : TermTable) (theorems now : List Theorem) (theorem : Theorem) (pushed : now ≡ theorems ++ theorem ∷ []) where
-
   sequents-pushed : map (sequent_in table.terms) now ≡ map (sequent_in table.terms) theorems ++ sequent_in table.terms theorem ∷ []
   sequents-pushed = ap (map (sequent_in table.terms)) pushed ∙ map_push (sequent_in table.terms) theorems theorem
 
@@ -196,7 +195,7 @@ gives-definition table contents name ty body new = record { name_within = new.na
 -- a definition whose theorem found no room
 pub defined-kept : (result : Result (Unit {0}) Fault) (contents mid now : Contents) (name ty body : ℕ) (theorem : Theorem) → theorem.hypotheses.items ≡ []
     → ((table : TermTable) → IsContents table contents → HasEntryParts table (Definition name ty body) → GivesConstant table (entry_in table (Definition name ty body)) (theory_in table contents.entries.items) name ty → HasRoom contents
-      → IsEntered table contents (Definition name ty body) mid)
+    → IsEntered table contents (Definition name ty body) mid)
     → OnErr result ((table : TermTable) → IsContents table mid → CanBeAdded table mid (Proved theorem) → IsContents table now)
     → OnErr result ((table : TermTable) → IsContents table contents → CanBeAdded table contents (Defined name ty body theorem.conclusion) → IsContents table now)
 defined-kept (Ok _) contents mid now name ty body theorem none enters kept = kept

@@ -5,7 +5,7 @@ use Rattle.hol_model.specs.LogState.{LogState, LogClaim}
 use Rattle.hol_model.specs.LogLaws.{IsDerivableClaim, AcceptedLogsAreSound}
 use Rattle.hol_logtext.specs.LogBytes.{log_text}
 use Rattle.hol_sound.specs.LogClaims.{ClaimHolds, AcceptedClaimsHold}
-use Rattle.hol_check.specs.Judging.{IsAcceptedLog}
+use Rattle.hol_check.specs.LogAnswers.{IsAcceptedLog}
 use Rattle.hol_check.specs.Checking.{HasClaims}
 
 pub has_claims : (input : Option (List ℕ)) (state : LogState) (claims : List LogClaim) → AcceptedLogsAreSound → AcceptedClaimsHold → IsAcceptedLog input state → claims ≡ state.claims → HasClaims input claims

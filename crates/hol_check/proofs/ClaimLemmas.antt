@@ -18,7 +18,7 @@ pub claim_at : (table : TermTable) (contents : Contents) (place : ℕ) (claim : 
     → slice_index_or (claims_in table contents) place no_claim ≡ record { name = name_at table.names claim.name; sequent = sequent_in table.terms theorem }
 claim_at table contents place claim theorem kept placed here there =
     let known : IsClaim table contents.theorems.items (slice_index_or contents.claims.items place claim) =
-        All-get_or (IsClaim table contents.theorems.items) contents.claims.items place claim placed kept.claims in
+    All-get_or (IsClaim table contents.theorems.items) contents.claims.items place claim placed kept.claims in
     let proved : claim.theorem < length contents.theorems.items = subst (λ (c : ListedClaim). c.theorem < length contents.theorems.items) (sym here) known.theorem in
     get_or-map (claim_in table contents.theorems.items) contents.claims.items place claim no_claim placed ∙ ap (claim_in table contents.theorems.items) (sym here)
     ∙ ap (λ (sequent : Sequent). record { name = name_at table.names claim.name; sequent = sequent })

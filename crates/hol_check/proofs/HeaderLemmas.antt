@@ -13,9 +13,9 @@ use Rattle.hol_logtext.specs.LineReading.{read_text}
 use Rattle.hol_logtext.specs.LineText.{line_text, line_bytes}
 use Rattle.hol_logtext.specs.LogBytes.{log_text, last_part, with_line}
 use Rattle.hol_check.specs.Reading.{has_line_feed}
-use Rattle.hol_check.specs.Judging.{log_answer}
+use Rattle.hol_check.specs.LogAnswers.{log_answer}
 use Rattle.hol_check.specs.Migration.{HasHeader, IsHeaded}
-use Rattle.hol_check.proofs.JudgingLemmas.{log_text_line, log_text_last}
+use Rattle.hol_check.proofs.LogAnswerLemmas.{log_text_line, log_text_last}
 
 -- the line up to the first line feed, and what stands behind it
 record IsFirstLine (text : List ℕ) : Type 0 where

@@ -32,7 +32,7 @@ writes-large binders (lam ty body) (inr large) =
 over : (n limit : ℕ) → limit < n → nat_le n limit ≡ false
 over n limit past = grind arith
 
-past-limits : (t : Nameless) → IsPastLimits t → nameless_within_limits t ≡ false
+pub past-limits : (t : Nameless) → IsPastLimits t → nameless_within_limits t ≡ false
 past-limits t (inl (inl high)) =
     let h = nat_le (nameless_height t) TERM_HEIGHT_LIMIT in
     let n = nat_le (nameless_nodes t) TERM_NODES_LIMIT in

@@ -12,12 +12,12 @@ use Rattle.hol_model.specs.LogFaults.{first_cause, first_applying, cause_tests, 
 use Rattle.hol_model.specs.LogText.{ReadLine, LogText, LogOutcome, from_line, at_last, at_end, unless_refused, after_header, dest_header, log_outcome}
 use Rattle.hol_logtext.specs.LineText.{line_text, line_bytes}
 use Rattle.hol_logtext.specs.LogBytes.{log_text}
-use Rattle.hol_check.specs.Judging.{log_answer, answer_from}
+use Rattle.hol_check.specs.LogAnswers.{log_answer, answer_from}
 use Rattle.hol_model.specs.declared.limits.TheConstants.{TEXT_BYTES_LIMIT}
 use Rattle.hol_model.specs.Sessions.{Tells}
 use Rattle.hol_check.specs.Checking.{HasClaims}
 use Rattle.hol_check.specs.Migration.{in_second, IsMigrated, IsMigration, MigrationKeepsClaims}
-use Rattle.hol_check.proofs.JudgingLemmas.{log_text_line}
+use Rattle.hol_check.proofs.LogAnswerLemmas.{log_text_line}
 
 -- a test that fails does not change what is the first cause
 none_after : (test : Bool) (cause : Cause) (rest : Option Cause) → (if test then Some cause else rest) ≡ None → rest ≡ None

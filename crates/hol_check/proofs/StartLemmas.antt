@@ -26,7 +26,7 @@ pub small-function : (result : Result ℕ Fault) (types : List HolType) (made wa
     → IfOk result (λ ty. slice_get types ty ≡ Some wanted) × IfErr result (λ fault. fault ≡ Memory)
 small-function (Ok ty) types made wanted same small number refused = (number ∙ ap Some same, refused)
 small-function (Err fault) types made wanted same small number refused =
-    (number, elim refused [ | inl memory ↦ memory | inr large ↦ let nodes : type_nodes made ≡ type_nodes wanted = ap type_nodes same in absurd (omega (arith, large.1, small, nodes)) ])
+    (number, elim refused [ inl memory ↦ memory | inr large ↦ let nodes : type_nodes made ≡ type_nodes wanted = ap type_nodes same in absurd (omega (arith, large.1, small, nodes)) ])
 
 pub equality-typed : (t1 t2 t3 : List HolType) (a formula predicate : ℕ) → slice_get t1 a ≡ Some type_a → IsLonger t1 t2 → slice_get t2 formula ≡ Some bool_type → IsLonger t2 t3
     → slice_get t3 predicate ≡ Some (function_type (type_at t2 a) (type_at t2 formula)) → function_type (type_at t3 a) (type_at t3 predicate) ≡ equality_type type_a
@@ -51,7 +51,6 @@ choice-typed t1 t2 t3 a formula predicate is_a first is_formula second is_predic
 -- the two constants in the table
 module _ (table : TermTable) (equality equality_ty choice choice_ty : ℕ) (is_equality : slice_get table.names equality ≡ Some equality_name) (is_equality_ty : slice_get table.types equality_ty ≡ Some (equality_type type_a))
     (is_choice : slice_get table.names choice ≡ Some choice_name) (is_choice_ty : slice_get table.types choice_ty ≡ Some (choice_type type_a)) where
-
   abbrev pub entries : List (ℕ × ℕ)
   entries = (equality, equality_ty) ∷ (choice, choice_ty) ∷ []
 

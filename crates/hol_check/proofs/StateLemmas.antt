@@ -55,7 +55,6 @@ pub name-grown : (earlier now : TermTable) (n : ℕ) → IsGrown earlier now →
 name-grown earlier now n grown within = ap (λ l. name_at l n) grown.names.is_added ∙ get_or-longer earlier.names grown.names.added n [] within
 
 module _ (earlier now : TermTable) (grown : IsGrown earlier now) where
-
   pub fitting-grown : (n : ℕ) → IsFitting earlier.terms n → IsFitting now.terms n
   fitting-grown n fitting = record {
     within = within-grown earlier now n grown fitting.within;

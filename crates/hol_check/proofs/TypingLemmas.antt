@@ -25,7 +25,7 @@ pub types-still : (types now : List HolType) → IsLonger types now → (binders
 types-still types now longer Outermost are = tt
 types-still types now longer (Under' ty p outer) are = (type-within types now ty longer are.0, types-still types now longer outer are.1)
 
-within-fits : (ty : HolType) → type_nodes ty ≤ TYPE_NODES_LIMIT → type_fits ty ≡ true
+pub within-fits : (ty : HolType) → type_nodes ty ≤ TYPE_NODES_LIMIT → type_fits ty ≡ true
 within-fits ty within = grind arith
 
 -- a free variable, and a constant

@@ -5,7 +5,7 @@ use Rattle.hol_model.specs.LogState.{LogState, LogClaim}
 use Rattle.hol_model.specs.LogLaws.{IsDerivableClaim}
 use Rattle.hol_sound.specs.LogClaims.{ClaimHolds}
 use Rattle.hol_check.specs.Reading.{IsRead}
-use Rattle.hol_check.specs.Judging.{log_answer}
+use Rattle.hol_check.specs.LogAnswers.{log_answer}
 
 -- The input is the text of an accepted log with these claims; each of them is derivable from the log's entries and holds
 -- in every finite standard model of them.

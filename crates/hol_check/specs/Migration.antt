@@ -10,7 +10,7 @@ use Rattle.hol_model.specs.LogState.{LogState, LogClaim}
 use Rattle.hol_logtext.specs.LineText.{line_bytes}
 use Rattle.hol_check.specs.Reading.{IsRead}
 use Rattle.hol_bytes.specs.Bytes.{AppendsFront}
-use Rattle.hol_check.specs.Judging.{log_answer, IsRefusal}
+use Rattle.hol_check.specs.LogAnswers.{log_answer, IsRefusal}
 use Rattle.hol_check.specs.Checking.{HasClaims}
 
 -- the text is a header and the rest

@@ -93,7 +93,7 @@ pub(crate) fn close(
     requires variable { IsVariable terms.old.terms variable }
     requires number { number < length terms.old.terms }
     ensures closed { (name : List ℕ) (ty : HolType) → slice_get terms.old.terms variable ≡ Some (free name ty)
-        → IsMade (substitution.close name ty (term_at terms.old.terms number)) result terms.new.terms }
+        → IsAnswered (substitution.close name ty (term_at terms.old.terms number)) result terms.new.terms }
     ensures grows { IsGrown terms.old terms.new }
 {
     change_whole(alloc, terms, &Change::Close(variable), number)
@@ -146,8 +146,8 @@ pub(crate) fn instantiate(
     change_whole(alloc, terms, &Change::Instantiate(pairs), number)
 }
 
-// The change of a term that stands under no binders.
-fn change_whole(
+/// The change of a term that stands under no binders.
+pub(crate) fn change_whole(
     alloc: Global,
     terms: &mut Terms,
     change: &Change<'_>,

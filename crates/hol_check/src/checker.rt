@@ -1,11 +1,11 @@
 // The check of a whole log.
 ghost use Rattle.std.specs.Prelude.{◌≡◌, ◌<◌, true, false, length, IfOk, OnOk, IfErr, IfSome, IsErrOf};
 ghost use Rattle.hol_model.specs.declared.fault.Fault.TheVariants.{ReadFault, TooLong};
-ghost use Rattle.hol_check.specs.Judging.{TellsRefusal, IsRefusal};
+ghost use Rattle.hol_check.specs.LogAnswers.{TellsRefusal, IsRefusal};
 ghost use Rattle.hol_check.specs.Checking.{HasClaims};
 
 use crate::claim::{Claim, claims_of};
-use crate::judge::judge;
+use crate::log_reader::read_log;
 use hol_model::{Fault, Source, TEXT_BYTES_LIMIT, accepted_logs_are_sound};
 use hol_sound::accepted_claims_hold;
 use std::alloc::Global;
@@ -26,7 +26,7 @@ pub fn check<R: Source>(alloc: Global, reader: &mut R) -> Result<Vec<Claim>, Fau
 {
     accepted_logs_are_sound();
     accepted_claims_hold();
-    match judge(alloc, reader) {
+    match read_log(alloc, reader) {
         Ok(log) => claims_of(alloc, log),
         Err(fault) => Err(fault),
     }

@@ -1,195 +1,50 @@
-// A whole log judged line by line.
-ghost use Rattle.std.specs.Prelude.{◌≡◌, ◌≤◌, ◌<◌, ◌+◌, ⊤, ℕ, List, [], Option, true, false, length, IfOk, OnOk, IfErr, IfSome, IsErrOf, MatchBool};
-ghost use Rattle.hol_model.specs.declared.fault.Fault.TheVariants.{Memory, ReadFault, TooLong};
-ghost use Rattle.hol_model.specs.LogText.{dest_header};
-ghost use Rattle.std.specs.Option.{option_map};
-ghost use Rattle.hol_logtext.specs.Lines.{version_of};
-ghost use Rattle.hol_logtext.specs.LineReading.{read_text};
-ghost use Rattle.hol_check.specs.Reading.{IsUnread};
-ghost use Rattle.hol_check.specs.Judging.{IsTakenText, IsEnded, IsRefusedAt, IsUnderway, IsAcceptedLog, TellsRefusal, IsRefusal};
+// What a line adds to a log, or why it is refused.
+ghost use Rattle.std.specs.Prelude.{◌≡◌};
+ghost use Rattle.hol_logtext.specs.Lines.{line_of};
+ghost use Rattle.hol_check.specs.State.{IsContents};
+ghost use Rattle.hol_check.specs.Judged.{Judges};
 
-use crate::log::Log;
-use crate::reading::Reading;
-use crate::take::take;
-use hol_logtext::{Line, Version, read_line};
-use hol_model::{Cause, Fault, Source, TEXT_BYTES_LIMIT};
+use crate::claim_lines::judge_claim;
+use crate::entry_lines::{judge_new_constant, judge_new_type};
+use crate::state::{Addition, Contents};
+use crate::step::judge_step;
+use crate::term_lines::{judge_abstraction, judge_combination, judge_constant, judge_variable};
+use crate::terms::Terms;
+use crate::type_lines::{
+    judge_bool, judge_declared_type, judge_function_type, judge_type_variable,
+};
+use hol_logtext::Line;
+use hol_model::{Cause, Fault};
 use std::alloc::Global;
 
-// The version that the text of the first line tells, where it is a header.
-fn header(alloc: Global, text: &[u8]) -> Result<Option<Version>, Fault>
-    ensures header { IfOk result (λ version. dest_header (read_text text.now) ≡ option_map version_of version) }
-    ensures refused { IfErr result (λ fault. fault ≡ Memory) }
-{
-    match read_line(alloc, text) {
-        Ok(Ok(Line::Header(version))) => Ok(Some(version)),
-        Ok(_) => Ok(None),
-        Err(_) => Err(Fault::Memory),
-    }
-}
-
-// What the text of a later line adds to the state, or the cause for which it is refused.
-fn go_on(alloc: Global, log: &mut Log, text: &[u8]) -> Result<Result<(), Cause>, Fault>
-    ensures taken { IfOk result (λ answer. IsTakenText log.old (read_text text.now) answer log.new) }
-    ensures refused { IfErr result (λ fault. fault ≡ Memory) }
-{
-    match read_line(alloc, text) {
-        Ok(Ok(line)) => take(alloc, log, &line),
-        Ok(Err(cause)) => Ok(Err(cause)),
-        Err(_) => Err(Fault::Memory),
-    }
-}
-
-// Where the text ends: behind a line feed and the last line, or too early.
-fn end(log: &Log, line: &[u8], number: u64) -> Result<(), Cause>
-    ensures { IsEnded number log.now line.now result }
-{
-    if !line.is_empty() {
-        return Err(Cause::Cut);
-    }
-    if log.is_ended() { Ok(()) } else { Err(Cause::End) }
-}
-
-// The fault of a line that is refused, once the text is read to its end.
-fn refuse<R: Source>(reader: &mut R, reading: &mut Reading, line: u64, cause: Cause) -> Fault
-    requires unfailed { R.has_failed reader.old ≡ false }
-    ensures refused { (input : Option (List ℕ)) (handed : List ℕ) → IsUnread input handed reading.old (R.remaining reader.old)
-        → IsRefusedAt handed line cause → TellsRefusal input result }
-    ensures too_long { (input : Option (List ℕ)) (handed : List ℕ) → IsUnread input handed reading.old (R.remaining reader.old)
-        → result ≡ TooLong → IfSome input (λ told. TEXT_BYTES_LIMIT < length told) }
-    ensures failed { result ≡ ReadFault → R.has_failed reader.new ≡ true }
-    ensures refusals { IsRefusal result }
-{
-    match reading.skip_rest(reader) {
-        Ok(()) => Fault::LogFault { line, cause },
-        Err(fault) => fault,
-    }
-}
-
-// Reads the next line and judges it; false where the text ended behind the last line.
-fn judge_next<R: Source>(
+/// What a line adds, or the first cause for which it is refused, but for `end`.
+pub(crate) fn judge(
     alloc: Global,
-    reader: &mut R,
-    reading: &mut Reading,
-    log: &mut Log,
-    line: &mut Vec<u8>,
-    number: u64,
-) -> Result<bool, Fault>
-    requires unfailed { R.has_failed reader.old ≡ false }
-    ensures judged { (input : Option (List ℕ)) → IsUnderway input reading.old (R.remaining reader.old) number log.old
-        → IfOk result (λ more. MatchBool more (IsUnderway input reading.new (R.remaining reader.new) (number + 1) log.new) (IsAcceptedLog input log.new)) }
-    ensures refused { (input : Option (List ℕ)) → IsUnderway input reading.old (R.remaining reader.old) number log.old → IfErr result (TellsRefusal input) }
-    ensures given { IfOk result (λ more. MatchBool more (reading.old.given < reading.new.given) ⊤) }
-    ensures within_limit { IfOk result (λ more. MatchBool more (reading.new.given ≤ TEXT_BYTES_LIMIT) ⊤) }
-    ensures too_long { (input : Option (List ℕ)) → IsUnderway input reading.old (R.remaining reader.old) number log.old
-        → IsErrOf result TooLong → IfSome input (λ told. TEXT_BYTES_LIMIT < length told) }
-    ensures failed { IsErrOf result ReadFault → R.has_failed reader.new ≡ true }
-    ensures unfailed { OnOk result (R.has_failed reader.new ≡ false) }
-    ensures refusals { IfErr result IsRefusal }
+    terms: &mut Terms,
+    contents: &Contents,
+    line: &Line<'_>,
+) -> Result<Result<Addition, Cause>, Fault>
+    requires { IsContents terms.old contents.now }
+    ensures { Judges (line_of line.now) contents.now terms.old result terms.new }
 {
-    match reading.next_line(reader, line) {
-        Ok(true) => match go_on(alloc, log, line.as_slice()) {
-            Ok(Ok(())) => Ok(true),
-            Ok(Err(cause)) => Err(refuse(reader, reading, number, cause)),
-            Err(fault) => Err(fault),
-        },
-        Ok(false) => match end(log, line.as_slice(), number) {
-            Ok(()) => Ok(false),
-            Err(cause) => Err(Fault::LogFault {
-                line: number,
-                cause,
-            }),
-        },
-        Err(fault) => Err(fault),
-    }
-}
-
-// Judges the lines behind the header.
-fn judge_lines<R: Source>(
-    alloc: Global,
-    reader: &mut R,
-    reading: &mut Reading,
-    log: &mut Log,
-) -> Result<(), Fault>
-    requires unfailed { R.has_failed reader.old ≡ false }
-    ensures accepted { (input : Option (List ℕ)) → IsUnderway input reading.old (R.remaining reader.old) 2 log.old → OnOk result (IsAcceptedLog input log.new) }
-    ensures refused { (input : Option (List ℕ)) → IsUnderway input reading.old (R.remaining reader.old) 2 log.old → IfErr result (TellsRefusal input) }
-    ensures too_long { (input : Option (List ℕ)) → IsUnderway input reading.old (R.remaining reader.old) 2 log.old
-        → IsErrOf result TooLong → IfSome input (λ told. TEXT_BYTES_LIMIT < length told) }
-    ensures failed { IsErrOf result ReadFault → R.has_failed reader.new ≡ true }
-    ensures unfailed { OnOk result (R.has_failed reader.new ≡ false) }
-    ensures refusals { IfErr result IsRefusal }
-{
-    let mut line = Vec::new(alloc);
-    let mut number = 2u64;
-    loop {
-        match judge_next(alloc, reader, reading, log, &mut line, number) {
-            Ok(true) => number += 1,
-            Ok(false) => return Ok(()),
-            Err(fault) => return Err(fault),
+    match line {
+        Line::Header(_version) => Ok(Err(Cause::Shape)),
+        Line::TypeVariable(name) => judge_type_variable(alloc, terms, contents, name.as_bytes()),
+        Line::Bool => judge_bool(terms, contents),
+        Line::FunctionType(a, b) => judge_function_type(terms, contents, *a, *b),
+        Line::DeclaredType(name) => judge_declared_type(alloc, terms, contents, name.as_bytes()),
+        Line::Variable(name, ty) => judge_variable(alloc, terms, contents, name.as_bytes(), *ty),
+        Line::Constant(name, ty) => judge_constant(alloc, terms, contents, name.as_bytes(), *ty),
+        Line::Combination(f, a) => judge_combination(terms, contents, *f, *a),
+        Line::Abstraction(v, t) => judge_abstraction(alloc, terms, contents, *v, *t),
+        Line::NewType(name) => judge_new_type(alloc, terms, contents, name.as_bytes()),
+        Line::NewConstant(name, ty) => {
+            judge_new_constant(alloc, terms, contents, name.as_bytes(), *ty)
         }
-    }
-}
-
-// Reads the first line; the answer is the state after it.
-fn begin<R: Source>(alloc: Global, reader: &mut R, reading: &mut Reading) -> Result<Log, Fault>
-    requires unfailed { R.has_failed reader.old ≡ false }
-    ensures begun { (input : Option (List ℕ)) → IsUnread input [] reading.old (R.remaining reader.old)
-        → IfOk result (λ log. IsUnderway input reading.new (R.remaining reader.new) 2 log) }
-    ensures refused { (input : Option (List ℕ)) → IsUnread input [] reading.old (R.remaining reader.old) → IfErr result (TellsRefusal input) }
-    ensures too_long { (input : Option (List ℕ)) → IsUnread input [] reading.old (R.remaining reader.old)
-        → IsErrOf result TooLong → IfSome input (λ told. TEXT_BYTES_LIMIT < length told) }
-    ensures failed { IsErrOf result ReadFault → R.has_failed reader.new ≡ true }
-    ensures unfailed { OnOk result (R.has_failed reader.new ≡ false) }
-    ensures refusals { IfErr result IsRefusal }
-{
-    let mut line = Vec::new(alloc);
-    let is_line = match reading.next_line(reader, &mut line) {
-        Ok(is_line) => is_line,
-        Err(fault) => return Err(fault),
-    };
-    match header(alloc, line.as_slice()) {
-        Ok(Some(version)) => {
-            if !is_line {
-                return Err(Fault::LogFault {
-                    line: 1,
-                    cause: Cause::Cut,
-                });
-            }
-            Log::new(alloc, version)
+        Line::Theorem(rule) => judge_step(alloc, terms, contents, rule),
+        Line::Claim(name, i, c, hs) => {
+            judge_claim(alloc, terms, contents, name.as_bytes(), *i, *c, hs)
         }
-        Ok(None) => {
-            if !is_line {
-                return Err(Fault::LogFault {
-                    line: 1,
-                    cause: Cause::Header,
-                });
-            }
-            Err(refuse(reader, reading, 1, Cause::Header))
-        }
-        Err(fault) => Err(fault),
-    }
-}
-
-/// The last state of the log that the source gives.
-///
-/// Refusals: ReadFault and TooLong, even where a line is faulty; LogFault with the first faulty line and its cause;
-/// Memory.
-pub(crate) fn judge<R: Source>(alloc: Global, reader: &mut R) -> Result<Log, Fault>
-    requires unfailed { R.has_failed reader.old ≡ false }
-    ensures accepted { IfOk result (IsAcceptedLog (R.remaining reader.old)) }
-    ensures refused { IfErr result (TellsRefusal (R.remaining reader.old)) }
-    ensures too_long { IsErrOf result TooLong → IfSome (R.remaining reader.old) (λ told. TEXT_BYTES_LIMIT < length told) }
-    ensures failed { IsErrOf result ReadFault → R.has_failed reader.new ≡ true }
-    ensures unfailed { OnOk result (R.has_failed reader.new ≡ false) }
-    ensures refusals { IfErr result IsRefusal }
-{
-    let mut reading = Reading::new();
-    let mut log = match begin(alloc, reader, &mut reading) {
-        Ok(log) => log,
-        Err(fault) => return Err(fault),
-    };
-    match judge_lines(alloc, reader, &mut reading, &mut log) {
-        Ok(()) => Ok(log),
-        Err(fault) => Err(fault),
+        Line::End(_count) => Ok(Ok(Addition::Ended)),
     }
 }

@@ -16,8 +16,8 @@ use std::marker::Model;
 /// What the lines of a log have given so far, with the tables of the types and terms in it.
 #[derive(Drop)]
 pub(crate) struct Log {
-    table: Terms,
-    contents: Contents,
+    pub(crate) table: Terms,
+    pub(crate) contents: Contents,
 }
 
 impl Model for Log {

@@ -21,13 +21,21 @@ pub(crate) fn print(out: &mut Vec<u8>, bytes: &[u8]) -> Result<(), AllocError>
 fn open(out: &mut Vec<u8>, wanted: bool) -> Result<(), AllocError>
     ensures { OnOk result (Appends out.old.items out.new.items (opening wanted)) }
 {
-    if wanted { print(out, b"(") } else { print(out, b"") }
+    if wanted {
+        print(out, b"(")
+    } else {
+        print(out, b"")
+    }
 }
 
 fn close(out: &mut Vec<u8>, wanted: bool) -> Result<(), AllocError>
     ensures { OnOk result (Appends out.old.items out.new.items (closing wanted)) }
 {
-    if wanted { print(out, b")") } else { print(out, b"") }
+    if wanted {
+        print(out, b")")
+    } else {
+        print(out, b"")
+    }
 }
 
 // Prints a type; on the left of an arrow a function type is in parentheses.
@@ -76,11 +84,7 @@ fn print_typed(
 }
 
 /// Prints a term: each function, argument and body in parentheses.
-pub(crate) fn print_term(
-    table: &Terms,
-    number: usize,
-    out: &mut Vec<u8>,
-) -> Result<(), AllocError>
+pub(crate) fn print_term(table: &Terms, number: usize, out: &mut Vec<u8>) -> Result<(), AllocError>
     requires { number < length table.now.terms }
     ensures { OnOk result (Appends out.old.items out.new.items (nameless_bytes (term_at table.now.terms number))) }
 {

@@ -1,10 +1,15 @@
 // What the lines of a log have given so far, as numbers of tables.
+ghost use Rattle.std.specs.Prelude.{◌≡◌, nat_le, length};
+ghost use Rattle.hol_model.specs.declared.limits.TheConstants.{DEFINITIONS_LIMIT};
+ghost use Rattle.hol_model.specs.LogFaults.{is_first_version};
+ghost use Rattle.hol_logtext.specs.Lines.{version_of};
 ghost use Rattle.hol_check.specs.Terms.{TermTable};
 ghost use Rattle.hol_check.specs.State.{state_of, IsContents};
 ghost use Rattle.hol_check.specs.Judged.{FindsType, FindsTerm, FindsTheorem};
 
 use crate::known::Known;
 use hol_logtext::Version;
+use hol_model::DEFINITIONS_LIMIT;
 
 /// A theorem: its hypotheses in the order of terms, each once, and its conclusion, by the numbers of terms.
 #[derive(Debug, Drop)]
@@ -57,6 +62,23 @@ pub(crate) enum Addition {
     NewConstant(usize, usize),
     Claimed(ListedClaim),
     Ended,
+}
+
+/// Whether a log is of the first version.
+pub(crate) fn is_of_first_version(contents: &Contents) -> bool
+    ensures { result ≡ is_first_version (version_of contents.now.version) }
+{
+    match contents.version {
+        Version::First => true,
+        Version::Second => false,
+    }
+}
+
+/// Whether there is no room for a further entry of the theory.
+pub(crate) fn is_full(contents: &Contents) -> bool
+    ensures { result ≡ nat_le DEFINITIONS_LIMIT (length contents.now.entries.items) }
+{
+    contents.entries.len() >= DEFINITIONS_LIMIT
 }
 
 /// The number in the tables of the type that a line names.

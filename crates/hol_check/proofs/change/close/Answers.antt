@@ -2,7 +2,6 @@ use Rattle.std.proofs.Common.{refl, subst}
 use Rattle.hol_check.specs.Terms.{term_at}
 use Rattle.hol_check.specs.Change.{closing, IsAnswered}
 use Rattle.hol_check.proofs.ChangeLemmas.{changed-closing}
-use Rattle.hol_check.proofs.LimitLemmas.{is-made}
 use Rattle.hol_check.proofs.change.close.Goals as goal
 
 pub change_whole-requires-clause-meaning : goal.change_whole-requires-clause-meaning
@@ -12,6 +11,5 @@ change_whole-requires-clause-meaning c =
 
 pub returns-clause-closed : goal.returns-clause-closed
 returns-clause-closed c = λ name ty there.
-    is-made _ c.change_whole.result c.change_whole.new.terms.terms
-    (subst (λ u. IsAnswered u c.change_whole.result c.change_whole.new.terms.terms) (changed-closing name ty 0 (term_at c.args.terms.now.terms c.args.number))
-    (c.change_whole.ensures.changed (closing name ty) (record { name = name; ty = ty; is_variable = there; is_meant = refl })))
+    subst (λ u. IsAnswered u c.change_whole.result c.change_whole.new.terms.terms) (changed-closing name ty 0 (term_at c.args.terms.now.terms c.args.number))
+    (c.change_whole.ensures.changed (closing name ty) (record { name = name; ty = ty; is_variable = there; is_meant = refl }))

@@ -1,0 +1,145 @@
+-- Lemmas on a log that is judged line by line.
+use Rattle.std.proofs.Common.{◌≡◌, ℕ, ◌+◌, List, [], ◌∷◌, ◌++◌, Option, Some, None, Result, Ok, Err, IfOk, Bool, true, false, ◌==◌, if◌then◌else◌, refl, sym, ap, ◌∙◌, subst, append_assoc, append-nil}
+use Rattle.std.specs.Prelude.{IsErrOf}
+use Rattle.std.specs.Io.KnownBytes.{Consumes}
+use Rattle.std.proofs.KnownBytes.{Consumes-nil}
+use Rattle.hol_model.specs.declared.fault.Cause.{Cause}
+use Rattle.hol_model.specs.declared.fault.Cause.TheVariants.{Header, Cut}
+use Rattle.hol_model.specs.LogLine.{LogVersion, LogLine}
+use Rattle.hol_model.specs.LogState.{LogState, first_state}
+use Rattle.hol_model.specs.LogText.{ReadLine, LogText, LogOutcome, from_line, at_last, no_line, dest_header, log_outcome}
+use Rattle.hol_model.proofs.Tests.{first_of_neither, second_of_neither}
+use Rattle.hol_logtext.specs.Fields.{line_feed, split_on, onto_first}
+use Rattle.hol_logtext.specs.LineReading.{read_text}
+use Rattle.hol_logtext.specs.LogBytes.{log_text, last_part, with_line, lines_of_parts}
+use Rattle.hol_check.specs.Reading.{Unread, IsUnread, has_line_feed}
+use Rattle.hol_check.specs.LogAnswers.{log_answer, answer_from, IsTakenText, LeadsTo, IsRefusedAt, IsUnderway}
+
+-- the parts of a text
+
+split_line : (line rest : List ℕ) → has_line_feed line ≡ false → split_on line_feed (line ++ line_feed ∷ rest) ≡ line ∷ split_on line_feed rest
+split_line [] rest none = refl
+split_line (byte ∷ line) rest none =
+    let other : (byte == line_feed) ≡ false = first_of_neither (byte == line_feed) (has_line_feed line) none in
+    let deeper : split_on line_feed (line ++ line_feed ∷ rest) ≡ line ∷ split_on line_feed rest = split_line line rest (second_of_neither (byte == line_feed) (has_line_feed line) none) in
+    rw (other, deeper) refl
+
+split_last : (line : List ℕ) → has_line_feed line ≡ false → split_on line_feed line ≡ line ∷ []
+split_last [] none = refl
+split_last (byte ∷ line) none =
+    let other : (byte == line_feed) ≡ false = first_of_neither (byte == line_feed) (has_line_feed line) none in
+    let deeper : split_on line_feed line ≡ line ∷ [] = split_last line (second_of_neither (byte == line_feed) (has_line_feed line) none) in
+    rw (other, deeper) refl
+
+onto_first_lines : (part : List ℕ) (byte : ℕ) (parts : List (List ℕ)) → lines_of_parts (part ∷ onto_first byte parts) ≡ with_line (read_text part) (lines_of_parts (onto_first byte parts))
+onto_first_lines part byte [] = refl
+onto_first_lines part byte (first ∷ parts) = refl
+
+lines_behind : (part rest : List ℕ) → lines_of_parts (part ∷ split_on line_feed rest) ≡ with_line (read_text part) (lines_of_parts (split_on line_feed rest))
+lines_behind part [] = refl
+lines_behind part (byte ∷ rest) = go (byte == line_feed)
+  where
+    go : (test : Bool) → lines_of_parts (part ∷ (if test then [] ∷ split_on line_feed rest else onto_first byte (split_on line_feed rest)))
+        ≡ with_line (read_text part) (lines_of_parts (if test then [] ∷ split_on line_feed rest else onto_first byte (split_on line_feed rest)))
+    go true = refl
+    go false = onto_first_lines part byte (split_on line_feed rest)
+
+-- a text with a line feed
+pub log_text_line : (line rest : List ℕ) → has_line_feed line ≡ false → log_text (line ++ line_feed ∷ rest) ≡ with_line (read_text line) (log_text rest)
+log_text_line line rest none = ap lines_of_parts (split_line line rest none) ∙ lines_behind line rest
+
+-- a text with none
+pub log_text_last : (line : List ℕ) → has_line_feed line ≡ false → log_text line ≡ record { lines = []; rest = last_part line }
+log_text_last line none = ap lines_of_parts (split_last line none)
+
+-- the bytes handed out, with a line and what follows it
+with_rest : (handed line rest : List ℕ) → ((handed ++ line) ++ line_feed ∷ []) ++ rest ≡ handed ++ (line ++ line_feed ∷ rest)
+with_rest handed line rest = append_assoc (handed ++ line) (line_feed ∷ []) rest ∙ append_assoc handed line (line_feed ∷ rest)
+
+-- later lines
+
+abbrev from_text : ℕ → LogState → LogText → LogOutcome
+from_text number state text = from_line text.rest text.lines number state
+
+taken_line : (text : LogText) (number : ℕ) (state now : LogState) (found : ReadLine) → IsTakenText state found (Ok tt) now
+    → from_text number state (with_line found text) ≡ from_text (number + 1) now text
+taken_line text number state now (Some line) taken = rw (taken.accepted, taken.after) refl
+taken_line text number state now None taken = absurd taken
+
+refused_line : (text : LogText) (number : ℕ) (state now : LogState) (found : ReadLine) (cause : Cause) → IsTakenText state found (Err cause) now
+    → from_text number state (with_line found text) ≡ Err (number, cause)
+refused_line text number state now (Some line) cause taken = rw taken refl
+refused_line text number state now None cause taken = rw taken refl
+
+pub leads_on : (handed line : List ℕ) (number : ℕ) (state now : LogState) → LeadsTo handed number state → has_line_feed line ≡ false
+    → IsTakenText state (read_text line) (Ok tt) now → LeadsTo ((handed ++ line) ++ line_feed ∷ []) (number + 1) now
+leads_on handed line number state now leads none taken = record {
+  goes_on = λ rest. ap log_answer (with_rest handed line rest) ∙ leads.goes_on (line ++ line_feed ∷ rest)
+      ∙ ap (from_text number state) (log_text_line line rest none) ∙ taken_line (log_text rest) number state now (read_text line) taken;
+}
+
+pub refused_on : (handed line : List ℕ) (number : ℕ) (state now : LogState) (cause : Cause) → LeadsTo handed number state → has_line_feed line ≡ false
+    → IsTakenText state (read_text line) (Err cause) now → IsRefusedAt ((handed ++ line) ++ line_feed ∷ []) number cause
+refused_on handed line number state now cause leads none taken = record {
+  refused = λ rest. ap log_answer (with_rest handed line rest) ∙ leads.goes_on (line ++ line_feed ∷ rest)
+      ∙ ap (from_text number state) (log_text_line line rest none) ∙ refused_line (log_text rest) number state now (read_text line) cause taken;
+}
+
+pub ended_on : (handed line : List ℕ) (number : ℕ) (state : LogState) → LeadsTo handed number state → has_line_feed line ≡ false
+    → log_answer (handed ++ line) ≡ at_last number state (last_part line)
+ended_on handed line number state leads none = leads.goes_on line ∙ ap (from_text number state) (log_text_last line none)
+
+-- the first line
+
+begun_text : (text : LogText) (found : ReadLine) (version : LogVersion) → dest_header found ≡ Some version → log_outcome (with_line found text) ≡ from_text 2 (first_state version) text
+begun_text text found version header = rw header refl
+
+headless_text : (text : LogText) (found : ReadLine) → dest_header found ≡ None → log_outcome (with_line found text) ≡ Err (1, Header)
+headless_text text found header = rw header refl
+
+pub leads_first : (line : List ℕ) (version : LogVersion) → has_line_feed line ≡ false → dest_header (read_text line) ≡ Some version → LeadsTo (([] ++ line) ++ line_feed ∷ []) 2 (first_state version)
+leads_first line version none header = record {
+  goes_on = λ rest. ap log_answer (with_rest [] line rest) ∙ ap log_outcome (log_text_line line rest none) ∙ begun_text (log_text rest) (read_text line) version header;
+}
+
+pub refused_first : (line : List ℕ) → has_line_feed line ≡ false → dest_header (read_text line) ≡ None → IsRefusedAt (([] ++ line) ++ line_feed ∷ []) 1 Header
+refused_first line none header = record {
+  refused = λ rest. ap log_answer (with_rest [] line rest) ∙ ap log_outcome (log_text_line line rest none) ∙ headless_text (log_text rest) (read_text line) header;
+}
+
+-- a text with no line feed
+
+no_line_cut : (line : List ℕ) (version : LogVersion) → dest_header (read_text line) ≡ Some version → no_line (last_part line) ≡ Err (1, Cut)
+no_line_cut [] version header = cc
+no_line_cut (byte ∷ line) version header = rw header refl
+
+no_line_headless : (line : List ℕ) → dest_header (read_text line) ≡ None → no_line (last_part line) ≡ Err (1, Header)
+no_line_headless [] header = refl
+no_line_headless (byte ∷ line) header = rw header refl
+
+pub cut_first : (line : List ℕ) (version : LogVersion) → has_line_feed line ≡ false → dest_header (read_text line) ≡ Some version → log_answer ([] ++ line) ≡ Err (1, Cut)
+cut_first line version none header = ap log_outcome (log_text_last line none) ∙ no_line_cut line version header
+
+pub headless_first : (line : List ℕ) → has_line_feed line ≡ false → dest_header (read_text line) ≡ None → log_answer ([] ++ line) ≡ Err (1, Header)
+headless_first line none header = ap log_outcome (log_text_last line none) ∙ no_line_headless line header
+
+-- the state behind the header
+pub begun : {E : Type 0} (result : Result LogState E) (input : Option (List ℕ)) (unread : Unread) (left : Option (List ℕ)) (line : List ℕ) (version : LogVersion) → IfOk result (λ log. log ≡ first_state version)
+    → IsUnread input (([] ++ line) ++ line_feed ∷ []) unread left → has_line_feed line ≡ false → dest_header (read_text line) ≡ Some version → IfOk result (λ log. IsUnderway input unread left 2 log)
+begun (Ok log) input unread left line version first behind none header = record {
+  handed = ([] ++ line) ++ line_feed ∷ [];
+  behind = behind;
+  leads = subst (LeadsTo (([] ++ line) ++ line_feed ∷ []) 2) (sym first) (leads_first line version none header);
+}
+begun (Err fault) input unread left line version first behind none header = tt
+
+-- the fault of a refused call
+pub fault_is : {A E : Type 0} (fault other : E) → IsErrOf {T = A} {E = E} (Err fault) other → fault ≡ other
+fault_is fault other same = cc
+
+-- before anything is read
+pub unread_at_first : (input : Option (List ℕ)) (unread : Unread) → unread.pending ≡ [] → unread.given ≡ 0 → IsUnread input [] unread input
+unread_at_first input unread none nothing = record {
+  told = subst (λ (l : List ℕ). Consumes input input l) (sym none) (Consumes-nil input);
+  counted = nothing;
+}

@@ -1,0 +1,13 @@
+use Rattle.hol_check.proofs.HeaderLemmas.{is_headed}
+use Rattle.hol_check.proofs.MigrationLemmas.{text_accepted, is_migration}
+use Rattle.hol_check.proofs.migrating.migration.Goals as goal
+
+pub set_second_version-requires : goal.set_second_version-requires
+set_second_version-requires g c =
+    let checked = rw c.as_slice.ensures.value at c.in-Ok-check_text.ensures.claims in
+    is_headed c.reading_is_exact.ensures c.in-Ok.text.items checked.state (text_accepted c.in-Ok.text.items c.in-Ok-check_text.claims.items checked)
+
+pub returns-clause-migration : goal.returns-clause-migration
+returns-clause-migration g c =
+    is_migration (g.R.Source.remaining c.args.reader.now) c.in-Ok.text.items c.set_second_version.new.text.items c.in-Ok-check_text.claims.items c.migration_keeps_claims.ensures c.in-Ok.ensures.all
+    c.in-Ok.ensures.within_limit (rw c.as_slice.ensures.value at c.in-Ok-check_text.ensures.claims) c.set_second_version.ensures

@@ -1,0 +1,11 @@
+use Rattle.std.proofs.Common.{subst}
+use Rattle.std.specs.Io.KnownBytes.{Appends}
+use Rattle.hol_model.specs.LogState.{LogClaim}
+use Rattle.hol_check.specs.Report.{claim_line}
+use Rattle.hol_check.proofs.ReportLemmas.{line_written}
+use Rattle.hol_check.proofs.report.write_claims.Goals as goal
+
+pub loop-claim-preserved : goal.loop-claim-preserved
+loop-claim-preserved g c =
+    let line = subst (λ (claim : LogClaim). Appends (g.W.Sink.contents c.loop-claim.writer) (g.W.Sink.contents c.write_claim.new.writer) (claim_line claim)) c.claim-item.is c.in-Ok.ensures.ok in
+    (line_written _ _ _ c.args.claims.now c.loop-claim.claim-index c.claim-item.result c.loop-claim-test.true c.loop-claim.invariant.0 line, c.in-Ok.ensures.unfailed)
