@@ -58,7 +58,7 @@ unknown : (found : Option HolType) → is_some found ≡ false → found ≡ Non
 unknown None is = refl
 unknown (Some ty) is = cc
 
-no-type : (theory : Theory) (name : List ℕ) → is_new_name theory name ≡ true → generic_type theory name ≡ None
+pub no-type : (theory : Theory) (name : List ℕ) → is_new_name theory name ≡ true → generic_type theory name ≡ None
 no-type theory name is = unknown (generic_type theory name) (new-first (is_some (generic_type theory name)) (is_declared theory name) is)
 
 both : (p q : Bool) → p ≡ true → q ≡ true → not (p && q) ≡ false

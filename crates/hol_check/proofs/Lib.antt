@@ -21,7 +21,14 @@ pub mod FaultLemmas
 pub mod TypeLineLemmas
 pub mod FormingLemmas
 pub mod HypothesesLemmas
+pub mod StepLemmas
+pub mod AxiomLemmas
+pub mod JudgedSteps
 pub mod TermLineLemmas
 pub mod EntryLineLemmas
 pub mod ClaimLineLemmas
+pub mod InstanceLemmas
+pub mod StepPairLemmas
+pub mod DefinitionLemmas
 pub mod TakeLemmas
+pub mod JudgedDefinitions

@@ -24,3 +24,5 @@ pub mod LogCode
 pub mod Log
 pub mod Hypotheses
 pub mod Steps
+pub mod StepPairs
+pub mod Definitions

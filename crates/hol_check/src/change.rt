@@ -146,8 +146,8 @@ pub(crate) fn instantiate(
     change_whole(alloc, terms, &Change::Instantiate(pairs), number)
 }
 
-// The change of a term that stands under no binders.
-fn change_whole(
+/// The change of a term that stands under no binders.
+pub(crate) fn change_whole(
     alloc: Global,
     terms: &mut Terms,
     change: &Change<'_>,

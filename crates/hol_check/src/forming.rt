@@ -1,7 +1,7 @@
 // Terms that the steps of a log make of others.
 ghost use Rattle.std.specs.Prelude.{◌≡◌, ◌⊎◌, ◌<◌, ℕ, List, Some, slice_get, length, IfOk, IfErr};
 ghost use Rattle.hol_model.specs.declared.fault.Fault.TheVariants.{Memory, TooLarge};
-ghost use Rattle.hol_model.specs.HolType.{HolType, domain_of};
+ghost use Rattle.hol_model.specs.HolType.{HolType, bool_type, domain_of, type_eq};
 ghost use Rattle.hol_model.specs.Nameless.{Nameless, free, const, app, lam};
 ghost use Rattle.hol_model.specs.Substitution as substitution;
 ghost use Rattle.hol_model.specs.Theory as theory;
@@ -11,6 +11,7 @@ ghost use Rattle.hol_model.specs.LogSequents as sequents;
 ghost use Rattle.hol_model.specs.LogFaults as faults;
 ghost use Rattle.hol_check.specs.Terms.{name_at, type_at, term_at, IsGrown};
 ghost use Rattle.hol_check.specs.Change.{IsVariable, IsMade};
+ghost use Rattle.hol_check.specs.State.{IsFitting};
 ghost use Rattle.hol_check.specs.Steps.{IsFormed, IsMadeType};
 ghost use Rattle.hol_check.specs.Steps as spec;
 
@@ -285,5 +286,122 @@ fn applied_to_both(
     match application(terms, half, right) {
         Ok(whole) => within_limits(terms, whole),
         Err(fault) => Err(fault),
+    }
+}
+
+/// The equation of two functions applied to arguments.
+pub(crate) fn equation_of_applications(
+    alloc: Global,
+    terms: &mut Terms,
+    left: (usize, usize),
+    right: (usize, usize),
+) -> Result<usize, Fault>
+    requires left_function { left.0 < length terms.old.terms }
+    requires left_argument { left.1 < length terms.old.terms }
+    requires right_function { right.0 < length terms.old.terms }
+    requires right_argument { right.1 < length terms.old.terms }
+    ensures formed { IsFormed (sequents.equation_of (app (term_at terms.old.terms left.0) (term_at terms.old.terms left.1)) (app (term_at terms.old.terms right.0) (term_at terms.old.terms right.1))) result terms.new.terms }
+    ensures grows { IsGrown terms.old terms.new }
+{
+    let left = match application(terms, left.0, left.1) {
+        Ok(left) => left,
+        Err(fault) => return Err(fault),
+    };
+    match application(terms, right.0, right.1) {
+        Ok(right) => equation_of(alloc, terms, left, right),
+        Err(fault) => Err(fault),
+    }
+}
+
+/// The equation of the abstractions of two bodies over a variable.
+pub(crate) fn equation_of_abstractions(
+    alloc: Global,
+    terms: &mut Terms,
+    variable: usize,
+    left: usize,
+    right: usize,
+) -> Result<usize, Fault>
+    requires variable { IsVariable terms.old.terms variable }
+    requires left { left < length terms.old.terms }
+    requires right { right < length terms.old.terms }
+    ensures formed { let over = sequents.abstraction_over (term_at terms.old.terms variable) in IsFormed (sequents.equation_of (over (term_at terms.old.terms left)) (over (term_at terms.old.terms right))) result terms.new.terms }
+    ensures grows { IsGrown terms.old terms.new }
+{
+    let left = match abstraction_over(alloc, terms, variable, left) {
+        Ok(left) => left,
+        Err(fault) => return Err(fault),
+    };
+    match abstraction_over(alloc, terms, variable, right) {
+        Ok(right) => equation_of(alloc, terms, left, right),
+        Err(fault) => Err(fault),
+    }
+}
+
+/// The equation of an abstraction that is applied and its body with the argument in it.
+pub(crate) fn equation_of_redex(
+    alloc: Global,
+    terms: &mut Terms,
+    redex: usize,
+) -> Result<usize, Fault>
+    requires { redex < length terms.old.terms }
+    ensures formed { IsFormed (sequents.equation_of (term_at terms.old.terms redex) (sequents.redex_body (term_at terms.old.terms redex))) result terms.new.terms }
+    ensures grows { IsGrown terms.old terms.new }
+{
+    match redex_body(alloc, terms, redex) {
+        Ok(body) => equation_of(alloc, terms, redex, body),
+        Err(fault) => Err(fault),
+    }
+}
+
+/// Whether the function on the sides of an equation takes what is on the sides of another.
+pub(crate) fn sides_fit(terms: &mut Terms, first: usize, second: usize) -> Result<bool, Fault>
+    requires first { first < length terms.old.terms }
+    requires second { second < length terms.old.terms }
+    ensures fit { IfOk result (λ answer. answer ≡ faults.takes (sequents.side_type (term_at terms.old.terms first)) (sequents.side_type (term_at terms.old.terms second))) }
+    ensures refused { IfErr result (λ fault. fault ≡ Memory) }
+    ensures grows { IsGrown terms.old terms.new }
+{
+    let function = match side_type(terms, first) {
+        Ok(function) => function,
+        Err(fault) => return Err(fault),
+    };
+    match side_type(terms, second) {
+        Ok(argument) => Ok(takes(terms, function, argument)),
+        Err(fault) => Err(fault),
+    }
+}
+
+/// Whether a term within the limits is of type `bool`.
+pub(crate) fn is_formula(terms: &mut Terms, number: usize) -> Result<bool, Fault>
+    requires { IsFitting terms.old.terms number }
+    ensures formula { IfOk result (λ answer. answer ≡ type_eq (term_type (term_at terms.old.terms number)) bool_type) }
+    ensures refused { IfErr result (λ fault. fault ≡ Memory) }
+    ensures grows { IsGrown terms.old terms.new }
+{
+    let ty = match type_of(terms, number) {
+        Ok(ty) => ty,
+        Err(_fault) => return Err(Fault::Memory),
+    };
+    match terms.boolean() {
+        Ok(boolean) => Ok(terms.is_same_type(ty, boolean)),
+        Err(fault) => Err(fault),
+    }
+}
+
+/// Whether two terms within the limits have one type.
+pub(crate) fn have_one_type(terms: &mut Terms, first: usize, second: usize) -> Result<bool, Fault>
+    requires first { IsFitting terms.old.terms first }
+    requires second { IsFitting terms.old.terms second }
+    ensures one { IfOk result (λ answer. answer ≡ type_eq (term_type (term_at terms.old.terms first)) (term_type (term_at terms.old.terms second))) }
+    ensures refused { IfErr result (λ fault. fault ≡ Memory) }
+    ensures grows { IsGrown terms.old terms.new }
+{
+    let first_ty = match type_of(terms, first) {
+        Ok(first_ty) => first_ty,
+        Err(_fault) => return Err(Fault::Memory),
+    };
+    match type_of(terms, second) {
+        Ok(second_ty) => Ok(terms.is_same_type(first_ty, second_ty)),
+        Err(_fault) => Err(Fault::Memory),
     }
 }

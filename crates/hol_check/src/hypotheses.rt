@@ -13,6 +13,7 @@ ghost use Rattle.hol_check.specs.Change.{IsVariable};
 ghost use Rattle.hol_check.specs.State.{IsFitting};
 ghost use Rattle.hol_check.specs.Hypotheses.{terms_in};
 ghost use Rattle.hol_check.specs.Hypotheses as spec;
+ghost use Rattle.hol_check.specs.Steps.{AreInOrder};
 
 use crate::compare::compare_terms;
 use crate::occurs::occurs_free;
@@ -30,8 +31,7 @@ pub(crate) fn union(
 ) -> Result<Vec<usize>, Fault>
     requires first { All (IsFitting terms.now.terms) first.now }
     requires second { All (IsFitting terms.now.terms) second.now }
-    ensures all { IfOk result (λ all. terms_in terms.now.terms all.items ≡ given.set_of (terms_in terms.now.terms first.now ++ terms_in terms.now.terms second.now)) }
-    ensures fitting { IfOk result (λ all. All (IsFitting terms.now.terms) all.items) }
+    ensures all { IfOk result (λ all. AreInOrder terms.now.terms all.items (terms_in terms.now.terms first.now ++ terms_in terms.now.terms second.now)) }
     ensures refused { IfErr result (λ fault. fault ≡ Memory) }
 {
     let mut all = Vec::new(alloc);
@@ -48,8 +48,7 @@ pub(crate) fn union(
 /// The terms of a list in order, each once.
 pub(crate) fn set_of(alloc: Global, terms: &Terms, list: &[usize]) -> Result<Vec<usize>, Fault>
     requires { All (IsFitting terms.now.terms) list.now }
-    ensures all { IfOk result (λ all. terms_in terms.now.terms all.items ≡ given.set_of (terms_in terms.now.terms list.now)) }
-    ensures fitting { IfOk result (λ all. All (IsFitting terms.now.terms) all.items) }
+    ensures all { IfOk result (λ all. AreInOrder terms.now.terms all.items (terms_in terms.now.terms list.now)) }
     ensures refused { IfErr result (λ fault. fault ≡ Memory) }
 {
     let mut all = Vec::new(alloc);

@@ -24,6 +24,8 @@ mod reflection;
 mod start;
 mod state;
 mod step;
+mod step_pairs;
+mod steps;
 mod take;
 mod term_lines;
 mod terms;

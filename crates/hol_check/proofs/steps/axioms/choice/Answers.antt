@@ -1,0 +1,16 @@
+use Rattle.std.proofs.Common.{◌≡◌, ◌∙◌, ap, Some}
+use Rattle.hol_model.specs.HolType.{function_type}
+use Rattle.hol_model.specs.Nameless.{const}
+use Rattle.hol_model.specs.Theory.{choice_name, choice_type, type_a}
+use Rattle.hol_check.proofs.AxiomLemmas.{function-named, grown-twice}
+use Rattle.hol_check.proofs.TypeChangeLemmas.{type-there}
+use Rattle.hol_check.proofs.ChangeLemmas.{IsGrown-trans}
+use Rattle.hol_check.proofs.steps.axioms.choice.Goals as goal
+
+pub returns-in-Ok-function_type-clause-named : goal.returns-in-Ok-function_type-clause-named
+returns-in-Ok-function_type-clause-named c =
+    let made = function-named c.predicate_type.new.terms c.type_variable.new.self c.function_type.new.self.types c.in-Ok.predicates c.in-Ok-type_variable.argument c.in-Ok-function_type.ty _ _
+    c.in-Ok.ensures.named.number c.type_variable.ensures.grows c.in-Ok-type_variable.ensures.number c.in-Ok-function_type.ensures.number in
+    let is = type-there c.function_type.new.self.types c.in-Ok-function_type.ty (choice_type type_a) made in
+    let number = rw is at c.constant.ensures.number in
+    record { number = number; refused = c.constant.ensures.refused }
