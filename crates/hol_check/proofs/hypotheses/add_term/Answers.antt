@@ -12,7 +12,7 @@ returns-in-Ok-clause-added c =
     cc (inserted c.args.terms.now.terms c.args.all.now.items c.in-Some.index c.args.new place, c.in-Ok.ensures.items)
 
 pub returns-in-Ok-clause-fitting : goal.returns-in-Ok-clause-fitting
-returns-in-Ok-clause-fitting c = 
+returns-in-Ok-clause-fitting c =
     rw c.in-Ok.ensures.items (All-insert (IsFitting c.args.terms.now.terms) c.args.all.now.items c.in-Some.index c.args.new (omega (arith, c.in-Some.ensures.within, ap length c.deref.ensures.value)) c.requires.all c.requires.new)
 
 pub returns-in-None-clause-added : goal.returns-in-None-clause-added
