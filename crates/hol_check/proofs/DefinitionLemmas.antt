@@ -34,13 +34,12 @@ module _ (name : List ℕ) (body : Nameless) (definable : is_definable (term_typ
 -- the equation, while the tables grow
 module _ (t0 t1 t3 : TermTable) (first : IsGrown t0 t1) (second : IsGrown t1 t3) (name ty constant body : ℕ) (name_within : name < length t0.names) (fitting : IsFitting t0.terms body)
     (typed : slice_get t1.types ty ≡ Some (term_type (term_at t0.terms body))) (made : slice_get t3.terms constant ≡ Some (const (name_at t1.names name) (type_at t1.types ty))) where
-
   body-is : term_at t3.terms body ≡ term_at t0.terms body
   body-is = term-grown t0 t3 body (IsGrown-trans t0 t1 t3 first second) fitting.within
 
   constant-is : term_at t3.terms constant ≡ const (name_at t0.names name) (term_type (term_at t0.terms body))
   constant-is = term-there t3.terms constant (const (name_at t1.names name) (type_at t1.types ty)) made
-    ∙ (λ i. const (name-grown t0 t1 name first name_within i) (type-there t1.types ty (term_type (term_at t0.terms body)) typed i))
+      ∙ (λ i. const (name-grown t0 t1 name first name_within i) (type-there t1.types ty (term_type (term_at t0.terms body)) typed i))
 
   pub definition-is : equation_of (term_at t3.terms constant) (term_at t3.terms body) ≡ equation_of (const (name_at t0.names name) (term_type (term_at t0.terms body))) (term_at t0.terms body)
   definition-is = λ i. equation_of (constant-is i) (body-is i)

@@ -52,7 +52,7 @@ replaced-more t0 t1 pairs index d answer grows within fitting so_far is =
     let pair = get_or pairs index d in
     let here = All-get_or (IsFittingPair t0.terms) pairs index d within fitting in
     let same : answer ≡ is_replacement (term_at t0.terms pair.0, term_at t0.terms pair.1) =
-      is ∙ (λ i. is_replacement (term-grown t0 t1 pair.0 grows here.new.within i, term-grown t0 t1 pair.1 grows here.old.within i)) in
+    is ∙ (λ i. is_replacement (term-grown t0 t1 pair.0 grows here.new.within i, term-grown t0 t1 pair.1 grows here.old.within i)) in
     so_far ∙ (ap (λ l. list_all is_replacement (term_pairs_in t0.terms l)) (drop-pair pairs index d within)
     ∙ ap (λ b. b && list_all is_replacement (term_pairs_in t0.terms (drop (index + 1) pairs))) (sym same))
 

@@ -66,7 +66,6 @@ not-second p q one two = cc
 -- the line, while the tables grow
 module _ (t0 t1 : TermTable) (contents : Contents) (is : IsContents t0 contents) (name : List ℕ) (number line body : ℕ) (grown : IsGrown t0 t1) (named : slice_get t1.names number ≡ Some name)
     (body_named : NamesTerm (state_of t0 contents) line t0.terms body) (legal : is_constant_name name ≡ true) where
-
   name-is : name_at t1.names number ≡ name
   name-is = get_or_from_slice_get t1.names number name [] named
 
@@ -81,7 +80,6 @@ module _ (t0 t1 : TermTable) (contents : Contents) (is : IsContents t0 contents)
   }
 
   module _ (t2 : TermTable) (later : IsGrown t1 t2) (new : is_new_name (theory_in t0 contents.entries.items) (name_at t1.names number) ≡ true) where
-
     whole : IsGrown t0 t2
     whole = IsGrown-trans t0 t1 t2 grown later
 
@@ -113,7 +111,6 @@ module _ (t0 t1 : TermTable) (contents : Contents) (is : IsContents t0 contents)
     }
 
     module _ (ty conclusion : ℕ) (defined : IsDefined made (term_at t1.terms body) t2 (Ok (record { ty = ty; conclusion = conclusion }))) where
-
       passes : step_cause wanted ≡ None
       passes = ap step_cause (sym step-is) ∙ defined.0
 
@@ -164,7 +161,7 @@ module _ (t0 t1 : TermTable) (contents : Contents) (is : IsContents t0 contents)
               room = has-room contents not_full;
             },
             within-grown t0 t2 body whole body_named.fits.within,
-            record { within = is_within t2.terms conclusion made.sequent.conclusion defined.2; fits = ap nameless_within_limits conclusion-is ∙ fits }
+            record { within = is_within t2.terms conclusion made.sequent.conclusion defined.2; fits = ap nameless_within_limits conclusion-is ∙ fits },
           );
         };
         refused = tt;

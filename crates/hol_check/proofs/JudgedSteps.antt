@@ -38,7 +38,6 @@ causes number name kind fault fits room there spare = rw (there, spare) (go fits
     go true = refl
     go false = refl
 
-
 -- there is room in the theory
 pub spare : (table : TermTable) (contents : Contents) → length contents.entries.items ≤ DEFINITIONS_LIMIT → nat_le (0 + length (state_of table contents).theory) DEFINITIONS_LIMIT ≡ true
 spare table contents room =

@@ -68,7 +68,7 @@ concluded earlier now theorem wanted formed grows order made =
         record {
           hypotheses = All-weaker (IsFitting earlier.terms) (IsFitting now.terms) (fitting-grown earlier now grows) theorem.hypotheses.items order.fitting;
           conclusion = record { within = is_within now.terms theorem.conclusion formed made.number; fits = ap nameless_within_limits conclusion_is ∙ made.fits };
-        }
+        },
       );
       refused = tt;
     }
@@ -152,11 +152,11 @@ changed-more f t0 t1 t2 list news index new first second all within so_far made 
     let here : IsFitting t2.terms new = record { within = is_within t2.terms new (f (term_at t1.terms x)) made.number; fits = ap nameless_within_limits there ∙ made.fits } in
     record {
       named =
-        map-append (term_at t2.terms) news (new ∷ [])
-        ∙ ((λ i. (terms-still t1 t2 second news so_far.fitting ∙ so_far.named) i ++ (there ∙ ap f same) i ∷ [])
-        ∙ sym (map-taken f t0.terms list index within));
+          map-append (term_at t2.terms) news (new ∷ [])
+          ∙ ((λ i. (terms-still t1 t2 second news so_far.fitting ∙ so_far.named) i ++ (there ∙ ap f same) i ∷ [])
+          ∙ sym (map-taken f t0.terms list index within));
       fitting = All-append (IsFitting t2.terms) news (new ∷ []) (All-weaker (IsFitting t1.terms) (IsFitting t2.terms) (fitting-grown t1 t2 second) news so_far.fitting)
-        (All-cons (IsFitting t2.terms) new [] here (λ k d within. absurd (omega arith)));
+          (All-cons (IsFitting t2.terms) new [] here (λ k d within. absurd (omega arith)));
     }
 
 -- a member that passes a limit makes the whole list pass it
@@ -166,9 +166,9 @@ changed-refused f t0 t1 list index first all within past =
     let x = get_or list index 0 in
     let same : term_at t1.terms x ≡ term_at t0.terms x = term-grown t0 t1 x first (All-get_or (IsFitting t0.terms) list index 0 within all).within in
     let parts : map f (terms_in t0.terms list) ≡ map f (terms_in t0.terms (take index list)) ++ f (term_at t0.terms x) ∷ map f (terms_in t0.terms (drop (index + 1) list)) =
-      ap (λ l. map f (terms_in t0.terms l)) (sym (take-append-drop index list) ∙ ap (λ l. take index list ++ l) (drop-here list index x within refl))
-      ∙ (ap (map f) (map-append (term_at t0.terms) (take index list) (x ∷ drop (index + 1) list))
-      ∙ map-append f (terms_in t0.terms (take index list)) (term_at t0.terms x ∷ terms_in t0.terms (drop (index + 1) list))) in
+    ap (λ l. map f (terms_in t0.terms l)) (sym (take-append-drop index list) ∙ ap (λ l. take index list ++ l) (drop-here list index x within refl))
+    ∙ (ap (map f) (map-append (term_at t0.terms) (take index list) (x ∷ drop (index + 1) list))
+    ∙ map-append f (terms_in t0.terms (take index list)) (term_at t0.terms x ∷ terms_in t0.terms (drop (index + 1) list))) in
     ap (list_all nameless_within_limits) parts ∙ some-past (map f (terms_in t0.terms (take index list))) (map f (terms_in t0.terms (drop (index + 1) list))) (f (term_at t0.terms x)) (ap (λ u. nameless_within_limits (f u)) (sym same) ∙ past)
 
 -- hypotheses that pass a limit make the sequent pass it

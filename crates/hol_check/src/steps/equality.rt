@@ -50,7 +50,10 @@ pub(crate) fn trans(
     }
     let left = left_side(terms, first.conclusion);
     let right = right_side(terms, second.conclusion);
-    if !terms.is_same(right_side(terms, first.conclusion), left_side(terms, second.conclusion)) {
+    if !terms.is_same(
+        right_side(terms, first.conclusion),
+        left_side(terms, second.conclusion),
+    ) {
         return Ok(Err(Cause::Rule));
     }
     let hypotheses = match union(alloc, terms, &first.hypotheses, &second.hypotheses) {
@@ -99,7 +102,10 @@ pub(crate) fn mk_comb(
     }
     let left = (function, argument);
     let right = (other_function, other_argument);
-    conclude(hypotheses, equation_of_applications(alloc, terms, left, right))
+    conclude(
+        hypotheses,
+        equation_of_applications(alloc, terms, left, right),
+    )
 }
 
 /// From `a = b` follows that the abstractions of both over a variable are equal, where it is free in no hypothesis.
@@ -131,7 +137,10 @@ pub(crate) fn abs(
         Ok(hypotheses) => hypotheses,
         Err(fault) => return Err(fault),
     };
-    conclude(hypotheses, equation_of_abstractions(alloc, terms, variable, left, right))
+    conclude(
+        hypotheses,
+        equation_of_abstractions(alloc, terms, variable, left, right),
+    )
 }
 
 /// An abstraction that is applied to a variable that is not free in it equals its body with that variable.

@@ -143,7 +143,10 @@ fn changed_theorem(
         Ok(hypotheses) => hypotheses,
         Err(fault) => return Err(fault),
     };
-    conclude(hypotheses, change_within(alloc, terms, change, premise.conclusion))
+    conclude(
+        hypotheses,
+        change_within(alloc, terms, change, premise.conclusion),
+    )
 }
 
 // The change of each term of a list.

@@ -85,5 +85,8 @@ pub(crate) fn deduct(
         Ok(hypotheses) => hypotheses,
         Err(fault) => return Err(fault),
     };
-    conclude(hypotheses, equation_of(alloc, terms, first.conclusion, second.conclusion))
+    conclude(
+        hypotheses,
+        equation_of(alloc, terms, first.conclusion, second.conclusion),
+    )
 }

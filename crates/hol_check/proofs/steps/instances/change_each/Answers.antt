@@ -33,7 +33,7 @@ loop-number-preserved c =
     record {
       grows = IsGrown-trans t0 t1 t2 grows c.in-Ok.ensures.grows;
       changed = λ meaning meant.
-        rw c.in_ok-push.ensures.items
-        (changed-more (changed meaning 0) t0 t1 t2 c.args.list.now c.loop-number.news.items c.loop-number.number-index c.in-Ok.new grows c.in-Ok.ensures.grows c.requires.list c.loop-number-test.true
-        (c.loop-number.invariant.changed meaning meant) (c.in-Ok.ensures.changed meaning (meant-grown t0 t1 grows c.args.change.now meaning meant)));
+          rw c.in_ok-push.ensures.items
+          (changed-more (changed meaning 0) t0 t1 t2 c.args.list.now c.loop-number.news.items c.loop-number.number-index c.in-Ok.new grows c.in-Ok.ensures.grows c.requires.list c.loop-number-test.true
+          (c.loop-number.invariant.changed meaning meant) (c.in-Ok.ensures.changed meaning (meant-grown t0 t1 grows c.args.change.now meaning meant)));
     }
