@@ -45,7 +45,7 @@ mod typing;
 pub use checker::check;
 pub use claim::{Claim, text_of_claim};
 pub use laws::migration_keeps_claims;
-pub use migrating::{migrate, migration};
+pub use migrating::migrate;
 pub use report::write_claims;
 
 #[cfg(test)]

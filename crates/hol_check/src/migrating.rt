@@ -37,7 +37,7 @@ fn set_second_version(text: &mut Vec<u8>)
 /// is accepted with the same claims.
 ///
 /// Refusals: as of `check`.
-pub fn migration<R: Source>(alloc: Global, reader: &mut R) -> Result<(Vec<Claim>, Vec<u8>), Fault>
+fn migration<R: Source>(alloc: Global, reader: &mut R) -> Result<(Vec<Claim>, Vec<u8>), Fault>
     requires unfailed { R.has_failed reader.old ≡ false }
     ensures migration { IfOk result (λ answer. IsMigration (R.remaining reader.old) answer.0.items answer.1.items) }
     ensures refused { IfErr result (TellsRefusal (R.remaining reader.old)) }

@@ -3,11 +3,10 @@ ghost use Rattle.std.specs.Prelude.{◌≡◌, false, IfOk};
 
 use crate::new_file::NewFile;
 use crate::status::status;
-use hol_check::{check, migrate, text_of_claim};
+use hol_check::{check, migrate, write_claims};
 use hol_model::{Fault, FromRead, IntoWrite};
 use hol_script::run;
 use std::fs::File;
-use std::io::Write;
 use std::{fs, io};
 
 // The file of this name, to be read.
@@ -17,14 +16,6 @@ fn open(rt: &HostRuntime, name: &str) -> Result<FromRead<File>, Fault>
     match fs::open(rt, name) {
         Ok(file) => Ok(FromRead::new(file)),
         Err(_) => Err(Fault::ReadFault),
-    }
-}
-
-// Prints on standard output.
-fn print(rt: &HostRuntime, text: &[u8]) -> Result<(), Fault> {
-    match io::writer(rt).write_all(text) {
-        Ok(()) => Ok(()),
-        Err(_) => Err(Fault::WriteFault),
     }
 }
 
@@ -41,10 +32,7 @@ pub fn check_file(rt: &HostRuntime, log: &str) -> Result<u64, Fault> {
     let alloc = rt.alloc();
     let mut reader = open(rt, log)?;
     let claims = check(alloc, &mut reader)?;
-    for claim in &claims {
-        print(rt, &text_of_claim(alloc, claim)?)?;
-        print(rt, b"\n")?;
-    }
+    write_claims(alloc, &claims, &mut IntoWrite::new(io::writer(rt)))?;
     match println!(rt; "claims: {}", claims.len()) {
         Ok(()) => Ok(0),
         Err(_) => Err(Fault::WriteFault),
