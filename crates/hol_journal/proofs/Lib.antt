@@ -1,0 +1,3 @@
+pub mod SequentLemmas
+pub mod Showing
+pub mod RuleLaws
