@@ -1,3 +1,5 @@
 pub mod SequentLemmas
 pub mod Showing
 pub mod RuleLaws
+pub mod DefinitionLaws
+pub mod InstanceLaws

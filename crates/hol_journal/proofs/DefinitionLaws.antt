@@ -1,0 +1,86 @@
+-- The lines of the axioms and of definitions are accepted, and give the image of what the kernel answers.
+use Rattle.std.proofs.Common.{◌≡◌, ◌≤◌, ◌<◌, ◌+◌, ℕ, zero, suc, List, [], ◌∷◌, ◌++◌, map, length, Bool, true, false, ◌&&◌, ◌||◌, not, refl, sym, ◌∙◌, ap, subst, inl, inr, if◌then◌else◌, Option, Some, None, Ok, Result, arith, nat_le}
+use Rattle.hol_model.specs.declared.fault.Fault.{Fault}
+use Rattle.hol_model.specs.Nameless.{Nameless, free, const, image, same_term}
+use Rattle.hol_model.specs.Theory.{Theory}
+use Rattle.hol_model.specs.Derivable.{IsMember}
+use Rattle.hol_model.specs.Theorem.{Theorem, IsTheorem, with_hypotheses}
+use Rattle.hol_model.specs.LogState.{LogState, set_of, term_type}
+use Rattle.hol_journal.specs.Steps.{Step, JournalEntry, sequent_of_theorem, sequent_at}
+use Rattle.hol_journal.specs.Lines.{Numbering, line_of, NamesParts, MayGoOn, Gives}
+use Rattle.hol_journal.specs.Limits.{FitsLog}
+use Rattle.std.proofs.lemmas.Bool.{leb-true, leb-false, le-leb}
+use Rattle.hol_model.specs.declared.fault.Fault.TheVariants.{BadName, NotClosed, TypeVarsNotReflected, AlreadyDefined, TooLarge}
+use Rattle.hol_model.specs.declared.limits.TheConstants.{DEFINITIONS_LIMIT}
+use Rattle.hol_model.specs.HolType.{HolType}
+use Rattle.hol_model.specs.Name.{is_constant_name}
+use Rattle.hol_model.specs.NamedTerm.{NamedTerm, constant, type_of, equation}
+use Rattle.hol_model.specs.NamedAxioms.{eta_conclusion, select_hypothesis, select_conclusion}
+use Rattle.hol_model.specs.Legality.{is_closed, reflects, is_new_name, own_type}
+use Rattle.hol_model.specs.Checks.{has_no_free, reflects_nameless}
+use Rattle.hol_model.specs.Outcome.{unless, refused}
+use Rattle.hol_model.specs.Rules.{first_unknown, is_full, with_definition, concluded, define_outcome}
+use Rattle.hol_model.specs.LogSequents.{supposing, equation_of}
+use Rattle.hol_model.proofs.Tests.{both}
+use Rattle.hol_model.proofs.LogTests.{not_true}
+use Rattle.hol_model.proofs.Checks.{has_no_free-Decides, reflects_nameless-Decides}
+use Rattle.hol_model.proofs.LegalEntries.{closed-HasNoFree, reflects-image}
+use Rattle.hol_kernel.proofs.DefinitionLemmas.{own_type-is}
+use Rattle.hol_journal.specs.Steps.{by_eta, by_select, by_definition}
+use Rattle.hol_journal.proofs.SequentLemmas.{equation_of-images, term_type-image}
+use Rattle.hol_journal.proofs.Showing.{shown, refused-is, unless-is, concluded-is, same_sequent, no_more}
+
+-- ETA
+pub eta-gives : (theory : Theory) (entries : List JournalEntry) (answer : Theorem) → answer ≡ record { theory = theory; hypotheses = []; conclusion = eta_conclusion }
+    → FitsLog answer → Gives theory entries by_eta (sequent_of_theorem answer)
+eta-gives theory entries answer is fits =
+    shown theory entries by_eta answer fits (λ state numbers names. ap sequent_of_theorem (sym is))
+    (λ state numbers going names. record { number = refl; name = refl; kind = refl; condition = refl; room = no_more theory state going })
+
+-- SELECT
+pub select-gives : (theory : Theory) (entries : List JournalEntry) (answer : Theorem)
+    → answer ≡ record { theory = theory; hypotheses = select_hypothesis ∷ []; conclusion = select_conclusion }
+    → FitsLog answer → Gives theory entries by_select (sequent_of_theorem answer)
+select-gives theory entries answer is fits =
+    shown theory entries by_select answer fits (λ state numbers names. ap sequent_of_theorem (sym is))
+    (λ state numbers going names. record { number = refl; name = refl; kind = refl; condition = refl; room = no_more theory state going })
+
+-- where a theory has room, a log's theory with fewer entries has
+room_for_one : (fewer count limit : ℕ) → fewer ≤ count → nat_le limit count ≡ false → nat_le (1 + fewer) limit ≡ true
+room_for_one fewer count limit less room = let h : count < limit = leb-false limit count room in le-leb (1 + fewer) limit (omega arith)
+
+-- a definition
+pub define-gives : (theory : Theory) (entries : List JournalEntry) (name : List ℕ) (term : NamedTerm) (ty : HolType) (answer : Theorem) → type_of term ≡ Some ty
+    → define_outcome theory name term ≡ Ok answer → FitsLog answer → Gives theory entries (by_definition name term) (sequent_of_theorem answer)
+define-gives theory entries name term ty answer typed outcome fits =
+    let made = concluded (with_definition theory name term) [] (equation (constant name (own_type term)) term) in
+    let after_new = unless (not (is_full theory)) TooLarge made in
+    let after_reflected = unless (is_new_name theory name) AlreadyDefined after_new in
+    let after_closed = unless (reflects (own_type term) term) TypeVarsNotReflected after_reflected in
+    let after_known = unless (is_closed term) NotClosed after_closed in
+    let one = unless-is (is_constant_name name) BadName (refused (first_unknown theory term) after_known) answer outcome in
+    let two = unless-is (is_closed term) NotClosed after_closed answer (refused-is (first_unknown theory term) after_known answer one.1) in
+    let three = unless-is (reflects (own_type term) term) TypeVarsNotReflected after_reflected answer two.1 in
+    let four = unless-is (is_new_name theory name) AlreadyDefined after_new answer three.1 in
+    let five = unless-is (not (is_full theory)) TooLarge made answer four.1 in
+    let is = concluded-is (with_definition theory name term) [] (equation (constant name (own_type term)) term) answer five.1 in
+    let own : own_type term ≡ ty = own_type-is term ty typed in
+    let image_type : term_type (image term) ≡ ty = term_type-image term ty typed in
+    let closed : has_no_free (image term) ≡ true = (has_no_free-Decides (image term)).1 (closed-HasNoFree term two.0) in
+    let reflected : reflects_nameless (own_type term) (image term) ≡ true = (reflects_nameless-Decides (own_type term) (image term)).1 (reflects-image (own_type term) term three.0) in
+    let same_type : term_type (image term) ≡ own_type term = image_type ∙ sym own in
+    shown theory entries (by_definition name term) answer fits
+    (λ state numbers names.
+      ap (λ t. supposing [] (equation_of (const name (term_type t)) t)) (names.terms term (inl refl)).is
+      ∙ same_sequent refl ((λ k. equation_of (const name (same_type k)) (image term)) ∙ equation_of-images (constant name (own_type term)) term (own_type term) refl)
+      ∙ ap sequent_of_theorem (sym is))
+    (λ state numbers going names. record {
+      number = (names.terms term (inl refl)).there;
+      name = ap not (both (is_constant_name name) (is_new_name state.theory name) one.0 (going.new_names name four.0));
+      kind = refl;
+      condition =
+          ap (λ t. not (has_no_free t && reflects_nameless (term_type t) t)) (names.terms term (inl refl)).is
+          ∙ (λ k. not (has_no_free (image term) && reflects_nameless (same_type k) (image term)))
+          ∙ ap not (both (has_no_free (image term)) (reflects_nameless (own_type term) (image term)) closed reflected);
+      room = room_for_one (length state.theory) (length theory) DEFINITIONS_LIMIT going.fewer (not_true (is_full theory) five.0);
+    })
