@@ -49,10 +49,17 @@ select-gives theory entries answer is fits =
 room_for_one : (fewer count limit : ℕ) → fewer ≤ count → nat_le limit count ≡ false → nat_le (1 + fewer) limit ≡ true
 room_for_one fewer count limit less room = let h : count < limit = leb-false limit count room in le-leb (1 + fewer) limit (omega arith)
 
--- a definition
-pub define-gives : (theory : Theory) (entries : List JournalEntry) (name : List ℕ) (term : NamedTerm) (ty : HolType) (answer : Theorem) → type_of term ≡ Some ty
-    → define_outcome theory name term ≡ Ok answer → FitsLog answer → Gives theory entries (by_definition name term) (sequent_of_theorem answer)
-define-gives theory entries name term ty answer typed outcome fits =
+-- what an accepted definition passed, and the theorem
+record IsDefined (theory : Theory) (name : List ℕ) (term : NamedTerm) (answer : Theorem) : Type 0 where
+  is_name : is_constant_name name ≡ true
+  closed : is_closed term ≡ true
+  reflected : reflects (own_type term) term ≡ true
+  is_new : is_new_name theory name ≡ true
+  has_room : not (is_full theory) ≡ true
+  is : answer ≡ record { theory = with_definition theory name term; hypotheses = []; conclusion = equation (constant name (own_type term)) term }
+
+defined : (theory : Theory) (name : List ℕ) (term : NamedTerm) (answer : Theorem) → define_outcome theory name term ≡ Ok answer → IsDefined theory name term answer
+defined theory name term answer outcome =
     let made = concluded (with_definition theory name term) [] (equation (constant name (own_type term)) term) in
     let after_new = unless (not (is_full theory)) TooLarge made in
     let after_reflected = unless (is_new_name theory name) AlreadyDefined after_new in
@@ -63,24 +70,41 @@ define-gives theory entries name term ty answer typed outcome fits =
     let three = unless-is (reflects (own_type term) term) TypeVarsNotReflected after_reflected answer two.1 in
     let four = unless-is (is_new_name theory name) AlreadyDefined after_new answer three.1 in
     let five = unless-is (not (is_full theory)) TooLarge made answer four.1 in
-    let is = concluded-is (with_definition theory name term) [] (equation (constant name (own_type term)) term) answer five.1 in
+    record {
+      is_name = one.0;
+      closed = two.0;
+      reflected = three.0;
+      is_new = four.0;
+      has_room = five.0;
+      is = concluded-is (with_definition theory name term) [] (equation (constant name (own_type term)) term) answer five.1;
+    }
+
+pub define-answers : (theory : Theory) (name : List ℕ) (term : NamedTerm) (answer : Theorem) → define_outcome theory name term ≡ Ok answer
+    → answer ≡ record { theory = with_definition theory name term; hypotheses = []; conclusion = equation (constant name (own_type term)) term }
+define-answers theory name term answer outcome = (defined theory name term answer outcome).is
+
+-- a definition
+pub define-gives : (theory : Theory) (entries : List JournalEntry) (name : List ℕ) (term : NamedTerm) (ty : HolType) (answer : Theorem) → type_of term ≡ Some ty
+    → define_outcome theory name term ≡ Ok answer → FitsLog answer → Gives theory entries (by_definition name term) (sequent_of_theorem answer)
+define-gives theory entries name term ty answer typed outcome fits =
+    let d = defined theory name term answer outcome in
     let own : own_type term ≡ ty = own_type-is term ty typed in
     let image_type : term_type (image term) ≡ ty = term_type-image term ty typed in
-    let closed : has_no_free (image term) ≡ true = (has_no_free-Decides (image term)).1 (closed-HasNoFree term two.0) in
-    let reflected : reflects_nameless (own_type term) (image term) ≡ true = (reflects_nameless-Decides (own_type term) (image term)).1 (reflects-image (own_type term) term three.0) in
+    let closed : has_no_free (image term) ≡ true = (has_no_free-Decides (image term)).1 (closed-HasNoFree term d.closed) in
+    let reflected : reflects_nameless (own_type term) (image term) ≡ true = (reflects_nameless-Decides (own_type term) (image term)).1 (reflects-image (own_type term) term d.reflected) in
     let same_type : term_type (image term) ≡ own_type term = image_type ∙ sym own in
     shown theory entries (by_definition name term) answer fits
     (λ state numbers names.
       ap (λ t. supposing [] (equation_of (const name (term_type t)) t)) (names.terms term (inl refl)).is
       ∙ same_sequent refl ((λ k. equation_of (const name (same_type k)) (image term)) ∙ equation_of-images (constant name (own_type term)) term (own_type term) refl)
-      ∙ ap sequent_of_theorem (sym is))
+      ∙ ap sequent_of_theorem (sym d.is))
     (λ state numbers going names. record {
       number = (names.terms term (inl refl)).there;
-      name = ap not (both (is_constant_name name) (is_new_name state.theory name) one.0 (going.new_names name four.0));
+      name = ap not (both (is_constant_name name) (is_new_name state.theory name) d.is_name (going.new_names name d.is_new));
       kind = refl;
       condition =
           ap (λ t. not (has_no_free t && reflects_nameless (term_type t) t)) (names.terms term (inl refl)).is
           ∙ (λ k. not (has_no_free (image term) && reflects_nameless (same_type k) (image term)))
           ∙ ap not (both (has_no_free (image term)) (reflects_nameless (own_type term) (image term)) closed reflected);
-      room = room_for_one (length state.theory) (length theory) DEFINITIONS_LIMIT going.fewer (not_true (is_full theory) five.0);
+      room = room_for_one (length state.theory) (length theory) DEFINITIONS_LIMIT going.fewer (not_true (is_full theory) d.has_room);
     })

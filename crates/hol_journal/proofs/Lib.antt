@@ -3,3 +3,6 @@ pub mod Showing
 pub mod RuleLaws
 pub mod DefinitionLaws
 pub mod InstanceLaws
+pub mod JournalLemmas
+pub mod FollowLemmas
+pub mod StoredLemmas

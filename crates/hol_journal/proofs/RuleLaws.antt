@@ -22,7 +22,7 @@ use Rattle.hol_model.proofs.Images.{image-typed, image-abstraction, occurs_free-
 use Rattle.hol_kernel.proofs.RuleLemmas.{some_type}
 use Rattle.hol_kernel.proofs.HypothesesLemmas.{image-without_hypothesis}
 use Rattle.hol_kernel.proofs.OrderLemmas.{kept-ordered}
-use Rattle.std.specs.Option.{option_map, is_some}
+use Rattle.std.specs.Option.{option_map, option_map_or, is_some}
 use Rattle.hol_model.specs.Goals.{Sequent}
 use Rattle.hol_model.specs.LogLine.{LogRule}
 use Rattle.hol_model.specs.LogLine.LogLine.{theorem_line}
@@ -49,11 +49,12 @@ refl-gives theory entries term ty answer typed outcome fits =
     (λ state numbers going names. record { number = (names.terms term (inl refl)).there; name = refl; kind = refl; condition = refl; room = no_more theory state going })
 
 -- ASSUME
-pub assume-gives : (theory : Theory) (entries : List JournalEntry) (term : NamedTerm) (answer : Theorem) → type_of term ≡ Some bool_type
+pub assume-gives : (theory : Theory) (entries : List JournalEntry) (term : NamedTerm) (ty : HolType) (answer : Theorem) → type_of term ≡ Some ty
     → assume_outcome theory term ≡ Ok answer → FitsLog answer → Gives theory entries (by_assume term) (sequent_of_theorem answer)
-assume-gives theory entries term answer typed outcome fits =
+assume-gives theory entries term ty answer typed outcome fits =
     let made : Theorem = record { theory = theory; hypotheses = term ∷ []; conclusion = term } in
     let passed = unless-is (is_formula term) NotBool (refused (first_unknown theory term) (Ok made)) answer outcome in
+    let is_bool : type_eq ty bool_type ≡ true = ap (λ o. option_map_or (λ t. type_eq t bool_type) o false) (sym typed) ∙ passed.0 in
     let same : Ok made ≡ Ok answer = refused-is (first_unknown theory term) (Ok made) answer passed.1 in
     let is : made ≡ answer = cc in
     shown theory entries (by_assume term) answer fits
@@ -63,7 +64,7 @@ assume-gives theory entries term answer typed outcome fits =
     (λ state numbers going names. record {
       number = (names.terms term (inl refl)).there;
       name = refl;
-      kind = ap not (ap (λ t. type_eq (term_type t) bool_type) (names.terms term (inl refl)).is ∙ ap (λ t. type_eq t bool_type) (term_type-image term bool_type typed));
+      kind = ap not (ap (λ t. type_eq (term_type t) bool_type) (names.terms term (inl refl)).is ∙ ap (λ t. type_eq t bool_type) (term_type-image term ty typed) ∙ is_bool);
       condition = refl;
       room = no_more theory state going;
     })
