@@ -1,15 +1,13 @@
 -- The lines of the axioms and of definitions are accepted, and give the image of what the kernel answers.
-use Rattle.std.proofs.Common.{◌≡◌, ◌≤◌, ◌<◌, ◌+◌, ℕ, zero, suc, List, [], ◌∷◌, ◌++◌, map, length, Bool, true, false, ◌&&◌, ◌||◌, not, refl, sym, ◌∙◌, ap, subst, inl, inr, if◌then◌else◌, Option, Some, None, Ok, Result, arith, nat_le}
-use Rattle.hol_model.specs.declared.fault.Fault.{Fault}
-use Rattle.hol_model.specs.Nameless.{Nameless, free, const, image, same_term}
+use Rattle.std.proofs.Common.{◌≡◌, ◌≤◌, ◌<◌, ◌+◌, ℕ, List, [], ◌∷◌, length, true, false, ◌&&◌, not, refl, sym, ◌∙◌, ap, inl, Some, Ok, arith, nat_le}
+use Rattle.hol_model.specs.Nameless.{const, image}
 use Rattle.hol_model.specs.Theory.{Theory}
-use Rattle.hol_model.specs.Derivable.{IsMember}
-use Rattle.hol_model.specs.Theorem.{Theorem, IsTheorem, with_hypotheses}
-use Rattle.hol_model.specs.LogState.{LogState, set_of, term_type}
-use Rattle.hol_journal.specs.Steps.{Step, JournalEntry, sequent_of_theorem, sequent_at}
-use Rattle.hol_journal.specs.Lines.{Numbering, line_of, NamesParts, MayGoOn, Gives}
+use Rattle.hol_model.specs.Theorem.{Theorem}
+use Rattle.hol_model.specs.LogState.{term_type}
+use Rattle.hol_journal.specs.Steps.{JournalEntry, sequent_of_theorem}
+use Rattle.hol_journal.specs.Lines.{Gives}
 use Rattle.hol_journal.specs.Limits.{FitsLog}
-use Rattle.std.proofs.lemmas.Bool.{leb-true, leb-false, le-leb}
+use Rattle.std.proofs.lemmas.Bool.{leb-false, le-leb}
 use Rattle.hol_model.specs.declared.fault.Fault.TheVariants.{BadName, NotClosed, TypeVarsNotReflected, AlreadyDefined, TooLarge}
 use Rattle.hol_model.specs.declared.limits.TheConstants.{DEFINITIONS_LIMIT}
 use Rattle.hol_model.specs.HolType.{HolType}
@@ -95,9 +93,9 @@ define-gives theory entries name term ty answer typed outcome fits =
     let same_type : term_type (image term) ≡ own_type term = image_type ∙ sym own in
     shown theory entries (by_definition name term) answer fits
     (λ state numbers names.
-      ap (λ t. supposing [] (equation_of (const name (term_type t)) t)) (names.terms term (inl refl)).is
-      ∙ same_sequent refl ((λ k. equation_of (const name (same_type k)) (image term)) ∙ equation_of-images (constant name (own_type term)) term (own_type term) refl)
-      ∙ ap sequent_of_theorem (sym d.is))
+    ap (λ t. supposing [] (equation_of (const name (term_type t)) t)) (names.terms term (inl refl)).is
+    ∙ same_sequent refl ((λ k. equation_of (const name (same_type k)) (image term)) ∙ equation_of-images (constant name (own_type term)) term (own_type term) refl)
+    ∙ ap sequent_of_theorem (sym d.is))
     (λ state numbers going names. record {
       number = (names.terms term (inl refl)).there;
       name = ap not (both (is_constant_name name) (is_new_name state.theory name) d.is_name (going.new_names name d.is_new));

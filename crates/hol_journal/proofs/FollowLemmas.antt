@@ -1,6 +1,6 @@
 -- Each call of the recorder adds an entry that follows.
-use Rattle.std.proofs.Common.{◌≡◌, ◌⊎◌, ℕ, List, [], ◌∷◌, refl, sym, ◌∙◌, ap, subst, inl, inr, Some, None, Ok}
-use Rattle.hol_model.specs.HolType.{HolType, bool_type}
+use Rattle.std.proofs.Common.{◌≡◌, ℕ, List, [], ◌∷◌, sym, subst, inl, inr, Some, None, Ok}
+use Rattle.hol_model.specs.HolType.{HolType}
 use Rattle.hol_model.specs.NamedTerm.{NamedTerm, type_of}
 use Rattle.hol_model.specs.NamedAxioms.{eta_conclusion, select_hypothesis, select_conclusion}
 use Rattle.hol_model.specs.Derivable.{IsMember}

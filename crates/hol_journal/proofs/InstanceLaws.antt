@@ -1,25 +1,25 @@
 -- The lines of INST and INST_TYPE are accepted, and give the image of what the kernel answers.
-use Rattle.std.proofs.Common.{◌≡◌, ◌≤◌, ◌<◌, ◌+◌, ℕ, zero, suc, List, [], ◌∷◌, ◌++◌, map, length, Bool, true, false, ◌&&◌, ◌||◌, not, refl, sym, ◌∙◌, ap, subst, inl, inr, if◌then◌else◌, Option, Some, None, Ok, Result, arith, nat_le}
+use Rattle.std.proofs.Common.{◌≡◌, ℕ, List, [], ◌∷◌, map, Bool, true, false, not, refl, sym, ◌∙◌, ap, inl, inr, if◌then◌else◌, Option, Some, None}
 use Rattle.hol_model.specs.declared.fault.Fault.{Fault}
-use Rattle.hol_model.specs.Nameless.{Nameless, free, const, image, same_term}
+use Rattle.hol_model.specs.Nameless.{Nameless, free, image, same_term}
 use Rattle.hol_model.specs.Theory.{Theory}
 use Rattle.hol_model.specs.Derivable.{IsMember}
-use Rattle.hol_model.specs.Theorem.{Theorem, IsTheorem, with_hypotheses}
+use Rattle.hol_model.specs.Theorem.{Theorem}
 use Rattle.hol_model.specs.LogState.{LogState, set_of, term_type}
-use Rattle.hol_journal.specs.Steps.{Step, JournalEntry, sequent_of_theorem, sequent_at}
-use Rattle.hol_journal.specs.Lines.{Numbering, line_of, NamesParts, MayGoOn, Gives}
+use Rattle.hol_journal.specs.Steps.{JournalEntry, sequent_of_theorem}
+use Rattle.hol_journal.specs.Lines.{Numbering, Gives}
 use Rattle.hol_journal.specs.Limits.{FitsLog}
 use Rattle.std.specs.Prelude.{find}
-use Rattle.std.specs.List.{list_all, list_any}
+use Rattle.std.specs.List.{list_all}
 use Rattle.std.specs.Option.{option_map_or}
 use Rattle.hol_model.specs.HolType.{HolType, type_eq, type_instance_of, replaces_type_variables}
 use Rattle.hol_model.specs.NamedTerm.{NamedTerm, variable, constant, combination, abstraction, is_variable, same_variable, type_of}
 use Rattle.hol_model.specs.Substitution.{put, put_all, replacement, is_variable_named, replaces_variables, keeps_types, same_type, instantiate, TermInstance}
 use Rattle.hol_model.specs.Instantiation.{IsChanged, IsInst, IsInstType, inst_refusal, inst_type_refusal, instantiate_all, replacements_refusal, type_replacements_refusal, or_too_large, all_fit}
-use Rattle.hol_model.specs.LogState.{term_at, type_at, term_pairs_at, type_pairs_at}
+use Rattle.hol_model.specs.LogState.{term_pairs_at, type_pairs_at}
 use Rattle.hol_model.specs.LogSequents.{supposing, term_instance_of, is_free_variable}
-use Rattle.hol_model.specs.LogFaults.{is_no_term, is_no_type, some_is_no_term, some_is_no_type, is_replacement}
-use Rattle.hol_model.proofs.HolTypeEq.{type_eq-Decides, type_eq-self}
+use Rattle.hol_model.specs.LogFaults.{some_is_no_term, some_is_no_type, is_replacement}
+use Rattle.hol_model.proofs.HolTypeEq.{type_eq-Decides}
 use Rattle.hol_model.proofs.Tests.{first_of_both, second_of_both, both, same_answer, same_name, same_variable-type, same_variable-self, same_term-Decides}
 use Rattle.hol_kernel.proofs.InstanceLemmas.{passes_inst, passes_inst_type}
 use Rattle.hol_journal.specs.Steps.{by_inst, by_inst_type, both_parts}
@@ -75,7 +75,7 @@ same_old : (old : NamedTerm) (name : List ℕ) (ty : HolType) → is_variable ol
 same_old (variable other s) name ty is =
     same_answer (same_term (free other s) (free name ty)) (same_variable other s name ty)
     (λ passed. let same : free other s ≡ free name ty = (same_term-Decides (free other s) (free name ty)).0 passed in
-      let one : other ≡ name = cc in let two : s ≡ ty = cc in rw (one, two) (same_variable-self name ty))
+    let one : other ≡ name = cc in let two : s ≡ ty = cc in rw (one, two) (same_variable-self name ty))
     (λ passed. (same_term-Decides (free other s) (free name ty)).1 (λ k. free (same_name other name s ty passed k) (same_variable-type other name s ty passed k)))
 same_old (constant other s) name ty is = cc
 same_old (combination f x) name ty is = cc
@@ -122,8 +122,8 @@ pairs_are_replacements (pair ∷ pairs) are keep =
     let same : term_type (image pair.0) ≡ term_type (image pair.1) = term_type-image pair.0 types.0 types.1 ∙ sym (term_type-image pair.1 types.0 types.2) in
     both (is_replacement (image pair.0, image pair.1)) (list_all is_replacement (images_of pairs))
     (both (is_free_variable (image pair.1)) (type_eq (term_type (image pair.0)) (term_type (image pair.1)))
-      (is_free-image pair.1 (first_of_both (is_variable pair.1) (replaces_variables pairs) are))
-      ((type_eq-Decides (term_type (image pair.0)) (term_type (image pair.1))).1 same))
+    (is_free-image pair.1 (first_of_both (is_variable pair.1) (replaces_variables pairs) are))
+    ((type_eq-Decides (term_type (image pair.0)) (term_type (image pair.1))).1 same))
     (pairs_are_replacements pairs (second_of_both (is_variable pair.1) (replaces_variables pairs) are) (second_of_both (same_type (type_of pair.0) (type_of pair.1)) (keeps_types pairs) keep))
 
 pub inst-gives : (theory : Theory) (entries : List JournalEntry) (i : ℕ) (pairs : List (NamedTerm × NamedTerm)) (theorem answer : Theorem) → IsCited entries i theorem
@@ -133,10 +133,10 @@ inst-gives theory entries i pairs theorem answer cited none is fits =
     let same = same_put (term_instance_of (images_of pairs)) (replacement pairs) (same_instance pairs passes.variables) in
     shown theory entries (by_inst i pairs) answer fits
     (λ state numbers names.
-      (λ k. let s = ((names.theorems i (inl refl)).is ∙ cited.at) k in let theta = term_instance_of (term_pairs-named state numbers pairs names.terms k) in
-        supposing (map (put theta) s.hypotheses) (put theta s.conclusion))
-      ∙ (λ k. supposing (map (λ t. same t k) (map image theorem.hypotheses)) (same (image theorem.conclusion) k))
-      ∙ changed theory (put_all pairs) theorem answer is)
+    (λ k. let s = ((names.theorems i (inl refl)).is ∙ cited.at) k in let theta = term_instance_of (term_pairs-named state numbers pairs names.terms k) in
+    supposing (map (put theta) s.hypotheses) (put theta s.conclusion))
+    ∙ (λ k. supposing (map (λ t. same t k) (map image theorem.hypotheses)) (same (image theorem.conclusion) k))
+    ∙ changed theory (put_all pairs) theorem answer is)
     (λ state numbers going names. record {
       number = neither _ _ (names.theorems i (inl refl)).there (terms-there state numbers pairs names.terms);
       name = refl;
@@ -152,9 +152,9 @@ inst_type-gives theory entries i pairs theorem answer cited none is fits =
     let passes = passes_inst_type theory pairs (no_refusal (type_replacements_refusal theory pairs) (all_fit (instantiate_all pairs) (theorem.conclusion ∷ theorem.hypotheses)) none) in
     shown theory entries (by_inst_type i pairs) answer fits
     (λ state numbers names.
-      (λ k. let s = ((names.theorems i (inl refl)).is ∙ cited.at) k in let tau = type_instance_of (type_pairs-named state numbers pairs names.types k) in
-        supposing (map (instantiate tau) s.hypotheses) (instantiate tau s.conclusion))
-      ∙ changed theory (instantiate_all pairs) theorem answer is)
+    (λ k. let s = ((names.theorems i (inl refl)).is ∙ cited.at) k in let tau = type_instance_of (type_pairs-named state numbers pairs names.types k) in
+    supposing (map (instantiate tau) s.hypotheses) (instantiate tau s.conclusion))
+    ∙ changed theory (instantiate_all pairs) theorem answer is)
     (λ state numbers going names. record {
       number = neither _ _ (names.theorems i (inl refl)).there (types-there state numbers pairs names.types);
       name = refl;

@@ -1,14 +1,13 @@
 -- One more entry keeps a journal.
-use Rattle.std.proofs.Common.{◌≡◌, ◌⊎◌, ℕ, List, [], ◌∷◌, ◌++◌, map, refl, sym, ◌∙◌, ap, subst, inl, inr, Some, append_assoc}
-use Rattle.std.specs.Prelude.{slice_get}
+use Rattle.std.proofs.Common.{◌≡◌, ◌⊎◌, ℕ, List, [], ◌∷◌, ◌++◌, refl, sym, ◌∙◌, ap, subst, inl, inr}
 use Rattle.hol_model.specs.Theory.{Theory}
-use Rattle.hol_model.specs.Theorem.{Theorem, IsTheorem}
+use Rattle.hol_model.specs.Theorem.{IsTheorem}
 use Rattle.hol_model.specs.Derivable.{IsMember}
 use Rattle.hol_model.specs.Goals.{Sequent}
 use Rattle.hol_journal.specs.Steps.{Step, JournalEntry, derived, derived_sequent, sequent_of_theorem}
 use Rattle.hol_journal.specs.Steps as steps
 use Rattle.hol_journal.specs.Lines.{Gives}
-use Rattle.hol_journal.specs.Journal.{Journal, Recorded, added_by, grown_by, theory_of, HasTheorem, Follows, IsJournal, IsMade}
+use Rattle.hol_journal.specs.Journal.{Journal, Recorded, added_by, grown_by, HasTheorem, Follows, IsJournal, IsMade}
 use Rattle.hol_journal.specs.Views.{entry_of, entries_of}
 use Rattle.hol_journal.specs.declared.entry.Entry.{Entry}
 use Rattle.hol_journal.proofs.Showing.{IsCited}

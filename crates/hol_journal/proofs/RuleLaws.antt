@@ -1,17 +1,14 @@
 -- The line of each step is accepted, and gives the image of what the kernel answers.
-use Rattle.std.proofs.Common.{◌≡◌, ◌≤◌, ◌+◌, ℕ, zero, List, [], ◌∷◌, ◌++◌, map, length, Bool, true, false, ◌&&◌, ◌||◌, not, refl, sym, ◌∙◌, ap, subst, inl, inr, suc, if◌then◌else◌, Option, Some, None, Ok, Result, arith, nat_le}
-use Rattle.hol_model.specs.declared.fault.Fault.{Fault}
-use Rattle.hol_model.specs.declared.limits.TheConstants.{DEFINITIONS_LIMIT}
+use Rattle.std.proofs.Common.{◌≡◌, ℕ, List, [], ◌∷◌, ◌++◌, map, Bool, true, false, ◌&&◌, ◌||◌, not, refl, sym, ◌∙◌, ap, subst, inl, inr, suc, if◌then◌else◌, Option, Some, None, Ok}
 use Rattle.hol_model.specs.HolType.{HolType, bool_type, function_type, type_eq}
-use Rattle.hol_model.specs.NamedTerm.{NamedTerm, variable, combination, abstraction, type_of, application_type, dest_variable, same_variable, equation, is_within_limits}
+use Rattle.hol_model.specs.NamedTerm.{NamedTerm, variable, combination, abstraction, type_of, application_type, dest_variable, same_variable, equation}
 use Rattle.hol_model.specs.Nameless.{Nameless, free, const, bound, app, lam, image, same_term}
-use Rattle.hol_model.specs.Theory.{Theory, IsEarlier, IsLegal}
-use Rattle.hol_model.specs.Derivable.{IsMember, nameless_equation, without}
-use Rattle.hol_model.specs.Theorem.{Theorem, IsTheorem, are_alpha_equivalent, with_hypotheses, without_hypothesis}
-use Rattle.hol_model.specs.declared.fault.Fault.TheVariants.{TooLarge, NotBool, NotEquation, NotAlpha, TypeMismatch, NotVariable, UnknownType, FreeInHypothesis, NotTrivialBeta}
+use Rattle.hol_model.specs.Theory.{Theory}
+use Rattle.hol_model.specs.Derivable.{without}
+use Rattle.hol_model.specs.Theorem.{Theorem, are_alpha_equivalent, with_hypotheses, without_hypothesis}
+use Rattle.hol_model.specs.declared.fault.Fault.TheVariants.{NotBool, NotEquation, NotAlpha, TypeMismatch, NotVariable, UnknownType, FreeInHypothesis, NotTrivialBeta}
 use Rattle.hol_model.specs.Outcome.{unless, given, refused}
 use Rattle.hol_model.specs.Rules.{first_unknown, dest_equation, dest_trivial_redex, is_formula, is_free_in_hypotheses, concluded, refl_outcome, assume_outcome, trans_outcome, eq_mp_outcome, mk_comb_outcome, abs_outcome, beta_outcome, deduct_antisym_outcome}
-use Rattle.hol_model.proofs.Outcomes.{passed_value}
 use Rattle.hol_model.specs.KnownTerm.{knows_type}
 use Rattle.hol_model.specs.Substitution.{close_at, close, occurs_free, put, only}
 use Rattle.hol_model.proofs.HolTypeEq.{type_eq-self}
@@ -23,17 +20,13 @@ use Rattle.hol_kernel.proofs.RuleLemmas.{some_type}
 use Rattle.hol_kernel.proofs.HypothesesLemmas.{image-without_hypothesis}
 use Rattle.hol_kernel.proofs.OrderLemmas.{kept-ordered}
 use Rattle.std.specs.Option.{option_map, option_map_or, is_some}
-use Rattle.hol_model.specs.Goals.{Sequent}
-use Rattle.hol_model.specs.LogLine.{LogRule}
-use Rattle.hol_model.specs.LogLine.LogLine.{theorem_line}
-use Rattle.hol_model.specs.LogState.{LogState, set_of, term_type}
-use Rattle.hol_model.specs.LogSequents.{sequent_of, rule_entries, supposing, equation_of, is_equation, is_free_variable, left_side, right_side, side_type, redex_body, abstraction_over}
+use Rattle.hol_model.specs.LogState.{set_of, term_type}
+use Rattle.hol_model.specs.LogSequents.{supposing, equation_of, is_equation, is_free_variable, left_side, right_side, side_type, redex_body, abstraction_over}
 use Rattle.hol_model.specs.LogFaults.{takes, is_free_in_any, is_trivial_redex}
-use Rattle.hol_journal.specs.Steps.{Step, by_refl, by_assume, by_trans, by_eq_mp, by_mk_comb, by_abs, by_beta, by_deduct, JournalEntry, sequent_of_theorem, sequent_at}
-use Rattle.hol_journal.specs.Lines.{Numbering, line_of, NamesParts, MayGoOn, Gives}
+use Rattle.hol_journal.specs.Steps.{by_refl, by_assume, by_trans, by_eq_mp, by_mk_comb, by_abs, by_beta, by_deduct, JournalEntry, sequent_of_theorem}
+use Rattle.hol_journal.specs.Lines.{Gives}
 use Rattle.hol_journal.specs.Limits.{FitsLog}
 use Rattle.hol_journal.proofs.SequentLemmas.{set_of-merged, set_of-ordered, equation_of-images, term_type-image}
-
 use Rattle.hol_journal.proofs.Showing.{shown, refused-is, unless-is, given-is, concluded-is, same_sequent, neither, no_more, IsCited, sides_of, formula_of, value_of, answered, ok_is}
 
 -- REFL
@@ -43,9 +36,9 @@ refl-gives theory entries term ty answer typed outcome fits =
     let is = concluded-is theory [] (equation term term) answer (refused-is (first_unknown theory term) (concluded theory [] (equation term term)) answer outcome) in
     shown theory entries (by_refl term) answer fits
     (λ state numbers names.
-      ap (λ t. supposing [] (equation_of t t)) (names.terms term (inl refl)).is
-      ∙ same_sequent refl (equation_of-images term term ty typed)
-      ∙ ap sequent_of_theorem (sym is))
+    ap (λ t. supposing [] (equation_of t t)) (names.terms term (inl refl)).is
+    ∙ same_sequent refl (equation_of-images term term ty typed)
+    ∙ ap sequent_of_theorem (sym is))
     (λ state numbers going names. record { number = (names.terms term (inl refl)).there; name = refl; kind = refl; condition = refl; room = no_more theory state going })
 
 -- ASSUME
@@ -59,8 +52,8 @@ assume-gives theory entries term ty answer typed outcome fits =
     let is : made ≡ answer = cc in
     shown theory entries (by_assume term) answer fits
     (λ state numbers names.
-      ap (λ t. supposing (t ∷ []) t) (names.terms term (inl refl)).is
-      ∙ ap sequent_of_theorem is)
+    ap (λ t. supposing (t ∷ []) t) (names.terms term (inl refl)).is
+    ∙ ap sequent_of_theorem is)
     (λ state numbers going names. record {
       number = (names.terms term (inl refl)).there;
       name = refl;
@@ -75,7 +68,7 @@ pub trans-gives : (theory : Theory) (entries : List JournalEntry) (i j : ℕ) (f
 trans-gives theory entries i j first second answer cited_first cited_second outcome fits =
     let made = λ (left right : NamedTerm × NamedTerm). concluded theory (with_hypotheses first.hypotheses second.hypotheses) (equation left.0 right.1) in
     let one = given-is (dest_equation first.conclusion) NotEquation
-        (λ left. given (dest_equation second.conclusion) NotEquation (λ right. unless (are_alpha_equivalent left.1 right.0) NotAlpha (made left right))) answer outcome in
+    (λ left. given (dest_equation second.conclusion) NotEquation (λ right. unless (are_alpha_equivalent left.1 right.0) NotAlpha (made left right))) answer outcome in
     let left = one.0 in
     let two = given-is (dest_equation second.conclusion) NotEquation (λ right. unless (are_alpha_equivalent left.1 right.0) NotAlpha (made left right)) answer one.2 in
     let right = two.0 in
@@ -85,21 +78,21 @@ trans-gives theory entries i j first second answer cited_first cited_second outc
     let f = sides_of second cited_second.is right.0 right.1 two.1 in
     shown theory entries (by_trans i j) answer fits
     (λ state numbers names.
-      (λ k. let s = ((names.theorems i (inl refl)).is ∙ cited_first.at) k in let t = ((names.theorems j (inr (inl refl))).is ∙ cited_second.at) k in
-        supposing (s.hypotheses ++ t.hypotheses) (equation_of (left_side s.conclusion) (right_side t.conclusion)))
-      ∙ same_sequent (set_of-merged first.hypotheses second.hypotheses cited_first.is.ordered)
-        ((λ k. equation_of (left_side (e.image_is k)) (right_side (f.image_is k))) ∙ equation_of-images left.0 right.1 e.ty e.left_typed)
-      ∙ ap sequent_of_theorem (sym is))
+    (λ k. let s = ((names.theorems i (inl refl)).is ∙ cited_first.at) k in let t = ((names.theorems j (inr (inl refl))).is ∙ cited_second.at) k in
+    supposing (s.hypotheses ++ t.hypotheses) (equation_of (left_side s.conclusion) (right_side t.conclusion)))
+    ∙ same_sequent (set_of-merged first.hypotheses second.hypotheses cited_first.is.ordered)
+    ((λ k. equation_of (left_side (e.image_is k)) (right_side (f.image_is k))) ∙ equation_of-images left.0 right.1 e.ty e.left_typed)
+    ∙ ap sequent_of_theorem (sym is))
     (λ state numbers going names.
-      let s = ap (λ t. t.conclusion) ((names.theorems i (inl refl)).is ∙ cited_first.at) ∙ e.image_is in
-      let t = ap (λ t. t.conclusion) ((names.theorems j (inr (inl refl))).is ∙ cited_second.at) ∙ f.image_is in
-      record {
-        number = neither _ _ (names.theorems i (inl refl)).there (names.theorems j (inr (inl refl))).there;
-        name = refl;
-        kind = refl;
-        condition = (λ k. not ((is_equation (s k) && is_equation (t k)) && same_term (right_side (s k)) (left_side (t k)))) ∙ ap not three.0;
-        room = no_more theory state going;
-      })
+    let s = ap (λ t. t.conclusion) ((names.theorems i (inl refl)).is ∙ cited_first.at) ∙ e.image_is in
+    let t = ap (λ t. t.conclusion) ((names.theorems j (inr (inl refl))).is ∙ cited_second.at) ∙ f.image_is in
+    record {
+      number = neither _ _ (names.theorems i (inl refl)).there (names.theorems j (inr (inl refl))).there;
+      name = refl;
+      kind = refl;
+      condition = (λ k. not ((is_equation (s k) && is_equation (t k)) && same_term (right_side (s k)) (left_side (t k)))) ∙ ap not three.0;
+      room = no_more theory state going;
+    })
 
 -- EQ_MP
 pub eq_mp-gives : (theory : Theory) (entries : List JournalEntry) (i j : ℕ) (first second answer : Theorem) → IsCited entries i first → IsCited entries j second
@@ -114,29 +107,29 @@ eq_mp-gives theory entries i j first second answer cited_first cited_second outc
     let e = sides_of first cited_first.is sides.0 sides.1 one.1 in
     shown theory entries (by_eq_mp i j) answer fits
     (λ state numbers names.
-      (λ k. let s = ((names.theorems i (inl refl)).is ∙ cited_first.at) k in let t = ((names.theorems j (inr (inl refl))).is ∙ cited_second.at) k in
-        supposing (s.hypotheses ++ t.hypotheses) (right_side s.conclusion))
-      ∙ same_sequent (set_of-merged first.hypotheses second.hypotheses cited_first.is.ordered) (ap right_side e.image_is)
-      ∙ ap sequent_of_theorem is)
+    (λ k. let s = ((names.theorems i (inl refl)).is ∙ cited_first.at) k in let t = ((names.theorems j (inr (inl refl))).is ∙ cited_second.at) k in
+    supposing (s.hypotheses ++ t.hypotheses) (right_side s.conclusion))
+    ∙ same_sequent (set_of-merged first.hypotheses second.hypotheses cited_first.is.ordered) (ap right_side e.image_is)
+    ∙ ap sequent_of_theorem is)
     (λ state numbers going names.
-      let s = ap (λ t. t.conclusion) ((names.theorems i (inl refl)).is ∙ cited_first.at) ∙ e.image_is in
-      let t = ap (λ t. t.conclusion) ((names.theorems j (inr (inl refl))).is ∙ cited_second.at) in
-      record {
-        number = neither _ _ (names.theorems i (inl refl)).there (names.theorems j (inr (inl refl))).there;
-        name = refl;
-        kind = refl;
-        condition = (λ k. not (is_equation (s k) && same_term (left_side (s k)) (t k))) ∙ ap not two.0;
-        room = no_more theory state going;
-      })
+    let s = ap (λ t. t.conclusion) ((names.theorems i (inl refl)).is ∙ cited_first.at) ∙ e.image_is in
+    let t = ap (λ t. t.conclusion) ((names.theorems j (inr (inl refl))).is ∙ cited_second.at) in
+    record {
+      number = neither _ _ (names.theorems i (inl refl)).there (names.theorems j (inr (inl refl))).there;
+      name = refl;
+      kind = refl;
+      condition = (λ k. not (is_equation (s k) && same_term (left_side (s k)) (t k))) ∙ ap not two.0;
+      room = no_more theory state going;
+    })
 
 -- MK_COMB
 pub mk_comb-gives : (theory : Theory) (entries : List JournalEntry) (i j : ℕ) (first second answer : Theorem) → IsCited entries i first → IsCited entries j second
     → mk_comb_outcome theory first second ≡ Ok answer → FitsLog answer → Gives theory entries (by_mk_comb i j) (sequent_of_theorem answer)
 mk_comb-gives theory entries i j first second answer cited_first cited_second outcome fits =
     let made = λ (functions arguments : NamedTerm × NamedTerm).
-        concluded theory (with_hypotheses first.hypotheses second.hypotheses) (equation (combination functions.0 arguments.0) (combination functions.1 arguments.1)) in
+    concluded theory (with_hypotheses first.hypotheses second.hypotheses) (equation (combination functions.0 arguments.0) (combination functions.1 arguments.1)) in
     let one = given-is (dest_equation first.conclusion) NotEquation
-        (λ functions. given (dest_equation second.conclusion) NotEquation (λ arguments. unless (is_some (type_of (combination functions.0 arguments.0))) TypeMismatch (made functions arguments))) answer outcome in
+    (λ functions. given (dest_equation second.conclusion) NotEquation (λ arguments. unless (is_some (type_of (combination functions.0 arguments.0))) TypeMismatch (made functions arguments))) answer outcome in
     let functions = one.0 in
     let two = given-is (dest_equation second.conclusion) NotEquation (λ arguments. unless (is_some (type_of (combination functions.0 arguments.0))) TypeMismatch (made functions arguments)) answer one.2 in
     let arguments = two.0 in
@@ -153,22 +146,22 @@ mk_comb-gives theory entries i j first second answer cited_first cited_second ou
     let fitting : takes e.ty f.ty ≡ true = (λ k. takes (function k) (argument k)) ∙ type_eq-self parts.0 in
     shown theory entries (by_mk_comb i j) answer fits
     (λ state numbers names.
-      (λ k. let s = ((names.theorems i (inl refl)).is ∙ cited_first.at) k in let t = ((names.theorems j (inr (inl refl))).is ∙ cited_second.at) k in
-        supposing (s.hypotheses ++ t.hypotheses) (equation_of (app (left_side s.conclusion) (left_side t.conclusion)) (app (right_side s.conclusion) (right_side t.conclusion))))
-      ∙ same_sequent (set_of-merged first.hypotheses second.hypotheses cited_first.is.ordered)
-        ((λ k. equation_of (app (left_side (e.image_is k)) (left_side (f.image_is k))) (app (right_side (e.image_is k)) (right_side (f.image_is k))))
-        ∙ equation_of-images left right found.0 found.1)
-      ∙ ap sequent_of_theorem (sym is))
+    (λ k. let s = ((names.theorems i (inl refl)).is ∙ cited_first.at) k in let t = ((names.theorems j (inr (inl refl))).is ∙ cited_second.at) k in
+    supposing (s.hypotheses ++ t.hypotheses) (equation_of (app (left_side s.conclusion) (left_side t.conclusion)) (app (right_side s.conclusion) (right_side t.conclusion))))
+    ∙ same_sequent (set_of-merged first.hypotheses second.hypotheses cited_first.is.ordered)
+    ((λ k. equation_of (app (left_side (e.image_is k)) (left_side (f.image_is k))) (app (right_side (e.image_is k)) (right_side (f.image_is k))))
+    ∙ equation_of-images left right found.0 found.1)
+    ∙ ap sequent_of_theorem (sym is))
     (λ state numbers going names.
-      let s = ap (λ t. t.conclusion) ((names.theorems i (inl refl)).is ∙ cited_first.at) ∙ e.image_is in
-      let t = ap (λ t. t.conclusion) ((names.theorems j (inr (inl refl))).is ∙ cited_second.at) ∙ f.image_is in
-      record {
-        number = neither _ _ (names.theorems i (inl refl)).there (names.theorems j (inr (inl refl))).there;
-        name = refl;
-        kind = (λ k. (is_equation (s k) && is_equation (t k)) && not (takes (side_type (s k)) (side_type (t k)))) ∙ ap not fitting;
-        condition = (λ k. not (is_equation (s k) && is_equation (t k)));
-        room = no_more theory state going;
-      })
+    let s = ap (λ t. t.conclusion) ((names.theorems i (inl refl)).is ∙ cited_first.at) ∙ e.image_is in
+    let t = ap (λ t. t.conclusion) ((names.theorems j (inr (inl refl))).is ∙ cited_second.at) ∙ f.image_is in
+    record {
+      number = neither _ _ (names.theorems i (inl refl)).there (names.theorems j (inr (inl refl))).there;
+      name = refl;
+      kind = (λ k. (is_equation (s k) && is_equation (t k)) && not (takes (side_type (s k)) (side_type (t k)))) ∙ ap not fitting;
+      condition = (λ k. not (is_equation (s k) && is_equation (t k)));
+      room = no_more theory state going;
+    })
 
 -- a variable by its name and type
 binder_is : (binder : NamedTerm) (bind : List ℕ × HolType) → dest_variable binder ≡ Some bind → binder ≡ variable bind.0 bind.1
@@ -185,7 +178,7 @@ pub abs-gives : (theory : Theory) (entries : List JournalEntry) (binder : NamedT
 abs-gives theory entries binder i theorem answer cited outcome fits =
     let made = λ (bind : List ℕ × HolType) (sides : NamedTerm × NamedTerm). concluded theory theorem.hypotheses (equation (abstraction bind.0 bind.1 sides.0) (abstraction bind.0 bind.1 sides.1)) in
     let tested = λ (bind : List ℕ × HolType) (sides : NamedTerm × NamedTerm).
-        unless (not (is_free_in_hypotheses bind.0 bind.1 theorem.hypotheses)) FreeInHypothesis (made bind sides) in
+    unless (not (is_free_in_hypotheses bind.0 bind.1 theorem.hypotheses)) FreeInHypothesis (made bind sides) in
     let one = given-is (dest_variable binder) NotVariable (λ bind. given (dest_equation theorem.conclusion) NotEquation (λ sides. unless (knows_type theory bind.1) UnknownType (tested bind sides))) answer outcome in
     let bind = one.0 in
     let two = given-is (dest_equation theorem.conclusion) NotEquation (λ sides. unless (knows_type theory bind.1) UnknownType (tested bind sides)) answer one.2 in
@@ -200,24 +193,24 @@ abs-gives theory entries binder i theorem answer cited outcome fits =
     let typed : type_of left ≡ Some (function_type bind.1 e.ty) = ap (option_map (function_type bind.1)) e.left_typed in
     shown theory entries (by_abs binder i) answer fits
     (λ state numbers names.
-      (λ k. let s = ((names.theorems i (inl refl)).is ∙ cited.at) k in let v = ((names.terms binder (inl refl)).is ∙ variable_is) k in
-        supposing s.hypotheses (equation_of (abstraction_over v (left_side s.conclusion)) (abstraction_over v (right_side s.conclusion))))
-      ∙ same_sequent (set_of-ordered theorem.hypotheses cited.is.ordered)
-        ((λ k. equation_of (abstraction_over (free bind.0 bind.1) (left_side (e.image_is k))) (abstraction_over (free bind.0 bind.1) (right_side (e.image_is k))))
-        ∙ (λ k. equation_of (sym (image-abstraction bind.0 bind.1 sides.0) k) (sym (image-abstraction bind.0 bind.1 sides.1) k))
-        ∙ equation_of-images left right (function_type bind.1 e.ty) typed)
-      ∙ ap sequent_of_theorem (sym is))
+    (λ k. let s = ((names.theorems i (inl refl)).is ∙ cited.at) k in let v = ((names.terms binder (inl refl)).is ∙ variable_is) k in
+    supposing s.hypotheses (equation_of (abstraction_over v (left_side s.conclusion)) (abstraction_over v (right_side s.conclusion))))
+    ∙ same_sequent (set_of-ordered theorem.hypotheses cited.is.ordered)
+    ((λ k. equation_of (abstraction_over (free bind.0 bind.1) (left_side (e.image_is k))) (abstraction_over (free bind.0 bind.1) (right_side (e.image_is k))))
+    ∙ (λ k. equation_of (sym (image-abstraction bind.0 bind.1 sides.0) k) (sym (image-abstraction bind.0 bind.1 sides.1) k))
+    ∙ equation_of-images left right (function_type bind.1 e.ty) typed)
+    ∙ ap sequent_of_theorem (sym is))
     (λ state numbers going names.
-      let s = ap (λ t. t.conclusion) ((names.theorems i (inl refl)).is ∙ cited.at) ∙ e.image_is in
-      let h = ap (λ t. t.hypotheses) ((names.theorems i (inl refl)).is ∙ cited.at) in
-      let v = (names.terms binder (inl refl)).is ∙ variable_is in
-      record {
-        number = neither _ _ (names.terms binder (inl refl)).there (names.theorems i (inl refl)).there;
-        name = refl;
-        kind = ap (λ t. not (is_free_variable t)) v;
-        condition = (λ k. not (is_equation (s k)) || is_free_in_any (v k) (h k)) ∙ free_in_images bind.0 bind.1 theorem.hypotheses ∙ not_true _ four.0;
-        room = no_more theory state going;
-      })
+    let s = ap (λ t. t.conclusion) ((names.theorems i (inl refl)).is ∙ cited.at) ∙ e.image_is in
+    let h = ap (λ t. t.hypotheses) ((names.theorems i (inl refl)).is ∙ cited.at) in
+    let v = (names.terms binder (inl refl)).is ∙ variable_is in
+    record {
+      number = neither _ _ (names.terms binder (inl refl)).there (names.theorems i (inl refl)).there;
+      name = refl;
+      kind = ap (λ t. not (is_free_variable t)) v;
+      condition = (λ k. not (is_equation (s k)) || is_free_in_any (v k) (h k)) ∙ free_in_images bind.0 bind.1 theorem.hypotheses ∙ not_true _ four.0;
+      room = no_more theory state going;
+    })
 
 -- DEDUCT_ANTISYM_RULE
 pub deduct-gives : (theory : Theory) (entries : List JournalEntry) (i j : ℕ) (first second answer : Theorem) → IsCited entries i first → IsCited entries j second
@@ -228,13 +221,13 @@ deduct-gives theory entries i j first second answer cited_first cited_second out
     let is = concluded-is theory (with_hypotheses from_first from_second) (equation first.conclusion second.conclusion) answer outcome in
     shown theory entries (by_deduct i j) answer fits
     (λ state numbers names.
-      (λ k. let s = ((names.theorems i (inl refl)).is ∙ cited_first.at) k in let t = ((names.theorems j (inr (inl refl))).is ∙ cited_second.at) k in
-        supposing (without t.conclusion s.hypotheses ++ without s.conclusion t.hypotheses) (equation_of s.conclusion t.conclusion))
-      ∙ same_sequent
-        ((λ k. set_of (sym (image-without_hypothesis second.conclusion first.hypotheses) k ++ sym (image-without_hypothesis first.conclusion second.hypotheses) k))
-        ∙ set_of-merged from_first from_second (kept-ordered (λ h. not (are_alpha_equivalent h second.conclusion)) first.hypotheses cited_first.is.ordered))
-        (equation_of-images first.conclusion second.conclusion bool_type (formula_of first cited_first.is))
-      ∙ ap sequent_of_theorem (sym is))
+    (λ k. let s = ((names.theorems i (inl refl)).is ∙ cited_first.at) k in let t = ((names.theorems j (inr (inl refl))).is ∙ cited_second.at) k in
+    supposing (without t.conclusion s.hypotheses ++ without s.conclusion t.hypotheses) (equation_of s.conclusion t.conclusion))
+    ∙ same_sequent
+    ((λ k. set_of (sym (image-without_hypothesis second.conclusion first.hypotheses) k ++ sym (image-without_hypothesis first.conclusion second.hypotheses) k))
+    ∙ set_of-merged from_first from_second (kept-ordered (λ h. not (are_alpha_equivalent h second.conclusion)) first.hypotheses cited_first.is.ordered))
+    (equation_of-images first.conclusion second.conclusion bool_type (formula_of first cited_first.is))
+    ∙ ap sequent_of_theorem (sym is))
     (λ state numbers going names. record {
       number = neither _ _ (names.theorems i (inl refl)).there (names.theorems j (inr (inl refl))).there;
       name = refl;
@@ -304,14 +297,14 @@ beta-gives theory entries term ty answer typed outcome fits =
     let r = trivial_redex term body one.1 in
     let inner = r.body_typed ty typed in
     let filled : redex_body (image term) ≡ image body =
-        ap redex_body r.image_is
-        ∙ fill_at-close_at r.name r.ty (free r.name r.ty) (image body) [] inner.0 (image-typed body inner.0 inner.1)
-        ∙ put-itself r.name r.ty (image body) in
+    ap redex_body r.image_is
+    ∙ fill_at-close_at r.name r.ty (free r.name r.ty) (image body) [] inner.0 (image-typed body inner.0 inner.1)
+    ∙ put-itself r.name r.ty (image body) in
     shown theory entries (by_beta term) answer fits
     (λ state numbers names.
-      ap (λ t. supposing [] (equation_of t (redex_body t))) (names.terms term (inl refl)).is
-      ∙ same_sequent refl (ap (equation_of (image term)) filled ∙ equation_of-images term body ty typed)
-      ∙ ap sequent_of_theorem (sym is))
+    ap (λ t. supposing [] (equation_of t (redex_body t))) (names.terms term (inl refl)).is
+    ∙ same_sequent refl (ap (equation_of (image term)) filled ∙ equation_of-images term body ty typed)
+    ∙ ap sequent_of_theorem (sym is))
     (λ state numbers going names. record {
       number = (names.terms term (inl refl)).there;
       name = refl;

@@ -1,30 +1,28 @@
 -- What shows that a step gives a theorem's sequent.
-use Rattle.std.proofs.Common.{◌≡◌, ◌≤◌, ◌+◌, ℕ, zero, List, [], ◌∷◌, ◌++◌, map, length, Bool, true, false, ◌&&◌, ◌||◌, not, refl, sym, ◌∙◌, ap, subst, inl, inr, Option, Some, None, Ok, Result, arith, nat_le}
+use Rattle.std.proofs.Common.{◌≡◌, ◌+◌, ℕ, List, [], length, Bool, true, false, ◌||◌, refl, ◌∙◌, ap, Option, Some, None, Ok, Result, arith, nat_le}
 use Rattle.std.specs.Option.{is_some}
 use Rattle.hol_model.specs.declared.fault.Fault.{Fault}
 use Rattle.hol_model.specs.declared.limits.TheConstants.{DEFINITIONS_LIMIT}
-use Rattle.hol_model.specs.HolType.{HolType, bool_type, type_eq}
-use Rattle.hol_model.specs.NamedTerm.{NamedTerm, type_of, equation, is_within_limits}
-use Rattle.hol_model.specs.Nameless.{Nameless, image, same_term}
-use Rattle.hol_model.specs.Theory.{Theory, IsEarlier, IsLegal}
-use Rattle.hol_model.specs.Derivable.{IsMember, nameless_equation}
-use Rattle.hol_model.specs.Theorem.{Theorem, IsTheorem, are_alpha_equivalent, with_hypotheses}
-use Rattle.hol_model.specs.declared.fault.Fault.TheVariants.{TooLarge, NotBool, NotEquation, NotAlpha}
+use Rattle.hol_model.specs.HolType.{bool_type}
+use Rattle.hol_model.specs.NamedTerm.{NamedTerm, type_of, is_within_limits}
+use Rattle.hol_model.specs.Nameless.{Nameless}
+use Rattle.hol_model.specs.Theory.{Theory}
+use Rattle.hol_model.specs.Theorem.{Theorem, IsTheorem}
+use Rattle.hol_model.specs.declared.fault.Fault.TheVariants.{TooLarge}
 use Rattle.hol_model.specs.Outcome.{unless, given, refused}
-use Rattle.hol_model.specs.Rules.{first_unknown, dest_equation, is_formula, concluded, refl_outcome, assume_outcome, trans_outcome}
+use Rattle.hol_model.specs.Rules.{dest_equation, concluded}
 use Rattle.hol_model.proofs.Outcomes.{passed_value}
 use Rattle.hol_kernel.proofs.RuleLemmas.{IsEquation}
 use Rattle.hol_kernel.proofs.RuleLemmas as kernel
 use Rattle.hol_model.specs.Goals.{Sequent}
 use Rattle.hol_model.specs.LogLine.{LogRule}
 use Rattle.hol_model.specs.LogLine.LogLine.{theorem_line}
-use Rattle.hol_model.specs.LogState.{LogState, term_type}
-use Rattle.hol_model.specs.LogSequents.{sequent_of, rule_entries, supposing, equation_of, is_equation, left_side, right_side}
-use Rattle.hol_model.specs.LogFaults.{first_cause, rule_has_number_fault, rule_has_name_fault, rule_has_type_fault, rule_has_rule_fault, has_size_fault, sequent_fits}
-use Rattle.hol_journal.specs.Steps.{Step, by_refl, by_assume, by_trans, JournalEntry, sequent_of_theorem, sequent_at}
+use Rattle.hol_model.specs.LogState.{LogState}
+use Rattle.hol_model.specs.LogSequents.{sequent_of, rule_entries}
+use Rattle.hol_model.specs.LogFaults.{first_cause, rule_has_number_fault, rule_has_name_fault, rule_has_type_fault, rule_has_rule_fault, sequent_fits}
+use Rattle.hol_journal.specs.Steps.{Step, JournalEntry, sequent_of_theorem, sequent_at}
 use Rattle.hol_journal.specs.Lines.{Numbering, line_of, NamesParts, MayGoOn, Gives}
 use Rattle.hol_journal.specs.Limits.{FitsLog}
-use Rattle.hol_journal.proofs.SequentLemmas.{set_of-merged, equation_of-images, term_type-image}
 
 abbrev pub record_sequent : List Nameless → Nameless → Sequent
 record_sequent hypotheses conclusion = record { hypotheses = hypotheses; conclusion = conclusion }
@@ -92,7 +90,6 @@ sides_of theorem is left right dest = kernel.equation_of theorem.theory is.legal
 -- no entry more is room enough
 pub no_more : (theory : Theory) (state : LogState) → MayGoOn theory state → nat_le (0 + length state.theory) DEFINITIONS_LIMIT ≡ true
 no_more theory state going = let same : 0 + length state.theory ≡ length state.theory = omega arith in ap (λ n. nat_le n DEFINITIONS_LIMIT) same ∙ going.within_limit
-
 
 -- its conclusion is of type `bool`
 pub formula_of : (theorem : Theorem) → IsTheorem theorem → type_of theorem.conclusion ≡ Some bool_type

@@ -1,5 +1,5 @@
 -- What a recorder stores is a journal again.
-use Rattle.std.proofs.Common.{◌≡◌, ◌⊎◌, ℕ, List, [], ◌∷◌, ◌++◌, map, not, refl, sym, ◌∙◌, ap, subst, inl, inr, Some, Ok}
+use Rattle.std.proofs.Common.{◌≡◌, ℕ, List, [], ◌∷◌, ◌++◌, not, refl, sym, ◌∙◌, ap, subst, Some, Ok}
 use Rattle.hol_model.specs.declared.fault.Fault.TheVariants.{BadName, AlreadyDefined, TooLarge, UnknownType, TypeVarsNotReflected}
 use Rattle.hol_model.specs.HolType.{HolType}
 use Rattle.hol_model.specs.NamedTerm.{NamedTerm, constant, type_of, equation}
@@ -11,7 +11,7 @@ use Rattle.hol_model.specs.Outcome.{unless}
 use Rattle.hol_model.specs.Theory.{Theory, declaration_of_type, declaration_of_constant}
 use Rattle.hol_model.specs.Theorem.{Theorem}
 use Rattle.hol_model.specs.Goals.{Sequent}
-use Rattle.hol_model.specs.Rules.{is_full, with_definition, define_outcome, new_type_outcome, new_const_outcome}
+use Rattle.hol_model.specs.Rules.{is_full, define_outcome, new_type_outcome, new_const_outcome}
 use Rattle.hol_journal.specs.Steps.{Step, by_definition, JournalEntry, derived, declared_type, declared_constant, sequent_of_theorem}
 use Rattle.hol_journal.specs.Limits.{FitsLog}
 use Rattle.hol_journal.specs.Journal.{Journal, added_by, Follows, IsJournal}
@@ -45,8 +45,8 @@ pub rule-stored : (shown now : Journal) (stored mid items : List Entry) (rule : 
     → IsJournal (record { theory = shown.theory; entries = entries_of items })
 rule-stored shown now stored mid items rule theorem copy view is listed reserved pushed same follows =
     let there : Follows shown.entries (step_of rule) (sequent_of_theorem copy) =
-        subst (λ (j : Journal). Follows j.entries (step_of rule) (sequent_of_theorem copy)) (sym view)
-        (subst (λ (t : Theorem). Follows now.entries (step_of rule) (sequent_of_theorem t)) (sym same) follows) in
+    subst (λ (j : Journal). Follows j.entries (step_of rule) (sequent_of_theorem copy)) (sym view)
+    (subst (λ (t : Theorem). Follows now.entries (step_of rule) (sequent_of_theorem t)) (sym same) follows) in
     journal-stored shown shown.theory stored items (Derived rule copy) is listed (ap (λ t. t ++ shown.theory) (sym (rule_adds_nothing rule (sequent_of_theorem copy))))
     (pushed ∙ ap (λ l. l ++ Derived rule copy ∷ []) reserved)
     (follows-alone shown.entries (step_of rule) (sequent_of_theorem copy) there)

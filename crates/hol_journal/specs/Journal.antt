@@ -1,10 +1,10 @@
 -- What a recorder stands for, and what its calls add.
-use Rattle.std.specs.Prelude.{◌≡◌, ℕ, List, [], ◌∷◌, ◌++◌, Option, Some, Result, Ok, Err, length, slice_get}
+use Rattle.std.specs.Prelude.{◌≡◌, ℕ, List, [], ◌∷◌, ◌++◌, Some, Result, Ok, Err, length, slice_get}
 use Rattle.hol_model.specs.declared.fault.Fault.{Fault}
 use Rattle.hol_model.specs.Nameless.{image}
 use Rattle.hol_model.specs.Legality.{own_type}
 use Rattle.hol_model.specs.Theory.{Theory, definition, declaration_of_type, declaration_of_constant, IsEarlier}
-use Rattle.hol_model.specs.Theorem.{Theorem, IsTheorem}
+use Rattle.hol_model.specs.Theorem.{Theorem}
 use Rattle.hol_model.specs.Derivable.{IsMember}
 use Rattle.hol_model.specs.Goals.{Sequent}
 use Rattle.hol_journal.specs.Steps.{Step, by_definition, JournalEntry, derived, declared_type, declared_constant, sequent_of_theorem, entries_of}

@@ -1,12 +1,11 @@
 -- What the entries that a recorder stores stand for.
 use Rattle.std.specs.Prelude.{List, [], map}
 use Rattle.std.specs.String.{string_bytes}
-use Rattle.hol_model.specs.NamedTerm.{NamedTerm, constant, equation}
+use Rattle.hol_model.specs.NamedTerm.{constant, equation}
 use Rattle.hol_model.specs.Nameless.{image}
 use Rattle.hol_model.specs.Legality.{own_type}
 use Rattle.hol_journal.specs.Steps as steps
 use Rattle.hol_journal.specs.Steps.{JournalEntry, derived, declared_type, declared_constant, sequent_of_theorem}
-use Rattle.hol_journal.specs.Journal.{Journal}
 use Rattle.hol_journal.specs.declared.entry.Rule.{Rule}
 use Rattle.hol_journal.specs.declared.entry.Rule.TheVariants.{Refl, Trans, MkComb, Abs, Beta, Assume, EqMp, DeductAntisym, Inst, InstType, Eta, Select}
 use Rattle.hol_journal.specs.declared.entry.Entry.{Entry}

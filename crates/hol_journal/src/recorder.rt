@@ -221,14 +221,21 @@ impl Recorder {
         ensures recorded { IfOk result (IsRecorded self.old self.new (steps.by_deduct first.now.entry second.now.entry)) }
         ensures kept { OnErr result (self.new ≡ self.old) }
     {
-        let theorem = match self.theory.deduct_antisym(alloc, &first.theorem, &second.theorem) {
+        let theorem = match self
+            .theory
+            .deduct_antisym(alloc, &first.theorem, &second.theorem)
+        {
             Ok(theorem) => theorem,
             Err(fault) => return Err(fault),
         };
         within_limits(&theorem);
         let _first = first.theorem.concl();
         let _second = second.theorem.concl();
-        self.record(alloc, Rule::DeductAntisym(first.entry, second.entry), theorem)
+        self.record(
+            alloc,
+            Rule::DeductAntisym(first.entry, second.entry),
+            theorem,
+        )
     }
 
     /// ABS: from `s = t`, `(\x. s) = (\x. t)`, where `x` is free in no hypothesis.
@@ -249,7 +256,12 @@ impl Recorder {
     }
 
     /// INST: free variables replaced by terms of their types, all at once, by a list of pairs (new, old).
-    pub fn inst(&mut self, alloc: Global, theta: &[(Term, Term)], theorem: &Rec) -> Result<Rec, Fault>
+    pub fn inst(
+        &mut self,
+        alloc: Global,
+        theta: &[(Term, Term)],
+        theorem: &Rec,
+    ) -> Result<Rec, Fault>
         requires { IsMade self.old theorem.now }
         ensures outcome { AnswersSuch (theorem_in result) (instance.inst_refusal self.old.theory theta.now theorem.now.theorem) (instance.IsInst self.old.theory theta.now theorem.now.theorem) }
         ensures recorded { IfOk result (IsRecorded self.old self.new (steps.by_inst theorem.now.entry theta.now)) }
@@ -266,7 +278,12 @@ impl Recorder {
     }
 
     /// INST_TYPE: type variables replaced by types, all at once, by a list of pairs (new, old).
-    pub fn inst_type(&mut self, alloc: Global, theta: &[(Ty, Ty)], theorem: &Rec) -> Result<Rec, Fault>
+    pub fn inst_type(
+        &mut self,
+        alloc: Global,
+        theta: &[(Ty, Ty)],
+        theorem: &Rec,
+    ) -> Result<Rec, Fault>
         requires { IsMade self.old theorem.now }
         ensures outcome { AnswersSuch (theorem_in result) (instance.inst_type_refusal self.old.theory theta.now theorem.now.theorem) (instance.IsInstType self.old.theory theta.now theorem.now.theorem) }
         ensures recorded { IfOk result (IsRecorded self.old self.new (steps.by_inst_type theorem.now.entry theta.now)) }

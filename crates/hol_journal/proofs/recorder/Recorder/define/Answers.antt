@@ -1,10 +1,9 @@
 use Rattle.std.proofs.Common.{length, refl, sym, ◌∙◌, ap, subst}
 use Rattle.std.proofs.lemmas.List.{length-map}
 use Rattle.hol_journal.specs.Views.{entry_of}
-use Rattle.hol_model.specs.Theory.{Theory, IsEarlier}
+use Rattle.hol_model.specs.Theory.{IsEarlier}
 use Rattle.hol_journal.specs.Journal.{Journal}
 use Rattle.hol_journal.specs.Recorder.{viewed_recorder}
-use Rattle.hol_journal.specs.Steps.{JournalEntry}
 use Rattle.hol_journal.proofs.StoredLemmas.{defined_entry, definition-stored, definition-listed}
 use Rattle.hol_journal.proofs.recorder.Recorder.define.Goals as goal
 

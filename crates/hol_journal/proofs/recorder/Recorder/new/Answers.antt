@@ -1,4 +1,4 @@
-use Rattle.std.proofs.Common.{◌≡◌, [], ap, sym}
+use Rattle.std.proofs.Common.{sym}
 use Rattle.std.proofs.Common.{subst}
 use Rattle.hol_journal.specs.Journal.{IsJournal}
 use Rattle.hol_journal.specs.Views.{entries_of}
