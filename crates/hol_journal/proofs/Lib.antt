@@ -6,3 +6,4 @@ pub mod InstanceLaws
 pub mod JournalLemmas
 pub mod FollowLemmas
 pub mod StoredLemmas
+pub mod GrowthLemmas

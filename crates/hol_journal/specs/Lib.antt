@@ -5,3 +5,4 @@ pub mod Journal
 pub mod Views
 pub mod Recorder
 pub mod JournalCode
+pub mod Growth

@@ -2,7 +2,9 @@
 #![tactic(auto)]
 
 mod entry;
+mod laws;
 mod limits;
 mod recorder;
 
+pub use laws::journals_grow;
 pub use recorder::{Rec, Recorder};

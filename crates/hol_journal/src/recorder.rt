@@ -9,6 +9,7 @@ ghost use Rattle.hol_model.specs.declared.fault.Fault.TheVariants.{Memory};
 ghost use Rattle.hol_journal.specs.Steps as steps;
 ghost use Rattle.hol_journal.specs.Steps.{sequent_of_theorem};
 ghost use Rattle.hol_journal.specs.Journal.{IsMade, IsRecorded, Follows, theorem_in};
+ghost use Rattle.hol_journal.specs.Growth.{IsGrown};
 ghost use Rattle.hol_journal.specs.Views.{step_of};
 
 use crate::entry::{Entry, Rule};
@@ -20,7 +21,9 @@ use hol_types::Ty;
 use std::alloc::Global;
 use std::marker::Model;
 
-/// A theory, and a journal of how each theorem was made and what was declared.
+/// A theory, and a journal of how each theorem was made and what was declared. A call is refused as the kernel's call
+/// of its name; where its entry finds no memory, no theorem is handed out and nothing is defined or declared. A theorem
+/// that is handed in was made by this recorder.
 #[derive(Drop)]
 pub struct Recorder {
     theory: Theory,
@@ -335,28 +338,32 @@ impl Recorder {
         ensures recorded { IfOk result (IsRecorded self.old self.new (steps.by_definition name.now term.now)) }
         ensures kept { OnErr result (self.new ≡ self.old) }
     {
-        let stored = Entry::Defined(String::from_str(alloc, name)?, term.copy(alloc)?);
+        let definition = Entry::Defined(String::from_str(alloc, name)?, term.copy(alloc)?);
         if self.entries.reserve(1).is_err() {
             return Err(Fault::Memory);
         }
-        let entry = self.entries.len();
+        let number = self.entries.len();
         let _type = term.ty();
         let theorem = match self.theory.define(alloc, name, term) {
             Ok(theorem) => theorem,
             Err(fault) => return Err(fault),
         };
         within_limits(&theorem);
-        self.entries.push_reserved(stored);
-        Ok(Rec { theorem, entry })
+        self.entries.push_reserved(definition);
+        Ok(Rec {
+            theorem,
+            entry: number,
+        })
     }
 
     /// Declares a type.
     pub fn new_type(&mut self, alloc: Global, name: &str) -> Result<(), Fault>
         ensures outcome { Answers (leaving result self.new.theory) (outcome.new_type_outcome self.old.theory name.now) }
         ensures entry { OnOk result (self.new.entries ≡ self.old.entries ++ steps.declared_type name.now ∷ []) }
+        ensures grown { OnOk result (IsGrown self.old self.new) }
         ensures kept { OnErr result (self.new ≡ self.old) }
     {
-        let stored = Entry::DeclaredType(String::from_str(alloc, name)?);
+        let declared_type = Entry::DeclaredType(String::from_str(alloc, name)?);
         if self.entries.reserve(1).is_err() {
             return Err(Fault::Memory);
         }
@@ -364,7 +371,7 @@ impl Recorder {
             Ok(()) => {}
             Err(fault) => return Err(fault),
         }
-        self.entries.push_reserved(stored);
+        self.entries.push_reserved(declared_type);
         Ok(())
     }
 
@@ -372,9 +379,10 @@ impl Recorder {
     pub fn new_const(&mut self, alloc: Global, name: &str, ty: &Ty) -> Result<(), Fault>
         ensures outcome { Answers (leaving result self.new.theory) (outcome.new_const_outcome self.old.theory name.now ty.now) }
         ensures entry { OnOk result (self.new.entries ≡ self.old.entries ++ steps.declared_constant name.now ty.now ∷ []) }
+        ensures grown { OnOk result (IsGrown self.old self.new) }
         ensures kept { OnErr result (self.new ≡ self.old) }
     {
-        let stored = Entry::DeclaredConstant(String::from_str(alloc, name)?, ty.copy(alloc)?);
+        let declared_constant = Entry::DeclaredConstant(String::from_str(alloc, name)?, ty.copy(alloc)?);
         if self.entries.reserve(1).is_err() {
             return Err(Fault::Memory);
         }
@@ -382,7 +390,7 @@ impl Recorder {
             Ok(()) => {}
             Err(fault) => return Err(fault),
         }
-        self.entries.push_reserved(stored);
+        self.entries.push_reserved(declared_constant);
         Ok(())
     }
 }

@@ -18,7 +18,7 @@ returns-clause-recorded c = record {
   entries = definition-listed (viewed_recorder c.self.inside) c.args.self.now c.self.inside.entries.items c.reserve.new.self.items c.push_reserved.new.self.items _
       c.args.name.now c.args.term.now c.in-Ok.theorem c.self.view_is refl c.reserve.ensures.items c.push_reserved.ensures.items
       c.in-Ok.ensures.outcome (λ i. defined_entry (c.in_ok-from_str.ensures.ok i) (c.in_ok-copy.ensures.ok i));
-  number = c.len-entry.ensures ∙ c.reserve.ensures.len ∙ c.self.inside.entries.ok.0 ∙ sym (length-map c.self.inside.entries.items entry_of) ∙ ap (λ (j : Journal). length j.entries) c.self.view_is;
+  number = c.len-number.ensures ∙ c.reserve.ensures.len ∙ c.self.inside.entries.ok.0 ∙ sym (length-map c.self.inside.entries.items entry_of) ∙ ap (λ (j : Journal). length j.entries) c.self.view_is;
   stands_on = sym c.in-Ok.ensures.grown;
   earlier = subst (λ (j : Journal). IsEarlier j.theory c.define.new.self) c.self.view_is c.in-Ok.ensures.earlier;
 }
