@@ -1,0 +1,108 @@
+-- The lines of the axioms and of definitions are accepted, and give the image of what the kernel answers.
+use Rattle.std.proofs.Common.{◌≡◌, ◌≤◌, ◌<◌, ◌+◌, ℕ, List, [], ◌∷◌, length, true, false, ◌&&◌, not, refl, sym, ◌∙◌, ap, inl, Some, Ok, arith, nat_le}
+use Rattle.hol_model.specs.Nameless.{const, image}
+use Rattle.hol_model.specs.Theory.{Theory}
+use Rattle.hol_model.specs.Theorem.{Theorem}
+use Rattle.hol_model.specs.LogState.{term_type}
+use Rattle.hol_journal.specs.Steps.{JournalEntry, sequent_of_theorem}
+use Rattle.hol_journal.specs.Lines.{Gives}
+use Rattle.hol_journal.specs.Limits.{FitsLog}
+use Rattle.std.proofs.lemmas.Bool.{leb-false, le-leb}
+use Rattle.hol_model.specs.declared.fault.Fault.TheVariants.{BadName, NotClosed, TypeVarsNotReflected, AlreadyDefined, TooLarge}
+use Rattle.hol_model.specs.declared.limits.TheConstants.{DEFINITIONS_LIMIT}
+use Rattle.hol_model.specs.HolType.{HolType}
+use Rattle.hol_model.specs.Name.{is_constant_name}
+use Rattle.hol_model.specs.NamedTerm.{NamedTerm, constant, type_of, equation}
+use Rattle.hol_model.specs.NamedAxioms.{eta_conclusion, select_hypothesis, select_conclusion}
+use Rattle.hol_model.specs.Legality.{is_closed, reflects, is_new_name, own_type}
+use Rattle.hol_model.specs.Checks.{has_no_free, reflects_nameless}
+use Rattle.hol_model.specs.Outcome.{unless, refused}
+use Rattle.hol_model.specs.Rules.{first_unknown, is_full, with_definition, concluded, define_outcome}
+use Rattle.hol_model.specs.LogSequents.{supposing, equation_of}
+use Rattle.hol_model.proofs.Tests.{both}
+use Rattle.hol_model.proofs.LogTests.{not_true}
+use Rattle.hol_model.proofs.Checks.{has_no_free-Decides, reflects_nameless-Decides}
+use Rattle.hol_model.proofs.LegalEntries.{closed-HasNoFree, reflects-image}
+use Rattle.hol_kernel.proofs.DefinitionLemmas.{own_type-is}
+use Rattle.hol_journal.specs.Steps.{by_eta, by_select, by_definition}
+use Rattle.hol_journal.proofs.SequentLemmas.{equation_of-images, term_type-image}
+use Rattle.hol_journal.proofs.Showing.{shown, refused-is, unless-is, concluded-is, same_sequent, no_more}
+
+-- ETA
+pub eta-gives : (theory : Theory) (entries : List JournalEntry) (answer : Theorem) → answer ≡ record { theory = theory; hypotheses = []; conclusion = eta_conclusion }
+    → FitsLog answer → Gives theory entries by_eta (sequent_of_theorem answer)
+eta-gives theory entries answer is fits =
+    shown theory entries by_eta answer fits (λ state numbers names. ap sequent_of_theorem (sym is))
+    (λ state numbers going names. record { number = refl; name = refl; kind = refl; condition = refl; room = no_more theory state going })
+
+-- SELECT
+pub select-gives : (theory : Theory) (entries : List JournalEntry) (answer : Theorem)
+    → answer ≡ record { theory = theory; hypotheses = select_hypothesis ∷ []; conclusion = select_conclusion }
+    → FitsLog answer → Gives theory entries by_select (sequent_of_theorem answer)
+select-gives theory entries answer is fits =
+    shown theory entries by_select answer fits (λ state numbers names. ap sequent_of_theorem (sym is))
+    (λ state numbers going names. record { number = refl; name = refl; kind = refl; condition = refl; room = no_more theory state going })
+
+-- where a theory has room, a log's theory with fewer entries has
+room_for_one : (fewer count limit : ℕ) → fewer ≤ count → nat_le limit count ≡ false → nat_le (1 + fewer) limit ≡ true
+room_for_one fewer count limit less room = let h : count < limit = leb-false limit count room in le-leb (1 + fewer) limit (omega arith)
+
+-- what an accepted definition passed, and the theorem
+record IsDefined (theory : Theory) (name : List ℕ) (term : NamedTerm) (answer : Theorem) : Type 0 where
+  is_name : is_constant_name name ≡ true
+  closed : is_closed term ≡ true
+  reflected : reflects (own_type term) term ≡ true
+  is_new : is_new_name theory name ≡ true
+  has_room : not (is_full theory) ≡ true
+  is : answer ≡ record { theory = with_definition theory name term; hypotheses = []; conclusion = equation (constant name (own_type term)) term }
+
+defined : (theory : Theory) (name : List ℕ) (term : NamedTerm) (answer : Theorem) → define_outcome theory name term ≡ Ok answer → IsDefined theory name term answer
+defined theory name term answer outcome =
+    let made = concluded (with_definition theory name term) [] (equation (constant name (own_type term)) term) in
+    let after_new = unless (not (is_full theory)) TooLarge made in
+    let after_reflected = unless (is_new_name theory name) AlreadyDefined after_new in
+    let after_closed = unless (reflects (own_type term) term) TypeVarsNotReflected after_reflected in
+    let after_known = unless (is_closed term) NotClosed after_closed in
+    let one = unless-is (is_constant_name name) BadName (refused (first_unknown theory term) after_known) answer outcome in
+    let two = unless-is (is_closed term) NotClosed after_closed answer (refused-is (first_unknown theory term) after_known answer one.1) in
+    let three = unless-is (reflects (own_type term) term) TypeVarsNotReflected after_reflected answer two.1 in
+    let four = unless-is (is_new_name theory name) AlreadyDefined after_new answer three.1 in
+    let five = unless-is (not (is_full theory)) TooLarge made answer four.1 in
+    record {
+      is_name = one.0;
+      closed = two.0;
+      reflected = three.0;
+      is_new = four.0;
+      has_room = five.0;
+      is = concluded-is (with_definition theory name term) [] (equation (constant name (own_type term)) term) answer five.1;
+    }
+
+pub define-answers : (theory : Theory) (name : List ℕ) (term : NamedTerm) (answer : Theorem) → define_outcome theory name term ≡ Ok answer
+    → answer ≡ record { theory = with_definition theory name term; hypotheses = []; conclusion = equation (constant name (own_type term)) term }
+define-answers theory name term answer outcome = (defined theory name term answer outcome).is
+
+-- a definition
+pub define-gives : (theory : Theory) (entries : List JournalEntry) (name : List ℕ) (term : NamedTerm) (ty : HolType) (answer : Theorem) → type_of term ≡ Some ty
+    → define_outcome theory name term ≡ Ok answer → FitsLog answer → Gives theory entries (by_definition name term) (sequent_of_theorem answer)
+define-gives theory entries name term ty answer typed outcome fits =
+    let d = defined theory name term answer outcome in
+    let own : own_type term ≡ ty = own_type-is term ty typed in
+    let image_type : term_type (image term) ≡ ty = term_type-image term ty typed in
+    let closed : has_no_free (image term) ≡ true = (has_no_free-Decides (image term)).1 (closed-HasNoFree term d.closed) in
+    let reflected : reflects_nameless (own_type term) (image term) ≡ true = (reflects_nameless-Decides (own_type term) (image term)).1 (reflects-image (own_type term) term d.reflected) in
+    let same_type : term_type (image term) ≡ own_type term = image_type ∙ sym own in
+    shown theory entries (by_definition name term) answer fits
+    (λ state numbers names.
+    ap (λ t. supposing [] (equation_of (const name (term_type t)) t)) (names.terms term (inl refl)).is
+    ∙ same_sequent refl ((λ k. equation_of (const name (same_type k)) (image term)) ∙ equation_of-images (constant name (own_type term)) term (own_type term) refl)
+    ∙ ap sequent_of_theorem (sym d.is))
+    (λ state numbers going names. record {
+      number = (names.terms term (inl refl)).there;
+      name = ap not (both (is_constant_name name) (is_new_name state.theory name) d.is_name (going.new_names name d.is_new));
+      kind = refl;
+      condition =
+          ap (λ t. not (has_no_free t && reflects_nameless (term_type t) t)) (names.terms term (inl refl)).is
+          ∙ (λ k. not (has_no_free (image term) && reflects_nameless (same_type k) (image term)))
+          ∙ ap not (both (has_no_free (image term)) (reflects_nameless (own_type term) (image term)) closed reflected);
+      room = room_for_one (length state.theory) (length theory) DEFINITIONS_LIMIT going.fewer (not_true (is_full theory) d.has_room);
+    })

@@ -1,0 +1,49 @@
+-- Journals only grow.
+use Rattle.std.proofs.Common.{◌≡◌, ℕ, zero, suc, List, [], ◌∷◌, ◌++◌, length, refl, sym, ◌∙◌, ap, subst, Some, append_assoc}
+use Rattle.std.specs.Prelude.{slice_get}
+use Rattle.hol_model.specs.Theory.{Theory, IsEarlier}
+use Rattle.hol_model.proofs.Earlier.{earlier-same, earlier-twice}
+use Rattle.hol_journal.specs.Steps.{Step, JournalEntry, derived, sequent_of_theorem}
+use Rattle.hol_journal.specs.Journal.{Journal, Recorded, IsMade, IsRecorded}
+use Rattle.hol_journal.specs.Growth.{IsGrown, JournalsGrow}
+use Rattle.hol_journal.specs.Views.{entry_of, entries_of}
+use Rattle.hol_journal.specs.declared.entry.Entry.{Entry}
+use Rattle.hol_journal.proofs.JournalLemmas.{entries_of-last}
+
+get-more : (entries more : List JournalEntry) (number : ℕ) (entry : JournalEntry) → slice_get entries number ≡ Some entry → slice_get (entries ++ more) number ≡ Some entry
+get-more [] more number entry is = cc
+get-more (first ∷ entries) more zero entry is = is
+get-more (first ∷ entries) more (suc number) entry is = get-more entries more number entry is
+
+get-last : (entries : List JournalEntry) (entry : JournalEntry) → slice_get (entries ++ entry ∷ []) (length entries) ≡ Some entry
+get-last [] entry = refl
+get-last (first ∷ entries) entry = get-last entries entry
+
+pub journals-grow : JournalsGrow
+journals-grow = record {
+  grown = λ old new step made is. record { added = derived step (sequent_of_theorem made.theorem) ∷ []; entries = is.entries; earlier = is.earlier };
+  made = λ old new step made is. record {
+    step = step;
+    there = (λ i. slice_get (is.entries i) (is.number i)) ∙ get-last old.entries (derived step (sequent_of_theorem made.theorem));
+    earlier = earlier-same made.theorem.theory new.theory is.stands_on;
+  };
+  stays = λ old new made is was. record {
+    step = was.step;
+    there = ap (λ es. slice_get es made.entry) is.entries ∙ get-more old.entries is.added made.entry (derived was.step (sequent_of_theorem made.theorem)) was.there;
+    earlier = earlier-twice made.theorem.theory old.theory new.theory was.earlier is.earlier;
+  };
+  twice = λ first second third one two. record {
+    added = one.added ++ two.added;
+    entries = two.entries ∙ ap (λ l. l ++ two.added) one.entries ∙ append_assoc first.entries one.added two.added;
+    earlier = earlier-twice first.theory second.theory third.theory one.earlier two.earlier;
+  };
+}
+
+-- one entry more, as the program stores it
+pub entry-grown : (shown now : Journal) (theory : Theory) (stored mid items : List Entry) (entry : Entry) → shown ≡ now → shown.entries ≡ entries_of stored
+    → mid ≡ stored → items ≡ mid ++ entry ∷ [] → IsEarlier shown.theory theory → IsGrown now (record { theory = theory; entries = entries_of items })
+entry-grown shown now theory stored mid items entry view listed reserved pushed earlier = record {
+  added = entry_of entry ∷ [];
+  entries = ap entries_of (pushed ∙ ap (λ l. l ++ entry ∷ []) reserved) ∙ entries_of-last stored entry ∙ ap (λ l. l ++ entry_of entry ∷ []) (sym listed ∙ ap (λ (j : Journal). j.entries) view);
+  earlier = subst (λ (j : Journal). IsEarlier j.theory theory) view earlier;
+}

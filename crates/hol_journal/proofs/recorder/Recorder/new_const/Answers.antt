@@ -1,0 +1,17 @@
+use Rattle.std.proofs.Common.{refl}
+use Rattle.hol_journal.specs.Recorder.{viewed_recorder}
+use Rattle.hol_journal.specs.Steps as steps
+use Rattle.hol_journal.proofs.StoredLemmas.{constant-stored}
+use Rattle.hol_journal.proofs.GrowthLemmas.{entry-grown}
+use Rattle.hol_journal.proofs.recorder.Recorder.new_const.Goals as goal
+
+pub invariant_of-self-2 : goal.invariant_of-self-2
+invariant_of-self-2 c =
+    constant-stored (viewed_recorder c.self.inside) c.new_const.new.self c.self.inside.entries.items c.reserve.new.self.items c.push_reserved.new.self.items _
+    c.args.name.now c.args.ty.now c.self.invariant refl c.reserve.ensures.items c.push_reserved.ensures.items c.in-Ok.ensures.outcome
+    (λ i. steps.declared_constant (c.in_ok-from_str.ensures.ok i) (c.in_ok-copy.ensures.ok i))
+
+pub returns-clause-grown : goal.returns-clause-grown
+returns-clause-grown c =
+    entry-grown (viewed_recorder c.self.inside) c.args.self.now c.new_const.new.self c.self.inside.entries.items c.reserve.new.self.items c.push_reserved.new.self.items _
+    c.self.view_is refl c.reserve.ensures.items c.push_reserved.ensures.items c.in-Ok.ensures.earlier

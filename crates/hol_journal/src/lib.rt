@@ -1,0 +1,10 @@
+//! The recorder: a theory, and a journal of how each theorem was made.
+#![tactic(auto)]
+
+mod entry;
+mod laws;
+mod limits;
+mod recorder;
+
+pub use laws::journals_grow;
+pub use recorder::{Rec, Recorder};

@@ -1,0 +1,420 @@
+// The recorder.
+ghost use Rattle.std.specs.Prelude.{◌≡◌, [], ◌∷◌, ◌++◌, length, IfOk, IfErr, OnErr, OnOk};
+ghost use Rattle.hol_model.specs.Instantiation as instance;
+ghost use Rattle.hol_model.specs.NamedAxioms as axioms;
+ghost use Rattle.hol_model.specs.Outcome.{Answers, AnswersSuch};
+ghost use Rattle.hol_model.specs.Rules as outcome;
+ghost use Rattle.hol_kernel.specs.Leaving.{leaving};
+ghost use Rattle.hol_model.specs.declared.fault.Fault.TheVariants.{Memory};
+ghost use Rattle.hol_journal.specs.Steps as steps;
+ghost use Rattle.hol_journal.specs.Steps.{sequent_of_theorem};
+ghost use Rattle.hol_journal.specs.Journal.{IsMade, IsRecorded, Follows, theorem_in};
+ghost use Rattle.hol_journal.specs.Growth.{IsGrown};
+ghost use Rattle.hol_journal.specs.Views.{step_of};
+
+use crate::entry::{Entry, Rule};
+use crate::limits::within_limits;
+use hol_kernel::{Theory, Thm};
+use hol_model::Fault;
+use hol_terms::Term;
+use hol_types::Ty;
+use std::alloc::Global;
+use std::marker::Model;
+
+/// A theory, and a journal of how each theorem was made and what was declared. A call is refused as the kernel's call
+/// of its name; where its entry finds no memory, no theorem is handed out and nothing is defined or declared. A theorem
+/// that is handed in was made by this recorder.
+#[derive(Drop)]
+pub struct Recorder {
+    theory: Theory,
+    entries: Vec<Entry>,
+}
+
+impl Model for Recorder {
+    ghost use Rattle.hol_journal.specs.Journal.{Journal, IsJournal};
+    ghost use Rattle.hol_journal.specs.JournalCode.{journal_code};
+    ghost use Rattle.hol_journal.specs.Recorder.{viewed_recorder};
+
+    ghost Value = { Journal };
+
+    ghost coded = { journal_code };
+
+    ghost view = { viewed_recorder };
+
+    ghost invariant = { λ recorder. IsJournal (viewed_recorder recorder) };
+}
+
+/// A theorem with the number of its entry.
+#[derive(Drop)]
+pub struct Rec {
+    theorem: Thm,
+    entry: usize,
+}
+
+impl Model for Rec {
+    ghost use Rattle.hol_journal.specs.Journal.{Recorded};
+    ghost use Rattle.hol_journal.specs.JournalCode.{recorded_code};
+    ghost use Rattle.hol_journal.specs.Recorder.{viewed_rec};
+
+    ghost Value = { Recorded };
+
+    ghost coded = { recorded_code };
+
+    ghost view = { viewed_rec };
+}
+
+impl Recorder {
+    /// The recorder without entries, over the theory without definitions.
+    pub fn new(alloc: Global) -> Result<Recorder, Fault>
+        ensures ok { IfOk result (λ recorder. recorder ≡ record { theory = []; entries = [] }) }
+        ensures err { IfErr result (λ fault. fault ≡ Memory) }
+    {
+        Ok(Recorder {
+            theory: Theory::new(alloc)?,
+            entries: Vec::new(alloc),
+        })
+    }
+
+    /// The number of entries.
+    pub fn entries(&self) -> usize
+        ensures { result ≡ length self.now.entries }
+    {
+        self.entries.len()
+    }
+
+    /// The theorem.
+    pub fn thm<'a>(&self, rec: &'a Rec) -> &'a Thm
+        ensures { result.now ≡ rec.now.theorem }
+    {
+        &rec.theorem
+    }
+
+    /// The theory.
+    pub fn theory(&self) -> &Theory
+        ensures { result.now ≡ self.now.theory }
+    {
+        &self.theory
+    }
+
+    // The theorem with an entry of its own.
+    fn record(&mut self, alloc: Global, rule: Rule, theorem: Thm) -> Result<Rec, Fault>
+        requires follows { Follows self.old.entries (step_of rule) (sequent_of_theorem theorem) }
+        requires stands_on { theorem.theory ≡ self.old.theory }
+        ensures ok { IfOk result (λ made. made.theorem ≡ theorem) }
+        ensures recorded { IfOk result (IsRecorded self.old self.new (step_of rule)) }
+        ensures err { IfErr result (λ fault. fault ≡ Memory) }
+        ensures kept { OnErr result (self.new ≡ self.old) }
+    {
+        let copy = theorem.copy(alloc)?;
+        if self.entries.reserve(1).is_err() {
+            return Err(Fault::Memory);
+        }
+        let entry = self.entries.len();
+        self.entries.push_reserved(Entry::Derived(rule, copy));
+        Ok(Rec { theorem, entry })
+    }
+
+    /// REFL: `|- t = t`.
+    pub fn refl(&mut self, alloc: Global, term: &Term) -> Result<Rec, Fault>
+        ensures outcome { Answers (theorem_in result) (outcome.refl_outcome self.old.theory term.now) }
+        ensures recorded { IfOk result (IsRecorded self.old self.new (steps.by_refl term.now)) }
+        ensures kept { OnErr result (self.new ≡ self.old) }
+    {
+        let theorem = match self.theory.refl(alloc, term) {
+            Ok(theorem) => theorem,
+            Err(fault) => return Err(fault),
+        };
+        within_limits(&theorem);
+        let _type = term.ty();
+        let rule = Rule::Refl(term.copy(alloc)?);
+        self.record(alloc, rule, theorem)
+    }
+
+    /// ASSUME: `p |- p`.
+    pub fn assume(&mut self, alloc: Global, term: &Term) -> Result<Rec, Fault>
+        ensures outcome { Answers (theorem_in result) (outcome.assume_outcome self.old.theory term.now) }
+        ensures recorded { IfOk result (IsRecorded self.old self.new (steps.by_assume term.now)) }
+        ensures kept { OnErr result (self.new ≡ self.old) }
+    {
+        let theorem = match self.theory.assume(alloc, term) {
+            Ok(theorem) => theorem,
+            Err(fault) => return Err(fault),
+        };
+        within_limits(&theorem);
+        let _type = term.ty();
+        let rule = Rule::Assume(term.copy(alloc)?);
+        self.record(alloc, rule, theorem)
+    }
+
+    /// BETA: `|- (\x. t) x = t`.
+    pub fn beta(&mut self, alloc: Global, term: &Term) -> Result<Rec, Fault>
+        ensures outcome { Answers (theorem_in result) (outcome.beta_outcome self.old.theory term.now) }
+        ensures recorded { IfOk result (IsRecorded self.old self.new (steps.by_beta term.now)) }
+        ensures kept { OnErr result (self.new ≡ self.old) }
+    {
+        let theorem = match self.theory.beta(alloc, term) {
+            Ok(theorem) => theorem,
+            Err(fault) => return Err(fault),
+        };
+        within_limits(&theorem);
+        let _type = term.ty();
+        let rule = Rule::Beta(term.copy(alloc)?);
+        self.record(alloc, rule, theorem)
+    }
+
+    /// TRANS: from `a = b` and `b = c`, `a = c`.
+    pub fn trans(&mut self, alloc: Global, first: &Rec, second: &Rec) -> Result<Rec, Fault>
+        requires first { IsMade self.old first.now }
+        requires second { IsMade self.old second.now }
+        ensures outcome { Answers (theorem_in result) (outcome.trans_outcome self.old.theory first.now.theorem second.now.theorem) }
+        ensures recorded { IfOk result (IsRecorded self.old self.new (steps.by_trans first.now.entry second.now.entry)) }
+        ensures kept { OnErr result (self.new ≡ self.old) }
+    {
+        let theorem = match self.theory.trans(alloc, &first.theorem, &second.theorem) {
+            Ok(theorem) => theorem,
+            Err(fault) => return Err(fault),
+        };
+        within_limits(&theorem);
+        let _first = first.theorem.concl();
+        let _second = second.theorem.concl();
+        self.record(alloc, Rule::Trans(first.entry, second.entry), theorem)
+    }
+
+    /// EQ_MP: from `p = q` and `p`, `q`.
+    pub fn eq_mp(&mut self, alloc: Global, first: &Rec, second: &Rec) -> Result<Rec, Fault>
+        requires first { IsMade self.old first.now }
+        requires second { IsMade self.old second.now }
+        ensures outcome { Answers (theorem_in result) (outcome.eq_mp_outcome self.old.theory first.now.theorem second.now.theorem) }
+        ensures recorded { IfOk result (IsRecorded self.old self.new (steps.by_eq_mp first.now.entry second.now.entry)) }
+        ensures kept { OnErr result (self.new ≡ self.old) }
+    {
+        let theorem = match self.theory.eq_mp(alloc, &first.theorem, &second.theorem) {
+            Ok(theorem) => theorem,
+            Err(fault) => return Err(fault),
+        };
+        within_limits(&theorem);
+        let _first = first.theorem.concl();
+        let _second = second.theorem.concl();
+        self.record(alloc, Rule::EqMp(first.entry, second.entry), theorem)
+    }
+
+    /// MK_COMB: from `f = g` and `x = y`, `f x = g y`.
+    pub fn mk_comb(&mut self, alloc: Global, first: &Rec, second: &Rec) -> Result<Rec, Fault>
+        requires first { IsMade self.old first.now }
+        requires second { IsMade self.old second.now }
+        ensures outcome { Answers (theorem_in result) (outcome.mk_comb_outcome self.old.theory first.now.theorem second.now.theorem) }
+        ensures recorded { IfOk result (IsRecorded self.old self.new (steps.by_mk_comb first.now.entry second.now.entry)) }
+        ensures kept { OnErr result (self.new ≡ self.old) }
+    {
+        let theorem = match self.theory.mk_comb(alloc, &first.theorem, &second.theorem) {
+            Ok(theorem) => theorem,
+            Err(fault) => return Err(fault),
+        };
+        within_limits(&theorem);
+        let _first = first.theorem.concl();
+        let _second = second.theorem.concl();
+        self.record(alloc, Rule::MkComb(first.entry, second.entry), theorem)
+    }
+
+    /// DEDUCT_ANTISYM_RULE: from `p` and `q`, `p = q`, each without the other's conclusion among its hypotheses.
+    pub fn deduct_antisym(&mut self, alloc: Global, first: &Rec, second: &Rec) -> Result<Rec, Fault>
+        requires first { IsMade self.old first.now }
+        requires second { IsMade self.old second.now }
+        ensures outcome { Answers (theorem_in result) (outcome.deduct_antisym_outcome self.old.theory first.now.theorem second.now.theorem) }
+        ensures recorded { IfOk result (IsRecorded self.old self.new (steps.by_deduct first.now.entry second.now.entry)) }
+        ensures kept { OnErr result (self.new ≡ self.old) }
+    {
+        let theorem = match self
+            .theory
+            .deduct_antisym(alloc, &first.theorem, &second.theorem)
+        {
+            Ok(theorem) => theorem,
+            Err(fault) => return Err(fault),
+        };
+        within_limits(&theorem);
+        let _first = first.theorem.concl();
+        let _second = second.theorem.concl();
+        self.record(
+            alloc,
+            Rule::DeductAntisym(first.entry, second.entry),
+            theorem,
+        )
+    }
+
+    /// ABS: from `s = t`, `(\x. s) = (\x. t)`, where `x` is free in no hypothesis.
+    pub fn abs(&mut self, alloc: Global, binder: &Term, theorem: &Rec) -> Result<Rec, Fault>
+        requires { IsMade self.old theorem.now }
+        ensures outcome { Answers (theorem_in result) (outcome.abs_outcome self.old.theory binder.now theorem.now.theorem) }
+        ensures recorded { IfOk result (IsRecorded self.old self.new (steps.by_abs binder.now theorem.now.entry)) }
+        ensures kept { OnErr result (self.new ≡ self.old) }
+    {
+        let answer = match self.theory.abs(alloc, binder, &theorem.theorem) {
+            Ok(answer) => answer,
+            Err(fault) => return Err(fault),
+        };
+        within_limits(&answer);
+        let _theorem = theorem.theorem.concl();
+        let rule = Rule::Abs(binder.copy(alloc)?, theorem.entry);
+        self.record(alloc, rule, answer)
+    }
+
+    /// INST: free variables replaced by terms of their types, all at once, by a list of pairs (new, old).
+    pub fn inst(
+        &mut self,
+        alloc: Global,
+        theta: &[(Term, Term)],
+        theorem: &Rec,
+    ) -> Result<Rec, Fault>
+        requires { IsMade self.old theorem.now }
+        ensures outcome { AnswersSuch (theorem_in result) (instance.inst_refusal self.old.theory theta.now theorem.now.theorem) (instance.IsInst self.old.theory theta.now theorem.now.theorem) }
+        ensures recorded { IfOk result (IsRecorded self.old self.new (steps.by_inst theorem.now.entry theta.now)) }
+        ensures kept { OnErr result (self.new ≡ self.old) }
+    {
+        let answer = match self.theory.inst(alloc, theta, &theorem.theorem) {
+            Ok(answer) => answer,
+            Err(fault) => return Err(fault),
+        };
+        within_limits(&answer);
+        let _theorem = theorem.theorem.concl();
+        let rule = Rule::Inst(theorem.entry, copied_terms(alloc, theta)?);
+        self.record(alloc, rule, answer)
+    }
+
+    /// INST_TYPE: type variables replaced by types, all at once, by a list of pairs (new, old).
+    pub fn inst_type(
+        &mut self,
+        alloc: Global,
+        theta: &[(Ty, Ty)],
+        theorem: &Rec,
+    ) -> Result<Rec, Fault>
+        requires { IsMade self.old theorem.now }
+        ensures outcome { AnswersSuch (theorem_in result) (instance.inst_type_refusal self.old.theory theta.now theorem.now.theorem) (instance.IsInstType self.old.theory theta.now theorem.now.theorem) }
+        ensures recorded { IfOk result (IsRecorded self.old self.new (steps.by_inst_type theorem.now.entry theta.now)) }
+        ensures kept { OnErr result (self.new ≡ self.old) }
+    {
+        let answer = match self.theory.inst_type(alloc, theta, &theorem.theorem) {
+            Ok(answer) => answer,
+            Err(fault) => return Err(fault),
+        };
+        within_limits(&answer);
+        let _theorem = theorem.theorem.concl();
+        let rule = Rule::InstType(theorem.entry, copied_types(alloc, theta)?);
+        self.record(alloc, rule, answer)
+    }
+
+    /// ETA: `|- (\x:A. t x) = t`.
+    pub fn eta(&mut self, alloc: Global) -> Result<Rec, Fault>
+        ensures ok { IfOk result (λ made. made.theorem ≡ record { theory = self.old.theory; hypotheses = []; conclusion = axioms.eta_conclusion }) }
+        ensures err { IfErr result (λ fault. fault ≡ Memory) }
+        ensures recorded { IfOk result (IsRecorded self.old self.new steps.by_eta) }
+        ensures kept { OnErr result (self.new ≡ self.old) }
+    {
+        let theorem = match self.theory.eta(alloc) {
+            Ok(theorem) => theorem,
+            Err(fault) => return Err(fault),
+        };
+        within_limits(&theorem);
+        self.record(alloc, Rule::Eta, theorem)
+    }
+
+    /// SELECT: `P x |- P (@ P)`.
+    pub fn select(&mut self, alloc: Global) -> Result<Rec, Fault>
+        ensures ok { IfOk result (λ made. made.theorem ≡ record { theory = self.old.theory; hypotheses = axioms.select_hypothesis ∷ []; conclusion = axioms.select_conclusion }) }
+        ensures err { IfErr result (λ fault. fault ≡ Memory) }
+        ensures recorded { IfOk result (IsRecorded self.old self.new steps.by_select) }
+        ensures kept { OnErr result (self.new ≡ self.old) }
+    {
+        let theorem = match self.theory.select(alloc) {
+            Ok(theorem) => theorem,
+            Err(fault) => return Err(fault),
+        };
+        within_limits(&theorem);
+        self.record(alloc, Rule::Select, theorem)
+    }
+
+    /// Defines a constant; the theorem is `|- c = t`, and stands on the theory with the definition.
+    pub fn define(&mut self, alloc: Global, name: &str, term: &Term) -> Result<Rec, Fault>
+        ensures outcome { Answers (theorem_in result) (outcome.define_outcome self.old.theory name.now term.now) }
+        ensures recorded { IfOk result (IsRecorded self.old self.new (steps.by_definition name.now term.now)) }
+        ensures kept { OnErr result (self.new ≡ self.old) }
+    {
+        let definition = Entry::Defined(String::from_str(alloc, name)?, term.copy(alloc)?);
+        if self.entries.reserve(1).is_err() {
+            return Err(Fault::Memory);
+        }
+        let number = self.entries.len();
+        let _type = term.ty();
+        let theorem = match self.theory.define(alloc, name, term) {
+            Ok(theorem) => theorem,
+            Err(fault) => return Err(fault),
+        };
+        within_limits(&theorem);
+        self.entries.push_reserved(definition);
+        Ok(Rec {
+            theorem,
+            entry: number,
+        })
+    }
+
+    /// Declares a type.
+    pub fn new_type(&mut self, alloc: Global, name: &str) -> Result<(), Fault>
+        ensures outcome { Answers (leaving result self.new.theory) (outcome.new_type_outcome self.old.theory name.now) }
+        ensures entry { OnOk result (self.new.entries ≡ self.old.entries ++ steps.declared_type name.now ∷ []) }
+        ensures grown { OnOk result (IsGrown self.old self.new) }
+        ensures kept { OnErr result (self.new ≡ self.old) }
+    {
+        let declared_type = Entry::DeclaredType(String::from_str(alloc, name)?);
+        if self.entries.reserve(1).is_err() {
+            return Err(Fault::Memory);
+        }
+        match self.theory.new_type(alloc, name) {
+            Ok(()) => {}
+            Err(fault) => return Err(fault),
+        }
+        self.entries.push_reserved(declared_type);
+        Ok(())
+    }
+
+    /// Declares a constant of a type without type variables.
+    pub fn new_const(&mut self, alloc: Global, name: &str, ty: &Ty) -> Result<(), Fault>
+        ensures outcome { Answers (leaving result self.new.theory) (outcome.new_const_outcome self.old.theory name.now ty.now) }
+        ensures entry { OnOk result (self.new.entries ≡ self.old.entries ++ steps.declared_constant name.now ty.now ∷ []) }
+        ensures grown { OnOk result (IsGrown self.old self.new) }
+        ensures kept { OnErr result (self.new ≡ self.old) }
+    {
+        let declared_constant = Entry::DeclaredConstant(String::from_str(alloc, name)?, ty.copy(alloc)?);
+        if self.entries.reserve(1).is_err() {
+            return Err(Fault::Memory);
+        }
+        match self.theory.new_const(alloc, name, ty) {
+            Ok(()) => {}
+            Err(fault) => return Err(fault),
+        }
+        self.entries.push_reserved(declared_constant);
+        Ok(())
+    }
+}
+
+// The same pairs.
+fn copied_terms(alloc: Global, pairs: &[(Term, Term)]) -> Result<Vec<(Term, Term)>, Fault>
+    ensures ok { IfOk result (λ copies. copies.items ≡ pairs.now) }
+    ensures err { IfErr result (λ fault. fault ≡ Memory) }
+{
+    let mut copies = Vec::new(alloc);
+    for pair in pairs {
+        copies.push((pair.0.copy(alloc)?, pair.1.copy(alloc)?))?;
+    }
+    Ok(copies)
+}
+
+// The same pairs.
+fn copied_types(alloc: Global, pairs: &[(Ty, Ty)]) -> Result<Vec<(Ty, Ty)>, Fault>
+    ensures ok { IfOk result (λ copies. copies.items ≡ pairs.now) }
+    ensures err { IfErr result (λ fault. fault ≡ Memory) }
+{
+    let mut copies = Vec::new(alloc);
+    for pair in pairs {
+        copies.push((pair.0.copy(alloc)?, pair.1.copy(alloc)?))?;
+    }
+    Ok(copies)
+}
