@@ -1,28 +1,26 @@
 -- What a log has given, with what a line adds.
-use Rattle.std.proofs.Common.{◌≡◌, ℕ, ◌<◌, ◌≤◌, ◌+◌, List, [], ◌∷◌, ◌++◌, ◌||◌, length, append-nil, length-append, true, false, Bool, refl, sym, ◌∙◌, ap, subst, arith, Vec, Global, Result, Ok, Err}
+use Rattle.std.proofs.Common.{◌≡◌, ℕ, ◌<◌, ◌+◌, List, [], ◌∷◌, ◌++◌, ◌||◌, length, append-nil, length-append, true, false, Bool, refl, sym, ◌∙◌, ap, subst, arith, Vec, Global, Result, Ok, Err}
 use Rattle.std.specs.Prelude.{map, reverse, OnErr}
 use Rattle.std.specs.List.{All, slice_index_or}
-use Rattle.std.proofs.lemmas.List.{length-map, map_push, map-append, reverse-append}
+use Rattle.std.proofs.lemmas.List.{length-map, map_push, reverse-append}
 use Rattle.std.proofs.lemmas.List.Elements.{All-push}
-use Rattle.hol_model.specs.declared.limits.TheConstants.{DEFINITIONS_LIMIT}
 use Rattle.hol_model.specs.declared.fault.Fault.{Fault}
-use Rattle.hol_model.specs.LogState.{LogState, no_sequent}
+use Rattle.hol_model.specs.LogState.{no_sequent}
 use Rattle.hol_logtext.specs.Lines.{version_of}
 use Rattle.hol_check.specs.Terms.{TermTable, name_at, type_at, term_at}
 use Rattle.hol_check.specs.Known.{Knows, GivesConstant}
 use Rattle.hol_check.specs.State.{sequent_in, entry_in, theory_in, claim_in, state_of, IsFitting, IsFittingTheorem, HasEntryParts, IsClaim, IsContents}
 use Rattle.hol_check.specs.Judged.{CanBeAdded, HasRoom, IsNewConstant}
-use Rattle.hol_check.specs.Added.{with_addition, IsAdded, IsEntered}
+use Rattle.hol_check.specs.Added.{IsAdded, IsEntered}
 use Rattle.hol_check.specs.declared.known.Known.{Known}
 use Rattle.hol_check.specs.declared.state.Theorem.{Theorem}
 use Rattle.hol_check.specs.declared.state.TheoryEntry.{TheoryEntry}
 use Rattle.hol_check.specs.declared.state.TheoryEntry.TheVariants.{Definition}
 use Rattle.hol_check.specs.declared.state.ListedClaim.{ListedClaim}
 use Rattle.hol_check.specs.declared.state.Contents.{Contents}
-use Rattle.hol_check.specs.declared.state.Addition.{Addition}
 use Rattle.hol_check.specs.declared.state.Addition.TheVariants.{TypeNumber, TermNumber, Proved, Defined, Claimed, Ended}
 use Rattle.hol_check.proofs.TableLemmas.{get_or-longer}
-use Rattle.hol_check.proofs.StateLemmas.{map-same, All-weaker, state-still, contents-grown}
+use Rattle.hol_check.proofs.StateLemmas.{map-same, All-weaker}
 
 either : (test : Bool) → (test || false) ≡ test
 either true = refl

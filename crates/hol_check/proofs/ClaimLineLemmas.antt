@@ -1,30 +1,27 @@
 -- The lines of claims.
-use Rattle.std.proofs.Common.{◌≡◌, ℕ, zero, suc, ◌+◌, ◌<◌, ◌≤◌, ◌||◌, List, [], ◌∷◌, ◌++◌, length, drop, get_or, Bool, true, false, not, ◌&&◌, refl, sym, ◌∙◌, ap, subst, Some, Ok, Err, append_assoc, append-nil, arith}
-use Rattle.std.specs.Prelude.{slice_get, nat_eq, nat_le, map}
-use Rattle.std.specs.List.{All, list_any, slice_index_or}
+use Rattle.std.proofs.Common.{◌≡◌, ℕ, ◌+◌, ◌<◌, ◌≤◌, ◌||◌, List, [], ◌∷◌, ◌++◌, length, drop, get_or, Bool, true, false, not, ◌&&◌, refl, sym, ◌∙◌, ap, subst, Some, Ok, append_assoc, append-nil, arith}
+use Rattle.std.specs.Prelude.{slice_get, nat_eq, nat_le}
+use Rattle.std.specs.List.{All, list_any}
 use Rattle.std.specs.Str.{bytes_eq}
 use Rattle.std.proofs.lemmas.List.{map_push, drop_all, length-map}
 use Rattle.std.proofs.lemmas.List.Elements.{All-head, All-tail, All-push}
 use Rattle.std.proofs.lemmas.Option.{get_or_from_slice_get}
-use Rattle.hol_model.specs.declared.fault.Cause.TheVariants.{Claim}
 use Rattle.hol_model.specs.Name.{is_identifier}
 use Rattle.hol_model.specs.Nameless.{Nameless, same_term}
-use Rattle.hol_model.specs.Goals.{Sequent}
 use Rattle.hol_model.specs.LogLine.{claim_line}
 use Rattle.hol_model.specs.LogState as given
 use Rattle.hol_model.specs.LogState.{LogState, LogClaim, same_terms, set_of, terms_at, no_sequent}
 use Rattle.hol_model.specs.LogSequents.{supposing}
-use Rattle.hol_model.specs.LogFaults.{is_no_term, is_no_theorem}
+use Rattle.hol_model.specs.LogFaults.{is_no_term}
 use Rattle.hol_model.proofs.Tests.{same_term-Decides, first_of_both, second_of_both}
 use Rattle.hol_model.proofs.LogTests.{same_terms-is}
 use Rattle.hol_check.specs.Table.{HaveOneNumber}
-use Rattle.hol_check.specs.Terms.{TermTable, name_at, term_at, IsGrown}
+use Rattle.hol_check.specs.Terms.{TermTable, term_at, IsGrown}
 use Rattle.hol_check.specs.Hypotheses.{terms_in}
-use Rattle.hol_check.specs.State.{sequent_in, claim_in, state_of, IsFitting, IsFittingTheorem, IsContents}
+use Rattle.hol_check.specs.State.{sequent_in, state_of, IsFitting, IsContents}
 use Rattle.hol_check.specs.Judged.{NamesTerm, NamesTheorem, Judges}
 use Rattle.hol_check.specs.ClaimLines.{NamesTerms, is_sequent}
 use Rattle.hol_check.specs.declared.state.Theorem.{Theorem}
-use Rattle.hol_check.specs.declared.state.ListedClaim.{ListedClaim}
 use Rattle.hol_check.specs.declared.state.Contents.{Contents}
 use Rattle.hol_check.specs.declared.state.Addition.TheVariants.{Claimed}
 use Rattle.hol_check.proofs.TableLemmas.{is_within}

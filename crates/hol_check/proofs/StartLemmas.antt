@@ -1,5 +1,5 @@
 -- What is known before the first line.
-use Rattle.std.proofs.Common.{◌≡◌, ◌⊎◌, ℕ, zero, suc, ◌<◌, ◌≤◌, List, [], ◌∷◌, length, Bool, true, false, refl, sym, ◌∙◌, ap, subst, inl, inr, Option, Some, None, Result, Ok, Err, IfOk, IfErr, if◌then◌else◌, arith}
+use Rattle.std.proofs.Common.{◌≡◌, ◌⊎◌, ℕ, zero, suc, ◌<◌, ◌≤◌, List, [], ◌∷◌, Bool, true, false, refl, sym, ◌∙◌, ap, subst, inl, inr, Some, None, Result, Ok, Err, IfOk, IfErr, if◌then◌else◌, arith}
 use Rattle.std.specs.Prelude.{slice_get, nat_eq}
 use Rattle.std.specs.Str.{bytes_eq}
 use Rattle.std.proofs.lemmas.Bool.{eqb-true}
@@ -14,8 +14,7 @@ use Rattle.hol_model.specs.Theory.{generic_type, equality_name, choice_name, equ
 use Rattle.hol_check.specs.Growth.{IsLonger}
 use Rattle.hol_check.specs.Terms.{TermTable, name_at, type_at, IsGrown}
 use Rattle.hol_check.specs.Entries.{IsEntry}
-use Rattle.hol_check.specs.Numbers.{IsNoted}
-use Rattle.hol_check.specs.Known.{IsGiven, IsListed, IsListedType, IsDeclaredNumber, Knows}
+use Rattle.hol_check.specs.Known.{IsGiven, IsListed, Knows}
 use Rattle.hol_check.proofs.TableLemmas.{is_within}
 use Rattle.hol_check.proofs.TypeChangeLemmas.{type-place, type-there}
 use Rattle.hol_check.proofs.StateLemmas.{longer-place}

@@ -1,24 +1,23 @@
 -- What a log has given stays as the tables grow.
-use Rattle.std.proofs.Common.{◌≡◌, ℕ, zero, suc, ◌<◌, List, [], ◌∷◌, ◌++◌, length, length-append, true, refl, arith, sym, ◌∙◌, ap, subst, Some}
+use Rattle.std.proofs.Common.{◌≡◌, ℕ, suc, ◌<◌, List, [], ◌∷◌, ◌++◌, length, length-append, refl, arith, sym, ◌∙◌, ap, subst, Some}
 use Rattle.std.specs.Prelude.{slice_get, map, reverse}
 use Rattle.std.specs.List.{All, slice_index_or}
-use Rattle.hol_model.specs.Nameless.{Nameless}
 use Rattle.hol_model.specs.Measures.{nameless_within_limits}
-use Rattle.hol_model.specs.Theory.{Theory, Entry, definition, declaration_of_type, declaration_of_constant, generic_type}
+use Rattle.hol_model.specs.Theory.{Theory, definition, declaration_of_type, declaration_of_constant, generic_type}
 use Rattle.hol_model.specs.KnownTerm.{is_declared}
 use Rattle.hol_model.specs.LogState.{no_sequent}
 use Rattle.hol_logtext.specs.Lines.{version_of}
 use Rattle.hol_check.specs.Growth.{IsLonger}
 use Rattle.hol_check.specs.Terms.{TermTable, name_at, type_at, term_at, IsGrown}
-use Rattle.hol_check.specs.Known.{IsGiven, IsListed, IsListedType, IsDeclaredNumber, Knows}
+use Rattle.hol_check.specs.Known.{Knows}
 use Rattle.hol_check.specs.State.{sequent_in, entry_in, theory_in, claim_in, state_of, IsFitting, IsFittingTheorem, HasEntryParts, IsClaim, IsContents}
 use Rattle.hol_check.specs.declared.state.Theorem.{Theorem}
 use Rattle.hol_check.specs.declared.state.TheoryEntry.{TheoryEntry}
 use Rattle.hol_check.specs.declared.state.TheoryEntry.TheVariants.{Definition, DeclaredType, DeclaredConstant}
 use Rattle.hol_check.specs.declared.state.ListedClaim.{ListedClaim}
 use Rattle.hol_check.specs.declared.state.Contents.{Contents}
-use Rattle.hol_check.proofs.TableLemmas.{slice_get-longer, get_or-longer, is_within}
-use Rattle.hol_check.proofs.TypeChangeLemmas.{type-within, type-grown, type-place}
+use Rattle.hol_check.proofs.TableLemmas.{slice_get-longer, get_or-longer}
+use Rattle.hol_check.proofs.TypeChangeLemmas.{type-within, type-grown}
 use Rattle.hol_check.proofs.ChangeLemmas.{within-grown, term-grown}
 
 -- lists

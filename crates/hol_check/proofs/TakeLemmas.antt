@@ -1,17 +1,16 @@
 -- One line after another.
-use Rattle.std.proofs.Common.{◌≡◌, List, [], ◌∷◌, ◌++◌, ◌||◌, Bool, true, false, refl, sym, ◌∙◌, ap, subst, Option, None, Some, Result, Ok, Err, if◌then◌else◌}
+use Rattle.std.proofs.Common.{◌≡◌, List, [], ◌∷◌, ◌++◌, ◌||◌, Bool, true, false, refl, sym, ◌∙◌, ap, None, Some, Result, Ok, Err, if◌then◌else◌}
 use Rattle.std.specs.Prelude.{OnOk, OnErr}
 use Rattle.hol_model.specs.declared.fault.Fault.{Fault}
 use Rattle.hol_model.specs.declared.fault.Cause.{Cause}
 use Rattle.hol_model.specs.declared.fault.Cause.TheVariants.{Shape, Number, Name, Kind, Const, Rule, Claim, Large, End}
 use Rattle.hol_model.specs.LogLine.{LogLine}
 use Rattle.hol_model.specs.LogState.{LogState}
-use Rattle.hol_model.specs.LogSequents.{after_line}
 use Rattle.hol_model.specs.LogFaults.{has_shape_fault, has_number_fault, has_name_fault, has_type_fault, has_constant_fault, has_rule_fault, has_claim_fault, has_size_fault, has_end_fault, first_applying, first_cause}
 use Rattle.hol_check.specs.Terms.{TermTable, IsGrown}
 use Rattle.hol_check.specs.State.{state_of, IsContents}
-use Rattle.hol_check.specs.Judged.{CanBeAdded, Denotes, IsAccepted, first_fault}
-use Rattle.hol_check.specs.Added.{with_addition, IsAdded}
+use Rattle.hol_check.specs.Judged.{CanBeAdded, IsAccepted, first_fault}
+use Rattle.hol_check.specs.Added.{IsAdded}
 use Rattle.hol_check.specs.Taken.{IsTakenLine}
 use Rattle.hol_check.specs.declared.state.Contents.{Contents}
 use Rattle.hol_check.specs.declared.state.Addition.{Addition}

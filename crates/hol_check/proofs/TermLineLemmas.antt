@@ -18,15 +18,14 @@ use Rattle.hol_model.specs.LogLine.{LogLine, variable_line, constant_line, combi
 use Rattle.hol_model.specs.LogState as given
 use Rattle.hol_model.specs.LogState.{LogState, type_of_term_at}
 use Rattle.hol_model.specs.LogSequents.{new_types, new_terms, new_theorems, new_entries, new_claims, ends, is_free_variable, abstraction_over}
-use Rattle.hol_model.specs.LogFaults.{has_shape_fault, has_number_fault, has_name_fault, has_type_fault, has_constant_fault, has_rule_fault, has_claim_fault, has_size_fault, takes, sequent_fits, is_no_type, is_no_term, first_applying}
+use Rattle.hol_model.specs.LogFaults.{has_shape_fault, has_number_fault, has_name_fault, has_type_fault, has_constant_fault, has_rule_fault, has_claim_fault, has_size_fault, takes, sequent_fits, is_no_type, is_no_term}
 use Rattle.hol_check.specs.Terms.{TermTable, name_at, type_at, term_at, IsGrown}
 use Rattle.hol_check.specs.Change.{IsVariable, IsMade}
 use Rattle.hol_check.specs.State.{theory_in, state_of, IsContents}
-use Rattle.hol_check.specs.Judged.{NamesType, NamesTerm, IsAccepted, IsJudged, Judges, first_fault}
-use Rattle.hol_check.specs.TermLines.{AddsTerm, AnswersTerm}
+use Rattle.hol_check.specs.Judged.{NamesType, NamesTerm, Judges, first_fault}
+use Rattle.hol_check.specs.TermLines.{AnswersTerm}
 use Rattle.hol_check.specs.declared.state.Contents.{Contents}
 use Rattle.hol_check.specs.declared.state.Addition.{Addition}
-use Rattle.hol_check.specs.declared.state.Addition.TheVariants.{TermNumber}
 use Rattle.hol_check.proofs.TableLemmas.{is_within}
 use Rattle.hol_check.proofs.TypeChangeLemmas.{type-grown, type-there, type-place}
 use Rattle.hol_check.proofs.ChangeLemmas.{term-grown, term-there, IsGrown-trans}

@@ -1,5 +1,5 @@
 -- The lines of types.
-use Rattle.std.proofs.Common.{◌≡◌, ℕ, ◌<◌, ◌≤◌, List, [], ◌∷◌, length, Bool, true, false, not, ◌&&◌, ◌||◌, refl, sym, ◌∙◌, ap, subst, Some, Ok, Err}
+use Rattle.std.proofs.Common.{◌≡◌, ℕ, ◌≤◌, List, [], ◌∷◌, Bool, true, false, not, ◌&&◌, ◌||◌, refl, sym, ◌∙◌, ap, Some, Ok, Err}
 use Rattle.std.specs.Prelude.{slice_get}
 use Rattle.std.proofs.lemmas.Option.{get_or_from_slice_get}
 use Rattle.hol_model.specs.declared.fault.Cause.TheVariants.{Kind}
@@ -8,7 +8,7 @@ use Rattle.hol_model.specs.Name.{is_declared_type_name}
 use Rattle.hol_model.specs.HolType.{HolType, function_type, declared_type, type_nodes}
 use Rattle.hol_model.specs.NamedTerm.{type_fits}
 use Rattle.hol_model.specs.KnownTerm.{is_declared}
-use Rattle.hol_model.specs.LogLine.{LogLine, function_type_line, declared_type_line}
+use Rattle.hol_model.specs.LogLine.{function_type_line, declared_type_line}
 use Rattle.hol_model.specs.LogState as given
 use Rattle.hol_model.specs.LogFaults.{is_first_version}
 use Rattle.hol_logtext.specs.Lines.{version_of}

@@ -16,6 +16,8 @@ use crate::terms::Terms;
 use hol_model::{Cause, Fault, is_identifier};
 use std::alloc::Global;
 
+/// A claim: `number` where its theorem or one of its terms is not there, `name` where its name is no identifier,
+/// `claim` where the theorem has another conclusion or another set of hypotheses.
 pub(crate) fn judge_claim(
     alloc: Global,
     terms: &mut Terms,

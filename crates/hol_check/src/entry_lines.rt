@@ -10,6 +10,8 @@ use crate::terms::Terms;
 use hol_model::{Cause, Fault, is_constant_name, is_declared_type_name};
 use std::alloc::Global;
 
+/// A new declared type: `shape` in a log of the first version, `name` where the name is none of a declared type or is
+/// taken, `large` where the theory is full.
 pub(crate) fn judge_new_type(
     alloc: Global,
     terms: &mut Terms,
@@ -38,6 +40,9 @@ pub(crate) fn judge_new_type(
     Ok(Ok(Addition::NewType(number)))
 }
 
+/// A new declared constant: `shape` in a log of the first version, `number` where its type is not there, `name` where
+/// the name is none of a constant or is taken, `rule` where a type variable stands in the type, `large` where the
+/// theory is full.
 pub(crate) fn judge_new_constant(
     alloc: Global,
     terms: &mut Terms,

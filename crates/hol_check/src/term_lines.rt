@@ -17,6 +17,7 @@ use crate::typing::type_of;
 use hol_model::{Cause, Fault, is_constant_name, is_identifier};
 use std::alloc::Global;
 
+/// A variable: `number` where its type is not there, `name` where its name is no identifier.
 pub(crate) fn judge_variable(
     alloc: Global,
     terms: &mut Terms,
@@ -37,6 +38,8 @@ pub(crate) fn judge_variable(
     judge_term(terms, made)
 }
 
+/// A constant: `number` where its type is not there, `name` where its name is none of a constant, `const` where it is
+/// not known at that type.
 pub(crate) fn judge_constant(
     alloc: Global,
     terms: &mut Terms,
@@ -64,6 +67,8 @@ pub(crate) fn judge_constant(
     judge_term(terms, made)
 }
 
+/// A combination: `number` where a part is not there, `type` where the function does not take the argument, `large`
+/// where the term passes a limit.
 pub(crate) fn judge_combination(
     terms: &mut Terms,
     contents: &Contents,
@@ -94,6 +99,8 @@ pub(crate) fn judge_combination(
     judge_term(terms, made)
 }
 
+/// An abstraction: `number` where a part is not there, `type` where the binder is no variable, `large` where the term
+/// passes a limit.
 pub(crate) fn judge_abstraction(
     alloc: Global,
     terms: &mut Terms,

@@ -9,6 +9,7 @@ use crate::terms::Terms;
 use hol_model::{Cause, Fault, is_declared_type_name, is_type_variable_name};
 use std::alloc::Global;
 
+/// A type variable: `name` where the name is none of a type variable.
 pub(crate) fn judge_type_variable(
     alloc: Global,
     terms: &mut Terms,
@@ -27,6 +28,7 @@ pub(crate) fn judge_type_variable(
     }
 }
 
+/// The type of formulas, which is never refused.
 pub(crate) fn judge_bool(
     terms: &mut Terms,
     contents: &Contents,
@@ -41,6 +43,7 @@ pub(crate) fn judge_bool(
     }
 }
 
+/// A function type: `number` where a part is not there, `large` where the type has too many nodes.
 pub(crate) fn judge_function_type(
     terms: &mut Terms,
     contents: &Contents,
@@ -63,6 +66,8 @@ pub(crate) fn judge_function_type(
     }
 }
 
+/// A declared type: `shape` in a log of the first version, `name` where the name is none of a declared type, `type`
+/// where no such type was declared.
 pub(crate) fn judge_declared_type(
     alloc: Global,
     terms: &mut Terms,

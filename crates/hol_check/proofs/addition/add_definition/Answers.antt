@@ -1,4 +1,3 @@
-use Rattle.std.proofs.Common.{Ok, Err}
 use Rattle.hol_check.proofs.AdditionLemmas.{defined-kept}
 use Rattle.hol_check.proofs.addition.add_definition.Goals as goal
 

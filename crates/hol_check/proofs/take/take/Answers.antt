@@ -1,10 +1,9 @@
 use Rattle.std.proofs.Common.{◌≡◌, sym, subst, ◌∙◌, Some, IfOk}
 use Rattle.hol_model.specs.declared.fault.Cause.TheVariants.{End}
-use Rattle.hol_model.specs.LogState.{LogState}
-use Rattle.hol_model.specs.LogFaults.{first_cause, has_end_fault}
+use Rattle.hol_model.specs.LogFaults.{first_cause}
 use Rattle.hol_logtext.specs.Lines.{line_of}
 use Rattle.hol_check.specs.State.{state_of}
-use Rattle.hol_check.specs.Judged.{IsJudged, IsAccepted}
+use Rattle.hol_check.specs.Judged.{IsJudged}
 use Rattle.hol_check.specs.Taken.{IsTaken, IsTakenLine}
 use Rattle.hol_check.proofs.StateLemmas.{contents-grown}
 use Rattle.hol_check.proofs.TakeLemmas.{refused-first, refused-last, taken-line, still-contents}

@@ -1,9 +1,6 @@
-use Rattle.std.proofs.Common.{sym, ◌∙◌, ap, refl}
-use Rattle.std.proofs.lemmas.Option.{slice_get-get_or}
-use Rattle.hol_model.specs.Nameless.{bound}
-use Rattle.hol_check.specs.Terms.{term_at}
+use Rattle.std.proofs.Common.{sym, ◌∙◌}
 use Rattle.hol_check.proofs.ChangeLemmas.{IsGrown-trans}
-use Rattle.hol_check.proofs.TermLineLemmas.{judged-term, adds-abstraction, made-within, is-variable}
+use Rattle.hol_check.proofs.TermLineLemmas.{judged-term, adds-abstraction, made-within}
 use Rattle.hol_check.proofs.term_lines.judge_abstraction.Goals as goal
 
 pub judge_term-requires : goal.judge_term-requires

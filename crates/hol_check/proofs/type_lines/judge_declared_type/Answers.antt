@@ -1,5 +1,4 @@
-use Rattle.std.proofs.Common.{sym, subst, ◌∙◌}
-use Rattle.hol_check.specs.Known.{Knows}
+use Rattle.std.proofs.Common.{sym, ◌∙◌}
 use Rattle.hol_check.proofs.StateLemmas.{knows-grown}
 use Rattle.hol_check.proofs.ChangeLemmas.{IsGrown-trans}
 use Rattle.hol_check.proofs.TypeLineLemmas.{judged-declared, undeclared}
