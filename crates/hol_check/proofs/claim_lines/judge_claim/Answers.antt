@@ -13,7 +13,7 @@ returns-in-Ok-name c =
     c.requires (c.in-Some.ensures c.args.terms.now c.requires) (c.in-Some-term_at.ensures c.args.terms.now c.requires)
     (subst (AreNamed (state_of c.args.terms.now c.args.contents.now) c.args.hypotheses.now c.args.terms.now.terms) c.in-Ok-Some.field-0-is c.in-Ok-Some.ensures.named)
     (sym c.is_identifier.ensures ∙ c.if-not-is_identifier.false)
-    (c.in-Ok.ensures.all ∙ ap (λ l. set_of (terms_in c.args.terms.now.terms l)) c.deref.ensures.value)
+    (c.in-Ok.ensures.all.named ∙ ap (λ l. set_of (terms_in c.args.terms.now.terms l)) c.deref.ensures.value)
     (ap (λ l. is_sequent (term_at c.args.terms.now.terms c.in-Some-term_at.concluded) (terms_in c.args.terms.now.terms l) (sequent_in c.args.terms.now.terms c.in-Some.proved.now)) (sym c.deref-2.ensures.value)
     ∙ (sym c.concludes.ensures ∙ c.if-not-concludes.false))
     c.in-Ok-name.ensures.number c.in-Ok-name.ensures.grows
