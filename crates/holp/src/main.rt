@@ -25,17 +25,22 @@ fn run_script(rt: &HostRuntime, name: &str) -> Result<u64, Fault> {
     }
 }
 
-/// Tells how a command ended, and answers its exit status.
-fn end(rt: &HostRuntime, answer: Result<u64, Fault>) -> io::Result<u8> {
+/// Tells why a command ended: a refused log on standard output, another fault on standard error.
+fn tell(rt: &HostRuntime, fault: Fault) -> io::Result<()> {
+    match fault {
+        Fault::LogFault { line, cause } => println!(rt; "refused at line {line}: {cause}"),
+        _ => eprintln!(rt; "holp: {fault}"),
+    }
+}
+
+/// The exit status of a command, once it is told why it ended.
+fn end(rt: &HostRuntime, answer: Result<u64, Fault>) -> u8 {
     match answer {
-        Ok(refused) => Ok(status(refused, None)),
-        Err(fault) => {
-            match fault {
-                Fault::LogFault { line, cause } => println!(rt; "refused at line {line}: {cause}")?,
-                _ => eprintln!(rt; "holp: {fault}")?,
-            }
-            Ok(status(0, Some(fault)))
-        }
+        Ok(refused) => status(refused, None),
+        Err(fault) => match tell(rt, fault) {
+            Ok(()) => status(0, Some(fault)),
+            Err(_) => status(0, Some(Fault::WriteFault)),
+        },
     }
 }
 
@@ -84,5 +89,5 @@ fn main(rt: HostRuntime) -> anyhow::Result<ExitCode> {
             .unwrap_or("");
         run_script(&rt, name)
     };
-    Ok(ExitCode::from(end(&rt, answer)?))
+    Ok(ExitCode::from(end(&rt, answer)))
 }
