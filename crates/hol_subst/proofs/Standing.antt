@@ -1,12 +1,12 @@
 -- Where a variable is sought after a replacement, and that it is nowhere else.
 use Rattle.std.proofs.Common.{◌≡◌, inl, inr, ℕ, suc, List, [], ◌∷◌, Bool, true, false, ◌||◌, not, Some, None, refl, sym, ◌∙◌, ap}
 use Rattle.std.specs.Prelude.{Option, if◌then◌else◌, fold, bit_and, bit_or}
-use Rattle.std.specs.Option.{option_map, option_map_or}
+use Rattle.std.specs.Option.{option_map, option_map_or, is_some}
 use Rattle.hol_model.specs.HolType.{HolType, type_put}
 use Rattle.hol_model.specs.NamedTerm.{NamedTerm, variable, constant, combination, abstraction, Binder, same_variable, is_free}
 use Rattle.hol_model.specs.Nameless.{free, bound, image, image_under, binder_index}
 use Rattle.hol_model.specs.Substitution.{occurs_free}
-use Rattle.hol_model.proofs.Tests.{same_name, same_variable-self}
+use Rattle.hol_model.proofs.Tests.{same_name, same_variable-type, same_variable-self}
 use Rattle.hol_model.proofs.Images.{occurs_free-image}
 use Rattle.hol_terms.specs.Classes.{class_of_name, have_common_class, classes_of_names}
 use Rattle.hol_terms.proofs.FreeNames.{nothing_common, apart_from_first, apart_from_second, other_names, has_class}
@@ -18,53 +18,71 @@ use Rattle.hol_subst.specs.Sought.{IsBroughtBy, IsKeptIn, is_apart}
 use Rattle.hol_subst.proofs.Apart.{first_apart, second_apart, type_stays, function_stays, argument_stays, body_stays, leaf_stays}
 
 -- a variable that is free in no new term is brought by none
-pub IsBroughtBy-none : (classes : ℕ) (env : List Entry) (old new class : ℕ) (name : List ℕ) (ty : HolType) → Covers old new env → class ≡ class_of_name name
-    → have_common_class new class ≡ false → IsBroughtBy classes env name ty
-IsBroughtBy-none classes env old new class name ty covers is apart = record {
-  absent = λ other s term far looked.
+pub IsBroughtBy-none : (classes : ℕ) (env : List Entry) (binders : List Binder) (old new class : ℕ) (name : List ℕ) (ty : HolType) → Covers old new env → class ≡ class_of_name name
+    → have_common_class new class ≡ false → IsBroughtBy classes env binders name ty
+IsBroughtBy-none classes env binders old new class name ty covers is apart = record {
+  absent = λ other s term far unbound looked.
       (covers.absent name ty (ap (bit_and new) (sym is) ∙ nothing_common new class apart)).absent other s term looked;
 }
 
 -- one more that is kept
-pub IsBroughtBy-keeping : (classes : ℕ) (env : List Entry) (name : List ℕ) (ty : HolType) (kept : List ℕ) (kept_type : HolType)
-    → IsBroughtBy classes env name ty → IsBroughtBy classes (((kept, kept_type), None) ∷ env) name ty
-IsBroughtBy-keeping classes env name ty kept kept_type is =
-    record { absent = λ other s term far looked. go (same_variable kept kept_type other s) other s term far looked }
+pub IsBroughtBy-keeping : (classes : ℕ) (env : List Entry) (binders : List Binder) (name : List ℕ) (ty : HolType) (kept : List ℕ) (kept_type : HolType)
+    → IsBroughtBy classes env binders name ty → IsBroughtBy classes (((kept, kept_type), None) ∷ env) binders name ty
+IsBroughtBy-keeping classes env binders name ty kept kept_type is =
+    record { absent = λ other s term far unbound looked. go (same_variable kept kept_type other s) other s term far unbound looked }
   where
-    go : (test : Bool) (other : List ℕ) (s : HolType) (term : NamedTerm) → bit_and classes (class_of_name other) ≡ 0
+    go : (test : Bool) (other : List ℕ) (s : HolType) (term : NamedTerm) → bit_and classes (class_of_name other) ≡ 0 → binder_index binders other s ≡ None
         → (if test then None else looked_up env other s) ≡ Some term → is_free name ty term ≡ false
-    go true other s term far looked = cc
-    go false other s term far looked = is.absent other s term far looked
+    go true other s term far unbound looked = cc
+    go false other s term far unbound looked = is.absent other s term far unbound looked
 
 -- one more that is replaced by a term without the variable
-pub IsBroughtBy-beside : (classes : ℕ) (env : List Entry) (name : List ℕ) (ty : HolType) (put : List ℕ) (put_type : HolType) (new : NamedTerm)
-    → is_free name ty new ≡ false → IsBroughtBy classes env name ty → IsBroughtBy classes (((put, put_type), Some new) ∷ env) name ty
-IsBroughtBy-beside classes env name ty put put_type new none is =
-    record { absent = λ other s term far looked. go (same_variable put put_type other s) other s term far looked }
+pub IsBroughtBy-beside : (classes : ℕ) (env : List Entry) (binders : List Binder) (name : List ℕ) (ty : HolType) (put : List ℕ) (put_type : HolType) (new : NamedTerm)
+    → is_free name ty new ≡ false → IsBroughtBy classes env binders name ty → IsBroughtBy classes (((put, put_type), Some new) ∷ env) binders name ty
+IsBroughtBy-beside classes env binders name ty put put_type new none is =
+    record { absent = λ other s term far unbound looked. go (same_variable put put_type other s) other s term far unbound looked }
   where
-    go : (test : Bool) (other : List ℕ) (s : HolType) (term : NamedTerm) → bit_and classes (class_of_name other) ≡ 0
+    go : (test : Bool) (other : List ℕ) (s : HolType) (term : NamedTerm) → bit_and classes (class_of_name other) ≡ 0 → binder_index binders other s ≡ None
         → (if test then Some new else looked_up env other s) ≡ Some term → is_free name ty term ≡ false
-    go true other s term far looked = let same : new ≡ term = cc in ap (is_free name ty) (sym same) ∙ none
-    go false other s term far looked = is.absent other s term far looked
+    go true other s term far unbound looked = let same : new ≡ term = cc in ap (is_free name ty) (sym same) ∙ none
+    go false other s term far unbound looked = is.absent other s term far unbound looked
 
--- one more that is replaced
-IsBroughtBy-union : (classes : ℕ) (env : List Entry) (name : List ℕ) (ty : HolType) (put : List ℕ) (put_type : HolType) (new : NamedTerm)
-    → IsBroughtBy classes env name ty → IsBroughtBy (bit_or classes (class_of_name put)) (((put, put_type), Some new) ∷ env) name ty
-IsBroughtBy-union classes env name ty put put_type new is =
-    record { absent = λ other s term far looked. go (same_variable put put_type other s) other s term refl far looked }
+-- one more that is replaced, but that a binder binds
+pub IsBroughtBy-bound : (classes : ℕ) (env : List Entry) (binders : List Binder) (name : List ℕ) (ty : HolType) (put : List ℕ) (put_type : HolType) (new : NamedTerm)
+    → is_some (binder_index binders put put_type) ≡ true → IsBroughtBy classes env binders name ty → IsBroughtBy classes (((put, put_type), Some new) ∷ env) binders name ty
+IsBroughtBy-bound classes env binders name ty put put_type new is_bound is =
+    record { absent = λ other s term far unbound looked. go (same_variable put put_type other s) other s term refl far unbound looked }
   where
     go : (test : Bool) (other : List ℕ) (s : HolType) (term : NamedTerm) → same_variable put put_type other s ≡ test
-        → bit_and (bit_or classes (class_of_name put)) (class_of_name other) ≡ 0
+        → bit_and classes (class_of_name other) ≡ 0 → binder_index binders other s ≡ None
         → (if test then Some new else looked_up env other s) ≡ Some term → is_free name ty term ≡ false
-    go true other s term same far looked =
+    go true other s term same far unbound looked =
+        let here : binder_index binders put put_type ≡ None = rw (same_name put other put_type s same, same_variable-type put other put_type s same) unbound in
+        let not_bound : is_some (binder_index binders put put_type) ≡ false = ap is_some here in
+        let clash : true ≡ false = sym is_bound ∙ not_bound in
+        cc
+    go false other s term same far unbound looked = is.absent other s term far unbound looked
+
+-- one more that is replaced
+IsBroughtBy-union : (classes : ℕ) (env : List Entry) (binders : List Binder) (name : List ℕ) (ty : HolType) (put : List ℕ) (put_type : HolType) (new : NamedTerm)
+    → IsBroughtBy classes env binders name ty → IsBroughtBy (bit_or classes (class_of_name put)) (((put, put_type), Some new) ∷ env) binders name ty
+IsBroughtBy-union classes env binders name ty put put_type new is =
+    record { absent = λ other s term far unbound looked. go (same_variable put put_type other s) other s term refl far unbound looked }
+  where
+    go : (test : Bool) (other : List ℕ) (s : HolType) (term : NamedTerm) → same_variable put put_type other s ≡ test
+        → bit_and (bit_or classes (class_of_name put)) (class_of_name other) ≡ 0 → binder_index binders other s ≡ None
+        → (if test then Some new else looked_up env other s) ≡ Some term → is_free name ty term ≡ false
+    go true other s term same far unbound looked =
         absurd (has_class put (ap (λ n. bit_and (class_of_name put) (class_of_name n)) (same_name put other put_type s same)
         ∙ second_apart classes (class_of_name put) (class_of_name other) far))
-    go false other s term same far looked = is.absent other s term (first_apart classes (class_of_name put) (class_of_name other) far) looked
+    go false other s term same far unbound looked =
+        is.absent other s term (first_apart classes (class_of_name put) (class_of_name other) far) unbound looked
 
-pub IsBroughtBy-putting : (more classes class : ℕ) (env : List Entry) (name : List ℕ) (ty : HolType) (put : List ℕ) (put_type : HolType) (new : NamedTerm)
+pub IsBroughtBy-putting : (more classes class : ℕ) (env : List Entry) (binders : List Binder) (name : List ℕ) (ty : HolType) (put : List ℕ) (put_type : HolType) (new : NamedTerm)
     → more ≡ bit_or classes class → class ≡ class_of_name put
-    → IsBroughtBy classes env name ty → IsBroughtBy more (((put, put_type), Some new) ∷ env) name ty
-IsBroughtBy-putting more classes class env name ty put put_type new union is brought = rw (union, is) (IsBroughtBy-union classes env name ty put put_type new brought)
+    → IsBroughtBy classes env binders name ty → IsBroughtBy more (((put, put_type), Some new) ∷ env) binders name ty
+IsBroughtBy-putting more classes class env binders name ty put put_type new union is brought =
+    rw (union, is) (IsBroughtBy-union classes env binders name ty put put_type new brought)
 
 -- the classes of the variables that a list of pairs replaces by terms in which the variable is free
 abbrev bringing : List ℕ → HolType → ℕ → List (NamedTerm × NamedTerm) → ℕ
@@ -104,10 +122,10 @@ bringing-absent name ty ((new, combination f x) ∷ rest) start other s term far
 bringing-absent name ty ((new, abstraction third t body) ∷ rest) start other s term far looked =
     bringing-absent name ty rest (if is_free name ty new then bit_or start (classes_of_names body) else start) other s term far looked
 
-pub IsBroughtBy-pairs : (classes : ℕ) (theta : List (NamedTerm × NamedTerm)) (name : List ℕ) (ty : HolType)
-    → classes ≡ bringing name ty 0 theta → IsBroughtBy classes (entries theta) name ty
-IsBroughtBy-pairs classes theta name ty is = record {
-  absent = λ other s term far looked. bringing-absent name ty theta 0 other s term (ap (λ n. bit_and n (class_of_name other)) (sym is) ∙ far) looked;
+pub IsBroughtBy-pairs : (classes : ℕ) (theta : List (NamedTerm × NamedTerm)) (binders : List Binder) (name : List ℕ) (ty : HolType)
+    → classes ≡ bringing name ty 0 theta → IsBroughtBy classes (entries theta) binders name ty
+IsBroughtBy-pairs classes theta binders name ty is = record {
+  absent = λ other s term far unbound looked. bringing-absent name ty theta 0 other s term (ap (λ n. bit_and n (class_of_name other)) (sym is) ∙ far) looked;
 }
 
 -- only variables of its name become a variable
@@ -201,6 +219,14 @@ IsKeptIn-body classes types binders name ty bound_name bound_type body whole is 
           of_parts.differs other s occurs far (still_unbound (same_variable bound_name bound_type other s) (binder_index binders other s) unbound);
     }
 
+-- one more binder
+pub IsBroughtBy-under : (classes : ℕ) (env : List Entry) (binders : List Binder) (name : List ℕ) (ty : HolType) (bound_name : List ℕ) (bound_type : HolType)
+    → IsBroughtBy classes env binders name ty → IsBroughtBy classes env ((bound_name, bound_type) ∷ binders) name ty
+IsBroughtBy-under classes env binders name ty bound_name bound_type is = record {
+  absent = λ other s term far unbound looked.
+      is.absent other s term far (still_unbound (same_variable bound_name bound_type other s) (binder_index binders other s) unbound) looked;
+}
+
 -- a variable of a term that lacks some classes has none of them
 variable_apart : (classes : ℕ) (name : List ℕ) (ty : HolType) (term : NamedTerm) → OccursIn name ty term → bit_and classes (classes_of_names term) ≡ 0
     → bit_and classes (class_of_name name) ≡ 0
@@ -213,14 +239,15 @@ variable_apart classes name ty (combination f x) (inr occurs) apart =
 variable_apart classes name ty (abstraction other s body) occurs apart = variable_apart classes name ty body occurs apart
 
 -- what stands for a variable of no class that is sought lacks the variable
-pub instance-apart : (env : List Entry) (types : List (HolType × HolType)) (brought : ℕ) (other : List ℕ) (s : HolType) (name : List ℕ) (ty : HolType)
-    → IsBroughtBy brought env name ty → bit_and brought (class_of_name other) ≡ 0 → same_variable name ty other (type_put types s) ≡ false
+instance-apart : (env : List Entry) (types : List (HolType × HolType)) (binders : List Binder) (brought : ℕ) (other : List ℕ) (s : HolType) (name : List ℕ) (ty : HolType)
+    → IsBroughtBy brought env binders name ty → bit_and brought (class_of_name other) ≡ 0 → binder_index binders other s ≡ None
+    → same_variable name ty other (type_put types s) ≡ false
     → occurs_free name ty (instance_of env types other s) ≡ false
-instance-apart env types brought other s name ty is far differs = go (looked_up env other s) refl
+instance-apart env types binders brought other s name ty is far unbound differs = go (looked_up env other s) refl
   where
     go : (found : Option NamedTerm) → looked_up env other s ≡ found → occurs_free name ty (option_map_or image found (free other (type_put types s))) ≡ false
     go None looked = differs
-    go (Some term) looked = occurs_free-image name ty term ∙ is.absent other s term far looked
+    go (Some term) looked = occurs_free-image name ty term ∙ is.absent other s term far unbound looked
 
 neither : (p q : Bool) → p ≡ false → q ≡ false → (p || q) ≡ false
 neither p q first second = cc
@@ -247,7 +274,7 @@ nowhere env types name ty (abstraction bound_name bound_type body) binders none 
 
 -- nor is it where the term lacks the classes that are sought
 pub apart-after : (env : List Entry) (types : List (HolType × HolType)) (brought kept : ℕ) (term : NamedTerm) (binders : List Binder) (name : List ℕ) (ty : HolType)
-    → IsBroughtBy brought env name ty → IsKeptIn kept types binders name ty term → is_apart brought kept term ≡ true
+    → IsBroughtBy brought env binders name ty → IsKeptIn kept types binders name ty term → is_apart brought kept term ≡ true
     → occurs_free name ty (replaced env types (image_under binders term)) ≡ false
 apart-after env types brought kept term binders name ty is_brought is_kept passed =
     nowhere env types name ty term binders
@@ -255,7 +282,7 @@ apart-after env types brought kept term binders name ty is_brought is_kept passe
     let far : bit_and (bit_or brought kept) (class_of_name other) ≡ 0 =
     variable_apart (bit_or brought kept) other s term occurs
     (nothing_common (bit_or brought kept) (classes_of_names term) (failed (have_common_class (bit_or brought kept) (classes_of_names term)) passed)) in
-    instance-apart env types brought other s name ty is_brought (first_apart brought kept (class_of_name other) far)
+    instance-apart env types binders brought other s name ty is_brought (first_apart brought kept (class_of_name other) far) unbound
     (is_kept.differs other s occurs (second_apart brought kept (class_of_name other) far) unbound))
   where
     failed : (p : Bool) → not p ≡ true → p ≡ false
@@ -263,17 +290,22 @@ apart-after env types brought kept term binders name ty is_brought is_kept passe
     failed false is = refl
 
 -- the same of one variable, from what tests answer
-pub other_instance : (env : List Entry) (types : List (HolType × HolType)) (brought class : ℕ) (other : List ℕ) (s : HolType) (name : List ℕ) (ty : HolType)
-    → IsBroughtBy brought env name ty → class ≡ class_of_name other → have_common_class brought class ≡ false
+pub variable-apart : (env : List Entry) (types : List (HolType × HolType)) (binders : List Binder) (brought class : ℕ) (other : List ℕ) (s : HolType) (name : List ℕ) (ty : HolType)
+    → IsBroughtBy brought env binders name ty → class ≡ class_of_name other → have_common_class brought class ≡ false
     → same_variable name ty other (type_put types s) ≡ false
-    → occurs_free name ty (instance_of env types other s) ≡ false
-other_instance env types brought class other s name ty is is_class apart differs =
-    instance-apart env types brought other s name ty is (ap (bit_and brought) (sym is_class) ∙ nothing_common brought class apart) differs
+    → occurs_free name ty (replaced env types (image_under binders (variable other s))) ≡ false
+variable-apart env types binders brought class other s name ty is is_class apart differs = go (binder_index binders other s) refl
+  where
+    go : (index : Option ℕ) → binder_index binders other s ≡ index
+        → occurs_free name ty (mapped (instance_of env types) (type_put types) (option_map_or bound index (free other s))) ≡ false
+    go None unbound =
+        instance-apart env types binders brought other s name ty is (ap (bit_and brought) (sym is_class) ∙ nothing_common brought class apart) unbound differs
+    go (Some index) is = refl
 
-pub ruleset bringing_classes = (IsBroughtBy-none, IsBroughtBy-keeping, IsBroughtBy-beside, IsBroughtBy-putting, IsBroughtBy-pairs)
+pub ruleset bringing_classes = (IsBroughtBy-none, IsBroughtBy-keeping, IsBroughtBy-beside, IsBroughtBy-bound, IsBroughtBy-putting, IsBroughtBy-pairs)
 
 pub ruleset keeping_classes = (IsKeptIn-name, IsKeptIn-types_stay, IsKeptIn-one_type, IsKeptIn-absent)
 
-pub ruleset seeking = (apart-after, IsKeptIn-function, IsKeptIn-argument, IsKeptIn-body)
+pub ruleset seeking = (apart-after, IsBroughtBy-under, IsKeptIn-function, IsKeptIn-argument, IsKeptIn-body)
 
-pub ruleset standing_for = (other_instance, occurs_free-image)
+pub ruleset standing_for = (variable-apart)

@@ -7,9 +7,10 @@ use Rattle.hol_terms.specs.Classes.{class_of_name, have_common_class, classes_of
 use Rattle.hol_subst.specs.Entries.{Entry, looked_up}
 use Rattle.hol_subst.specs.Occurrences.{OccursIn}
 
--- the variable is free in no term that replaces a variable of another class
-pub record IsBroughtBy (classes : ℕ) (env : List Entry) (name : List ℕ) (ty : HolType) : Type 0 where
-  pub absent : (other : List ℕ) (s : HolType) (term : NamedTerm) → bit_and classes (class_of_name other) ≡ 0 → looked_up env other s ≡ Some term → is_free name ty term ≡ false
+-- the variable is free in no term that replaces a variable of another class, but for those that binders bind
+pub record IsBroughtBy (classes : ℕ) (env : List Entry) (binders : List Binder) (name : List ℕ) (ty : HolType) : Type 0 where
+  pub absent : (other : List ℕ) (s : HolType) (term : NamedTerm) → bit_and classes (class_of_name other) ≡ 0 → binder_index binders other s ≡ None
+      → looked_up env other s ≡ Some term → is_free name ty term ≡ false
 
 -- no variable of another class that is free in a term under binders becomes the variable where it is kept
 pub record IsKeptIn (classes : ℕ) (types : List (HolType × HolType)) (binders : List Binder) (name : List ℕ) (ty : HolType) (term : NamedTerm) : Type 0 where

@@ -1,7 +1,7 @@
 // Which variables are free in a term after the replacement, and which binders would capture them.
 ghost use Rattle.std.specs.Prelude.{◌≡◌, List, [], ◌∷◌, IfOk, IfErr, fold, bit_or, if◌then◌else◌};
 ghost use Rattle.hol_model.specs.HolType.{HolType, type_put};
-ghost use Rattle.hol_model.specs.NamedTerm.{NamedTerm, Binder};
+ghost use Rattle.hol_model.specs.NamedTerm.{NamedTerm, Binder, variable};
 ghost use Rattle.hol_model.specs.NamedTerm as terms;
 ghost use Rattle.hol_model.specs.Nameless.{image_under};
 ghost use Rattle.hol_model.specs.Substitution.{occurs_free};
@@ -48,7 +48,7 @@ pub fn is_free_after(
     ensures { result ≡ occurs_free name.now ty.now (replaced (entries_of replacements.now) types.now (image_under (binders_of passed.now) term.now)) }
 {
     let sought = Sought {
-        brought_by: brought_by(name, ty, &*replacements, touched),
+        brought_by: brought_by(name, ty, &*passed, &*replacements, touched),
         kept_in: kept_in(name, variables),
     };
     stands_after(
@@ -79,12 +79,12 @@ pub fn captures(
     requires known { HasVariables (table_of variables.now) body.now }
     ensures { result ≡ occurs_free name.now new_type.now (replaced (entries_of replacements.now) types.now (image_under ((name.now, ty.now) ∷ []) body.now)) }
 {
-    let sought = Sought {
-        brought_by: brought_by(name, new_type, &*replacements, touched),
-        kept_in: kept_in_body(name, ty, new_type, body, types, variables),
-    };
     let outermost = Passed::Outermost;
     let passed = Passed::Under(name, ty, &outermost);
+    let sought = Sought {
+        brought_by: brought_by(name, new_type, &passed, &*replacements, touched),
+        kept_in: kept_in_body(name, ty, new_type, body, types, variables),
+    };
     stands_after(
         body,
         sought,
@@ -97,27 +97,42 @@ pub fn captures(
     )
 }
 
-// The classes of the variables that are replaced by a term in which a variable is free.
+// The classes of the variables that the passed binders do not bind and that are replaced by a term in which a variable
+// is free.
 #[tactic(auto, using(crate::proofs::Standing::bringing_classes))]
-fn brought_by(name: &str, ty: &Ty, replacements: &Replacements<'_>, touched: Touched) -> NameClasses
+fn brought_by(
+    name: &str,
+    ty: &Ty,
+    passed: &Passed<'_>,
+    replacements: &Replacements<'_>,
+    touched: Touched,
+) -> NameClasses
     requires { Covers touched.old.bits touched.new.bits (entries_of replacements.now) }
-    ensures { IsBroughtBy result.bits (entries_of replacements.now) name.now ty.now }
+    ensures { IsBroughtBy result.bits (entries_of replacements.now) (binders_of passed.now) name.now ty.now }
 {
     if !touched.new.meets(NameClasses::of_name(name)) {
         return NameClasses::none();
     }
-    brought_by_entries(&*replacements, name, ty)
+    brought_by_entries(&*replacements, &*passed, name, ty)
 }
 
 #[tactic(auto, using(crate::proofs::Standing::bringing_classes))]
-fn brought_by_entries(replacements: &Replacements<'_>, name: &str, ty: &Ty) -> NameClasses
-    ensures { IsBroughtBy result.bits (entries_of replacements.now) name.now ty.now }
+fn brought_by_entries(
+    replacements: &Replacements<'_>,
+    passed: &Passed<'_>,
+    name: &str,
+    ty: &Ty,
+) -> NameClasses
+    ensures { IsBroughtBy result.bits (entries_of replacements.now) (binders_of passed.now) name.now ty.now }
 {
     match replacements {
         Replacements::Pairs(pairs) => brought_by_pairs(pairs, name, ty),
-        Replacements::Keeping(_, _, outer) => brought_by_entries(outer, name, ty),
-        Replacements::Putting(other, _, new, outer) => {
-            let classes = brought_by_entries(outer, name, ty);
+        Replacements::Keeping(_, _, outer) => brought_by_entries(outer, &*passed, name, ty),
+        Replacements::Putting(other, s, new, outer) => {
+            let classes = brought_by_entries(outer, &*passed, name, ty);
+            if is_bound(&*passed, other, s) {
+                return classes;
+            }
             if is_free(new, name, ty) {
                 classes.union(NameClasses::of_name(other))
             } else {
@@ -219,7 +234,7 @@ fn may_capture(
 // Whether a variable is free in a new term.
 fn is_put(name: &str, ty: &Ty, replacements: &Replacements<'_>, touched: Touched) -> bool {
     touched.new.meets(NameClasses::of_name(name))
-        && brought_by_entries(&*replacements, name, ty).bits != 0
+        && brought_by_entries(&*replacements, &Passed::Outermost, name, ty).bits != 0
 }
 
 // Whether no variable in whose place the sought one may stand is in the term.
@@ -242,7 +257,7 @@ fn stands_after(
     touched: Touched,
 ) -> bool
     requires covered { Covers touched.old.bits touched.new.bits (entries_of replacements.now) }
-    requires brought { IsBroughtBy sought.brought_by.bits (entries_of replacements.now) name.now ty.now }
+    requires brought { IsBroughtBy sought.brought_by.bits (entries_of replacements.now) (binders_of passed.now) name.now ty.now }
     requires kept { IsKeptIn sought.kept_in.bits types.now (binders_of passed.now) name.now ty.now term.now }
     ensures { result ≡ occurs_free name.now ty.now (replaced (entries_of replacements.now) types.now (image_under (binders_of passed.now) term.now)) }
 {
@@ -250,10 +265,17 @@ fn stands_after(
         return false;
     }
     match term.parts() {
-        Parts::Variable(other, s) => {
-            is_free_in_instance(other, s, sought, name, ty, types, &*replacements, touched)
-                && !is_bound(&*passed, other, s)
-        }
+        Parts::Variable(other, s) => stands_for(
+            other,
+            s,
+            sought,
+            name,
+            ty,
+            types,
+            &*passed,
+            &*replacements,
+            touched,
+        ),
         Parts::Constant(_, _) => false,
         Parts::Combination(function, argument) => {
             stands_after(
@@ -289,29 +311,49 @@ fn stands_after(
     }
 }
 
-// Whether a variable is free in what stands for another after the replacement.
+// Whether a variable is free in what stands for another, which stands under the passed binders, after the replacement.
 #[tactic(auto, using(crate::proofs::Standing::standing_for))]
-fn is_free_in_instance(
+fn stands_for(
     other: &str,
     other_ty: &Ty,
     sought: Sought,
     name: &str,
     ty: &Ty,
     types: &[(Ty, Ty)],
+    passed: &Passed<'_>,
     replacements: &Replacements<'_>,
     touched: Touched,
 ) -> bool
     requires covered { Covers touched.old.bits touched.new.bits (entries_of replacements.now) }
-    requires brought { IsBroughtBy sought.brought_by.bits (entries_of replacements.now) name.now ty.now }
-    ensures { result ≡ occurs_free name.now ty.now (instance_of (entries_of replacements.now) types.now other.now other_ty.now) }
+    requires brought { IsBroughtBy sought.brought_by.bits (entries_of replacements.now) (binders_of passed.now) name.now ty.now }
+    ensures { result ≡ occurs_free name.now ty.now (replaced (entries_of replacements.now) types.now (image_under (binders_of passed.now) (variable other.now other_ty.now))) }
 {
-    let becomes = becomes(other, other_ty, name, ty, types);
-    if !becomes && !sought.brought_by.meets(NameClasses::of_name(other)) {
+    if !becomes(other, other_ty, name, ty, types)
+        && !sought.brought_by.meets(NameClasses::of_name(other))
+    {
         return false;
     }
+    is_free_in_instance(other, other_ty, name, ty, types, &*replacements, touched)
+        && !is_bound(&*passed, other, other_ty)
+}
+
+// Whether a variable is free in what replaces another, or is the other with its new type.
+#[tactic(auto, using(crate::proofs::Putting::standing))]
+fn is_free_in_instance(
+    other: &str,
+    other_ty: &Ty,
+    name: &str,
+    ty: &Ty,
+    types: &[(Ty, Ty)],
+    replacements: &Replacements<'_>,
+    touched: Touched,
+) -> bool
+    requires { Covers touched.old.bits touched.new.bits (entries_of replacements.now) }
+    ensures { result ≡ occurs_free name.now ty.now (instance_of (entries_of replacements.now) types.now other.now other_ty.now) }
+{
     match look_up(&*replacements, touched, other, other_ty) {
         Some(new) => is_free(new, name, ty),
-        None => becomes,
+        None => becomes(other, other_ty, name, ty, types),
     }
 }
 
