@@ -3,8 +3,8 @@ use Rattle.std.proofs.Common.{◌≡◌, ℕ, zero, suc, List, [], ◌∷◌, �
 use Rattle.std.specs.Prelude.{slice_get}
 use Rattle.hol_model.specs.Theory.{Theory, IsEarlier}
 use Rattle.hol_model.proofs.Earlier.{earlier-same, earlier-twice}
-use Rattle.hol_journal.specs.Steps.{Step, JournalEntry, derived, sequent_of_theorem}
-use Rattle.hol_journal.specs.Journal.{Journal, Recorded, IsMade, IsRecorded}
+use Rattle.hol_journal.specs.Steps.{JournalEntry, derived, sequent_of_theorem}
+use Rattle.hol_journal.specs.Journal.{Journal}
 use Rattle.hol_journal.specs.Growth.{IsGrown, JournalsGrow}
 use Rattle.hol_journal.specs.Views.{entry_of, entries_of}
 use Rattle.hol_journal.specs.declared.entry.Entry.{Entry}

@@ -6,5 +6,4 @@ ghost use Rattle.hol_journal.specs.Growth.{JournalsGrow};
 /// computed: the clause is the law, for callers' proofs.
 pub fn journals_grow()
     ensures { JournalsGrow }
-{
-}
+{}

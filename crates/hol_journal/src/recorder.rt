@@ -382,7 +382,10 @@ impl Recorder {
         ensures grown { OnOk result (IsGrown self.old self.new) }
         ensures kept { OnErr result (self.new ≡ self.old) }
     {
-        let declared_constant = Entry::DeclaredConstant(String::from_str(alloc, name)?, ty.copy(alloc)?);
+        let declared_constant = Entry::DeclaredConstant(
+            String::from_str(alloc, name)?,
+            ty.copy(alloc)?,
+        );
         if self.entries.reserve(1).is_err() {
             return Err(Fault::Memory);
         }
