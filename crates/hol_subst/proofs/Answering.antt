@@ -1,6 +1,6 @@
 -- What a call answers, from what it answers once its first refusals are out of the way.
-use Rattle.std.proofs.Common.{◌≡◌, ◌⊎◌, inl, inr, ℕ, List, Bool, true, false, not, Some, None, Ok, Err, IfOk, IfErr, refl, ap, ◌∙◌, sym}
-use Rattle.std.specs.Prelude.{Option, Result, if◌then◌else◌}
+use Rattle.std.proofs.Common.{◌≡◌, ◌⊎◌, inl, inr, ℕ, List, Bool, true, false, Some, None, Ok, Err, IfOk, IfErr, refl}
+use Rattle.std.specs.Prelude.{Option, Result}
 use Rattle.hol_model.specs.declared.fault.Fault.{Fault}
 use Rattle.hol_model.specs.declared.fault.Fault.TheVariants.{Memory, TooLarge, NotVariable, TypeMismatch}
 use Rattle.hol_model.specs.HolType.{HolType, replaces_type_variables}
