@@ -27,7 +27,7 @@ use Rattle.hol_check.proofs.TypeChangeLemmas.{type-there}
 use Rattle.hol_check.proofs.ChangeLemmas.{term-there, term-grown, within-grown, IsGrown-trans}
 use Rattle.hol_check.proofs.StateLemmas.{theory-still, longer-place}
 use Rattle.hol_check.proofs.FaultLemmas.{name-fault}
-use Rattle.hol_check.proofs.EntryLineLemmas.{has-room, one-fits, none-fits, no-type}
+use Rattle.hol_check.proofs.EntryLineLemmas.{both, not-second, has-room, one-fits, none-fits, no-type}
 
 -- tests
 
@@ -53,12 +53,6 @@ fits-there : (fault fits : Bool) → first_applying ((fault, Rule) ∷ (not (fit
 fits-there true fits is = cc
 fits-there false true is = refl
 fits-there false false is = cc
-
-both : (p q : Bool) → p ≡ true → q ≡ true → not (p && q) ≡ false
-both p q one two = cc
-
-not-second : (p q : Bool) → p ≡ true → q ≡ false → not (p && q) ≡ true
-not-second p q one two = cc
 
 -- the line, while the tables grow
 module _ (t0 t1 : TermTable) (contents : Contents) (is : IsContents t0 contents) (name : List ℕ) (number line body : ℕ) (grown : IsGrown t0 t1) (named : slice_get t1.names number ≡ Some name)

@@ -69,7 +69,7 @@ accepted earlier now contents rule step theorem room is taken = record {
 
 -- steps
 
-neither-true : (p q : Bool) → p ≡ false → q ≡ false → (p || q) ≡ false
+pub neither-true : (p q : Bool) → p ≡ false → q ≡ false → (p || q) ≡ false
 neither-true p q first second = grind arith
 
 module _ (state : LogState) (terms : List Nameless) where

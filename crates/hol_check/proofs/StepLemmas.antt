@@ -30,6 +30,7 @@ use Rattle.hol_check.specs.declared.state.Theorem.{Theorem}
 use Rattle.hol_check.proofs.TableLemmas.{is_within}
 use Rattle.hol_check.proofs.ChangeLemmas.{term-there, term-grown, place-grown}
 use Rattle.hol_check.proofs.HypothesesLemmas.{drop-here}
+use Rattle.hol_check.proofs.LimitLemmas.{second-fails}
 use Rattle.hol_check.proofs.StateLemmas.{fitting-grown, terms-still, All-weaker}
 
 -- limits of sequents
@@ -120,10 +121,6 @@ right-refused left right fault now made = record {
 some-past : (xs ys : List Nameless) (x : Nameless) → nameless_within_limits x ≡ false → list_all nameless_within_limits (xs ++ x ∷ ys) ≡ false
 some-past [] ys x past = ap (λ b. b && list_all nameless_within_limits ys) past
 some-past (z ∷ xs) ys x past = second-fails (nameless_within_limits z) (list_all nameless_within_limits (xs ++ x ∷ ys)) (some-past xs ys x past)
-  where
-    second-fails : (p q : Bool) → q ≡ false → (p && q) ≡ false
-    second-fails true q failed = failed
-    second-fails false q failed = refl
 
 -- what is changed of a list, as far as this place
 pub record AreChanged (f : Nameless → Nameless) (earlier now : List Nameless) (list news : List ℕ) (index : ℕ) : Type 0 where
@@ -217,10 +214,6 @@ hypotheses-large now wanted formed past = record {
   taken = large_cause (supposing wanted formed) (second-fails (nameless_within_limits formed) (list_all nameless_within_limits (set_of wanted)) (past-with_terms [] wanted past));
   refused = tt;
 }
-  where
-    second-fails : (p q : Bool) → q ≡ false → (p && q) ≡ false
-    second-fails true q failed = failed
-    second-fails false q failed = refl
 
 -- a list that was refused for a limit passes it
 pub large-only : (wanted : List Nameless) (terms : List Nameless) → AreFormed wanted (Err TooLarge) terms → list_all nameless_within_limits wanted ≡ false
