@@ -1,5 +1,5 @@
 -- Terms and types that are made of two parts, one after the other.
-use Rattle.std.proofs.Common.{◌≡◌, ℕ, List, ◌∙◌, ap, Some}
+use Rattle.std.proofs.Common.{◌≡◌, ℕ, List, ◌∙◌, Some}
 use Rattle.std.specs.Prelude.{slice_get}
 use Rattle.hol_model.specs.HolType.{HolType, function_type}
 use Rattle.hol_model.specs.Nameless.{Nameless, app, lam}

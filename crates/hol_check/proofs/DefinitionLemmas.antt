@@ -1,7 +1,6 @@
 -- What a definition answers.
-use Rattle.std.proofs.Common.{◌≡◌, ℕ, ◌<◌, List, [], Bool, true, false, not, ◌&&◌, refl, ◌∙◌, ap, Option, None, Some, Ok, Err, inl, inr, length}
+use Rattle.std.proofs.Common.{◌≡◌, ℕ, ◌<◌, List, [], Bool, true, false, not, ◌&&◌, refl, ◌∙◌, ap, None, Some, Err, inl, inr, length}
 use Rattle.std.specs.Prelude.{slice_get}
-use Rattle.hol_model.specs.declared.fault.Cause.{Cause}
 use Rattle.hol_model.specs.declared.fault.Cause.TheVariants.{Large}
 use Rattle.hol_model.specs.declared.fault.Fault.TheVariants.{TooLarge}
 use Rattle.hol_model.specs.Nameless.{Nameless, const}

@@ -61,10 +61,10 @@ unknown (Some ty) is = cc
 pub no-type : (theory : Theory) (name : List ℕ) → is_new_name theory name ≡ true → generic_type theory name ≡ None
 no-type theory name is = unknown (generic_type theory name) (new-first (is_some (generic_type theory name)) (is_declared theory name) is)
 
-both : (p q : Bool) → p ≡ true → q ≡ true → not (p && q) ≡ false
+pub both : (p q : Bool) → p ≡ true → q ≡ true → not (p && q) ≡ false
 both p q one two = cc
 
-not-second : (p q : Bool) → p ≡ true → q ≡ false → not (p && q) ≡ true
+pub not-second : (p q : Bool) → p ≡ true → q ≡ false → not (p && q) ≡ true
 not-second p q one two = cc
 
 -- a line with a new name, while the tables grow

@@ -1,5 +1,5 @@
 -- Terms in order, by numbers.
-use Rattle.std.proofs.Common.{◌≡◌, ℕ, zero, suc, ◌+◌, ◌<◌, ◌≤◌, ◌||◌, List, [], ◌∷◌, ◌++◌, map, length, take, drop, get_or, Bool, true, false, not, refl, sym, ◌∙◌, ap, Option, Some, None, if◌then◌else◌, arith, drop-cons, add-one, append-nil}
+use Rattle.std.proofs.Common.{◌≡◌, ℕ, zero, suc, ◌+◌, ◌<◌, ◌≤◌, ◌||◌, List, [], ◌∷◌, ◌++◌, length, take, drop, get_or, Bool, true, false, not, refl, sym, ◌∙◌, ap, Option, Some, None, if◌then◌else◌, arith, drop-cons, add-one, append-nil}
 use Rattle.std.specs.Prelude.{insert, slice_get}
 use Rattle.std.proofs.lemmas.List.{take_more, map-append}
 use Rattle.std.proofs.lemmas.List.Elements.{filter-append, All-cons, All-head, All-tail, All-append, All-get_or}
@@ -18,7 +18,7 @@ use Rattle.hol_model.specs.LogSequents.{variable_name}
 use Rattle.hol_model.specs.LogFaults.{is_free_in_any}
 use Rattle.hol_check.specs.Terms.{term_at}
 use Rattle.hol_check.specs.State.{IsFitting}
-use Rattle.hol_check.specs.Hypotheses.{terms_in, place_of, shifted}
+use Rattle.hol_check.specs.Hypotheses.{terms_in, place_of}
 use Rattle.hol_check.proofs.ChangeLemmas.{term-there}
 
 -- what is added of a list, as far as this place

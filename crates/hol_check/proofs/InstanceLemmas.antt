@@ -1,6 +1,5 @@
 -- The pairs of instances, one after another.
-use Rattle.std.proofs.Common.{◌≡◌, ℕ, ◌+◌, ◌<◌, List, [], ◌∷◌, map, length, drop, get_or, Bool, true, false, ◌&&◌, refl, sym, ◌∙◌, ap, Some, drop-cons, add-one, arith}
-use Rattle.std.specs.Prelude.{slice_get}
+use Rattle.std.proofs.Common.{◌≡◌, ℕ, ◌+◌, ◌<◌, List, [], ◌∷◌, length, drop, get_or, Bool, ◌&&◌, refl, sym, ◌∙◌, ap, drop-cons, add-one}
 use Rattle.std.specs.List.{All, list_all}
 use Rattle.std.proofs.lemmas.Option.{slice_get-get_or}
 use Rattle.std.proofs.lemmas.List.Elements.{All-head, All-tail, All-get_or}
@@ -12,7 +11,6 @@ use Rattle.hol_model.specs.LogFaults.{is_replacement}
 use Rattle.hol_check.specs.Terms.{TermTable, type_at, term_at, IsGrown}
 use Rattle.hol_check.specs.Pairs.{ArePairs}
 use Rattle.hol_check.specs.Change.{changed, putting, instantiating}
-use Rattle.hol_check.specs.State.{IsFitting}
 use Rattle.hol_check.specs.StepPairs.{term_pairs_in, type_pairs_in, IsFittingPair, IsTypePair}
 use Rattle.hol_check.proofs.ChangeLemmas.{term-grown, changed-putting, changed-instantiating}
 use Rattle.hol_check.proofs.StateLemmas.{map-same}

@@ -1,36 +1,33 @@
 -- What a judged definition says of its line.
-use Rattle.std.proofs.Common.{◌≡◌, ℕ, ◌+◌, ◌<◌, List, [], ◌∷◌, length, Bool, true, false, not, ◌&&◌, ◌||◌, refl, sym, ◌∙◌, ap, Option, None, Some, Ok, Err, if◌then◌else◌}
+use Rattle.std.proofs.Common.{◌≡◌, ℕ, ◌+◌, List, [], ◌∷◌, length, Bool, true, false, not, ◌&&◌, refl, sym, ◌∙◌, ap, None, Some, Ok, Err, if◌then◌else◌}
 use Rattle.std.specs.Prelude.{slice_get, nat_le}
 use Rattle.std.proofs.lemmas.Option.{get_or_from_slice_get}
 use Rattle.hol_model.specs.declared.limits.TheConstants.{DEFINITIONS_LIMIT}
 use Rattle.hol_model.specs.declared.fault.Cause.{Cause}
-use Rattle.hol_model.specs.declared.fault.Cause.TheVariants.{Number, Name, Kind, Rule, Large}
+use Rattle.hol_model.specs.declared.fault.Cause.TheVariants.{Number, Name, Rule, Large}
 use Rattle.hol_model.specs.Name.{is_constant_name}
-use Rattle.hol_model.specs.Nameless.{Nameless, const}
 use Rattle.hol_model.specs.Measures.{nameless_within_limits}
-use Rattle.hol_model.specs.Theory.{Theory, generic_type, definition}
+use Rattle.hol_model.specs.Theory.{generic_type, definition}
 use Rattle.hol_model.specs.Legality.{is_new_name}
 use Rattle.hol_model.specs.LogLine.LogLine.{theorem_line}
 use Rattle.hol_model.specs.LogLine.LogRule.{definition_step}
 use Rattle.hol_model.specs.LogState as given
 use Rattle.hol_model.specs.LogState.{LogState, term_type}
-use Rattle.hol_model.specs.LogSequents.{equation_of}
 use Rattle.hol_model.specs.LogFaults.{is_no_term, is_no_new_constant, sequent_fits, first_applying}
 use Rattle.hol_check.specs.Terms.{TermTable, name_at, type_at, term_at, IsGrown}
-use Rattle.hol_check.specs.State.{theory_in, state_of, IsContents, IsFitting}
+use Rattle.hol_check.specs.State.{theory_in, state_of, IsContents}
 use Rattle.hol_check.specs.Judged.{NamesTerm, first_fault, Judges}
 use Rattle.hol_check.specs.Steps as steps
 use Rattle.hol_check.specs.Steps.{Step, step_cause, ruled}
 use Rattle.hol_check.specs.Definitions.{IsDefined}
 use Rattle.hol_check.specs.declared.state.Contents.{Contents}
 use Rattle.hol_check.specs.declared.state.Addition.TheVariants.{Defined}
-use Rattle.hol_check.specs.declared.steps.definition.Definition.{Definition}
 use Rattle.hol_check.proofs.TableLemmas.{is_within}
 use Rattle.hol_check.proofs.TypeChangeLemmas.{type-there}
 use Rattle.hol_check.proofs.ChangeLemmas.{term-there, term-grown, within-grown, IsGrown-trans}
 use Rattle.hol_check.proofs.StateLemmas.{theory-still, longer-place}
 use Rattle.hol_check.proofs.FaultLemmas.{name-fault}
-use Rattle.hol_check.proofs.EntryLineLemmas.{has-room, one-fits, none-fits, no-type}
+use Rattle.hol_check.proofs.EntryLineLemmas.{both, not-second, has-room, one-fits, none-fits, no-type}
 
 -- tests
 
@@ -56,12 +53,6 @@ fits-there : (fault fits : Bool) → first_applying ((fault, Rule) ∷ (not (fit
 fits-there true fits is = cc
 fits-there false true is = refl
 fits-there false false is = cc
-
-both : (p q : Bool) → p ≡ true → q ≡ true → not (p && q) ≡ false
-both p q one two = cc
-
-not-second : (p q : Bool) → p ≡ true → q ≡ false → not (p && q) ≡ true
-not-second p q one two = cc
 
 -- the line, while the tables grow
 module _ (t0 t1 : TermTable) (contents : Contents) (is : IsContents t0 contents) (name : List ℕ) (number line body : ℕ) (grown : IsGrown t0 t1) (named : slice_get t1.names number ≡ Some name)

@@ -1,20 +1,19 @@
 -- What a judged step says of a line with a theorem.
-use Rattle.std.proofs.Common.{◌≡◌, ℕ, ◌+◌, ◌≤◌, List, [], ◌∷◌, length, Bool, true, false, not, ◌&&◌, ◌||◌, nat_le, refl, sym, ◌∙◌, ap, subst, Option, None, Some, Ok, Err, if◌then◌else◌, arith}
-use Rattle.std.specs.Prelude.{map, reverse}
+use Rattle.std.proofs.Common.{◌≡◌, ℕ, ◌+◌, ◌≤◌, List, [], ◌∷◌, length, Bool, true, false, not, ◌&&◌, ◌||◌, nat_le, refl, sym, ◌∙◌, ap, Some, Ok, arith}
+use Rattle.std.specs.Prelude.{map}
 use Rattle.std.proofs.lemmas.List.{length-reverse, length-map}
 use Rattle.hol_model.specs.declared.limits.TheConstants.{DEFINITIONS_LIMIT}
-use Rattle.hol_model.specs.declared.fault.Cause.{Cause}
 use Rattle.hol_model.specs.declared.fault.Cause.TheVariants.{Number, Name, Kind, Rule, Large}
 use Rattle.hol_model.specs.LogLine.{LogRule}
 use Rattle.hol_model.specs.LogLine.LogLine.{theorem_line}
-use Rattle.hol_model.specs.LogLine.LogRule.{refl_step, trans_step, mk_comb_step, abs_step, beta_step, assume_step, eq_mp_step, deduct_step, inst_step, inst_type_step, eta_step, select_step, definition_step}
+use Rattle.hol_model.specs.LogLine.LogRule.{refl_step, trans_step, mk_comb_step, abs_step, beta_step, assume_step, eq_mp_step, deduct_step, inst_step, inst_type_step, eta_step, select_step}
 use Rattle.hol_model.specs.Nameless.{Nameless}
 use Rattle.hol_model.specs.LogState.{LogState}
 use Rattle.hol_model.specs.LogSequents.{sequent_of, rule_entries}
 use Rattle.hol_model.specs.LogFaults.{rule_has_number_fault, rule_has_name_fault, rule_has_type_fault, rule_has_rule_fault, sequent_fits, first_applying}
-use Rattle.hol_check.specs.Terms.{TermTable, term_at, IsGrown}
+use Rattle.hol_check.specs.Terms.{TermTable, term_at}
 use Rattle.hol_check.specs.State.{sequent_in, state_of, entry_in}
-use Rattle.hol_check.specs.Judged.{NamesTerm, NamesTheorem, first_fault, IsAccepted, Judges}
+use Rattle.hol_check.specs.Judged.{NamesTerm, NamesTheorem, first_fault, IsAccepted}
 use Rattle.hol_check.specs.StepPairs.{term_pairs_in, type_pairs_in, NamesTermPairs, NamesTypePairs}
 use Rattle.hol_model.specs.HolType.{HolType}
 use Rattle.hol_check.specs.Steps as steps
@@ -70,7 +69,7 @@ accepted earlier now contents rule step theorem room is taken = record {
 
 -- steps
 
-neither-true : (p q : Bool) → p ≡ false → q ≡ false → (p || q) ≡ false
+pub neither-true : (p q : Bool) → p ≡ false → q ≡ false → (p || q) ≡ false
 neither-true p q first second = grind arith
 
 module _ (state : LogState) (terms : List Nameless) where

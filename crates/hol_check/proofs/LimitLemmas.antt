@@ -13,7 +13,7 @@ first-fails : (p q : Bool) → p ≡ false → (p && q) ≡ false
 first-fails true q failed = cc
 first-fails false q failed = refl
 
-second-fails : (p q : Bool) → q ≡ false → (p && q) ≡ false
+pub second-fails : (p q : Bool) → q ≡ false → (p && q) ≡ false
 second-fails true q failed = failed
 second-fails false q failed = refl
 

@@ -1,6 +1,5 @@
 -- What a step answers, from what was made for it.
-use Rattle.std.proofs.Common.{◌≡◌, ◌⊎◌, ℕ, ◌+◌, ◌<◌, List, [], ◌∷◌, ◌++◌, map, length, take, drop, get_or, Bool, true, false, not, ◌&&◌, ◌||◌, refl, sym, ◌∙◌, ap, subst, inl, inr, Option, None, Some, Result, Ok, Err, IfOk, IfErr, if◌then◌else◌, arith}
-use Rattle.std.specs.Prelude.{slice_get}
+use Rattle.std.proofs.Common.{◌≡◌, ℕ, ◌+◌, ◌<◌, List, [], ◌∷◌, ◌++◌, map, length, take, drop, get_or, Bool, true, false, not, ◌&&◌, ◌||◌, refl, sym, ◌∙◌, ap, subst, inl, inr, None, Some, Result, Ok, Err, if◌then◌else◌, arith}
 use Rattle.std.proofs.lemmas.Option.{slice_get-get_or}
 use Rattle.std.specs.List.{All, list_all}
 use Rattle.std.proofs.lemmas.List.Elements.{All-head, All-tail, All-append, All-cons, All-get_or}
@@ -8,9 +7,9 @@ use Rattle.std.proofs.lemmas.List.{take_more, take-append-drop, map-append}
 use Rattle.std.specs.declared.cmp.Ordering.{Ordering}
 use Rattle.std.specs.declared.cmp.Ordering.TheVariants.{Less, Equal, Greater}
 use Rattle.hol_model.specs.declared.fault.Fault.{Fault}
-use Rattle.hol_model.specs.declared.fault.Fault.TheVariants.{Memory, TooLarge}
+use Rattle.hol_model.specs.declared.fault.Fault.TheVariants.{TooLarge}
 use Rattle.hol_model.specs.declared.fault.Cause.{Cause}
-use Rattle.hol_model.specs.declared.fault.Cause.TheVariants.{Large, Rule, Kind}
+use Rattle.hol_model.specs.declared.fault.Cause.TheVariants.{Large}
 use Rattle.hol_model.specs.Nameless.{Nameless, const, bound, app, nameless_cmp}
 use Rattle.hol_model.specs.Theory.{equality_name, equality_type}
 use Rattle.hol_model.specs.Measures.{nameless_within_limits}
@@ -21,17 +20,17 @@ use Rattle.hol_model.specs.LogSequents.{supposing, equation_of}
 use Rattle.hol_model.specs.LogFaults.{sequent_fits}
 use Rattle.hol_model.proofs.Orders.{same_from_nameless_cmp}
 use Rattle.hol_model.proofs.Measures.{past_limits-argument}
-use Rattle.hol_check.specs.Change.{PartChange, changed, IsMeant, IsAnswered, IsMade}
+use Rattle.hol_check.specs.Change.{PartChange, changed, IsMeant, IsMade}
 use Rattle.hol_check.specs.declared.leaves.Change.{Change}
 use Rattle.hol_check.specs.Terms.{TermTable, term_at, IsGrown}
 use Rattle.hol_check.specs.Hypotheses.{terms_in}
-use Rattle.hol_check.specs.State.{sequent_in, IsFitting, IsFittingTheorem}
-use Rattle.hol_check.specs.Steps.{AreInOrder, IsFormed, AreFormed, Step, step_cause, ruled, typed, plain, IsTaken, Takes}
+use Rattle.hol_check.specs.State.{IsFitting}
+use Rattle.hol_check.specs.Steps.{AreInOrder, IsFormed, AreFormed, step_cause, ruled, typed, plain, Takes}
 use Rattle.hol_check.specs.declared.state.Theorem.{Theorem}
 use Rattle.hol_check.proofs.TableLemmas.{is_within}
 use Rattle.hol_check.proofs.ChangeLemmas.{term-there, term-grown, place-grown}
-use Rattle.hol_check.proofs.LimitLemmas.{is-made}
 use Rattle.hol_check.proofs.HypothesesLemmas.{drop-here}
+use Rattle.hol_check.proofs.LimitLemmas.{second-fails}
 use Rattle.hol_check.proofs.StateLemmas.{fitting-grown, terms-still, All-weaker}
 
 -- limits of sequents
@@ -122,10 +121,6 @@ right-refused left right fault now made = record {
 some-past : (xs ys : List Nameless) (x : Nameless) → nameless_within_limits x ≡ false → list_all nameless_within_limits (xs ++ x ∷ ys) ≡ false
 some-past [] ys x past = ap (λ b. b && list_all nameless_within_limits ys) past
 some-past (z ∷ xs) ys x past = second-fails (nameless_within_limits z) (list_all nameless_within_limits (xs ++ x ∷ ys)) (some-past xs ys x past)
-  where
-    second-fails : (p q : Bool) → q ≡ false → (p && q) ≡ false
-    second-fails true q failed = failed
-    second-fails false q failed = refl
 
 -- what is changed of a list, as far as this place
 pub record AreChanged (f : Nameless → Nameless) (earlier now : List Nameless) (list news : List ℕ) (index : ℕ) : Type 0 where
@@ -219,10 +214,6 @@ hypotheses-large now wanted formed past = record {
   taken = large_cause (supposing wanted formed) (second-fails (nameless_within_limits formed) (list_all nameless_within_limits (set_of wanted)) (past-with_terms [] wanted past));
   refused = tt;
 }
-  where
-    second-fails : (p q : Bool) → q ≡ false → (p && q) ≡ false
-    second-fails true q failed = failed
-    second-fails false q failed = refl
 
 -- a list that was refused for a limit passes it
 pub large-only : (wanted : List Nameless) (terms : List Nameless) → AreFormed wanted (Err TooLarge) terms → list_all nameless_within_limits wanted ≡ false

@@ -12,6 +12,7 @@ use Rattle.hol_check.specs.Terms.{type_at, term_at}
 use Rattle.hol_check.specs.Judged.{NamesTerm, NamesType}
 use Rattle.hol_check.specs.StepPairs.{IsFittingPair, IsTypePair, NamesTermPairs, NamesTypePairs}
 use Rattle.hol_check.proofs.InstanceLemmas.{drop-pair}
+use Rattle.hol_check.proofs.JudgedSteps.{neither-true}
 
 -- what is named, as far as this place
 pub record ArePaired {Value : Type 0} (missing : ℕ × ℕ → Bool) (at here : ℕ × ℕ → Value) (P : ℕ × ℕ → Type 0) (lines : List (ℕ × ℕ)) (index : ℕ) (pairs : List (ℕ × ℕ)) : Type 0 where
@@ -67,9 +68,6 @@ AreTermsPaired state terms =
 abbrev pub AreTypesPaired : LogState → List HolType → List (ℕ × ℕ) → ℕ → List (ℕ × ℕ) → Type 0
 AreTypesPaired state types =
     ArePaired {Value = HolType × HolType} (λ pair. is_no_type state pair.0 || is_no_type state pair.1) (λ pair. (given.type_at state pair.0, given.type_at state pair.1)) (λ pair. (type_at types pair.0, type_at types pair.1)) (IsTypePair types)
-
-neither-true : (p q : Bool) → p ≡ false → q ≡ false → (p || q) ≡ false
-neither-true p q first second = grind arith
 
 pub terms-paired : (state : LogState) (terms : List Nameless) (lines : List (ℕ × ℕ)) (index : ℕ) (pairs now : List (ℕ × ℕ)) (new old : ℕ) → index < length lines → AreTermsPaired state terms lines index pairs
     → NamesTerm state (get_or lines index (0, 0)).0 terms new → NamesTerm state (get_or lines index (0, 0)).1 terms old → now ≡ pairs ++ (new, old) ∷ [] → AreTermsPaired state terms lines (index + 1) now

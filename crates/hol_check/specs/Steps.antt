@@ -18,7 +18,6 @@ use Rattle.hol_model.specs.LogLine.{LogRule}
 use Rattle.hol_model.specs.LogState.{LogState, set_of, term_type}
 use Rattle.hol_model.specs.LogSequents.{is_free_variable, is_equation, left_side, right_side, side_type, redex_body, equation_of, abstraction_over, term_instance_of, supposing, sequent_of, rule_entries}
 use Rattle.hol_model.specs.LogFaults.{takes, is_replacement, is_free_in_any, is_trivial_redex, sequent_fits, first_applying, rule_has_number_fault, rule_has_name_fault, rule_has_type_fault, rule_has_rule_fault}
-use Rattle.hol_check.specs.Terms.{term_at}
 use Rattle.hol_check.specs.Hypotheses.{terms_in}
 use Rattle.hol_check.specs.State.{sequent_in, IsFitting, IsFittingTheorem}
 use Rattle.hol_check.specs.declared.state.Theorem.{Theorem}

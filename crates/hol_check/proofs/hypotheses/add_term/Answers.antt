@@ -1,5 +1,4 @@
 use Rattle.std.proofs.Common.{◌≡◌, Some, None, sym, ap, length, arith}
-use Rattle.std.specs.Prelude.{insert}
 use Rattle.hol_check.specs.State.{IsFitting}
 use Rattle.hol_check.specs.Terms.{term_at}
 use Rattle.hol_check.specs.Hypotheses.{terms_in, place_of}

@@ -1,8 +1,3 @@
-use Rattle.std.proofs.Common.{◌≡◌, drop}
-use Rattle.std.specs.List.{All}
-use Rattle.hol_model.specs.LogState.{with_terms}
-use Rattle.hol_check.specs.State.{IsFitting}
-use Rattle.hol_check.specs.Hypotheses.{terms_in}
 use Rattle.hol_check.proofs.HypothesesLemmas.{AreAdded}
 use Rattle.hol_check.proofs.hypotheses.add_terms.Given as goal
 

@@ -1,4 +1,4 @@
-use Rattle.std.proofs.Common.{◌≡◌, ◌||◌, true, false, refl, sym, ◌∙◌, ap, drop, ◌+◌}
+use Rattle.std.proofs.Common.{◌||◌, refl, sym, ◌∙◌, ap, drop, ◌+◌}
 use Rattle.hol_model.specs.LogFaults.{is_free_in_any}
 use Rattle.hol_check.specs.Terms.{term_at}
 use Rattle.hol_check.specs.Hypotheses.{terms_in}

@@ -1,4 +1,4 @@
-use Rattle.std.proofs.Common.{◌≡◌, ◌++◌, ◌∷◌, [], true, false, refl, sym, ◌∙◌, ap, get_or}
+use Rattle.std.proofs.Common.{◌≡◌, ◌++◌, ◌∷◌, [], refl, sym, ◌∙◌, ap, get_or}
 use Rattle.hol_check.proofs.HypothesesLemmas.{kept-taken, left_out-taken}
 use Rattle.hol_check.proofs.hypotheses.without.Goals as goal
 use Rattle.hol_check.proofs.hypotheses.without.Goals.{then-not-is_same+in_ok-push, else-not-is_same}

@@ -1,4 +1,4 @@
-use Rattle.std.proofs.Common.{◌≡◌, take}
+use Rattle.std.proofs.Common.{take}
 use Rattle.hol_check.proofs.HypothesesLemmas.{AreKept}
 use Rattle.hol_check.proofs.hypotheses.without.Given as goal
 

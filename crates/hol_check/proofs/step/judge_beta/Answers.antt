@@ -1,6 +1,6 @@
 use Rattle.hol_model.specs.LogLine.LogRule.{beta_step}
 use Rattle.hol_check.specs.Terms.{term_at}
-use Rattle.hol_check.specs.State.{sequent_in, state_of}
+use Rattle.hol_check.specs.State.{state_of}
 use Rattle.hol_check.specs.Steps as steps
 use Rattle.hol_check.proofs.JudgedSteps.{beta-step}
 use Rattle.hol_check.proofs.step.judge_beta.Goals as goal

@@ -1,5 +1,4 @@
 use Rattle.hol_model.specs.LogLine.LogRule.{eq_mp_step}
-use Rattle.hol_check.specs.Terms.{term_at}
 use Rattle.hol_check.specs.State.{sequent_in, state_of}
 use Rattle.hol_check.specs.Steps as steps
 use Rattle.hol_check.proofs.JudgedSteps.{eq_mp-step}

@@ -1,6 +1,6 @@
 use Rattle.hol_model.specs.LogLine.LogRule.{refl_step}
 use Rattle.hol_check.specs.Terms.{term_at}
-use Rattle.hol_check.specs.State.{sequent_in, state_of}
+use Rattle.hol_check.specs.State.{state_of}
 use Rattle.hol_check.specs.Steps as steps
 use Rattle.hol_check.proofs.JudgedSteps.{refl-step}
 use Rattle.hol_check.proofs.step.judge_refl.Goals as goal

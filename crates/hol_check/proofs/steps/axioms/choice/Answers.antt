@@ -1,10 +1,6 @@
-use Rattle.std.proofs.Common.{◌≡◌, ◌∙◌, ap, Some}
-use Rattle.hol_model.specs.HolType.{function_type}
-use Rattle.hol_model.specs.Nameless.{const}
-use Rattle.hol_model.specs.Theory.{choice_name, choice_type, type_a}
-use Rattle.hol_check.proofs.AxiomLemmas.{function-named, grown-twice}
+use Rattle.hol_model.specs.Theory.{choice_type, type_a}
+use Rattle.hol_check.proofs.AxiomLemmas.{function-named}
 use Rattle.hol_check.proofs.TypeChangeLemmas.{type-there}
-use Rattle.hol_check.proofs.ChangeLemmas.{IsGrown-trans}
 use Rattle.hol_check.proofs.steps.axioms.choice.Goals as goal
 
 pub returns-in-Ok-function_type-clause-named : goal.returns-in-Ok-function_type-clause-named

@@ -1,4 +1,4 @@
-use Rattle.std.proofs.Common.{◌≡◌, [], true, not, sym, ◌∙◌, ap}
+use Rattle.std.proofs.Common.{[], not, sym, ◌∙◌, ap}
 use Rattle.hol_check.proofs.StepLemmas.{ruled-taken}
 use Rattle.hol_check.proofs.steps.equality.beta.Goals as goal
 

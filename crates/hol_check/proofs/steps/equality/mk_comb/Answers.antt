@@ -1,9 +1,8 @@
-use Rattle.std.proofs.Common.{◌≡◌, ◌++◌, true, false, not, sym, ◌∙◌, ap}
+use Rattle.std.proofs.Common.{◌≡◌, ◌++◌, true, not, sym, ◌∙◌, ap}
 use Rattle.hol_model.specs.LogSequents as sequents
 use Rattle.hol_model.specs.LogFaults.{takes}
 use Rattle.hol_check.specs.State.{sequent_in}
 use Rattle.hol_check.specs.Steps.{are_equations, AreInOrder}
-use Rattle.hol_check.specs.Terms.{term_at}
 use Rattle.hol_check.proofs.ChangeLemmas.{term-grown, IsGrown-trans}
 use Rattle.hol_check.proofs.StepLemmas.{typed-taken, both-but}
 use Rattle.hol_check.proofs.steps.equality.mk_comb.Goals as goal

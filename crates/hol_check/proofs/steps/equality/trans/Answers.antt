@@ -1,10 +1,8 @@
 use Rattle.std.proofs.Common.{◌≡◌, true, ◌++◌}
 use Rattle.hol_model.specs.Nameless.{same_term}
 use Rattle.hol_model.specs.LogSequents as sequents
-use Rattle.hol_check.specs.Hypotheses.{terms_in}
 use Rattle.hol_check.specs.State.{sequent_in}
 use Rattle.hol_check.specs.Steps.{are_equations, AreInOrder}
-use Rattle.hol_check.specs.Terms.{term_at}
 use Rattle.hol_check.proofs.StepLemmas.{ruled-taken, not-both}
 use Rattle.hol_check.proofs.steps.equality.trans.Goals as goal
 

@@ -1,4 +1,4 @@
-use Rattle.std.proofs.Common.{◌≡◌, ◌&&◌, ◌+◌, drop, ◌∙◌, ap}
+use Rattle.std.proofs.Common.{◌&&◌, ◌+◌, drop, ◌∙◌, ap}
 use Rattle.std.specs.List.{list_all}
 use Rattle.hol_model.specs.LogFaults.{is_replacement}
 use Rattle.hol_check.specs.StepPairs.{term_pairs_in}

@@ -1,9 +1,7 @@
 use Rattle.std.proofs.Common.{map}
-use Rattle.hol_check.specs.Terms.{term_at}
 use Rattle.hol_check.specs.Change.{changed}
 use Rattle.hol_check.specs.State.{sequent_in}
-use Rattle.hol_check.specs.Steps.{AreFormed}
-use Rattle.hol_check.proofs.ChangeLemmas.{IsGrown-trans, meant-grown, term-grown}
+use Rattle.hol_check.proofs.ChangeLemmas.{meant-grown, term-grown}
 use Rattle.hol_check.proofs.StepLemmas.{hypotheses-large, large-only}
 use Rattle.hol_check.proofs.steps.instances.changed_theorem.Goals as goal
 

@@ -1,4 +1,4 @@
-use Rattle.std.proofs.Common.{◌≡◌, not, refl, sym, ◌∙◌, ap, subst}
+use Rattle.std.proofs.Common.{not, refl, sym, ◌∙◌, ap, subst}
 use Rattle.hol_model.specs.LogSequents.{term_instance_of}
 use Rattle.hol_check.specs.Change.{changed, putting}
 use Rattle.hol_check.specs.State.{sequent_in}

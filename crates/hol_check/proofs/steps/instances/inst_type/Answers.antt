@@ -1,4 +1,4 @@
-use Rattle.std.proofs.Common.{◌≡◌, true, not, refl, sym, ◌∙◌, ap, subst}
+use Rattle.std.proofs.Common.{◌≡◌, true, not, refl, ap, subst}
 use Rattle.hol_model.specs.HolType.{replaces_type_variables, type_instance_of}
 use Rattle.hol_check.specs.Change.{instantiating}
 use Rattle.hol_check.specs.State.{sequent_in}

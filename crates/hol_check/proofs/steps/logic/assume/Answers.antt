@@ -1,4 +1,4 @@
-use Rattle.std.proofs.Common.{◌≡◌, ◌∷◌, [], true, not, sym, ◌∙◌, ap, refl}
+use Rattle.std.proofs.Common.{◌∷◌, [], not, sym, ◌∙◌, ap, refl}
 use Rattle.hol_check.specs.Terms.{term_at}
 use Rattle.hol_check.proofs.StepLemmas.{typed-taken, formed-earlier}
 use Rattle.hol_check.proofs.steps.logic.assume.Goals as goal

@@ -1,7 +1,6 @@
-use Rattle.std.proofs.Common.{◌≡◌, ◌++◌}
+use Rattle.std.proofs.Common.{◌++◌}
 use Rattle.hol_model.specs.Derivable.{without}
 use Rattle.hol_check.specs.State.{sequent_in}
-use Rattle.hol_check.specs.Steps.{AreInOrder}
 use Rattle.hol_check.proofs.steps.logic.deduct.Goals as goal
 
 pub returns-clause-taken : goal.returns-clause-taken
