@@ -127,7 +127,9 @@ fn refuses_changed_logs(rt: HostRuntime) {
 
 // The answer for the front of the reflexivity's log.
 fn answer_of_front(alloc: Global, length: usize) -> bool {
-    let front = &REFLEXIVITY[..length];
+    let Some(front) = REFLEXIVITY.get(..length) else {
+        return false;
+    };
     let feeds = front.iter().filter(|byte| **byte == b'\n').count() as u64;
     if length < 10 {
         refuses(alloc, front, 1, Cause::Header)
@@ -140,10 +142,8 @@ fn answer_of_front(alloc: Global, length: usize) -> bool {
 
 #[test]
 fn refuses_each_front(rt: HostRuntime) {
-    let mut length = 0;
-    while length < REFLEXIVITY.len() {
+    for length in 0..REFLEXIVITY.len() {
         assert!(rt; answer_of_front(rt.alloc(), length));
-        length += 1;
     }
 }
 
@@ -188,13 +188,11 @@ fn migrates_no_refused_log(rt: HostRuntime) {
 fn abstractions(alloc: Global, count: usize) -> Result<Option<Fault>, Fault> {
     let mut log = Vec::new(alloc);
     log.extend_from_slice(b"holp-log 1\ny b\nt v x 0\n")?;
-    let mut number = 0;
-    while number < count {
+    for number in 0..count {
         let mut digits = Buffer::new();
         log.extend_from_slice(b"t l 0 ")?;
         log.extend_from_slice(digits.format(number).as_bytes())?;
         log.push(b'\n')?;
-        number += 1;
     }
     log.extend_from_slice(b"end 0\n")?;
     let mut reader = FromRead::new(log.as_slice());
