@@ -21,9 +21,11 @@ fn file_argument<'a>(alloc: Global, name: &'a str, help: &'a str) -> Arg<'a> {
 
 // The commands with their arguments.
 fn command_line<'a>(alloc: Global) -> anyhow::Result<Command<'a>> {
-    let run = Command::new(alloc, "run")
-        .about("Runs a proof script")
-        .arg(file_argument(alloc, "SCRIPT", "The file of the proof script"))?;
+    let run = Command::new(alloc, "run").about("Runs a proof script").arg(file_argument(
+        alloc,
+        "SCRIPT",
+        "The file of the proof script",
+    ))?;
     let check = Command::new(alloc, "check")
         .about("Checks a proof log and lists its claims")
         .arg(file_argument(alloc, "LOG", "The file of the proof log"))?;
@@ -31,11 +33,13 @@ fn command_line<'a>(alloc: Global) -> anyhow::Result<Command<'a>> {
         .about("Checks a proof log and writes it in the second version")
         .arg(file_argument(alloc, "LOG", "The file of the proof log"))?
         .arg(file_argument(alloc, "NEW", "The file to write"))?;
-    Ok(Command::new(alloc, "holp")
-        .about("A theorem prover for higher-order logic")
-        .subcommand(run)?
-        .subcommand(check)?
-        .subcommand(migrate)?)
+    Ok(
+        Command::new(alloc, "holp")
+            .about("A theorem prover for higher-order logic")
+            .subcommand(run)?
+            .subcommand(check)?
+            .subcommand(migrate)?,
+    )
 }
 
 // The value of an argument, which clap has asked for.
