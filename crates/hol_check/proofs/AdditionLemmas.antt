@@ -9,6 +9,7 @@ use Rattle.hol_model.specs.LogState.{no_sequent}
 use Rattle.hol_logtext.specs.Lines.{version_of}
 use Rattle.hol_check.specs.Terms.{TermTable, name_at, type_at, term_at}
 use Rattle.hol_check.specs.Known.{Knows, GivesConstant}
+use Rattle.hol_check.specs.Hypotheses.{terms_in, AreOrdered}
 use Rattle.hol_check.specs.State.{sequent_in, entry_in, theory_in, claim_in, state_of, IsFitting, IsFittingTheorem, HasEntryParts, IsClaim, IsContents}
 use Rattle.hol_check.specs.Judged.{CanBeAdded, HasRoom, IsNewConstant}
 use Rattle.hol_check.specs.Added.{IsAdded, IsEntered}
@@ -199,7 +200,7 @@ pub defined-kept : (result : Result (Unit {0}) Fault) (contents mid now : Conten
 defined-kept (Ok _) contents mid now name ty body theorem none enters kept = kept
 defined-kept (Err fault) contents mid now name ty body theorem none enters kept = λ table is stands.
     kept table (enters table is (stands.0.name_within, stands.0.type_within, stands.1) (gives-definition table contents name ty body stands.0) stands.0.room).is_contents
-    (record { hypotheses = subst (All (IsFitting table.terms)) (sym none) (λ k d within. absurd (omega (arith, within))); conclusion = stands.2 })
+    (record { hypotheses = subst (All (IsFitting table.terms)) (sym none) (λ k d within. absurd (omega (arith, within))); ordered = subst (λ l. AreOrdered (terms_in table.terms l)) (sym none) tt; conclusion = stands.2 })
 
 pub on_err-weaker : {T E P Q : Type 0} (result : Result T E) → (P → Q) → OnErr result P → OnErr result Q
 on_err-weaker (Ok value) weaker holds = holds

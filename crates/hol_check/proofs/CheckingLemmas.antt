@@ -1,5 +1,5 @@
 -- The claims of an accepted log are derivable, and hold.
-use Rattle.std.proofs.Common.{◌≡◌, ℕ, List, Option, Ok, sym, subst}
+use Rattle.std.proofs.Common.{◌≡◌, ℕ, List, Option, sym, subst}
 use Rattle.std.specs.List.{All}
 use Rattle.hol_model.specs.LogState.{LogState, LogClaim}
 use Rattle.hol_model.specs.LogLaws.{IsDerivableClaim, AcceptedLogsAreSound}

@@ -1,8 +1,7 @@
 -- An accepted log begins with a header.
-use Rattle.std.proofs.Common.{◌≡◌, ℕ, List, [], ◌∷◌, ◌++◌, Option, Some, None, Result, Ok, Err, Bool, true, false, ◌==◌, refl, sym, ap, ◌∙◌}
+use Rattle.std.proofs.Common.{◌≡◌, ℕ, List, [], ◌∷◌, ◌++◌, Option, Some, None, Ok, Bool, true, false, ◌==◌, refl, sym, ap, ◌∙◌}
 use Rattle.std.proofs.lemmas.Bool.{eqb-true}
-use Rattle.hol_model.specs.declared.fault.Cause.TheVariants.{Header}
-use Rattle.hol_model.specs.LogLine.{LogVersion, LogLine}
+use Rattle.hol_model.specs.LogLine.{LogVersion}
 use Rattle.hol_model.specs.LogLine.LogVersion.{first_version, second_version}
 use Rattle.hol_model.specs.LogLine.LogLine.{header_line, type_variable_line, bool_line, function_type_line, declared_type_line, variable_line, constant_line, combination_line, abstraction_line, new_type_line, new_constant_line, theorem_line, claim_line, end_line}
 use Rattle.hol_model.specs.LogState.{LogState}
@@ -14,7 +13,7 @@ use Rattle.hol_logtext.specs.LineText.{line_text, line_bytes}
 use Rattle.hol_logtext.specs.LogBytes.{log_text, last_part, with_line}
 use Rattle.hol_check.specs.Reading.{has_line_feed}
 use Rattle.hol_check.specs.LogAnswers.{log_answer}
-use Rattle.hol_check.specs.Migration.{HasHeader, IsHeaded}
+use Rattle.hol_check.specs.Migration.{IsHeaded}
 use Rattle.hol_check.proofs.LogAnswerLemmas.{log_text_line, log_text_last}
 
 -- the line up to the first line feed, and what stands behind it

@@ -1,67 +1,29 @@
 -- Terms in order, by numbers.
-use Rattle.std.proofs.Common.{◌≡◌, ℕ, zero, suc, ◌+◌, ◌<◌, ◌≤◌, ◌||◌, List, [], ◌∷◌, ◌++◌, length, take, drop, get_or, Bool, true, false, not, refl, sym, ◌∙◌, ap, Option, Some, None, if◌then◌else◌, arith, drop-cons, add-one, append-nil}
-use Rattle.std.specs.Prelude.{insert, slice_get}
+use Rattle.std.proofs.Common.{◌≡◌, ℕ, ◌+◌, ◌<◌, ◌||◌, List, [], ◌∷◌, ◌++◌, length, take, drop, get_or, Bool, true, false, not, refl, sym, ◌∙◌, ap, Some, if◌then◌else◌, arith, drop-cons, add-one, append-nil}
+use Rattle.std.specs.Prelude.{slice_get}
 use Rattle.std.proofs.lemmas.List.{take_more, map-append}
-use Rattle.std.proofs.lemmas.List.Elements.{filter-append, All-cons, All-head, All-tail, All-append, All-get_or}
-use Rattle.indexmap.proofs.SetLemmas.{map-insert}
+use Rattle.std.proofs.lemmas.List.Elements.{filter-append, All-cons, All-append, All-get_or}
 use Rattle.std.specs.List.{All}
-use Rattle.std.specs.Option.{option_map, option_map_or}
-use Rattle.std.specs.declared.cmp.Ordering.{Ordering}
-use Rattle.std.specs.declared.cmp.Ordering.TheVariants.{Less, Equal, Greater}
 use Rattle.hol_model.specs.HolType.{HolType}
-use Rattle.hol_model.specs.Nameless.{Nameless, free, nameless_cmp, same_term}
+use Rattle.hol_model.specs.Nameless.{Nameless, free, same_term}
 use Rattle.hol_model.specs.Substitution.{occurs_free}
 use Rattle.hol_model.specs.Derivable.{without}
-use Rattle.hol_model.specs.Theorem.{by_order}
 use Rattle.hol_model.specs.LogState.{with_term, with_terms, term_type}
 use Rattle.hol_model.specs.LogSequents.{variable_name}
 use Rattle.hol_model.specs.LogFaults.{is_free_in_any}
 use Rattle.hol_check.specs.Terms.{term_at}
 use Rattle.hol_check.specs.State.{IsFitting}
-use Rattle.hol_check.specs.Hypotheses.{terms_in, place_of}
+use Rattle.hol_check.specs.Hypotheses.{terms_in}
 use Rattle.hol_check.proofs.ChangeLemmas.{term-there}
-
--- what is added of a list, as far as this place
-pub record AreAdded (terms : List Nameless) (first more : List ℕ) (index : ℕ) (all : List ℕ) : Type 0 where
-  pub fitting : All (IsFitting terms) all
-  pub rest : with_terms (terms_in terms all) (terms_in terms (drop index more)) ≡ with_terms (terms_in terms first) (terms_in terms more)
 
 -- what is kept of a list
 pub record AreKept (terms : List Nameless) (term : ℕ) (list others : List ℕ) : Type 0 where
   pub fitting : All (IsFitting terms) others
   pub kept : terms_in terms others ≡ without (term_at terms term) (terms_in terms list)
 
--- a term goes to its place
-pub with_term-place : (xs : List Nameless) (new : Nameless) → with_term xs new ≡ option_map_or (λ index. insert xs index new) (place_of xs new) xs
-with_term-place [] new = refl
-with_term-place (x ∷ xs) new = go (nameless_cmp new x) (place_of xs new) (with_term-place xs new)
-  where
-    go : (order : Ordering) (place : Option ℕ) → with_term xs new ≡ option_map_or (λ index. insert xs index new) place xs
-        → by_order order (new ∷ x ∷ xs) (x ∷ xs) (x ∷ with_term xs new)
-        ≡ option_map_or (λ index. insert (x ∷ xs) index new) (by_order order (Some 0) None (option_map suc place)) (x ∷ xs)
-    go Less place h = refl
-    go Equal place h = refl
-    go Greater None h = ap (λ l. x ∷ l) h
-    go Greater (Some index) h = ap (λ l. x ∷ l) h
-
-pub with_term-at : (xs : List Nameless) (new : Nameless) (index : ℕ) → place_of xs new ≡ Some index → with_term xs new ≡ insert xs index new
-with_term-at xs new index place = with_term-place xs new ∙ rw place refl
-
-pub with_term-there : (xs : List Nameless) (new : Nameless) → place_of xs new ≡ None → with_term xs new ≡ xs
-with_term-there xs new place = with_term-place xs new ∙ rw place refl
-
 pub with_terms-append : (base xs ys : List Nameless) → with_terms base (xs ++ ys) ≡ with_terms (with_terms base xs) ys
 with_terms-append base [] ys = refl
 with_terms-append base (x ∷ xs) ys = with_terms-append (with_term base x) xs ys
-
-pub All-insert : (P : ℕ → Type 0) (xs : List ℕ) (i y : ℕ) → i ≤ length xs → All P xs → P y → All P (insert xs i y)
-All-insert P xs zero y within all here = All-cons P y xs here all
-All-insert P [] (suc i) y within all here = absurd (omega arith)
-All-insert P (x ∷ xs) (suc i) y within all here = All-cons P x (insert xs i y) (All-head P x xs all) (All-insert P xs i y (omega arith) (All-tail P x xs all) here)
-
--- a term that is put in at its place
-pub inserted : (terms : List Nameless) (all : List ℕ) (index new : ℕ) → Some index ≡ place_of (terms_in terms all) (term_at terms new) → terms_in terms (insert all index new) ≡ with_term (terms_in terms all) (term_at terms new)
-inserted terms all index new place = map-insert (term_at terms) all index new ∙ sym (with_term-at (terms_in terms all) (term_at terms new) index (sym place))
 
 -- a list from one of its elements on
 pub drop-here : (xs : List ℕ) (index x : ℕ) → index < length xs → x ≡ get_or xs index 0 → drop index xs ≡ x ∷ drop (index + 1) xs

@@ -1,6 +1,7 @@
 pub mod TableLemmas
 pub mod NamesLemmas
 pub mod TypeLemmas
+pub mod TypedLemmas
 pub mod TermLemmas
 pub mod MemoLemmas
 pub mod PairLemmas
@@ -27,6 +28,7 @@ pub mod FaultLemmas
 pub mod TypeLineLemmas
 pub mod FormingLemmas
 pub mod HypothesesLemmas
+pub mod OrderLemmas
 pub mod StepLemmas
 pub mod AxiomLemmas
 pub mod JudgedSteps

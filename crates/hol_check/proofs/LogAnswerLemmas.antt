@@ -1,11 +1,11 @@
 -- Lemmas on a log that is judged line by line.
-use Rattle.std.proofs.Common.{◌≡◌, ℕ, ◌+◌, List, [], ◌∷◌, ◌++◌, Option, Some, None, Result, Ok, Err, IfOk, Bool, true, false, ◌==◌, if◌then◌else◌, refl, sym, ap, ◌∙◌, subst, append_assoc, append-nil}
+use Rattle.std.proofs.Common.{◌≡◌, ℕ, ◌+◌, List, [], ◌∷◌, ◌++◌, Option, Some, None, Result, Ok, Err, IfOk, Bool, true, false, ◌==◌, if◌then◌else◌, refl, sym, ap, ◌∙◌, subst, append_assoc}
 use Rattle.std.specs.Prelude.{IsErrOf}
 use Rattle.std.specs.Io.KnownBytes.{Consumes}
 use Rattle.std.proofs.KnownBytes.{Consumes-nil}
 use Rattle.hol_model.specs.declared.fault.Cause.{Cause}
 use Rattle.hol_model.specs.declared.fault.Cause.TheVariants.{Header, Cut}
-use Rattle.hol_model.specs.LogLine.{LogVersion, LogLine}
+use Rattle.hol_model.specs.LogLine.{LogVersion}
 use Rattle.hol_model.specs.LogState.{LogState, first_state}
 use Rattle.hol_model.specs.LogText.{ReadLine, LogText, LogOutcome, from_line, at_last, no_line, dest_header, log_outcome}
 use Rattle.hol_model.proofs.Tests.{first_of_neither, second_of_neither}
@@ -13,7 +13,7 @@ use Rattle.hol_logtext.specs.Fields.{line_feed, split_on, onto_first}
 use Rattle.hol_logtext.specs.LineReading.{read_text}
 use Rattle.hol_logtext.specs.LogBytes.{log_text, last_part, with_line, lines_of_parts}
 use Rattle.hol_check.specs.Reading.{Unread, IsUnread, has_line_feed}
-use Rattle.hol_check.specs.LogAnswers.{log_answer, answer_from, IsTakenText, LeadsTo, IsRefusedAt, IsUnderway}
+use Rattle.hol_check.specs.LogAnswers.{log_answer, IsTakenText, LeadsTo, IsRefusedAt, IsUnderway}
 
 -- the parts of a text
 

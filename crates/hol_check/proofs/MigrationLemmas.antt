@@ -1,5 +1,5 @@
 -- An accepted log stays accepted under the header of the second version.
-use Rattle.std.proofs.Common.{◌≡◌, ℕ, ◌+◌, List, [], ◌∷◌, ◌++◌, Option, Some, None, Result, Ok, Err, Bool, true, false, if◌then◌else◌, refl, sym, ap, ◌∙◌, subst, drop, length, ◌≤◌}
+use Rattle.std.proofs.Common.{◌≡◌, ℕ, ◌+◌, List, [], ◌∷◌, ◌++◌, Option, Some, None, Ok, Bool, true, false, if◌then◌else◌, refl, sym, ap, ◌∙◌, subst, drop, length, ◌≤◌}
 use Rattle.hol_model.specs.declared.fault.Cause.{Cause}
 use Rattle.hol_model.specs.declared.fault.Cause.TheVariants.{Shape}
 use Rattle.hol_model.specs.LogLine.{LogVersion, LogRule, LogLine}
@@ -8,8 +8,8 @@ use Rattle.hol_model.specs.LogLine.LogRule.{refl_step, trans_step, mk_comb_step,
 use Rattle.hol_model.specs.LogLine.LogLine.{header_line, type_variable_line, bool_line, function_type_line, declared_type_line, variable_line, constant_line, combination_line, abstraction_line, new_type_line, new_constant_line, theorem_line, claim_line, end_line}
 use Rattle.hol_model.specs.LogState.{LogState, LogClaim, first_state}
 use Rattle.hol_model.specs.LogSequents.{after_line}
-use Rattle.hol_model.specs.LogFaults.{first_cause, first_applying, cause_tests, is_first_version}
-use Rattle.hol_model.specs.LogText.{ReadLine, LogText, LogOutcome, from_line, at_last, at_end, unless_refused, after_header, dest_header, log_outcome}
+use Rattle.hol_model.specs.LogFaults.{first_cause, is_first_version}
+use Rattle.hol_model.specs.LogText.{ReadLine, LogOutcome, from_line, at_last, at_end, unless_refused, log_outcome}
 use Rattle.hol_logtext.specs.LineText.{line_text, line_bytes}
 use Rattle.hol_logtext.specs.LogBytes.{log_text}
 use Rattle.hol_check.specs.LogAnswers.{log_answer, answer_from}

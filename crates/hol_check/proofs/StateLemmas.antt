@@ -10,6 +10,7 @@ use Rattle.hol_logtext.specs.Lines.{version_of}
 use Rattle.hol_check.specs.Growth.{IsLonger}
 use Rattle.hol_check.specs.Terms.{TermTable, name_at, type_at, term_at, IsGrown}
 use Rattle.hol_check.specs.Known.{Knows}
+use Rattle.hol_check.specs.Hypotheses.{AreOrdered}
 use Rattle.hol_check.specs.State.{sequent_in, entry_in, theory_in, claim_in, state_of, IsFitting, IsFittingTheorem, HasEntryParts, IsClaim, IsContents}
 use Rattle.hol_check.specs.declared.state.Theorem.{Theorem}
 use Rattle.hol_check.specs.declared.state.TheoryEntry.{TheoryEntry}
@@ -60,14 +61,15 @@ module _ (earlier now : TermTable) (grown : IsGrown earlier now) where
     fits = ap nameless_within_limits (term-grown earlier now n grown fitting.within) ∙ fitting.fits;
   }
 
+  pub terms-still : (numbers : List ℕ) → All (IsFitting earlier.terms) numbers → map (term_at now.terms) numbers ≡ map (term_at earlier.terms) numbers
+  terms-still = map-same (IsFitting earlier.terms) (term_at now.terms) (term_at earlier.terms) (λ n fitting. term-grown earlier now n grown fitting.within)
+
   pub theorem-grown : (theorem : Theorem) → IsFittingTheorem earlier.terms theorem → IsFittingTheorem now.terms theorem
   theorem-grown theorem fitting = record {
     hypotheses = All-weaker (IsFitting earlier.terms) (IsFitting now.terms) fitting-grown theorem.hypotheses.items fitting.hypotheses;
+    ordered = subst AreOrdered (sym (terms-still theorem.hypotheses.items fitting.hypotheses)) fitting.ordered;
     conclusion = fitting-grown theorem.conclusion fitting.conclusion;
   }
-
-  pub terms-still : (numbers : List ℕ) → All (IsFitting earlier.terms) numbers → map (term_at now.terms) numbers ≡ map (term_at earlier.terms) numbers
-  terms-still = map-same (IsFitting earlier.terms) (term_at now.terms) (term_at earlier.terms) (λ n fitting. term-grown earlier now n grown fitting.within)
 
   pub sequent-still : (theorem : Theorem) → IsFittingTheorem earlier.terms theorem → sequent_in now.terms theorem ≡ sequent_in earlier.terms theorem
   sequent-still theorem fitting = λ i. record {

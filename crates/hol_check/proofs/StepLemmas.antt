@@ -23,13 +23,14 @@ use Rattle.hol_model.proofs.Measures.{past_limits-argument}
 use Rattle.hol_check.specs.Change.{PartChange, changed, IsMeant, IsMade}
 use Rattle.hol_check.specs.declared.leaves.Change.{Change}
 use Rattle.hol_check.specs.Terms.{TermTable, term_at, IsGrown}
-use Rattle.hol_check.specs.Hypotheses.{terms_in}
+use Rattle.hol_check.specs.Hypotheses.{terms_in, AreOrdered}
 use Rattle.hol_check.specs.State.{IsFitting}
 use Rattle.hol_check.specs.Steps.{AreInOrder, IsFormed, AreFormed, step_cause, ruled, typed, plain, Takes}
 use Rattle.hol_check.specs.declared.state.Theorem.{Theorem}
 use Rattle.hol_check.proofs.TableLemmas.{is_within}
 use Rattle.hol_check.proofs.ChangeLemmas.{term-there, term-grown, place-grown}
 use Rattle.hol_check.proofs.HypothesesLemmas.{drop-here}
+use Rattle.hol_check.proofs.OrderLemmas.{set_of-ordered}
 use Rattle.hol_check.proofs.LimitLemmas.{second-fails}
 use Rattle.hol_check.proofs.StateLemmas.{fitting-grown, terms-still, All-weaker}
 
@@ -66,6 +67,7 @@ concluded earlier now theorem wanted formed grows order made =
         (λ i. record { hypotheses = still i; conclusion = conclusion_is i }),
         record {
           hypotheses = All-weaker (IsFitting earlier.terms) (IsFitting now.terms) (fitting-grown earlier now grows) theorem.hypotheses.items order.fitting;
+          ordered = subst AreOrdered (sym still) (set_of-ordered wanted);
           conclusion = record { within = is_within now.terms theorem.conclusion formed made.number; fits = ap nameless_within_limits conclusion_is ∙ made.fits };
         },
       );

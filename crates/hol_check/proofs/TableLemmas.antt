@@ -45,6 +45,12 @@ IsLonger-trans xs ys zs first second = record {
   is_added = second.is_added ∙ (ap (λ l. l ++ second.added) first.is_added ∙ append_assoc xs first.added second.added);
 }
 
+pub within-later : {X : Type 0} (xs ys : List X) (i : ℕ) → IsLonger xs ys → i < length xs → i < length ys
+within-later xs ys i longer within =
+    let longest = length-append xs longer.added in
+    let same : length ys ≡ length (xs ++ longer.added) = ap length longer.is_added in
+    omega arith
+
 -- keys that differ stand at one place
 
 at_place : {X : Type 0} (P : X → Type 0) (xs : List X) (i : ℕ) (x : X) → AllByRecursion P xs → slice_get xs i ≡ Some x → P x

@@ -1,5 +1,5 @@
 -- Terms with one number each.
-use Rattle.std.proofs.Common.{◌≡◌, ℕ, ◌<◌, ◌≤◌, List, [], ◌∷◌, ◌++◌, length, get_or, true, refl, sym, ◌∙◌, ap, subst, inl, inr, Some, None, Result, IfOk, Ok, Err, arith, length-append}
+use Rattle.std.proofs.Common.{◌≡◌, ℕ, ◌<◌, ◌≤◌, List, [], ◌∷◌, ◌++◌, length, get_or, true, refl, sym, ◌∙◌, ap, subst, inl, inr, Some, None, Result, IfOk, Ok, Err, arith}
 use Rattle.std.specs.Prelude.{slice_get, nat_eq}
 use Rattle.std.proofs.lemmas.Bool.{eqb-true, eq-eqb}
 use Rattle.std.proofs.lemmas.Option.{slice_get-get_or, get_or_from_slice_get}
@@ -12,12 +12,14 @@ use Rattle.hol_check.specs.Growth.{IsLonger}
 use Rattle.hol_check.specs.Table.{HaveOneNumber, IsPut}
 use Rattle.hol_check.specs.Types.{TypeTable}
 use Rattle.hol_check.specs.Terms.{name_at, type_at, term_at, term_of_shape, term_of_node, TermPartsStandBefore, TermStandsAfterParts, IsGrown}
-use Rattle.hol_check.specs.TermTable.{terms_of, Measures, AreTermNodes}
+use Rattle.hol_check.specs.Loose.{binders_needed}
+use Rattle.hol_check.specs.TermTable.{terms_of, Measures, AreTermNodes, AreTerms}
 use Rattle.hol_check.specs.declared.terms.TermShape.{TermShape}
 use Rattle.hol_check.specs.declared.terms.TermShape.TheVariants.{Free, Constant, Bound, Application, Abstraction}
 use Rattle.hol_check.specs.declared.terms.TermNode.{TermNode}
-use Rattle.hol_check.proofs.TableLemmas.{is_within, slice_get-end, slice_get_cases, get_or-longer, IsLonger-same, length-values_after, values_after-push, values_after-same, value_at, distinct-push}
+use Rattle.hol_check.proofs.TableLemmas.{is_within, slice_get-end, slice_get_cases, get_or-longer, IsLonger-same, within-later, length-values_after, values_after-push, values_after-same, value_at, distinct-push}
 use Rattle.hol_check.proofs.TypeLemmas.{same_number}
+use Rattle.hol_check.proofs.TypedLemmas.{AreTyped-later}
 
 pub term-stable : (table : TypeTable) (terms more : List Nameless) (shape : TermShape) → TermPartsStandBefore table (length terms) shape → term_of_shape table (terms ++ more) shape ≡ term_of_shape table terms shape
 term-stable table terms more (Free name ty) placed = refl
@@ -105,8 +107,9 @@ new-term table nodes each are node is absent place at =
     let measures = are.measured place filler there in
     let heights : filler.height ≡ node.height = measures.height ∙ (ap nameless_height (value ∙ same) ∙ sym is.measured.height) in
     let counts : filler.nodes ≡ node.nodes = measures.nodes ∙ (ap nameless_nodes (value ∙ same) ∙ sym is.measured.nodes) in
+    let needed : filler.needed ≡ node.needed = measures.needed ∙ (ap binders_needed (value ∙ same) ∙ sym is.measured.needed) in
     let free : filler.no_free ≡ node.no_free = measures.no_free ∙ (ap has_no_free (value ∙ same) ∙ sym is.measured.no_free) in
-    let one : filler ≡ node = (λ i. record { shape = shapes i; height = heights i; nodes = counts i; no_free = free i }) in
+    let one : filler ≡ node = (λ i. record { shape = shapes i; height = heights i; nodes = counts i; needed = needed i; no_free = free i }) in
     absent place (there ∙ ap Some one)
 
 early_within : (table : TypeTable) (nodes : List TermNode) (place : ℕ) (other : TermNode) → slice_get nodes place ≡ Some other → place < length (terms_of table nodes)
@@ -160,7 +163,7 @@ pub no_node : (table : TypeTable) (nodes : List TermNode) (number : ℕ) → num
 no_node table nodes number within none =
     let count = terms_of-length table nodes in
     let less : number < length nodes = omega (arith, count) in
-    let some = slice_get-get_or nodes number (record { shape = Bound 0; height = 0; nodes = 0; no_free = true }) less in
+    let some = slice_get-get_or nodes number (record { shape = Bound 0; height = 0; nodes = 0; needed = 0; no_free = true }) less in
     cc
 
 pub same_term-same_number : (terms : List Nameless) (i j : ℕ) → HaveOneNumber terms → i < length terms → j < length terms → nat_eq i j ≡ same_term (term_at terms i) (term_at terms j)
@@ -173,12 +176,6 @@ same_term-same_number terms i j distinct first second =
 
 at-later : {X : Type 0} (xs ys : List X) (d : X) (i : ℕ) → IsLonger xs ys → i < length xs → get_or xs i d ≡ get_or ys i d
 at-later xs ys d i longer within = sym (ap (λ l. get_or l i d) longer.is_added ∙ get_or-longer xs longer.added i d within)
-
-within-later : {X : Type 0} (xs ys : List X) (i : ℕ) → IsLonger xs ys → i < length xs → i < length ys
-within-later xs ys i longer within =
-    let longest = length-append xs longer.added in
-    let same : length ys ≡ length (xs ++ longer.added) = ap length longer.is_added in
-    omega arith
 
 pub record AreLaterAtoms (table now : TypeTable) : Type 0 where
   pub names : IsLonger table.names now.names
@@ -217,4 +214,18 @@ grown-later table now nodes later are = record {
   names = later.names;
   types = later.types;
   terms = subst (IsLonger (terms_of table nodes)) (terms_of-later table now nodes later are) (IsLonger-same (terms_of table nodes));
+}
+
+-- kept types
+
+pub AreTerms-later : (table now : TypeTable) (nodes : List TermNode) (typed : List (ℕ × ℕ)) → AreLaterAtoms table now → AreTerms table nodes typed → AreTerms now nodes typed
+AreTerms-later table now nodes typed later are = record {
+  nodes_are = AreTermNodes-later table now nodes later are.nodes_are;
+  typed_are = rw (← terms_of-later table now nodes later are.nodes_are) (AreTyped-later table.types now.types (terms_of table nodes) (terms_of table nodes) typed later.types (IsLonger-same (terms_of table nodes)) are.typed_are);
+}
+
+pub put-AreTerms : (table : TypeTable) (nodes now : List TermNode) (typed : List (ℕ × ℕ)) (node : TermNode) → HaveOneNumberEach table → AreTerms table nodes typed → IsTermNode table (terms_of table nodes) node → IsPut node nodes now → AreTerms table now typed
+put-AreTerms table nodes now typed node each are is put = record {
+  nodes_are = put-AreTermNodes table nodes now node each are.nodes_are is put;
+  typed_are = AreTyped-later table.types table.types (terms_of table nodes) (terms_of table now) typed (IsLonger-same table.types) (put-longer table nodes now node put) are.typed_are;
 }

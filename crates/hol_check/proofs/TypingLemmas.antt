@@ -13,6 +13,7 @@ use Rattle.hol_model.proofs.Measures.{past_limit-type}
 use Rattle.hol_model.proofs.Tests.{both}
 use Rattle.hol_check.specs.Growth.{IsLonger}
 use Rattle.hol_check.specs.Terms.{type_at}
+use Rattle.hol_check.specs.Typed.{IsTyped, IsTypedUnderSome}
 use Rattle.hol_check.specs.Typing.{binder_types, AreTypes, AnswersTyping}
 use Rattle.hol_check.specs.declared.typing.Binders.{Binders, Outermost, Under'}
 use Rattle.hol_check.proofs.TypeChangeLemmas.{type-within, type-grown, type-place, type-there}
@@ -43,6 +44,23 @@ typed-const types binders t name ty count is within counted fits = record {
   fits = ap (nameless_types_fit binders) is ∙ within-fits (type_at types ty) (subst (λ n. n ≤ TYPE_NODES_LIMIT) counted fits);
   refused = tt;
 }
+
+-- types that are kept
+
+pub typed-known : (types binders : List HolType) (t : Nameless) (ty : ℕ) → IsTyped types t ty → AnswersTyping binders t (Ok ty) types
+typed-known types binders t ty is = record { number = (is binders).number; fits = (is binders).fits; refused = tt }
+
+pub typed-under_some : (types binders : List HolType) (t : Nameless) (ty : ℕ) → AnswersTyping binders t (Ok ty) types → IsTypedUnderSome types t ty
+typed-under_some types binders t ty answers = record { binders = binders; typed = record { number = answers.number; fits = answers.fits } }
+
+pub typed-kept : (types now binders : List HolType) (t : Nameless) (ty : ℕ) (result : Result ℕ Fault) → IsLonger types now → AnswersTyping binders t (Ok ty) types
+    → IfOk result (λ same. same ≡ ty) → IfErr result (λ fault. fault ≡ Memory) → AnswersTyping binders t result now
+typed-kept types now binders t ty (Ok same) longer answers is refused = record {
+  number = type-place types now same (nameless_type binders t) longer (rw is answers.number);
+  fits = answers.fits;
+  refused = tt;
+}
+typed-kept types now binders t ty (Err fault) longer answers is refused = record { number = tt; fits = tt; refused = inl refused }
 
 -- combinations
 

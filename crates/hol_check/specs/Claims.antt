@@ -1,8 +1,11 @@
 -- What a claim of a log stands for.
-use Rattle.std.specs.Prelude.{◌<◌, length}
+use Rattle.std.specs.Prelude.{◌<◌, ℕ, length}
 use Rattle.std.specs.List.{slice_index_or}
 use Rattle.hol_model.specs.LogState.{LogClaim}
 use Rattle.hol_check.specs.PrintedClaims.{no_claim}
+use Rattle.hol_check.specs.Terms.{TermTable, name_at}
+use Rattle.hol_check.specs.State.{sequent_in}
+use Rattle.hol_check.specs.declared.state.Theorem.{Theorem}
 use Rattle.hol_check.specs.declared.claim.Claim.TheInside.{Inside}
 
 abbrev pub viewed_claim : Inside → LogClaim
@@ -11,3 +14,7 @@ viewed_claim claim = slice_index_or claim.log.value.claims claim.place no_claim
 -- the claim stands in its log
 abbrev pub IsPlaced : Inside → Type 0
 IsPlaced claim = claim.place < length claim.log.value.claims
+
+-- a theorem under a name, by its number
+abbrev pub claim_of : TermTable → ℕ → Theorem → LogClaim
+claim_of table name theorem = record { name = name_at table.names name; sequent = sequent_in table.terms theorem }

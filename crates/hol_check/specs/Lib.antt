@@ -4,8 +4,10 @@ pub mod Table
 pub mod Types
 pub mod TypeTable
 pub mod Terms
-pub mod TermTable
 pub mod Entries
+pub mod Loose
+pub mod Typed
+pub mod TermTable
 pub mod Pairs
 pub mod TypeChange
 pub mod Change
@@ -13,6 +15,7 @@ pub mod Numbers
 pub mod Occurs
 pub mod Reflection
 pub mod Typing
+pub mod Hypotheses
 pub mod Known
 pub mod Reading
 pub mod State
@@ -26,10 +29,10 @@ pub mod Log
 pub mod LogAnswers
 pub mod PrintedClaims
 pub mod Claims
+pub mod Views
 pub mod Checking
 pub mod Migration
 pub mod Report
-pub mod Hypotheses
 pub mod Steps
 pub mod StepPairs
 pub mod Definitions

@@ -9,6 +9,7 @@ use Rattle.hol_model.specs.Goals.{Sequent}
 use Rattle.hol_model.specs.LogState.{LogState, LogClaim, no_sequent}
 use Rattle.hol_logtext.specs.Lines.{version_of}
 use Rattle.hol_check.specs.Terms.{TermTable, name_at, type_at, term_at}
+use Rattle.hol_check.specs.Hypotheses.{terms_in, AreOrdered}
 use Rattle.hol_check.specs.Known.{Knows}
 use Rattle.hol_check.specs.declared.state.Theorem.{Theorem}
 use Rattle.hol_check.specs.declared.state.TheoryEntry.{TheoryEntry}
@@ -54,8 +55,10 @@ pub record IsFitting (terms : List Nameless) (number : ℕ) : Type 0 where
   pub within : number < length terms
   pub fits : nameless_within_limits (term_at terms number) ≡ true
 
+-- hypotheses and conclusion are within the limits, and the hypotheses stand in order
 pub record IsFittingTheorem (terms : List Nameless) (theorem : Theorem) : Type 0 where
   pub hypotheses : All (IsFitting terms) theorem.hypotheses.items
+  pub ordered : AreOrdered (terms_in terms theorem.hypotheses.items)
   pub conclusion : IsFitting terms theorem.conclusion
 
 abbrev pub HasEntryParts : TermTable → TheoryEntry → Type 0

@@ -1,5 +1,5 @@
 -- What a table of terms stands for, and what holds of it.
-use Rattle.std.specs.Prelude.{◌≡◌, ◌≤◌, List, []}
+use Rattle.std.specs.Prelude.{◌≡◌, ◌≤◌, ℕ, List, []}
 use Rattle.hol_model.specs.Nameless.{Nameless}
 use Rattle.hol_model.specs.Measures.{nameless_height, nameless_nodes}
 use Rattle.hol_model.specs.Checks.{has_no_free}
@@ -7,6 +7,8 @@ use Rattle.hol_model.specs.declared.limits.TheConstants.{TERM_HEIGHT_LIMIT, TERM
 use Rattle.hol_check.specs.Table.{values_after, HaveOneNumber, HoldsOfEach}
 use Rattle.hol_check.specs.Types.{TypeTable}
 use Rattle.hol_check.specs.Terms.{TermTable, term_at, term_of_node, TermStandsAfterParts}
+use Rattle.hol_check.specs.Loose.{binders_needed}
+use Rattle.hol_check.specs.Typed.{AreTyped}
 use Rattle.hol_check.specs.declared.terms.TermNode.{TermNode}
 use Rattle.hol_check.specs.declared.terms.Terms.TheInside.{Inside}
 
@@ -20,6 +22,7 @@ viewed_terms inside = record { names = inside.types.names; types = inside.types.
 pub record Measures (node : TermNode) (term : Nameless) : Type 0 where
   pub height : node.height ≡ nameless_height term
   pub nodes : node.nodes ≡ nameless_nodes term
+  pub needed : node.needed ≡ binders_needed term
   pub no_free : node.no_free ≡ has_no_free term
   pub height_fits : node.height ≤ TERM_HEIGHT_LIMIT
   pub nodes_fit : node.nodes ≤ TERM_NODES_LIMIT
@@ -30,5 +33,10 @@ pub record AreTermNodes (table : TypeTable) (nodes : List TermNode) : Type 0 whe
   pub measured : HoldsOfEach (λ place node. Measures node (term_at (terms_of table nodes) place)) nodes
   pub distinct : HaveOneNumber (terms_of table nodes)
 
+-- the same, and terms whose types are kept
+pub record AreTerms (table : TypeTable) (nodes : List TermNode) (typed : List (ℕ × ℕ)) : Type 0 where
+  pub nodes_are : AreTermNodes table nodes
+  pub typed_are : AreTyped table.types (terms_of table nodes) typed
+
 abbrev pub IsTermTable : Inside → Type 0
-IsTermTable inside = AreTermNodes inside.types inside.nodes.keys
+IsTermTable inside = AreTerms inside.types inside.nodes.keys inside.typed.entries

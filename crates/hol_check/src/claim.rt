@@ -1,16 +1,18 @@
 // The claims of a log.
-ghost use Rattle.std.specs.Prelude.{◌≡◌, ◌<◌, length, IfOk, OnOk, IfErr};
+ghost use Rattle.std.specs.Prelude.{◌≡◌, ◌<◌, slice_get, length, IfOk, OnOk, IfErr};
 ghost use Rattle.std.specs.List.{slice_index_or};
 ghost use Rattle.hol_model.specs.declared.fault.Fault.TheVariants.{Memory};
 ghost use Rattle.hol_model.specs.LogClaims.{claim_text};
 ghost use Rattle.hol_logtext.specs.Writing.{Appends};
 ghost use Rattle.hol_check.specs.State.{IsContents, IsFittingTheorem, sequent_in};
 ghost use Rattle.hol_check.specs.PrintedClaims.{sequent_bytes, claim_bytes, claims_in, no_claim};
+ghost use Rattle.hol_check.specs.Claims.{claim_of};
 
 use crate::log::Log;
 use crate::print::{print, print_listed, print_term};
 use crate::state::{Contents, Theorem};
 use crate::terms::Terms;
+use crate::view::TermView;
 use hol_model::Fault;
 use std::alloc::{AllocError, Global};
 use std::marker::Model;
@@ -36,6 +38,54 @@ impl Model for Claim {
     ghost view = { viewed_claim };
 
     ghost invariant = { IsPlaced };
+}
+
+impl Claim {
+    // The terms of the claim's log, the number of its name, and its theorem.
+    fn parts(&self) -> (&Terms, usize, &Theorem)
+        ensures name { result.1 < length result.0.now.names }
+        ensures theorem { IsFittingTheorem result.0.now.terms result.2.now }
+        ensures claim { self.now ≡ claim_of result.0.now result.1 result.2.now }
+    {
+        let (table, contents) = self.log.parts();
+        let claim = contents.claims[self.place];
+        (table, claim.name, &contents.theorems[claim.theorem])
+    }
+
+    /// The bytes of the claim's name.
+    pub fn name(&self) -> &[u8]
+        ensures { result.now ≡ self.now.name }
+    {
+        let (table, name, _theorem) = self.parts();
+        table.name_bytes(name)
+    }
+
+    /// The number of hypotheses.
+    pub fn hyp_count(&self) -> usize
+        ensures { result ≡ length self.now.sequent.hypotheses }
+    {
+        let (_table, _name, theorem) = self.parts();
+        theorem.hypotheses.len()
+    }
+
+    /// The hypothesis at a place; the hypotheses stand in the order of terms, each once.
+    pub fn hyp(&self, place: usize) -> Option<TermView<'_>>
+        ensures { result ≡ slice_get self.now.sequent.hypotheses place }
+    {
+        let (table, _name, theorem) = self.parts();
+        match theorem.hypotheses.get(place) {
+            Some(number) => Some(TermView::of(table, *number)),
+            None => None,
+        }
+    }
+
+    /// The conclusion.
+    pub fn concl(&self) -> TermView<'_>
+        ensures { result ≡ self.now.sequent.conclusion }
+    {
+        let (table, _name, theorem) = self.parts();
+        TermView::of(table, theorem.conclusion)
+    }
 }
 
 /// The claims of a log, in the order of their lines.

@@ -1,18 +1,15 @@
 // Hypotheses by numbers: in the order of terms, each once.
-ghost use Rattle.std.specs.Prelude.{◌≡◌, ◌<◌, ◌≤◌, ◌++◌, ◌∷◌, [], ℕ, List, Some, slice_get, length, IfOk, IfErr, OnOk};
+ghost use Rattle.std.specs.Prelude.{◌≡◌, ◌++◌, ℕ, List, Some, slice_get, length, IfOk, IfErr};
 ghost use Rattle.std.specs.List.{All};
-ghost use Rattle.std.specs.Option.{IfSome};
 ghost use Rattle.hol_model.specs.declared.fault.Fault.TheVariants.{Memory};
 ghost use Rattle.hol_model.specs.HolType.{HolType};
 ghost use Rattle.hol_model.specs.Nameless.{free};
 ghost use Rattle.hol_model.specs.Derivable as derivable;
-ghost use Rattle.hol_model.specs.LogState as given;
 ghost use Rattle.hol_model.specs.LogFaults as faults;
 ghost use Rattle.hol_check.specs.Terms.{term_at};
 ghost use Rattle.hol_check.specs.Change.{IsVariable};
 ghost use Rattle.hol_check.specs.State.{IsFitting};
-ghost use Rattle.hol_check.specs.Hypotheses.{terms_in};
-ghost use Rattle.hol_check.specs.Hypotheses as spec;
+ghost use Rattle.hol_check.specs.Hypotheses.{terms_in, AreOrdered};
 ghost use Rattle.hol_check.specs.Steps.{AreInOrder};
 
 use crate::compare::compare_terms;
@@ -22,7 +19,7 @@ use hol_model::Fault;
 use std::alloc::Global;
 use std::cmp::Ordering;
 
-/// The terms of two lists in order, each once.
+/// The terms of two ordered lists in order, each once.
 pub(crate) fn union(
     alloc: Global,
     terms: &Terms,
@@ -31,18 +28,36 @@ pub(crate) fn union(
 ) -> Result<Vec<usize>, Fault>
     requires first { All (IsFitting terms.now.terms) first.now }
     requires second { All (IsFitting terms.now.terms) second.now }
+    requires first_ordered { AreOrdered (terms_in terms.now.terms first.now) }
+    requires second_ordered { AreOrdered (terms_in terms.now.terms second.now) }
     ensures all { IfOk result (λ all. AreInOrder terms.now.terms all.items (terms_in terms.now.terms first.now ++ terms_in terms.now.terms second.now)) }
     ensures refused { IfErr result (λ fault. fault ≡ Memory) }
 {
     let mut all = Vec::new(alloc);
-    match add_terms(terms, &mut all, first) {
-        Ok(()) => {}
-        Err(fault) => return Err(fault),
+    let mut left = 0;
+    let mut right = 0;
+    while left < first.len() && right < second.len() {
+        let old = first[left];
+        let new = second[right];
+        match compare_terms(terms, old, new) {
+            Ordering::Less => {
+                all.push(old)?;
+                left += 1;
+            }
+            Ordering::Equal => {
+                all.push(old)?;
+                left += 1;
+                right += 1;
+            }
+            Ordering::Greater => {
+                all.push(new)?;
+                right += 1;
+            }
+        }
     }
-    match add_terms(terms, &mut all, second) {
-        Ok(()) => Ok(all),
-        Err(fault) => Err(fault),
-    }
+    all.extend_from_slice(&first[left..])?;
+    all.extend_from_slice(&second[right..])?;
+    Ok(all)
 }
 
 /// The terms of a list in order, each once.
@@ -51,62 +66,28 @@ pub(crate) fn set_of(alloc: Global, terms: &Terms, list: &[usize]) -> Result<Vec
     ensures all { IfOk result (λ all. AreInOrder terms.now.terms all.items (terms_in terms.now.terms list.now)) }
     ensures refused { IfErr result (λ fault. fault ≡ Memory) }
 {
-    let mut all = Vec::new(alloc);
-    match add_terms(terms, &mut all, list) {
-        Ok(()) => Ok(all),
+    if list.len() < 2 {
+        return copied(alloc, list);
+    }
+    let (left, right) = list.split_at(list.len() / 2);
+    let left = match set_of(alloc, terms, left) {
+        Ok(left) => left,
+        Err(fault) => return Err(fault),
+    };
+    match set_of(alloc, terms, right) {
+        Ok(right) => union(alloc, terms, &left, &right),
         Err(fault) => Err(fault),
     }
 }
 
-// Puts terms in their places among ordered ones, one after another.
-fn add_terms(terms: &Terms, all: &mut Vec<usize>, more: &[usize]) -> Result<(), Fault>
-    requires all { All (IsFitting terms.now.terms) all.old.items }
-    requires more { All (IsFitting terms.now.terms) more.now }
-    ensures added { OnOk result (terms_in terms.now.terms all.new.items ≡ given.with_terms (terms_in terms.now.terms all.old.items) (terms_in terms.now.terms more.now)) }
-    ensures fitting { OnOk result (All (IsFitting terms.now.terms) all.new.items) }
+// The numbers of a list.
+fn copied(alloc: Global, list: &[usize]) -> Result<Vec<usize>, Fault>
+    ensures same { IfOk result (λ copy. copy.items ≡ list.now) }
     ensures refused { IfErr result (λ fault. fault ≡ Memory) }
 {
-    for new in more {
-        match add_term(terms, all, *new) {
-            Ok(()) => {}
-            Err(fault) => return Err(fault),
-        }
-    }
-    Ok(())
-}
-
-/// Puts a term in its place among ordered ones, unless it stands there.
-pub(crate) fn add_term(terms: &Terms, all: &mut Vec<usize>, new: usize) -> Result<(), Fault>
-    requires all { All (IsFitting terms.now.terms) all.old.items }
-    requires new { IsFitting terms.now.terms new }
-    ensures added { OnOk result (terms_in terms.now.terms all.new.items ≡ given.with_term (terms_in terms.now.terms all.old.items) (term_at terms.now.terms new)) }
-    ensures fitting { OnOk result (All (IsFitting terms.now.terms) all.new.items) }
-    ensures refused { IfErr result (λ fault. fault ≡ Memory) }
-{
-    match place_of(terms, all, new) {
-        Some(index) => match all.insert(index, new) {
-            Ok(()) => Ok(()),
-            Err(_failed) => Err(Fault::Memory),
-        },
-        None => Ok(()),
-    }
-}
-
-// Where a term belongs among ordered ones, or `None` where it stands there.
-fn place_of(terms: &Terms, all: &[usize], new: usize) -> Option<usize>
-    requires all { All (IsFitting terms.now.terms) all.now }
-    requires new { IsFitting terms.now.terms new }
-    ensures place { result ≡ spec.place_of (terms_in terms.now.terms all.now) (term_at terms.now.terms new) }
-    ensures within { IfSome result (λ index. index ≤ length all.now) }
-{
-    for (index, other) in all.iter().enumerate() {
-        match compare_terms(terms, new, *other) {
-            Ordering::Less => return Some(index),
-            Ordering::Equal => return None,
-            Ordering::Greater => {}
-        }
-    }
-    Some(all.len())
+    let mut copy = Vec::new(alloc);
+    copy.extend_from_slice(list)?;
+    Ok(copy)
 }
 
 /// The list without a term.
@@ -118,8 +99,10 @@ pub(crate) fn without(
 ) -> Result<Vec<usize>, Fault>
     requires term { IsFitting terms.now.terms term }
     requires list { All (IsFitting terms.now.terms) list.now }
+    requires ordered { AreOrdered (terms_in terms.now.terms list.now) }
     ensures others { IfOk result (λ others. terms_in terms.now.terms others.items ≡ derivable.without (term_at terms.now.terms term) (terms_in terms.now.terms list.now)) }
     ensures fitting { IfOk result (λ others. All (IsFitting terms.now.terms) others.items) }
+    ensures ordered { IfOk result (λ others. AreOrdered (terms_in terms.now.terms others.items)) }
     ensures refused { IfErr result (λ fault. fault ≡ Memory) }
 {
     let mut others = Vec::new(alloc);

@@ -84,6 +84,7 @@ pub(crate) fn change_free(
     requires number { number < length terms.old.terms }
     requires name { name < length terms.old.names }
     requires ty { ty < length terms.old.types }
+    requires shallow { passed < TERM_HEIGHT_LIMIT }
     requires is_free { term_at terms.old.terms number ≡ free (name_at terms.old.names name) (type_at terms.old.types ty) }
     requires work { IsTypeWork terms.old change.now types.old.entries }
     ensures changed { (meaning : PartChange) → IsTypeHeld terms.old change.now types.old.entries meaning

@@ -41,12 +41,14 @@ mod text_source;
 mod type_lines;
 mod types;
 mod typing;
+mod view;
 
 pub use checker::check;
 pub use claim::{Claim, text_of_claim};
 pub use laws::migration_keeps_claims;
 pub use migrating::migrate;
 pub use report::write_claims;
+pub use view::{TermParts, TermView, TypeParts, TypeView};
 
 #[cfg(test)]
 mod tests;

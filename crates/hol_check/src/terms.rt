@@ -1,19 +1,23 @@
 // Terms without bound names, each with one number.
-ghost use Rattle.std.specs.Prelude.{◌≡◌, ◌⊎◌, ◌+◌, ◌<◌, ◌≤◌, max, ℕ, List, [], Some, slice_get, length, IfOk, IfErr};
+ghost use Rattle.std.specs.Prelude.{◌≡◌, ◌⊎◌, ◌+◌, ◌<◌, ◌≤◌, max, ℕ, List, [], Some, slice_get, nat_eq, length, IfOk, IfErr};
+ghost use Rattle.std.specs.Option.{IfSome};
 ghost use Rattle.hol_model.specs.Nameless.{free, const, bound, app, lam, same_term};
 ghost use Rattle.hol_model.specs.Measures.{nameless_height, nameless_nodes};
 ghost use Rattle.hol_model.specs.Checks.{has_no_free};
 ghost use Rattle.hol_model.specs.declared.fault.Fault.TheVariants.{Memory, TooLarge};
 ghost use Rattle.hol_check.specs.Growth.{IsLonger};
 ghost use Rattle.hol_check.specs.Table.{IsPut, HaveOneNumber};
+ghost use Rattle.hol_check.specs.Loose.{binders_needed};
+ghost use Rattle.hol_check.specs.Typed.{IsTyped, IsTypedUnderSome};
 ghost use Rattle.hol_check.specs.Types.{type_of_shape, PartsStandBefore};
 ghost use Rattle.std.specs.Str.{bytes_eq};
 ghost use Rattle.hol_model.specs.HolType.{bool_type, type_variable, function_type, declared_type, type_nodes, type_eq};
 ghost use Rattle.hol_check.specs.Terms.{TermTable, name_at, type_at, term_at, term_of_shape, term_of_node, TermPartsStandBefore, TermStandsAfterParts, type_table, IsGrown, IsTooLarge};
 
+use crate::memo::{recall_type, remember_type};
 use crate::types::{TypeShape, Types};
 use hol_model::{Fault, TERM_HEIGHT_LIMIT, TERM_NODES_LIMIT, TYPE_NODES_LIMIT};
-use indexmap::IndexSet;
+use indexmap::{IndexMap, IndexSet};
 use std::alloc::Global;
 use std::marker::Model;
 
@@ -27,12 +31,14 @@ pub(crate) enum TermShape {
     Abstraction(usize, usize),
 }
 
-/// A term's shape, its height, its number of nodes as a tree, and whether no variable is free in it.
+/// A term's shape, its height, its number of nodes as a tree, the number of binders that its bound variables need around
+/// it, and whether no variable is free in it.
 #[derive(Clone, Copy, Debug, PartialEq, Eq, Hash)]
 pub(crate) struct TermNode {
     pub shape: TermShape,
     pub height: u32,
     pub nodes: u32,
+    pub needed: u32,
     pub no_free: bool,
 }
 
@@ -47,10 +53,12 @@ fn number_of_node(nodes: &mut IndexSet<TermNode>, node: TermNode) -> Result<usiz
 }
 
 /// Terms in the order in which they came, each once, with the names and types in them. A term's number is its place.
+/// Of terms that need no binders around them, the types that were worked out are kept.
 #[derive(Drop)]
 pub(crate) struct Terms {
     types: Types,
     nodes: IndexSet<TermNode>,
+    typed: IndexMap<usize, usize>,
 }
 
 impl Model for Terms {
@@ -79,6 +87,7 @@ impl Terms {
         Terms {
             types: Types::new(alloc),
             nodes: IndexSet::new(alloc),
+            typed: IndexMap::new(alloc),
         }
     }
 
@@ -91,6 +100,7 @@ impl Terms {
         Terms {
             types,
             nodes: IndexSet::new(alloc),
+            typed: IndexMap::new(alloc),
         }
     }
 
@@ -99,6 +109,7 @@ impl Terms {
         requires placed { TermStandsAfterParts (type_table self.old) (length self.old.terms) node }
         requires height { node.height ≡ nameless_height (term_of_node (type_table self.old) self.old.terms node) }
         requires nodes { node.nodes ≡ nameless_nodes (term_of_node (type_table self.old) self.old.terms node) }
+        requires needed { node.needed ≡ binders_needed (term_of_node (type_table self.old) self.old.terms node) }
         requires no_free { node.no_free ≡ has_no_free (term_of_node (type_table self.old) self.old.terms node) }
         requires height_fits { node.height ≤ TERM_HEIGHT_LIMIT }
         requires nodes_fit { node.nodes ≤ TERM_NODES_LIMIT }
@@ -147,6 +158,39 @@ impl Terms {
         }
     }
 
+    /// The number of binders that the bound variables of a term need around it.
+    pub(crate) fn binders_needed(&self, number: usize) -> u32
+        requires { number < length self.now.terms }
+        ensures { result ≡ binders_needed (term_at self.now.terms number) }
+    {
+        match self.nodes.get_index(number) {
+            Some(node) => node.needed,
+            None => 1,
+        }
+    }
+
+    /// The type of a term, if it is kept.
+    pub(crate) fn known_type(&self, number: usize) -> Option<usize>
+        ensures { IfSome result (λ ty. IsTyped self.now.types (term_at self.now.terms number) ty) }
+    {
+        recall_type(&self.typed, number)
+    }
+
+    /// Keeps the type of a term that needs no binders around it, and hands it on.
+    pub(crate) fn keep_type(&mut self, number: usize, ty: usize) -> Result<usize, Fault>
+        requires number { number < length self.old.terms }
+        requires typed { IsTypedUnderSome self.old.types (term_at self.old.terms number) ty }
+        ensures same { IfOk result (λ same. same ≡ ty) }
+        ensures refused { IfErr result (λ fault. fault ≡ Memory) }
+        ensures grows { IsGrown self.old self.new }
+    {
+        if self.binders_needed(number) == 0 {
+            remember_type(&mut self.typed, number, ty)
+        } else {
+            Ok(ty)
+        }
+    }
+
     /// Whether two numbers are those of one term.
     pub(crate) fn is_same(&self, first: usize, second: usize) -> bool
         requires first { first < length self.now.terms }
@@ -169,6 +213,7 @@ impl Terms {
             shape: TermShape::Free(name, ty),
             height: 1,
             nodes: 1,
+            needed: 0,
             no_free: false,
         })
     }
@@ -185,12 +230,14 @@ impl Terms {
             shape: TermShape::Constant(name, ty),
             height: 1,
             nodes: 1,
+            needed: 0,
             no_free: true,
         })
     }
 
     /// The variable of the binder outside so many others.
     pub(crate) fn bound(&mut self, index: usize) -> Result<usize, Fault>
+        requires { index < TERM_HEIGHT_LIMIT }
         ensures number { IfOk result (λ number. slice_get self.new.terms number ≡ Some (bound index)) }
         ensures refused { IfErr result (λ fault. fault ≡ Memory) }
         ensures grows { IsGrown self.old self.new }
@@ -199,6 +246,7 @@ impl Terms {
             shape: TermShape::Bound(index),
             height: 1,
             nodes: 1,
+            needed: index as u32 + 1,
             no_free: true,
         })
     }
@@ -219,6 +267,13 @@ impl Terms {
             function_height + 1
         };
         let nodes = function_nodes + argument_nodes + 1;
+        let function_needed = self.binders_needed(function);
+        let argument_needed = self.binders_needed(argument);
+        let needed = if function_needed < argument_needed {
+            argument_needed
+        } else {
+            function_needed
+        };
         let function_no_free = self.has_no_free(function);
         let argument_no_free = self.has_no_free(argument);
         if height > TERM_HEIGHT_LIMIT || nodes > TERM_NODES_LIMIT {
@@ -228,6 +283,7 @@ impl Terms {
             shape: TermShape::Application(function, argument),
             height,
             nodes,
+            needed,
             no_free: function_no_free && argument_no_free,
         })?;
         Ok(number)
@@ -245,11 +301,13 @@ impl Terms {
         if body_height == TERM_HEIGHT_LIMIT || body_nodes == TERM_NODES_LIMIT {
             return Err(Fault::TooLarge);
         }
+        let needed = self.binders_needed(body).saturating_sub(1);
         let no_free = self.has_no_free(body);
         let number = self.number_of(TermNode {
             shape: TermShape::Abstraction(ty, body),
             height: body_height + 1,
             nodes: body_nodes + 1,
+            needed,
             no_free,
         })?;
         Ok(number)

@@ -1,7 +1,7 @@
 // Whole logs with the answers that they must have.
 ghost use Rattle.std.specs.Prelude.{◌≡◌, false};
 
-use crate::{check, migrate, write_claims};
+use crate::{TermParts, TermView, check, migrate, write_claims};
 use hol_model::{Cause, DeviceFail, Fault, FromRead, Sink, Source};
 use itoa::Buffer;
 use std::alloc::Global;
@@ -80,6 +80,39 @@ fn writes(alloc: Global, log: &[u8], expected: &[u8]) -> Result<bool, Fault> {
 fn accepts_a_reflexivity(rt: HostRuntime) -> Result<(), Fail> {
     assert!(rt; claims(rt.alloc(), REFLEXIVITY, CLAIM)?);
     assert!(rt; claims(rt.alloc(), MIGRATED, CLAIM)?);
+    Ok(())
+}
+
+// Whether a term is a variable of a name.
+fn is_variable(term: &TermView<'_>, wanted: &[u8]) -> bool {
+    match term.parts() {
+        TermParts::Free(name, _ty) => name == wanted,
+        _ => false,
+    }
+}
+
+// Whether the first claim of a log is that a variable follows from itself, under the name of the variable.
+fn is_assumption(alloc: Global, log: &[u8]) -> Result<bool, Fault> {
+    let mut reader = FromRead::new(log);
+    let claims = check(alloc, &mut reader)?;
+    let Some(claim) = claims.first() else {
+        return Ok(false);
+    };
+    let Some(hyp) = claim.hyp(0) else {
+        return Ok(false);
+    };
+    Ok(
+        claim.hyp_count() == 1
+            && is_variable(&hyp, claim.name())
+            && is_variable(&claim.concl(), claim.name()),
+    )
+}
+
+#[test]
+fn shows_the_parts_of_a_claim(rt: HostRuntime) -> Result<(), Fail> {
+    let log = b"holp-log 1\ny b\nt v x 0\nk ASSUME 0\nc x 0 0 0\nend 1\n";
+    assert!(rt; is_assumption(rt.alloc(), log)?);
+    assert!(rt; !is_assumption(rt.alloc(), REFLEXIVITY)?);
     Ok(())
 }
 

@@ -30,13 +30,16 @@ pub(crate) fn type_of(terms: &mut Terms, number: usize) -> Result<usize, Fault>
     type_under(terms, &Binders::Outermost, number)
 }
 
-// The same of a part that stands under binders.
+// The same of a part that stands under binders; a part that needs no binders is gone through once.
 fn type_under(terms: &mut Terms, binders: &Binders<'_>, number: usize) -> Result<usize, Fault>
     requires number { number < length terms.old.terms }
     requires binders { AreTypes terms.old.types binders.now }
     ensures typed { AnswersTyping (binder_types terms.old.types binders.now) (term_at terms.old.terms number) result terms.new.types }
     ensures grows { IsGrown terms.old terms.new }
 {
+    if let Some(ty) = terms.known_type(number) {
+        return Ok(ty);
+    }
     match terms.shape(number) {
         TermShape::Free(_name, ty) => {
             let _within_limit = terms.type_count(ty);
@@ -53,13 +56,19 @@ fn type_under(terms: &mut Terms, binders: &Binders<'_>, number: usize) -> Result
                 Err(fault) => return Err(fault),
             };
             match type_under(terms, &*binders, argument) {
-                Ok(_argument_ty) => codomain(terms, function_ty),
+                Ok(_argument_ty) => match codomain(terms, function_ty) {
+                    Ok(ty) => terms.keep_type(number, ty),
+                    Err(fault) => Err(fault),
+                },
                 Err(fault) => Err(fault),
             }
         }
         TermShape::Abstraction(ty, body) => {
             match type_under(terms, &Binders::Under(ty, &*binders), body) {
-                Ok(body_ty) => terms.function_type(ty, body_ty),
+                Ok(body_ty) => match terms.function_type(ty, body_ty) {
+                    Ok(whole) => terms.keep_type(number, whole),
+                    Err(fault) => Err(fault),
+                },
                 Err(fault) => Err(fault),
             }
         }

@@ -1,7 +1,7 @@
 -- The lines of the axioms and of definitions are accepted, and give the image of what the kernel answers.
-use Rattle.std.proofs.Common.{◌≡◌, ◌≤◌, ◌<◌, ◌+◌, ℕ, List, [], ◌∷◌, length, true, false, ◌&&◌, not, refl, sym, ◌∙◌, ap, inl, Some, Ok, arith, nat_le}
+use Rattle.std.proofs.Common.{◌≡◌, ◌≤◌, ◌<◌, ◌+◌, ℕ, List, [], ◌∷◌, length, true, false, ◌&&◌, not, refl, sym, ◌∙◌, ap, inl, Some, None, Ok, arith, nat_le}
 use Rattle.hol_model.specs.Nameless.{const, image}
-use Rattle.hol_model.specs.Theory.{Theory}
+use Rattle.hol_model.specs.Theory.{Theory, Entry, definition, IsLegal}
 use Rattle.hol_model.specs.Theorem.{Theorem}
 use Rattle.hol_model.specs.LogState.{term_type}
 use Rattle.hol_journal.specs.Steps.{JournalEntry, sequent_of_theorem}
@@ -23,10 +23,10 @@ use Rattle.hol_model.proofs.Tests.{both}
 use Rattle.hol_model.proofs.LogTests.{not_true}
 use Rattle.hol_model.proofs.Checks.{has_no_free-Decides, reflects_nameless-Decides}
 use Rattle.hol_model.proofs.LegalEntries.{closed-HasNoFree, reflects-image}
-use Rattle.hol_kernel.proofs.DefinitionLemmas.{own_type-is}
+use Rattle.hol_kernel.proofs.DefinitionLemmas.{own_type-is, definition-legal}
 use Rattle.hol_journal.specs.Steps.{by_eta, by_select, by_definition}
 use Rattle.hol_journal.proofs.SequentLemmas.{equation_of-images, term_type-image}
-use Rattle.hol_journal.proofs.Showing.{shown, refused-is, unless-is, concluded-is, same_sequent, no_more}
+use Rattle.hol_journal.proofs.Showing.{shown, refused-is, passed-none, unless-is, concluded-is, same_sequent, no_more}
 
 -- ETA
 pub eta-gives : (theory : Theory) (entries : List JournalEntry) (answer : Theorem) → answer ≡ record { theory = theory; hypotheses = []; conclusion = eta_conclusion }
@@ -50,6 +50,7 @@ room_for_one fewer count limit less room = let h : count < limit = leb-false lim
 -- what an accepted definition passed, and the theorem
 record IsDefined (theory : Theory) (name : List ℕ) (term : NamedTerm) (answer : Theorem) : Type 0 where
   is_name : is_constant_name name ≡ true
+  known : first_unknown theory term ≡ None
   closed : is_closed term ≡ true
   reflected : reflects (own_type term) term ≡ true
   is_new : is_new_name theory name ≡ true
@@ -70,6 +71,7 @@ defined theory name term answer outcome =
     let five = unless-is (not (is_full theory)) TooLarge made answer four.1 in
     record {
       is_name = one.0;
+      known = passed-none (first_unknown theory term) after_known answer one.1;
       closed = two.0;
       reflected = three.0;
       is_new = four.0;
@@ -80,6 +82,30 @@ defined theory name term answer outcome =
 pub define-answers : (theory : Theory) (name : List ℕ) (term : NamedTerm) (answer : Theorem) → define_outcome theory name term ≡ Ok answer
     → answer ≡ record { theory = with_definition theory name term; hypotheses = []; conclusion = equation (constant name (own_type term)) term }
 define-answers theory name term answer outcome = (defined theory name term answer outcome).is
+
+pub define-known : (theory : Theory) (name : List ℕ) (term : NamedTerm) (answer : Theorem) → define_outcome theory name term ≡ Ok answer → first_unknown theory term ≡ None
+define-known theory name term answer outcome = (defined theory name term answer outcome).known
+
+-- a theory that is not full takes one more entry
+pub one_more : (theory : Theory) (entry : Entry) → not (is_full theory) ≡ true → nat_le (length (entry ∷ theory)) DEFINITIONS_LIMIT ≡ true
+one_more theory entry has_room =
+    let same : length (entry ∷ theory) ≡ 1 + length theory = omega arith in
+    ap (λ n. nat_le n DEFINITIONS_LIMIT) same ∙ room_for_one (length theory) (length theory) DEFINITIONS_LIMIT (omega arith) (not_true (is_full theory) has_room)
+
+-- the theory takes the definition
+pub record TakesDefinition (theory : Theory) (name : List ℕ) (term : NamedTerm) : Type 0 where
+  pub legal : IsLegal (with_definition theory name term)
+  pub within_limit : nat_le (length (with_definition theory name term)) DEFINITIONS_LIMIT ≡ true
+
+pub define-may : (theory : Theory) → IsLegal theory → (name : List ℕ) (term : NamedTerm) (ty : HolType) (answer : Theorem) → type_of term ≡ Some ty
+    → define_outcome theory name term ≡ Ok answer → TakesDefinition theory name term
+define-may theory legal name term ty answer typed outcome =
+    let d = defined theory name term answer outcome in
+    let own : own_type term ≡ ty = own_type-is term ty typed in
+    record {
+      legal = definition-legal theory legal name term (own_type term) (typed ∙ ap Some (sym own)) d.is_name d.known d.closed d.reflected d.is_new;
+      within_limit = one_more theory (definition name (own_type term) (image term)) d.has_room;
+    }
 
 -- a definition
 pub define-gives : (theory : Theory) (entries : List JournalEntry) (name : List ℕ) (term : NamedTerm) (ty : HolType) (answer : Theorem) → type_of term ≡ Some ty

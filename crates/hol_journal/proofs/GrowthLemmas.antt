@@ -1,35 +1,27 @@
 -- Journals only grow.
-use Rattle.std.proofs.Common.{◌≡◌, ℕ, zero, suc, List, [], ◌∷◌, ◌++◌, length, refl, sym, ◌∙◌, ap, subst, Some, append_assoc}
+use Rattle.std.proofs.Common.{◌≡◌, List, [], ◌∷◌, ◌++◌, sym, ◌∙◌, ap, subst, append_assoc}
 use Rattle.std.specs.Prelude.{slice_get}
 use Rattle.hol_model.specs.Theory.{Theory, IsEarlier}
 use Rattle.hol_model.proofs.Earlier.{earlier-same, earlier-twice}
-use Rattle.hol_journal.specs.Steps.{JournalEntry, derived, sequent_of_theorem}
+use Rattle.hol_journal.specs.Steps.{derived, sequent_of_theorem}
 use Rattle.hol_journal.specs.Journal.{Journal}
 use Rattle.hol_journal.specs.Growth.{IsGrown, JournalsGrow}
 use Rattle.hol_journal.specs.Views.{entry_of, entries_of}
 use Rattle.hol_journal.specs.declared.entry.Entry.{Entry}
+use Rattle.hol_journal.proofs.LogTables.{get_earlier, get_at_end}
 use Rattle.hol_journal.proofs.JournalLemmas.{entries_of-last}
-
-get-more : (entries more : List JournalEntry) (number : ℕ) (entry : JournalEntry) → slice_get entries number ≡ Some entry → slice_get (entries ++ more) number ≡ Some entry
-get-more [] more number entry is = cc
-get-more (first ∷ entries) more zero entry is = is
-get-more (first ∷ entries) more (suc number) entry is = get-more entries more number entry is
-
-get-last : (entries : List JournalEntry) (entry : JournalEntry) → slice_get (entries ++ entry ∷ []) (length entries) ≡ Some entry
-get-last [] entry = refl
-get-last (first ∷ entries) entry = get-last entries entry
 
 pub journals-grow : JournalsGrow
 journals-grow = record {
   grown = λ old new step made is. record { added = derived step (sequent_of_theorem made.theorem) ∷ []; entries = is.entries; earlier = is.earlier };
   made = λ old new step made is. record {
     step = step;
-    there = (λ i. slice_get (is.entries i) (is.number i)) ∙ get-last old.entries (derived step (sequent_of_theorem made.theorem));
+    there = (λ i. slice_get (is.entries i) (is.number i)) ∙ get_at_end old.entries (derived step (sequent_of_theorem made.theorem));
     earlier = earlier-same made.theorem.theory new.theory is.stands_on;
   };
   stays = λ old new made is was. record {
     step = was.step;
-    there = ap (λ es. slice_get es made.entry) is.entries ∙ get-more old.entries is.added made.entry (derived was.step (sequent_of_theorem made.theorem)) was.there;
+    there = ap (λ es. slice_get es made.entry) is.entries ∙ get_earlier old.entries is.added made.entry (derived was.step (sequent_of_theorem made.theorem)) was.there;
     earlier = earlier-twice made.theorem.theory old.theory new.theory was.earlier is.earlier;
   };
   twice = λ first second third one two. record {

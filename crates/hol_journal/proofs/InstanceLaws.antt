@@ -28,7 +28,7 @@ use Rattle.hol_journal.proofs.SequentLemmas.{set_of-images, term_type-image}
 use Rattle.hol_journal.proofs.Showing.{shown, same_sequent, neither, no_more, IsCited}
 
 -- no refusal for the limits, no refusal at all
-no_refusal : (refusal : Option Fault) (fits : Bool) → or_too_large refusal fits ≡ None → refusal ≡ None
+pub no_refusal : (refusal : Option Fault) (fits : Bool) → or_too_large refusal fits ≡ None → refusal ≡ None
 no_refusal None fits is = refl
 no_refusal (Some fault) fits is = cc
 
@@ -43,7 +43,7 @@ changed theory change theorem answer is =
 -- the numbers of a list of pairs name the images of the pairs
 module _ (state : LogState) (numbers : Numbering) where
   abbrev NamesTerms : List (NamedTerm × NamedTerm) → Type 0
-  NamesTerms pairs = (term : NamedTerm) → IsMember term (both_parts pairs) → NamesTerm state (numbers.of_term (image term)) (image term)
+  NamesTerms pairs = (term : NamedTerm) → IsMember term (both_parts pairs) → NamesTerm state (numbers.of_term term) (image term)
 
   term_pairs-named : (pairs : List (NamedTerm × NamedTerm)) → NamesTerms pairs → term_pairs_at state (map (term_pair numbers) pairs) ≡ map (λ pair. (image pair.0, image pair.1)) pairs
   term_pairs-named [] names = refl
@@ -104,7 +104,7 @@ same_put : (theta other : TermInstance) → ((name : List ℕ) (ty : HolType) �
 same_put theta other same term = λ k. put (λ name ty. same name ty k) term
 
 -- a pair that keeps its type
-kept_type : (found wanted : Option HolType) → same_type found wanted ≡ true → (a : HolType) × (found ≡ Some a) × (wanted ≡ Some a)
+pub kept_type : (found wanted : Option HolType) → same_type found wanted ≡ true → (a : HolType) × (found ≡ Some a) × (wanted ≡ Some a)
 kept_type None wanted is = cc
 kept_type (Some a) None is = cc
 kept_type (Some a) (Some b) is = (a, refl, ap Some (sym ((type_eq-Decides a b).0 is)))

@@ -1,13 +1,14 @@
 -- One more entry keeps a journal.
-use Rattle.std.proofs.Common.{◌≡◌, ◌⊎◌, ℕ, List, [], ◌∷◌, ◌++◌, refl, sym, ◌∙◌, ap, subst, inl, inr}
-use Rattle.hol_model.specs.Theory.{Theory}
+use Rattle.std.proofs.Common.{◌≡◌, ◌⊎◌, ℕ, List, [], ◌∷◌, ◌++◌, length, true, refl, sym, ◌∙◌, ap, subst, inl, inr, nat_le}
+use Rattle.hol_model.specs.declared.limits.TheConstants.{DEFINITIONS_LIMIT}
+use Rattle.hol_model.specs.Theory.{Theory, IsLegal}
 use Rattle.hol_model.specs.Theorem.{IsTheorem}
 use Rattle.hol_model.specs.Derivable.{IsMember}
 use Rattle.hol_model.specs.Goals.{Sequent}
 use Rattle.hol_journal.specs.Steps.{Step, JournalEntry, derived, derived_sequent, sequent_of_theorem}
 use Rattle.hol_journal.specs.Steps as steps
 use Rattle.hol_journal.specs.Lines.{Gives}
-use Rattle.hol_journal.specs.Journal.{Journal, Recorded, added_by, grown_by, HasTheorem, Follows, IsJournal, IsMade}
+use Rattle.hol_journal.specs.Journal.{Journal, Recorded, added_by, grown_by, HasTheorem, KnowsParts, Follows, IsEntryAfter, IsJournal, IsMade}
 use Rattle.hol_journal.specs.Views.{entry_of, entries_of}
 use Rattle.hol_journal.specs.declared.entry.Entry.{Entry}
 use Rattle.hol_journal.proofs.Showing.{IsCited}
@@ -30,7 +31,7 @@ split_last (a ∷ xs) x (b ∷ before) y after is =
       | inr p ↦ inr (p.0, (λ i. head i ∷ p.1 i))
     ]
 
-grown_by-last : (theory : Theory) (entries : List JournalEntry) (entry : JournalEntry) → grown_by theory (entries ++ entry ∷ []) ≡ added_by entry ++ grown_by theory entries
+pub grown_by-last : (theory : Theory) (entries : List JournalEntry) (entry : JournalEntry) → grown_by theory (entries ++ entry ∷ []) ≡ added_by entry ++ grown_by theory entries
 grown_by-last theory [] entry = refl
 grown_by-last theory (first ∷ entries) entry = grown_by-last (added_by first ++ theory) entries entry
 
@@ -41,43 +42,45 @@ entries_of-last (first ∷ entries) entry = ap (λ l. entry_of first ∷ l) (ent
 pub journal-start : IsJournal (record { theory = []; entries = [] })
 journal-start = record {
   theory = refl;
-  follows = λ before step sequent after is. absurd (not_empty before (derived step sequent) after is);
+  legal = tt;
+  within_limit = refl;
+  entries_follow = λ before entry after is. absurd (not_empty before entry after is);
 }
 
--- one more entry, which follows where it is a theorem's
-journal-more : (journal : Journal) (entry : JournalEntry) → IsJournal journal → ((step : Step) (sequent : Sequent) → entry ≡ derived step sequent → Follows journal.entries step sequent)
+-- an entry that may stand behind those of the journal
+pub record IsNextEntry (journal : Journal) (entry : JournalEntry) : Type 0 where
+  pub legal : IsLegal (added_by entry ++ journal.theory)
+  pub within_limit : nat_le (length (added_by entry ++ journal.theory)) DEFINITIONS_LIMIT ≡ true
+  pub follows : IsEntryAfter journal.entries entry
+
+-- one more entry
+journal-more : (journal : Journal) (entry : JournalEntry) → IsJournal journal → IsNextEntry journal entry
     → IsJournal (record { theory = added_by entry ++ journal.theory; entries = journal.entries ++ entry ∷ [] })
-journal-more journal entry is last = record {
+journal-more journal entry is next = record {
   theory = ap (λ t. added_by entry ++ t) is.theory ∙ sym (grown_by-last [] journal.entries entry);
-  follows = λ before step sequent after same. elim (split_last journal.entries entry before (derived step sequent) after same) [
-    | inl p ↦ subst (λ (es : List JournalEntry). Follows es step sequent) (sym p.0) (last step sequent p.1)
-    | inr p ↦ is.follows before step sequent p.0 p.1
+  legal = next.legal;
+  within_limit = next.within_limit;
+  entries_follow = λ before other after same. elim (split_last journal.entries entry before other after same) [
+    | inl p ↦ subst (λ (e : JournalEntry). IsEntryAfter before e) p.1 (subst (λ (es : List JournalEntry). IsEntryAfter es entry) (sym p.0) next.follows)
+    | inr p ↦ is.entries_follow before other p.0 p.1
   ];
 }
 
 -- the same, as the program stores it
 pub journal-stored : (old : Journal) (theory : Theory) (stored items : List Entry) (entry : Entry) → IsJournal old → old.entries ≡ entries_of stored
     → theory ≡ added_by (entry_of entry) ++ old.theory → items ≡ stored ++ entry ∷ []
-    → ((step : Step) (sequent : Sequent) → entry_of entry ≡ derived step sequent → Follows old.entries step sequent)
+    → IsNextEntry old (entry_of entry)
     → IsJournal (record { theory = theory; entries = entries_of items })
-journal-stored old theory stored items entry is listed grown pushed last =
+journal-stored old theory stored items entry is listed grown pushed next =
     let all : entries_of items ≡ old.entries ++ entry_of entry ∷ [] = ap entries_of pushed ∙ entries_of-last stored entry ∙ ap (λ l. l ++ entry_of entry ∷ []) (sym listed) in
-    subst IsJournal (λ i. record { theory = sym grown i; entries = sym all i }) (journal-more old (entry_of entry) is last)
-
-same_derived : (one two : Step) (first second : Sequent) → derived one first ≡ derived two second → (one ≡ two) × (first ≡ second)
-same_derived one two first second is = (cc, cc)
-
--- a theorem's entry follows where its step does
-pub follows-alone : (entries : List JournalEntry) (one : Step) (first : Sequent) → Follows entries one first → (step : Step) (sequent : Sequent) → derived one first ≡ derived step sequent → Follows entries step sequent
-follows-alone entries one first follows step sequent is =
-    let same = same_derived one step first sequent is in
-    subst (λ (s : Step). Follows entries s sequent) same.0 (subst (λ (q : Sequent). Follows entries one q) same.1 follows)
+    subst IsJournal (λ i. record { theory = sym grown i; entries = sym all i }) (journal-more old (entry_of entry) is next)
 
 -- what is given over the theory of a journal follows
 pub given-follows : (journal : Journal) (step : Step) (sequent : Sequent) → IsJournal journal → ((number : ℕ) → IsMember number (steps.entries_of step) → HasTheorem journal.entries number)
-    → Gives journal.theory journal.entries step sequent → Follows journal.entries step sequent
-given-follows journal step sequent is cites gives = record {
+    → KnowsParts journal.theory step → Gives journal.theory journal.entries step sequent → Follows journal.entries step sequent
+given-follows journal step sequent is cites knows gives = record {
   cites = cites;
+  knows = subst (λ (t : Theory). KnowsParts t step) is.theory knows;
   gives = subst (λ (t : Theory). Gives t journal.entries step sequent) is.theory gives;
 }
 

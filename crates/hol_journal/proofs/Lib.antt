@@ -3,7 +3,22 @@ pub mod Showing
 pub mod RuleLaws
 pub mod DefinitionLaws
 pub mod InstanceLaws
+pub mod KnownParts
 pub mod JournalLemmas
 pub mod FollowLemmas
 pub mod StoredLemmas
 pub mod GrowthLemmas
+pub mod LogTables
+pub mod LogRuns
+pub mod LogParts
+pub mod KeptTheory
+pub mod WrittenLemmas
+pub mod MarkingLemmas
+pub mod WriterLemmas
+pub mod LogEntries
+pub mod LogClaims
+pub mod EarlierEntries
+pub mod StepLineLemmas
+pub mod EntryLoopLemmas
+pub mod PrunedLemmas
+mod LogTextLemmas

@@ -164,7 +164,7 @@ mk_comb-gives theory entries i j first second answer cited_first cited_second ou
     })
 
 -- a variable by its name and type
-binder_is : (binder : NamedTerm) (bind : List ℕ × HolType) → dest_variable binder ≡ Some bind → binder ≡ variable bind.0 bind.1
+pub binder_is : (binder : NamedTerm) (bind : List ℕ × HolType) → dest_variable binder ≡ Some bind → binder ≡ variable bind.0 bind.1
 binder_is (variable name ty) bind is = let same : (name, ty) ≡ bind = cc in ap (λ (b : List ℕ × HolType). variable b.0 b.1) same
 binder_is _ bind is = cc
 

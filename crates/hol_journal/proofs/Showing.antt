@@ -60,6 +60,10 @@ pub refused-is : {A : Type 0} (refusal : Option Fault) (next : Result A Fault) (
 refused-is None next x is = is
 refused-is (Some fault) next x is = cc
 
+pub passed-none : {A : Type 0} (refusal : Option Fault) (next : Result A Fault) (x : A) → refused refusal next ≡ Ok x → refusal ≡ None
+passed-none None next x is = refl
+passed-none (Some fault) next x is = cc
+
 pub unless-is : {A : Type 0} (test : Bool) (fault : Fault) (next : Result A Fault) (x : A) → unless test fault next ≡ Ok x → (test ≡ true) × (next ≡ Ok x)
 unless-is true fault next x is = (refl, is)
 unless-is false fault next x is = cc

@@ -1,18 +1,21 @@
 -- What a recorder stores is a journal again.
-use Rattle.std.proofs.Common.{◌≡◌, ℕ, List, [], ◌∷◌, ◌++◌, not, refl, sym, ◌∙◌, ap, subst, Some, Ok}
+use Rattle.std.proofs.Common.{◌≡◌, ℕ, List, [], ◌∷◌, ◌++◌, length, true, not, refl, sym, ◌∙◌, ap, subst, Some, Ok, nat_le}
+use Rattle.hol_model.specs.declared.limits.TheConstants.{DEFINITIONS_LIMIT}
 use Rattle.hol_model.specs.declared.fault.Fault.TheVariants.{BadName, AlreadyDefined, TooLarge, UnknownType, TypeVarsNotReflected}
 use Rattle.hol_model.specs.HolType.{HolType}
-use Rattle.hol_model.specs.NamedTerm.{NamedTerm, constant, type_of, equation}
+use Rattle.hol_model.specs.NamedTerm.{NamedTerm, constant, type_of, type_fits, is_within_limits, equation}
 use Rattle.hol_model.specs.Nameless.{image}
 use Rattle.hol_model.specs.Name.{is_constant_name, is_declared_type_name}
 use Rattle.hol_model.specs.Legality.{is_new_name, is_fixed, own_type}
 use Rattle.hol_model.specs.KnownTerm.{knows_type}
 use Rattle.hol_model.specs.Outcome.{unless}
-use Rattle.hol_model.specs.Theory.{Theory, declaration_of_type, declaration_of_constant}
+use Rattle.hol_model.specs.Theory as theories
+use Rattle.hol_model.specs.Theory.{Theory, IsLegal, declaration_of_type, declaration_of_constant}
+use Rattle.hol_kernel.proofs.DefinitionLemmas.{declared_type-legal, declared_constant-legal}
 use Rattle.hol_model.specs.Theorem.{Theorem}
 use Rattle.hol_model.specs.Goals.{Sequent}
 use Rattle.hol_model.specs.Rules.{is_full, define_outcome, new_type_outcome, new_const_outcome}
-use Rattle.hol_journal.specs.Steps.{Step, by_definition, JournalEntry, derived, declared_type, declared_constant, sequent_of_theorem}
+use Rattle.hol_journal.specs.Steps.{by_definition, JournalEntry, derived, declared_type, declared_constant, sequent_of_theorem}
 use Rattle.hol_journal.specs.Limits.{FitsLog}
 use Rattle.hol_journal.specs.Journal.{Journal, added_by, Follows, IsJournal}
 use Rattle.hol_journal.specs.Views.{step_of, entry_of, entries_of}
@@ -21,8 +24,8 @@ use Rattle.hol_journal.specs.declared.entry.Rule.TheVariants.{Refl, Trans, MkCom
 use Rattle.hol_journal.specs.declared.entry.Entry.{Entry}
 use Rattle.hol_journal.specs.declared.entry.Entry.TheVariants.{Derived}
 use Rattle.hol_journal.proofs.Showing.{unless-is, answered}
-use Rattle.hol_journal.proofs.DefinitionLaws.{define-answers}
-use Rattle.hol_journal.proofs.JournalLemmas.{journal-stored, follows-alone, entries_of-last}
+use Rattle.hol_journal.proofs.DefinitionLaws.{define-answers, define-may, one_more}
+use Rattle.hol_journal.proofs.JournalLemmas.{IsNextEntry, journal-stored, entries_of-last}
 use Rattle.hol_journal.proofs.FollowLemmas.{define-follows}
 
 -- a rule adds nothing to the theory
@@ -44,12 +47,17 @@ pub rule-stored : (shown now : Journal) (stored mid items : List Entry) (rule : 
     → mid ≡ stored → items ≡ mid ++ Derived rule copy ∷ [] → copy ≡ theorem → Follows now.entries (step_of rule) (sequent_of_theorem theorem)
     → IsJournal (record { theory = shown.theory; entries = entries_of items })
 rule-stored shown now stored mid items rule theorem copy view is listed reserved pushed same follows =
+    let nothing = ap (λ t. t ++ shown.theory) (sym (rule_adds_nothing rule (sequent_of_theorem copy))) in
     let there : Follows shown.entries (step_of rule) (sequent_of_theorem copy) =
     subst (λ (j : Journal). Follows j.entries (step_of rule) (sequent_of_theorem copy)) (sym view)
     (subst (λ (t : Theorem). Follows now.entries (step_of rule) (sequent_of_theorem t)) (sym same) follows) in
-    journal-stored shown shown.theory stored items (Derived rule copy) is listed (ap (λ t. t ++ shown.theory) (sym (rule_adds_nothing rule (sequent_of_theorem copy))))
+    journal-stored shown shown.theory stored items (Derived rule copy) is listed nothing
     (pushed ∙ ap (λ l. l ++ Derived rule copy ∷ []) reserved)
-    (follows-alone shown.entries (step_of rule) (sequent_of_theorem copy) there)
+    (record {
+      legal = subst IsLegal nothing is.legal;
+      within_limit = ap (λ t. nat_le (length t) DEFINITIONS_LIMIT) (sym nothing) ∙ is.within_limit;
+      follows = there;
+    })
 
 -- the entry of a definition
 abbrev pub defined_entry : List ℕ → NamedTerm → JournalEntry
@@ -61,15 +69,21 @@ definition-entry theory name term answer outcome = ap (λ t. derived (by_definit
 
 pub definition-stored : (shown : Journal) (theory : Theory) (stored mid items : List Entry) (entry : Entry) (name : List ℕ) (term : NamedTerm) (ty : HolType) (answer : Theorem)
     → IsJournal shown → shown.entries ≡ entries_of stored → mid ≡ stored → items ≡ mid ++ entry ∷ []
-    → type_of term ≡ Some ty → define_outcome shown.theory name term ≡ Ok answer → FitsLog answer → theory ≡ answer.theory → entry_of entry ≡ defined_entry name term
+    → type_of term ≡ Some ty → define_outcome shown.theory name term ≡ Ok answer → FitsLog answer → is_within_limits term ≡ true → theory ≡ answer.theory → entry_of entry ≡ defined_entry name term
     → IsJournal (record { theory = theory; entries = entries_of items })
-definition-stored shown theory stored mid items entry name term ty answer is listed reserved pushed typed outcome fits grown entry_is =
+definition-stored shown theory stored mid items entry name term ty answer is listed reserved pushed typed outcome fits within grown entry_is =
     let derived_is = entry_is ∙ definition-entry shown.theory name term answer outcome in
-    let follows = define-follows shown is name term ty answer typed outcome fits in
+    let entry_follows = define-follows shown is name term ty answer typed within outcome fits in
+    let may = define-may shown.theory is.legal name term ty answer typed outcome in
+    let next : IsNextEntry shown (derived (by_definition name term) (sequent_of_theorem answer)) = record {
+      legal = may.legal;
+      within_limit = may.within_limit;
+      follows = entry_follows;
+    } in
     journal-stored shown theory stored items entry is listed
     (grown ∙ ap (λ t. t.theory) (define-answers shown.theory name term answer outcome) ∙ ap (λ e. added_by e ++ shown.theory) (sym entry_is))
     (pushed ∙ ap (λ l. l ++ entry ∷ []) reserved)
-    (λ step sequent same. follows-alone shown.entries (by_definition name term) (sequent_of_theorem answer) follows step sequent (sym derived_is ∙ same))
+    (subst (IsNextEntry shown) (sym derived_is) next)
 
 pub definition-listed : (shown now : Journal) (stored mid items : List Entry) (entry : Entry) (name : List ℕ) (term : NamedTerm) (answer : Theorem)
     → shown ≡ now → shown.entries ≡ entries_of stored → mid ≡ stored → items ≡ mid ++ entry ∷ []
@@ -84,17 +98,29 @@ definition-listed shown now stored mid items entry name term answer view listed 
 theory_is : (made now : Theory) → answered {A = Theory} made ≡ Ok now → now ≡ made
 theory_is made now is = cc
 
-new_type-leaves : (theory now : Theory) (name : List ℕ) → new_type_outcome theory name ≡ Ok now → now ≡ declaration_of_type name ∷ theory
-new_type-leaves theory now name outcome =
+-- the call leaves a legal theory with one more entry
+record Leaves (theory now : Theory) (entry : theories.Entry) : Type 0 where
+  is : now ≡ entry ∷ theory
+  legal : IsLegal (entry ∷ theory)
+  within_limit : nat_le (length (entry ∷ theory)) DEFINITIONS_LIMIT ≡ true
+
+new_type-leaves : (theory now : Theory) (name : List ℕ) → IsLegal theory → new_type_outcome theory name ≡ Ok now → Leaves theory now (declaration_of_type name)
+new_type-leaves theory now name legal outcome =
     let made = answered {A = Theory} (declaration_of_type name ∷ theory) in
     let room = unless (not (is_full theory)) TooLarge made in
     let new = unless (is_new_name theory name) AlreadyDefined room in
     let one = unless-is (is_declared_type_name name) BadName new now outcome in
     let two = unless-is (is_new_name theory name) AlreadyDefined room now one.1 in
-    theory_is (declaration_of_type name ∷ theory) now (unless-is (not (is_full theory)) TooLarge made now two.1).1
+    let three = unless-is (not (is_full theory)) TooLarge made now two.1 in
+    record {
+      is = theory_is (declaration_of_type name ∷ theory) now three.1;
+      legal = declared_type-legal theory legal name one.0 two.0;
+      within_limit = one_more theory (declaration_of_type name) three.0;
+    }
 
-new_const-leaves : (theory now : Theory) (name : List ℕ) (ty : HolType) → new_const_outcome theory name ty ≡ Ok now → now ≡ declaration_of_constant name ty ∷ theory
-new_const-leaves theory now name ty outcome =
+new_const-leaves : (theory now : Theory) (name : List ℕ) (ty : HolType) → IsLegal theory → new_const_outcome theory name ty ≡ Ok now
+    → Leaves theory now (declaration_of_constant name ty)
+new_const-leaves theory now name ty legal outcome =
     let made = answered {A = Theory} (declaration_of_constant name ty ∷ theory) in
     let room = unless (not (is_full theory)) TooLarge made in
     let new = unless (is_new_name theory name) AlreadyDefined room in
@@ -104,28 +130,32 @@ new_const-leaves theory now name ty outcome =
     let two = unless-is (knows_type theory ty) UnknownType fixed now one.1 in
     let three = unless-is (is_fixed ty) TypeVarsNotReflected new now two.1 in
     let four = unless-is (is_new_name theory name) AlreadyDefined room now three.1 in
-    theory_is (declaration_of_constant name ty ∷ theory) now (unless-is (not (is_full theory)) TooLarge made now four.1).1
-
-no_theorem_of_type : (name : List ℕ) (step : Step) (sequent : Sequent) → declared_type name ≡ derived step sequent → ⊥
-no_theorem_of_type name step sequent is = cc
-
-no_theorem_of_constant : (name : List ℕ) (ty : HolType) (step : Step) (sequent : Sequent) → declared_constant name ty ≡ derived step sequent → ⊥
-no_theorem_of_constant name ty step sequent is = cc
+    let five = unless-is (not (is_full theory)) TooLarge made now four.1 in
+    record {
+      is = theory_is (declaration_of_constant name ty ∷ theory) now five.1;
+      legal = declared_constant-legal theory legal name ty one.0 two.0 three.0 four.0;
+      within_limit = one_more theory (declaration_of_constant name ty) five.0;
+    }
 
 pub type-stored : (shown : Journal) (theory : Theory) (stored mid items : List Entry) (entry : Entry) (name : List ℕ)
     → IsJournal shown → shown.entries ≡ entries_of stored → mid ≡ stored → items ≡ mid ++ entry ∷ []
     → new_type_outcome shown.theory name ≡ Ok theory → entry_of entry ≡ declared_type name → IsJournal (record { theory = theory; entries = entries_of items })
 type-stored shown theory stored mid items entry name is listed reserved pushed outcome entry_is =
+    let leaves = new_type-leaves shown.theory theory name is.legal outcome in
+    let next : IsNextEntry shown (declared_type name) = record { legal = leaves.legal; within_limit = leaves.within_limit; follows = tt } in
     journal-stored shown theory stored items entry is listed
-    (new_type-leaves shown.theory theory name outcome ∙ ap (λ e. added_by e ++ shown.theory) (sym entry_is))
+    (leaves.is ∙ ap (λ e. added_by e ++ shown.theory) (sym entry_is))
     (pushed ∙ ap (λ l. l ++ entry ∷ []) reserved)
-    (λ step sequent same. absurd (no_theorem_of_type name step sequent (sym entry_is ∙ same)))
+    (subst (IsNextEntry shown) (sym entry_is) next)
 
 pub constant-stored : (shown : Journal) (theory : Theory) (stored mid items : List Entry) (entry : Entry) (name : List ℕ) (ty : HolType)
     → IsJournal shown → shown.entries ≡ entries_of stored → mid ≡ stored → items ≡ mid ++ entry ∷ []
-    → new_const_outcome shown.theory name ty ≡ Ok theory → entry_of entry ≡ declared_constant name ty → IsJournal (record { theory = theory; entries = entries_of items })
-constant-stored shown theory stored mid items entry name ty is listed reserved pushed outcome entry_is =
+    → new_const_outcome shown.theory name ty ≡ Ok theory → type_fits ty ≡ true → entry_of entry ≡ declared_constant name ty
+    → IsJournal (record { theory = theory; entries = entries_of items })
+constant-stored shown theory stored mid items entry name ty is listed reserved pushed outcome fits entry_is =
+    let leaves = new_const-leaves shown.theory theory name ty is.legal outcome in
+    let next : IsNextEntry shown (declared_constant name ty) = record { legal = leaves.legal; within_limit = leaves.within_limit; follows = fits } in
     journal-stored shown theory stored items entry is listed
-    (new_const-leaves shown.theory theory name ty outcome ∙ ap (λ e. added_by e ++ shown.theory) (sym entry_is))
+    (leaves.is ∙ ap (λ e. added_by e ++ shown.theory) (sym entry_is))
     (pushed ∙ ap (λ l. l ++ entry ∷ []) reserved)
-    (λ step sequent same. absurd (no_theorem_of_constant name ty step sequent (sym entry_is ∙ same)))
+    (subst (IsNextEntry shown) (sym entry_is) next)

@@ -1,13 +1,17 @@
 -- What a recorder stands for, and what its calls add.
-use Rattle.std.specs.Prelude.{◌≡◌, ℕ, List, [], ◌∷◌, ◌++◌, Some, Result, Ok, Err, length, slice_get}
+use Rattle.std.specs.Prelude.{◌≡◌, ℕ, List, [], ◌∷◌, ◌++◌, true, Some, Result, Ok, Err, length, slice_get, nat_le}
 use Rattle.hol_model.specs.declared.fault.Fault.{Fault}
+use Rattle.hol_model.specs.declared.limits.TheConstants.{DEFINITIONS_LIMIT}
+use Rattle.hol_model.specs.HolType.{HolType}
+use Rattle.hol_model.specs.NamedTerm.{NamedTerm, type_of, type_fits, is_within_limits}
+use Rattle.hol_model.specs.KnownTerm.{knows_type, is_known}
 use Rattle.hol_model.specs.Nameless.{image}
 use Rattle.hol_model.specs.Legality.{own_type}
-use Rattle.hol_model.specs.Theory.{Theory, definition, declaration_of_type, declaration_of_constant, IsEarlier}
+use Rattle.hol_model.specs.Theory.{Theory, definition, declaration_of_type, declaration_of_constant, IsEarlier, IsLegal}
 use Rattle.hol_model.specs.Theorem.{Theorem}
 use Rattle.hol_model.specs.Derivable.{IsMember}
 use Rattle.hol_model.specs.Goals.{Sequent}
-use Rattle.hol_journal.specs.Steps.{Step, by_definition, JournalEntry, derived, declared_type, declared_constant, sequent_of_theorem, entries_of}
+use Rattle.hol_journal.specs.Steps.{Step, by_definition, JournalEntry, derived, declared_type, declared_constant, sequent_of_theorem, terms_of, types_of, entries_of}
 use Rattle.hol_journal.specs.Lines.{Gives}
 
 -- a theory, and the entries of the journal with the oldest first
@@ -41,16 +45,43 @@ pub record HasTheorem (entries : List JournalEntry) (number : ℕ) : Type 0 wher
   pub sequent : Sequent
   pub there : slice_get entries number ≡ Some (derived step sequent)
 
--- the step cites theorems of the entries, and over the theory that they make a log gives the sequent for its line
+-- the theory knows the term, which has a type and is within the limits
+pub record IsKnownWithin (theory : Theory) (term : NamedTerm) : Type 0 where
+  pub ty : HolType
+  pub typed : type_of term ≡ Some ty
+  pub known : is_known theory term ≡ true
+  pub within_limits : is_within_limits term ≡ true
+
+-- the theory knows the type, which is within the limit
+pub record IsKnownTypeWithin (theory : Theory) (ty : HolType) : Type 0 where
+  pub known : knows_type theory ty ≡ true
+  pub fits : type_fits ty ≡ true
+
+-- the theory knows the terms and the types that the step names
+pub record KnowsParts (theory : Theory) (step : Step) : Type 0 where
+  pub terms : (term : NamedTerm) → IsMember term (terms_of step) → IsKnownWithin theory term
+  pub types : (ty : HolType) → IsMember ty (types_of step) → IsKnownTypeWithin theory ty
+
+-- the step cites theorems of the entries, and over the theory that they make its terms and types are known and a log
+-- gives the sequent for its line
 pub record Follows (entries : List JournalEntry) (step : Step) (sequent : Sequent) : Type 0 where
   pub cites : (number : ℕ) → IsMember number (entries_of step) → HasTheorem entries number
+  pub knows : KnowsParts (theory_of entries) step
   pub gives : Gives (theory_of entries) entries step sequent
 
--- the theory is that which the entries make, and each theorem's entry follows from those before it
+-- what holds of an entry that stands behind these
+abbrev pub IsEntryAfter : List JournalEntry → JournalEntry → Type 0
+IsEntryAfter before (derived step sequent) = Follows before step sequent
+IsEntryAfter before (declared_type name) = Unit {0}
+IsEntryAfter before (declared_constant name ty) = type_fits ty ≡ true
+
+-- the theory is that which the entries make, it is legal and within the limit, and each theorem's entry follows from
+-- those before it
 pub record IsJournal (journal : Journal) : Type 0 where
   pub theory : journal.theory ≡ theory_of journal.entries
-  pub follows : (before : List JournalEntry) (step : Step) (sequent : Sequent) (after : List JournalEntry)
-      → journal.entries ≡ before ++ derived step sequent ∷ after → Follows before step sequent
+  pub legal : IsLegal journal.theory
+  pub within_limit : nat_le (length journal.theory) DEFINITIONS_LIMIT ≡ true
+  pub entries_follow : (before : List JournalEntry) (entry : JournalEntry) (after : List JournalEntry) → journal.entries ≡ before ++ entry ∷ after → IsEntryAfter before entry
 
 -- the recorder made the theorem
 pub record IsMade (journal : Journal) (made : Recorded) : Type 0 where

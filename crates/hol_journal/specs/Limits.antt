@@ -1,6 +1,7 @@
--- Sequents within the limits.
-use Rattle.std.specs.Prelude.{◌≡◌, Bool, true}
-use Rattle.hol_model.specs.NamedTerm.{NamedTerm}
+-- Sequents and replacements within the limits.
+use Rattle.std.specs.Prelude.{◌≡◌, Bool, true, ◌&&◌}
+use Rattle.hol_model.specs.HolType.{HolType}
+use Rattle.hol_model.specs.NamedTerm.{NamedTerm, type_fits, is_within_limits}
 use Rattle.hol_model.specs.Nameless.{image}
 use Rattle.hol_model.specs.Measures.{nameless_within_limits}
 use Rattle.hol_model.specs.Theorem.{Theorem}
@@ -14,3 +15,11 @@ fits_log term = nameless_within_limits (image term)
 -- the images of the theorem's terms are within the limits
 abbrev pub FitsLog : Theorem → Type 0
 FitsLog theorem = sequent_fits (sequent_of_theorem theorem) ≡ true
+
+-- both terms, both types of a replacement are within the limits
+
+abbrev pub pair_fits : NamedTerm × NamedTerm → Bool
+pair_fits pair = is_within_limits pair.0 && is_within_limits pair.1
+
+abbrev pub type_pair_fits : HolType × HolType → Bool
+type_pair_fits pair = type_fits pair.0 && type_fits pair.1

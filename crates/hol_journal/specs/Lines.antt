@@ -18,30 +18,30 @@ use Rattle.hol_journal.specs.Steps.{Step, by_refl, by_trans, by_mk_comb, by_abs,
 -- the numbers that types, terms and the theorems of entries have in a log
 pub record Numbering : Type 0 where
   pub of_type : HolType → ℕ
-  pub of_term : Nameless → ℕ
+  pub of_term : NamedTerm → ℕ
   pub of_entry : ℕ → ℕ
 
 abbrev pub term_pair : Numbering → NamedTerm × NamedTerm → ℕ × ℕ
-term_pair numbers pair = (numbers.of_term (image pair.0), numbers.of_term (image pair.1))
+term_pair numbers pair = (numbers.of_term pair.0, numbers.of_term pair.1)
 
 abbrev pub type_pair : Numbering → HolType × HolType → ℕ × ℕ
 type_pair numbers pair = (numbers.of_type pair.0, numbers.of_type pair.1)
 
 -- the line of a step
 abbrev pub line_of : Numbering → Step → LogRule
-line_of numbers (by_refl term) = refl_step (numbers.of_term (image term))
+line_of numbers (by_refl term) = refl_step (numbers.of_term term)
 line_of numbers (by_trans first second) = trans_step (numbers.of_entry first) (numbers.of_entry second)
 line_of numbers (by_mk_comb first second) = mk_comb_step (numbers.of_entry first) (numbers.of_entry second)
-line_of numbers (by_abs binder theorem) = abs_step (numbers.of_term (image binder)) (numbers.of_entry theorem)
-line_of numbers (by_beta term) = beta_step (numbers.of_term (image term))
-line_of numbers (by_assume term) = assume_step (numbers.of_term (image term))
+line_of numbers (by_abs binder theorem) = abs_step (numbers.of_term binder) (numbers.of_entry theorem)
+line_of numbers (by_beta term) = beta_step (numbers.of_term term)
+line_of numbers (by_assume term) = assume_step (numbers.of_term term)
 line_of numbers (by_eq_mp first second) = eq_mp_step (numbers.of_entry first) (numbers.of_entry second)
 line_of numbers (by_deduct first second) = deduct_step (numbers.of_entry first) (numbers.of_entry second)
 line_of numbers (by_inst theorem pairs) = inst_step (numbers.of_entry theorem) (map (term_pair numbers) pairs)
 line_of numbers (by_inst_type theorem pairs) = inst_type_step (numbers.of_entry theorem) (map (type_pair numbers) pairs)
 line_of numbers by_eta = eta_step
 line_of numbers by_select = select_step
-line_of numbers (by_definition name term) = definition_step name (numbers.of_term (image term))
+line_of numbers (by_definition name term) = definition_step name (numbers.of_term term)
 
 -- the number names a type, a term, a sequent
 
@@ -60,7 +60,7 @@ pub record NamesTheorem (state : LogState) (number : ℕ) (sequent : Sequent) : 
 -- the numbers name what the step names
 pub record NamesParts (entries : List JournalEntry) (step : Step) (state : LogState) (numbers : Numbering) : Type 0 where
   pub types : (ty : HolType) → IsMember ty (types_of step) → NamesType state (numbers.of_type ty) ty
-  pub terms : (term : NamedTerm) → IsMember term (terms_of step) → NamesTerm state (numbers.of_term (image term)) (image term)
+  pub terms : (term : NamedTerm) → IsMember term (terms_of step) → NamesTerm state (numbers.of_term term) (image term)
   pub theorems : (entry : ℕ) → IsMember entry (entries_of step) → NamesTheorem state (numbers.of_entry entry) (sequent_at entries entry)
 
 -- the log goes on, and its theory has no name and no entry that the theory lacks

@@ -1,12 +1,16 @@
-// Theorems within the limits. Nothing is computed here: the clauses are laws, for callers' proofs.
+// Theorems and replacements within the limits. Nothing is computed here: the clauses are laws, for callers' proofs.
 ghost use Rattle.std.specs.Prelude.{◌≡◌, true};
 ghost use Rattle.std.specs.List.{list_all};
 ghost use Rattle.hol_model.specs.Nameless.{image};
 ghost use Rattle.hol_model.specs.Measures.{nameless_within_limits};
-ghost use Rattle.hol_journal.specs.Limits.{fits_log, FitsLog};
+ghost use Rattle.hol_model.specs.NamedTerm.{type_fits};
+ghost use Rattle.hol_journal.specs.Limits.{fits_log, FitsLog, pair_fits, type_pair_fits};
+ghost use Rattle.hol_model.specs.NamedTerm.{is_within_limits};
+ghost use Rattle.hol_journal.specs.Pruning.{IsFitting};
 
 use hol_kernel::Thm;
 use hol_terms::Term;
+use hol_types::Ty;
 
 // A theorem's terms are within the limits.
 pub(crate) fn within_limits(theorem: &Thm)
@@ -29,4 +33,49 @@ fn term_fits(term: &Term)
 {
     let _type = term.ty();
     term.well_formed();
+}
+
+// The terms of replacements are within the limits.
+pub(crate) fn pairs_fit(pairs: &[(Term, Term)])
+    ensures { list_all pair_fits pairs.now ≡ true }
+{
+    for pair in pairs {
+        pair.0.well_formed();
+        pair.1.well_formed();
+    }
+}
+
+// The types of replacements are within the limit.
+pub(crate) fn type_pairs_fit(pairs: &[(Ty, Ty)])
+    ensures { list_all type_pair_fits pairs.now ≡ true }
+{
+    for pair in pairs {
+        type_fit(&pair.0);
+        type_fit(&pair.1);
+    }
+}
+
+// A type is within the limit.
+pub(crate) fn type_fit(ty: &Ty)
+    ensures { type_fits ty.now ≡ true }
+{
+    let _nodes = ty.nodes();
+}
+
+// A theorem's terms are formulas within the limits.
+pub(crate) fn formulas_fit(theorem: &Thm)
+    ensures { IsFitting theorem.now }
+{
+    let conclusion = theorem.concl();
+    conclusion.well_formed();
+    let hypotheses = theorem.hyps();
+    all_within_limits(hypotheses);
+}
+
+fn all_within_limits(terms: &[Term])
+    ensures { list_all is_within_limits terms.now ≡ true }
+{
+    for term in terms {
+        term.well_formed();
+    }
 }

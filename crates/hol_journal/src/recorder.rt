@@ -8,12 +8,12 @@ ghost use Rattle.hol_kernel.specs.Leaving.{leaving};
 ghost use Rattle.hol_model.specs.declared.fault.Fault.TheVariants.{Memory};
 ghost use Rattle.hol_journal.specs.Steps as steps;
 ghost use Rattle.hol_journal.specs.Steps.{sequent_of_theorem};
-ghost use Rattle.hol_journal.specs.Journal.{IsMade, IsRecorded, Follows, theorem_in};
+ghost use Rattle.hol_journal.specs.Journal.{IsJournal, IsMade, IsRecorded, Follows, theorem_in};
 ghost use Rattle.hol_journal.specs.Growth.{IsGrown};
-ghost use Rattle.hol_journal.specs.Views.{step_of};
+ghost use Rattle.hol_journal.specs.Views.{step_of, entries_of};
 
 use crate::entry::{Entry, Rule};
-use crate::limits::within_limits;
+use crate::limits::{pairs_fit, type_fit, type_pairs_fit, within_limits};
 use hol_kernel::{Theory, Thm};
 use hol_model::Fault;
 use hol_terms::Term;
@@ -63,6 +63,33 @@ impl Model for Rec {
     ghost view = { viewed_rec };
 }
 
+impl Rec {
+    /// The theorem.
+    pub(crate) fn theorem(&self) -> &Thm
+        ensures { result.now ≡ self.now.theorem }
+    {
+        &self.theorem
+    }
+
+    /// The number of the entry.
+    pub(crate) fn entry(&self) -> usize
+        ensures { result ≡ self.now.entry }
+    {
+        self.entry
+    }
+
+    /// The same theorem, with the number of the same entry.
+    pub fn copy(&self, alloc: Global) -> Result<Rec, Fault>
+        ensures ok { IfOk result (λ made. made ≡ self.now) }
+        ensures err { IfErr result (λ fault. fault ≡ Memory) }
+    {
+        Ok(Rec {
+            theorem: self.theorem.copy(alloc)?,
+            entry: self.entry,
+        })
+    }
+}
+
 impl Recorder {
     /// The recorder without entries, over the theory without definitions.
     pub fn new(alloc: Global) -> Result<Recorder, Fault>
@@ -80,6 +107,14 @@ impl Recorder {
         ensures { result ≡ length self.now.entries }
     {
         self.entries.len()
+    }
+
+    /// The entries.
+    pub(crate) fn stored(&self) -> &[Entry]
+        ensures value { entries_of result.now ≡ self.now.entries }
+        ensures journal { IsJournal self.now }
+    {
+        &self.entries
     }
 
     /// The theorem.
@@ -125,6 +160,7 @@ impl Recorder {
             Err(fault) => return Err(fault),
         };
         within_limits(&theorem);
+        term.well_formed();
         let _type = term.ty();
         let rule = Rule::Refl(term.copy(alloc)?);
         self.record(alloc, rule, theorem)
@@ -141,6 +177,7 @@ impl Recorder {
             Err(fault) => return Err(fault),
         };
         within_limits(&theorem);
+        term.well_formed();
         let _type = term.ty();
         let rule = Rule::Assume(term.copy(alloc)?);
         self.record(alloc, rule, theorem)
@@ -157,6 +194,7 @@ impl Recorder {
             Err(fault) => return Err(fault),
         };
         within_limits(&theorem);
+        term.well_formed();
         let _type = term.ty();
         let rule = Rule::Beta(term.copy(alloc)?);
         self.record(alloc, rule, theorem)
@@ -253,6 +291,7 @@ impl Recorder {
             Err(fault) => return Err(fault),
         };
         within_limits(&answer);
+        binder.well_formed();
         let _theorem = theorem.theorem.concl();
         let rule = Rule::Abs(binder.copy(alloc)?, theorem.entry);
         self.record(alloc, rule, answer)
@@ -275,6 +314,7 @@ impl Recorder {
             Err(fault) => return Err(fault),
         };
         within_limits(&answer);
+        pairs_fit(theta);
         let _theorem = theorem.theorem.concl();
         let rule = Rule::Inst(theorem.entry, copied_terms(alloc, theta)?);
         self.record(alloc, rule, answer)
@@ -297,6 +337,7 @@ impl Recorder {
             Err(fault) => return Err(fault),
         };
         within_limits(&answer);
+        type_pairs_fit(theta);
         let _theorem = theorem.theorem.concl();
         let rule = Rule::InstType(theorem.entry, copied_types(alloc, theta)?);
         self.record(alloc, rule, answer)
@@ -343,6 +384,7 @@ impl Recorder {
             return Err(Fault::Memory);
         }
         let number = self.entries.len();
+        term.well_formed();
         let _type = term.ty();
         let theorem = match self.theory.define(alloc, name, term) {
             Ok(theorem) => theorem,
@@ -389,6 +431,7 @@ impl Recorder {
         if self.entries.reserve(1).is_err() {
             return Err(Fault::Memory);
         }
+        type_fit(ty);
         match self.theory.new_const(alloc, name, ty) {
             Ok(()) => {}
             Err(fault) => return Err(fault),

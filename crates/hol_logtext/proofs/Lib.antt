@@ -4,5 +4,8 @@ pub mod ListLemmas
 pub mod ArgumentLemmas
 pub mod JoinLemmas
 pub mod LineLemmas
+pub mod LogLemmas
+pub mod AcceptedLemmas
+mod LogTextLemmas
 pub mod WriteLemmas
 pub mod SmallLogs

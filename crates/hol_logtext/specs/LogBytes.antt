@@ -1,8 +1,10 @@
 -- The bytes of a whole proof log.
-use Rattle.std.specs.Prelude.{ℕ, List, [], ◌∷◌, Option, Some, None}
+use Rattle.std.specs.Prelude.{ℕ, List, [], ◌∷◌, ◌++◌, map, Option, Some, None}
+use Rattle.hol_model.specs.LogLine.{LogLine}
 use Rattle.hol_model.specs.LogText.{ReadLine, LogText}
 use Rattle.hol_logtext.specs.Fields.{split_on, line_feed}
 use Rattle.hol_logtext.specs.LineReading.{read_text}
+use Rattle.hol_logtext.specs.LineText.{line_bytes}
 
 -- what follows the last line feed
 abbrev pub last_part : List ℕ → Option ReadLine
@@ -20,3 +22,12 @@ lines_of_parts (part ∷ next ∷ more) = with_line (read_text part) (lines_of_p
 
 abbrev pub log_text : List ℕ → LogText
 log_text bytes = lines_of_parts (split_on line_feed bytes)
+
+-- the bytes of lines, one after another
+abbrev pub bytes_of_lines : List LogLine → List ℕ
+bytes_of_lines [] = []
+bytes_of_lines (line ∷ lines) = line_bytes line ++ bytes_of_lines lines
+
+-- these lines, and nothing behind them
+abbrev pub text_of_lines : List LogLine → LogText
+text_of_lines lines = record { lines = map Some lines; rest = None }

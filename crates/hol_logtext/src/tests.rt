@@ -1,5 +1,5 @@
 // Lines and their texts, with expected values by hand.
-use crate::{Line, Rule, Version, read_line, read_name, read_number, write_line};
+use crate::{Line, Rule, Version, read_line, read_name, read_number, text_of_lines, write_line};
 use hol_model::Cause;
 use std::alloc::{AllocError, Global};
 use std::test::Fail;
@@ -208,6 +208,15 @@ fn writes_a_definition(rt: HostRuntime) -> Result<(), Fail> {
     write_line(&Line::Header(Version::Second), &mut out)?;
     write_line(&Line::Theorem(Rule::Def("T", 30)), &mut out)?;
     assert!(rt; out.as_slice() == b"holp-log 2\nk DEF T 30\n".as_slice());
+    Ok(())
+}
+
+// The least log.
+#[test]
+fn writes_lines(rt: HostRuntime) -> Result<(), Fail> {
+    let lines = [Line::Header(Version::First), Line::End(0)];
+    let text = text_of_lines(rt.alloc(), lines.as_slice())?;
+    assert!(rt; text.as_slice() == b"holp-log 1\nend 0\n".as_slice());
     Ok(())
 }
 

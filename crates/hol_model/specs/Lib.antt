@@ -19,6 +19,7 @@ pub mod Holds
 pub mod Order
 pub mod Goals
 pub mod Logic
+pub mod NamedLogic
 pub mod Checks
 pub mod Outcome
 pub mod Theorem
@@ -26,6 +27,7 @@ pub mod TheoremCode
 pub mod Rules
 pub mod Constructors
 pub mod Instantiation
+pub mod DerivedRules
 pub mod NamedAxioms
 pub mod Token
 pub mod Lexing

@@ -11,7 +11,7 @@ use Rattle.hol_model.specs.Name.{is_constant_name, is_declared_type_name}
 use Rattle.hol_model.specs.HolType.{HolType}
 use Rattle.hol_model.specs.NamedTerm.{NamedTerm, constant, type_of, equation, is_within_limits}
 use Rattle.hol_model.specs.Nameless.{image}
-use Rattle.hol_model.specs.Theory.{Theory, Entry, definition, declaration_of_type, declaration_of_constant, generic_type, IsEarlier, IsLegal, IsLegalType, IsLegalConstant}
+use Rattle.hol_model.specs.Theory.{Theory, definition, declaration_of_type, declaration_of_constant, generic_type, IsLegal, IsLegalType, IsLegalConstant}
 use Rattle.hol_model.specs.KnownTerm.{is_declared, knows_type}
 use Rattle.hol_model.specs.Legality.{is_closed, reflects, is_fixed, is_new_name, own_type}
 use Rattle.hol_model.specs.Outcome.{Answers, unless, refused}
@@ -33,10 +33,13 @@ use Rattle.hol_syntax.specs.declared.scope.Scope.{Scope as ScopeHere}
 use Rattle.hol_syntax.specs.Scope.{scope_of, SetsConstant, SetsVariable, SetsType, KeepsScope}
 use Rattle.hol_script.specs.declared.session.Session.{Session}
 use Rattle.hol_script.specs.declared.session.Printed.TheVariants.{Line}
-use Rattle.hol_script.specs.SessionState.{state_of, IsSession}
+use Rattle.hol_journal.specs.Journal.{Journal, IsMade}
+use Rattle.hol_journal.specs.Growth.{IsGrown, JournalsGrow}
+use Rattle.hol_script.specs.SessionState.{state_of, theorem_of, IsSession}
 use Rattle.hol_script.specs.Growth.{IsRefused, LeavesNone, MakesEquation, Defines, KeepsSession}
 use Rattle.hol_script.specs.Answers.{Turns}
 use Rattle.hol_script.proofs.RuleLemmas.{proved, same_is_earlier}
+use Rattle.hol_script.proofs.RecordingLemmas.{still_made, stored_made, stored_theorem}
 use Rattle.hol_script.proofs.SessionLemmas.{scope_same, prints}
 
 -- ---- tests of outcomes
@@ -182,6 +185,15 @@ pub definition-accepted : (theory : Theory) (name : List ℕ) (term : NamedTerm)
     → theorem.theory ≡ definition name (own_type term) (image term) ∷ theory
 definition-accepted theory name term theorem same = ap (λ (t : Theorem). t.theory) (definition-theorem theory name term theorem same)
 
+-- its name was new
+pub definition-was_new : (theory : Theory) (name : List ℕ) (term : NamedTerm) (theorem : Theorem) → define_outcome theory name term ≡ Ok theorem → is_new_name theory name ≡ true
+definition-was_new theory name term theorem same =
+    let known = passed (is_constant_name name) BadName (of_known theory name term) theorem same in
+    let closed = not_refused (first_unknown theory term) (of_closed theory name term) theorem known.1 in
+    let reflecting = passed (is_closed term) NotClosed (of_reflecting theory name term) theorem closed.1 in
+    let new_name = passed (reflects (own_type term) term) TypeVarsNotReflected (of_new_name theory name term) theorem reflecting.1 in
+    (passed (is_new_name theory name) AlreadyDefined (with_room theory name term) theorem new_name.1).0
+
 -- its line
 pub definition-line : (theory : Theory) (scope : Scope) (name stored : List ℕ) (term : NamedTerm) (theorem : Theorem) → define_outcome theory name term ≡ Ok theorem → stored ≡ definition_name name
     → theorem_line scope stored (record { theory = []; hypotheses = []; conclusion = equation (constant name (own_type term)) term }) ≡ theorem_line scope (definition_name name) theorem
@@ -268,31 +280,27 @@ const-legal theory new name ty legal accepted =
     } in
     subst IsLegal (sym accepted.grown) (entry, legal)
 
--- an earlier theory stays one
-still_earlier : (theory new earlier : Theory) (entry : Entry) → new ≡ entry ∷ theory → IsEarlier earlier theory → IsEarlier earlier new
-still_earlier theory new earlier entry grown e = record { added = entry ∷ e.added; is_added = grown ∙ ap (λ (l : Theory). entry ∷ l) e.is_added }
-
 -- ---- sessions
 
--- the session with another theory and another scope
-abbrev pub made : Session → Theory → ScopeHere → Session
-made session theory scope = record session { theory = theory; scope = scope }
+-- the session with another journal and another scope
+abbrev pub made : Session → Journal → ScopeHere → Session
+made session recorder scope = record session { recorder = recorder; scope = scope }
 
 abbrev pub with_scope : Session → ScopeHere → Session
 with_scope session scope = record session { scope = scope }
 
--- a session with the theory, the names and the theorems of before
-pub kept_state : (old new : Session) → new.theory ≡ old.theory → KeepsScope (scope_of old.scope) (scope_of new.scope) → ((name : List ℕ) → get_by_text new.theorems name ≡ get_by_text old.theorems name)
+-- a session with the journal, the names and the theorems of before
+pub kept_state : (old new : Session) → new.recorder ≡ old.recorder → KeepsScope (scope_of old.scope) (scope_of new.scope) → ((name : List ℕ) → get_by_text new.theorems name ≡ get_by_text old.theorems name)
     → state_of new ≡ state_of old
-kept_state old new same keeps stored = λ i. record { theory = same i; variables = λ name. keeps.variables name i; theorems = λ name. stored name i }
+kept_state old new same keeps stored = λ i. record { theory = (same i).theory; variables = λ name. keeps.variables name i; theorems = λ name. theorem_of (stored name i) }
 
-pub kept_session : (old new : Session) → IsSession old → new.theory ≡ old.theory → KeepsScope (scope_of old.scope) (scope_of new.scope) → ((name : List ℕ) → get_by_text new.theorems name ≡ get_by_text old.theorems name)
+pub kept_session : (old new : Session) → IsSession old → new.recorder ≡ old.recorder → KeepsScope (scope_of old.scope) (scope_of new.scope) → ((name : List ℕ) → get_by_text new.theorems name ≡ get_by_text old.theorems name)
     → IsSession new
 kept_session old new known same keeps stored = record {
-  legal = subst IsLegal (sym same) known.legal;
-  constants = λ name. keeps.constants name ∙ known.constants name ∙ ap (λ (t : Theory). generic_type t name) (sym same);
-  types = λ name. keeps.types name ∙ known.types name ∙ ap (λ (t : Theory). is_declared t name) (sym same);
-  earlier = λ name theorem found. subst (λ (t : Theory). IsEarlier theorem.theory t) (sym same) (known.earlier name theorem (sym (stored name) ∙ found));
+  legal = subst (λ (j : Journal). IsLegal j.theory) (sym same) known.legal;
+  constants = λ name. keeps.constants name ∙ known.constants name ∙ ap (λ (j : Journal). generic_type j.theory name) (sym same);
+  types = λ name. keeps.types name ∙ known.types name ∙ ap (λ (j : Journal). is_declared j.theory name) (sym same);
+  made = λ name answer found. subst (λ (j : Journal). IsMade j answer) (sym same) (known.made name answer (sym (stored name) ∙ found));
 }
 
 -- a scope from which a name was taken that was put in before
@@ -309,7 +317,7 @@ const_removed old mid new name ty added removed none = record {
 
 -- the same where a definition was refused in between
 pub removed_after : (old : Session) (mid : ScopeHere) (after : Session) (new : ScopeHere) (name : List ℕ) (ty : HolType) → SetsConstant (scope_of old.scope) (scope_of mid) name (Some ty)
-    → KeepsSession (made old old.theory mid) after → SetsConstant (scope_of after.scope) (scope_of new) name None → (scope_of old.scope).generic_type name ≡ None → KeepsScope (scope_of old.scope) (scope_of new)
+    → KeepsSession (made old old.recorder mid) after → SetsConstant (scope_of after.scope) (scope_of new) name None → (scope_of old.scope).generic_type name ≡ None → KeepsScope (scope_of old.scope) (scope_of new)
 removed_after old mid after new name ty added keeps removed none =
     const_removed (scope_of old.scope) (scope_of mid) (scope_of new) name ty added
     (subst (λ (s : ScopeHere). SetsConstant (scope_of s) (scope_of new) name None) keeps.scope removed) none
@@ -340,52 +348,54 @@ not_some (Some x) none = absurd (none refl)
 -- ---- variables
 
 pub var_state : (old : Session) (scope : ScopeHere) (name : List ℕ) (ty : HolType) → SetsVariable (scope_of old.scope) (scope_of scope) name ty
-    → state_of (made old old.theory scope) ≡ with_variable (state_of old) name ty
-var_state old scope name ty sets = λ i. record { theory = old.theory; variables = λ other. sets.variables other i; theorems = get_by_text old.theorems }
+    → state_of (made old old.recorder scope) ≡ with_variable (state_of old) name ty
+var_state old scope name ty sets = λ i. record { theory = old.recorder.theory; variables = λ other. sets.variables other i; theorems = λ other. theorem_of (get_by_text old.theorems other) }
 
 pub var_session : (old : Session) (scope : ScopeHere) (name : List ℕ) (ty : HolType) → IsSession old → SetsVariable (scope_of old.scope) (scope_of scope) name ty
-    → IsSession (made old old.theory scope)
+    → IsSession (made old old.recorder scope)
 var_session old scope name ty known sets = record {
   legal = known.legal;
   constants = λ other. sets.constants other ∙ known.constants other;
   types = λ other. sets.types other ∙ known.types other;
-  earlier = known.earlier;
+  made = known.made;
 }
 
 -- ---- declared types
 
-pub grown_state : (old : Session) (theory : Theory) (scope : ScopeHere) → ((name : List ℕ) → (scope_of scope).variable_type name ≡ (scope_of old.scope).variable_type name)
-    → state_of (made old theory scope) ≡ over_theory (state_of old) theory
-grown_state old theory scope same = λ i. record { theory = theory; variables = λ name. same name i; theorems = get_by_text old.theorems }
+pub grown_state : (old : Session) (grown : Journal) (scope : ScopeHere) → ((name : List ℕ) → (scope_of scope).variable_type name ≡ (scope_of old.scope).variable_type name)
+    → state_of (made old grown scope) ≡ over_theory (state_of old) grown.theory
+grown_state old grown scope same = λ i. record { theory = grown.theory; variables = λ name. same name i; theorems = λ name. theorem_of (get_by_text old.theorems name) }
 
 either : (test known : Bool) → cond test true known ≡ (test || known)
 either true known = refl
 either false known = refl
 
-pub type_session : (old : Session) (theory : Theory) (scope : ScopeHere) (name : List ℕ) → IsSession old → SetsType (scope_of old.scope) (scope_of scope) name true
-    → new_type_outcome old.theory name ≡ Ok theory → IsSession (made old theory scope)
-type_session old theory scope name known sets outcome =
-    let accepted = type-accepted old.theory theory name outcome in
+pub type_session : (old : Session) (grown : Journal) (scope : ScopeHere) (name : List ℕ) → JournalsGrow → IsSession old → SetsType (scope_of old.scope) (scope_of scope) name true
+    → new_type_outcome old.recorder.theory name ≡ Ok grown.theory → IsGrown old.recorder grown → IsSession (made old grown scope)
+type_session old grown scope name grow known sets outcome is_grown =
+    let theory = old.recorder.theory in
+    let accepted = type-accepted theory grown.theory name outcome in
     record {
-      legal = type-legal old.theory theory name known.legal accepted;
+      legal = type-legal theory grown.theory name known.legal accepted;
       constants = λ other. sets.constants other ∙ known.constants other ∙ ap (λ (t : Theory). generic_type t other) (sym accepted.grown);
-      types = λ other. sets.types other ∙ ap (λ (b : Bool). cond (bytes_eq name other) true b) (known.types other) ∙ either (bytes_eq name other) (is_declared old.theory other)
+      types = λ other. sets.types other ∙ ap (λ (b : Bool). cond (bytes_eq name other) true b) (known.types other) ∙ either (bytes_eq name other) (is_declared theory other)
           ∙ ap (λ (t : Theory). is_declared t other) (sym accepted.grown);
-      earlier = λ other theorem found. still_earlier old.theory theory theorem.theory (declaration_of_type name) accepted.grown (known.earlier other theorem found);
+      made = still_made old.recorder grown (get_by_text old.theorems) grow is_grown known.made;
     }
 
 -- ---- declared constants
 
-pub const_session : (old : Session) (theory : Theory) (scope : ScopeHere) (name : List ℕ) (ty : HolType) → IsSession old → SetsConstant (scope_of old.scope) (scope_of scope) name (Some ty)
-    → new_const_outcome old.theory name ty ≡ Ok theory → IsSession (made old theory scope)
-const_session old theory scope name ty known sets outcome =
-    let accepted = const-accepted old.theory theory name ty outcome in
+pub const_session : (old : Session) (grown : Journal) (scope : ScopeHere) (name : List ℕ) (ty : HolType) → JournalsGrow → IsSession old → SetsConstant (scope_of old.scope) (scope_of scope) name (Some ty)
+    → new_const_outcome old.recorder.theory name ty ≡ Ok grown.theory → IsGrown old.recorder grown → IsSession (made old grown scope)
+const_session old grown scope name ty grow known sets outcome is_grown =
+    let theory = old.recorder.theory in
+    let accepted = const-accepted theory grown.theory name ty outcome in
     record {
-      legal = const-legal old.theory theory name ty known.legal accepted;
+      legal = const-legal theory grown.theory name ty known.legal accepted;
       constants = λ other. sets.constants other ∙ ap (λ (g : Option HolType). cond (bytes_eq name other) (Some ty) g) (known.constants other)
           ∙ ap (λ (t : Theory). generic_type t other) (sym accepted.grown);
       types = λ other. sets.types other ∙ known.types other ∙ ap (λ (t : Theory). is_declared t other) (sym accepted.grown);
-      earlier = λ other theorem found. still_earlier old.theory theory theorem.theory (declaration_of_constant name ty) accepted.grown (known.earlier other theorem found);
+      made = still_made old.recorder grown (get_by_text old.theorems) grow is_grown known.made;
     }
 
 pub newconst_outcome-is : (state : State) (name : List ℕ) (tree : TypeTree) (ty : HolType) → type_meaning (scope_in state) tree ≡ Ok ty
@@ -407,45 +417,41 @@ def-argument_refused state name tree fault meant = ap (λ (r : Result NamedTerm 
 
 -- the session of a definition: the old one, the scope with the constant, and what `define` made of them
 module _ (old new : Session) (scope : ScopeHere) (name : List ℕ) (term : NamedTerm) (ty : HolType) (line : List ℕ) where
-  pub def_session : IsSession old → type_of term ≡ Some ty → SetsConstant (scope_of old.scope) (scope_of scope) name (Some ty) → Defines (made old old.theory scope) new name term line → IsSession new
-  def_session known typed sets d =
-      let grown : d.theorem.theory ≡ definition name (own_type term) (image term) ∷ old.theory = definition-accepted old.theory name term d.theorem d.outcome in
+  pub def_session : JournalsGrow → IsSession old → type_of term ≡ Some ty → SetsConstant (scope_of old.scope) (scope_of scope) name (Some ty) → Defines (made old old.recorder scope) new name term line → IsSession new
+  def_session grow known typed sets d =
+      let theory = old.recorder.theory in
+      let grown : d.answer.theorem.theory ≡ definition name (own_type term) (image term) ∷ theory = definition-accepted theory name term d.answer.theorem d.outcome in
       let own : own_type term ≡ ty = rw typed refl in
-      let whole : new.theory ≡ definition name (own_type term) (image term) ∷ old.theory = d.theory ∙ grown in
+      let whole : new.recorder.theory ≡ definition name (own_type term) (image term) ∷ theory = d.theory ∙ grown in
       record {
         legal = subst IsLegal (sym d.theory) d.is_theorem.legal;
         constants = λ other. ap (λ (s : ScopeHere). (scope_of s).generic_type other) d.scope ∙ sets.constants other
             ∙ ap (λ (g : Option HolType). cond (bytes_eq name other) (Some ty) g) (known.constants other)
-            ∙ ap (λ (t : HolType). cond (bytes_eq name other) (Some t) (generic_type old.theory other)) (sym own)
+            ∙ ap (λ (t : HolType). cond (bytes_eq name other) (Some t) (generic_type theory other)) (sym own)
             ∙ ap (λ (t : Theory). generic_type t other) (sym whole);
         types = λ other. ap (λ (s : ScopeHere). (scope_of s).declares_type other) d.scope ∙ sets.types other ∙ known.types other ∙ ap (λ (t : Theory). is_declared t other) (sym whole);
-        earlier = λ other found is. go other found whole (bytes_eq (definition_name name) other) (sym (d.stored other) ∙ is);
+        made = stored_made new.recorder d.answer (definition_name name) (get_by_text old.theorems) (get_by_text new.theorems)
+            (still_made old.recorder new.recorder (get_by_text old.theorems) grow d.grown known.made) d.made d.stored;
       }
-    where
-      go : (other : List ℕ) (found : Theorem) → new.theory ≡ definition name (own_type term) (image term) ∷ old.theory → (test : Bool) → cond test (Some d.theorem) (get_by_text old.theorems other) ≡ Some found
-          → IsEarlier found.theory new.theory
-      go other found whole true is =
-          let same : d.theorem ≡ found = cc in
-          subst (λ (t : Theorem). IsEarlier t.theory new.theory) same (same_is_earlier new.theory d.theorem.theory (sym d.theory))
-      go other found whole false is = still_earlier old.theory new.theory found.theory (definition name (own_type term) (image term)) whole (known.earlier other found is)
 
-  pub def_state : SetsConstant (scope_of old.scope) (scope_of scope) name (Some ty) → (d : Defines (made old old.theory scope) new name term line)
-      → state_of new ≡ sessions.with_definition (state_of old) name d.theorem
+  pub def_state : SetsConstant (scope_of old.scope) (scope_of scope) name (Some ty) → (d : Defines (made old old.recorder scope) new name term line)
+      → state_of new ≡ sessions.with_definition (state_of old) name d.answer.theorem
   def_state sets d =
       let variables : (other : List ℕ) → (scope_of new.scope).variable_type other ≡ (scope_of old.scope).variable_type other =
       λ other. ap (λ (s : ScopeHere). (scope_of s).variable_type other) d.scope ∙ sets.variables other in
-      λ i. record { theory = d.theory i; variables = λ other. variables other i; theorems = λ other. d.stored other i }
+      let theorems = stored_theorem d.answer (definition_name name) (get_by_text old.theorems) (get_by_text new.theorems) d.stored in
+      λ i. record { theory = d.theory i; variables = λ other. variables other i; theorems = λ other. theorems other i }
 
-pub def_turns : (old new : Session) (scope : ScopeHere) (text name : List ℕ) (tree : TermTree) (term : NamedTerm) (ty : HolType) (line : String Global) → IsSound → IsSession old → SpellsCommand text (def_command name tree)
+pub def_turns : (old new : Session) (scope : ScopeHere) (text name : List ℕ) (tree : TermTree) (term : NamedTerm) (ty : HolType) (line : String Global) → IsSound → JournalsGrow → IsSession old → SpellsCommand text (def_command name tree)
     → meaning (scope_in (state_of old)) [] tree ≡ Ok term → type_of term ≡ Some ty → SetsConstant (scope_of old.scope) (scope_of scope) name (Some ty)
-    → Defines (made old old.theory scope) new name term (string_bytes line) → Turns (state_of old) (Some text) (Ok (Line line)) (state_of new)
-def_turns old new scope text name tree term ty line sound known spelled meant typed sets d =
-    let after : IsSession new = def_session old new scope name term ty (string_bytes line) known typed sets d in
-    let outcome : def_outcome (state_of old) name tree ≡ Ok d.theorem = def_outcome-is (state_of old) name tree term meant ∙ d.outcome in
-    let allowed : Allows (state_of old) (Some text) (proves (definition_name name) d.theorem) (state_of new) =
-    subst (λ (state : State). Allows (state_of old) (Some text) (proves (definition_name name) d.theorem) state) (sym (def_state old new scope name term ty (string_bytes line) sets d)) (def_defines spelled outcome) in
-    let printed : string_bytes line ≡ theorem_line (scope_in (state_of new)) (definition_name name) d.theorem =
-    d.line_is ∙ ap (λ (s : ScopeHere). theorem_line (scope_of s) (definition_name name) d.theorem) (sym d.scope)
-    ∙ ap (λ (s : Scope). theorem_line s (definition_name name) d.theorem) (scope_same new after) in
-    prints (state_of old) (state_of new) (Some text) (definition_name name) d.theorem line allowed
-    (proved new.theory d.theorem sound after.legal d.is_theorem (same_is_earlier new.theory d.theorem.theory (sym d.theory))) printed
+    → Defines (made old old.recorder scope) new name term (string_bytes line) → Turns (state_of old) (Some text) (Ok (Line line)) (state_of new)
+def_turns old new scope text name tree term ty line sound grow known spelled meant typed sets d =
+    let after : IsSession new = def_session old new scope name term ty (string_bytes line) grow known typed sets d in
+    let outcome : def_outcome (state_of old) name tree ≡ Ok d.answer.theorem = def_outcome-is (state_of old) name tree term meant ∙ d.outcome in
+    let allowed : Allows (state_of old) (Some text) (proves (definition_name name) d.answer.theorem) (state_of new) =
+    subst (λ (state : State). Allows (state_of old) (Some text) (proves (definition_name name) d.answer.theorem) state) (sym (def_state old new scope name term ty (string_bytes line) sets d)) (def_defines spelled outcome) in
+    let printed : string_bytes line ≡ theorem_line (scope_in (state_of new)) (definition_name name) d.answer.theorem =
+    d.line_is ∙ ap (λ (s : ScopeHere). theorem_line (scope_of s) (definition_name name) d.answer.theorem) (sym d.scope)
+    ∙ ap (λ (s : Scope). theorem_line s (definition_name name) d.answer.theorem) (scope_same new after) in
+    prints (state_of old) (state_of new) (Some text) (definition_name name) d.answer.theorem line allowed
+    (proved new.recorder.theory d.answer.theorem sound after.legal d.is_theorem (same_is_earlier new.recorder.theory d.answer.theorem.theory (sym d.theory))) printed

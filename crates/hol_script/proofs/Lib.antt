@@ -2,7 +2,9 @@ pub mod CutLemmas
 pub mod ReadingLemmas
 pub mod PairLemmas
 pub mod RuleLemmas
+pub mod RecordingLemmas
 pub mod ReplacementLemmas
 pub mod SessionLemmas
 pub mod GrowthLemmas
 pub mod RunLemmas
+pub mod StoredLemmas

@@ -1,16 +1,12 @@
 -- What a session is in, and the turns that it takes.
-use Rattle.std.proofs.Common.{◌≡◌, ℕ, List, refl, sym, subst, ◌∙◌, Option, None, Some, Result, Ok, Err, Bor, Vec, Global, inl, inr, ◌⊎◌}
-use Rattle.std.specs.Prelude.{String, string_bytes, IfSome, Bool, true, false, cond}
-use Rattle.std.specs.Map.{update}
-use Rattle.std.specs.Str.{bytes_eq}
-use Rattle.indexmap.specs.IndexMap.{get_by_text}
+use Rattle.std.proofs.Common.{◌≡◌, ℕ, List, refl, sym, ap, subst, Option, None, Some, Result, Ok, Err, Bor, Vec, Global, inl, inr, ◌⊎◌}
+use Rattle.std.specs.Prelude.{String, string_bytes, true, false}
 use Rattle.std.specs.Option.{option_map, is_some}
 use Rattle.hol_model.specs.declared.fault.Fault.{Fault}
 use Rattle.hol_model.specs.declared.fault.Fault.TheVariants.{Memory, Syntax}
 use Rattle.hol_model.specs.Token.{Token}
 use Rattle.hol_model.specs.Lexing.{Lexes}
 use Rattle.hol_model.specs.Commands.{RuleTree, CommandTree, thm_command, show_command, var_command, def_command, newtype_command, newconst_command, IsReadCommand, SpellsCommand}
-use Rattle.hol_model.specs.Theory.{IsEarlier}
 use Rattle.hol_model.specs.Theorem.{Theorem}
 use Rattle.hol_model.specs.Sessions.{State, scope_in, proves, accepts, refused, Allows, finds_no_memory, is_no_command, thm_is_refused, thm_stores, is_theorem_name, IsRuleAnswer, with_theorem, IsProved, theorem_line}
 use Rattle.hol_model.specs.TypeGrammar.{TypeTree, type_steps}
@@ -27,7 +23,8 @@ use Rattle.hol_script.specs.Views.{IsRule, IsCommand}
 use Rattle.hol_script.specs.declared.session.Session.{Session}
 use Rattle.hol_script.specs.declared.session.Printed.{Printed}
 use Rattle.hol_script.specs.declared.session.Printed.TheVariants.{Nothing, Line}
-use Rattle.hol_script.specs.SessionState.{state_of, IsSession}
+use Rattle.hol_journal.specs.Journal.{Recorded}
+use Rattle.hol_script.specs.SessionState.{state_of, theorem_of, IsSession}
 use Rattle.hol_script.specs.Answers.{Turns}
 
 -- the scope of a session is that of its state
@@ -63,31 +60,15 @@ pub refuses_by : {P : Type 0} (old new : State) (text : Option (List ℕ)) (faul
 refuses_by old new text fault same (inl memory) allowed = subst (λ (state : State). Turns old text (Err fault) state) (sym same) (forgets old text fault memory)
 refuses_by old new text fault same (inr because) allowed = subst (λ (state : State). Turns old text (Err fault) state) (sym same) (refuses old text fault (allowed because))
 
--- each stored theorem stands on an earlier theory
-pub found_earlier : (session : Session) (name : List ℕ) (found : Option (Bor Theorem)) → IsSession session → option_map (λ (theorem : Bor Theorem). theorem.now) found ≡ get_by_text session.theorems name
-    → IfSome found (λ (theorem : Bor Theorem). IsEarlier theorem.now.theory session.theory)
-found_earlier session name None known same = tt
-found_earlier session name (Some theorem) known same = known.earlier name theorem.now (sym same)
-
--- also when one more that stands on it is stored
-pub stored_earlier : (session : Session) (theorem : Theorem) (name : List ℕ) (new : List ℕ → Option Theorem) → IsSession session → IsEarlier theorem.theory session.theory
-    → ((other : List ℕ) → new other ≡ update bytes_eq (get_by_text session.theorems) name (Some theorem) other)
-    → (other : List ℕ) (found : Theorem) → new other ≡ Some found → IsEarlier found.theory session.theory
-stored_earlier session theorem name new known earlier stored other found same = go (bytes_eq name other) (sym (stored other) ∙ same)
-  where
-    go : (test : Bool) → cond test (Some theorem) (get_by_text session.theorems other) ≡ Some found → IsEarlier found.theory session.theory
-    go true is = (let one : theorem ≡ found = cc in subst (λ (t : Theorem). IsEarlier t.theory session.theory) one earlier)
-    go false is = known.earlier other found is
-
 -- a name that is taken, and one that is not
-pub taken : (found : Option (Bor Theorem)) (stored : Option Theorem) → option_map (λ (theorem : Bor Theorem). theorem.now) found ≡ stored → true ≡ is_some found
-    → (there : Theorem) × (stored ≡ Some there)
+pub taken : (found : Option (Bor Recorded)) (stored : Option Recorded) → option_map (λ (made : Bor Recorded). made.now) found ≡ stored → true ≡ is_some found
+    → (there : Theorem) × (theorem_of stored ≡ Some there)
 taken None stored same is = cc
-taken (Some theorem) stored same is = (theorem.now, sym same)
+taken (Some made) stored same is = (made.now.theorem, ap theorem_of (sym same))
 
-pub untaken : (found : Option (Bor Theorem)) (stored : Option Theorem) → option_map (λ (theorem : Bor Theorem). theorem.now) found ≡ stored → false ≡ is_some found → stored ≡ None
-untaken None stored same is = sym same
-untaken (Some theorem) stored same is = cc
+pub untaken : (found : Option (Bor Recorded)) (stored : Option Recorded) → option_map (λ (made : Bor Recorded). made.now) found ≡ stored → false ≡ is_some found → theorem_of stored ≡ None
+untaken None stored same is = ap theorem_of (sym same)
+untaken (Some made) stored same is = cc
 
 -- a rule that is refused
 pub thm_refuses : (state : State) (text name : List ℕ) (tree : RuleTree) (fault : Fault) → SpellsCommand text (thm_command name tree) → is_theorem_name name ≡ true → state.theorems name ≡ None
@@ -102,6 +83,14 @@ pub thm_prints : (old new : State) (text name : List ℕ) (tree : RuleTree) (the
 thm_prints old new text name tree theorem line spelled is_name none outcome proved says stored =
     subst (λ (state : State). Turns old (Some text) (Ok (Line line)) state) (sym stored)
     (prints old (with_theorem old name theorem) (Some text) name theorem line (thm_stores spelled is_name none outcome) proved says)
+
+-- the same after the rule, which leaves the state
+pub thm_prints_after : (old mid new : State) (text name : List ℕ) (tree : RuleTree) (theorem : Theorem) (line : String Global) → mid ≡ old → SpellsCommand text (thm_command name tree) → is_theorem_name name ≡ true
+    → old.theorems name ≡ None → IsRuleAnswer old tree (Ok theorem) → IsProved mid.theory theorem → string_bytes line ≡ theorem_line (scope_in mid) name theorem
+    → new ≡ with_theorem mid name theorem → Turns old (Some text) (Ok (Line line)) new
+thm_prints_after old mid new text name tree theorem line same spelled is_name none outcome proved says stored =
+    thm_prints old new text name tree theorem line spelled is_name none outcome (subst (λ (s : State). IsProved s.theory theorem) same proved)
+    (subst (λ (s : State). string_bytes line ≡ theorem_line (scope_in s) name theorem) same says) (subst (λ (s : State). new ≡ with_theorem s name theorem) same stored)
 
 -- ---- commands
 

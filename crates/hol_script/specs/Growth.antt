@@ -9,10 +9,12 @@ use Rattle.hol_model.specs.declared.fault.Fault.TheVariants.{Memory}
 use Rattle.hol_model.specs.NamedTerm.{NamedTerm, constant, equation}
 use Rattle.hol_model.specs.Legality.{own_type}
 use Rattle.hol_model.specs.Theory.{Theory}
-use Rattle.hol_model.specs.Theorem.{Theorem, IsTheorem}
+use Rattle.hol_model.specs.Theorem.{IsTheorem}
 use Rattle.hol_model.specs.Rules.{define_outcome}
 use Rattle.hol_model.specs.Reading.{Scope}
 use Rattle.hol_model.specs.Sessions.{definition_name, theorem_line}
+use Rattle.hol_journal.specs.Journal.{Recorded, IsMade}
+use Rattle.hol_journal.specs.Growth.{IsGrown}
 use Rattle.hol_syntax.specs.Scope.{scope_of}
 use Rattle.hol_script.specs.declared.session.Session.{Session}
 
@@ -41,16 +43,18 @@ MakesLine (Err fault) scope name stored term = fault ≡ Memory
 
 -- the theory has the definition, its theorem is stored, and the line is the theorem's
 pub record Defines (old new : Session) (name : List ℕ) (term : NamedTerm) (line : List ℕ) : Type 0 where
-  pub theorem : Theorem
-  pub outcome : define_outcome old.theory name term ≡ Ok theorem
-  pub is_theorem : IsTheorem theorem
-  pub theory : new.theory ≡ theorem.theory
+  pub answer : Recorded
+  pub outcome : define_outcome old.recorder.theory name term ≡ Ok answer.theorem
+  pub is_theorem : IsTheorem answer.theorem
+  pub theory : new.recorder.theory ≡ answer.theorem.theory
+  pub made : IsMade new.recorder answer
+  pub grown : IsGrown old.recorder new.recorder
   pub scope : new.scope ≡ old.scope
-  pub stored : (other : List ℕ) → get_by_text new.theorems other ≡ update bytes_eq (get_by_text old.theorems) (definition_name name) (Some theorem) other
-  pub line_is : line ≡ theorem_line (scope_of old.scope) (definition_name name) theorem
+  pub stored : (other : List ℕ) → get_by_text new.theorems other ≡ update bytes_eq (get_by_text old.theorems) (definition_name name) (Some answer) other
+  pub line_is : line ≡ theorem_line (scope_of old.scope) (definition_name name) answer.theorem
 
--- the theory, the scope and the stored theorems are those of before
+-- the journal, the scope and the stored theorems are those of before
 pub record KeepsSession (old new : Session) : Type 0 where
-  pub theory : new.theory ≡ old.theory
+  pub recorder : new.recorder ≡ old.recorder
   pub scope : new.scope ≡ old.scope
   pub theorems : (name : List ℕ) → get_by_text new.theorems name ≡ get_by_text old.theorems name

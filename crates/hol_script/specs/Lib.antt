@@ -4,4 +4,6 @@ pub mod Pairs
 pub mod SessionState
 pub mod Answers
 pub mod Growth
+pub mod Recording
 pub mod Runs
+pub mod Laws

@@ -1,24 +1,34 @@
 -- What the fields of a session stand for, and what holds of them.
-use Rattle.std.specs.Prelude.{◌≡◌, ℕ, List, Some}
+use Rattle.std.specs.Prelude.{◌≡◌, ℕ, List, Option, Some}
+use Rattle.std.specs.Option.{option_map}
 use Rattle.indexmap.specs.IndexMap.{get_by_text}
-use Rattle.hol_model.specs.Theory.{IsEarlier, IsLegal, generic_type}
+use Rattle.hol_model.specs.Theory.{IsLegal, generic_type}
 use Rattle.hol_model.specs.KnownTerm.{is_declared}
 use Rattle.hol_model.specs.Theorem.{Theorem}
 use Rattle.hol_model.specs.Sessions.{State}
+use Rattle.hol_journal.specs.Journal.{Journal, Recorded, IsMade}
 use Rattle.hol_syntax.specs.Scope.{scope_of}
 use Rattle.hol_script.specs.declared.session.Session.{Session}
+
+-- the theorem of what was recorded
+abbrev pub theorem_of : Option Recorded → Option Theorem
+theorem_of found = option_map (λ (stored : Recorded). stored.theorem) found
 
 -- the state that a session of the program is in
 abbrev pub state_of : Session → State
 state_of session = record {
-  theory = session.theory;
+  theory = session.recorder.theory;
   variables = (scope_of session.scope).variable_type;
-  theorems = get_by_text session.theorems;
+  theorems = λ name. theorem_of (get_by_text session.theorems name);
 }
 
--- the scope is that of the theory, and each stored theorem stands on the theory or an earlier state of it
+-- the recorder made each of the stored theorems
+abbrev pub AreMade : Journal → (List ℕ → Option Recorded) → Type 0
+AreMade journal stored = (name : List ℕ) (made : Recorded) → stored name ≡ Some made → IsMade journal made
+
+-- the scope is that of the theory, and the recorder made each stored theorem
 pub record IsSession (session : Session) : Type 0 where
-  pub legal : IsLegal session.theory
-  pub constants : (name : List ℕ) → (scope_of session.scope).generic_type name ≡ generic_type session.theory name
-  pub types : (name : List ℕ) → (scope_of session.scope).declares_type name ≡ is_declared session.theory name
-  pub earlier : (name : List ℕ) (theorem : Theorem) → get_by_text session.theorems name ≡ Some theorem → IsEarlier theorem.theory session.theory
+  pub legal : IsLegal session.recorder.theory
+  pub constants : (name : List ℕ) → (scope_of session.scope).generic_type name ≡ generic_type session.recorder.theory name
+  pub types : (name : List ℕ) → (scope_of session.scope).declares_type name ≡ is_declared session.recorder.theory name
+  pub made : AreMade session.recorder (get_by_text session.theorems)

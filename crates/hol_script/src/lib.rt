@@ -4,11 +4,13 @@
 mod command;
 mod cut;
 mod execute;
+mod laws;
 mod pairs;
 mod runner;
 mod session;
 mod tokens;
 
+pub use laws::printed_theorems_stay;
 pub use runner::{Summary, run};
 
 #[cfg(test)]

@@ -4,7 +4,7 @@ ghost use Rattle.std.specs.Map.{update};
 ghost use Rattle.std.specs.Option.{option_map};
 ghost use Rattle.std.specs.Str.{bytes_eq};
 ghost use Rattle.indexmap.specs.IndexMap.{get_by_text, spare};
-ghost use Rattle.hol_model.specs.Commands.{RuleTree, by_term, by_abs, by_inst, by_inst_type, thm_command, show_command, var_command, def_command, newtype_command, newconst_command, SpellsCommand};
+ghost use Rattle.hol_model.specs.Commands.{RuleTree, by_term, by_pair, by_abs, by_inst, by_inst_type, thm_command, show_command, var_command, def_command, newtype_command, newconst_command, SpellsCommand};
 ghost use Rattle.hol_model.specs.Outcome.{Answers};
 ghost use Rattle.hol_model.specs.Reading.{type_meaning, meaning};
 ghost use Rattle.hol_model.specs.Rules.{define_outcome, new_type_outcome, new_const_outcome};
@@ -12,21 +12,22 @@ ghost use Rattle.hol_model.specs.Sessions.{start, each, scope_in, with_theorem, 
 ghost use Rattle.hol_model.specs.Sessions as spec;
 ghost use Rattle.hol_model.specs.TermGrammar.{TermTree};
 ghost use Rattle.hol_model.specs.TypeGrammar.{TypeTree, type_steps};
-ghost use Rattle.hol_model.specs.Theory.{IsEarlier};
-ghost use Rattle.hol_model.specs.Theorem.{IsTheorem};
 ghost use Rattle.hol_model.specs.declared.fault.Fault.TheVariants.{Memory};
 ghost use Rattle.hol_syntax.specs.Scope.{scope_of};
 ghost use Rattle.hol_syntax.specs.Steps.{flat_steps_of};
 ghost use Rattle.hol_syntax.specs.TermSteps.{term_steps, flat_steps};
 ghost use Rattle.hol_syntax.specs.Views.{steps_of};
 ghost use Rattle.hol_script.specs.Answers.{Turns, AnswersRule, AnswersItems};
+ghost use Rattle.hol_journal.specs.Journal.{Journal, Recorded, IsMade, theorem_in};
 ghost use Rattle.hol_script.specs.Growth.{IsRefused, LeavesNone, MakesEquation, MakesLine, Defines, KeepsSession};
-ghost use Rattle.hol_script.specs.SessionState.{state_of, IsSession};
+ghost use Rattle.hol_script.specs.Recording.{Records, AppliesRule};
+ghost use Rattle.hol_script.specs.SessionState.{state_of, IsSession, AreMade};
 ghost use Rattle.hol_script.specs.Views.{IsRule, IsTermPair, AreTermPairs, IsTypePair, AreTypePairs};
 
 use crate::command::Rule;
 use crate::pairs::{TermPair, TypePair};
-use hol_kernel::{Theory, Thm};
+use hol_journal::{Rec, Recorder, journals_grow};
+use hol_kernel::Thm;
 use hol_model::{Axiom, Fault, PairRule, TermRule};
 use hol_sound::sound;
 use hol_syntax::{Scope, TermStep, TypeStep, build_type, term_of_steps, text_of_sequent};
@@ -42,12 +43,12 @@ pub enum Printed {
     Line(String),
 }
 
-/// A theory, what the names of texts stand for, and the stored theorems.
+/// A theory with its journal, what the names of texts stand for, and the stored theorems.
 #[derive(Drop)]
 pub struct Session {
-    theory: Theory,
+    recorder: Recorder,
     scope: Scope,
-    theorems: IndexMap<String, Thm>,
+    theorems: IndexMap<String, Rec>,
 }
 
 /// Whether `thm` may give this name: names that end in `_def` belong to definitions.
@@ -138,6 +139,51 @@ fn definition_line(
     }
 }
 
+// The stored theorem of a name.
+fn stored<'a>(theorems: &'a IndexMap<String, Rec>, name: &str) -> Option<&'a Rec>
+    ensures { option_map (λ theorem. theorem.now) result ≡ get_by_text theorems.now name.now }
+{
+    theorems.get(name)
+}
+
+fn on_term(
+    alloc: Global,
+    recorder: &mut Recorder,
+    rule: TermRule,
+    term: &Term,
+) -> Result<Rec, Fault>
+    ensures outcome { Answers (theorem_in result) (term_rule_outcome rule recorder.old.theory term.now) }
+    ensures records { IfOk result (Records recorder.old recorder.new) }
+    ensures kept { OnErr result (recorder.new ≡ recorder.old) }
+{
+    match rule {
+        TermRule::Refl => recorder.refl(alloc, term),
+        TermRule::Beta => recorder.beta(alloc, term),
+        TermRule::Assume => recorder.assume(alloc, term),
+    }
+}
+
+fn on_theorems(
+    alloc: Global,
+    recorder: &mut Recorder,
+    rule: PairRule,
+    first: &Rec,
+    second: &Rec,
+) -> Result<Rec, Fault>
+    requires first { IsMade recorder.old first.now }
+    requires second { IsMade recorder.old second.now }
+    ensures outcome { Answers (theorem_in result) (pair_rule_outcome rule recorder.old.theory first.now.theorem second.now.theorem) }
+    ensures records { IfOk result (Records recorder.old recorder.new) }
+    ensures kept { OnErr result (recorder.new ≡ recorder.old) }
+{
+    match rule {
+        PairRule::Trans => recorder.trans(alloc, first, second),
+        PairRule::MkComb => recorder.mk_comb(alloc, first, second),
+        PairRule::EqMp => recorder.eq_mp(alloc, first, second),
+        PairRule::DeductAntisym => recorder.deduct_antisym(alloc, first, second),
+    }
+}
+
 impl Session {
     /// The session in which a script begins.
     pub fn new(alloc: Global) -> Result<Session, Fault>
@@ -145,10 +191,10 @@ impl Session {
         ensures is_session { IfOk result IsSession }
         ensures err { IfErr result (λ fault. fault ≡ Memory) }
     {
-        let theory = Theory::new(alloc)?;
+        let recorder = Recorder::new(alloc)?;
         let scope = Scope::new(alloc)?;
         Ok(Session {
-            theory,
+            recorder,
             scope,
             theorems: IndexMap::new(alloc),
         })
@@ -164,18 +210,21 @@ impl Session {
         if !is_theorem_name(name) {
             return Err(Fault::BadName);
         }
-        if self.theorem(name).is_some() {
+        if stored(&self.theorems, name).is_some() {
             return Err(Fault::NameTaken);
         }
         let theorem = match self.apply(alloc, rule) {
             Ok(theorem) => theorem,
             Err(fault) => return Err(fault),
         };
-        let line = match theorem_line(alloc, &self.scope, name, &theorem) {
+        sound();
+        journals_grow();
+        let thm = self.recorder.thm(&theorem);
+        let _theorem = thm.concl();
+        let line = match theorem_line(alloc, &self.scope, name, thm) {
             Ok(line) => line,
             Err(fault) => return Err(fault),
         };
-        sound();
         match self.store(alloc, name, theorem) {
             Ok(()) => Ok(Printed::Line(line)),
             Err(fault) => Err(fault),
@@ -183,13 +232,12 @@ impl Session {
     }
 
     // Stores a theorem. A refusal changes nothing.
-    fn store(&mut self, alloc: Global, name: &str, theorem: Thm) -> Result<(), Fault>
+    fn store(&mut self, alloc: Global, name: &str, theorem: Rec) -> Result<(), Fault>
         requires session { IsSession self.old }
-        requires earlier { IsEarlier theorem.theory self.old.theory }
-        ensures ok { OnOk result (state_of self.new ≡ with_theorem (state_of self.old) name.now theorem) }
+        requires made { IsMade self.old.recorder theorem }
+        ensures ok { OnOk result (state_of self.new ≡ with_theorem (state_of self.old) name.now theorem.theorem) }
         ensures err { OnErr result (state_of self.new ≡ state_of self.old) }
         ensures memory { IfErr result (λ fault. fault ≡ Memory) }
-        ensures scope { self.new.scope ≡ self.old.scope }
         ensures kept { IsSession self.new }
     {
         let Ok(key) = String::from_str(alloc, name) else {
@@ -207,12 +255,13 @@ impl Session {
         ensures { (text : List ℕ) → SpellsCommand text (show_command name.now)
             → Turns (state_of self.now) (Some text) result (state_of self.now) }
     {
-        let Some(theorem) = self.theorem(name) else {
+        let Some(theorem) = stored(&self.theorems, name) else {
             return Err(Fault::UnknownName);
         };
         sound();
-        let _theorem = theorem.concl();
-        match theorem_line(alloc, &self.scope, name, theorem) {
+        let thm = self.recorder.thm(theorem);
+        let _theorem = thm.concl();
+        match theorem_line(alloc, &self.scope, name, thm) {
             Ok(line) => Ok(Printed::Line(line)),
             Err(fault) => Err(fault),
         }
@@ -252,6 +301,7 @@ impl Session {
             Err(_) => return Err(Fault::Memory),
         }
         sound();
+        journals_grow();
         match self.define(alloc, name, &term) {
             Ok(line) => Ok(Printed::Line(line)),
             Err(fault) => {
@@ -272,7 +322,8 @@ impl Session {
             Err(Fault::NameTaken) => return Err(self.refusal_of_type(alloc, name)),
             Err(_) => return Err(Fault::Memory),
         }
-        match self.theory.new_type(alloc, name) {
+        journals_grow();
+        match self.recorder.new_type(alloc, name) {
             Ok(()) => Ok(Printed::Nothing),
             Err(fault) => {
                 self.scope.remove_type(name);
@@ -302,7 +353,8 @@ impl Session {
             Err(Fault::NameTaken) => return Err(self.refusal_of_const(alloc, name, &ty)),
             Err(_) => return Err(Fault::Memory),
         }
-        match self.theory.new_const(alloc, name, &ty) {
+        journals_grow();
+        match self.recorder.new_const(alloc, name, &ty) {
             Ok(()) => Ok(Printed::Nothing),
             Err(fault) => {
                 self.scope.remove_const(name);
@@ -315,7 +367,7 @@ impl Session {
     fn define(&mut self, alloc: Global, name: &str, term: &Term) -> Result<String, Fault>
         ensures ok { IfOk result (λ line. Defines self.old self.new name.now term.now (string_bytes line)) }
         ensures kept { OnErr result (KeepsSession self.old self.new) }
-        ensures err { IfErr result (λ fault. (fault ≡ Memory) ⊎ (define_outcome self.old.theory name.now term.now ≡ Err fault)) }
+        ensures err { IfErr result (λ fault. (fault ≡ Memory) ⊎ (define_outcome self.old.recorder.theory name.now term.now ≡ Err fault)) }
     {
         let key = match definition_name(alloc, name) {
             Ok(key) => key,
@@ -329,20 +381,21 @@ impl Session {
         if self.theorems.reserve(1).is_err() {
             return Err(Fault::Memory);
         }
-        let theorem = match self.theory.define(alloc, name, term) {
+        journals_grow();
+        let theorem = match self.recorder.define(alloc, name, term) {
             Ok(theorem) => theorem,
             Err(fault) => return Err(fault),
         };
-        let _theorem = theorem.concl();
+        let _theorem = self.recorder.thm(&theorem).concl();
         self.put(key, theorem);
         Ok(line)
     }
 
     // Stores a theorem, for which there is room.
-    fn put(&mut self, key: String, theorem: Thm)
+    fn put(&mut self, key: String, theorem: Rec)
         requires { 0 < spare self.old.theorems }
         ensures stored { (other : List ℕ) → get_by_text self.new.theorems other ≡ update bytes_eq (get_by_text self.old.theorems) (string_bytes key) (Some theorem) other }
-        ensures theory { self.new.theory ≡ self.old.theory }
+        ensures recorder { self.new.recorder ≡ self.old.recorder }
         ensures scope { self.new.scope ≡ self.old.scope }
     {
         match self.theorems.insert(key, theorem) {
@@ -353,11 +406,11 @@ impl Session {
 
     // The refusal of a definition that the theory does not accept.
     fn refusal_of_definition(&mut self, alloc: Global, name: &str, term: &Term) -> Fault
-        requires { IsRefused (define_outcome self.old.theory name.now term.now) }
-        ensures fault { (result ≡ Memory) ⊎ (define_outcome self.old.theory name.now term.now ≡ Err result) }
+        requires { IsRefused (define_outcome self.old.recorder.theory name.now term.now) }
+        ensures fault { (result ≡ Memory) ⊎ (define_outcome self.old.recorder.theory name.now term.now ≡ Err result) }
         ensures kept { self.new ≡ self.old }
     {
-        match self.theory.define(alloc, name, term) {
+        match self.recorder.define(alloc, name, term) {
             Ok(_) => unreachable!(),
             Err(fault) => fault,
         }
@@ -365,11 +418,11 @@ impl Session {
 
     // The refusal of a type that the theory does not accept.
     fn refusal_of_type(&mut self, alloc: Global, name: &str) -> Fault
-        requires { IsRefused (new_type_outcome self.old.theory name.now) }
-        ensures fault { (result ≡ Memory) ⊎ (new_type_outcome self.old.theory name.now ≡ Err result) }
+        requires { IsRefused (new_type_outcome self.old.recorder.theory name.now) }
+        ensures fault { (result ≡ Memory) ⊎ (new_type_outcome self.old.recorder.theory name.now ≡ Err result) }
         ensures kept { self.new ≡ self.old }
     {
-        match self.theory.new_type(alloc, name) {
+        match self.recorder.new_type(alloc, name) {
             Ok(()) => unreachable!(),
             Err(fault) => fault,
         }
@@ -377,55 +430,32 @@ impl Session {
 
     // The refusal of a constant that the theory does not accept.
     fn refusal_of_const(&mut self, alloc: Global, name: &str, ty: &Ty) -> Fault
-        requires { IsRefused (new_const_outcome self.old.theory name.now ty.now) }
-        ensures fault { (result ≡ Memory) ⊎ (new_const_outcome self.old.theory name.now ty.now ≡ Err result) }
+        requires { IsRefused (new_const_outcome self.old.recorder.theory name.now ty.now) }
+        ensures fault { (result ≡ Memory) ⊎ (new_const_outcome self.old.recorder.theory name.now ty.now ≡ Err result) }
         ensures kept { self.new ≡ self.old }
     {
-        match self.theory.new_const(alloc, name, ty) {
+        match self.recorder.new_const(alloc, name, ty) {
             Ok(()) => unreachable!(),
             Err(fault) => fault,
         }
     }
 
-    // What a rule gives: its arguments from left to right, then the rule.
-    fn apply(&self, alloc: Global, rule: &Rule) -> Result<Thm, Fault>
-        requires { IsSession self.now }
-        ensures answers { (tree : RuleTree) → IsRule rule.now tree → AnswersRule result (state_of self.now) tree }
-        ensures theorem { IfOk result IsTheorem }
-        ensures stands_on { IfOk result (λ answer. answer.theory ≡ self.now.theory) }
+    // What a rule gives: its arguments from left to right, then the rule. The state stays, and a refusal changes nothing.
+    fn apply(&mut self, alloc: Global, rule: &Rule) -> Result<Rec, Fault>
+        requires { IsSession self.old }
+        ensures answers { (tree : RuleTree) → IsRule rule.now tree → AnswersRule (theorem_in result) (state_of self.old) tree }
+        ensures applies { IfOk result (AppliesRule self.old self.new) }
+        ensures kept { OnErr result (self.new ≡ self.old) }
     {
         match rule {
             Rule::OfTerm(rule, steps) => self.by_term(alloc, *rule, steps),
-            Rule::OfTheorems(rule, first, second) => {
-                let Some(first) = self.theorem(first) else {
-                    return Err(Fault::UnknownName);
-                };
-                let Some(second) = self.theorem(second) else {
-                    return Err(Fault::UnknownName);
-                };
-                self.by_theorems(alloc, *rule, first, second)
-            }
+            Rule::OfTheorems(rule, first, second) => self.by_pair(alloc, *rule, first, second),
             Rule::Abs(steps, name) => self.abs(alloc, steps, name),
             Rule::Inst(pairs, name) => self.inst(alloc, pairs, name),
             Rule::InstType(pairs, name) => self.inst_type(alloc, pairs, name),
-            Rule::OfAxiom(Axiom::Eta) => self.theory.eta(alloc),
-            Rule::OfAxiom(Axiom::Select) => self.theory.select(alloc),
+            Rule::OfAxiom(Axiom::Eta) => self.recorder.eta(alloc),
+            Rule::OfAxiom(Axiom::Select) => self.recorder.select(alloc),
         }
-    }
-
-    // The stored theorem of a name.
-    fn theorem(&self, name: &str) -> Option<&Thm>
-        requires { IsSession self.now }
-        ensures found { option_map (λ theorem. theorem.now) result ≡ get_by_text self.now.theorems name.now }
-        ensures earlier { IfSome result (λ theorem. IsEarlier theorem.now.theory self.now.theory) }
-    {
-        self.find(name)
-    }
-
-    fn find(&self, name: &str) -> Option<&Thm>
-        ensures { option_map (λ theorem. theorem.now) result ≡ get_by_text self.now.theorems name.now }
-    {
-        self.theorems.get(name)
     }
 
     // The term of a rule's quoted argument.
@@ -445,33 +475,56 @@ impl Session {
         build_type(alloc, &self.scope, steps)
     }
 
-    fn by_term(&self, alloc: Global, rule: TermRule, steps: &[TermStep]) -> Result<Thm, Fault>
-        requires { IsSession self.now }
+    // A rule on a term.
+    fn by_term(&mut self, alloc: Global, rule: TermRule, steps: &[TermStep]) -> Result<Rec, Fault>
+        requires { IsSession self.old }
         ensures answers { (tree : TermTree) → flat_steps_of steps.now ≡ flat_steps (term_steps tree)
-            → AnswersRule result (state_of self.now) (by_term rule tree) }
-        ensures theorem { IfOk result IsTheorem }
-        ensures stands_on { IfOk result (λ answer. answer.theory ≡ self.now.theory) }
+            → AnswersRule (theorem_in result) (state_of self.old) (by_term rule tree) }
+        ensures applies { IfOk result (AppliesRule self.old self.new) }
+        ensures kept { OnErr result (self.new ≡ self.old) }
     {
         match self.term(alloc, steps) {
-            Ok(term) => self.on_term(alloc, rule, &term),
+            Ok(term) => on_term(alloc, &mut self.recorder, rule, &term),
             Err(fault) => Err(fault),
         }
     }
 
+    // A rule on two stored theorems.
+    fn by_pair(
+        &mut self,
+        alloc: Global,
+        rule: PairRule,
+        first: &str,
+        second: &str,
+    ) -> Result<Rec, Fault>
+        requires { IsSession self.old }
+        ensures answers { AnswersRule (theorem_in result) (state_of self.old) (by_pair rule first.now second.now) }
+        ensures applies { IfOk result (AppliesRule self.old self.new) }
+        ensures kept { OnErr result (self.new ≡ self.old) }
+    {
+        let Some(first) = stored(&self.theorems, first) else {
+            return Err(Fault::UnknownName);
+        };
+        let Some(second) = stored(&self.theorems, second) else {
+            return Err(Fault::UnknownName);
+        };
+        on_theorems(alloc, &mut self.recorder, rule, first, second)
+    }
+
     // ABS
-    fn abs(&self, alloc: Global, steps: &[TermStep], name: &str) -> Result<Thm, Fault>
-        requires { IsSession self.now }
+    fn abs(&mut self, alloc: Global, steps: &[TermStep], name: &str) -> Result<Rec, Fault>
+        requires { IsSession self.old }
         ensures answers { (tree : TermTree) → flat_steps_of steps.now ≡ flat_steps (term_steps tree)
-            → AnswersRule result (state_of self.now) (by_abs tree name.now) }
-        ensures theorem { IfOk result IsTheorem }
-        ensures stands_on { IfOk result (λ answer. answer.theory ≡ self.now.theory) }
+            → AnswersRule (theorem_in result) (state_of self.old) (by_abs tree name.now) }
+        ensures applies { IfOk result (AppliesRule self.old self.new) }
+        ensures kept { OnErr result (self.new ≡ self.old) }
     {
         let binder = match self.term(alloc, steps) {
             Ok(binder) => binder,
             Err(fault) => return Err(fault),
         };
-        match self.theorem(name) {
-            Some(theorem) => self.theory.abs(alloc, &binder, theorem),
+        match stored(&self.theorems, name) {
+            Some(theorem) => self.recorder.abs(alloc, &binder, theorem),
             None => Err(Fault::UnknownName),
         }
     }
@@ -509,19 +562,19 @@ impl Session {
     }
 
     // INST
-    fn inst(&self, alloc: Global, pairs: &[TermPair], name: &str) -> Result<Thm, Fault>
-        requires { IsSession self.now }
+    fn inst(&mut self, alloc: Global, pairs: &[TermPair], name: &str) -> Result<Rec, Fault>
+        requires { IsSession self.old }
         ensures answers { (trees : List (TermTree × TermTree)) → AreTermPairs pairs.now trees
-            → AnswersRule result (state_of self.now) (by_inst trees name.now) }
-        ensures theorem { IfOk result IsTheorem }
-        ensures stands_on { IfOk result (λ answer. answer.theory ≡ self.now.theory) }
+            → AnswersRule (theorem_in result) (state_of self.old) (by_inst trees name.now) }
+        ensures applies { IfOk result (AppliesRule self.old self.new) }
+        ensures kept { OnErr result (self.new ≡ self.old) }
     {
         let theta = match self.replacements(alloc, pairs) {
             Ok(theta) => theta,
             Err(fault) => return Err(fault),
         };
-        match self.theorem(name) {
-            Some(theorem) => self.theory.inst(alloc, &theta, theorem),
+        match stored(&self.theorems, name) {
+            Some(theorem) => self.recorder.inst(alloc, &theta, theorem),
             None => Err(Fault::UnknownName),
         }
     }
@@ -559,51 +612,20 @@ impl Session {
     }
 
     // INST_TYPE
-    fn inst_type(&self, alloc: Global, pairs: &[TypePair], name: &str) -> Result<Thm, Fault>
-        requires { IsSession self.now }
+    fn inst_type(&mut self, alloc: Global, pairs: &[TypePair], name: &str) -> Result<Rec, Fault>
+        requires { IsSession self.old }
         ensures answers { (trees : List (TypeTree × List ℕ)) → AreTypePairs pairs.now trees
-            → AnswersRule result (state_of self.now) (by_inst_type trees name.now) }
-        ensures theorem { IfOk result IsTheorem }
-        ensures stands_on { IfOk result (λ answer. answer.theory ≡ self.now.theory) }
+            → AnswersRule (theorem_in result) (state_of self.old) (by_inst_type trees name.now) }
+        ensures applies { IfOk result (AppliesRule self.old self.new) }
+        ensures kept { OnErr result (self.new ≡ self.old) }
     {
         let theta = match self.type_replacements(alloc, pairs) {
             Ok(theta) => theta,
             Err(fault) => return Err(fault),
         };
-        match self.theorem(name) {
-            Some(theorem) => self.theory.inst_type(alloc, &theta, theorem),
+        match stored(&self.theorems, name) {
+            Some(theorem) => self.recorder.inst_type(alloc, &theta, theorem),
             None => Err(Fault::UnknownName),
-        }
-    }
-
-    fn on_term(&self, alloc: Global, rule: TermRule, term: &Term) -> Result<Thm, Fault>
-        ensures answers { Answers result (term_rule_outcome rule self.now.theory term.now) }
-        ensures stands_on { IfOk result (λ answer. answer.theory ≡ self.now.theory) }
-    {
-        match rule {
-            TermRule::Refl => self.theory.refl(alloc, term),
-            TermRule::Beta => self.theory.beta(alloc, term),
-            TermRule::Assume => self.theory.assume(alloc, term),
-        }
-    }
-
-    fn by_theorems(
-        &self,
-        alloc: Global,
-        rule: PairRule,
-        first: &Thm,
-        second: &Thm,
-    ) -> Result<Thm, Fault>
-        requires first { IsEarlier first.now.theory self.now.theory }
-        requires second { IsEarlier second.now.theory self.now.theory }
-        ensures answers { Answers result (pair_rule_outcome rule self.now.theory first.now second.now) }
-        ensures stands_on { IfOk result (λ answer. answer.theory ≡ self.now.theory) }
-    {
-        match rule {
-            PairRule::Trans => self.theory.trans(alloc, first, second),
-            PairRule::MkComb => self.theory.mk_comb(alloc, first, second),
-            PairRule::EqMp => self.theory.eq_mp(alloc, first, second),
-            PairRule::DeductAntisym => self.theory.deduct_antisym(alloc, first, second),
         }
     }
 }

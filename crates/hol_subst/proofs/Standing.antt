@@ -161,11 +161,11 @@ IsKeptIn-types_stay classes types name ty new_type body typed kept none = record
       rw (typed, type_stays types ty kept, variable_stays types other s body occurs none) (unbound_differs name ty other s unbound);
 }
 
--- nor where the variables of its name have its type
-pub IsKeptIn-one_type : (classes : ℕ) (table : List ℕ → Option (Option HolType)) (types : List (HolType × HolType)) (name : List ℕ) (ty new_type : HolType) (body : NamedTerm)
-    → HasVariables table body → ((s : HolType) → Admits (table name) s → ty ≡ s)
+-- nor where no variable of its name, but of another type, gets its new type
+pub IsKeptIn-no_other : (classes : ℕ) (table : List ℕ → Option (List HolType)) (types : List (HolType × HolType)) (name : List ℕ) (ty new_type : HolType) (body : NamedTerm)
+    → HasVariables table body → ((s : HolType) → Admits (table name) s → new_type ≡ type_put types s → ty ≡ s)
     → IsKeptIn classes types ((name, ty) ∷ []) name new_type body
-IsKeptIn-one_type classes table types name ty new_type body has only = record {
+IsKeptIn-no_other classes table types name ty new_type body has only = record {
   differs = λ other s occurs far unbound. go (same_variable name new_type other (type_put types s)) other s refl (has.has other s occurs) unbound;
 }
   where
@@ -173,21 +173,22 @@ IsKeptIn-one_type classes table types name ty new_type body has only = record {
         → binder_index ((name, ty) ∷ []) other s ≡ None → test ≡ false
     go true other s same admitted unbound =
         let named : name ≡ other = same_name name other new_type (type_put types s) same in
-        let typed : ty ≡ s = only s (rw named admitted) in
+        let typed : ty ≡ s = only s (rw named admitted) (same_variable-type name other new_type (type_put types s) same) in
         let differs : same_variable name ty name ty ≡ false = ap (λ v. same_variable name ty v ty) named ∙ ap (λ t. same_variable name ty other t) typed ∙ unbound_differs name ty other s unbound in
         sym (same_variable-self name ty) ∙ differs
     go false other s same admitted unbound = refl
 
--- nor does one where its name does not occur
-pub IsKeptIn-absent : (classes : ℕ) (table : List ℕ → Option (Option HolType)) (types : List (HolType × HolType)) (binders : List Binder) (name : List ℕ) (ty : HolType) (term : NamedTerm)
-    → HasVariables table term → ((s : HolType) → Admits (table name) s → ⊥)
+-- nor does one where no variable of its name gets its type
+pub IsKeptIn-absent : (classes : ℕ) (table : List ℕ → Option (List HolType)) (types : List (HolType × HolType)) (binders : List Binder) (name : List ℕ) (ty : HolType) (term : NamedTerm)
+    → HasVariables table term → ((s : HolType) → Admits (table name) s → ty ≡ type_put types s → ⊥)
     → IsKeptIn classes types binders name ty term
 IsKeptIn-absent classes table types binders name ty term has none = record {
   differs = λ other s occurs far unbound. go (same_variable name ty other (type_put types s)) other s refl (has.has other s occurs);
 }
   where
     go : (test : Bool) (other : List ℕ) (s : HolType) → same_variable name ty other (type_put types s) ≡ test → Admits (table other) s → test ≡ false
-    go true other s same admitted = absurd (none s (rw (same_name name other ty (type_put types s) same) admitted))
+    go true other s same admitted =
+        absurd (none s (rw (same_name name other ty (type_put types s) same) admitted) (same_variable-type name other ty (type_put types s) same))
     go false other s same admitted = refl
 
 -- the parts of a term
@@ -304,7 +305,7 @@ variable-apart env types binders brought class other s name ty is is_class apart
 
 pub ruleset bringing_classes = (IsBroughtBy-none, IsBroughtBy-keeping, IsBroughtBy-beside, IsBroughtBy-bound, IsBroughtBy-putting, IsBroughtBy-pairs)
 
-pub ruleset keeping_classes = (IsKeptIn-name, IsKeptIn-types_stay, IsKeptIn-one_type, IsKeptIn-absent)
+pub ruleset keeping_classes = (IsKeptIn-name, IsKeptIn-types_stay, IsKeptIn-no_other, IsKeptIn-absent)
 
 pub ruleset seeking = (apart-after, IsBroughtBy-under, IsKeptIn-function, IsKeptIn-argument, IsKeptIn-body)
 

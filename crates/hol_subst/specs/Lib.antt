@@ -5,4 +5,5 @@ pub mod Touched
 pub mod Occurrences
 pub mod Sought
 pub mod VariableTypes
+pub mod Binders
 pub mod Outcomes

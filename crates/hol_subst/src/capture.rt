@@ -49,7 +49,7 @@ pub fn is_free_after(
 {
     let sought = Sought {
         brought_by: brought_by(name, ty, &*passed, &*replacements, touched),
-        kept_in: kept_in(name, variables),
+        kept_in: kept_in(name, ty, types, variables),
     };
     stands_after(
         term,
@@ -173,19 +173,18 @@ fn kept_in_body(
     if !changes_type(types, ty) && !changes_types(types, body) {
         return NameClasses::none();
     }
-    if !variables.has_other_type(name, ty) {
+    if !variables.has_other_instance(name, ty, types, new_type) {
         return NameClasses::none();
     }
     NameClasses::of_name(name)
 }
 
-// The classes of the variables that may become a variable of this name.
+// The classes of the variables that may become a variable of this name and type.
 #[tactic(auto, using(crate::proofs::Standing::keeping_classes))]
-fn kept_in(name: &str, variables: &VariableTypes) -> NameClasses
-    ensures { (types : List (HolType × HolType)) (binders : List Binder) (ty : HolType) (term : NamedTerm) → HasVariables (table_of variables.now) term
-        → IsKeptIn result.bits types binders name.now ty term }
+fn kept_in(name: &str, ty: &Ty, types: &[(Ty, Ty)], variables: &VariableTypes) -> NameClasses
+    ensures { (binders : List Binder) (term : NamedTerm) → HasVariables (table_of variables.now) term → IsKeptIn result.bits types.now binders name.now ty.now term }
 {
-    if !variables.has_name(name) {
+    if !variables.has_instance(name, types, ty) {
         return NameClasses::none();
     }
     NameClasses::of_name(name)

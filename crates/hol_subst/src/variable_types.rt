@@ -1,23 +1,28 @@
 // What is known of the types of a term's variables.
-ghost use Rattle.std.specs.Prelude.{◌≡◌, Some, IfOk, IfErr, IsTrue, IsFalse, OnOk};
+ghost use Rattle.std.specs.Prelude.{◌≡◌, ◌∷◌, [], ◌++◌, ◌&&◌, not, IfOk, IfErr, IsTrue, IsFalse, OnOk};
+ghost use Rattle.std.specs.List.{list_any};
+ghost use Rattle.std.specs.Option.{option_map};
 ghost use Rattle.indexmap.specs.IndexMap.{get_by_text};
-ghost use Rattle.hol_model.specs.HolType.{HolType};
+ghost use Rattle.hol_model.specs.HolType.{HolType, type_eq, type_put};
 ghost use Rattle.hol_model.specs.NamedTerm.{NamedTerm};
 ghost use Rattle.hol_model.specs.declared.fault.Fault.TheVariants.{Memory};
-ghost use Rattle.hol_subst.specs.VariableTypes.{Admits, HasVariables, Grows, IsOnlyType, table_of};
+ghost use Rattle.hol_subst.specs.VariableTypes.{Admits, Widens, HasVariables, Grows, types_kept, kept_types, table_of};
 
 use hol_model::Fault;
 use hol_terms::{Parts, Term};
-use hol_types::Ty;
+use hol_types::{Ty, is_replaced_type};
 use indexmap::IndexMap;
 use std::alloc::Global;
+
+// How many types of a name are kept: where its variables have more, they may have any.
+const TYPES_KEPT: usize = 16;
 
 /// The types of the variables that occur in a term, by their names, as far as they are known.
 #[derive(Drop)]
 pub struct VariableTypes {
     is_known: bool,
-    // A name's type, or `None` where its variables have several.
-    by_name: IndexMap<String, Option<Ty>>,
+    // A name's types, or `None` where they may be any.
+    by_name: IndexMap<String, Option<Vec<Ty>>>,
 }
 
 impl VariableTypes {
@@ -44,28 +49,65 @@ impl VariableTypes {
         })
     }
 
-    /// Whether a variable of this name may occur.
-    pub fn has_name(&self, name: &str) -> bool
-        ensures { IsFalse result → (ty : HolType) → Admits (table_of self.now name.now) ty → ⊥ }
+    /// Whether a variable of this name may occur that gets the type `ty` by a list of pairs (new, old).
+    pub fn has_instance(&self, name: &str, types: &[(Ty, Ty)], ty: &Ty) -> bool
+        ensures { IsFalse result → (s : HolType) → Admits (table_of self.now name.now) s → ty.now ≡ type_put types.now s → ⊥ }
     {
-        !self.is_known || self.by_name.get(name).is_some()
+        match self.types_of(name) {
+            None => true,
+            Some(known) => becomes(known, types, ty),
+        }
     }
 
-    /// Whether a variable of this name, but not of this type, may occur.
-    pub fn has_other_type(&self, name: &str, ty: &Ty) -> bool
-        ensures { IsFalse result → (other : HolType) → Admits (table_of self.now name.now) other → ty.now ≡ other }
+    /// Whether a variable of this name, but not of the type `ty`, may occur that gets the type `new_type` by a list of
+    /// pairs (new, old).
+    pub fn has_other_instance(&self, name: &str, ty: &Ty, types: &[(Ty, Ty)], new_type: &Ty) -> bool
+        ensures { IsFalse result → (s : HolType) → Admits (table_of self.now name.now) s → new_type.now ≡ type_put types.now s → ty.now ≡ s }
     {
-        if !self.is_known {
-            return true;
-        }
-        match self.by_name.get(name) {
-            None => false,
-            Some(known) => match known {
-                None => true,
-                Some(known) => !known.eq(ty),
-            },
+        match self.types_of(name) {
+            None => true,
+            Some(known) => another_becomes(known, ty, types, new_type),
         }
     }
+
+    // The types that variables of this name have, or `None` where they may have any.
+    fn types_of(&self, name: &str) -> Option<&[Ty]>
+        ensures { option_map (λ known. known.now) result ≡ table_of self.now name.now }
+    {
+        if !self.is_known {
+            return None;
+        }
+        types_in(&self.by_name, name)
+    }
+}
+
+// The types that are kept for a name, or `None` where they may be any.
+fn types_in<'a>(by_name: &'a IndexMap<String, Option<Vec<Ty>>>, name: &str) -> Option<&'a [Ty]>
+    ensures { option_map (λ known. known.now) result ≡ types_kept (get_by_text by_name.now name.now) }
+{
+    match by_name.get(name) {
+        None => Some(&[]),
+        Some(known) => match known {
+            None => None,
+            Some(known) => Some(known.as_slice()),
+        },
+    }
+}
+
+// Whether a type of a list becomes the type by pairs (new, old).
+fn becomes(known: &[Ty], types: &[(Ty, Ty)], ty: &Ty) -> bool
+    ensures { result ≡ list_any (λ s. type_eq ty.now (type_put types.now s)) known.now }
+{
+    known.iter().any(|s| is_replaced_type(types, s, ty))
+}
+
+// Whether a type of a list, but not the type `ty`, becomes the new one by pairs (new, old).
+fn another_becomes(known: &[Ty], ty: &Ty, types: &[(Ty, Ty)], new_type: &Ty) -> bool
+    ensures { result ≡ list_any (λ s. not (type_eq s ty.now) && type_eq new_type.now (type_put types.now s)) known.now }
+{
+    known
+        .iter()
+        .any(|s| !s.eq(ty) && is_replaced_type(types, s, new_type))
 }
 
 // Puts the variables of a term into the table.
@@ -73,10 +115,10 @@ impl VariableTypes {
 fn add_variables(
     alloc: Global,
     term: &Term,
-    by_name: &mut IndexMap<String, Option<Ty>>,
+    by_name: &mut IndexMap<String, Option<Vec<Ty>>>,
 ) -> Result<(), Fault>
-    ensures grows { OnOk result (Grows (get_by_text by_name.old) (get_by_text by_name.new)) }
-    ensures has { OnOk result (HasVariables (get_by_text by_name.new) term.now) }
+    ensures grows { OnOk result (Grows (kept_types (get_by_text by_name.old)) (kept_types (get_by_text by_name.new))) }
+    ensures has { OnOk result (HasVariables (kept_types (get_by_text by_name.new)) term.now) }
     ensures err { IfErr result (λ fault. fault ≡ Memory) }
 {
     match term.parts() {
@@ -94,46 +136,58 @@ fn add_variable(
     alloc: Global,
     name: &str,
     ty: &Ty,
-    by_name: &mut IndexMap<String, Option<Ty>>,
+    by_name: &mut IndexMap<String, Option<Vec<Ty>>>,
 ) -> Result<(), Fault>
-    ensures grows { OnOk result (Grows (get_by_text by_name.old) (get_by_text by_name.new)) }
-    ensures has { OnOk result (Admits (get_by_text by_name.new name.now) ty.now) }
+    ensures grows { OnOk result (Grows (kept_types (get_by_text by_name.old)) (kept_types (get_by_text by_name.new))) }
+    ensures has { OnOk result (Admits (kept_types (get_by_text by_name.new) name.now) ty.now) }
     ensures err { IfErr result (λ fault. fault ≡ Memory) }
 {
     if admits(&*by_name, name, ty) {
         return Ok(());
     }
-    let only = only_type(alloc, &*by_name, name, ty)?;
-    by_name.insert(String::from_str(alloc, name)?, only)?;
+    let types = types_with(alloc, &*by_name, name, ty)?;
+    by_name.insert(String::from_str(alloc, name)?, types)?;
     Ok(())
 }
 
 // Whether the variable is in the table.
-fn admits(by_name: &IndexMap<String, Option<Ty>>, name: &str, ty: &Ty) -> bool
-    ensures { IsTrue result → Admits (get_by_text by_name.now name.now) ty.now }
+#[tactic(auto, using(crate::proofs::Variables::known_types))]
+fn admits(by_name: &IndexMap<String, Option<Vec<Ty>>>, name: &str, ty: &Ty) -> bool
+    ensures { IsTrue result → Admits (types_kept (get_by_text by_name.now name.now)) ty.now }
 {
-    match by_name.get(name) {
-        None => false,
-        Some(known) => match known {
-            None => true,
-            Some(known) => known.eq(ty),
-        },
+    match types_in(by_name, name) {
+        None => true,
+        Some(known) => known.iter().any(|s| ty.eq(s)),
     }
 }
 
-// The type that the variables of a name have once there is one of this type: any, where the table has the name.
-fn only_type(
+// The types of a name's variables once there is one of this type: any, where they are too many to be kept.
+#[tactic(auto, using(crate::proofs::Variables::known_types))]
+fn types_with(
     alloc: Global,
-    by_name: &IndexMap<String, Option<Ty>>,
+    by_name: &IndexMap<String, Option<Vec<Ty>>>,
     name: &str,
     ty: &Ty,
-) -> Result<Option<Ty>, Fault>
-    ensures admits { IfOk result (λ only. Admits (Some only) ty.now) }
-    ensures only { IfOk result (λ only. IsOnlyType (get_by_text by_name.now name.now) only) }
+) -> Result<Option<Vec<Ty>>, Fault>
+    ensures admits { IfOk result (λ types. Admits (types_kept (Some types)) ty.now) }
+    ensures widens { IfOk result (λ types. Widens (types_kept (get_by_text by_name.now name.now)) (types_kept (Some types))) }
     ensures err { IfErr result (λ fault. fault ≡ Memory) }
 {
-    match by_name.get(name) {
-        None => Ok(Some(ty.copy(alloc)?)),
-        Some(_) => Ok(None),
+    match types_in(by_name, name) {
+        Some(known) if known.len() < TYPES_KEPT => Ok(Some(with_type(alloc, known, ty)?)),
+        _ => Ok(None),
     }
+}
+
+// The types and one more.
+fn with_type(alloc: Global, known: &[Ty], ty: &Ty) -> Result<Vec<Ty>, Fault>
+    ensures ok { IfOk result (λ types. types.items ≡ known.now ++ ty.now ∷ []) }
+    ensures err { IfErr result (λ fault. fault ≡ Memory) }
+{
+    let mut types = Vec::new(alloc);
+    for s in known {
+        types.push(s.copy(alloc)?)?;
+    }
+    types.push(ty.copy(alloc)?)?;
+    Ok(types)
 }

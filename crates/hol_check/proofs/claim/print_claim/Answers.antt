@@ -1,4 +1,4 @@
-use Rattle.std.proofs.Common.{rules, sym}
+use Rattle.std.proofs.Common.{rules}
 use Rattle.hol_check.proofs.ClaimLemmas.{claim_at}
 use Rattle.hol_check.proofs.claim.print_claim.Goals as goal
 

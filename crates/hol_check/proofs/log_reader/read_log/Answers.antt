@@ -1,6 +1,5 @@
 use Rattle.std.proofs.Common.{Err, ap}
 use Rattle.hol_model.specs.declared.fault.Fault.TheVariants.{TooLong}
-use Rattle.hol_check.specs.LogAnswers.{IsUnderway}
 use Rattle.hol_check.proofs.LogAnswerLemmas.{fault_is, unread_at_first}
 use Rattle.hol_check.proofs.log_reader.read_log.Goals as goal
 

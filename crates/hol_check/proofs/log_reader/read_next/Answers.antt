@@ -1,4 +1,4 @@
-use Rattle.std.proofs.Common.{◌≡◌, ◌++◌, ◌∷◌, [], sym, ap, ◌∙◌, subst, true}
+use Rattle.std.proofs.Common.{◌++◌, ◌∷◌, [], ◌∙◌}
 use Rattle.hol_logtext.specs.Fields.{line_feed}
 use Rattle.hol_check.proofs.LogAnswerLemmas.{leads_on, refused_on, ended_on}
 use Rattle.hol_check.proofs.log_reader.read_next.Goals as goal

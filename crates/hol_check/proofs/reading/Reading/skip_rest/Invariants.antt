@@ -1,4 +1,4 @@
-use Rattle.std.proofs.Common.{◌≡◌, ◌++◌, ◌-◌, ℕ, List, Option, false}
+use Rattle.std.proofs.Common.{◌≡◌, ◌-◌, ℕ, List, Option, false}
 use Rattle.hol_check.specs.Reading.{IsUnread, IsSkipped}
 use Rattle.hol_check.proofs.reading.Reading.skip_rest.Given as goal
 

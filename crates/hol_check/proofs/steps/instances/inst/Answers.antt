@@ -5,7 +5,7 @@ use Rattle.hol_check.specs.State.{sequent_in}
 use Rattle.hol_check.specs.StepPairs.{term_pairs_in}
 use Rattle.hol_check.specs.Steps.{Takes, changed_step}
 use Rattle.hol_check.proofs.PairLemmas.{pairs-grown}
-use Rattle.hol_check.proofs.StateLemmas.{sequent-still}
+use Rattle.hol_check.proofs.StateLemmas.{theorem-grown, sequent-still}
 use Rattle.hol_check.proofs.StepLemmas.{typed-taken}
 use Rattle.hol_check.proofs.InstanceLemmas.{are-term-pairs, putting-is}
 use Rattle.hol_check.proofs.steps.instances.inst.Goals as goal
@@ -19,6 +19,9 @@ changed_theorem-requires-clause-meaning c =
       meaning = putting (term_instance_of theta);
       meant = record { theta = theta; are_pairs = pairs-grown t0.terms t1.terms c.are_replacements.ensures.grows.terms c.args.pairs.now theta (are-term-pairs t0.terms c.args.pairs.now c.requires.pairs); is_meant = refl };
     }
+
+pub changed_theorem-requires-clause-premise : goal.changed_theorem-requires-clause-premise
+changed_theorem-requires-clause-premise c = theorem-grown c.args.terms.now c.are_replacements.new.terms c.are_replacements.ensures.grows c.args.premise.now c.requires.premise
 
 pub returns-in-Ok-true-clause-taken : goal.returns-in-Ok-true-clause-taken
 returns-in-Ok-true-clause-taken c =

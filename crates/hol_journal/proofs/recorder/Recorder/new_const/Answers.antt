@@ -8,7 +8,7 @@ use Rattle.hol_journal.proofs.recorder.Recorder.new_const.Goals as goal
 pub invariant_of-self-2 : goal.invariant_of-self-2
 invariant_of-self-2 c =
     constant-stored (viewed_recorder c.self.inside) c.new_const.new.self c.self.inside.entries.items c.reserve.new.self.items c.push_reserved.new.self.items _
-    c.args.name.now c.args.ty.now c.self.invariant refl c.reserve.ensures.items c.push_reserved.ensures.items c.in-Ok.ensures.outcome
+    c.args.name.now c.args.ty.now c.self.invariant refl c.reserve.ensures.items c.push_reserved.ensures.items c.in-Ok.ensures.outcome c.type_fit.ensures
     (λ i. steps.declared_constant (c.in_ok-from_str.ensures.ok i) (c.in_ok-copy.ensures.ok i))
 
 pub returns-clause-grown : goal.returns-clause-grown

@@ -1,9 +1,10 @@
-use Rattle.std.proofs.Common.{sym}
-use Rattle.hol_script.specs.SessionState.{state_of}
+use Rattle.std.proofs.Common.{sym, ap}
+use Rattle.hol_journal.specs.Journal.{theorem_in}
+use Rattle.hol_script.specs.SessionState.{state_of, theorem_of}
 use Rattle.hol_script.proofs.ReplacementLemmas.{inst_type-answers}
 use Rattle.hol_script.proofs.session.Session.inst_type.Goals as goal
 
 pub returns-in-Some-clause-answers : goal.returns-in-Some-clause-answers
 returns-in-Some-clause-answers c = λ trees matched.
-    inst_type-answers c.inst_type.result (state_of c.args.self.now) trees c.args.name.now c.in-Ok.theta.items c.deref.result.now c.in-Some.theorem.now
-    (c.in-Ok.ensures trees matched) c.deref.ensures.value (sym c.in-Some.ensures.found) c.inst_type.ensures.outcome
+    inst_type-answers (theorem_in c.inst_type.result) (state_of c.args.self.now) trees c.args.name.now c.in-Ok.theta.items c.deref.result.now c.in-Some.theorem.now.theorem
+    (c.in-Ok.ensures trees matched) c.deref.ensures.value (ap theorem_of (sym c.in-Some.ensures)) c.inst_type.ensures.outcome

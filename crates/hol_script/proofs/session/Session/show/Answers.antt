@@ -2,9 +2,9 @@ use Rattle.std.proofs.Common.{◌≡◌, sym, ◌∙◌, ap, subst, Some, string
 use Rattle.std.specs.Option.{option_map}
 use Rattle.hol_model.specs.declared.fault.Fault.TheVariants.{UnknownName}
 use Rattle.hol_model.specs.Reading.{Scope}
-use Rattle.hol_model.specs.Theorem.{Theorem}
 use Rattle.hol_model.specs.Sessions.{show_finds_none, show_prints, theorem_line}
-use Rattle.hol_script.specs.SessionState.{state_of}
+use Rattle.hol_journal.specs.Journal.{Recorded}
+use Rattle.hol_script.specs.SessionState.{state_of, theorem_of}
 use Rattle.hol_script.proofs.RuleLemmas.{proved}
 use Rattle.hol_script.proofs.SessionLemmas.{scope_same, refuses, forgets, prints}
 use Rattle.hol_script.proofs.session.Session.show.Goals as goal
@@ -12,14 +12,16 @@ use Rattle.hol_script.proofs.session.Session.show.Goals as goal
 pub returns-in_default : goal.returns-in_default
 returns-in_default c = λ text spelled.
     refuses (state_of c.args.self.now) (Some text) UnknownName
-    (show_finds_none spelled (sym c.theorem.ensures.found ∙ ap (option_map (λ (theorem : Bor Theorem). theorem.now)) c.in_default.is))
+    (show_finds_none spelled (ap theorem_of (sym c.stored.ensures ∙ ap (option_map (λ (made : Bor Recorded). made.now)) c.in_default.is)))
 
 pub returns-in-Ok : goal.returns-in-Ok
 returns-in-Ok c = λ text spelled.
-    prints (state_of c.args.self.now) (state_of c.args.self.now) (Some text) c.args.name.now c.in-Some.theorem.now c.in-Ok.line
-    (show_prints spelled (sym c.in-Some.ensures.found))
-    (proved c.args.self.now.theory c.in-Some.theorem.now c.sound.ensures c.requires.legal c.concl-theorem.ensures.theorem c.in-Some.ensures.earlier)
-    (subst (λ (scope : Scope). string_bytes c.in-Ok.line ≡ theorem_line scope c.args.name.now c.in-Some.theorem.now) (scope_same c.args.self.now c.requires) c.in-Ok.ensures.ok)
+    let session = c.args.self.now in
+    let theorem = c.in-Some.theorem.now.theorem in
+    prints (state_of session) (state_of session) (Some text) c.args.name.now theorem c.in-Ok.line
+    (show_prints spelled (ap theorem_of (sym c.in-Some.ensures)))
+    (proved session.recorder.theory theorem c.sound.ensures c.requires.legal (rw c.thm-thm.ensures at c.concl-theorem.ensures.theorem) (c.requires.made c.args.name.now c.in-Some.theorem.now (sym c.in-Some.ensures)).earlier)
+    (subst (λ (scope : Scope). string_bytes c.in-Ok.line ≡ theorem_line scope c.args.name.now theorem) (scope_same session c.requires) (rw c.thm-thm.ensures at c.in-Ok.ensures.ok))
 
 pub returns-in-Err : goal.returns-in-Err
 returns-in-Err c = λ text spelled. forgets (state_of c.args.self.now) (Some text) c.in-Err.fault c.in-Err.ensures.err

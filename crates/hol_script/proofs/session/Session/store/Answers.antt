@@ -4,16 +4,17 @@ use Rattle.std.specs.Str.{bytes_eq}
 use Rattle.std.proofs.lemmas.Map.Text.{text_keys}
 use Rattle.indexmap.specs.IndexMap.{get_by_text}
 use Rattle.hol_syntax.specs.Scope.{scope_of}
-use Rattle.hol_script.proofs.SessionLemmas.{stored_earlier}
+use Rattle.hol_script.proofs.RecordingLemmas.{stored_made, stored_theorem}
 use Rattle.hol_script.proofs.session.Session.store.Goals as goal
 
 pub returns-in-Ok-insert-clause-ok : goal.returns-in-Ok-insert-clause-ok
 returns-in-Ok-insert-clause-ok c =
     let stored : (other : List ℕ) → get_by_text c.insert.new.self other ≡ update bytes_eq (get_by_text c.args.self.now.theorems) c.args.name.now (Some c.args.theorem) other = λ other. grind (arith, text_keys) in
+    let theorems = stored_theorem c.args.theorem c.args.name.now (get_by_text c.args.self.now.theorems) (get_by_text c.insert.new.self) stored in
     λ i. record {
-      theory = c.args.self.now.theory;
+      theory = c.args.self.now.recorder.theory;
       variables = (scope_of c.args.self.now.scope).variable_type;
-      theorems = λ other. stored other i;
+      theorems = λ other. theorems other i;
     }
 
 pub returns-in-Ok-insert-clause-kept : goal.returns-in-Ok-insert-clause-kept
@@ -23,5 +24,6 @@ returns-in-Ok-insert-clause-kept c =
       legal = c.requires.session.legal;
       constants = c.requires.session.constants;
       types = c.requires.session.types;
-      earlier = stored_earlier c.args.self.now c.args.theorem c.args.name.now (get_by_text c.insert.new.self) c.requires.session c.requires.earlier stored;
+      made = stored_made c.args.self.now.recorder c.args.theorem c.args.name.now (get_by_text c.args.self.now.theorems) (get_by_text c.insert.new.self)
+          c.requires.session.made c.requires.made stored;
     }

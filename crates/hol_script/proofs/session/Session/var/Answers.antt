@@ -23,10 +23,10 @@ returns-in-Ok-set_var-clause-kept c = var_session c.args.self.now c.set_var.new.
 pub returns-clause-turns : goal.returns-clause-turns
 returns-clause-turns c = λ text tree spelled steps.
     let old = c.args.self.now in
-    forgets_here (state_of old) (state_of (made old old.theory c.set_var.new.self)) (Some text) c.in-Err-set_var.fault
-    (kept_state old (made old old.theory c.set_var.new.self) refl c.in-Err-set_var.ensures.kept (λ name. refl)) c.in-Err-set_var.ensures.err
+    forgets_here (state_of old) (state_of (made old old.recorder c.set_var.new.self)) (Some text) c.in-Err-set_var.fault
+    (kept_state old (made old old.recorder c.set_var.new.self) refl c.in-Err-set_var.ensures.kept (λ name. refl)) c.in-Err-set_var.ensures.err
 
 pub returns-clause-kept : goal.returns-clause-kept
 returns-clause-kept c =
     let old = c.args.self.now in
-    kept_session old (made old old.theory c.set_var.new.self) c.requires refl c.in-Err-set_var.ensures.kept (λ name. refl)
+    kept_session old (made old old.recorder c.set_var.new.self) c.requires refl c.in-Err-set_var.ensures.kept (λ name. refl)

@@ -1,0 +1,10 @@
+pub mod StepLemmas
+pub mod Sizes
+pub mod CutLemmas
+pub mod SymLemmas
+pub mod LemmaLemmas
+pub mod DerivationSize
+pub mod DerivationLemmas
+pub mod PreludeLemmas
+pub mod BetaLemmas
+pub mod TruthLemmas

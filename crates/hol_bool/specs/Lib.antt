@@ -1,0 +1,5 @@
+pub mod Sequents
+pub mod Sketches
+pub mod Derivations
+pub mod Makings
+pub mod Prelude

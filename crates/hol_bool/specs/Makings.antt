@@ -1,0 +1,37 @@
+-- What a list of definitions and derivations comes to.
+use Rattle.std.specs.Prelude.{List, [], ◌∷◌, ◌++◌, Result, Ok, Err}
+use Rattle.std.specs.declared.vec.Vec.{Vec}
+use Rattle.std.specs.declared.alloc.Global.{Global}
+use Rattle.hol_model.specs.declared.fault.Fault.{Fault}
+use Rattle.hol_model.specs.Outcome.{Answers}
+use Rattle.hol_model.specs.Theory.{Theory}
+use Rattle.hol_model.specs.Theorem.{Theorem}
+use Rattle.hol_model.specs.Rules.{define_outcome}
+use Rattle.hol_journal.specs.Journal.{Recorded}
+use Rattle.hol_bool.specs.Sketches.{followed, term_outcome}
+use Rattle.hol_bool.specs.Derivations.{theorems, derived_outcome}
+use Rattle.hol_bool.specs.declared.making.Making.{Making}
+use Rattle.hol_bool.specs.declared.making.Making.TheVariants.{Define, Derive}
+
+abbrev pub made_outcome : Theory → List Theorem → Making → Result Theorem Fault
+made_outcome theory earlier (Define name body) = followed (term_outcome body.now) (λ body. define_outcome theory name.now body)
+made_outcome theory earlier (Derive derivation) = derived_outcome theory earlier derivation.now
+
+-- the theory after a definition or a derivation of this theorem
+abbrev pub next_theory : Theory → Making → Theorem → Theory
+next_theory theory (Define name body) theorem = theorem.theory
+next_theory theory (Derive derivation) theorem = theory
+
+-- the earlier theorems, and those of the list
+abbrev pub all_made : Theory → List Theorem → List Making → Result (List Theorem) Fault
+all_made theory earlier [] = Ok earlier
+all_made theory earlier (making ∷ makings) =
+    followed (made_outcome theory earlier making) (λ theorem. all_made (next_theory theory making theorem) (earlier ++ theorem ∷ []) makings)
+
+abbrev pub theorems_in : Result (Vec Recorded Global) Fault → Result (List Theorem) Fault
+theorems_in (Ok all) = Ok (theorems all.items)
+theorems_in (Err fault) = Err fault
+
+-- what a call answers that makes the list, from no theorems
+pub record MakesAll (theory : Theory) (makings : List Making) (result : Result (Vec Recorded Global) Fault) : Type 0 where
+  pub answers : Answers (theorems_in result) (all_made theory [] makings)

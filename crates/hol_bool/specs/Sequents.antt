@@ -1,0 +1,57 @@
+-- Sequents by image: what a theorem says up to the names of bound variables, and what a call that derives one answers.
+use Rattle.std.specs.Prelude.{◌≡◌, ◌⊎◌, List, ◌∷◌, map, Bool, false, Result, Ok, Err, IfOk}
+use Rattle.std.specs.List.{list_all}
+use Rattle.hol_model.specs.declared.fault.Fault.{Fault}
+use Rattle.hol_model.specs.declared.fault.Fault.TheVariants.{Memory, TooLarge}
+use Rattle.hol_model.specs.HolType.{HolType}
+use Rattle.hol_model.specs.NamedTerm.{NamedTerm}
+use Rattle.hol_model.specs.Nameless.{Nameless, image}
+use Rattle.hol_model.specs.Substitution.{put_all}
+use Rattle.hol_model.specs.Instantiation.{instantiate_all}
+use Rattle.hol_model.specs.Measures.{nameless_within_limits}
+use Rattle.hol_model.specs.Derivable.{IsSameSet}
+use Rattle.hol_model.specs.Theorem.{Theorem}
+use Rattle.hol_journal.specs.Journal.{Journal, Recorded, IsMade}
+use Rattle.hol_journal.specs.Growth.{IsGrown}
+
+-- the theorem's hypotheses are this set, and its conclusion is this term
+pub record Shows (theorem : Theorem) (hypotheses : List Nameless) (conclusion : Nameless) : Type 0 where
+  pub same_set : IsSameSet hypotheses (map image theorem.hypotheses)
+  pub concludes : image theorem.conclusion ≡ conclusion
+
+-- there is no memory, or what has to be within the limits is not
+abbrev pub IsPast : Fault → Bool → Type 0
+IsPast fault within = (fault ≡ Memory) ⊎ ((fault ≡ TooLarge) × (within ≡ false))
+
+-- a theorem of this sequent; or there is no memory, or what has to fit does not
+abbrev pub DerivesIf : Bool → Result Recorded Fault → List Nameless → Nameless → Type 0
+DerivesIf fits (Ok made) hypotheses conclusion = Shows made.theorem hypotheses conclusion
+DerivesIf fits (Err fault) hypotheses conclusion = IsPast fault fits
+
+-- the conclusion has to be within the limits
+abbrev pub Derives : Result Recorded Fault → List Nameless → Nameless → Type 0
+Derives result hypotheses conclusion = DerivesIf (nameless_within_limits conclusion) result hypotheses conclusion
+
+-- each of its terms has to be within the limits
+abbrev pub DerivesInstance : Result Recorded Fault → List Nameless → Nameless → Type 0
+DerivesInstance result hypotheses conclusion = DerivesIf (list_all nameless_within_limits (conclusion ∷ hypotheses)) result hypotheses conclusion
+
+-- a theorem of this sequent; or there is no memory
+abbrev pub Gives : Result Recorded Fault → List Nameless → Nameless → Type 0
+Gives (Ok made) hypotheses conclusion = Shows made.theorem hypotheses conclusion
+Gives (Err fault) hypotheses conclusion = fault ≡ Memory
+
+-- the recorder made the theorem, and it stands on the recorder's theory
+pub record IsHeld (journal : Journal) (answer : Recorded) : Type 0 where
+  pub made : IsMade journal answer
+  pub stands_on : answer.theorem.theory ≡ journal.theory
+
+-- after a call the journal has grown, the theory is the same, and what the call answers is held
+pub record Continues (old new : Journal) (result : Result Recorded Fault) : Type 0 where
+  pub grown : IsGrown old new
+  pub theory : new.theory ≡ old.theory
+  pub held : IfOk result (IsHeld new)
+
+-- a term with types for type variables, and then terms for variables, by lists of replacements (new, old)
+abbrev pub instance_of : List (HolType × HolType) → List (NamedTerm × NamedTerm) → Nameless → Nameless
+instance_of types terms term = put_all terms (instantiate_all types term)

@@ -1,0 +1,26 @@
+//! Rules of the logic of truth values, derived from the kernel's rules (HOL Light's `equal.ml` and `bool.ml`). Each
+//! theorem is made by a recorder's calls.
+#![tactic(auto)]
+
+mod conjunction;
+mod derivation;
+mod equality;
+mod formulas;
+mod lemma;
+mod logic;
+mod making;
+mod sketch;
+mod steps;
+mod stored;
+mod truth;
+mod truth_rules;
+
+pub use equality::{add_assum, beta_conv, named, prove_hyp, sym};
+pub use lemma::{by_lemma, instance};
+pub use stored::{Bool, prelude};
+pub use truth_rules::eqt_intro;
+
+#[cfg(test)]
+mod prelude_tests;
+#[cfg(test)]
+mod rule_tests;

@@ -1,0 +1,115 @@
+// Each rule once, on small formulas.
+use crate::{add_assum, beta_conv, by_lemma, instance, named, prove_hyp, steps, sym};
+use hol_alpha::aconv;
+use hol_journal::Recorder;
+use hol_model::Fault;
+use hol_terms::{Term, mk_eq};
+use hol_types::Ty;
+use std::alloc::Global;
+use std::test::Fail;
+
+// A variable of type `bool`.
+fn formula(alloc: Global, name: &str) -> Result<Term, Fault> {
+    let boolean = Ty::boolean(alloc)?;
+    Term::mk_var(alloc, name, &boolean)
+}
+
+// `\x. x`, the variable of this name.
+fn identity(alloc: Global, name: &str) -> Result<Term, Fault> {
+    let variable = formula(alloc, name)?;
+    Term::mk_abs(alloc, &variable, &variable)
+}
+
+// `p = q |- p = q` turned.
+fn turned(alloc: Global) -> Result<bool, Fault> {
+    let p = formula(alloc, "p")?;
+    let q = formula(alloc, "q")?;
+    let equation = mk_eq(alloc, &p, &q)?;
+    let wanted = mk_eq(alloc, &q, &p)?;
+    let mut recorder = Recorder::new(alloc)?;
+    let premise = steps::assume(&mut recorder, alloc, &equation)?;
+    let answer = sym(&mut recorder, alloc, &premise)?;
+    Ok(aconv(recorder.thm(&answer).concl(), &wanted))
+}
+
+// `q |- q` with the hypothesis `p`.
+fn weakened(alloc: Global) -> Result<bool, Fault> {
+    let p = formula(alloc, "p")?;
+    let q = formula(alloc, "q")?;
+    let mut recorder = Recorder::new(alloc)?;
+    let premise = steps::assume(&mut recorder, alloc, &q)?;
+    let answer = add_assum(&mut recorder, alloc, &p, &premise)?;
+    Ok(recorder.thm(&answer).hyps().len() == 2)
+}
+
+// `p |- p` with its own hypothesis taken away by itself.
+fn taken_away(alloc: Global) -> Result<bool, Fault> {
+    let p = formula(alloc, "p")?;
+    let mut recorder = Recorder::new(alloc)?;
+    let premise = steps::assume(&mut recorder, alloc, &p)?;
+    let answer = prove_hyp(&mut recorder, alloc, &premise, &premise)?;
+    Ok(recorder.thm(&answer).hyps().len() == 1)
+}
+
+// `(\x. x) p = p`.
+fn converted(alloc: Global) -> Result<bool, Fault> {
+    let p = formula(alloc, "p")?;
+    let function = identity(alloc, "x")?;
+    let redex = Term::mk_comb(alloc, &function, &p)?;
+    let wanted = mk_eq(alloc, &redex, &p)?;
+    let mut recorder = Recorder::new(alloc)?;
+    let answer = beta_conv(&mut recorder, alloc, &redex)?;
+    Ok(aconv(recorder.thm(&answer).concl(), &wanted))
+}
+
+// `(\x. x) p |- (\x. x) p` with `y` for `x`.
+fn renamed(alloc: Global) -> Result<bool, Fault> {
+    let p = formula(alloc, "p")?;
+    let first = identity(alloc, "x")?;
+    let second = identity(alloc, "y")?;
+    let redex = Term::mk_comb(alloc, &first, &p)?;
+    let wanted = Term::mk_comb(alloc, &second, &p)?;
+    let mut recorder = Recorder::new(alloc)?;
+    let premise = steps::assume(&mut recorder, alloc, &redex)?;
+    let answer = named(&mut recorder, alloc, &wanted, &premise)?;
+    Ok(aconv(recorder.thm(&answer).concl(), &wanted))
+}
+
+// `p |- p` at `q`.
+fn instantiated(alloc: Global) -> Result<bool, Fault> {
+    let p = formula(alloc, "p")?;
+    let q = formula(alloc, "q")?;
+    let mut recorder = Recorder::new(alloc)?;
+    let lemma = steps::assume(&mut recorder, alloc, &p)?;
+    let theta = [(q.copy(alloc)?, p)];
+    let answer = instance(&mut recorder, alloc, &[], &theta, &lemma)?;
+    Ok(aconv(recorder.thm(&answer).concl(), &q))
+}
+
+// The lemma `p |- p` at `p`, from `p`.
+fn by_assumption(alloc: Global) -> Result<bool, Fault> {
+    let p = formula(alloc, "p")?;
+    let mut recorder = Recorder::new(alloc)?;
+    let lemma = steps::assume(&mut recorder, alloc, &p)?;
+    let answer = by_lemma(&mut recorder, alloc, &[], &[], &lemma, &lemma)?;
+    Ok(aconv(recorder.thm(&answer).concl(), &p))
+}
+
+#[test]
+fn rules_without_connectives(rt: HostRuntime) -> Result<(), Fail> {
+    let alloc = rt.alloc();
+    assert!(rt; turned(alloc)?);
+    assert!(rt; weakened(alloc)?);
+    assert!(rt; taken_away(alloc)?);
+    assert!(rt; converted(alloc)?);
+    Ok(())
+}
+
+#[test]
+fn other_names_and_instances(rt: HostRuntime) -> Result<(), Fail> {
+    let alloc = rt.alloc();
+    assert!(rt; renamed(alloc)?);
+    assert!(rt; instantiated(alloc)?);
+    assert!(rt; by_assumption(alloc)?);
+    Ok(())
+}

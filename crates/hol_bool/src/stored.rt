@@ -1,0 +1,44 @@
+// The theorems of the prelude.
+ghost use Rattle.std.specs.Prelude.{◌≡◌, [], IfOk, IfErr};
+ghost use Rattle.hol_model.specs.Logic.{logical_definitions};
+ghost use Rattle.hol_model.specs.declared.fault.Fault.TheVariants.{Memory};
+ghost use Rattle.hol_journal.specs.Growth.{IsGrown};
+ghost use Rattle.hol_bool.specs.Derivations.{theorems, AreMade};
+ghost use Rattle.hol_bool.specs.Prelude.{prelude_theorems};
+
+use crate::logic::PRELUDE;
+use crate::making::make_table;
+use hol_journal::{Rec, Recorder};
+use hol_model::Fault;
+use std::alloc::Global;
+
+/// The stored theorems T_DEF, AND_DEF, IMP_DEF, FORALL_DEF, EXISTS_DEF, OR_DEF, F_DEF, NOT_DEF and TRUTH, and the
+/// theorems from which rules are made.
+#[derive(Drop)]
+pub struct Bool {
+    theorems: Vec<Rec>,
+}
+
+impl Bool {
+    /// The theorems, in the order in which they were made.
+    pub fn theorems(&self) -> &[Rec]
+        ensures { result.now ≡ self.now.theorems.items }
+    {
+        &self.theorems
+    }
+}
+
+/// The logical constants, defined over a theory without definitions, and the theorems of the prelude. It is refused
+/// where there is no memory, and for no other reason.
+pub fn prelude(recorder: &mut Recorder, alloc: Global) -> Result<Bool, Fault>
+    requires new { recorder.old.theory ≡ [] }
+    ensures ok { IfOk result (λ bool. theorems bool.theorems.items ≡ prelude_theorems) }
+    ensures made { IfOk result (λ bool. AreMade recorder.new bool.theorems.items) }
+    ensures err { IfErr result (λ fault. fault ≡ Memory) }
+    ensures grown { IsGrown recorder.old recorder.new }
+{
+    match make_table(recorder, alloc, &PRELUDE) {
+        Ok(theorems) => Ok(Bool { theorems }),
+        Err(fault) => Err(fault),
+    }
+}

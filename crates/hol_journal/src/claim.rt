@@ -1,0 +1,10 @@
+// Claims.
+
+use crate::recorder::Rec;
+
+/// A name for a theorem of a recorder.
+#[derive(Clone, Copy)]
+pub struct Claim<'a> {
+    pub name: &'a str,
+    pub theorem: &'a Rec,
+}

@@ -1,0 +1,125 @@
+-- What was recorded stays made by the recorder, and what the rules answer stands on its theory.
+use Rattle.std.proofs.Common.{◌≡◌, ℕ, List, [], ◌∷◌, refl, sym, subst, ap, ◌∙◌, Option, None, Some, Result, Ok, Err}
+use Rattle.std.specs.Prelude.{Bool, true, false, cond, IfOk}
+use Rattle.std.specs.Map.{update}
+use Rattle.std.specs.Str.{bytes_eq}
+use Rattle.indexmap.specs.IndexMap.{get_by_text}
+use Rattle.hol_model.specs.declared.fault.Fault.{Fault}
+use Rattle.hol_model.specs.declared.fault.Fault.TheVariants.{NotBool, NotTrivialBeta}
+use Rattle.hol_model.specs.declared.rule.TermRule.{TermRule}
+use Rattle.hol_model.specs.declared.rule.TermRule.TheVariants.{Refl, Beta, Assume}
+use Rattle.hol_model.specs.NamedTerm.{NamedTerm, equation, is_within_limits}
+use Rattle.hol_model.specs.Theory.{Theory, generic_type, IsLegal}
+use Rattle.hol_model.specs.KnownTerm.{is_declared}
+use Rattle.hol_model.specs.Theorem.{Theorem}
+use Rattle.hol_model.specs.Outcome.{Answers, unless, given, refused}
+use Rattle.hol_model.specs.Rules.{first_unknown, dest_trivial_redex, is_formula, concluded}
+use Rattle.hol_model.specs.Sessions.{term_rule_outcome}
+use Rattle.hol_journal.specs.Journal.{Journal, Recorded, IsMade, theorem_in}
+use Rattle.hol_journal.specs.Growth.{IsGrown, JournalsGrow}
+use Rattle.hol_syntax.specs.declared.scope.Scope.{Scope as ScopeHere}
+use Rattle.hol_syntax.specs.Scope.{scope_of}
+use Rattle.hol_script.specs.declared.session.Session.{Session}
+use Rattle.hol_script.specs.SessionState.{state_of, theorem_of, AreMade, IsSession}
+use Rattle.hol_script.specs.Recording.{Records, AppliesRule}
+
+-- ---- stored theorems
+
+-- as the journal grows
+pub still_made : (old new : Journal) (stored : List ℕ → Option Recorded) → JournalsGrow → IsGrown old new → AreMade old stored → AreMade new stored
+still_made old new stored grow grown made name answer found = grow.stays old new answer grown (made name answer found)
+
+-- with one more
+pub stored_made : (journal : Journal) (answer : Recorded) (name : List ℕ) (old new : List ℕ → Option Recorded) → AreMade journal old → IsMade journal answer
+    → ((other : List ℕ) → new other ≡ update bytes_eq old name (Some answer) other) → AreMade journal new
+stored_made journal answer name old new made is_made stored other found same = go (bytes_eq name other) (sym (stored other) ∙ same)
+  where
+    go : (test : Bool) → cond test (Some answer) (old other) ≡ Some found → IsMade journal found
+    go true is = (let one : answer ≡ found = cc in subst (IsMade journal) one is_made)
+    go false is = made other found is
+
+-- and what the names then stand for
+pub stored_theorem : (answer : Recorded) (name : List ℕ) (old new : List ℕ → Option Recorded) → ((other : List ℕ) → new other ≡ update bytes_eq old name (Some answer) other)
+    → (other : List ℕ) → theorem_of (new other) ≡ cond (bytes_eq name other) (Some answer.theorem) (theorem_of (old other))
+stored_theorem answer name old new stored other = ap theorem_of (stored other) ∙ go (bytes_eq name other)
+  where
+    go : (test : Bool) → theorem_of (cond test (Some answer) (old other)) ≡ cond test (Some answer.theorem) (theorem_of (old other))
+    go true = refl
+    go false = refl
+
+-- ---- the theory of an outcome's theorem
+
+-- the theorem stands on this theory
+abbrev pub StandsOn : Theory → Result Theorem Fault → Type 0
+StandsOn theory (Ok theorem) = theorem.theory ≡ theory
+StandsOn theory (Err fault) = Unit {0}
+
+unless-stands : (theory : Theory) (test : Bool) (fault : Fault) (next : Result Theorem Fault) → StandsOn theory next → StandsOn theory (unless test fault next)
+unless-stands theory true fault next stands = stands
+unless-stands theory false fault next stands = tt
+
+refused-stands : (theory : Theory) (refusal : Option Fault) (next : Result Theorem Fault) → StandsOn theory next → StandsOn theory (refused refusal next)
+refused-stands theory None next stands = stands
+refused-stands theory (Some fault) next stands = tt
+
+given-stands : {A : Type 0} (theory : Theory) (found : Option A) (fault : Fault) (next : A → Result Theorem Fault) → ((x : A) → StandsOn theory (next x)) → StandsOn theory (given found fault next)
+given-stands theory None fault next stands = tt
+given-stands theory (Some x) fault next stands = stands x
+
+concluded-stands : (theory : Theory) (hypotheses : List NamedTerm) (conclusion : NamedTerm) → StandsOn theory (concluded theory hypotheses conclusion)
+concluded-stands theory hypotheses conclusion = unless-stands theory (is_within_limits conclusion) _ _ refl
+
+term_rule-stands : (rule : TermRule) (theory : Theory) (term : NamedTerm) → StandsOn theory (term_rule_outcome rule theory term)
+term_rule-stands Refl theory term =
+    refused-stands theory (first_unknown theory term) (concluded theory [] (equation term term)) (concluded-stands theory [] (equation term term))
+term_rule-stands Beta theory term =
+    given-stands theory (dest_trivial_redex term) NotTrivialBeta (λ body. refused (first_unknown theory term) (concluded theory [] (equation term body)))
+    (λ body. refused-stands theory (first_unknown theory term) (concluded theory [] (equation term body)) (concluded-stands theory [] (equation term body)))
+term_rule-stands Assume theory term =
+    let assumed : Result Theorem Fault = Ok (record { theory = theory; hypotheses = term ∷ []; conclusion = term }) in
+    unless-stands theory (is_formula term) NotBool (refused (first_unknown theory term) assumed) (refused-stands theory (first_unknown theory term) assumed refl)
+
+-- so does what a call answers
+answer-stands : (theory : Theory) (outcome : Result Theorem Fault) (theorem : Theorem) → StandsOn theory outcome → outcome ≡ Ok theorem → theorem.theory ≡ theory
+answer-stands theory outcome theorem stands is = subst (StandsOn theory) is stands
+
+-- ---- what a rule leaves
+
+abbrev pub over_journal : Session → Journal → Session
+over_journal session recorder = record session { recorder = recorder }
+
+-- what the recorder answered for a rule on a term
+pub term_rule-answered : (session : Session) (new : Journal) (result : Result Recorded Fault) (rule : TermRule) (term : NamedTerm) → Answers (theorem_in result) (term_rule_outcome rule session.recorder.theory term)
+    → IfOk result (Records session.recorder new) → IfOk result (AppliesRule session (over_journal session new))
+term_rule-answered session new (Ok made) rule term answers records = record {
+  records = records;
+  stands_on = answer-stands session.recorder.theory (term_rule_outcome rule session.recorder.theory term) made.theorem (term_rule-stands rule session.recorder.theory term) answers;
+  scope = refl;
+  theorems = refl;
+}
+term_rule-answered session new (Err fault) rule term answers records = tt
+
+-- the session after a rule
+module _ (old new : Session) (made : Recorded) (applies : AppliesRule old new made) where
+  pub same_theory : new.recorder.theory ≡ old.recorder.theory
+  same_theory = sym applies.records.is_recorded.stands_on ∙ applies.stands_on
+
+  pub rule_state : state_of new ≡ state_of old
+  rule_state = λ i. record {
+    theory = same_theory i;
+    variables = (scope_of (applies.scope i)).variable_type;
+    theorems = λ name. theorem_of (get_by_text (applies.theorems i) name);
+  }
+
+  pub rule_made : JournalsGrow → IsMade new.recorder made
+  rule_made grow = grow.made old.recorder new.recorder applies.records.step made applies.records.is_recorded
+
+  pub rule_session : JournalsGrow → IsSession old → IsSession new
+  rule_session grow known = record {
+    legal = subst IsLegal (sym same_theory) known.legal;
+    constants = λ name. ap (λ (s : ScopeHere). (scope_of s).generic_type name) applies.scope ∙ known.constants name ∙ ap (λ (t : Theory). generic_type t name) (sym same_theory);
+    types = λ name. ap (λ (s : ScopeHere). (scope_of s).declares_type name) applies.scope ∙ known.types name ∙ ap (λ (t : Theory). is_declared t name) (sym same_theory);
+    made = still_made old.recorder new.recorder (get_by_text new.theorems) grow
+        (grow.grown old.recorder new.recorder applies.records.step made applies.records.is_recorded)
+        (λ name answer found. known.made name answer (sym (ap (λ ts. get_by_text ts name) applies.theorems) ∙ found));
+  }

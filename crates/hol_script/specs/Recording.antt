@@ -1,0 +1,17 @@
+-- What the rules add to the journal of a session.
+use Rattle.std.specs.Prelude.{◌≡◌}
+use Rattle.hol_journal.specs.Steps.{Step}
+use Rattle.hol_journal.specs.Journal.{Journal, Recorded, IsRecorded}
+use Rattle.hol_script.specs.declared.session.Session.{Session}
+
+-- the theorem was recorded as one more entry
+pub record Records (old new : Journal) (made : Recorded) : Type 0 where
+  pub step : Step
+  pub is_recorded : IsRecorded old new step made
+
+-- the theorem of a rule was recorded, over the same theory, and all else is as before
+pub record AppliesRule (old new : Session) (made : Recorded) : Type 0 where
+  pub records : Records old.recorder new.recorder made
+  pub stands_on : made.theorem.theory ≡ old.recorder.theory
+  pub scope : new.scope ≡ old.scope
+  pub theorems : new.theorems ≡ old.theorems

@@ -1,0 +1,77 @@
+// The binder of an abstraction after the replacement.
+ghost use Rattle.std.specs.Prelude.{◌≡◌, ◌<◌, [], ◌∷◌, IfOk, IfErr, IsTrue, Contains};
+ghost use Rattle.hol_model.specs.HolType.{type_nodes, type_put};
+ghost use Rattle.hol_model.specs.Name.{is_identifier};
+ghost use Rattle.hol_model.specs.declared.fault.Fault.TheVariants.{Memory, TooLarge};
+ghost use Rattle.hol_subst.specs.Binders.{IsBinderAfter};
+ghost use Rattle.hol_subst.specs.Replacements.{entries_of};
+ghost use Rattle.hol_subst.specs.Touched.{Covers};
+ghost use Rattle.hol_subst.specs.VariableTypes.{HasVariables, table_of};
+
+use crate::capture::captures;
+use crate::fresh::fresh_binder;
+use crate::passed::Passed;
+use crate::replacements::Replacements;
+use crate::touched::Touched;
+use crate::variable_types::VariableTypes;
+use hol_model::{Fault, TYPE_NODES_LIMIT};
+use hol_terms::Term;
+use hol_types::{Ty, replaced_type};
+use std::alloc::Global;
+
+/// The binder of an abstraction after the replacement.
+#[derive(Drop)]
+pub enum NewBinder {
+    // It keeps its name, and has this type, or its own.
+    Kept(Option<Ty>),
+    // This variable, since the old one would capture.
+    Renamed(Term),
+}
+
+/// What becomes of a binder over a body.
+pub fn new_binder(
+    alloc: Global,
+    name: &str,
+    ty: &Ty,
+    body: &Term,
+    types: &[(Ty, Ty)],
+    replacements: &Replacements<'_>,
+    touched: Touched,
+    variables: &VariableTypes,
+) -> Result<NewBinder, Fault>
+    requires named { IsTrue (is_identifier name.now) }
+    requires known { HasVariables (table_of variables.now) body.now }
+    requires covered { Covers touched.old.bits touched.new.bits (entries_of replacements.now) }
+    ensures ok { IfOk result (IsBinderAfter (entries_of replacements.now) types.now name.now ty.now body.now) }
+    ensures too_large { result ≡ Err TooLarge → TYPE_NODES_LIMIT < type_nodes (type_put types.now ty.now) }
+    ensures refusals { IfErr result (Contains (TooLarge ∷ Memory ∷ [])) }
+{
+    let changed_type = replaced_type(alloc, types, ty)?;
+    let new_type = changed_type.as_ref().unwrap_or(ty);
+    if !captures(
+        name,
+        ty,
+        new_type,
+        body,
+        types,
+        &*replacements,
+        touched,
+        variables,
+    ) {
+        return Ok(NewBinder::Kept(changed_type));
+    }
+    let outermost = Passed::Outermost;
+    let passed = Passed::Under(name, ty, &outermost);
+    let fresh = fresh_binder(
+        alloc,
+        body,
+        name,
+        new_type,
+        types,
+        &passed,
+        &*replacements,
+        touched,
+        variables,
+    )?;
+    Ok(NewBinder::Renamed(fresh))
+}
