@@ -1,4 +1,5 @@
 pub mod Sequents
+pub mod HasLogic
 pub mod Sketches
 pub mod Derivations
 pub mod Makings

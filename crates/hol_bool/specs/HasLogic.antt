@@ -1,0 +1,11 @@
+-- A recorder that has the logical constants and the theorems of the prelude.
+use Rattle.std.specs.Prelude.{◌≡◌}
+use Rattle.hol_journal.specs.Journal.{Journal}
+use Rattle.hol_bool.specs.Derivations.{theorems, AreMade}
+use Rattle.hol_bool.specs.Prelude.{prelude_theorems}
+use Rattle.hol_bool.specs.declared.stored.Bool.{Bool}
+
+-- the recorder made the theorems of the prelude, so that its theory stands on the definitions of the logical constants
+pub record HasLogic (journal : Journal) (logic : Bool) : Type 0 where
+  pub theorems_are : theorems logic.theorems.items ≡ prelude_theorems
+  pub made : AreMade journal logic.theorems.items
