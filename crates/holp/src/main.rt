@@ -2,7 +2,11 @@
 #![tactic(auto)]
 
 mod files;
+#[cfg(test)]
+mod log_tests;
 mod new_file;
+#[cfg(test)]
+mod recorder_tests;
 mod status;
 
 use clap::{Arg, ArgAction, ArgMatches, Command};

@@ -1,7 +1,7 @@
 // Pruned logs of small journals, with the expected bytes by hand.
 ghost use Rattle.hol_journal.specs.Journal.{IsMade};
 
-use crate::{Claim, Rec, Recorder, journals_grow};
+use hol_journal::{Claim, Rec, Recorder, journals_grow};
 use hol_logtext::{Line, write_line};
 use hol_model::Fault;
 use hol_terms::Term;

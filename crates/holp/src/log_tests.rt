@@ -1,7 +1,7 @@
 // Whole logs with the answers that they must have.
 ghost use Rattle.std.specs.Prelude.{◌≡◌, false};
 
-use crate::{TermParts, TermView, check, migrate, write_claims};
+use hol_check::{TermParts, TermView, check, migrate, write_claims};
 use hol_model::{Cause, DeviceFail, Fault, FromRead, Sink, Source};
 use itoa::Buffer;
 use std::alloc::Global;
