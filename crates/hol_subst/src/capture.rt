@@ -179,6 +179,37 @@ fn kept_in_body(
     NameClasses::of_name(name)
 }
 
+/// How many nodes are gone into in search of a kept variable that a binder, which captures none, might have captured.
+pub fn walked_in_vain(
+    name: &str,
+    ty: &Ty,
+    new_type: &Ty,
+    body: &Term,
+    types: &[(Ty, Ty)],
+    variables: &VariableTypes,
+) -> u64 {
+    let may_change = changes_type(types, ty) || changes_types(types, body);
+    if may_change && variables.has_other_instance(name, ty, types, new_type) {
+        nodes_meeting(body, NameClasses::of_name(name))
+    } else {
+        0
+    }
+}
+
+// How many nodes a walk goes into that passes over parts in which no variable of these classes stands.
+fn nodes_meeting(term: &Term, classes: NameClasses) -> u64 {
+    if !classes.meets(term.names()) {
+        return 1;
+    }
+    match term.parts() {
+        Parts::Variable(_, _) | Parts::Constant(_, _) => 1,
+        Parts::Combination(function, argument) => nodes_meeting(function, classes)
+            .saturating_add(nodes_meeting(argument, classes))
+            .saturating_add(1),
+        Parts::Abstraction(_, _, body) => nodes_meeting(body, classes).saturating_add(1),
+    }
+}
+
 // The classes of the variables that may become a variable of this name and type.
 #[tactic(auto, using(crate::proofs::Standing::keeping_classes))]
 fn kept_in(name: &str, ty: &Ty, types: &[(Ty, Ty)], variables: &VariableTypes) -> NameClasses
