@@ -21,6 +21,8 @@ const TYPES_KEPT: usize = 16;
 #[derive(Drop)]
 pub struct VariableTypes {
     is_known: bool,
+    // How often walks in vain have to go into as many nodes as a part has before it gets a table of its own.
+    price: u64,
     // A name's types, or `None` where they may be any.
     by_name: IndexMap<String, Option<Vec<Ty>>>,
 }
@@ -32,6 +34,7 @@ impl VariableTypes {
     {
         VariableTypes {
             is_known: false,
+            price: 1,
             by_name: IndexMap::new(alloc),
         }
     }
@@ -41,10 +44,31 @@ impl VariableTypes {
         ensures ok { IfOk result (λ types. HasVariables (table_of types) term.now) }
         ensures err { IfErr result (λ fault. fault ≡ Memory) }
     {
+        VariableTypes::at_price(alloc, term, 1)
+    }
+
+    /// The types of the variables of a part alone. The next smaller part has to be worth twice as much.
+    pub fn narrowed(&self, alloc: Global, part: &Term) -> Result<VariableTypes, Fault>
+        ensures ok { IfOk result (λ types. HasVariables (table_of types) part.now) }
+        ensures err { IfErr result (λ fault. fault ≡ Memory) }
+    {
+        VariableTypes::at_price(alloc, part, self.price.saturating_mul(2))
+    }
+
+    /// Whether a table of its own is worth its cost for a part, where walks in vain went into so many nodes.
+    pub fn is_worth_narrowing(&self, walked: u64, part: &Term) -> bool {
+        self.is_known && walked >= self.price.saturating_mul(u64::from(part.nodes()))
+    }
+
+    fn at_price(alloc: Global, term: &Term, price: u64) -> Result<VariableTypes, Fault>
+        ensures ok { IfOk result (λ types. HasVariables (table_of types) term.now) }
+        ensures err { IfErr result (λ fault. fault ≡ Memory) }
+    {
         let mut by_name = IndexMap::new(alloc);
         add_variables(alloc, term, &mut by_name)?;
         Ok(VariableTypes {
             is_known: true,
+            price,
             by_name,
         })
     }
