@@ -1,9 +1,9 @@
 #!/bin/sh
 # A proof log of abstractions over shared open terms: `open.sh ROUNDS DOUBLINGS`.
 # Each round has a function f of its own, the terms d_0 = x and d_(i+1) = f d_i d_i up to DOUBLINGS
-# (at most 19, by the limit on nodes), the abstraction of the last over x, and REFL of it. As a tree the body has about
+# (at most 18, by the limit on nodes), the abstraction of the last over x, and REFL of it. As a tree the body has about
 # 4 * 2^DOUBLINGS nodes, and 2 * DOUBLINGS distinct parts. Time a check with
-#     sh bench/open.sh 1000 19 > /tmp/open.log && time crates/holp/out/holp check /tmp/open.log
+#     sh bench/open.sh 1000 18 > /tmp/open.log && time crates/holp/out/holp check /tmp/open.log
 if [ $# -ne 2 ]; then
     echo "usage: open.sh ROUNDS DOUBLINGS" >&2
     exit 2
