@@ -31,7 +31,7 @@ pub enum NewBinder {
 
 /// What becomes of a binder over a body. The hint tells where a captured variable may stand in the body, and is set to
 /// where one was found.
-pub fn new_binder(
+pub(crate) fn new_binder(
     alloc: Global,
     name: &str,
     ty: &Ty,

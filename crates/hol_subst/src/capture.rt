@@ -35,7 +35,7 @@ struct Sought {
 /// Whether a variable is free in a term, which stands under the passed binders, after the replacement. The hint tells
 /// where what becomes it may stand.
 #[tactic(auto, using(crate::proofs::Standing::keeping_classes))]
-pub fn is_free_after(
+pub(crate) fn is_free_after(
     term: &Term,
     name: &str,
     ty: &Ty,
@@ -82,7 +82,7 @@ pub fn is_free_after(
 
 /// Whether a binder, its type replaced by the new one, would capture in its body after the replacement. The hint tells
 /// where a captured variable may stand in the body, and is set to where one was found.
-pub fn captures(
+pub(crate) fn captures(
     name: &str,
     ty: &Ty,
     new_type: &Ty,
@@ -217,7 +217,7 @@ fn kept_in_body(
 }
 
 /// How many nodes are gone into in search of a kept variable that a binder, which captures none, might have captured.
-pub fn walked_in_vain(
+pub(crate) fn walked_in_vain(
     name: &str,
     ty: &Ty,
     new_type: &Ty,
@@ -259,7 +259,7 @@ fn kept_in(name: &str, ty: &Ty, types: &[(Ty, Ty)], variables: &VariableTypes) -
 }
 
 /// The types of a term's variables, known where a binder of the term may capture.
-pub fn variables_where_needed(
+pub(crate) fn variables_where_needed(
     alloc: Global,
     term: &Term,
     types: &[(Ty, Ty)],

@@ -63,7 +63,7 @@ fn is_free_in_some(terms: &[Term], name: &str, ty: &Ty) -> bool
 
 /// A binder that captures nothing in a term, which stands under the passed binders, after the replacement, in place of
 /// one that would capture. The hint tells where what is captured may stand.
-pub fn fresh_binder(
+pub(crate) fn fresh_binder(
     alloc: Global,
     body: &Term,
     name: &str,

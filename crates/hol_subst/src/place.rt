@@ -10,40 +10,40 @@ pub struct Place {
 
 impl Place {
     /// Of no node.
-    pub fn nowhere() -> Place {
+    pub(crate) fn nowhere() -> Place {
         Place { number: u32::MAX }
     }
 
     /// Of a term itself.
-    pub fn first() -> Place {
+    pub(crate) fn first() -> Place {
         Place { number: 0 }
     }
 
-    pub fn is_in(self, term: &Term) -> bool {
+    pub(crate) fn is_in(self, term: &Term) -> bool {
         self.number < term.nodes()
     }
 
     /// The place in the first part of the term.
-    pub fn in_first_part(self) -> Place {
+    pub(crate) fn in_first_part(self) -> Place {
         Place {
             number: self.number.wrapping_sub(1),
         }
     }
 
     /// The place in the argument of a combination.
-    pub fn in_argument(self, function: &Term) -> Place {
+    pub(crate) fn in_argument(self, function: &Term) -> Place {
         Place {
             number: self.number.wrapping_sub(function.nodes()).wrapping_sub(1),
         }
     }
 
     /// The place one node before.
-    pub fn before(self) -> Place {
+    pub(crate) fn before(self) -> Place {
         self.in_first_part()
     }
 
     /// Goes on by so many nodes.
-    pub fn pass(&mut self, nodes: u32) {
+    pub(crate) fn pass(&mut self, nodes: u32) {
         self.number = self.number.wrapping_add(nodes);
     }
 }

@@ -13,7 +13,7 @@ pub struct Walks {
 
 impl Walks {
     /// None yet.
-    pub fn none() -> Walks {
+    pub(crate) fn none() -> Walks {
         Walks {
             in_vain: 0,
             hint: Place::nowhere(),
@@ -21,7 +21,7 @@ impl Walks {
     }
 
     /// On the way to the first part of a term.
-    pub fn in_first_part(self) -> Walks {
+    pub(crate) fn in_first_part(self) -> Walks {
         Walks {
             in_vain: self.in_vain,
             hint: self.hint.in_first_part(),
@@ -29,7 +29,7 @@ impl Walks {
     }
 
     /// On the way to the argument of a combination.
-    pub fn in_argument(self, function: &Term) -> Walks {
+    pub(crate) fn in_argument(self, function: &Term) -> Walks {
         Walks {
             in_vain: self.in_vain,
             hint: self.hint.in_argument(function),
@@ -37,7 +37,7 @@ impl Walks {
     }
 
     /// The same, where a walk in vain went into so many more nodes.
-    pub fn and_in_vain(self, nodes: u64) -> Walks {
+    pub(crate) fn and_in_vain(self, nodes: u64) -> Walks {
         Walks {
             in_vain: self.in_vain.saturating_add(nodes),
             hint: self.hint,
@@ -45,7 +45,7 @@ impl Walks {
     }
 
     /// The same, where the part has a new table of variables.
-    pub fn since_new_table(self) -> Walks {
+    pub(crate) fn since_new_table(self) -> Walks {
         Walks {
             in_vain: 0,
             hint: self.hint,
