@@ -1,5 +1,6 @@
 -- The text of the pruned log of a journal.
-use Rattle.std.specs.Prelude.{◌≡◌, ℕ, List, map, Ok}
+use Rattle.std.specs.Prelude.{◌≡◌, ◌<◌, ℕ, List, map, length, Ok}
+use Rattle.hol_model.specs.declared.limits.TheConstants.{TEXT_BYTES_LIMIT}
 use Rattle.hol_model.specs.LogLine.{LogLine}
 use Rattle.hol_model.specs.LogState.{LogState}
 use Rattle.hol_model.specs.LogText.{log_outcome}
@@ -20,3 +21,9 @@ pub record IsLogOf (text : List ℕ) (claims : List Claimed) : Type 0 where
   pub state : LogState
   pub accepted : log_outcome (log_text text) ≡ Ok state
   pub claimed : state.claims ≡ map log_claim claims
+
+-- the text of the pruned log is past the limit on texts
+pub record IsPastLimit (journal : Journal) (claims : List Claimed) : Type 0 where
+  pub text : List ℕ
+  pub pruned : IsPrunedText journal claims text
+  pub longer : TEXT_BYTES_LIMIT < length text

@@ -3,7 +3,7 @@ ghost use Rattle.std.specs.Prelude.{◌≡◌, ◌≤◌, ◌<◌, [], ◌∷◌
 ghost use Rattle.hol_model.specs.declared.fault.Fault.TheVariants.{Memory, TooLong};
 ghost use Rattle.hol_journal.specs.Claims.{claims_of};
 ghost use Rattle.hol_journal.specs.Pruning.{AreMade, HaveIdentifiers};
-ghost use Rattle.hol_journal.specs.LogOf.{IsPrunedText, IsLogOf};
+ghost use Rattle.hol_journal.specs.LogOf.{IsPrunedText, IsLogOf, IsPastLimit};
 
 use crate::claim::Claim;
 use crate::recorder::Recorder;
@@ -21,6 +21,7 @@ impl Recorder {
         ensures pruned { IfOk result (λ text. IsPrunedText self.now (claims_of claims.now) text.items) }
         ensures accepted { HaveIdentifiers (claims_of claims.now) → IfOk result (λ text. IsLogOf text.items (claims_of claims.now)) }
         ensures within_limit { IfOk result (λ text. length text.items ≤ TEXT_BYTES_LIMIT) }
+        ensures too_long { IsErrOf result TooLong → IsPastLimit self.now (claims_of claims.now) }
         ensures refusals { IfErr result (Contains (TooLong ∷ Memory ∷ [])) }
     {
         let lines = match self.pruned(alloc, claims) {

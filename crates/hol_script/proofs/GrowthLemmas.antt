@@ -31,13 +31,14 @@ use Rattle.hol_model.proofs.LegalEntries.{fixed-has_none, new_name-IsNewName}
 use Rattle.hol_sound.specs.Laws.{IsSound}
 use Rattle.hol_syntax.specs.declared.scope.Scope.{Scope as ScopeHere}
 use Rattle.hol_syntax.specs.Scope.{scope_of, SetsConstant, SetsVariable, SetsType, KeepsScope}
+use Rattle.hol_script.specs.declared.session.TheoremLine.{TheoremLine}
 use Rattle.hol_script.specs.declared.session.Session.{Session}
 use Rattle.hol_script.specs.declared.session.Printed.TheVariants.{Line}
 use Rattle.hol_journal.specs.Journal.{Journal, IsMade}
 use Rattle.hol_journal.specs.Growth.{IsGrown, JournalsGrow}
 use Rattle.hol_script.specs.SessionState.{state_of, theorem_of, IsSession}
 use Rattle.hol_script.specs.Growth.{IsRefused, LeavesNone, MakesEquation, Defines, KeepsSession}
-use Rattle.hol_script.specs.Answers.{Turns}
+use Rattle.hol_script.specs.Answers.{IsLineOf, Turns}
 use Rattle.hol_script.proofs.RuleLemmas.{proved, same_is_earlier}
 use Rattle.hol_script.proofs.RecordingLemmas.{still_made, stored_made, stored_theorem}
 use Rattle.hol_script.proofs.SessionLemmas.{scope_same, prints}
@@ -195,11 +196,15 @@ definition-was_new theory name term theorem same =
     (passed (is_new_name theory name) AlreadyDefined (with_room theory name term) theorem new_name.1).0
 
 -- its line
-pub definition-line : (theory : Theory) (scope : Scope) (name stored : List ℕ) (term : NamedTerm) (theorem : Theorem) → define_outcome theory name term ≡ Ok theorem → stored ≡ definition_name name
-    → theorem_line scope stored (record { theory = []; hypotheses = []; conclusion = equation (constant name (own_type term)) term }) ≡ theorem_line scope (definition_name name) theorem
-definition-line theory scope name stored term theorem same named =
-    ap (λ (n : List ℕ). theorem_line scope n (record { theory = []; hypotheses = []; conclusion = equation (constant name (own_type term)) term })) named
-    ∙ ap (λ (t : Theorem). theorem_line scope (definition_name name) t) (sym (definition-theorem theory name term theorem same))
+pub definition-line : (theory : Theory) (scope : Scope) (name stored : List ℕ) (term : NamedTerm) (theorem : Theorem) (line : TheoremLine) → define_outcome theory name term ≡ Ok theorem → stored ≡ definition_name name
+    → IsLineOf line scope stored (record { theory = []; hypotheses = []; conclusion = equation (constant name (own_type term)) term }) → IsLineOf line scope (definition_name name) theorem
+definition-line theory scope name stored term theorem line same named made = record {
+  named = made.named ∙ named;
+  spelled =
+      made.spelled
+      ∙ ap (λ (n : List ℕ). theorem_line scope n (record { theory = []; hypotheses = []; conclusion = equation (constant name (own_type term)) term })) named
+      ∙ ap (λ (t : Theorem). theorem_line scope (definition_name name) t) (sym (definition-theorem theory name term theorem same));
+}
 
 -- ---- declarations
 
@@ -416,7 +421,7 @@ pub def-argument_refused : (state : State) (name : List ℕ) (tree : TermTree) (
 def-argument_refused state name tree fault meant = ap (λ (r : Result NamedTerm Fault). r >>= λ t. define_outcome state.theory name t) meant
 
 -- the session of a definition: the old one, the scope with the constant, and what `define` made of them
-module _ (old new : Session) (scope : ScopeHere) (name : List ℕ) (term : NamedTerm) (ty : HolType) (line : List ℕ) where
+module _ (old new : Session) (scope : ScopeHere) (name : List ℕ) (term : NamedTerm) (ty : HolType) (line : TheoremLine) where
   pub def_session : JournalsGrow → IsSession old → type_of term ≡ Some ty → SetsConstant (scope_of old.scope) (scope_of scope) name (Some ty) → Defines (made old old.recorder scope) new name term line → IsSession new
   def_session grow known typed sets d =
       let theory = old.recorder.theory in
@@ -442,16 +447,15 @@ module _ (old new : Session) (scope : ScopeHere) (name : List ℕ) (term : Named
       let theorems = stored_theorem d.answer (definition_name name) (get_by_text old.theorems) (get_by_text new.theorems) d.stored in
       λ i. record { theory = d.theory i; variables = λ other. variables other i; theorems = λ other. theorems other i }
 
-pub def_turns : (old new : Session) (scope : ScopeHere) (text name : List ℕ) (tree : TermTree) (term : NamedTerm) (ty : HolType) (line : String Global) → IsSound → JournalsGrow → IsSession old → SpellsCommand text (def_command name tree)
+pub def_turns : (old new : Session) (scope : ScopeHere) (text name : List ℕ) (tree : TermTree) (term : NamedTerm) (ty : HolType) (line : TheoremLine) → IsSound → JournalsGrow → IsSession old → SpellsCommand text (def_command name tree)
     → meaning (scope_in (state_of old)) [] tree ≡ Ok term → type_of term ≡ Some ty → SetsConstant (scope_of old.scope) (scope_of scope) name (Some ty)
-    → Defines (made old old.recorder scope) new name term (string_bytes line) → Turns (state_of old) (Some text) (Ok (Line line)) (state_of new)
+    → Defines (made old old.recorder scope) new name term line → Turns (state_of old) (Some text) (Ok (Line line)) (state_of new)
 def_turns old new scope text name tree term ty line sound grow known spelled meant typed sets d =
-    let after : IsSession new = def_session old new scope name term ty (string_bytes line) grow known typed sets d in
+    let after : IsSession new = def_session old new scope name term ty line grow known typed sets d in
     let outcome : def_outcome (state_of old) name tree ≡ Ok d.answer.theorem = def_outcome-is (state_of old) name tree term meant ∙ d.outcome in
     let allowed : Allows (state_of old) (Some text) (proves (definition_name name) d.answer.theorem) (state_of new) =
-    subst (λ (state : State). Allows (state_of old) (Some text) (proves (definition_name name) d.answer.theorem) state) (sym (def_state old new scope name term ty (string_bytes line) sets d)) (def_defines spelled outcome) in
-    let printed : string_bytes line ≡ theorem_line (scope_in (state_of new)) (definition_name name) d.answer.theorem =
-    d.line_is ∙ ap (λ (s : ScopeHere). theorem_line (scope_of s) (definition_name name) d.answer.theorem) (sym d.scope)
-    ∙ ap (λ (s : Scope). theorem_line s (definition_name name) d.answer.theorem) (scope_same new after) in
+    subst (λ (state : State). Allows (state_of old) (Some text) (proves (definition_name name) d.answer.theorem) state) (sym (def_state old new scope name term ty line sets d)) (def_defines spelled outcome) in
+    let printed : IsLineOf line (scope_in (state_of new)) (definition_name name) d.answer.theorem =
+    subst (λ (s : Scope). IsLineOf line s (definition_name name) d.answer.theorem) (ap scope_of (sym d.scope) ∙ scope_same new after) d.line_is in
     prints (state_of old) (state_of new) (Some text) (definition_name name) d.answer.theorem line allowed
     (proved new.recorder.theory d.answer.theorem sound after.legal d.is_theorem (same_is_earlier new.recorder.theory d.answer.theorem.theory (sym d.theory))) printed

@@ -8,3 +8,4 @@ pub mod SessionLemmas
 pub mod GrowthLemmas
 pub mod RunLemmas
 pub mod StoredLemmas
+pub mod RunLogLemmas

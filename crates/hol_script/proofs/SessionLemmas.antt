@@ -21,11 +21,12 @@ use Rattle.hol_script.specs.declared.command.Rule.{Rule}
 use Rattle.hol_script.specs.declared.command.Command.TheVariants.{Thm, Show, Var, Def, NewType, NewConst}
 use Rattle.hol_script.specs.Views.{IsRule, IsCommand}
 use Rattle.hol_script.specs.declared.session.Session.{Session}
+use Rattle.hol_script.specs.declared.session.TheoremLine.{TheoremLine}
 use Rattle.hol_script.specs.declared.session.Printed.{Printed}
 use Rattle.hol_script.specs.declared.session.Printed.TheVariants.{Nothing, Line}
 use Rattle.hol_journal.specs.Journal.{Recorded}
 use Rattle.hol_script.specs.SessionState.{state_of, theorem_of, IsSession}
-use Rattle.hol_script.specs.Answers.{Turns}
+use Rattle.hol_script.specs.Answers.{IsLineOf, Turns}
 
 -- the scope of a session is that of its state
 pub scope_same : (session : Session) → IsSession session → scope_of session.scope ≡ scope_in (state_of session)
@@ -43,8 +44,8 @@ pub forgets : (state : State) (text : Option (List ℕ)) (fault : Fault) → fau
 forgets state text fault same = refuses state text fault (subst (λ f. Allows state text (refused f) state) (sym same) finds_no_memory)
 
 -- a theorem that is allowed and proved, and its line
-pub prints : (old new : State) (text : Option (List ℕ)) (name : List ℕ) (theorem : Theorem) (line : String Global) → Allows old text (proves name theorem) new → IsProved new.theory theorem
-    → string_bytes line ≡ theorem_line (scope_in new) name theorem → Turns old text (Ok (Line line)) new
+pub prints : (old new : State) (text : Option (List ℕ)) (name : List ℕ) (theorem : Theorem) (line : TheoremLine) → Allows old text (proves name theorem) new → IsProved new.theory theorem
+    → IsLineOf line (scope_in new) name theorem → Turns old text (Ok (Line line)) new
 prints old new text name theorem line allowed proved says = record { reply = proves name theorem; says = says; turn = record { allowed = allowed; proved = proved } }
 
 -- an acceptance that prints nothing
@@ -77,20 +78,20 @@ thm_refuses state text name tree fault spelled is_name new (inl memory) = forget
 thm_refuses state text name tree fault spelled is_name new (inr outcome) = refuses state (Some text) fault (thm_is_refused spelled is_name new outcome)
 
 -- a theorem that is stored
-pub thm_prints : (old new : State) (text name : List ℕ) (tree : RuleTree) (theorem : Theorem) (line : String Global) → SpellsCommand text (thm_command name tree) → is_theorem_name name ≡ true
-    → old.theorems name ≡ None → IsRuleAnswer old tree (Ok theorem) → IsProved old.theory theorem → string_bytes line ≡ theorem_line (scope_in old) name theorem
+pub thm_prints : (old new : State) (text name : List ℕ) (tree : RuleTree) (theorem : Theorem) (line : TheoremLine) → SpellsCommand text (thm_command name tree) → is_theorem_name name ≡ true
+    → old.theorems name ≡ None → IsRuleAnswer old tree (Ok theorem) → IsProved old.theory theorem → IsLineOf line (scope_in old) name theorem
     → new ≡ with_theorem old name theorem → Turns old (Some text) (Ok (Line line)) new
 thm_prints old new text name tree theorem line spelled is_name none outcome proved says stored =
     subst (λ (state : State). Turns old (Some text) (Ok (Line line)) state) (sym stored)
     (prints old (with_theorem old name theorem) (Some text) name theorem line (thm_stores spelled is_name none outcome) proved says)
 
 -- the same after the rule, which leaves the state
-pub thm_prints_after : (old mid new : State) (text name : List ℕ) (tree : RuleTree) (theorem : Theorem) (line : String Global) → mid ≡ old → SpellsCommand text (thm_command name tree) → is_theorem_name name ≡ true
-    → old.theorems name ≡ None → IsRuleAnswer old tree (Ok theorem) → IsProved mid.theory theorem → string_bytes line ≡ theorem_line (scope_in mid) name theorem
+pub thm_prints_after : (old mid new : State) (text name : List ℕ) (tree : RuleTree) (theorem : Theorem) (line : TheoremLine) → mid ≡ old → SpellsCommand text (thm_command name tree) → is_theorem_name name ≡ true
+    → old.theorems name ≡ None → IsRuleAnswer old tree (Ok theorem) → IsProved mid.theory theorem → IsLineOf line (scope_in mid) name theorem
     → new ≡ with_theorem mid name theorem → Turns old (Some text) (Ok (Line line)) new
 thm_prints_after old mid new text name tree theorem line same spelled is_name none outcome proved says stored =
     thm_prints old new text name tree theorem line spelled is_name none outcome (subst (λ (s : State). IsProved s.theory theorem) same proved)
-    (subst (λ (s : State). string_bytes line ≡ theorem_line (scope_in s) name theorem) same says) (subst (λ (s : State). new ≡ with_theorem s name theorem) same stored)
+    (subst (λ (s : State). IsLineOf line (scope_in s) name theorem) same says) (subst (λ (s : State). new ≡ with_theorem s name theorem) same stored)
 
 -- ---- commands
 

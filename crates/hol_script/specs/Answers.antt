@@ -7,12 +7,18 @@ use Rattle.hol_model.specs.Theorem.{Theorem}
 use Rattle.hol_model.specs.Commands.{RuleTree}
 use Rattle.hol_model.specs.Reading.{Scope}
 use Rattle.hol_model.specs.Sessions.{State, IsRuleAnswer, Reply, proves, accepts, refused, Turn, scope_in, theorem_line, refusal_line}
+use Rattle.hol_script.specs.declared.session.TheoremLine.{TheoremLine}
 use Rattle.hol_script.specs.declared.session.Printed.{Printed}
 use Rattle.hol_script.specs.declared.session.Printed.TheVariants.{Nothing, Line}
 
+-- the line of the theorem under the name, and the name itself
+pub record IsLineOf (line : TheoremLine) (scope : Scope) (name : List ℕ) (theorem : Theorem) : Type 0 where
+  pub named : string_bytes line.name ≡ name
+  pub spelled : string_bytes line.text ≡ theorem_line scope name theorem
+
 -- the line of a theorem, nothing, or a refusal
 abbrev pub Says : Result Printed Fault → Scope → Reply → Type 0
-Says (Ok (Line text)) scope (proves name theorem) = string_bytes text ≡ theorem_line scope name theorem
+Says (Ok (Line line)) scope (proves name theorem) = IsLineOf line scope name theorem
 Says (Ok Nothing) scope accepts = Unit {0}
 Says (Ok printed) scope reply = ⊥
 Says (Err fault) scope reply = reply ≡ refused fault
@@ -41,5 +47,5 @@ pub record Turns (old : State) (text : Option (List ℕ)) (result : Result Print
 -- the text that is written for an answer to the command in this line
 abbrev pub answer_text : ℕ → Result Printed Fault → List ℕ
 answer_text line (Ok Nothing) = []
-answer_text line (Ok (Line text)) = string_bytes text
+answer_text line (Ok (Line printed)) = string_bytes printed.text
 answer_text line (Err fault) = refusal_line line fault

@@ -1,6 +1,5 @@
 -- What the calls that let a session's theory grow answer.
-use Rattle.std.specs.Prelude.{◌≡◌, ◌≢◌, ℕ, List, [], Option, Some, None, Result, Ok, Err, String, string_bytes}
-use Rattle.std.proofs.Common.{Global}
+use Rattle.std.specs.Prelude.{◌≡◌, ◌≢◌, ℕ, List, [], Option, Some, None, Result, Ok, Err}
 use Rattle.std.specs.Map.{update}
 use Rattle.std.specs.Str.{bytes_eq}
 use Rattle.indexmap.specs.IndexMap.{get_by_text}
@@ -12,11 +11,13 @@ use Rattle.hol_model.specs.Theory.{Theory}
 use Rattle.hol_model.specs.Theorem.{IsTheorem}
 use Rattle.hol_model.specs.Rules.{define_outcome}
 use Rattle.hol_model.specs.Reading.{Scope}
-use Rattle.hol_model.specs.Sessions.{definition_name, theorem_line}
+use Rattle.hol_model.specs.Sessions.{definition_name}
 use Rattle.hol_journal.specs.Journal.{Recorded, IsMade}
 use Rattle.hol_journal.specs.Growth.{IsGrown}
 use Rattle.hol_syntax.specs.Scope.{scope_of}
+use Rattle.hol_script.specs.declared.session.TheoremLine.{TheoremLine}
 use Rattle.hol_script.specs.declared.session.Session.{Session}
+use Rattle.hol_script.specs.Answers.{IsLineOf}
 
 -- some refusal is the outcome
 abbrev pub IsRefused : {A : Type 0} → Result A Fault → Type 0
@@ -35,14 +36,14 @@ MakesEquation (Ok None) name term = (theory : Theory) → IsRefused (define_outc
 MakesEquation (Err fault) name term = fault ≡ Memory
 
 -- the line of a definition's theorem, or none where every theory refuses the definition
-abbrev pub MakesLine : Result (Option (String Global)) Fault → Scope → List ℕ → List ℕ → NamedTerm → Type 0
+abbrev pub MakesLine : Result (Option TheoremLine) Fault → Scope → List ℕ → List ℕ → NamedTerm → Type 0
 MakesLine (Ok (Some line)) scope name stored term =
-    string_bytes line ≡ theorem_line scope stored (record { theory = []; hypotheses = []; conclusion = equation (constant name (own_type term)) term })
+    IsLineOf line scope stored (record { theory = []; hypotheses = []; conclusion = equation (constant name (own_type term)) term })
 MakesLine (Ok None) scope name stored term = (theory : Theory) → IsRefused (define_outcome theory name term)
 MakesLine (Err fault) scope name stored term = fault ≡ Memory
 
 -- the theory has the definition, its theorem is stored, and the line is the theorem's
-pub record Defines (old new : Session) (name : List ℕ) (term : NamedTerm) (line : List ℕ) : Type 0 where
+pub record Defines (old new : Session) (name : List ℕ) (term : NamedTerm) (line : TheoremLine) : Type 0 where
   pub answer : Recorded
   pub outcome : define_outcome old.recorder.theory name term ≡ Ok answer.theorem
   pub is_theorem : IsTheorem answer.theorem
@@ -51,7 +52,7 @@ pub record Defines (old new : Session) (name : List ℕ) (term : NamedTerm) (lin
   pub grown : IsGrown old.recorder new.recorder
   pub scope : new.scope ≡ old.scope
   pub stored : (other : List ℕ) → get_by_text new.theorems other ≡ update bytes_eq (get_by_text old.theorems) (definition_name name) (Some answer) other
-  pub line_is : line ≡ theorem_line (scope_of old.scope) (definition_name name) answer.theorem
+  pub line_is : IsLineOf line (scope_of old.scope) (definition_name name) answer.theorem
 
 -- the journal, the scope and the stored theorems are those of before
 pub record KeepsSession (old new : Session) : Type 0 where

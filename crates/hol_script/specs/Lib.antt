@@ -7,3 +7,4 @@ pub mod Growth
 pub mod Recording
 pub mod Runs
 pub mod Laws
+pub mod RunLogs

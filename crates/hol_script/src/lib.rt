@@ -6,12 +6,14 @@ mod cut;
 mod execute;
 mod laws;
 mod pairs;
+mod progress;
 mod runner;
 mod session;
 mod tokens;
 
 pub use laws::printed_theorems_stay;
-pub use runner::{Summary, run};
+pub use progress::Summary;
+pub use runner::run;
 
 #[cfg(test)]
 mod replacement_tests;

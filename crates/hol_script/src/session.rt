@@ -1,5 +1,5 @@
 // Sessions: what the commands of a script have stored.
-ghost use Rattle.std.specs.Prelude.{◌≡◌, ◌⊎◌, ◌<◌, ◌++◌, ℕ, List, [], Some, OnOk, OnErr, IfOk, IfErr, IfSome, codes, string_bytes};
+ghost use Rattle.std.specs.Prelude.{◌≡◌, ◌⊎◌, ◌<◌, ◌++◌, ◌∷◌, ℕ, List, [], map, Some, OnOk, OnErr, IfOk, IfErr, IfSome, IsErrOf, Contains, codes, string_bytes};
 ghost use Rattle.std.specs.Map.{update};
 ghost use Rattle.std.specs.Option.{option_map};
 ghost use Rattle.std.specs.Str.{bytes_eq};
@@ -12,13 +12,17 @@ ghost use Rattle.hol_model.specs.Sessions.{start, each, scope_in, with_theorem, 
 ghost use Rattle.hol_model.specs.Sessions as spec;
 ghost use Rattle.hol_model.specs.TermGrammar.{TermTree};
 ghost use Rattle.hol_model.specs.TypeGrammar.{TypeTree, type_steps};
-ghost use Rattle.hol_model.specs.declared.fault.Fault.TheVariants.{Memory};
+ghost use Rattle.hol_model.specs.declared.fault.Fault.TheVariants.{Memory, TooLong};
 ghost use Rattle.hol_syntax.specs.Scope.{scope_of};
 ghost use Rattle.hol_syntax.specs.Steps.{flat_steps_of};
 ghost use Rattle.hol_syntax.specs.TermSteps.{term_steps, flat_steps};
 ghost use Rattle.hol_syntax.specs.Views.{steps_of};
-ghost use Rattle.hol_script.specs.Answers.{Turns, AnswersRule, AnswersItems};
+ghost use Rattle.hol_script.specs.Answers.{IsLineOf, Turns, AnswersRule, AnswersItems};
 ghost use Rattle.hol_journal.specs.Journal.{Journal, Recorded, IsMade, theorem_in};
+ghost use Rattle.hol_journal.specs.Claims.{claims_of};
+ghost use Rattle.hol_journal.specs.LogAccepted.{log_claim};
+ghost use Rattle.hol_journal.specs.Pruning.{HaveIdentifiers};
+ghost use Rattle.hol_script.specs.RunLogs.{stored_claims, IsAcceptedLog, IsLongLog};
 ghost use Rattle.hol_script.specs.Growth.{IsRefused, LeavesNone, MakesEquation, MakesLine, Defines, KeepsSession};
 ghost use Rattle.hol_script.specs.Recording.{Records, AppliesRule};
 ghost use Rattle.hol_script.specs.SessionState.{state_of, IsSession, AreMade};
@@ -26,7 +30,7 @@ ghost use Rattle.hol_script.specs.Views.{IsRule, IsTermPair, AreTermPairs, IsTyp
 
 use crate::command::Rule;
 use crate::pairs::{TermPair, TypePair};
-use hol_journal::{Rec, Recorder, journals_grow};
+use hol_journal::{Claim, Rec, Recorder, journals_grow};
 use hol_kernel::Thm;
 use hol_model::{Axiom, Fault, PairRule, TermRule};
 use hol_sound::sound;
@@ -36,11 +40,18 @@ use hol_types::Ty;
 use indexmap::IndexMap;
 use std::alloc::Global;
 
+/// The line of a theorem, and the name in it.
+#[derive(Drop)]
+pub struct TheoremLine {
+    pub name: String,
+    pub text: String,
+}
+
 /// What an accepted command prints.
 #[derive(Drop)]
 pub enum Printed {
     Nothing,
-    Line(String),
+    Line(TheoremLine),
 }
 
 /// A theory with its journal, what the names of texts stand for, and the stored theorems.
@@ -65,21 +76,29 @@ fn sequent_line(
     name: &str,
     hyps: &[Term],
     concl: &Term,
-) -> Result<String, Fault>
-    ensures ok { IfOk result (λ line. string_bytes line ≡ spec.theorem_line (scope_of scope.now) name.now (record { theory = []; hypotheses = hyps.now; conclusion = concl.now })) }
+) -> Result<TheoremLine, Fault>
+    ensures ok { IfOk result (λ line. IsLineOf line (scope_of scope.now) name.now (record { theory = []; hypotheses = hyps.now; conclusion = concl.now })) }
     ensures err { IfErr result (λ fault. fault ≡ Memory) }
 {
     let sequent = text_of_sequent(alloc, scope, hyps, concl)?;
-    let mut line = String::from_str(alloc, name)?;
-    line.push_str(": ")?;
-    line.push_str(sequent.as_str())?;
-    line.push_str("\n")?;
-    Ok(line)
+    let mut text = String::from_str(alloc, name)?;
+    text.push_str(": ")?;
+    text.push_str(sequent.as_str())?;
+    text.push_str("\n")?;
+    Ok(TheoremLine {
+        name: String::from_str(alloc, name)?,
+        text,
+    })
 }
 
 /// The line of a theorem.
-fn theorem_line(alloc: Global, scope: &Scope, name: &str, theorem: &Thm) -> Result<String, Fault>
-    ensures ok { IfOk result (λ line. string_bytes line ≡ spec.theorem_line (scope_of scope.now) name.now theorem.now) }
+fn theorem_line(
+    alloc: Global,
+    scope: &Scope,
+    name: &str,
+    theorem: &Thm,
+) -> Result<TheoremLine, Fault>
+    ensures ok { IfOk result (λ line. IsLineOf line (scope_of scope.now) name.now theorem.now) }
     ensures err { IfErr result (λ fault. fault ≡ Memory) }
 {
     sequent_line(alloc, scope, name, theorem.hyps(), theorem.concl())
@@ -126,7 +145,7 @@ fn definition_line(
     name: &str,
     stored: &str,
     term: &Term,
-) -> Result<Option<String>, Fault>
+) -> Result<Option<TheoremLine>, Fault>
     ensures { MakesLine result (scope_of scope.now) name.now stored.now term.now }
 {
     match definition_equation(alloc, name, term) {
@@ -144,6 +163,25 @@ fn stored<'a>(theorems: &'a IndexMap<String, Rec>, name: &str) -> Option<&'a Rec
     ensures { option_map (λ theorem. theorem.now) result ≡ get_by_text theorems.now name.now }
 {
     theorems.get(name)
+}
+
+// A claim for each name under which a theorem is stored, in order.
+fn claims<'a>(
+    alloc: Global,
+    theorems: &'a IndexMap<String, Rec>,
+    names: &'a [String],
+) -> Result<Vec<Claim<'a>>, Fault>
+    ensures ok { IfOk result (λ claims. claims_of claims.items ≡ stored_claims (get_by_text theorems.now) (map string_bytes names.now)) }
+    ensures err { IfErr result (λ fault. fault ≡ Memory) }
+{
+    let mut claims = Vec::new(alloc);
+    for name in names {
+        let name = name.as_str();
+        if let Some(theorem) = stored(theorems, name) {
+            claims.push(Claim { name, theorem })?;
+        }
+    }
+    Ok(claims)
 }
 
 fn on_term(
@@ -363,9 +401,24 @@ impl Session {
         }
     }
 
+    /// The text of the log of the theorems that are stored under these names, with a claim for each. Refusals: Memory,
+    /// and TooLong, where the text would be longer than the limit on texts.
+    pub fn log_text<'a>(&'a self, alloc: Global, names: &'a [String]) -> Result<Vec<u8>, Fault>
+        requires session { IsSession self.now }
+        requires named { HaveIdentifiers (stored_claims (get_by_text self.now.theorems) (map string_bytes names.now)) }
+        ensures ok { IfOk result (λ text. IsAcceptedLog (map log_claim (stored_claims (get_by_text self.now.theorems) (map string_bytes names.now))) text.items) }
+        ensures too_long { IsErrOf result TooLong → IsLongLog (map log_claim (stored_claims (get_by_text self.now.theorems) (map string_bytes names.now))) }
+        ensures refusals { IfErr result (Contains (TooLong ∷ Memory ∷ [])) }
+    {
+        match claims(alloc, &self.theorems, names) {
+            Ok(claims) => self.recorder.log_text(alloc, &claims),
+            Err(fault) => Err(fault),
+        }
+    }
+
     // Defines a constant that the scope has, stores the theorem and answers its line. A refusal changes nothing.
-    fn define(&mut self, alloc: Global, name: &str, term: &Term) -> Result<String, Fault>
-        ensures ok { IfOk result (λ line. Defines self.old self.new name.now term.now (string_bytes line)) }
+    fn define(&mut self, alloc: Global, name: &str, term: &Term) -> Result<TheoremLine, Fault>
+        ensures ok { IfOk result (Defines self.old self.new name.now term.now) }
         ensures kept { OnErr result (KeepsSession self.old self.new) }
         ensures err { IfErr result (λ fault. (fault ≡ Memory) ⊎ (define_outcome self.old.recorder.theory name.now term.now ≡ Err fault)) }
     {

@@ -42,14 +42,16 @@ pub fn writes(alloc: Global, script: &[u8], expected: &[u8]) -> Result<bool, Fau
         rest: expected,
         differs: false,
     };
-    run(alloc, &mut reader, &mut writer)?;
+    let mut log = IntoWrite::new(Vec::new(alloc));
+    run(alloc, &mut reader, &mut writer, &mut log, false)?;
     Ok(writer.is_whole())
 }
 
 fn summary(alloc: Global, script: &[u8]) -> Result<Summary, Fault> {
     let mut reader = FromRead::new(script);
     let mut writer = IntoWrite::new(Vec::new(alloc));
-    run(alloc, &mut reader, &mut writer)
+    let mut log = IntoWrite::new(Vec::new(alloc));
+    run(alloc, &mut reader, &mut writer, &mut log, false)
 }
 
 #[test]

@@ -19,11 +19,33 @@ fn open(rt: &HostRuntime, name: &str) -> Result<FromRead<File>, Fault>
     }
 }
 
+// The file of this name, made empty, to be written.
+fn create(rt: &HostRuntime, name: &str) -> Result<IntoWrite<File>, Fault>
+    ensures { IfOk result (λ writer. writer.failed ≡ false) }
+{
+    match fs::create(rt, name) {
+        Ok(file) => Ok(IntoWrite::new(file)),
+        Err(_) => Err(Fault::WriteFault),
+    }
+}
+
 /// Runs a script, and answers how many of its commands were refused.
 pub fn run_file(rt: &HostRuntime, script: &str) -> Result<u64, Fault> {
+    let alloc = rt.alloc();
     let mut reader = open(rt, script)?;
     let mut writer = IntoWrite::new(io::writer(rt));
-    let summary = run(rt.alloc(), &mut reader, &mut writer)?;
+    let mut no_log = IntoWrite::new(Vec::new(alloc));
+    let summary = run(alloc, &mut reader, &mut writer, &mut no_log, false)?;
+    Ok(summary.refused)
+}
+
+/// Runs a script and writes its log, and answers how many commands were refused. The log's file is made once the script
+/// is open, before the run.
+pub fn run_file_with_log(rt: &HostRuntime, script: &str, log: &str) -> Result<u64, Fault> {
+    let mut reader = open(rt, script)?;
+    let mut log = create(rt, log)?;
+    let mut writer = IntoWrite::new(io::writer(rt));
+    let summary = run(rt.alloc(), &mut reader, &mut writer, &mut log, true)?;
     Ok(summary.refused)
 }
 

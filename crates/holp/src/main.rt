@@ -1,4 +1,4 @@
-//! Runs proof scripts and checks proof logs: `holp run SCRIPT`, `holp check LOG`, `holp migrate LOG NEW`.
+//! Runs proof scripts and checks proof logs: `holp run SCRIPT [--log FILE]`, `holp check LOG`, `holp migrate LOG NEW`.
 #![tactic(auto)]
 
 mod files;
@@ -10,7 +10,7 @@ mod recorder_tests;
 mod status;
 
 use clap::{Arg, ArgAction, ArgMatches, Command};
-use files::{check_file, migrate_file, run_file, tell};
+use files::{check_file, migrate_file, run_file, run_file_with_log, tell};
 use std::alloc::Global;
 use std::env;
 use std::process::ExitCode;
@@ -25,11 +25,16 @@ fn file_argument<'a>(alloc: Global, name: &'a str, help: &'a str) -> Arg<'a> {
 
 // The commands with their arguments.
 fn command_line<'a>(alloc: Global) -> anyhow::Result<Command<'a>> {
-    let run = Command::new(alloc, "run").about("Runs a proof script").arg(file_argument(
-        alloc,
-        "SCRIPT",
-        "The file of the proof script",
-    ))?;
+    let run = Command::new(alloc, "run")
+        .about("Runs a proof script")
+        .arg(file_argument(alloc, "SCRIPT", "The file of the proof script"))?
+        .arg(
+            Arg::new(alloc, "log")
+                .long("log")
+                .value_name("FILE")
+                .help("The file to write the proof log to")
+                .action(ArgAction::Set),
+        )?;
     let check = Command::new(alloc, "check")
         .about("Checks a proof log and lists its claims")
         .arg(file_argument(alloc, "LOG", "The file of the proof log"))?;
@@ -67,7 +72,12 @@ fn run_command(rt: &HostRuntime) -> anyhow::Result<u8> {
         }
     };
     if let Some(run) = matches.subcommand_matches("run") {
-        return Ok(tell(rt, run_file(rt, value(run, "SCRIPT")))?);
+        let script = value(run, "SCRIPT");
+        let answer = match run.get_str("log") {
+            Some(log) => run_file_with_log(rt, script, log),
+            None => run_file(rt, script),
+        };
+        return Ok(tell(rt, answer)?);
     }
     if let Some(check) = matches.subcommand_matches("check") {
         return Ok(tell(rt, check_file(rt, value(check, "LOG")))?);

@@ -1,29 +1,40 @@
-use Rattle.std.proofs.Common.{◌≡◌, ◌+◌, ◌≤◌, sym, subst, arith, lit<, length}
-use Rattle.hol_model.specs.Sessions.{State}
-use Rattle.hol_script.specs.Runs.{counts_of}
+use Rattle.std.proofs.Common.{◌≡◌, ℕ, List, [], ◌++◌, ◌+◌, ◌≤◌, ◌∙◌, ap, sym, subst, arith, lit<, length, Some}
+use Rattle.hol_model.specs.Sessions.{State, start}
+use Rattle.hol_script.specs.declared.progress.Summary.{Summary}
+use Rattle.hol_script.specs.declared.session.Session.{Session}
+use Rattle.hol_script.specs.Runs.{counts_of, counting_answer, names_of, names_in_answer, Ends}
+use Rattle.hol_script.specs.SessionState.{state_of, IsSession}
 use Rattle.hol_script.proofs.RunLemmas.{Underway, underway_begun, underway_ended, cut_length, passed_by, turned_by, broken_by, ended_by, broken_within_by, unread}
 use Rattle.hol_script.proofs.runner.run_script.Goals as goal
-use Rattle.hol_script.proofs.runner.run_script.Goals.{then-not-is_blank_text+in-Ok-write_answer+in-Ok+in-Line-1, then-not-is_blank_text+in-Ok-write_answer+in-Ok+in-Nothing-1, then-not-is_blank_text+in-Ok-write_answer+in-Err-1, else-not-is_blank_text}
+use Rattle.hol_script.proofs.runner.run_script.Goals.{then-not-is_blank_text+in-Ok-write_answer, else-not-is_blank_text}
 
 pub returns-in-Err-clause-err : goal.returns-in-Err-clause-err
 returns-in-Err-clause-err g c = unread _ _
 
 pub pieces-init : goal.pieces-init
-pieces-init g c = record {
-  underway = subst (λ (state : State). Underway c.args.script.now (g.W.Sink.contents c.args.writer.now) (g.W.Sink.contents c.args.writer.now) state 1 c.args.script.now (counts_of (record { accepted = 0; refused = 0; printed = 0 })))
-      (sym c.in-Ok.ensures.ok) (underway_begun c.args.script.now (g.W.Sink.contents c.args.writer.now));
-  session = c.in-Ok.ensures.is_session;
-  unfailed = c.requires.unfailed;
-  lines = omega arith;
-  accepted = omega arith;
-  refused = omega arith;
-  printed = omega arith;
-}
+pieces-init g c =
+    let script = c.args.script.now in
+    let written = g.W.Sink.contents c.args.writer.now in
+    let progress = c.in-Ok.progress in
+    let accepted : progress.summary.accepted ≡ 0 = ap (λ (s : Summary). s.accepted) c.in-Ok.ensures.summary in
+    let refused : progress.summary.refused ≡ 0 = ap (λ (s : Summary). s.refused) c.in-Ok.ensures.summary in
+    let printed : progress.summary.printed ≡ 0 = ap (λ (s : Summary). s.printed) c.in-Ok.ensures.summary in
+    record {
+      underway = subst (λ (state : State). Underway script written written state 1 script (counts_of progress.summary) (names_of progress)) (sym c.in-Ok.ensures.state)
+          (subst (λ (s : Summary). Underway script written written start 1 script (counts_of s) (names_of progress)) (sym c.in-Ok.ensures.summary)
+          (subst (λ (names : List (List ℕ)). Underway script written written start 1 script (counts_of (record { accepted = 0; refused = 0; printed = 0 })) names) (sym c.in-Ok.ensures.names) (underway_begun script written)));
+      session = c.in-Ok.ensures.is_session;
+      unfailed = c.requires.unfailed;
+      lines = omega arith;
+      accepted = omega arith;
+      refused = omega arith;
+      printed = omega arith;
+    }
 
 pub returns-in-Err-write_answer-clause-err : goal.returns-in-Err-write_answer-clause-err
 returns-in-Err-write_answer-clause-err g c =
-    broken_by c.args.script.now c.in-Some.piece.now c.in-Some.behind.now c.execute-answer.result c.leading_line_feeds.result c.pieces.invariant.underway c.in-Some.ensures
-    (sym c.if-not-is_blank_text.ensures) c.execute-answer.ensures.turns c.leading_line_feeds.ensures.count c.in-Err-write_answer.ensures.err
+    broken_by c.args.script.now c.in-Some.piece.now c.in-Some.behind.now c.answer-answer.result c.leading_line_feeds.result c.pieces.invariant.underway c.in-Some.ensures
+    (sym c.if-not-is_blank_text.ensures) c.answer-answer.ensures.turns c.leading_line_feeds.ensures.count c.in-Err-write_answer.ensures.err
 
 pub pieces-preserved : goal.pieces-preserved
 pieces-preserved g c =
@@ -34,37 +45,23 @@ pieces-preserved g c =
     let refused = c.pieces.invariant.refused in
     let printed = c.pieces.invariant.printed in
     elim c.if-not-is_blank_text.branch [
-      | then-not-is_blank_text+in-Ok-write_answer+in-Ok+in-Line-1 w ↦ rw (w.writer-is, w.session-is, w.summary-is) (record {
-        underway = turned_by c.args.script.now c.in-Some.piece.now c.in-Some.behind.now w.execute-answer.result w.leading_line_feeds.result c.line_feeds.result c.pieces.invariant.underway c.in-Some.ensures
-            (sym w.if-not-is_blank_text.ensures) w.execute-answer.ensures.turns w.leading_line_feeds.ensures.count c.line_feeds.ensures.count w.in-Ok-write_answer.ensures.ok w.counting-summary.ensures.counts;
-        session = w.execute-answer.ensures.kept;
-        unfailed = w.in-Ok-write_answer.ensures.unfailed;
-        lines = omega arith;
-        accepted = omega (arith, w.counting-summary.ensures.accepted);
-        refused = omega (arith, w.counting-summary.ensures.refused);
-        printed = omega (arith, w.counting-summary.ensures.printed);
-      })
-      | then-not-is_blank_text+in-Ok-write_answer+in-Ok+in-Nothing-1 w ↦ rw (w.writer-is, w.session-is, w.summary-is) (record {
-        underway = turned_by c.args.script.now c.in-Some.piece.now c.in-Some.behind.now w.execute-answer.result w.leading_line_feeds.result c.line_feeds.result c.pieces.invariant.underway c.in-Some.ensures
-            (sym w.if-not-is_blank_text.ensures) w.execute-answer.ensures.turns w.leading_line_feeds.ensures.count c.line_feeds.ensures.count w.in-Ok-write_answer.ensures.ok w.counting-summary.ensures.counts;
-        session = w.execute-answer.ensures.kept;
-        unfailed = w.in-Ok-write_answer.ensures.unfailed;
-        lines = omega arith;
-        accepted = omega (arith, w.counting-summary.ensures.accepted);
-        refused = omega (arith, w.counting-summary.ensures.refused);
-        printed = omega (arith, w.counting-summary.ensures.printed);
-      })
-      | then-not-is_blank_text+in-Ok-write_answer+in-Err-1 w ↦ rw (w.writer-is, w.session-is, w.summary-is) (record {
-        underway = turned_by c.args.script.now c.in-Some.piece.now c.in-Some.behind.now w.execute-answer.result w.leading_line_feeds.result c.line_feeds.result c.pieces.invariant.underway c.in-Some.ensures
-            (sym w.if-not-is_blank_text.ensures) w.execute-answer.ensures.turns w.leading_line_feeds.ensures.count c.line_feeds.ensures.count w.in-Ok-write_answer.ensures.ok w.counting-summary.ensures.counts;
-        session = w.execute-answer.ensures.kept;
-        unfailed = w.in-Ok-write_answer.ensures.unfailed;
-        lines = omega arith;
-        accepted = omega (arith, w.counting-summary.ensures.accepted);
-        refused = omega (arith, w.counting-summary.ensures.refused);
-        printed = omega (arith, w.counting-summary.ensures.printed);
-      })
-      | else-not-is_blank_text w ↦ rw (w.writer-is, w.session-is, w.summary-is) (record {
+      | then-not-is_blank_text+in-Ok-write_answer w ↦
+          let same : w.answer-answer.new.self.summary ≡ c.pieces.progress.summary = w.answer-answer.ensures.summary in
+          rw (w.writer-is, w.progress-is) (record {
+            underway = subst (λ (session : Session). Underway c.args.script.now (g.W.Sink.contents c.args.writer.now) (g.W.Sink.contents w.write_answer.new.writer) (state_of session) (c.pieces.line + c.line_feeds.result) c.in-Some.behind.now
+                (counts_of w.keep.new.self.summary) (names_of w.keep.new.self)) (sym w.keep.ensures.session)
+                (turned_by c.args.script.now c.in-Some.piece.now c.in-Some.behind.now w.answer-answer.result w.leading_line_feeds.result c.line_feeds.result c.pieces.invariant.underway c.in-Some.ensures
+                (sym w.if-not-is_blank_text.ensures) w.answer-answer.ensures.turns w.leading_line_feeds.ensures.count c.line_feeds.ensures.count w.in-Ok-write_answer.ensures.ok
+                (w.keep.ensures.counts ∙ ap (λ (s : Summary). counting_answer (counts_of s) w.answer-answer.result) same)
+                (w.keep.ensures.names ∙ ap (λ (names : List (List ℕ)). names ++ names_in_answer w.answer-answer.result) w.answer-answer.ensures.names));
+            session = subst IsSession (sym w.keep.ensures.session) w.answer-answer.ensures.kept;
+            unfailed = w.in-Ok-write_answer.ensures.unfailed;
+            lines = omega arith;
+            accepted = omega (arith, w.keep.ensures.accepted, ap (λ (s : Summary). s.accepted) same);
+            refused = omega (arith, w.keep.ensures.refused, ap (λ (s : Summary). s.refused) same);
+            printed = omega (arith, w.keep.ensures.printed, ap (λ (s : Summary). s.printed) same);
+          })
+      | else-not-is_blank_text w ↦ rw (w.writer-is, w.progress-is) (record {
         underway = passed_by c.args.script.now c.in-Some.piece.now c.in-Some.behind.now c.line_feeds.result c.pieces.invariant.underway c.in-Some.ensures (sym w.if-not-is_blank_text.ensures) c.line_feeds.ensures.count;
         session = c.pieces.invariant.session;
         unfailed = c.pieces.invariant.unfailed;
@@ -80,13 +77,14 @@ returns-then-is_blank_text-clause-ok g c = underway_ended c.args.script.now c.pi
 
 pub returns-in-Ok-write_refusal-clause-ok : goal.returns-in-Ok-write_refusal-clause-ok
 returns-in-Ok-write_refusal-clause-ok g c =
-    ended_by c.args.script.now c.leading_line_feeds-2.result c.pieces.invariant.underway (rw c.in_default.is at c.cut.ensures) (sym c.if-is_blank_text.ensures) c.leading_line_feeds-2.ensures.count
-    c.in-Ok-write_refusal.ensures.ok c.counting.ensures.counts
+    subst (λ (session : Session). Ends (Some c.args.script.now) (g.W.Sink.contents c.args.writer.now) (g.W.Sink.contents c.write_refusal.new.writer) (counts_of c.keep-in-Ok-write_refusal.new.self.summary) (names_of c.keep-in-Ok-write_refusal.new.self) (state_of session)) (sym c.keep-in-Ok-write_refusal.ensures.session)
+    (ended_by c.args.script.now c.leading_line_feeds-2.result c.pieces.invariant.underway (rw c.in_default.is at c.cut.ensures) (sym c.if-is_blank_text.ensures) c.leading_line_feeds-2.ensures.count
+    c.in-Ok-write_refusal.ensures.ok c.keep-in-Ok-write_refusal.ensures.counts c.keep-in-Ok-write_refusal.ensures.names)
 
-pub returns-clause-err : goal.returns-clause-err
-returns-clause-err g c =
+pub returns-in-Err-write_refusal-clause-err : goal.returns-in-Err-write_refusal-clause-err
+returns-in-Err-write_refusal-clause-err g c =
     broken_within_by c.args.script.now c.leading_line_feeds-2.result c.pieces.invariant.underway (rw c.in_default.is at c.cut.ensures) (sym c.if-is_blank_text.ensures) c.leading_line_feeds-2.ensures.count
     c.in-Err-write_refusal.ensures.err
 
-pub returns-clause-refusals : goal.returns-clause-refusals
-returns-clause-refusals g c = (0, lit< tt, sym c.in-Err-write_refusal.ensures.kinds)
+pub returns-in-Err-write_refusal-clause-refusals : goal.returns-in-Err-write_refusal-clause-refusals
+returns-in-Err-write_refusal-clause-refusals g c = (0, lit< tt, sym c.in-Err-write_refusal.ensures.kinds)

@@ -1,18 +1,18 @@
 use Rattle.std.proofs.Common.{◌≡◌, ◌≤◌, ◌+◌, false, length}
-use Rattle.hol_script.specs.Runs.{counts_of}
+use Rattle.hol_script.specs.Runs.{counts_of, names_of}
 use Rattle.hol_script.specs.SessionState.{state_of, IsSession}
 use Rattle.hol_script.proofs.RunLemmas.{Underway}
 use Rattle.hol_script.proofs.runner.run_script.Given as goal
 
 abbrev pub invariant-pieces : goal.invariant-pieces
 invariant-pieces g l = record {
-  underway : Underway l.fn.script (g.W.Sink.contents l.fn.writer) (g.W.Sink.contents l.writer) (state_of l.session) l.line l.rest (counts_of l.summary);
-  session : IsSession l.session;
+  underway : Underway l.fn.script (g.W.Sink.contents l.fn.writer) (g.W.Sink.contents l.writer) (state_of l.progress.session) l.line l.rest (counts_of l.progress.summary) (names_of l.progress);
+  session : IsSession l.progress.session;
   unfailed : g.W.Sink.has_failed l.writer ≡ false;
   lines : l.line + length l.rest ≤ length l.fn.script + 1;
-  accepted : l.summary.accepted + length l.rest ≤ length l.fn.script;
-  refused : l.summary.refused + length l.rest ≤ length l.fn.script;
-  printed : l.summary.printed + length l.rest ≤ length l.fn.script;
+  accepted : l.progress.summary.accepted + length l.rest ≤ length l.fn.script;
+  refused : l.progress.summary.refused + length l.rest ≤ length l.fn.script;
+  printed : l.progress.summary.printed + length l.rest ≤ length l.fn.script;
 }
 
 abbrev pub decreases-pieces : goal.decreases-pieces

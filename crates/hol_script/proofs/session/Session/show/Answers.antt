@@ -1,9 +1,10 @@
-use Rattle.std.proofs.Common.{◌≡◌, sym, ◌∙◌, ap, subst, Some, string_bytes, Bor}
+use Rattle.std.proofs.Common.{◌≡◌, sym, ◌∙◌, ap, subst, Some, Bor}
 use Rattle.std.specs.Option.{option_map}
 use Rattle.hol_model.specs.declared.fault.Fault.TheVariants.{UnknownName}
 use Rattle.hol_model.specs.Reading.{Scope}
-use Rattle.hol_model.specs.Sessions.{show_finds_none, show_prints, theorem_line}
+use Rattle.hol_model.specs.Sessions.{show_finds_none, show_prints}
 use Rattle.hol_journal.specs.Journal.{Recorded}
+use Rattle.hol_script.specs.Answers.{IsLineOf}
 use Rattle.hol_script.specs.SessionState.{state_of, theorem_of}
 use Rattle.hol_script.proofs.RuleLemmas.{proved}
 use Rattle.hol_script.proofs.SessionLemmas.{scope_same, refuses, forgets, prints}
@@ -21,7 +22,7 @@ returns-in-Ok c = λ text spelled.
     prints (state_of session) (state_of session) (Some text) c.args.name.now theorem c.in-Ok.line
     (show_prints spelled (ap theorem_of (sym c.in-Some.ensures)))
     (proved session.recorder.theory theorem c.sound.ensures c.requires.legal (rw c.thm-thm.ensures at c.concl-theorem.ensures.theorem) (c.requires.made c.args.name.now c.in-Some.theorem.now (sym c.in-Some.ensures)).earlier)
-    (subst (λ (scope : Scope). string_bytes c.in-Ok.line ≡ theorem_line scope c.args.name.now theorem) (scope_same session c.requires) (rw c.thm-thm.ensures at c.in-Ok.ensures.ok))
+    (subst (λ (scope : Scope). IsLineOf c.in-Ok.line scope c.args.name.now theorem) (scope_same session c.requires) (rw c.thm-thm.ensures at c.in-Ok.ensures.ok))
 
 pub returns-in-Err : goal.returns-in-Err
 returns-in-Err c = λ text spelled. forgets (state_of c.args.self.now) (Some text) c.in-Err.fault c.in-Err.ensures.err

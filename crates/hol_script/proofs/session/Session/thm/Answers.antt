@@ -1,8 +1,8 @@
-use Rattle.std.proofs.Common.{◌≡◌, sym, ap, ◌∙◌, subst, Some, Err, string_bytes}
+use Rattle.std.proofs.Common.{◌≡◌, sym, ap, ◌∙◌, subst, Some, Err}
 use Rattle.hol_model.specs.declared.fault.Fault.TheVariants.{BadName, NameTaken}
 use Rattle.hol_model.specs.Reading.{Scope}
-use Rattle.hol_model.specs.Sessions.{State, thm_has_bad_name, thm_has_taken_name, theorem_line}
-use Rattle.hol_script.specs.Answers.{Turns}
+use Rattle.hol_model.specs.Sessions.{State, thm_has_bad_name, thm_has_taken_name}
+use Rattle.hol_script.specs.Answers.{IsLineOf, Turns}
 use Rattle.hol_script.specs.SessionState.{state_of, IsSession}
 use Rattle.hol_script.proofs.RuleLemmas.{proved}
 use Rattle.hol_script.proofs.RecordingLemmas.{rule_state, rule_made, rule_session}
@@ -54,7 +54,7 @@ returns-in-Ok-store-clause-turns c = λ text tree spelled rule.
     spelled (sym c.if-not-is_theorem_name.ensures)
     (untaken c.stored.result _ c.stored.ensures c.if-is_some.ensures) (c.in-Ok.ensures.answers tree rule)
     (proved mid.recorder.theory answer.theorem c.sound.ensures known.legal (rw c.thm-thm.ensures at c.concl-theorem.ensures.theorem) earlier)
-    (subst (λ (scope : Scope). string_bytes c.in-Ok-theorem_line.line ≡ theorem_line scope c.args.name.now answer.theorem) (scope_same mid known) (rw c.thm-thm.ensures at c.in-Ok-theorem_line.ensures.ok))
+    (subst (λ (scope : Scope). IsLineOf c.in-Ok-theorem_line.line scope c.args.name.now answer.theorem) (scope_same mid known) (rw c.thm-thm.ensures at c.in-Ok-theorem_line.ensures.ok))
     c.in-Ok-store.ensures.ok
 
 pub returns-in-Err-store-clause-turns : goal.returns-in-Err-store-clause-turns

@@ -1,0 +1,196 @@
+-- The claims of a run are the theorems that it printed, and its log is theirs.
+use Rattle.std.proofs.Common.{◌≡◌, ◌≢◌, ℕ, ◌≤◌, ◌<◌, ◌+◌, take, get_or, List, [], ◌∷◌, ◌++◌, map, length, refl, sym, ap, subst, ◌∙◌, inl, inr, Option, None, Some, Ok, Err, Result, append-nil, append_assoc, lit<, arith, zero, suc, string_bytes}
+use Rattle.std.specs.Prelude.{IfOk, IfErr, IsErrOf, Contains, String, true}
+use Rattle.std.proofs.lemmas.List.{take_more, map-append}
+use Rattle.std.proofs.Common.{Vec, Global}
+use Rattle.std.specs.Io.KnownBytes.{Appends}
+use Rattle.indexmap.specs.IndexMap.{get_by_text}
+use Rattle.hol_model.specs.Name.{is_identifier}
+use Rattle.hol_model.specs.Derivable.{IsMember}
+use Rattle.hol_model.specs.Theorem.{Theorem}
+use Rattle.hol_model.specs.declared.fault.Fault.{Fault}
+use Rattle.hol_model.specs.declared.fault.Fault.TheVariants.{Memory, ReadFault, TooLong, WriteFault}
+use Rattle.hol_model.specs.declared.limits.TheConstants.{TEXT_BYTES_LIMIT}
+use Rattle.hol_model.specs.LogState.{LogClaim}
+use Rattle.hol_model.specs.Script.{requested}
+use Rattle.hol_model.specs.Sessions.{State, Counts, Reply, proves, accepts, refused, IsRun, Completes, Stops}
+use Rattle.hol_model.proofs.Membership.{of_append}
+use Rattle.hol_journal.specs.Steps.{sequent_of_theorem}
+use Rattle.hol_journal.specs.Journal.{Journal, Recorded, IsMade}
+use Rattle.hol_journal.specs.LogWriting.{Claimed}
+use Rattle.hol_journal.specs.declared.claim.Claim.{Claim}
+use Rattle.hol_journal.specs.Claims.{claim_of, claims_of}
+use Rattle.hol_journal.specs.LogAccepted.{log_claim}
+use Rattle.hol_journal.specs.Pruning.{AreMade, HaveIdentifiers}
+use Rattle.hol_journal.specs.LogOf.{IsPrunedText, IsLogOf, IsPastLimit}
+use Rattle.hol_bytes.specs.Bytes.{AppendsFront}
+use Rattle.hol_script.specs.declared.progress.Progress.{Progress}
+use Rattle.hol_script.specs.SessionState.{state_of, theorem_of}
+use Rattle.hol_script.specs.SessionState as session
+use Rattle.hol_script.specs.Runs.{names_of, printed_names, Ends}
+use Rattle.hol_script.specs.RunLogs.{claim_in, claims_in, IsLog, IsAcceptedLog, IsLongLog, WritesLog, WritesFront, CompletesLog, StopsInLog, HasLongLog, IsWhole, stored_claim, stored_claims, claims_stored}
+use Rattle.hol_script.proofs.StoredLemmas.{printed_theorems_stay}
+
+-- ---- claims of stored theorems
+
+member_of_stored_claim : (stored : List ℕ → Option Recorded) (name : List ℕ) (found : Option Recorded) (claim : Claimed) → stored name ≡ found → IsMember claim (stored_claim name found)
+    → stored claim.name ≡ Some claim.made
+member_of_stored_claim stored name None claim is member = absurd member
+member_of_stored_claim stored name (Some made) claim is (inl same) =
+    ap (λ (c : Claimed). stored c.name) same ∙ is ∙ ap (λ (c : Claimed). Some c.made) (sym same)
+member_of_stored_claim stored name (Some made) claim is (inr none) = absurd none
+
+-- each claim is for the theorem that is stored under its name
+member_of_stored_claims : (stored : List ℕ → Option Recorded) (names : List (List ℕ)) (claim : Claimed) → IsMember claim (stored_claims stored names) → stored claim.name ≡ Some claim.made
+member_of_stored_claims stored [] claim member = absurd member
+member_of_stored_claims stored (name ∷ names) claim member =
+    elim (of_append claim (stored_claim name (stored name)) (stored_claims stored names) member) [
+      | inl here ↦ member_of_stored_claim stored name (stored name) claim refl here
+      | inr further ↦ member_of_stored_claims stored names claim further
+    ]
+
+-- one name more
+snoc_claims : (stored : List ℕ → Option Recorded) (names : List (List ℕ)) (name : List ℕ) → stored_claims stored (names ++ name ∷ []) ≡ stored_claims stored names ++ stored_claim name (stored name)
+snoc_claims stored [] name = append-nil (stored_claim name (stored name))
+snoc_claims stored (first ∷ names) name =
+    ap (λ l. stored_claim first (stored first) ++ l) (snoc_claims stored names name) ∙ sym (append_assoc (stored_claim first (stored first)) (stored_claims stored names) (stored_claim name (stored name)))
+
+pub further_claims : (stored : List ℕ → Option Recorded) (names : List (String Global)) (at : ℕ) (item : String Global) (name : List ℕ) (found : Option Recorded) (before after : List Claimed) → at < length names → item ≡ get_or names at item
+    → name ≡ string_bytes item → stored name ≡ found → before ≡ stored_claims stored (map string_bytes (take at names)) → after ≡ before ++ stored_claim name found
+    → after ≡ stored_claims stored (map string_bytes (take (at + 1) names))
+further_claims stored names at item name found before after within is named known so_far added =
+    let here : before ++ stored_claim name found ≡ stored_claims stored (map string_bytes (take at names)) ++ stored_claim (string_bytes item) (stored (string_bytes item)) =
+    ap (λ l. l ++ stored_claim name found) so_far ∙ ap (λ f. stored_claims stored (map string_bytes (take at names)) ++ stored_claim name f) (sym known)
+    ∙ ap (λ (n : List ℕ). stored_claims stored (map string_bytes (take at names)) ++ stored_claim n (stored n)) named in
+    let longer : map string_bytes (take at names) ++ string_bytes item ∷ [] ≡ map string_bytes (take (at + 1) names) =
+    sym (map-append string_bytes (take at names) (item ∷ [])) ∙ ap (λ (x : String Global). map string_bytes (take at names ++ x ∷ [])) is ∙ ap (map string_bytes) (sym (take_more names at item within)) in
+    added ∙ here ∙ sym (snoc_claims stored (map string_bytes (take at names)) (string_bytes item)) ∙ ap (stored_claims stored) longer
+
+pub pushed_claim : (claims pushed : List Claim) (claim : Claim) → pushed ≡ claims ++ claim ∷ [] → claims_of pushed ≡ claims_of claims ++ claim_of claim ∷ []
+pushed_claim claims pushed claim is = ap claims_of is ∙ map-append claim_of claims (claim ∷ [])
+
+pub stored_claims-made : (journal : Journal) (stored : List ℕ → Option Recorded) (names : List (List ℕ)) → session.AreMade journal stored → AreMade journal (stored_claims stored names)
+stored_claims-made journal stored names made claim member = made claim.name claim.made (member_of_stored_claims stored names claim member)
+
+-- each has one of the names
+member_of_names : (name : List ℕ) (found : Option Recorded) (claim : Claimed) → IsMember claim (stored_claim name found) → claim.name ≡ name
+member_of_names name None claim member = absurd member
+member_of_names name (Some made) claim (inl same) = ap (λ (c : Claimed). c.name) same
+member_of_names name (Some made) claim (inr none) = absurd none
+
+-- ---- claims of printed theorems
+
+-- what is stored under the name of each printed theorem
+abbrev Stores : (List ℕ → Option Recorded) → List Reply → Type 0
+Stores stored replies = (name : List ℕ) (theorem : Theorem) → IsMember (proves name theorem) replies → theorem_of (stored name) ≡ Some theorem
+
+one_claim : (name : List ℕ) (theorem : Theorem) (found : Option Recorded) → theorem_of found ≡ Some theorem → map log_claim (stored_claim name found) ≡ claim_in (proves name theorem)
+one_claim name theorem None is = cc
+one_claim name theorem (Some made) is =
+    let same : made.theorem ≡ theorem = cc in
+    ap (λ (t : Theorem). record { name = name; sequent = sequent_of_theorem t } ∷ []) same
+
+pub claims_are_printed : (stored : List ℕ → Option Recorded) (replies : List Reply) → Stores stored replies → map log_claim (stored_claims stored (printed_names replies)) ≡ claims_in replies
+claims_are_printed stored [] stores = refl
+claims_are_printed stored (proves name theorem ∷ replies) stores =
+    let further = claims_are_printed stored replies (λ other there member. stores other there (inr member)) in
+    append_claims (stored_claim name (stored name)) (stored_claims stored (printed_names replies))
+    ∙ ap (λ l. l ++ map log_claim (stored_claims stored (printed_names replies))) (one_claim name theorem (stored name) (stores name theorem (inl refl)))
+    ∙ ap (λ l. claim_in (proves name theorem) ++ l) further
+  where
+    append_claims : (first second : List Claimed) → map log_claim (first ++ second) ≡ map log_claim first ++ map log_claim second
+    append_claims [] second = refl
+    append_claims (claim ∷ first) second = ap (λ l. log_claim claim ∷ l) (append_claims first second)
+claims_are_printed stored (accepts ∷ replies) stores = claims_are_printed stored replies (λ name theorem member. stores name theorem (inr member))
+claims_are_printed stored (refused fault ∷ replies) stores = claims_are_printed stored replies (λ name theorem member. stores name theorem (inr member))
+
+claims_are_named : (stored : List ℕ → Option Recorded) (replies : List Reply) → ((name : List ℕ) (theorem : Theorem) → IsMember (proves name theorem) replies → is_identifier name ≡ true)
+    → HaveIdentifiers (stored_claims stored (printed_names replies))
+claims_are_named stored [] named claim member = absurd member
+claims_are_named stored (proves name theorem ∷ replies) named claim member =
+    elim (of_append claim (stored_claim name (stored name)) (stored_claims stored (printed_names replies)) member) [
+      | inl here ↦ ap is_identifier (member_of_names name (stored name) claim here) ∙ named name theorem (inl refl)
+      | inr further ↦ claims_are_named stored replies (λ other there is. named other there (inr is)) claim further
+    ]
+claims_are_named stored (accepts ∷ replies) named claim member = claims_are_named stored replies (λ name theorem is. named name theorem (inr is)) claim member
+claims_are_named stored (refused fault ∷ replies) named claim member = claims_are_named stored replies (λ name theorem is. named name theorem (inr is)) claim member
+
+-- ---- claims of a run that has come to its end
+
+module _ {input written now : Option (List ℕ)} {counts : Counts} (progress : Progress) (ends : Ends input written now counts (names_of progress) (state_of progress.session)) where
+  pub claims_of_run : map log_claim (claims_stored progress) ≡ claims_in ends.completes.is_run.replies
+  claims_of_run =
+      let stored = get_by_text progress.session.theorems in
+      let is_run = ends.completes.is_run in
+      ap (λ (names : List (List ℕ)). map log_claim (stored_claims stored names)) ends.named
+      ∙ claims_are_printed stored is_run.replies
+      (λ name theorem member. ap (λ (s : State). s.theorems name) ends.final ∙ printed_theorems_stay.stays (requested 1 is_run.pieces is_run.last) is_run.replies ends.completes.out is_run.final is_run.session name theorem member)
+
+  pub run_is_named : HaveIdentifiers (claims_stored progress)
+  run_is_named =
+      let stored = get_by_text progress.session.theorems in
+      let is_run = ends.completes.is_run in
+      subst (λ (names : List (List ℕ)). HaveIdentifiers (stored_claims stored names)) (sym ends.named)
+      (claims_are_named stored is_run.replies
+      (λ name theorem member. printed_theorems_stay.named (requested 1 is_run.pieces is_run.last) is_run.replies ends.completes.out is_run.final is_run.session name theorem member))
+
+  pub completes_log : {logged new_logged : Option (List ℕ)} → WritesLog (map log_claim (claims_stored progress)) logged new_logged → CompletesLog input written now counts logged new_logged
+  completes_log {logged} {new_logged} writes = record { completes = ends.completes; writes = subst (λ (claims : List LogClaim). WritesLog claims logged new_logged) claims_of_run writes }
+
+  pub stops_in_log : {logged new_logged : Option (List ℕ)} → WritesFront (map log_claim (claims_stored progress)) logged new_logged → StopsInLog input written now logged new_logged
+  stops_in_log {logged} {new_logged} writes =
+      record { counts = counts; completes = ends.completes; writes = subst (λ (claims : List LogClaim). WritesFront claims logged new_logged) claims_of_run writes }
+
+  pub has_long_log : IsLongLog (map log_claim (claims_stored progress)) → HasLongLog input written now
+  has_long_log long = record { counts = counts; completes = ends.completes; long = subst IsLongLog claims_of_run long }
+
+  pub is_whole : IsWhole input written now
+  is_whole = record { counts = counts; completes = ends.completes }
+
+  -- a whole run is a front of itself
+  pub stops_whole : Stops input written now
+  stops_whole =
+      let c = ends.completes in
+      record { script = c.script; out = c.out; rest = []; counts = counts; read = c.read; wrote = c.wrote; is_run = subst (λ (l : List ℕ). IsRun c.script l counts) (sym (append-nil c.out)) c.is_run }
+
+-- ---- the text of a log
+
+pub log_answers : (result : Result (Vec ℕ Global) Fault) (journal : Journal) (given claimed : List Claimed) → given ≡ claimed → AreMade journal claimed
+    → IfOk result (λ (text : Vec ℕ Global). IsPrunedText journal given text.items) → IfOk result (λ (text : Vec ℕ Global). IsLogOf text.items given) → IfOk result (λ (text : Vec ℕ Global). length text.items ≤ TEXT_BYTES_LIMIT)
+    → IfOk result (λ (text : Vec ℕ Global). IsAcceptedLog (map log_claim claimed) text.items)
+log_answers (Ok text) journal given claimed same made pruned accepted within = record {
+  is_log = record { journal = journal; claimed = claimed; made = made; are_claims = refl; pruned = subst (λ (cs : List Claimed). IsPrunedText journal cs text.items) same pruned };
+  within_limit = within;
+  state = accepted.state;
+  accepted = accepted.accepted;
+  claimed = accepted.claimed ∙ ap (map log_claim) same;
+}
+log_answers (Err fault) journal given claimed same made pruned accepted within = tt
+
+pub long_log : (journal : Journal) (given claimed : List Claimed) → given ≡ claimed → AreMade journal claimed → IsPastLimit journal given → IsLongLog (map log_claim claimed)
+long_log journal given claimed same made past = record {
+  log = past.text;
+  is_log = record { journal = journal; claimed = claimed; made = made; are_claims = refl; pruned = subst (λ (cs : List Claimed). IsPrunedText journal cs past.text) same past.pruned };
+  longer = past.longer;
+}
+
+pub write_fault_listed : {A : Type 0} (result : Result A Fault) → IfErr result (λ (fault : Fault). fault ≡ WriteFault) → IfErr result (Contains (WriteFault ∷ TooLong ∷ Memory ∷ []))
+write_fault_listed (Ok x) is = tt
+write_fault_listed (Err fault) is = (0, lit< tt, sym is)
+
+-- the refusals of a part are among those of the whole
+
+pub listed_of_session : (fault : Fault) → Contains (WriteFault ∷ Memory ∷ []) fault → Contains (ReadFault ∷ TooLong ∷ WriteFault ∷ Memory ∷ []) fault
+listed_of_session fault (zero, within, is) = (2, lit< tt, is)
+listed_of_session fault (suc zero, within, is) = (3, lit< tt, is)
+listed_of_session fault (suc (suc place), within, is) = absurd (omega (arith, within))
+
+pub listed_of_log : (fault : Fault) → Contains (WriteFault ∷ TooLong ∷ Memory ∷ []) fault → Contains (ReadFault ∷ TooLong ∷ WriteFault ∷ Memory ∷ []) fault
+listed_of_log fault (zero, within, is) = (2, lit< tt, is)
+listed_of_log fault (suc zero, within, is) = (1, lit< tt, is)
+listed_of_log fault (suc (suc zero), within, is) = (3, lit< tt, is)
+listed_of_log fault (suc (suc (suc place)), within, is) = absurd (omega (arith, within))
+
+-- the refusal, whatever is answered otherwise
+pub same_refusal : {A B : Type 0} (fault other : Fault) → IsErrOf {T = A} (Err fault) other → IsErrOf {T = B} (Err fault) other
+same_refusal fault other is = (let same : fault ≡ other = cc in ap (λ (e : Fault). Err e) same)

@@ -1,0 +1,132 @@
+// How far a run has come.
+ghost use Rattle.std.specs.Prelude.{◌≡◌, ◌≤◌, ◌<◌, ◌+◌, ◌^◌, ◌++◌, ◌∷◌, [], map, Some, OnOk, IfOk, IfErr, IsErrOf, Contains, vec_len, vec_capacity};
+ghost use Rattle.hol_model.specs.Sessions.{start};
+ghost use Rattle.hol_model.specs.declared.fault.Fault.TheVariants.{Memory, TooLong};
+ghost use Rattle.hol_journal.specs.Pruning.{HaveIdentifiers};
+ghost use Rattle.hol_journal.specs.LogAccepted.{log_claim};
+ghost use Rattle.hol_script.specs.Answers.{Turns};
+ghost use Rattle.hol_script.specs.Runs.{counts_of, counting_answer, names_of, names_in_answer};
+ghost use Rattle.hol_script.specs.RunLogs.{claims_stored, IsAcceptedLog, IsLongLog};
+ghost use Rattle.hol_script.specs.SessionState.{state_of, IsSession};
+
+use crate::execute::execute;
+use crate::session::{Printed, Session};
+use hol_model::Fault;
+use std::alloc::Global;
+
+/// How many commands were accepted and refused, and how many theorems were printed.
+#[derive(Clone, Copy, Debug, PartialEq, Eq)]
+pub struct Summary {
+    pub accepted: u64,
+    pub refused: u64,
+    pub printed: u64,
+}
+
+/// A session, the names in the lines of theorems that it printed, and what it answered so far.
+#[derive(Drop)]
+pub struct Progress {
+    pub session: Session,
+    pub names: Vec<String>,
+    pub summary: Summary,
+}
+
+impl Summary {
+    // The summary after one more answer.
+    fn counting(&self, answer: &Result<Printed, Fault>) -> Summary
+        requires accepted { self.now.accepted < 2 ^ 63 }
+        requires refused { self.now.refused < 2 ^ 63 }
+        requires printed { self.now.printed < 2 ^ 63 }
+        ensures counts { counts_of result ≡ counting_answer (counts_of self.now) answer.now }
+        ensures accepted { result.accepted ≤ self.now.accepted + 1 }
+        ensures refused { result.refused ≤ self.now.refused + 1 }
+        ensures printed { result.printed ≤ self.now.printed + 1 }
+    {
+        match answer {
+            Ok(Printed::Nothing) => Summary {
+                accepted: self.accepted + 1,
+                refused: self.refused,
+                printed: self.printed,
+            },
+            Ok(Printed::Line(_)) => Summary {
+                accepted: self.accepted + 1,
+                refused: self.refused,
+                printed: self.printed + 1,
+            },
+            Err(_) => Summary {
+                accepted: self.accepted,
+                refused: self.refused + 1,
+                printed: self.printed,
+            },
+        }
+    }
+}
+
+impl Progress {
+    /// Where a run begins.
+    pub fn new(alloc: Global) -> Result<Progress, Fault>
+        ensures state { IfOk result (λ progress. state_of progress.session ≡ start) }
+        ensures is_session { IfOk result (λ progress. IsSession progress.session) }
+        ensures names { IfOk result (λ progress. names_of progress ≡ []) }
+        ensures summary { IfOk result (λ progress. progress.summary ≡ record { accepted = 0; refused = 0; printed = 0 }) }
+        ensures err { IfErr result (λ fault. fault ≡ Memory) }
+    {
+        match Session::new(alloc) {
+            Ok(session) => Ok(Progress {
+                session,
+                names: Vec::new(alloc),
+                summary: Summary {
+                    accepted: 0,
+                    refused: 0,
+                    printed: 0,
+                },
+            }),
+            Err(fault) => Err(fault),
+        }
+    }
+
+    /// Answers a command. Where the name of a theorem would find no room, the command is refused.
+    pub fn answer(&mut self, alloc: Global, text: &[u8]) -> Result<Printed, Fault>
+        requires { IsSession self.old.session }
+        ensures turns { Turns (state_of self.old.session) (Some text.now) result (state_of self.new.session) }
+        ensures kept { IsSession self.new.session }
+        ensures names { names_of self.new ≡ names_of self.old }
+        ensures room { OnOk result (vec_len self.new.names < vec_capacity self.new.names) }
+        ensures summary { self.new.summary ≡ self.old.summary }
+    {
+        if self.names.reserve(1).is_err() {
+            return Err(Fault::Memory);
+        }
+        execute(&mut self.session, alloc, text)
+    }
+
+    /// Counts an answer and keeps the name of its theorem, for which there is room.
+    pub fn keep(&mut self, answer: Result<Printed, Fault>)
+        requires room { OnOk answer (vec_len self.old.names < vec_capacity self.old.names) }
+        requires accepted { self.old.summary.accepted < 2 ^ 63 }
+        requires refused { self.old.summary.refused < 2 ^ 63 }
+        requires printed { self.old.summary.printed < 2 ^ 63 }
+        ensures session { self.new.session ≡ self.old.session }
+        ensures names { names_of self.new ≡ names_of self.old ++ names_in_answer answer }
+        ensures counts { counts_of self.new.summary ≡ counting_answer (counts_of self.old.summary) answer }
+        ensures accepted { self.new.summary.accepted ≤ self.old.summary.accepted + 1 }
+        ensures refused { self.new.summary.refused ≤ self.old.summary.refused + 1 }
+        ensures printed { self.new.summary.printed ≤ self.old.summary.printed + 1 }
+    {
+        self.summary = self.summary.counting(&answer);
+        if let Ok(Printed::Line(line)) = answer {
+            self.names.push_reserved(line.name);
+        }
+    }
+
+    /// The text of the log of the theorems that were printed. Refusals: Memory, and TooLong, where the text would be
+    /// longer than the limit on texts.
+    pub fn log_text(&self, alloc: Global) -> Result<Vec<u8>, Fault>
+        requires session { IsSession self.now.session }
+        requires named { HaveIdentifiers (claims_stored self.now) }
+        ensures ok { IfOk result (λ text. IsAcceptedLog (map log_claim (claims_stored self.now)) text.items) }
+        ensures too_long { IsErrOf result TooLong → IsLongLog (map log_claim (claims_stored self.now)) }
+        ensures refusals { IfErr result (Contains (TooLong ∷ Memory ∷ [])) }
+    {
+        self.session.log_text(alloc, &self.names)
+    }
+}
