@@ -216,7 +216,8 @@ fn kept_in_body(
     NameClasses::of_name(name)
 }
 
-/// How many nodes are gone into in search of a kept variable that a binder, which captures none, might have captured.
+/// How many nodes a walk may have gone into in search of a kept variable that a binder, which captures none, might have
+/// captured.
 pub(crate) fn walked_in_vain(
     name: &str,
     ty: &Ty,
@@ -227,23 +228,9 @@ pub(crate) fn walked_in_vain(
 ) -> u64 {
     let may_change = changes_type(types, ty) || changes_types(types, body);
     if may_change && variables.has_other_instance(name, ty, types, new_type) {
-        nodes_meeting(body, NameClasses::of_name(name))
+        u64::from(body.nodes())
     } else {
         0
-    }
-}
-
-// How many nodes a walk goes into that passes over parts in which no variable of these classes stands.
-fn nodes_meeting(term: &Term, classes: NameClasses) -> u64 {
-    if !classes.meets(term.names()) {
-        return 1;
-    }
-    match term.parts() {
-        Parts::Variable(_, _) | Parts::Constant(_, _) => 1,
-        Parts::Combination(function, argument) => nodes_meeting(function, classes)
-            .saturating_add(nodes_meeting(argument, classes))
-            .saturating_add(1),
-        Parts::Abstraction(_, _, body) => nodes_meeting(body, classes).saturating_add(1),
     }
 }
 

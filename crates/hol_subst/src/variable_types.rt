@@ -21,7 +21,7 @@ const TYPES_KEPT: usize = 16;
 #[derive(Drop)]
 pub struct VariableTypes {
     is_known: bool,
-    // How often walks in vain have to go into as many nodes as a part has before it gets a table of its own.
+    // Once walks in vain went into this many times the nodes of a part, it gets a table of its own.
     price: u64,
     // A name's types, or `None` where they may be any.
     by_name: IndexMap<String, Option<Vec<Ty>>>,

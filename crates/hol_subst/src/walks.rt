@@ -5,7 +5,7 @@ use hol_terms::Term;
 /// What the walks on the way to a part tell. Nothing rests on it but time.
 #[derive(Clone, Copy)]
 pub struct Walks {
-    /// How many nodes walks in vain went into since the table of variables was made.
+    /// How many nodes walks in vain may have gone into since the table of variables was made.
     pub in_vain: u64,
     /// Where in the part a captured variable may stand.
     pub hint: Place,
@@ -36,7 +36,7 @@ impl Walks {
         }
     }
 
-    /// The same, where a walk in vain went into so many more nodes.
+    /// The same, where a walk in vain may have gone into so many more nodes.
     pub(crate) fn and_in_vain(self, nodes: u64) -> Walks {
         Walks {
             in_vain: self.in_vain.saturating_add(nodes),
