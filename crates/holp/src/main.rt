@@ -2,6 +2,8 @@
 #![tactic(auto)]
 
 mod files;
+#[cfg(test)]
+mod log_tests;
 mod new_file;
 mod status;
 
