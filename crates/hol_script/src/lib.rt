@@ -16,6 +16,8 @@ pub use progress::Summary;
 pub use runner::run;
 
 #[cfg(test)]
+mod log_tests;
+#[cfg(test)]
 mod replacement_tests;
 #[cfg(test)]
 mod tests;

@@ -47,6 +47,18 @@ pub fn writes(alloc: Global, script: &[u8], expected: &[u8]) -> Result<bool, Fau
     Ok(writer.is_whole())
 }
 
+/// Whether the log of a script is this, and no more.
+pub fn logs(alloc: Global, script: &[u8], expected: &[u8], wants_log: bool) -> Result<bool, Fault> {
+    let mut reader = FromRead::new(script);
+    let mut writer = IntoWrite::new(Vec::new(alloc));
+    let mut log = Compared {
+        rest: expected,
+        differs: false,
+    };
+    run(alloc, &mut reader, &mut writer, &mut log, wants_log)?;
+    Ok(log.is_whole())
+}
+
 fn summary(alloc: Global, script: &[u8]) -> Result<Summary, Fault> {
     let mut reader = FromRead::new(script);
     let mut writer = IntoWrite::new(Vec::new(alloc));
