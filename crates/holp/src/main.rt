@@ -2,13 +2,7 @@
 #![tactic(auto)]
 
 mod files;
-#[cfg(test)]
-mod log_tests;
 mod new_file;
-#[cfg(test)]
-mod recorder_tests;
-#[cfg(test)]
-mod run_log_tests;
 mod status;
 
 use clap::{Arg, ArgAction, ArgMatches, Command};

@@ -1,6 +1,6 @@
 // Each rule on small terms, with expected sequents by hand. The terms and proofs are constants, so that each reference in
 // them has one lifetime.
-use crate::fixture::{Proof, Tree, gives, refuses, succeeds};
+use crate::proof_trees::{Proof, Tree, gives, refuses, succeeds};
 use hol_model::Fault;
 
 const P: Tree<'static> = Tree::Formula("p");

@@ -1,7 +1,7 @@
 // Which bound names substitution and instantiation choose, on nested and shadowed binders, worked by hand. In the
 // comments `f` takes two arguments, `g` takes a function, and all variables are of type `A` unless said otherwise.
-use crate::{inst, vsubst};
 use hol_model::Fault;
+use hol_subst::{inst, vsubst};
 use hol_terms::{Parts, Term};
 use hol_types::Ty;
 use std::alloc::Global;

@@ -2,8 +2,7 @@
 ghost use Rattle.std.specs.Prelude.{◌≡◌, IfOk};
 ghost use Rattle.hol_model.specs.Theory.{IsEarlier};
 
-use crate::theory::Theory;
-use crate::thm::Thm;
+use hol_kernel::{Theory, Thm};
 use hol_model::Fault;
 use hol_terms::{Parts, Term, mk_eq};
 use hol_types::{Ty, TypeParts};
@@ -53,7 +52,7 @@ pub enum Proof<'a> {
 }
 
 /// Whether the proof gives a theorem of this text.
-pub fn gives(alloc: Global, proof: &Proof<'_>, text: &str) -> bool {
+pub(crate) fn gives(alloc: Global, proof: &Proof<'_>, text: &str) -> bool {
     match attempt(alloc, proof) {
         Ok(theorem) => match reads(alloc, &theorem, text) {
             Ok(same) => same,
@@ -64,7 +63,7 @@ pub fn gives(alloc: Global, proof: &Proof<'_>, text: &str) -> bool {
 }
 
 /// Whether the proof gives a theorem.
-pub fn succeeds(alloc: Global, proof: &Proof<'_>) -> bool {
+pub(crate) fn succeeds(alloc: Global, proof: &Proof<'_>) -> bool {
     match attempt(alloc, proof) {
         Ok(_) => true,
         Err(_) => false,
@@ -72,7 +71,7 @@ pub fn succeeds(alloc: Global, proof: &Proof<'_>) -> bool {
 }
 
 /// Whether the proof is refused in this way.
-pub fn refuses(alloc: Global, proof: &Proof<'_>, fault: Fault) -> bool {
+pub(crate) fn refuses(alloc: Global, proof: &Proof<'_>, fault: Fault) -> bool {
     match attempt(alloc, proof) {
         Ok(_) => false,
         Err(found) => found == fault,
@@ -88,7 +87,7 @@ fn attempt(alloc: Global, proof: &Proof<'_>) -> Result<Thm, Fault> {
 
 /// The theorem of the proof.
 #[tactic(auto, using(hol_model::proofs::Earlier::earlier))]
-pub fn prove(alloc: Global, theory: &Theory, proof: &Proof<'_>) -> Result<Thm, Fault>
+pub(crate) fn prove(alloc: Global, theory: &Theory, proof: &Proof<'_>) -> Result<Thm, Fault>
     ensures { IfOk result (λ theorem. theorem.theory ≡ theory.now) }
 {
     match proof {
@@ -234,7 +233,7 @@ fn named_type(alloc: Global, name: &str) -> Result<Ty, Fault> {
 }
 
 /// The term of the tree.
-pub fn term(alloc: Global, tree: &Tree<'_>) -> Result<Term, Fault> {
+pub(crate) fn term(alloc: Global, tree: &Tree<'_>) -> Result<Term, Fault> {
     match tree {
         Tree::Formula(name) => Term::mk_var(alloc, name, &Ty::boolean(alloc)?),
         Tree::Connective(name) => connective(alloc, name),
@@ -266,7 +265,7 @@ fn tower(alloc: Global, count: u16) -> Result<Term, Fault> {
 }
 
 /// The refusal, if there is one.
-pub fn refusal<T: Drop>(answer: Result<T, Fault>) -> Option<Fault> {
+pub(crate) fn refusal<T: Drop>(answer: Result<T, Fault>) -> Option<Fault> {
     match answer {
         Ok(_) => None,
         Err(fault) => Some(fault),
@@ -274,7 +273,7 @@ pub fn refusal<T: Drop>(answer: Result<T, Fault>) -> Option<Fault> {
 }
 
 /// Whether the theorem has this text: its hypotheses, each with a comma behind it, and `|- ` with the conclusion.
-pub fn reads(alloc: Global, theorem: &Thm, text: &str) -> Result<bool, Fault> {
+pub(crate) fn reads(alloc: Global, theorem: &Thm, text: &str) -> Result<bool, Fault> {
     let mut out = String::new(alloc);
     for hypothesis in theorem.hyps() {
         write_term(&mut out, hypothesis)?;

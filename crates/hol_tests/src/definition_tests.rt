@@ -1,7 +1,6 @@
 // Definitions and declarations, with expected sequents by hand.
-use crate::fixture::{Proof, Tree, prove, reads, refusal, term};
-use crate::theory::Theory;
-use crate::thm::Thm;
+use crate::proof_trees::{Proof, Tree, prove, reads, refusal, term};
+use hol_kernel::{Theory, Thm};
 use hol_model::Fault;
 use hol_types::Ty;
 use std::alloc::Global;
