@@ -2,6 +2,7 @@
 #![tactic(auto)]
 
 mod files;
+mod laws;
 #[cfg(test)]
 mod log_tests;
 mod new_file;
