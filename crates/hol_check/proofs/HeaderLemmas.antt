@@ -6,15 +6,14 @@ use Rattle.hol_model.specs.LogLine.LogVersion.{first_version, second_version}
 use Rattle.hol_model.specs.LogLine.LogLine.{header_line, type_variable_line, bool_line, function_type_line, declared_type_line, variable_line, constant_line, combination_line, abstraction_line, new_type_line, new_constant_line, theorem_line, claim_line, end_line}
 use Rattle.hol_model.specs.LogState.{LogState}
 use Rattle.hol_model.specs.LogText.{ReadLine, LogText, no_line, dest_header, log_outcome}
-use Rattle.hol_logtext.specs.Fields.{line_feed}
+use Rattle.hol_logtext.specs.Fields.{line_feed, has_line_feed}
 use Rattle.hol_logtext.specs.Laws.{ReadingIsExact}
 use Rattle.hol_logtext.specs.LineReading.{read_text}
 use Rattle.hol_logtext.specs.LineText.{line_text, line_bytes}
 use Rattle.hol_logtext.specs.LogBytes.{log_text, last_part, with_line}
-use Rattle.hol_check.specs.Reading.{has_line_feed}
 use Rattle.hol_check.specs.LogAnswers.{log_answer}
 use Rattle.hol_check.specs.Migration.{IsHeaded}
-use Rattle.hol_check.proofs.LogAnswerLemmas.{log_text_line, log_text_last}
+use Rattle.hol_logtext.proofs.LogLemmas.{log_text_line, log_text_last}
 
 -- the line up to the first line feed, and what stands behind it
 record IsFirstLine (text : List ℕ) : Type 0 where

@@ -12,6 +12,7 @@ pub mod NumberLemmas
 pub mod OccursLemmas
 pub mod ReflectionLemmas
 pub mod TypingLemmas
+mod KnownTypeLemmas
 pub mod KnownLemmas
 pub mod KnownGrowth
 pub mod LimitLemmas

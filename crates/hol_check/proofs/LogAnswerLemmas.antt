@@ -1,5 +1,5 @@
 -- Lemmas on a log that is judged line by line.
-use Rattle.std.proofs.Common.{◌≡◌, ℕ, ◌+◌, List, [], ◌∷◌, ◌++◌, Option, Some, None, Result, Ok, Err, IfOk, Bool, true, false, ◌==◌, if◌then◌else◌, refl, sym, ap, ◌∙◌, subst, append_assoc}
+use Rattle.std.proofs.Common.{◌≡◌, ℕ, ◌+◌, List, [], ◌∷◌, ◌++◌, Option, Some, None, Result, Ok, Err, IfOk, false, refl, sym, ap, ◌∙◌, subst, append_assoc}
 use Rattle.std.specs.Prelude.{IsErrOf}
 use Rattle.std.specs.Io.KnownBytes.{Consumes}
 use Rattle.std.proofs.KnownBytes.{Consumes-nil}
@@ -8,49 +8,12 @@ use Rattle.hol_model.specs.declared.fault.Cause.TheVariants.{Header, Cut}
 use Rattle.hol_model.specs.LogLine.{LogVersion}
 use Rattle.hol_model.specs.LogState.{LogState, first_state}
 use Rattle.hol_model.specs.LogText.{ReadLine, LogText, LogOutcome, from_line, at_last, no_line, dest_header, log_outcome}
-use Rattle.hol_model.proofs.Tests.{first_of_neither, second_of_neither}
-use Rattle.hol_logtext.specs.Fields.{line_feed, split_on, onto_first}
+use Rattle.hol_logtext.specs.Fields.{line_feed, has_line_feed}
 use Rattle.hol_logtext.specs.LineReading.{read_text}
-use Rattle.hol_logtext.specs.LogBytes.{log_text, last_part, with_line, lines_of_parts}
-use Rattle.hol_check.specs.Reading.{Unread, IsUnread, has_line_feed}
+use Rattle.hol_logtext.specs.LogBytes.{log_text, last_part, with_line}
+use Rattle.hol_logtext.proofs.LogLemmas.{log_text_line, log_text_last}
+use Rattle.hol_check.specs.Reading.{Unread, IsUnread}
 use Rattle.hol_check.specs.LogAnswers.{log_answer, IsTakenText, LeadsTo, IsRefusedAt, IsUnderway}
-
--- the parts of a text
-
-split_line : (line rest : List ℕ) → has_line_feed line ≡ false → split_on line_feed (line ++ line_feed ∷ rest) ≡ line ∷ split_on line_feed rest
-split_line [] rest none = refl
-split_line (byte ∷ line) rest none =
-    let other : (byte == line_feed) ≡ false = first_of_neither (byte == line_feed) (has_line_feed line) none in
-    let deeper : split_on line_feed (line ++ line_feed ∷ rest) ≡ line ∷ split_on line_feed rest = split_line line rest (second_of_neither (byte == line_feed) (has_line_feed line) none) in
-    rw (other, deeper) refl
-
-split_last : (line : List ℕ) → has_line_feed line ≡ false → split_on line_feed line ≡ line ∷ []
-split_last [] none = refl
-split_last (byte ∷ line) none =
-    let other : (byte == line_feed) ≡ false = first_of_neither (byte == line_feed) (has_line_feed line) none in
-    let deeper : split_on line_feed line ≡ line ∷ [] = split_last line (second_of_neither (byte == line_feed) (has_line_feed line) none) in
-    rw (other, deeper) refl
-
-onto_first_lines : (part : List ℕ) (byte : ℕ) (parts : List (List ℕ)) → lines_of_parts (part ∷ onto_first byte parts) ≡ with_line (read_text part) (lines_of_parts (onto_first byte parts))
-onto_first_lines part byte [] = refl
-onto_first_lines part byte (first ∷ parts) = refl
-
-lines_behind : (part rest : List ℕ) → lines_of_parts (part ∷ split_on line_feed rest) ≡ with_line (read_text part) (lines_of_parts (split_on line_feed rest))
-lines_behind part [] = refl
-lines_behind part (byte ∷ rest) = go (byte == line_feed)
-  where
-    go : (test : Bool) → lines_of_parts (part ∷ (if test then [] ∷ split_on line_feed rest else onto_first byte (split_on line_feed rest)))
-        ≡ with_line (read_text part) (lines_of_parts (if test then [] ∷ split_on line_feed rest else onto_first byte (split_on line_feed rest)))
-    go true = refl
-    go false = onto_first_lines part byte (split_on line_feed rest)
-
--- a text with a line feed
-pub log_text_line : (line rest : List ℕ) → has_line_feed line ≡ false → log_text (line ++ line_feed ∷ rest) ≡ with_line (read_text line) (log_text rest)
-log_text_line line rest none = ap lines_of_parts (split_line line rest none) ∙ lines_behind line rest
-
--- a text with none
-pub log_text_last : (line : List ℕ) → has_line_feed line ≡ false → log_text line ≡ record { lines = []; rest = last_part line }
-log_text_last line none = ap lines_of_parts (split_last line none)
 
 -- the bytes handed out, with a line and what follows it
 with_rest : (handed line rest : List ℕ) → ((handed ++ line) ++ line_feed ∷ []) ++ rest ≡ handed ++ (line ++ line_feed ∷ rest)

@@ -17,7 +17,7 @@ use Rattle.hol_model.specs.declared.limits.TheConstants.{TEXT_BYTES_LIMIT}
 use Rattle.hol_model.specs.Sessions.{Tells}
 use Rattle.hol_check.specs.Checking.{HasClaims}
 use Rattle.hol_check.specs.Migration.{in_second, IsMigrated, IsMigration, MigrationKeepsClaims}
-use Rattle.hol_check.proofs.LogAnswerLemmas.{log_text_line}
+use Rattle.hol_logtext.proofs.LogLemmas.{log_text_line}
 
 -- a test that fails does not change what is the first cause
 none_after : (test : Bool) (cause : Cause) (rest : Option Cause) → (if test then Some cause else rest) ≡ None → rest ≡ None

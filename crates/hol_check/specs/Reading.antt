@@ -1,6 +1,5 @@
 -- What is left of a log's text while it is read.
-use Rattle.std.specs.Prelude.{◌≡◌, ◌≤◌, ◌+◌, ◌==◌, ℕ, List, [], ◌∷◌, ◌++◌, Bool, true, false, take, drop, length, Option, None, Some}
-use Rattle.std.specs.List.{list_any}
+use Rattle.std.specs.Prelude.{◌≡◌, ◌≤◌, ◌+◌, ℕ, List, [], ◌∷◌, ◌++◌, Bool, true, false, take, drop, length, Option, None, Some}
 use Rattle.std.specs.Io.KnownBytes.{Consumes}
 use Rattle.hol_model.specs.Sessions.{Tells}
 use Rattle.hol_model.specs.declared.limits.TheConstants.{TEXT_BYTES_LIMIT}
@@ -35,9 +34,6 @@ pub record IsRead (input : Option (List ℕ)) (handed : List ℕ) : Type 0 where
 abbrev pub IsNext : Option (List ℕ) → List ℕ → Unread → Option (List ℕ) → Option ℕ → Type 0
 IsNext input handed unread left None = IsRead input handed
 IsNext input handed unread left (Some byte) = IsUnread input (handed ++ byte ∷ []) unread left
-
-abbrev pub has_line_feed : List ℕ → Bool
-has_line_feed bytes = list_any (λ byte. byte == line_feed) bytes
 
 -- the bytes up to the next line feed and that line feed were handed out, or all bytes that were left
 abbrev pub IsLine : Option (List ℕ) → List ℕ → List ℕ → Unread → Option (List ℕ) → Bool → Type 0

@@ -23,12 +23,12 @@ use hol_model::Fault;
 use std::alloc::Global;
 
 /// A term again, refused where it is past the limits.
-pub(crate) fn within_limits(terms: &mut Terms, number: usize) -> Result<usize, Fault>
+pub(crate) fn within_limits(alloc: Global, terms: &mut Terms, number: usize) -> Result<usize, Fault>
     requires { number < length terms.old.terms }
     ensures formed { IsFormed (term_at terms.old.terms number) result terms.new.terms }
     ensures grows { IsGrown terms.old terms.new }
 {
-    match type_of(terms, number) {
+    match type_of(alloc, terms, number) {
         Ok(_ty) => Ok(number),
         Err(fault) => Err(fault),
     }
@@ -235,7 +235,7 @@ pub(crate) fn equation_of(
     ensures formed { IsFormed (sequents.equation_of (term_at terms.old.terms left) (term_at terms.old.terms right)) result terms.new.terms }
     ensures grows { IsGrown terms.old terms.new }
 {
-    match type_of(terms, left) {
+    match type_of(alloc, terms, left) {
         Ok(ty) => equation_at(alloc, terms, ty, left, right),
         Err(fault) => Err(fault),
     }
@@ -263,11 +263,12 @@ fn equation_at(
         Ok(equality) => equality,
         Err(fault) => return Err(fault),
     };
-    applied_to_both(terms, equality, left, right)
+    applied_to_both(alloc, terms, equality, left, right)
 }
 
 // A function applied to two arguments, within the limits.
 fn applied_to_both(
+    alloc: Global,
     terms: &mut Terms,
     function: usize,
     left: usize,
@@ -284,7 +285,7 @@ fn applied_to_both(
         Err(fault) => return Err(fault),
     };
     match application(terms, half, right) {
-        Ok(whole) => within_limits(terms, whole),
+        Ok(whole) => within_limits(alloc, terms, whole),
         Err(fault) => Err(fault),
     }
 }
@@ -372,13 +373,13 @@ pub(crate) fn sides_fit(terms: &mut Terms, first: usize, second: usize) -> Resul
 }
 
 /// Whether a term within the limits is of type `bool`.
-pub(crate) fn is_formula(terms: &mut Terms, number: usize) -> Result<bool, Fault>
+pub(crate) fn is_formula(alloc: Global, terms: &mut Terms, number: usize) -> Result<bool, Fault>
     requires { IsFitting terms.old.terms number }
     ensures formula { IfOk result (λ answer. answer ≡ type_eq (term_type (term_at terms.old.terms number)) bool_type) }
     ensures refused { IfErr result (λ fault. fault ≡ Memory) }
     ensures grows { IsGrown terms.old terms.new }
 {
-    let ty = match type_of(terms, number) {
+    let ty = match type_of(alloc, terms, number) {
         Ok(ty) => ty,
         Err(_fault) => return Err(Fault::Memory),
     };
@@ -389,18 +390,23 @@ pub(crate) fn is_formula(terms: &mut Terms, number: usize) -> Result<bool, Fault
 }
 
 /// Whether two terms within the limits have one type.
-pub(crate) fn have_one_type(terms: &mut Terms, first: usize, second: usize) -> Result<bool, Fault>
+pub(crate) fn have_one_type(
+    alloc: Global,
+    terms: &mut Terms,
+    first: usize,
+    second: usize,
+) -> Result<bool, Fault>
     requires first { IsFitting terms.old.terms first }
     requires second { IsFitting terms.old.terms second }
     ensures one { IfOk result (λ answer. answer ≡ type_eq (term_type (term_at terms.old.terms first)) (term_type (term_at terms.old.terms second))) }
     ensures refused { IfErr result (λ fault. fault ≡ Memory) }
     ensures grows { IsGrown terms.old terms.new }
 {
-    let first_ty = match type_of(terms, first) {
+    let first_ty = match type_of(alloc, terms, first) {
         Ok(first_ty) => first_ty,
         Err(_fault) => return Err(Fault::Memory),
     };
-    match type_of(terms, second) {
+    match type_of(alloc, terms, second) {
         Ok(second_ty) => Ok(terms.is_same_type(first_ty, second_ty)),
         Err(_fault) => Err(Fault::Memory),
     }

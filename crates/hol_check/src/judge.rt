@@ -35,7 +35,7 @@ pub(crate) fn judge(
         Line::DeclaredType(name) => judge_declared_type(alloc, terms, contents, name.as_bytes()),
         Line::Variable(name, ty) => judge_variable(alloc, terms, contents, name.as_bytes(), *ty),
         Line::Constant(name, ty) => judge_constant(alloc, terms, contents, name.as_bytes(), *ty),
-        Line::Combination(f, a) => judge_combination(terms, contents, *f, *a),
+        Line::Combination(f, a) => judge_combination(alloc, terms, contents, *f, *a),
         Line::Abstraction(v, t) => judge_abstraction(alloc, terms, contents, *v, *t),
         Line::NewType(name) => judge_new_type(alloc, terms, contents, name.as_bytes()),
         Line::NewConstant(name, ty) => {

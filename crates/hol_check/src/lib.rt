@@ -49,6 +49,3 @@ pub use laws::migration_keeps_claims;
 pub use migrating::migrate;
 pub use report::write_claims;
 pub use view::{TermParts, TermView, TypeParts, TypeView};
-
-#[cfg(test)]
-mod tests;

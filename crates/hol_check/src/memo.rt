@@ -36,7 +36,7 @@ pub(crate) fn remember(
     Ok(new)
 }
 
-/// What was worked out for a type.
+/// What was worked out for a type, or the type that was worked out for a term.
 pub(crate) fn recall_type(types: &IndexMap<usize, usize>, ty: usize) -> Option<usize>
     ensures { IfSome result (λ new. IsEntry types.now.entries ty new) }
 {
@@ -44,7 +44,7 @@ pub(crate) fn recall_type(types: &IndexMap<usize, usize>, ty: usize) -> Option<u
     if *found == ty { Some(*new) } else { None }
 }
 
-/// Notes what was worked out for a type, and hands it on.
+/// Notes it, and hands it on.
 pub(crate) fn remember_type(
     types: &mut IndexMap<usize, usize>,
     ty: usize,

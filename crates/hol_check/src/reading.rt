@@ -2,7 +2,8 @@
 ghost use Rattle.std.specs.Prelude.{⊤, ◌≡◌, ◌≤◌, ◌<◌, ◌+◌, ◌++◌, ◌∷◌, ◌==◌, ℕ, List, [], Option, true, false, length, IfOk, OnOk, IfErr, IfSome, IsErrOf, MatchBool, Contains};
 ghost use Rattle.hol_model.specs.declared.fault.Fault.TheVariants.{Memory, ReadFault, TooLong};
 ghost use Rattle.hol_logtext.specs.Fields.{line_feed};
-ghost use Rattle.hol_check.specs.Reading.{IsUnread, IsRead, IsNext, IsLine, IsReadOn, has_line_feed};
+ghost use Rattle.hol_logtext.specs.Fields.{has_line_feed};
+ghost use Rattle.hol_check.specs.Reading.{IsUnread, IsRead, IsNext, IsLine, IsReadOn};
 
 use hol_model::{Fault, Source, TEXT_BYTES_LIMIT};
 use std::marker::Model;

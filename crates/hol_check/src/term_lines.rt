@@ -35,7 +35,7 @@ pub(crate) fn judge_variable(
         return Ok(Err(Cause::Name));
     }
     let made = variable(alloc, terms, name, named);
-    judge_term(terms, made)
+    judge_term(alloc, terms, made)
 }
 
 /// A constant: `number` where its type is not there, `name` where its name is none of a constant, `const` where it is
@@ -64,12 +64,13 @@ pub(crate) fn judge_constant(
         return Ok(Err(Cause::Const));
     }
     let made = terms.constant(number, named);
-    judge_term(terms, made)
+    judge_term(alloc, terms, made)
 }
 
 /// A combination: `number` where a part is not there, `type` where the function does not take the argument, `large`
 /// where the term passes a limit.
 pub(crate) fn judge_combination(
+    alloc: Global,
     terms: &mut Terms,
     contents: &Contents,
     function: u32,
@@ -84,11 +85,11 @@ pub(crate) fn judge_combination(
     let Some(a) = term_at(contents, argument) else {
         return Ok(Err(Cause::Number));
     };
-    let function_ty = match type_of(terms, f) {
+    let function_ty = match type_of(alloc, terms, f) {
         Ok(function_ty) => function_ty,
         Err(fault) => return Err(fault),
     };
-    let argument_ty = match type_of(terms, a) {
+    let argument_ty = match type_of(alloc, terms, a) {
         Ok(argument_ty) => argument_ty,
         Err(fault) => return Err(fault),
     };
@@ -96,7 +97,7 @@ pub(crate) fn judge_combination(
         return Ok(Err(Cause::Kind));
     }
     let made = application(terms, f, a);
-    judge_term(terms, made)
+    judge_term(alloc, terms, made)
 }
 
 /// An abstraction: `number` where a part is not there, `type` where the binder is no variable, `large` where the term
@@ -121,11 +122,12 @@ pub(crate) fn judge_abstraction(
         return Ok(Err(Cause::Kind));
     }
     let made = abstraction_over(alloc, terms, v, b);
-    judge_term(terms, made)
+    judge_term(alloc, terms, made)
 }
 
 // Whether a term that was made is within the limits.
 fn judge_term(
+    alloc: Global,
     terms: &mut Terms,
     made: Result<usize, Fault>,
 ) -> Result<Result<Addition, Cause>, Fault>
@@ -138,7 +140,7 @@ fn judge_term(
         Err(Fault::TooLarge) => return Ok(Err(Cause::Large)),
         Err(_fault) => return Err(Fault::Memory),
     };
-    match type_of(terms, number) {
+    match type_of(alloc, terms, number) {
         Ok(_ty) => Ok(Ok(Addition::TermNumber(number))),
         Err(Fault::TooLarge) => Ok(Err(Cause::Large)),
         Err(_fault) => Err(Fault::Memory),

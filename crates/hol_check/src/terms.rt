@@ -179,16 +179,13 @@ impl Terms {
     /// Keeps the type of a term that needs no binders around it, and hands it on.
     pub(crate) fn keep_type(&mut self, number: usize, ty: usize) -> Result<usize, Fault>
         requires number { number < length self.old.terms }
+        requires closed { binders_needed (term_at self.old.terms number) ≡ 0 }
         requires typed { IsTypedUnderSome self.old.types (term_at self.old.terms number) ty }
         ensures same { IfOk result (λ same. same ≡ ty) }
         ensures refused { IfErr result (λ fault. fault ≡ Memory) }
         ensures grows { IsGrown self.old self.new }
     {
-        if self.binders_needed(number) == 0 {
-            remember_type(&mut self.typed, number, ty)
-        } else {
-            Ok(ty)
-        }
+        remember_type(&mut self.typed, number, ty)
     }
 
     /// Whether two numbers are those of one term.

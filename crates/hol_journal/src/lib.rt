@@ -14,6 +14,3 @@ mod writer;
 pub use claim::Claim;
 pub use laws::{journal_logs_are_accepted, journals_grow};
 pub use recorder::{Rec, Recorder};
-
-#[cfg(test)]
-mod tests;

@@ -1,7 +1,7 @@
 -- The bytes of lines, read line by line.
 use Rattle.std.proofs.Common.{◌≡◌, ℕ, List, [], ◌∷◌, ◌++◌, Bool, true, false, ◌==◌, ◌&&◌, ◌||◌, refl, sym, ◌∙◌, ap, map, append_assoc, if◌then◌else◌}
 use Rattle.std.specs.Prelude.{decimal, nat_le}
-use Rattle.std.specs.List.{All, list_any}
+use Rattle.std.specs.List.{All}
 use Rattle.std.specs.Str.{all_ascii_digits}
 use Rattle.std.proofs.lemmas.Bool.{eqb-true}
 use Rattle.std.proofs.lemmas.List.Elements.{All-head, All-tail}
@@ -10,26 +10,30 @@ use Rattle.hol_model.specs.LogLine.LogVersion.{first_version, second_version}
 use Rattle.hol_model.specs.LogLine.LogRule.{refl_step, trans_step, mk_comb_step, abs_step, beta_step, assume_step, eq_mp_step, deduct_step, inst_step, inst_type_step, eta_step, select_step, definition_step}
 use Rattle.hol_model.specs.LogLine.LogLine.{header_line, type_variable_line, bool_line, function_type_line, declared_type_line, variable_line, constant_line, combination_line, abstraction_line, new_type_line, new_constant_line, theorem_line, claim_line, end_line}
 use Rattle.hol_model.proofs.Tests.{first_of_both, second_of_both, first_of_neither, second_of_neither}
-use Rattle.hol_logtext.specs.Fields.{line_feed, spaced, joined, split_on, onto_first, is_name_byte, all_name_bytes}
+use Rattle.hol_logtext.specs.Fields.{line_feed, has_line_feed, spaced, joined, split_on, onto_first, is_name_byte, all_name_bytes}
 use Rattle.hol_logtext.specs.LineText.{IsLogName, IsLogNumber, AreLogNumbers, ArePairsOfNumbers, pair_fields, rule_fields, line_fields, line_text, line_bytes, IsWritableRule, IsWritable}
 use Rattle.hol_logtext.specs.LineReading.{read_text}
-use Rattle.hol_logtext.specs.LogBytes.{log_text, with_line, lines_of_parts, bytes_of_lines, text_of_lines}
+use Rattle.hol_logtext.specs.LogBytes.{log_text, last_part, with_line, lines_of_parts, bytes_of_lines, text_of_lines}
 use Rattle.hol_logtext.proofs.FieldLemmas.{decimal-digits}
 use Rattle.hol_logtext.proofs.LineLemmas.{reading_is_exact}
-
-abbrev has_line_feed : List ℕ → Bool
-has_line_feed bytes = list_any (λ byte. byte == line_feed) bytes
 
 neither : (p q : Bool) → p ≡ false → q ≡ false → (p || q) ≡ false
 neither p q first second = rw (first, second) refl
 
--- ---- the first line of a text
+-- ---- the first line of a text, and a text that is cut short
 
 split_line : (line rest : List ℕ) → has_line_feed line ≡ false → split_on line_feed (line ++ line_feed ∷ rest) ≡ line ∷ split_on line_feed rest
 split_line [] rest none = refl
 split_line (byte ∷ line) rest none =
     let other : (byte == line_feed) ≡ false = first_of_neither (byte == line_feed) (has_line_feed line) none in
     let deeper : split_on line_feed (line ++ line_feed ∷ rest) ≡ line ∷ split_on line_feed rest = split_line line rest (second_of_neither (byte == line_feed) (has_line_feed line) none) in
+    rw (other, deeper) refl
+
+split_last : (line : List ℕ) → has_line_feed line ≡ false → split_on line_feed line ≡ line ∷ []
+split_last [] none = refl
+split_last (byte ∷ line) none =
+    let other : (byte == line_feed) ≡ false = first_of_neither (byte == line_feed) (has_line_feed line) none in
+    let deeper : split_on line_feed line ≡ line ∷ [] = split_last line (second_of_neither (byte == line_feed) (has_line_feed line) none) in
     rw (other, deeper) refl
 
 onto_first_lines : (part : List ℕ) (byte : ℕ) (parts : List (List ℕ)) → lines_of_parts (part ∷ onto_first byte parts) ≡ with_line (read_text part) (lines_of_parts (onto_first byte parts))
@@ -45,8 +49,11 @@ lines_behind part (byte ∷ rest) = go (byte == line_feed)
     go true = refl
     go false = onto_first_lines part byte (split_on line_feed rest)
 
-log_text_line : (line rest : List ℕ) → has_line_feed line ≡ false → log_text (line ++ line_feed ∷ rest) ≡ with_line (read_text line) (log_text rest)
+pub log_text_line : (line rest : List ℕ) → has_line_feed line ≡ false → log_text (line ++ line_feed ∷ rest) ≡ with_line (read_text line) (log_text rest)
 log_text_line line rest none = ap lines_of_parts (split_line line rest none) ∙ lines_behind line rest
+
+pub log_text_last : (line : List ℕ) → has_line_feed line ≡ false → log_text line ≡ record { lines = []; rest = last_part line }
+log_text_last line none = ap lines_of_parts (split_last line none)
 
 -- ---- the text of a line has no line feed
 

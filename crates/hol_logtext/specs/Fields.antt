@@ -37,6 +37,9 @@ split_fields text = split_on space text
 abbrev pub has_space : List ℕ → Bool
 has_space text = list_any (λ byte. byte == space) text
 
+abbrev pub has_line_feed : List ℕ → Bool
+has_line_feed bytes = list_any (λ byte. byte == line_feed) bytes
+
 -- the first space stands between the two parts
 pub record IsCut (text field rest : List ℕ) : Type 0 where
   pub whole : text ≡ field ++ space ∷ rest

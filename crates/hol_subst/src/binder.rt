@@ -11,6 +11,7 @@ ghost use Rattle.hol_subst.specs.VariableTypes.{HasVariables, table_of};
 use crate::capture::captures;
 use crate::fresh::fresh_binder;
 use crate::passed::Passed;
+use crate::place::Place;
 use crate::replacements::Replacements;
 use crate::touched::Touched;
 use crate::variable_types::VariableTypes;
@@ -28,8 +29,9 @@ pub enum NewBinder {
     Renamed(Term),
 }
 
-/// What becomes of a binder over a body.
-pub fn new_binder(
+/// What becomes of a binder over a body. The hint tells where a captured variable may stand in the body, and is set to
+/// where one was found.
+pub(crate) fn new_binder(
     alloc: Global,
     name: &str,
     ty: &Ty,
@@ -38,6 +40,7 @@ pub fn new_binder(
     replacements: &Replacements<'_>,
     touched: Touched,
     variables: &VariableTypes,
+    hint: &mut Place,
 ) -> Result<NewBinder, Fault>
     requires named { IsTrue (is_identifier name.now) }
     requires known { HasVariables (table_of variables.now) body.now }
@@ -57,6 +60,7 @@ pub fn new_binder(
         &*replacements,
         touched,
         variables,
+        &mut *hint,
     ) {
         return Ok(NewBinder::Kept(changed_type));
     }
@@ -70,6 +74,7 @@ pub fn new_binder(
         types,
         &passed,
         &*replacements,
+        *hint,
         touched,
         variables,
     )?;

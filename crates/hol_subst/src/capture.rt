@@ -1,5 +1,5 @@
 // Which variables are free in a term after the replacement, and which binders would capture them.
-ghost use Rattle.std.specs.Prelude.{◌≡◌, List, [], ◌∷◌, IfOk, IfErr, fold, bit_or, if◌then◌else◌};
+ghost use Rattle.std.specs.Prelude.{◌≡◌, List, [], ◌∷◌, IfOk, IfErr, fold, bit_or, if◌then◌else◌, IsTrue};
 ghost use Rattle.hol_model.specs.HolType.{HolType, type_put};
 ghost use Rattle.hol_model.specs.NamedTerm.{NamedTerm, Binder, variable};
 ghost use Rattle.hol_model.specs.NamedTerm as terms;
@@ -15,6 +15,7 @@ ghost use Rattle.hol_subst.specs.Sought as spec;
 ghost use Rattle.hol_subst.specs.VariableTypes.{HasVariables, table_of};
 
 use crate::passed::{Passed, is_bound};
+use crate::place::Place;
 use crate::replacements::{Replacements, look_up};
 use crate::touched::{Touched, changes_type, changes_types, stays};
 use crate::variable_types::VariableTypes;
@@ -31,15 +32,17 @@ struct Sought {
     kept_in: NameClasses,
 }
 
-/// Whether a variable is free in a term, which stands under the passed binders, after the replacement.
+/// Whether a variable is free in a term, which stands under the passed binders, after the replacement. The hint tells
+/// where what becomes it may stand.
 #[tactic(auto, using(crate::proofs::Standing::keeping_classes))]
-pub fn is_free_after(
+pub(crate) fn is_free_after(
     term: &Term,
     name: &str,
     ty: &Ty,
     types: &[(Ty, Ty)],
     passed: &Passed<'_>,
     replacements: &Replacements<'_>,
+    hint: Place,
     touched: Touched,
     variables: &VariableTypes,
 ) -> bool
@@ -47,6 +50,19 @@ pub fn is_free_after(
     requires known { HasVariables (table_of variables.now) term.now }
     ensures { result ≡ occurs_free name.now ty.now (replaced (entries_of replacements.now) types.now (image_under (binders_of passed.now) term.now)) }
 {
+    if stands_at(
+        term,
+        hint,
+        name,
+        ty,
+        types,
+        &*passed,
+        &*replacements,
+        touched,
+    ) {
+        return true;
+    }
+    let mut place = Place::first();
     let sought = Sought {
         brought_by: brought_by(name, ty, &*passed, &*replacements, touched),
         kept_in: kept_in(name, ty, types, variables),
@@ -60,11 +76,13 @@ pub fn is_free_after(
         &*passed,
         &*replacements,
         touched,
+        &mut place,
     )
 }
 
-/// Whether a binder, its type replaced by the new one, would capture in its body after the replacement.
-pub fn captures(
+/// Whether a binder, its type replaced by the new one, would capture in its body after the replacement. The hint tells
+/// where a captured variable may stand in the body, and is set to where one was found.
+pub(crate) fn captures(
     name: &str,
     ty: &Ty,
     new_type: &Ty,
@@ -73,6 +91,7 @@ pub fn captures(
     replacements: &Replacements<'_>,
     touched: Touched,
     variables: &VariableTypes,
+    hint: &mut Place,
 ) -> bool
     requires typed { new_type.now ≡ type_put types.now ty.now }
     requires covered { Covers touched.old.bits touched.new.bits (entries_of replacements.now) }
@@ -81,11 +100,24 @@ pub fn captures(
 {
     let outermost = Passed::Outermost;
     let passed = Passed::Under(name, ty, &outermost);
+    if stands_at(
+        body,
+        *hint,
+        name,
+        new_type,
+        types,
+        &passed,
+        &*replacements,
+        touched,
+    ) {
+        return true;
+    }
+    let mut place = Place::first();
     let sought = Sought {
         brought_by: brought_by(name, new_type, &passed, &*replacements, touched),
         kept_in: kept_in_body(name, ty, new_type, body, types, variables),
     };
-    stands_after(
+    if !stands_after(
         body,
         sought,
         name,
@@ -94,7 +126,12 @@ pub fn captures(
         &passed,
         &*replacements,
         touched,
-    )
+        &mut place,
+    ) {
+        return false;
+    }
+    *hint = place.before();
+    true
 }
 
 // The classes of the variables that the passed binders do not bind and that are replaced by a term in which a variable
@@ -179,6 +216,24 @@ fn kept_in_body(
     NameClasses::of_name(name)
 }
 
+/// How many nodes a walk may have gone into in search of a kept variable that a binder, which captures none, might have
+/// captured.
+pub(crate) fn walked_in_vain(
+    name: &str,
+    ty: &Ty,
+    new_type: &Ty,
+    body: &Term,
+    types: &[(Ty, Ty)],
+    variables: &VariableTypes,
+) -> u64 {
+    let may_change = changes_type(types, ty) || changes_types(types, body);
+    if may_change && variables.has_other_instance(name, ty, types, new_type) {
+        u64::from(body.nodes())
+    } else {
+        0
+    }
+}
+
 // The classes of the variables that may become a variable of this name and type.
 #[tactic(auto, using(crate::proofs::Standing::keeping_classes))]
 fn kept_in(name: &str, ty: &Ty, types: &[(Ty, Ty)], variables: &VariableTypes) -> NameClasses
@@ -191,7 +246,7 @@ fn kept_in(name: &str, ty: &Ty, types: &[(Ty, Ty)], variables: &VariableTypes) -
 }
 
 /// The types of a term's variables, known where a binder of the term may capture.
-pub fn variables_where_needed(
+pub(crate) fn variables_where_needed(
     alloc: Global,
     term: &Term,
     types: &[(Ty, Ty)],
@@ -243,7 +298,76 @@ fn is_apart(term: &Term, sought: Sought) -> bool
     !sought.brought_by.union(sought.kept_in).meets(term.names())
 }
 
-// Whether a variable is free in a term after the replacement, given where it may be.
+// Whether a variable is free in what becomes of the variable at a place of a term.
+#[tactic(auto, using(crate::proofs::Hinted::standing_at))]
+fn stands_at(
+    term: &Term,
+    place: Place,
+    name: &str,
+    ty: &Ty,
+    types: &[(Ty, Ty)],
+    passed: &Passed<'_>,
+    replacements: &Replacements<'_>,
+    touched: Touched,
+) -> bool
+    requires { Covers touched.old.bits touched.new.bits (entries_of replacements.now) }
+    ensures { IsTrue result → IsTrue (occurs_free name.now ty.now (replaced (entries_of replacements.now) types.now (image_under (binders_of passed.now) term.now))) }
+{
+    if !place.is_in(term) {
+        return false;
+    }
+    let inside = place.in_first_part();
+    match term.parts() {
+        Parts::Variable(other, s) => stands_here(
+            other,
+            s,
+            name,
+            ty,
+            types,
+            &*passed,
+            &*replacements,
+            touched,
+        ),
+        Parts::Constant(_, _) => false,
+        Parts::Combination(function, argument) => {
+            if inside.is_in(function) {
+                return stands_at(
+                    function,
+                    inside,
+                    name,
+                    ty,
+                    types,
+                    &*passed,
+                    &*replacements,
+                    touched,
+                );
+            }
+            stands_at(
+                argument,
+                place.in_argument(function),
+                name,
+                ty,
+                types,
+                &*passed,
+                &*replacements,
+                touched,
+            )
+        }
+        Parts::Abstraction(other, s, body) => stands_at(
+            body,
+            inside,
+            name,
+            ty,
+            types,
+            &Passed::Under(other, s, &*passed),
+            &*replacements,
+            touched,
+        ),
+    }
+}
+
+// Whether a variable is free in a term after the replacement, given where it may be. The place goes on by the nodes up to
+// where it is found.
 #[tactic(auto, using(crate::proofs::Standing::seeking))]
 fn stands_after(
     term: &Term,
@@ -254,6 +378,7 @@ fn stands_after(
     passed: &Passed<'_>,
     replacements: &Replacements<'_>,
     touched: Touched,
+    place: &mut Place,
 ) -> bool
     requires covered { Covers touched.old.bits touched.new.bits (entries_of replacements.now) }
     requires brought { IsBroughtBy sought.brought_by.bits (entries_of replacements.now) (binders_of passed.now) name.now ty.now }
@@ -261,8 +386,10 @@ fn stands_after(
     ensures { result ≡ occurs_free name.now ty.now (replaced (entries_of replacements.now) types.now (image_under (binders_of passed.now) term.now)) }
 {
     if is_apart(term, sought) {
+        place.pass(term.nodes());
         return false;
     }
+    place.pass(1);
     match term.parts() {
         Parts::Variable(other, s) => stands_for(
             other,
@@ -286,6 +413,7 @@ fn stands_after(
                 &*passed,
                 &*replacements,
                 touched,
+                &mut *place,
             ) || stands_after(
                 argument,
                 sought,
@@ -295,6 +423,7 @@ fn stands_after(
                 &*passed,
                 &*replacements,
                 touched,
+                &mut *place,
             )
         }
         Parts::Abstraction(other, s, body) => stands_after(
@@ -306,6 +435,7 @@ fn stands_after(
             &Passed::Under(other, s, &*passed),
             &*replacements,
             touched,
+            &mut *place,
         ),
     }
 }
@@ -332,6 +462,32 @@ fn stands_for(
     {
         return false;
     }
+    stands_here(
+        other,
+        other_ty,
+        name,
+        ty,
+        types,
+        &*passed,
+        &*replacements,
+        touched,
+    )
+}
+
+// The same, wherever it may be.
+fn stands_here(
+    other: &str,
+    other_ty: &Ty,
+    name: &str,
+    ty: &Ty,
+    types: &[(Ty, Ty)],
+    passed: &Passed<'_>,
+    replacements: &Replacements<'_>,
+    touched: Touched,
+) -> bool
+    requires { Covers touched.old.bits touched.new.bits (entries_of replacements.now) }
+    ensures { result ≡ occurs_free name.now ty.now (replaced (entries_of replacements.now) types.now (image_under (binders_of passed.now) (variable other.now other_ty.now))) }
+{
     is_free_in_instance(other, other_ty, name, ty, types, &*replacements, touched)
         && !is_bound(&*passed, other, other_ty)
 }

@@ -17,6 +17,7 @@ ghost use Rattle.hol_model.specs.declared.fault.Fault.TheVariants.{Memory};
 
 use crate::capture::is_free_after;
 use crate::passed::Passed;
+use crate::place::Place;
 use crate::rebuild::variable_of;
 use crate::replacements::Replacements;
 use crate::touched::Touched;
@@ -61,8 +62,8 @@ fn is_free_in_some(terms: &[Term], name: &str, ty: &Ty) -> bool
 }
 
 /// A binder that captures nothing in a term, which stands under the passed binders, after the replacement, in place of
-/// one that would capture.
-pub fn fresh_binder(
+/// one that would capture. The hint tells where what is captured may stand.
+pub(crate) fn fresh_binder(
     alloc: Global,
     body: &Term,
     name: &str,
@@ -70,6 +71,7 @@ pub fn fresh_binder(
     types: &[(Ty, Ty)],
     passed: &Passed<'_>,
     replacements: &Replacements<'_>,
+    hint: Place,
     touched: Touched,
     variables: &VariableTypes,
 ) -> Result<Term, Fault>
@@ -90,6 +92,7 @@ pub fn fresh_binder(
         types,
         &*passed,
         &*replacements,
+        hint,
         touched,
         variables,
     )?;
@@ -105,6 +108,7 @@ fn name_free_after(
     types: &[(Ty, Ty)],
     passed: &Passed<'_>,
     replacements: &Replacements<'_>,
+    hint: Place,
     touched: Touched,
     variables: &VariableTypes,
 ) -> Result<String, Fault>
@@ -124,6 +128,7 @@ fn name_free_after(
         types,
         &*passed,
         &*replacements,
+        hint,
         touched,
         variables,
     ) {

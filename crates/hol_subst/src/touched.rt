@@ -19,7 +19,7 @@ pub struct Touched {
 impl Touched {
     /// What a list of pairs (new, old) touches.
     #[tactic(auto, using(crate::proofs::Apart::covering))]
-    pub fn by_pairs(pairs: &[(Term, Term)]) -> Touched
+    pub(crate) fn by_pairs(pairs: &[(Term, Term)]) -> Touched
         ensures { Covers result.old.bits result.new.bits (entries pairs.now) }
     {
         Touched {
@@ -30,7 +30,7 @@ impl Touched {
 
     /// The same, with a variable of this name replaced as well.
     #[tactic(auto, using(crate::proofs::Apart::covering))]
-    pub fn and_putting(self, name: &str, new: &Term) -> Touched
+    pub(crate) fn and_putting(self, name: &str, new: &Term) -> Touched
         ensures { (env : List Entry) (ty : HolType) → Covers self.old.bits self.new.bits env
             → Covers result.old.bits result.new.bits (((name.now, ty), Some new.now) ∷ env) }
     {
@@ -62,21 +62,21 @@ fn new_names(pairs: &[(Term, Term)]) -> NameClasses
 }
 
 /// Whether a list of pairs (new, old) may change the type.
-pub fn changes_type(types: &[(Ty, Ty)], ty: &Ty) -> bool
+pub(crate) fn changes_type(types: &[(Ty, Ty)], ty: &Ty) -> bool
     ensures { result ≡ spec.changes_type types.now ty.now }
 {
     !types.is_empty() && ty.has_tyvars()
 }
 
 /// Whether a list of pairs (new, old) may change a type that the term is written with.
-pub fn changes_types(types: &[(Ty, Ty)], term: &Term) -> bool
+pub(crate) fn changes_types(types: &[(Ty, Ty)], term: &Term) -> bool
     ensures { result ≡ spec.changes_types types.now term.now }
 {
     !types.is_empty() && term.has_tyvars()
 }
 
 /// Whether nothing that is replaced stands in the term.
-pub fn stays(term: &Term, types: &[(Ty, Ty)], touched: Touched) -> bool
+pub(crate) fn stays(term: &Term, types: &[(Ty, Ty)], touched: Touched) -> bool
     ensures { result ≡ spec.stays touched.old.bits types.now term.now }
 {
     !touched.old.meets(term.names()) && !changes_types(types, term)
@@ -84,7 +84,7 @@ pub fn stays(term: &Term, types: &[(Ty, Ty)], touched: Touched) -> bool
 
 /// Whether a list of pairs (new, old) changes no type that the term is written with.
 #[tactic(auto, using(crate::proofs::StayingTypes::closed))]
-pub fn keeps_all_types(types: &[(Ty, Ty)], term: &Term) -> bool
+pub(crate) fn keeps_all_types(types: &[(Ty, Ty)], term: &Term) -> bool
     ensures { result ≡ spec.keeps_all_types types.now term.now }
 {
     if !term.has_tyvars() {

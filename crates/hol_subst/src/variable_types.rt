@@ -21,23 +21,46 @@ const TYPES_KEPT: usize = 16;
 #[derive(Drop)]
 pub struct VariableTypes {
     is_known: bool,
+    // Once walks in vain went into this many times the nodes of a part, it gets a table of its own.
+    price: u64,
     // A name's types, or `None` where they may be any.
     by_name: IndexMap<String, Option<Vec<Ty>>>,
 }
 
 impl VariableTypes {
     /// Of these variables nothing is known.
-    pub fn unknown(alloc: Global) -> VariableTypes
+    pub(crate) fn unknown(alloc: Global) -> VariableTypes
         ensures { (term : NamedTerm) → HasVariables (table_of result) term }
     {
         VariableTypes {
             is_known: false,
+            price: 1,
             by_name: IndexMap::new(alloc),
         }
     }
 
     /// The types of the variables of a term.
-    pub fn of(alloc: Global, term: &Term) -> Result<VariableTypes, Fault>
+    pub(crate) fn of(alloc: Global, term: &Term) -> Result<VariableTypes, Fault>
+        ensures ok { IfOk result (λ types. HasVariables (table_of types) term.now) }
+        ensures err { IfErr result (λ fault. fault ≡ Memory) }
+    {
+        VariableTypes::at_price(alloc, term, 1)
+    }
+
+    /// The types of the variables of a part alone. The next smaller part has to be worth twice as much.
+    pub(crate) fn narrowed(&self, alloc: Global, part: &Term) -> Result<VariableTypes, Fault>
+        ensures ok { IfOk result (λ types. HasVariables (table_of types) part.now) }
+        ensures err { IfErr result (λ fault. fault ≡ Memory) }
+    {
+        VariableTypes::at_price(alloc, part, self.price.saturating_mul(2))
+    }
+
+    /// Whether a table of its own is worth its cost for a part, where walks in vain went into so many nodes.
+    pub(crate) fn is_worth_narrowing(&self, walked: u64, part: &Term) -> bool {
+        self.is_known && walked >= self.price.saturating_mul(u64::from(part.nodes()))
+    }
+
+    fn at_price(alloc: Global, term: &Term, price: u64) -> Result<VariableTypes, Fault>
         ensures ok { IfOk result (λ types. HasVariables (table_of types) term.now) }
         ensures err { IfErr result (λ fault. fault ≡ Memory) }
     {
@@ -45,12 +68,13 @@ impl VariableTypes {
         add_variables(alloc, term, &mut by_name)?;
         Ok(VariableTypes {
             is_known: true,
+            price,
             by_name,
         })
     }
 
     /// Whether a variable of this name may occur that gets the type `ty` by a list of pairs (new, old).
-    pub fn has_instance(&self, name: &str, types: &[(Ty, Ty)], ty: &Ty) -> bool
+    pub(crate) fn has_instance(&self, name: &str, types: &[(Ty, Ty)], ty: &Ty) -> bool
         ensures { IsFalse result → (s : HolType) → Admits (table_of self.now name.now) s → ty.now ≡ type_put types.now s → ⊥ }
     {
         match self.types_of(name) {
@@ -61,7 +85,13 @@ impl VariableTypes {
 
     /// Whether a variable of this name, but not of the type `ty`, may occur that gets the type `new_type` by a list of
     /// pairs (new, old).
-    pub fn has_other_instance(&self, name: &str, ty: &Ty, types: &[(Ty, Ty)], new_type: &Ty) -> bool
+    pub(crate) fn has_other_instance(
+        &self,
+        name: &str,
+        ty: &Ty,
+        types: &[(Ty, Ty)],
+        new_type: &Ty,
+    ) -> bool
         ensures { IsFalse result → (s : HolType) → Admits (table_of self.now name.now) s → new_type.now ≡ type_put types.now s → ty.now ≡ s }
     {
         match self.types_of(name) {

@@ -3,8 +3,6 @@
 
 mod files;
 mod laws;
-#[cfg(test)]
-mod log_tests;
 mod new_file;
 mod status;
 

@@ -160,7 +160,7 @@ fn select_conclusion(alloc: Global, terms: &mut Terms) -> Result<usize, Fault>
         Err(_fault) => return Err(Fault::Memory),
     };
     match application(terms, predicate, chosen) {
-        Ok(number) => within_limits(terms, number),
+        Ok(number) => within_limits(alloc, terms, number),
         Err(_fault) => Err(Fault::Memory),
     }
 }

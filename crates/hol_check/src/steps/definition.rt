@@ -34,7 +34,7 @@ pub(crate) fn define(
     ensures refused { IfErr result (λ fault. fault ≡ Memory) }
     ensures grows { IsGrown terms.old terms.new }
 {
-    let ty = match type_of(terms, body) {
+    let ty = match type_of(alloc, terms, body) {
         Ok(ty) => ty,
         Err(_fault) => return Err(Fault::Memory),
     };

@@ -40,7 +40,7 @@ pub(crate) fn inst(
     ensures taken { Takes (spec.inst_step (sequent_in terms.old.terms premise.now) (term_pairs_in terms.old.terms pairs.now)) result terms.new.terms }
     ensures grows { IsGrown terms.old terms.new }
 {
-    match are_replacements(terms, pairs) {
+    match are_replacements(alloc, terms, pairs) {
         Ok(true) => changed_theorem(alloc, terms, &Change::Put(pairs), premise),
         Ok(false) => Ok(Err(Cause::Kind)),
         Err(fault) => Err(fault),
@@ -66,14 +66,18 @@ pub(crate) fn inst_type(
 }
 
 // Whether each pair puts a term for a variable of its type.
-fn are_replacements(terms: &mut Terms, pairs: &[(usize, usize)]) -> Result<bool, Fault>
+fn are_replacements(
+    alloc: Global,
+    terms: &mut Terms,
+    pairs: &[(usize, usize)],
+) -> Result<bool, Fault>
     requires { All (IsFittingPair terms.old.terms) pairs.now }
     ensures are { IfOk result (λ answer. answer ≡ list_all is_replacement (term_pairs_in terms.old.terms pairs.now)) }
     ensures refused { IfErr result (λ fault. fault ≡ Memory) }
     ensures grows { IsGrown terms.old terms.new }
 {
     for pair in pairs {
-        match is_replacement(terms, pair.0, pair.1) {
+        match is_replacement(alloc, terms, pair.0, pair.1) {
             Ok(true) => {}
             Ok(false) => return Ok(false),
             Err(fault) => return Err(fault),
@@ -83,7 +87,7 @@ fn are_replacements(terms: &mut Terms, pairs: &[(usize, usize)]) -> Result<bool,
 }
 
 // Whether a term may stand for another, a variable of its type.
-fn is_replacement(terms: &mut Terms, new: usize, old: usize) -> Result<bool, Fault>
+fn is_replacement(alloc: Global, terms: &mut Terms, new: usize, old: usize) -> Result<bool, Fault>
     requires new { IsFitting terms.old.terms new }
     requires old { IsFitting terms.old.terms old }
     ensures is { IfOk result (λ answer. answer ≡ is_replacement (term_at terms.old.terms new, term_at terms.old.terms old)) }
@@ -93,7 +97,7 @@ fn is_replacement(terms: &mut Terms, new: usize, old: usize) -> Result<bool, Fau
     if !is_free_variable(terms, old) {
         return Ok(false);
     }
-    have_one_type(terms, new, old)
+    have_one_type(alloc, terms, new, old)
 }
 
 // Whether each pair puts a type for a type variable.
@@ -185,7 +189,7 @@ fn change_within(
     ensures grows { IsGrown terms.old terms.new }
 {
     match change_whole(alloc, terms, change, number) {
-        Ok(new) => within_limits(terms, new),
+        Ok(new) => within_limits(alloc, terms, new),
         Err(fault) => Err(fault),
     }
 }

@@ -28,7 +28,7 @@ pub(crate) fn assume(
         Ok(hypotheses) => hypotheses,
         Err(fault) => return Err(fault),
     };
-    match is_formula(terms, term) {
+    match is_formula(alloc, terms, term) {
         Ok(true) => conclude(hypotheses, Ok(term)),
         Ok(false) => Ok(Err(Cause::Kind)),
         Err(fault) => Err(fault),
@@ -58,7 +58,7 @@ pub(crate) fn eq_mp(
         Ok(hypotheses) => hypotheses,
         Err(fault) => return Err(fault),
     };
-    conclude(hypotheses, within_limits(terms, right))
+    conclude(hypotheses, within_limits(alloc, terms, right))
 }
 
 /// From `p` and `q` follows `p = q`, each without the other among its hypotheses.

@@ -1,5 +1,6 @@
 use Rattle.std.proofs.Common.{◌≡◌, ◌≤◌, ◌++◌, ◌-◌, ℕ, List, Option, false}
-use Rattle.hol_check.specs.Reading.{IsUnread, has_line_feed}
+use Rattle.hol_logtext.specs.Fields.{has_line_feed}
+use Rattle.hol_check.specs.Reading.{IsUnread}
 use Rattle.hol_check.proofs.reading.Reading.next_line.Given as goal
 
 abbrev pub invariant-loop-byte : goal.invariant-loop-byte

@@ -1,0 +1,24 @@
+//! Tests of the public calls of all crates: what no contract says. They stand here, beside none of the functions, since a
+//! crate with tests of its own is proved twice.
+#![tactic(auto)]
+
+#[cfg(test)]
+mod definition_tests;
+#[cfg(test)]
+mod kernel_tests;
+#[cfg(test)]
+mod log_tests;
+#[cfg(test)]
+mod proof_trees;
+#[cfg(test)]
+mod recorder_tests;
+#[cfg(test)]
+mod replacement_tests;
+#[cfg(test)]
+mod run_log_tests;
+#[cfg(test)]
+mod script_tests;
+#[cfg(test)]
+mod shadowing_tests;
+#[cfg(test)]
+mod substitution_tests;

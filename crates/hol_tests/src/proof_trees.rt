@@ -1,0 +1,328 @@
+// Terms and proofs of the tests, as data, and texts that show each name of a theorem.
+ghost use Rattle.std.specs.Prelude.{◌≡◌, IfOk};
+ghost use Rattle.hol_model.specs.Theory.{IsEarlier};
+
+use hol_kernel::{Theory, Thm};
+use hol_model::Fault;
+use hol_terms::{Parts, Term, mk_eq};
+use hol_types::{Ty, TypeParts};
+use std::alloc::{AllocError, Global};
+
+/// A term.
+#[derive(Clone, Copy)]
+pub enum Tree<'a> {
+    /// A variable of type `bool`.
+    Formula(&'a str),
+    /// A variable of type `bool->bool`.
+    Connective(&'a str),
+    /// A variable whose type is a type variable.
+    Element(&'a str, &'a str),
+    /// A variable of a type that was not declared.
+    Undeclared,
+    /// A constant that is not there, of type `bool`.
+    Unknown,
+    /// The choice at `bool`, which is no instance of its generic type.
+    NoInstance,
+    Apply(&'a Tree<'a>, &'a Tree<'a>),
+    Bind(&'a Tree<'a>, &'a Tree<'a>),
+    Equal(&'a Tree<'a>, &'a Tree<'a>),
+    /// `f` applied to `p` as many times, a term of a height that is one more.
+    Tower(u16),
+}
+
+/// A proof by rules, on a theory without definitions.
+#[derive(Clone, Copy)]
+pub enum Proof<'a> {
+    Refl(&'a Tree<'a>),
+    Assume(&'a Tree<'a>),
+    Beta(&'a Tree<'a>),
+    Eta,
+    Select,
+    Trans(&'a Proof<'a>, &'a Proof<'a>),
+    EqMp(&'a Proof<'a>, &'a Proof<'a>),
+    MkComb(&'a Proof<'a>, &'a Proof<'a>),
+    DeductAntisym(&'a Proof<'a>, &'a Proof<'a>),
+    Abs(&'a Tree<'a>, &'a Proof<'a>),
+    /// Pairs (new, old).
+    Inst(&'a [(Tree<'a>, Tree<'a>)], &'a Proof<'a>),
+    /// Pairs (new, old) of names of types.
+    InstType(&'a [(&'a str, &'a str)], &'a Proof<'a>),
+    /// INST_TYPE of `A` by a function type with so many arrows.
+    InstArrows(u16, &'a Proof<'a>),
+}
+
+/// Whether the proof gives a theorem of this text.
+pub(crate) fn gives(alloc: Global, proof: &Proof<'_>, text: &str) -> bool {
+    match attempt(alloc, proof) {
+        Ok(theorem) => match reads(alloc, &theorem, text) {
+            Ok(same) => same,
+            Err(_) => false,
+        },
+        Err(_) => false,
+    }
+}
+
+/// Whether the proof gives a theorem.
+pub(crate) fn succeeds(alloc: Global, proof: &Proof<'_>) -> bool {
+    match attempt(alloc, proof) {
+        Ok(_) => true,
+        Err(_) => false,
+    }
+}
+
+/// Whether the proof is refused in this way.
+pub(crate) fn refuses(alloc: Global, proof: &Proof<'_>, fault: Fault) -> bool {
+    match attempt(alloc, proof) {
+        Ok(_) => false,
+        Err(found) => found == fault,
+    }
+}
+
+fn attempt(alloc: Global, proof: &Proof<'_>) -> Result<Thm, Fault> {
+    match Theory::new(alloc) {
+        Ok(theory) => prove(alloc, &theory, proof),
+        Err(fault) => Err(fault),
+    }
+}
+
+/// The theorem of the proof.
+#[tactic(auto, using(hol_model::proofs::Earlier::earlier))]
+pub(crate) fn prove(alloc: Global, theory: &Theory, proof: &Proof<'_>) -> Result<Thm, Fault>
+    ensures { IfOk result (λ theorem. theorem.theory ≡ theory.now) }
+{
+    match proof {
+        Proof::Refl(tree) => refl(alloc, theory, tree),
+        Proof::Assume(tree) => assume(alloc, theory, tree),
+        Proof::Beta(tree) => beta(alloc, theory, tree),
+        Proof::Eta => theory.eta(alloc),
+        Proof::Select => theory.select(alloc),
+        Proof::Trans(first, second) => {
+            let first = prove(alloc, theory, first)?;
+            let second = prove(alloc, theory, second)?;
+            theory.trans(alloc, &first, &second)
+        }
+        Proof::EqMp(first, second) => {
+            let first = prove(alloc, theory, first)?;
+            let second = prove(alloc, theory, second)?;
+            theory.eq_mp(alloc, &first, &second)
+        }
+        Proof::MkComb(first, second) => {
+            let first = prove(alloc, theory, first)?;
+            let second = prove(alloc, theory, second)?;
+            theory.mk_comb(alloc, &first, &second)
+        }
+        Proof::DeductAntisym(first, second) => {
+            let first = prove(alloc, theory, first)?;
+            let second = prove(alloc, theory, second)?;
+            theory.deduct_antisym(alloc, &first, &second)
+        }
+        Proof::Abs(binder, theorem) => {
+            let theorem = prove(alloc, theory, theorem)?;
+            abs(alloc, theory, binder, &theorem)
+        }
+        Proof::Inst(pairs, theorem) => {
+            let theorem = prove(alloc, theory, theorem)?;
+            inst(alloc, theory, pairs, &theorem)
+        }
+        Proof::InstType(pairs, theorem) => {
+            let theorem = prove(alloc, theory, theorem)?;
+            inst_type(alloc, theory, pairs, &theorem)
+        }
+        Proof::InstArrows(arrows, theorem) => {
+            let theorem = prove(alloc, theory, theorem)?;
+            inst_arrows(alloc, theory, *arrows, &theorem)
+        }
+    }
+}
+
+fn refl(alloc: Global, theory: &Theory, tree: &Tree<'_>) -> Result<Thm, Fault>
+    ensures { IfOk result (λ theorem. theorem.theory ≡ theory.now) }
+{
+    theory.refl(alloc, &term(alloc, tree)?)
+}
+
+fn assume(alloc: Global, theory: &Theory, tree: &Tree<'_>) -> Result<Thm, Fault>
+    ensures { IfOk result (λ theorem. theorem.theory ≡ theory.now) }
+{
+    theory.assume(alloc, &term(alloc, tree)?)
+}
+
+fn beta(alloc: Global, theory: &Theory, tree: &Tree<'_>) -> Result<Thm, Fault>
+    ensures { IfOk result (λ theorem. theorem.theory ≡ theory.now) }
+{
+    theory.beta(alloc, &term(alloc, tree)?)
+}
+
+fn abs(alloc: Global, theory: &Theory, binder: &Tree<'_>, theorem: &Thm) -> Result<Thm, Fault>
+    requires { IsEarlier theorem.now.theory theory.now }
+    ensures { IfOk result (λ theorem. theorem.theory ≡ theory.now) }
+{
+    theory.abs(alloc, &term(alloc, binder)?, theorem)
+}
+
+fn inst(
+    alloc: Global,
+    theory: &Theory,
+    pairs: &[(Tree<'_>, Tree<'_>)],
+    theorem: &Thm,
+) -> Result<Thm, Fault>
+    requires { IsEarlier theorem.now.theory theory.now }
+    ensures { IfOk result (λ theorem. theorem.theory ≡ theory.now) }
+{
+    let theta = terms(alloc, pairs)?;
+    theory.inst(alloc, &theta, theorem)
+}
+
+fn inst_type(
+    alloc: Global,
+    theory: &Theory,
+    pairs: &[(&str, &str)],
+    theorem: &Thm,
+) -> Result<Thm, Fault>
+    requires { IsEarlier theorem.now.theory theory.now }
+    ensures { IfOk result (λ theorem. theorem.theory ≡ theory.now) }
+{
+    let theta = types(alloc, pairs)?;
+    theory.inst_type(alloc, &theta, theorem)
+}
+
+fn inst_arrows(alloc: Global, theory: &Theory, arrows: u16, theorem: &Thm) -> Result<Thm, Fault>
+    requires { IsEarlier theorem.now.theory theory.now }
+    ensures { IfOk result (λ theorem. theorem.theory ≡ theory.now) }
+{
+    let mut theta = Vec::new(alloc);
+    theta.push((function_type(alloc, arrows)?, Ty::tyvar(alloc, "A")?))?;
+    theory.inst_type(alloc, &theta, theorem)
+}
+
+// `bool->bool->..` with so many arrows.
+fn function_type(alloc: Global, arrows: u16) -> Result<Ty, Fault> {
+    let truth = Ty::boolean(alloc)?;
+    let mut ty = Ty::boolean(alloc)?;
+    for _ in 0..arrows {
+        ty = Ty::fun(alloc, &truth, &ty)?;
+    }
+    Ok(ty)
+}
+
+fn terms(alloc: Global, pairs: &[(Tree<'_>, Tree<'_>)]) -> Result<Vec<(Term, Term)>, Fault> {
+    let mut theta = Vec::new(alloc);
+    for (new, old) in pairs {
+        theta.push((term(alloc, new)?, term(alloc, old)?))?;
+    }
+    Ok(theta)
+}
+
+fn types(alloc: Global, pairs: &[(&str, &str)]) -> Result<Vec<(Ty, Ty)>, Fault> {
+    let mut theta = Vec::new(alloc);
+    for (new, old) in pairs {
+        theta.push((named_type(alloc, new)?, named_type(alloc, old)?))?;
+    }
+    Ok(theta)
+}
+
+// `bool`, `num`, or the type variable of the name.
+fn named_type(alloc: Global, name: &str) -> Result<Ty, Fault> {
+    if name == "bool" {
+        Ty::boolean(alloc)
+    } else if name == "num" {
+        Ty::declared(alloc, name)
+    } else {
+        Ty::tyvar(alloc, name)
+    }
+}
+
+/// The term of the tree.
+pub(crate) fn term(alloc: Global, tree: &Tree<'_>) -> Result<Term, Fault> {
+    match tree {
+        Tree::Formula(name) => Term::mk_var(alloc, name, &Ty::boolean(alloc)?),
+        Tree::Connective(name) => connective(alloc, name),
+        Tree::Element(name, ty) => Term::mk_var(alloc, name, &Ty::tyvar(alloc, ty)?),
+        Tree::Undeclared => Term::mk_var(alloc, "n", &Ty::declared(alloc, "num")?),
+        Tree::Unknown => Term::mk_const(alloc, "k", &Ty::boolean(alloc)?),
+        Tree::NoInstance => Term::mk_const(alloc, "@", &Ty::boolean(alloc)?),
+        Tree::Apply(function, argument) => {
+            Term::mk_comb(alloc, &term(alloc, function)?, &term(alloc, argument)?)
+        }
+        Tree::Bind(binder, body) => Term::mk_abs(alloc, &term(alloc, binder)?, &term(alloc, body)?),
+        Tree::Equal(left, right) => mk_eq(alloc, &term(alloc, left)?, &term(alloc, right)?),
+        Tree::Tower(count) => tower(alloc, *count),
+    }
+}
+
+fn connective(alloc: Global, name: &str) -> Result<Term, Fault> {
+    let truth = Ty::boolean(alloc)?;
+    Term::mk_var(alloc, name, &Ty::fun(alloc, &truth, &truth)?)
+}
+
+fn tower(alloc: Global, count: u16) -> Result<Term, Fault> {
+    let function = connective(alloc, "f")?;
+    let mut tower = Term::mk_var(alloc, "p", &Ty::boolean(alloc)?)?;
+    for _ in 0..count {
+        tower = Term::mk_comb(alloc, &function, &tower)?;
+    }
+    Ok(tower)
+}
+
+/// The refusal, if there is one.
+pub(crate) fn refusal<T: Drop>(answer: Result<T, Fault>) -> Option<Fault> {
+    match answer {
+        Ok(_) => None,
+        Err(fault) => Some(fault),
+    }
+}
+
+/// Whether the theorem has this text: its hypotheses, each with a comma behind it, and `|- ` with the conclusion.
+pub(crate) fn reads(alloc: Global, theorem: &Thm, text: &str) -> Result<bool, Fault> {
+    let mut out = String::new(alloc);
+    for hypothesis in theorem.hyps() {
+        write_term(&mut out, hypothesis)?;
+        out.push_str(", ")?;
+    }
+    out.push_str("|- ")?;
+    write_term(&mut out, theorem.concl())?;
+    Ok(out.as_str() == text)
+}
+
+// A variable with its type, a constant by its name, each combination and abstraction in parentheses.
+fn write_term(out: &mut String, term: &Term) -> Result<(), AllocError> {
+    match term.parts() {
+        Parts::Variable(name, ty) => write_variable(out, name, ty),
+        Parts::Constant(name, _) => out.push_str(name),
+        Parts::Combination(function, argument) => {
+            out.push_str("(")?;
+            write_term(out, function)?;
+            out.push_str(" ")?;
+            write_term(out, argument)?;
+            out.push_str(")")
+        }
+        Parts::Abstraction(name, ty, body) => {
+            out.push_str("(\\")?;
+            write_variable(out, name, ty)?;
+            out.push_str(". ")?;
+            write_term(out, body)?;
+            out.push_str(")")
+        }
+    }
+}
+
+fn write_variable(out: &mut String, name: &str, ty: &Ty) -> Result<(), AllocError> {
+    out.push_str(name)?;
+    out.push_str(":")?;
+    write_type(out, ty)
+}
+
+// Each function type in parentheses.
+fn write_type(out: &mut String, ty: &Ty) -> Result<(), AllocError> {
+    match ty.parts() {
+        TypeParts::Variable(name) | TypeParts::Declared(name) => out.push_str(name),
+        TypeParts::Bool => out.push_str("bool"),
+        TypeParts::Function(domain, codomain) => {
+            out.push_str("(")?;
+            write_type(out, domain)?;
+            out.push_str("->")?;
+            write_type(out, codomain)?;
+            out.push_str(")")
+        }
+    }
+}

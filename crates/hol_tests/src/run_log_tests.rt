@@ -1,0 +1,140 @@
+// Logs of scripts, with the expected bytes by hand, and their claims as the checker prints them.
+ghost use Rattle.std.specs.Prelude.{◌≡◌, false};
+
+use hol_check::{check, write_claims};
+use hol_model::{DeviceFail, Fault, FromRead, IntoWrite, Sink};
+use hol_script::run;
+use std::alloc::Global;
+use std::test::Fail;
+
+// A sink that keeps what it takes.
+#[derive(Drop)]
+struct Kept {
+    bytes: Vec<u8>,
+    failed: bool,
+}
+
+impl Sink for Kept {
+    ghost has_failed = { λ s. s.failed };
+
+    fn emit(&mut self, piece: &[u8]) -> Result<usize, DeviceFail> {
+        match self.bytes.extend_from_slice(piece) {
+            Ok(()) => Ok(piece.len()),
+            Err(_) => {
+                self.failed = true;
+                Err(DeviceFail)
+            }
+        }
+    }
+
+    fn failed(&self) -> bool {
+        self.failed
+    }
+}
+
+impl Kept {
+    fn new(alloc: Global) -> Kept
+        ensures { result.failed ≡ false }
+    {
+        Kept {
+            bytes: Vec::new(alloc),
+            failed: false,
+        }
+    }
+}
+
+// The log of a script.
+fn log_of(alloc: Global, script: &[u8]) -> Result<Vec<u8>, Fault> {
+    let mut reader = FromRead::new(script);
+    let mut writer = IntoWrite::new(Vec::new(alloc));
+    let mut log = Kept::new(alloc);
+    run(alloc, &mut reader, &mut writer, &mut log, true)?;
+    Ok(log.bytes)
+}
+
+// Whether the log of a script is accepted, and its claims print as these lines.
+fn claims(alloc: Global, script: &[u8], lines: &[u8]) -> Result<bool, Fault> {
+    let log = log_of(alloc, script)?;
+    let mut reader = FromRead::new(log.as_slice());
+    let claims = check(alloc, &mut reader)?;
+    let mut writer = Kept::new(alloc);
+    write_claims(alloc, claims.as_slice(), &mut writer)?;
+    Ok(writer.bytes.as_slice() == lines)
+}
+
+#[test]
+fn logs_reflexivity(rt: HostRuntime) -> Result<(), Fail> {
+    let log = log_of(rt.alloc(), b"thm a = REFL `(x:bool)` ;;")?;
+    assert!(rt;
+        log.as_slice()
+            == "holp-log 2\ny b\nt v x 0\nk REFL 0\ny f 0 0\ny f 0 1\nt c = 2\nt a 1 0\nt a 2 0\nc a 0 3\nend 1\n".as_bytes()
+    );
+    Ok(())
+}
+
+#[test]
+fn logs_what_is_shown_again(rt: HostRuntime) -> Result<(), Fail> {
+    let script = b"thm a = REFL `(x:bool)` ;; var y:bool ;; show b ;; show a ;; thm";
+    let log = log_of(rt.alloc(), script)?;
+    assert!(rt;
+        log.as_slice()
+            == "holp-log 2\ny b\nt v x 0\nk REFL 0\ny f 0 0\ny f 0 1\nt c = 2\nt a 1 0\nt a 2 0\nc a 0 3\nc a 0 3\nend 2\n".as_bytes()
+    );
+    Ok(())
+}
+
+#[test]
+fn logs_nothing(rt: HostRuntime) -> Result<(), Fail> {
+    let log = log_of(rt.alloc(), b"")?;
+    assert!(rt; log.as_slice() == "holp-log 2\nend 0\n".as_bytes());
+    Ok(())
+}
+
+#[test]
+fn claims_equations(rt: HostRuntime) -> Result<(), Fail> {
+    let script = b"thm a = REFL `(f:A->B) (x:A)` ;; thm b = TRANS a a ;;";
+    let lines = b"a: |- (([=:B->B->bool] ((f:A->B) (x:A))) ((f:A->B) (x:A)))\n\
+b: |- (([=:B->B->bool] ((f:A->B) (x:A))) ((f:A->B) (x:A)))\n";
+    assert!(rt; claims(rt.alloc(), script, lines)?);
+    Ok(())
+}
+
+#[test]
+fn claims_deductions(rt: HostRuntime) -> Result<(), Fail> {
+    let script = b"thm p = ASSUME `(p:bool)` ;; thm q = ASSUME `(q:bool)` ;;\n\
+thm r = DEDUCT_ANTISYM_RULE p q ;; thm t = TRANS p q ;;";
+    let lines = b"p: (p:bool) |- (p:bool)\nq: (q:bool) |- (q:bool)\n\
+r: (p:bool), (q:bool) |- (([=:bool->bool->bool] (p:bool)) (q:bool))\n";
+    assert!(rt; claims(rt.alloc(), script, lines)?);
+    Ok(())
+}
+
+#[test]
+fn claims_axioms(rt: HostRuntime) -> Result<(), Fail> {
+    let lines = b"e: |- (([=:(A->B)->(A->B)->bool] (\\A. ((t:A->B) #0))) (t:A->B))\n\
+s: ((P:A->bool) (x:A)) |- ((P:A->bool) ([@:(A->bool)->A] (P:A->bool)))\n";
+    assert!(rt; claims(rt.alloc(), b"thm e = ETA ;; thm s = SELECT ;;", lines)?);
+    Ok(())
+}
+
+#[test]
+fn claims_definitions(rt: HostRuntime) -> Result<(), Fail> {
+    let script = b"def c = `\\x:bool. x` ;; show c_def ;; newtype num ;; newconst zero : num ;;\n\
+thm z = REFL `zero` ;;";
+    let lines = b"c_def: |- (([=:(bool->bool)->(bool->bool)->bool] [c:bool->bool]) (\\bool. #0))\n\
+c_def: |- (([=:(bool->bool)->(bool->bool)->bool] [c:bool->bool]) (\\bool. #0))\n\
+z: |- (([=:num->num->bool] [zero:num]) [zero:num])\n";
+    assert!(rt; claims(rt.alloc(), script, lines)?);
+    Ok(())
+}
+
+#[test]
+fn claims_instances(rt: HostRuntime) -> Result<(), Fail> {
+    let script = b"thm a = ASSUME `(p:A->bool) (x:A)` ;; thm b = INST [`(y:A)`, `(x:A)`] a ;;\n\
+thm c = INST_TYPE [`bool`, `A`] b ;;";
+    let lines = b"a: ((p:A->bool) (x:A)) |- ((p:A->bool) (x:A))\n\
+b: ((p:A->bool) (y:A)) |- ((p:A->bool) (y:A))\n\
+c: ((p:bool->bool) (y:bool)) |- ((p:bool->bool) (y:bool))\n";
+    assert!(rt; claims(rt.alloc(), script, lines)?);
+    Ok(())
+}
