@@ -1,18 +1,16 @@
 -- The checker's answer for a log that is accepted.
-use Rattle.std.proofs.Common.{◌≡◌, ℕ, List, sym, ap, ◌∙◌, subst, Some, Ok, Err, Result, arith}
+use Rattle.std.proofs.Common.{◌≡◌, ℕ, ap, ◌∙◌, Ok, Err, arith}
 use Rattle.hol_model.specs.declared.fault.Cause.{Cause}
-use Rattle.hol_model.specs.LogState.{LogState, LogClaim}
+use Rattle.hol_model.specs.LogState.{LogState}
 use Rattle.hol_model.specs.LogText.{LogOutcome}
-use Rattle.hol_script.specs.RunLogs.{IsAcceptedLog}
-use Rattle.hol_check.specs.LogAnswers.{IsRefusedLog, log_answer}
-use Rattle.hol_check.specs.Checking.{HasClaims}
+use Rattle.hol_check.specs.LogAnswers.{log_answer}
 use Rattle.holp.specs.LogsChecked.{LogsAreChecked}
 
 same_state : (outcome : LogOutcome) (first second : LogState) → outcome ≡ Ok first → outcome ≡ Ok second → first ≡ second
-same_state outcome first second is other = (let both : Ok {T = LogState} {E = ℕ × Cause} first ≡ Ok second = sym is ∙ other in cc)
+same_state outcome first second is other = cc
 
-never_both : (outcome : LogOutcome) (state : LogState) (refusal : ℕ × Cause) → outcome ≡ Ok state → ¬ (outcome ≡ Err refusal)
-never_both outcome state refusal is other = (let both : Ok {T = LogState} {E = ℕ × Cause} state ≡ Err refusal = sym is ∙ other in cc)
+never_both : (outcome : LogOutcome) (state : LogState) (refusal : ℕ × Cause) → outcome ≡ Ok state → outcome ≡ Err refusal → ⊥
+never_both outcome state refusal is other = cc
 
 pub logs_are_checked : LogsAreChecked
 logs_are_checked = record {
