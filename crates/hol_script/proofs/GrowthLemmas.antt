@@ -1,6 +1,6 @@
 -- What a definition and a declaration are accepted or refused for, and the session over the theory that they make.
-use Rattle.std.proofs.Common.{◌≡◌, ◌⊎◌, ⊎_elim, ℕ, List, [], ◌∷◌, refl, sym, subst, ap, ◌∙◌, Option, None, Some, Result, Ok, Err, Global}
-use Rattle.std.specs.Prelude.{String, string_bytes, Bool, true, false, not, ◌&&◌, ◌||◌, cond, is_some}
+use Rattle.std.proofs.Common.{◌≡◌, ◌⊎◌, ⊎_elim, ℕ, List, [], ◌∷◌, refl, sym, subst, ap, ◌∙◌, Option, None, Some, Result, Ok, Err}
+use Rattle.std.specs.Prelude.{Bool, true, false, not, ◌&&◌, ◌||◌, cond, is_some}
 use Rattle.std.specs.Map.{update}
 use Rattle.std.specs.Str.{bytes_eq}
 use Rattle.std.proofs.lemmas.Slice.Eq.{bytes_eq-Decides}

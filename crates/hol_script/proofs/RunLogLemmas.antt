@@ -1,9 +1,8 @@
 -- The claims of a run are the theorems that it printed, and its log is theirs.
-use Rattle.std.proofs.Common.{◌≡◌, ◌≢◌, ℕ, ◌≤◌, ◌<◌, ◌+◌, take, get_or, List, [], ◌∷◌, ◌++◌, map, length, refl, sym, ap, subst, ◌∙◌, inl, inr, Option, None, Some, Ok, Err, Result, append-nil, append_assoc, lit<, arith, zero, suc, string_bytes}
+use Rattle.std.proofs.Common.{◌≡◌, ℕ, ◌≤◌, ◌<◌, ◌+◌, take, get_or, List, [], ◌∷◌, ◌++◌, map, length, refl, sym, ap, subst, ◌∙◌, inl, inr, Option, None, Some, Ok, Err, Result, append-nil, append_assoc, lit<, arith, zero, suc, string_bytes}
 use Rattle.std.specs.Prelude.{IfOk, IfErr, IsErrOf, Contains, String, true}
 use Rattle.std.proofs.lemmas.List.{take_more, map-append}
 use Rattle.std.proofs.Common.{Vec, Global}
-use Rattle.std.specs.Io.KnownBytes.{Appends}
 use Rattle.indexmap.specs.IndexMap.{get_by_text}
 use Rattle.hol_model.specs.Name.{is_identifier}
 use Rattle.hol_model.specs.Derivable.{IsMember}
@@ -13,22 +12,21 @@ use Rattle.hol_model.specs.declared.fault.Fault.TheVariants.{Memory, ReadFault, 
 use Rattle.hol_model.specs.declared.limits.TheConstants.{TEXT_BYTES_LIMIT}
 use Rattle.hol_model.specs.LogState.{LogClaim}
 use Rattle.hol_model.specs.Script.{requested}
-use Rattle.hol_model.specs.Sessions.{State, Counts, Reply, proves, accepts, refused, IsRun, Completes, Stops}
+use Rattle.hol_model.specs.Sessions.{State, Counts, Reply, proves, accepts, refused, IsRun, Stops}
 use Rattle.hol_model.proofs.Membership.{of_append}
 use Rattle.hol_journal.specs.Steps.{sequent_of_theorem}
-use Rattle.hol_journal.specs.Journal.{Journal, Recorded, IsMade}
+use Rattle.hol_journal.specs.Journal.{Journal, Recorded}
 use Rattle.hol_journal.specs.LogWriting.{Claimed}
 use Rattle.hol_journal.specs.declared.claim.Claim.{Claim}
 use Rattle.hol_journal.specs.Claims.{claim_of, claims_of}
 use Rattle.hol_journal.specs.LogAccepted.{log_claim}
 use Rattle.hol_journal.specs.Pruning.{AreMade, HaveIdentifiers}
 use Rattle.hol_journal.specs.LogOf.{IsPrunedText, IsLogOf, IsPastLimit}
-use Rattle.hol_bytes.specs.Bytes.{AppendsFront}
 use Rattle.hol_script.specs.declared.progress.Progress.{Progress}
 use Rattle.hol_script.specs.SessionState.{state_of, theorem_of}
 use Rattle.hol_script.specs.SessionState as session
 use Rattle.hol_script.specs.Runs.{names_of, printed_names, Ends}
-use Rattle.hol_script.specs.RunLogs.{claim_in, claims_in, IsLog, IsAcceptedLog, IsLongLog, WritesLog, WritesFront, CompletesLog, StopsInLog, HasLongLog, IsWhole, stored_claim, stored_claims, claims_stored}
+use Rattle.hol_script.specs.RunLogs.{claim_in, claims_in, IsAcceptedLog, IsLongLog, WritesLog, WritesFront, CompletesLog, StopsInLog, HasLongLog, IsWhole, stored_claim, stored_claims, claims_stored}
 use Rattle.hol_script.proofs.StoredLemmas.{printed_theorems_stay}
 
 -- ---- claims of stored theorems

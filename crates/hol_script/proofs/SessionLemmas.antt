@@ -1,6 +1,6 @@
 -- What a session is in, and the turns that it takes.
 use Rattle.std.proofs.Common.{◌≡◌, ℕ, List, refl, sym, ap, subst, Option, None, Some, Result, Ok, Err, Bor, Vec, Global, inl, inr, ◌⊎◌}
-use Rattle.std.specs.Prelude.{String, string_bytes, true, false}
+use Rattle.std.specs.Prelude.{true, false}
 use Rattle.std.specs.Option.{option_map, is_some}
 use Rattle.hol_model.specs.declared.fault.Fault.{Fault}
 use Rattle.hol_model.specs.declared.fault.Fault.TheVariants.{Memory, Syntax}
@@ -8,7 +8,7 @@ use Rattle.hol_model.specs.Token.{Token}
 use Rattle.hol_model.specs.Lexing.{Lexes}
 use Rattle.hol_model.specs.Commands.{RuleTree, CommandTree, thm_command, show_command, var_command, def_command, newtype_command, newconst_command, IsReadCommand, SpellsCommand}
 use Rattle.hol_model.specs.Theorem.{Theorem}
-use Rattle.hol_model.specs.Sessions.{State, scope_in, proves, accepts, refused, Allows, finds_no_memory, is_no_command, thm_is_refused, thm_stores, is_theorem_name, IsRuleAnswer, with_theorem, IsProved, theorem_line}
+use Rattle.hol_model.specs.Sessions.{State, scope_in, proves, accepts, refused, Allows, finds_no_memory, is_no_command, thm_is_refused, thm_stores, is_theorem_name, IsRuleAnswer, with_theorem, IsProved}
 use Rattle.hol_model.specs.TypeGrammar.{TypeTree, type_steps}
 use Rattle.hol_model.specs.TermGrammar.{TermTree}
 use Rattle.hol_syntax.specs.declared.type_reader.TypeStep.{TypeStep}

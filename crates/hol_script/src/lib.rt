@@ -14,10 +14,3 @@ mod tokens;
 pub use laws::printed_theorems_stay;
 pub use progress::Summary;
 pub use runner::run;
-
-#[cfg(test)]
-mod log_tests;
-#[cfg(test)]
-mod replacement_tests;
-#[cfg(test)]
-mod tests;

@@ -13,7 +13,11 @@ mod proof_trees;
 #[cfg(test)]
 mod recorder_tests;
 #[cfg(test)]
+mod replacement_tests;
+#[cfg(test)]
 mod run_log_tests;
+#[cfg(test)]
+mod script_tests;
 #[cfg(test)]
 mod shadowing_tests;
 #[cfg(test)]

@@ -1,4 +1,4 @@
-// Logs of scripts, whose claims the checker prints.
+// Logs of scripts, with the expected bytes by hand, and their claims as the checker prints them.
 ghost use Rattle.std.specs.Prelude.{◌≡◌, false};
 
 use hol_check::{check, write_claims};
@@ -60,6 +60,34 @@ fn claims(alloc: Global, script: &[u8], lines: &[u8]) -> Result<bool, Fault> {
     let mut writer = Kept::new(alloc);
     write_claims(alloc, claims.as_slice(), &mut writer)?;
     Ok(writer.bytes.as_slice() == lines)
+}
+
+#[test]
+fn logs_reflexivity(rt: HostRuntime) -> Result<(), Fail> {
+    let log = log_of(rt.alloc(), b"thm a = REFL `(x:bool)` ;;")?;
+    assert!(rt;
+        log.as_slice()
+            == "holp-log 2\ny b\nt v x 0\nk REFL 0\ny f 0 0\ny f 0 1\nt c = 2\nt a 1 0\nt a 2 0\nc a 0 3\nend 1\n".as_bytes()
+    );
+    Ok(())
+}
+
+#[test]
+fn logs_what_is_shown_again(rt: HostRuntime) -> Result<(), Fail> {
+    let script = b"thm a = REFL `(x:bool)` ;; var y:bool ;; show b ;; show a ;; thm";
+    let log = log_of(rt.alloc(), script)?;
+    assert!(rt;
+        log.as_slice()
+            == "holp-log 2\ny b\nt v x 0\nk REFL 0\ny f 0 0\ny f 0 1\nt c = 2\nt a 1 0\nt a 2 0\nc a 0 3\nc a 0 3\nend 2\n".as_bytes()
+    );
+    Ok(())
+}
+
+#[test]
+fn logs_nothing(rt: HostRuntime) -> Result<(), Fail> {
+    let log = log_of(rt.alloc(), b"")?;
+    assert!(rt; log.as_slice() == "holp-log 2\nend 0\n".as_bytes());
+    Ok(())
 }
 
 #[test]

@@ -1,6 +1,7 @@
 // What the commands do with the files that they name.
 ghost use Rattle.std.specs.Prelude.{◌≡◌, false, IfOk};
 
+use crate::laws::logs_are_checked;
 use crate::new_file::NewFile;
 use crate::status::status;
 use hol_check::{check, migrate, write_claims};
@@ -42,6 +43,7 @@ pub fn run_file(rt: &HostRuntime, script: &str) -> Result<u64, Fault> {
 /// Runs a script and writes its log, and answers how many commands were refused. The log's file is made once the script
 /// is open, before the run.
 pub fn run_file_with_log(rt: &HostRuntime, script: &str, log: &str) -> Result<u64, Fault> {
+    logs_are_checked();
     let mut reader = open(rt, script)?;
     let mut log = create(rt, log)?;
     let mut writer = IntoWrite::new(io::writer(rt));

@@ -2,6 +2,7 @@
 #![tactic(auto)]
 
 mod files;
+mod laws;
 mod new_file;
 mod status;
 

@@ -1,4 +1,4 @@
-use Rattle.std.proofs.Common.{◌≡◌, ℕ, List, [], ◌++◌, ◌+◌, ◌≤◌, ◌∙◌, ap, sym, subst, arith, lit<, length, Some}
+use Rattle.std.proofs.Common.{◌≡◌, ℕ, List, ◌++◌, ◌+◌, ◌≤◌, ◌∙◌, ap, sym, subst, arith, lit<, length, Some}
 use Rattle.hol_model.specs.Sessions.{State, start}
 use Rattle.hol_script.specs.declared.progress.Summary.{Summary}
 use Rattle.hol_script.specs.declared.session.Session.{Session}

@@ -1,4 +1,4 @@
-use Rattle.std.proofs.Common.{◌≡◌, sym, ◌∙◌, ap, subst, Some, Bor}
+use Rattle.std.proofs.Common.{sym, ◌∙◌, ap, subst, Some, Bor}
 use Rattle.std.specs.Option.{option_map}
 use Rattle.hol_model.specs.declared.fault.Fault.TheVariants.{UnknownName}
 use Rattle.hol_model.specs.Reading.{Scope}

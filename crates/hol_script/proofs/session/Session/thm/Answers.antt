@@ -1,4 +1,4 @@
-use Rattle.std.proofs.Common.{◌≡◌, sym, ap, ◌∙◌, subst, Some, Err}
+use Rattle.std.proofs.Common.{sym, ap, ◌∙◌, subst, Some, Err}
 use Rattle.hol_model.specs.declared.fault.Fault.TheVariants.{BadName, NameTaken}
 use Rattle.hol_model.specs.Reading.{Scope}
 use Rattle.hol_model.specs.Sessions.{State, thm_has_bad_name, thm_has_taken_name}

@@ -1,8 +1,8 @@
 // Scripts with the output that each must have.
 ghost use Rattle.std.specs.Prelude.{◌≡◌, false};
 
-use crate::{Summary, run};
 use hol_model::{DeviceFail, Fault, FromRead, IntoWrite, Sink};
+use hol_script::{Summary, run};
 use std::alloc::Global;
 use std::test::Fail;
 
@@ -36,7 +36,7 @@ impl Sink for Compared<'_> {
 }
 
 /// Whether a script writes this, and no more.
-pub fn writes(alloc: Global, script: &[u8], expected: &[u8]) -> Result<bool, Fault> {
+pub(crate) fn writes(alloc: Global, script: &[u8], expected: &[u8]) -> Result<bool, Fault> {
     let mut reader = FromRead::new(script);
     let mut writer = Compared {
         rest: expected,
@@ -45,18 +45,6 @@ pub fn writes(alloc: Global, script: &[u8], expected: &[u8]) -> Result<bool, Fau
     let mut log = IntoWrite::new(Vec::new(alloc));
     run(alloc, &mut reader, &mut writer, &mut log, false)?;
     Ok(writer.is_whole())
-}
-
-/// Whether the log of a script is this, and no more.
-pub fn logs(alloc: Global, script: &[u8], expected: &[u8], wants_log: bool) -> Result<bool, Fault> {
-    let mut reader = FromRead::new(script);
-    let mut writer = IntoWrite::new(Vec::new(alloc));
-    let mut log = Compared {
-        rest: expected,
-        differs: false,
-    };
-    run(alloc, &mut reader, &mut writer, &mut log, wants_log)?;
-    Ok(log.is_whole())
 }
 
 fn summary(alloc: Global, script: &[u8]) -> Result<Summary, Fault> {

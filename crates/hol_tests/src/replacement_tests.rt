@@ -1,5 +1,5 @@
 // INST and INST_TYPE in scripts.
-use crate::tests::writes;
+use crate::script_tests::writes;
 use hol_model::Fault;
 use std::alloc::Global;
 use std::test::Fail;
