@@ -2,14 +2,19 @@
 //! theorem is made by a recorder's calls.
 #![tactic(auto)]
 
+mod choice;
 mod conjunction;
 mod derivation;
+mod disjunction;
 mod equality;
+mod existence;
 mod formulas;
+mod laws;
 mod lemma;
 mod logic;
 mod making;
 mod sketch;
+mod stages;
 mod steps;
 mod stored;
 mod truth;

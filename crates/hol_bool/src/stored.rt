@@ -1,13 +1,15 @@
 // The theorems of the prelude.
-ghost use Rattle.std.specs.Prelude.{◌≡◌, [], IfOk, IfErr};
+ghost use Rattle.std.specs.Prelude.{◌≡◌, ◌≤◌, [], length, IfOk, IfErr};
 ghost use Rattle.hol_model.specs.Logic.{logical_definitions};
 ghost use Rattle.hol_model.specs.declared.fault.Fault.TheVariants.{Memory};
 ghost use Rattle.hol_journal.specs.Growth.{IsGrown};
 ghost use Rattle.hol_bool.specs.Derivations.{theorems, AreMade};
+ghost use Rattle.hol_bool.specs.Laws.{without_laws};
+ghost use Rattle.hol_bool.specs.declared.logic.TheConstants.{BEHIND_LAWS};
 ghost use Rattle.hol_bool.specs.Prelude.{prelude_theorems};
 
-use crate::logic::PRELUDE;
-use crate::making::make_table;
+use crate::logic::{BEHIND_LAWS, FIRST_LAW};
+use crate::stages::with_axioms;
 use hol_journal::{Rec, Recorder};
 use hol_model::Fault;
 use std::alloc::Global;
@@ -28,6 +30,15 @@ impl Bool {
     }
 }
 
+// The theorems without the laws among them.
+fn without_laws(mut all: Vec<Rec>) -> Vec<Rec>
+    requires { BEHIND_LAWS ≤ length all.items }
+    ensures { result.items ≡ without_laws all.items }
+{
+    drop(all.drain(FIRST_LAW..BEHIND_LAWS));
+    all
+}
+
 /// The logical constants, defined over a theory without definitions, and the theorems of the prelude. It is refused
 /// where there is no memory, and for no other reason.
 pub fn prelude(recorder: &mut Recorder, alloc: Global) -> Result<Bool, Fault>
@@ -37,8 +48,10 @@ pub fn prelude(recorder: &mut Recorder, alloc: Global) -> Result<Bool, Fault>
     ensures err { IfErr result (λ fault. fault ≡ Memory) }
     ensures grown { IsGrown recorder.old recorder.new }
 {
-    match make_table(recorder, alloc, &PRELUDE) {
-        Ok(theorems) => Ok(Bool { theorems }),
+    match with_axioms(recorder, alloc) {
+        Ok(all) => Ok(Bool {
+            theorems: without_laws(all),
+        }),
         Err(fault) => Err(fault),
     }
 }
