@@ -14,8 +14,8 @@ use hol_journal::{Rec, Recorder};
 use hol_model::Fault;
 use std::alloc::Global;
 
-/// The stored theorems T_DEF, AND_DEF, IMP_DEF, FORALL_DEF, EXISTS_DEF, OR_DEF, F_DEF, NOT_DEF and TRUTH, and the
-/// theorems from which rules are made.
+/// The stored theorems T_DEF, AND_DEF, IMP_DEF, FORALL_DEF, EXISTS_DEF, OR_DEF, F_DEF, NOT_DEF and TRUTH, the theorems
+/// from which rules are made, and ETA_AX and SELECT_AX.
 #[derive(Drop)]
 pub struct Bool {
     theorems: Vec<Rec>,

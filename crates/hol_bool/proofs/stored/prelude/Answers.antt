@@ -1,0 +1,13 @@
+use Rattle.std.proofs.Common.{◌++◌, refl, sym, ap, ◌∙◌, subst}
+use Rattle.hol_bool.specs.Derivations.{theorems, AreMade}
+use Rattle.hol_bool.specs.Laws.{without_laws}
+use Rattle.hol_bool.proofs.PreludeLemmas.{theorems-without_laws, made-without_laws}
+use Rattle.hol_bool.proofs.stored.prelude.Goals as goal
+
+pub returns-in-Ok-clause-ok : goal.returns-in-Ok-clause-ok
+returns-in-Ok-clause-ok c =
+    ap theorems c.without_laws.ensures ∙ theorems-without_laws c.in-Ok.all.items ∙ ap without_laws c.in-Ok.ensures.ok.theorems_are
+
+pub returns-in-Ok-clause-made : goal.returns-in-Ok-clause-made
+returns-in-Ok-clause-made c =
+    subst (AreMade c.with_axioms.new.recorder) (sym c.without_laws.ensures) (made-without_laws c.with_axioms.new.recorder c.in-Ok.all.items c.in-Ok.ensures.made)
