@@ -17,7 +17,7 @@ mod truth_rules;
 
 pub use equality::{add_assum, beta_conv, named, prove_hyp, sym};
 pub use lemma::{by_lemma, instance};
-pub use stored::{Bool, prelude};
+pub use stored::{Bool, logic_stays, prelude, theorem_of};
 pub use truth_rules::eqt_intro;
 
 #[cfg(test)]
