@@ -7,5 +7,6 @@ pub mod DerivationSize
 pub mod DerivationLemmas
 pub mod PreludeLemmas
 pub mod BetaLemmas
-pub mod TruthLemmas
 pub mod LogicLemmas
+pub mod RoomLemmas
+pub mod PreludeSteps

@@ -1,5 +1,6 @@
 pub mod Sequents
 pub mod HasLogic
+pub mod Room
 pub mod Sketches
 pub mod Derivations
 pub mod Makings

@@ -5,20 +5,20 @@
 mod conjunction;
 mod derivation;
 mod equality;
+mod formula_terms;
 mod formulas;
 mod lemma;
 mod logic;
 mod making;
+mod prelude_rules;
 mod sketch;
 mod steps;
 mod stored;
 mod truth;
-mod truth_rules;
 
 pub use equality::{add_assum, beta_conv, named, prove_hyp, sym};
 pub use lemma::{by_lemma, instance};
 pub use stored::{Bool, logic_stays, prelude, theorem_of};
-pub use truth_rules::eqt_intro;
 
 #[cfg(test)]
 mod prelude_tests;
