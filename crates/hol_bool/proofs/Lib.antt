@@ -10,3 +10,7 @@ pub mod BetaLemmas
 pub mod LogicLemmas
 pub mod RoomLemmas
 pub mod PreludeSteps
+pub mod FormulaLemmas
+pub mod RuleAnswers
+pub mod TruthAnswers
+pub mod ConjunctionAnswers

@@ -18,11 +18,12 @@ use Rattle.hol_journal.specs.Journal.{Journal, Recorded}
 use Rattle.hol_bool.specs.Prelude.{prelude_theorems, shown}
 use Rattle.hol_bool.specs.Sequents.{Shows, Continues, instance_of}
 use Rattle.hol_bool.specs.HasLogic.{HasLogic}
+use Rattle.hol_bool.specs.Formulas.{IsFormula}
 use Rattle.hol_bool.specs.Room.{IsSized, FitsIf, LeadsTo, at_p, at_p_q, at_p_q_r}
 use Rattle.hol_bool.specs.declared.stored.Bool.{Bool as Stored}
 use Rattle.hol_bool.proofs.Sizes.{sized-more, sized-equation, sized-within}
 use Rattle.hol_bool.proofs.RoomLemmas.{fits-within}
-use Rattle.hol_bool.proofs.LogicLemmas.{IsFormula, logic-stays}
+use Rattle.hol_bool.proofs.LogicLemmas.{logic-stays}
 
 -- the prelude stays
 pub still_logical : (old new : Journal) (result : Result Recorded Fault) (logic : Stored) → Continues old new result → HasLogic old logic → HasLogic new logic

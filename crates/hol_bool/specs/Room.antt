@@ -10,6 +10,10 @@ use Rattle.hol_model.specs.Instantiation.{instantiate_all, replacements_refusal}
 use Rattle.hol_bool.specs.Prelude.{prelude_theorems, shown, p, q, r}
 use Rattle.hol_bool.specs.Sequents.{IsPast, instance_of}
 
+-- whether there is room
+abbrev pub Room : Type 0
+Room = Bool
+
 -- a term of at most this height and so many nodes, with types within the limit
 pub record IsSized (tall many : ℕ) (term : Nameless) : Type 0 where
   pub height : nameless_height term ≤ tall
@@ -17,13 +21,13 @@ pub record IsSized (tall many : ℕ) (term : Nameless) : Type 0 where
   pub types : nameless_types_fit [] term ≡ true
 
 -- a term that fits where there is room: derivations have some more to spare
-abbrev pub FitsIf : Bool → Nameless → Type 0
+abbrev pub FitsIf : Room → Nameless → Type 0
 FitsIf room term = room ≡ true → IsSized 1900 900000 term
 
 -- the term; or there is no memory, or what has to fit does not
-abbrev pub MakesIf : Bool → Result NamedTerm Fault → NamedTerm → Type 0
-MakesIf fits (Ok made) term = made ≡ term
-MakesIf fits (Err fault) term = IsPast fault fits
+abbrev pub MakesIf : Room → Result NamedTerm Fault → NamedTerm → Type 0
+MakesIf room (Ok made) term = made ≡ term
+MakesIf room (Err fault) term = IsPast fault room
 
 -- formulas for the variables p, q and r of the theorems of the prelude
 
@@ -38,7 +42,7 @@ at_p_q_r a b c = (a, p) ∷ (b, q) ∷ (c, r) ∷ []
 
 -- at these terms, the theorem of this number of the prelude leads from one term to the other, and where there is room
 -- both fit
-pub record LeadsTo (theory : Theory) (number : ℕ) (terms : List (NamedTerm × NamedTerm)) (room : Bool) (premise conclusion : Nameless) : Type 0 where
+pub record LeadsTo (theory : Theory) (number : ℕ) (terms : List (NamedTerm × NamedTerm)) (room : Room) (premise conclusion : Nameless) : Type 0 where
   pub hypothesis : NamedTerm
   pub stated : NamedTerm
   pub theorem_is : slice_get prelude_theorems number ≡ Some (shown (hypothesis ∷ []) stated)

@@ -22,14 +22,14 @@ use std::alloc::Global;
 
 // The parts of an equation, `=` among them.
 #[derive(Clone, Copy)]
-struct Equation<'a> {
-    relation: &'a Term,
-    left: &'a Term,
-    right: &'a Term,
+pub(crate) struct Equation<'a> {
+    pub(crate) relation: &'a Term,
+    pub(crate) left: &'a Term,
+    pub(crate) right: &'a Term,
 }
 
 // The parts of the term, where it is an equation.
-fn equation_parts(term: &Term) -> Option<Equation<'_>>
+pub(crate) fn equation_parts(term: &Term) -> Option<Equation<'_>>
     ensures sides { option_map (λ parts. (parts.left.now, parts.right.now)) result ≡ dest_equation term.now }
     ensures whole { IfSome result (λ parts. term.now ≡ combination (combination parts.relation.now parts.left.now) parts.right.now) }
 {

@@ -1,5 +1,5 @@
 // Formulas of the logical constants, and their parts.
-ghost use Rattle.std.specs.Prelude.{◌≡◌, ℕ, List, [], ◌∷◌, Bool, true, IfOk, IfErr, Some, codes};
+ghost use Rattle.std.specs.Prelude.{◌≡◌, ℕ, List, [], ◌∷◌, true, IfOk, IfErr, Some, codes};
 ghost use Rattle.std.specs.Option.{option_map};
 ghost use Rattle.hol_model.specs.declared.fault.Fault.TheVariants.{Memory};
 ghost use Rattle.hol_model.specs.HolType.{bool_type};
@@ -8,7 +8,7 @@ ghost use Rattle.hol_model.specs.Nameless.{image};
 ghost use Rattle.hol_model.specs.Name.{is_identifier, is_constant_name};
 ghost use Rattle.hol_model.specs.Logic.{not_name, unary, binary};
 ghost use Rattle.hol_model.specs.NamedLogic.{true_term, false_term, connected, negation, dest_connected, dest_negation, is_constant_named};
-ghost use Rattle.hol_bool.specs.Room.{FitsIf, MakesIf, at_p, at_p_q, at_p_q_r};
+ghost use Rattle.hol_bool.specs.Room.{Room, FitsIf, MakesIf, at_p, at_p_q, at_p_q_r};
 
 use hol_model::Fault;
 use hol_terms::{Parts, Term, mk_eq};
@@ -93,7 +93,7 @@ pub(crate) fn falsity(alloc: Global) -> Result<Term, Fault>
 
 /// The equation of two formulas.
 pub(crate) fn equivalence(alloc: Global, left: &Term, right: &Term) -> Result<Term, Fault>
-    ensures { (room : Bool) → type_of left.now ≡ Some bool_type → type_of right.now ≡ Some bool_type → FitsIf room (image (equation left.now right.now)) → MakesIf room result (equation left.now right.now) }
+    ensures { (room : Room) → type_of left.now ≡ Some bool_type → type_of right.now ≡ Some bool_type → FitsIf room (image (equation left.now right.now)) → MakesIf room result (equation left.now right.now) }
 {
     mk_eq(alloc, left, right)
 }
@@ -106,7 +106,7 @@ pub(crate) fn connect(
     right: &Term,
 ) -> Result<Term, Fault>
     requires { is_constant_name name.now ≡ true }
-    ensures { (room : Bool) → type_of left.now ≡ Some bool_type → type_of right.now ≡ Some bool_type → FitsIf room (image (connected name.now left.now right.now)) → MakesIf room result (connected name.now left.now right.now) }
+    ensures { (room : Room) → type_of left.now ≡ Some bool_type → type_of right.now ≡ Some bool_type → FitsIf room (image (connected name.now left.now right.now)) → MakesIf room result (connected name.now left.now right.now) }
 {
     let connective = match binary_constant(alloc, name) {
         Ok(connective) => connective,
@@ -133,7 +133,7 @@ fn binary_constant(alloc: Global, name: &str) -> Result<Term, Fault>
 
 /// The negation of a formula.
 pub(crate) fn negate(alloc: Global, part: &Term) -> Result<Term, Fault>
-    ensures { (room : Bool) → type_of part.now ≡ Some bool_type → FitsIf room (image (negation part.now)) → MakesIf room result (negation part.now) }
+    ensures { (room : Room) → type_of part.now ≡ Some bool_type → FitsIf room (image (negation part.now)) → MakesIf room result (negation part.now) }
 {
     let connective = match negation_constant(alloc) {
         Ok(connective) => connective,

@@ -3,10 +3,12 @@
 #![tactic(auto)]
 
 mod conjunction;
+mod conjunction_rules;
 mod derivation;
 mod equality;
 mod formula_terms;
 mod formulas;
+mod implication_rules;
 mod lemma;
 mod logic;
 mod making;
@@ -15,10 +17,14 @@ mod sketch;
 mod steps;
 mod stored;
 mod truth;
+mod truth_rules;
 
+pub use conjunction_rules::{conj, conjunct1, conjunct2};
 pub use equality::{add_assum, beta_conv, named, prove_hyp, sym};
+pub use implication_rules::mp;
 pub use lemma::{by_lemma, instance};
 pub use stored::{Bool, logic_stays, prelude, theorem_of};
+pub use truth_rules::eqt_intro;
 
 #[cfg(test)]
 mod prelude_tests;

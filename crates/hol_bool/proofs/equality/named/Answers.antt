@@ -7,9 +7,9 @@ use Rattle.hol_journal.proofs.GrowthLemmas.{journals-grow}
 use Rattle.hol_bool.proofs.CutLemmas.{shown-known, itself-names, given-derives}
 use Rattle.hol_bool.proofs.equality.named.Goals as goal
 
-pub returns-in-Err-refl-clause-derives : goal.returns-in-Err-refl-clause-derives
-returns-in-Err-refl-clause-derives c h shown =
-    c.in-Err-refl.ensures.derives bool_type
+pub returns-in-Err-clause-derives : goal.returns-in-Err-clause-derives
+returns-in-Err-clause-derives c h shown =
+    c.in-Err.ensures.derives bool_type
     (shown-known c.args.recorder.now c.theory_is_legal.ensures c.args.premise.now c.requires c.thm.result.now c.thm.ensures c.concl-premise.ensures.theorem h (image c.args.term.now) shown)
 
 pub eq_mp-requires-clause-second : goal.eq_mp-requires-clause-second

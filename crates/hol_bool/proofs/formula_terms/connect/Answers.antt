@@ -27,5 +27,5 @@ returns c room left_typed right_typed fits =
     let half = combination (constant name binary) left in
     let applied_is : c.in-Ok-mk_comb.applied ≡ half =
     (applied c.in-Ok.connective left c.in-Ok-mk_comb.applied c.in-Ok-mk_comb.ensures.outcome).is ∙ ap (λ (t : NamedTerm). combination t left) c.in-Ok.ensures.ok in
-    made-combination c.mk_comb.result half right bool_type room (connected-typed name left right left_typed right_typed) fits
-    (subst (λ (t : NamedTerm). Answers c.mk_comb.result (combination_outcome t right)) applied_is c.mk_comb.ensures.outcome)
+    made-combination c.mk_comb-2.result half right bool_type room (connected-typed name left right left_typed right_typed) fits
+    (subst (λ (t : NamedTerm). Answers c.mk_comb-2.result (combination_outcome t right)) applied_is c.mk_comb-2.ensures.outcome)

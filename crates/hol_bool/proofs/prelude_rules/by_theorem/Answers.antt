@@ -20,7 +20,7 @@ returns-in-Err-clause-derives c h premise room leads shows =
     let p = image leads.hypothesis in
     let d = image leads.stated in
     past-room c.in-Err.fault (list_all nameless_within_limits (instantiate_all [] d ∷ instantiate_all [] p ∷ at d ∷ at p ∷ nameless_equation bool_type (at p) (at d) ∷ [])) room
-    (c.in-Err.ensures.derives refl leads.may_replace h p d (leads-shows theory c.args.number terms room premise stated leads c.theorem_of.result.now.theorem c.theorem_of.ensures.theorem)
+    (c.in-Err.ensures.derives refl leads.may_replace h p d (leads-shows theory c.args.number terms room premise stated leads c.theorem_of-lemma.result.now.theorem c.theorem_of-lemma.ensures.theorem)
     (subst (λ (t : Nameless). Shows c.args.premise.now.theorem h t) leads.premise_is shows))
     (way-fits theory c.args.number terms room premise stated leads)
 
@@ -33,7 +33,7 @@ returns-clause-derives c h premise room leads shows =
     let p = image leads.hypothesis in
     let d = image leads.stated in
     let answer : Shows c.in-Ok.answer.theorem h (at d) =
-    c.in-Ok.ensures.derives refl leads.may_replace h p d (leads-shows theory c.args.number terms room premise stated leads c.theorem_of.result.now.theorem c.theorem_of.ensures.theorem)
+    c.in-Ok.ensures.derives refl leads.may_replace h p d (leads-shows theory c.args.number terms room premise stated leads c.theorem_of-lemma.result.now.theorem c.theorem_of-lemma.ensures.theorem)
     (subst (λ (t : Nameless). Shows c.args.premise.now.theorem h t) leads.premise_is shows) in
     derives-where (nameless_within_limits (nameless_equation bool_type stated stated)) room c.named.result h stated
     (equation-fits room stated stated leads.conclusion_fits leads.conclusion_fits)

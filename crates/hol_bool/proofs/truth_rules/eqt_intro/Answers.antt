@@ -1,0 +1,44 @@
+use Rattle.std.proofs.Common.{◌≡◌, ◌∙◌, [], ◌∷◌, Err, refl, sym, ap, subst, IfOk}
+use Rattle.hol_model.specs.HolType.{bool_type}
+use Rattle.hol_model.specs.NamedTerm.{NamedTerm, equation}
+use Rattle.hol_model.specs.Nameless.{Nameless, image}
+use Rattle.hol_model.specs.Derivable.{nameless_equation}
+use Rattle.hol_model.specs.NamedLogic.{true_term}
+use Rattle.hol_model.specs.DerivedRules.{images, eqt_intro_outcome}
+use Rattle.hol_model.proofs.Images.{image-equation}
+use Rattle.hol_bool.specs.Prelude.{p}
+use Rattle.hol_bool.specs.Room.{FitsIf, LeadsTo}
+use Rattle.hol_bool.specs.Sequents.{DerivesIf}
+use Rattle.hol_bool.proofs.CutLemmas.{shows-itself}
+use Rattle.hol_bool.proofs.RoomLemmas.{equation-is, equation-past}
+use Rattle.hol_bool.proofs.RuleAnswers.{answered-one, leads-p, roomy-fits}
+use Rattle.hol_bool.proofs.TruthAnswers.{truth-fits}
+use Rattle.hol_bool.proofs.truth_rules.eqt_intro.Goals as goal
+
+pub returns-in-Err-equivalence-clause-outcome : goal.returns-in-Err-equivalence-clause-outcome
+returns-in-Err-equivalence-clause-outcome c =
+    let premise = c.args.premise.now.theorem in
+    let a = premise.conclusion in
+    let typed = c.conclusion_of-conclusion.ensures.formula.typed in
+    let fault = c.in-Err-equivalence.fault in
+    answered-one (Err fault) premise (equation a true_term) (eqt_intro_outcome premise) refl
+    (λ room whole part. equation-past fault a true_term c.conclusion_of-conclusion.result.now c.in-Ok.truth typed refl c.conclusion_of-conclusion.ensures.value c.in-Ok.ensures.ok c.in-Err-equivalence.ensures room (truth-fits room (image a) whole))
+    tt
+
+pub returns-clause-outcome : goal.returns-clause-outcome
+returns-clause-outcome c =
+    let theory = c.args.recorder.now.theory in
+    let premise = c.args.premise.now.theorem in
+    let a = premise.conclusion in
+    let formula = c.conclusion_of-conclusion.ensures.formula in
+    let concludes = c.conclusion_of-conclusion.ensures.value in
+    let stated_is : c.in-Ok-equivalence.stated ≡ equation a true_term =
+    equation-is c.in-Ok-equivalence.stated a true_term c.conclusion_of-conclusion.result.now c.in-Ok.truth formula.typed refl concludes c.in-Ok.ensures.ok c.in-Ok-equivalence.ensures in
+    let image_is = image-equation a true_term bool_type formula.typed in
+    answered-one c.by_theorem.result premise (equation a true_term) (eqt_intro_outcome premise) refl
+    (λ room whole part.
+    subst (λ (s : NamedTerm). LeadsTo theory 9 c.deref.result.now room (image a) (image s) → DerivesIf room c.by_theorem.result (images premise) (image s)) stated_is
+    (λ leads. c.by_theorem.ensures.derives (images premise) (image a) room leads (shows-itself premise))
+    (leads-p theory 9 p (equation p true_term) a c.deref.result.now refl refl formula (c.deref.ensures.value ∙ c.in-Ok-for_p.ensures.ok ∙ ap (λ (t : NamedTerm). (t, p) ∷ []) concludes) room (image a) (image (equation a true_term)) refl image_is
+    (roomy-fits room (image a) whole) (roomy-fits room (image (equation a true_term)) part)))
+    (subst (λ (s : NamedTerm). IfOk c.by_theorem.result (λ made. made.theorem.conclusion ≡ s)) stated_is c.by_theorem.ensures.names)

@@ -1,0 +1,40 @@
+// Rules of truth.
+ghost use Rattle.hol_model.specs.DerivedRules.{AnswersStated, terms_of_theorem, eqt_intro_outcome};
+ghost use Rattle.hol_journal.specs.Journal.{IsMade, theorem_in};
+ghost use Rattle.hol_bool.specs.HasLogic.{HasLogic};
+ghost use Rattle.hol_bool.specs.Sequents.{Continues};
+
+use crate::formula_terms::{equivalence, for_p, truth};
+use crate::prelude_rules::{by_theorem, conclusion_of};
+use crate::stored::Bool;
+use hol_journal::{Rec, Recorder};
+use hol_model::Fault;
+use std::alloc::Global;
+
+/// EQT_INTRO: from `p`, `p <=> T`.
+pub fn eqt_intro(
+    recorder: &mut Recorder,
+    alloc: Global,
+    logic: &Bool,
+    premise: &Rec,
+) -> Result<Rec, Fault>
+    requires logic { HasLogic recorder.old logic.now }
+    requires premise { IsMade recorder.old premise.now }
+    ensures continues { Continues recorder.old recorder.new result }
+    ensures outcome { AnswersStated (theorem_in result) (terms_of_theorem premise.now.theorem) (eqt_intro_outcome premise.now.theorem) }
+{
+    let conclusion = conclusion_of(recorder, premise);
+    let truth = match truth(alloc) {
+        Ok(truth) => truth,
+        Err(fault) => return Err(fault),
+    };
+    let stated = match equivalence(alloc, conclusion, &truth) {
+        Ok(stated) => stated,
+        Err(fault) => return Err(fault),
+    };
+    let terms = match for_p(alloc, conclusion) {
+        Ok(terms) => terms,
+        Err(fault) => return Err(fault),
+    };
+    by_theorem(recorder, alloc, logic, 9, &terms, &stated, premise)
+}
