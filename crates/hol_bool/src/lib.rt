@@ -21,7 +21,7 @@ mod truth_rules;
 
 pub use conjunction_rules::{conj, conjunct1, conjunct2};
 pub use equality::{add_assum, beta_conv, named, prove_hyp, sym};
-pub use implication_rules::mp;
+pub use implication_rules::{disch, mp, undisch};
 pub use lemma::{by_lemma, instance};
 pub use stored::{Bool, logic_stays, prelude, theorem_of};
 pub use truth_rules::eqt_intro;
