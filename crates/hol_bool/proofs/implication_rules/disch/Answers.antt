@@ -1,4 +1,4 @@
-use Rattle.std.proofs.Common.{◌≡◌, [], ◌∷◌, ◌++◌, refl, inl, inr}
+use Rattle.std.proofs.Common.{◌≡◌, ◌∷◌, refl, inl, inr}
 use Rattle.hol_model.specs.Nameless.{image}
 use Rattle.hol_model.specs.Derivable.{without}
 use Rattle.hol_model.specs.NamedLogic.{implication}

@@ -1,4 +1,4 @@
-use Rattle.std.proofs.Common.{◌≡◌, [], ◌∷◌, ◌++◌, true, Option, sym, subst, ap, refl, inl}
+use Rattle.std.proofs.Common.{◌≡◌, [], ◌∷◌, true, Option, sym, subst, ap, refl, inl}
 use Rattle.hol_model.specs.declared.fault.Fault.TheVariants.{BadShape}
 use Rattle.hol_model.specs.NamedTerm.{NamedTerm}
 use Rattle.hol_model.specs.Nameless.{Nameless, image}

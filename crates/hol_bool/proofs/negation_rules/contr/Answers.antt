@@ -1,4 +1,4 @@
-use Rattle.std.proofs.Common.{◌≡◌, ◌∙◌, [], ◌∷◌, ◌++◌, true, subst, refl, sym, ap, inl, inr}
+use Rattle.std.proofs.Common.{◌≡◌, ◌∙◌, ◌∷◌, true, subst, refl, sym, ap, inl, inr}
 use Rattle.hol_model.specs.NamedTerm.{NamedTerm}
 use Rattle.hol_model.specs.Nameless.{image}
 use Rattle.hol_model.specs.NamedLogic.{false_term, is_false}
