@@ -137,6 +137,12 @@ pub outcome-goes_on : (result : Result Recorded Fault) (old new : Journal) (step
     → Answers (theorem_in result) outcome → IfOk result (IsRecorded old new step) → OnErr result (new ≡ old) → GoesOn old new result
 outcome-goes_on result old new step outcome stands answers is kept = recorded result old new step (stands_in result old.theory outcome stands answers) is kept
 
+pub axiom-goes_on : (result : Result Recorded Fault) (old new : Journal) (step : Step) (theorem : Theorem) → theorem.theory ≡ old.theory
+    → IfOk result (λ made. made.theorem ≡ theorem) → IfOk result (IsRecorded old new step) → OnErr result (new ≡ old) → GoesOn old new result
+axiom-goes_on (Ok made) old new step theorem stands same is kept =
+    recorded (Ok made) old new step (λ other ok. let one : made ≡ other = cc in ap (λ (m : Recorded). m.theorem.theory) (sym one) ∙ ap (λ (t : Theorem). t.theory) same ∙ stands) is kept
+axiom-goes_on (Err fault) old new step theorem stands same is kept = recorded (Err fault) old new step (λ other ok. cc) is kept
+
 such_in : (result : Result Recorded Fault) (theory : Theory) (refusal : Option Fault) (fact : Theorem → Type 0) → ((answer : Theorem) → fact answer → answer.theory ≡ theory)
     → AnswersSuch (theorem_in result) refusal fact → (made : Recorded) → result ≡ Ok made → made.theorem.theory ≡ theory
 such_in (Ok answer) theory refusal fact stands answers made is =

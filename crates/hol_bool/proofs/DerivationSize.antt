@@ -5,6 +5,7 @@ use Rattle.hol_bool.specs.declared.derivation.Derivation.{Derivation}
 
 abbrev pub size : Derivation → ℕ
 size (derivations.Earlier number) = 1
+size (derivations.Axiom rule) = 1
 size (derivations.Term rule term) = 1
 size (derivations.Pair' rule p first q second) = size first + size second + 1
 size (derivations.Abs' variable p theorem) = size theorem + 1

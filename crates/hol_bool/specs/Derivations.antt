@@ -19,6 +19,9 @@ use Rattle.hol_journal.specs.Growth.{IsGrown}
 use Rattle.hol_bool.specs.Sketches.{followed, type_outcome, term_outcome}
 use Rattle.hol_bool.specs.declared.sketch.TypeSketch.{TypeSketch}
 use Rattle.hol_bool.specs.declared.sketch.TermSketch.{TermSketch}
+use Rattle.hol_model.specs.NamedAxioms.{eta_conclusion, select_hypothesis, select_conclusion}
+use Rattle.hol_bool.specs.declared.derivation.Axiom.TheVariants as axioms
+use Rattle.hol_bool.specs.declared.derivation.Axiom.{Axiom}
 use Rattle.hol_bool.specs.declared.derivation.Derivation as derivations
 use Rattle.hol_bool.specs.declared.derivation.Derivation.{Derivation}
 
@@ -34,6 +37,10 @@ pub record AreMade (journal : Journal) (all : List Recorded) : Type 0 where
 
 abbrev pub theorems : List Recorded → List Theorem
 theorems all = map (λ made. made.theorem) all
+
+abbrev pub axiom_theorem : Axiom → Theory → Theorem
+axiom_theorem axioms.Eta theory = record { theory = theory; hypotheses = []; conclusion = eta_conclusion }
+axiom_theorem axioms.Select theory = record { theory = theory; hypotheses = select_hypothesis ∷ []; conclusion = select_conclusion }
 
 abbrev pub term_rule_outcome : TermRule → Theory → NamedTerm → Result Theorem Fault
 term_rule_outcome term_rule.Refl theory term = refl_outcome theory term
@@ -75,6 +82,7 @@ inst_type_of theory new old theorem conclusion =
 -- what the derivation gives over a theory, from earlier theorems
 abbrev pub derived_outcome : Theory → List Theorem → Derivation → Result Theorem Fault
 derived_outcome theory earlier (derivations.Earlier number) = given (slice_get earlier number) BadShape (λ theorem. Ok theorem)
+derived_outcome theory earlier (derivations.Axiom rule) = Ok (axiom_theorem rule theory)
 derived_outcome theory earlier (derivations.Term rule term) = followed (term_outcome term.now) (λ term. term_rule_outcome rule theory term)
 derived_outcome theory earlier (derivations.Pair' rule p first q second) =
     followed (derived_outcome theory earlier first) (λ first.

@@ -1,10 +1,11 @@
 -- What a list of definitions and derivations comes to.
-use Rattle.std.specs.Prelude.{List, [], ◌∷◌, ◌++◌, Result, Ok, Err}
+use Rattle.std.specs.Prelude.{◌≡◌, List, [], ◌∷◌, ◌++◌, Result, Ok, Err}
 use Rattle.std.specs.declared.vec.Vec.{Vec}
 use Rattle.std.specs.declared.alloc.Global.{Global}
 use Rattle.hol_model.specs.declared.fault.Fault.{Fault}
 use Rattle.hol_model.specs.Outcome.{Answers}
 use Rattle.hol_model.specs.Theory.{Theory}
+use Rattle.hol_model.specs.Logic.{logical_definitions}
 use Rattle.hol_model.specs.Theorem.{Theorem}
 use Rattle.hol_model.specs.Rules.{define_outcome}
 use Rattle.hol_journal.specs.Journal.{Recorded}
@@ -22,16 +23,27 @@ abbrev pub next_theory : Theory → Making → Theorem → Theory
 next_theory theory (Define name body) theorem = theorem.theory
 next_theory theory (Derive derivation) theorem = theory
 
+-- a theory, and the theorems that were made so far
+pub record Made : Type 0 where
+  pub theory : Theory
+  pub theorems : List Theorem
+
 -- the earlier theorems, and those of the list
-abbrev pub all_made : Theory → List Theorem → List Making → Result (List Theorem) Fault
-all_made theory earlier [] = Ok earlier
+abbrev pub all_made : Theory → List Theorem → List Making → Result Made Fault
+all_made theory earlier [] = Ok (record { theory = theory; theorems = earlier })
 all_made theory earlier (making ∷ makings) =
     followed (made_outcome theory earlier making) (λ theorem. all_made (next_theory theory making theorem) (earlier ++ theorem ∷ []) makings)
 
-abbrev pub theorems_in : Result (Vec Recorded Global) Fault → Result (List Theorem) Fault
-theorems_in (Ok all) = Ok (theorems all.items)
-theorems_in (Err fault) = Err fault
+-- the theory after a call, and what it answers
+abbrev pub made_in : Theory → Result (Vec Recorded Global) Fault → Result Made Fault
+made_in theory (Ok all) = Ok (record { theory = theory; theorems = theorems all.items })
+made_in theory (Err fault) = Err fault
 
--- what a call answers that makes the list, from no theorems
-pub record MakesAll (theory : Theory) (makings : List Making) (result : Result (Vec Recorded Global) Fault) : Type 0 where
-  pub answers : Answers (theorems_in result) (all_made theory [] makings)
+-- what a call answers that makes the list over a theory, behind earlier theorems
+pub record MakesAll (old : Theory) (earlier : List Theorem) (makings : List Making) (new : Theory) (result : Result (Vec Recorded Global) Fault) : Type 0 where
+  pub answers : Answers (made_in new result) (all_made old earlier makings)
+
+-- the recorder has the logical definitions, and these are the theorems
+pub record HasMade (theory : Theory) (all : List Recorded) (wanted : List Theorem) : Type 0 where
+  pub defined : theory ≡ logical_definitions
+  pub theorems_are : theorems all ≡ wanted

@@ -18,10 +18,12 @@ followed (Err fault) next = Err fault
 abbrev pub type_outcome : TypeSketch → Result HolType Fault
 type_outcome (types.Variable name) = type_variable_outcome name.now
 type_outcome types.Bool = Ok bool_type
+type_outcome types.Binary = followed (function_type_outcome bool_type bool_type) (λ unary. function_type_outcome bool_type unary)
 type_outcome (types.Function' p domain q codomain) =
     followed (type_outcome domain) (λ domain. followed (type_outcome codomain) (λ codomain. function_type_outcome domain codomain))
 
 abbrev pub term_outcome : TermSketch → Result NamedTerm Fault
+term_outcome (terms.Formula name) = variable_outcome name.now bool_type
 term_outcome (terms.Variable name ty) = followed (type_outcome ty.now) (λ ty. variable_outcome name.now ty)
 term_outcome (terms.Constant name ty) = followed (type_outcome ty.now) (λ ty. constant_outcome name.now ty)
 term_outcome (terms.Combination' p function q argument) =

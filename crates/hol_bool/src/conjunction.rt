@@ -33,17 +33,17 @@ pub(crate) const AND_UNFOLDED: Derivation<'static> = Derivation::Pair(
 // p, q |- p /\ q
 const P_AND_Q_IS: Derivation<'static> = Derivation::Earlier(11);
 
-const P_TRUE: Derivation<'static> = Derivation::Earlier(9);
+pub(crate) const P_TRUE: Derivation<'static> = Derivation::Earlier(9);
 
 const ASSUME_Q: Derivation<'static> = Derivation::Term(TermRule::Assume, &Q);
 
-const Q_TRUE: Derivation<'static> = Derivation::Pair(
+pub(crate) const Q_TRUE: Derivation<'static> = Derivation::Pair(
     PairRule::DeductAntisym,
     &ASSUME_Q,
     &EARLIER_TRUTH,
 );
 
-const REFL_TEST: Derivation<'static> = Derivation::Term(TermRule::Refl, &TEST);
+pub(crate) const REFL_TEST: Derivation<'static> = Derivation::Term(TermRule::Refl, &TEST);
 
 const TEST_P_TRUE: Derivation<'static> = Derivation::Pair(PairRule::MkComb, &REFL_TEST, &P_TRUE);
 
@@ -57,7 +57,7 @@ const TESTS_TRUE: Derivation<'static> = Derivation::Abs(&TEST, &TEST_P_Q_TRUE);
 
 pub(crate) const REFL_P_AND_Q: Derivation<'static> = Derivation::Term(TermRule::Refl, &P_AND_Q);
 
-const P_AND_Q_IS_EQUATES: Derivation<'static> = Derivation::Pair(
+pub(crate) const P_AND_Q_IS_EQUATES: Derivation<'static> = Derivation::Pair(
     PairRule::MkComb,
     &REFL_EQ_BOOL,
     &P_AND_Q_IS,
@@ -97,7 +97,7 @@ const BETA_TESTED_TRUE: Derivation<'static> = Derivation::Term(TermRule::Beta, &
 // p /\ q |- p: with \p q. p for f
 const FIRST_P: TermSketch<'static> = TermSketch::Abstraction(&Q, &P);
 
-const FIRST: TermSketch<'static> = TermSketch::Abstraction(&P, &FIRST_P);
+pub(crate) const FIRST: TermSketch<'static> = TermSketch::Abstraction(&P, &FIRST_P);
 
 const AT_FIRST: TermSketch<'static> = TermSketch::Combination(&TESTED, &FIRST);
 
@@ -132,13 +132,13 @@ const FIRST_IS: Derivation<'static> = Derivation::Pair(
     &BETA_FIRST_P_Q,
 );
 
-const FIRST_TESTED: Derivation<'static> = Derivation::Pair(
+pub(crate) const FIRST_TESTED: Derivation<'static> = Derivation::Pair(
     PairRule::Trans,
     &BETA_AT_FIRST,
     &FIRST_IS,
 );
 
-const TRUE_AT_FIRST: TermSketch<'static> = TermSketch::Combination(&TESTED_TRUE, &FIRST);
+pub(crate) const TRUE_AT_FIRST: TermSketch<'static> = TermSketch::Combination(&TESTED_TRUE, &FIRST);
 
 const FIRST_AT_T: TermSketch<'static> = TermSketch::Combination(&FIRST, &T);
 
@@ -163,7 +163,7 @@ const FIRST_IS_AT_T: Derivation<'static> = Derivation::Inst(&T, &P, &FIRST_IS, &
 
 const FIRST_IS_AT_T_T: Derivation<'static> = Derivation::Inst(&T, &Q, &FIRST_IS_AT_T, &FIRST_T_T);
 
-const FIRST_TRUE: Derivation<'static> = Derivation::Pair(
+pub(crate) const FIRST_TRUE: Derivation<'static> = Derivation::Pair(
     PairRule::Trans,
     &BETA_TRUE_AT_FIRST,
     &FIRST_IS_AT_T_T,
@@ -197,7 +197,7 @@ const FIRST_HOLDS: Derivation<'static> = Derivation::Pair(
     &EARLIER_TRUTH,
 );
 
-const REFL_FIRST: Derivation<'static> = Derivation::Term(TermRule::Refl, &FIRST);
+pub(crate) const REFL_FIRST: Derivation<'static> = Derivation::Term(TermRule::Refl, &FIRST);
 
 const AGREE_AT_FIRST: Derivation<'static> = Derivation::Pair(PairRule::MkComb, &AGREE, &REFL_FIRST);
 
@@ -234,7 +234,7 @@ pub(crate) const CONJUNCT1: Derivation<'static> = Derivation::Pair(
 // p /\ q |- q: with \p q. q for f
 const SECOND_P: TermSketch<'static> = TermSketch::Abstraction(&Q, &Q);
 
-const SECOND: TermSketch<'static> = TermSketch::Abstraction(&P, &SECOND_P);
+pub(crate) const SECOND: TermSketch<'static> = TermSketch::Abstraction(&P, &SECOND_P);
 
 const AT_SECOND: TermSketch<'static> = TermSketch::Combination(&TESTED, &SECOND);
 
@@ -269,13 +269,16 @@ const SECOND_IS: Derivation<'static> = Derivation::Pair(
     &BETA_SECOND_P_Q,
 );
 
-const SECOND_TESTED: Derivation<'static> = Derivation::Pair(
+pub(crate) const SECOND_TESTED: Derivation<'static> = Derivation::Pair(
     PairRule::Trans,
     &BETA_AT_SECOND,
     &SECOND_IS,
 );
 
-const TRUE_AT_SECOND: TermSketch<'static> = TermSketch::Combination(&TESTED_TRUE, &SECOND);
+pub(crate) const TRUE_AT_SECOND: TermSketch<'static> = TermSketch::Combination(
+    &TESTED_TRUE,
+    &SECOND,
+);
 
 const SECOND_AT_T: TermSketch<'static> = TermSketch::Combination(&SECOND, &T);
 
@@ -308,7 +311,7 @@ const SECOND_IS_AT_T_T: Derivation<'static> = Derivation::Inst(
     &SECOND_T_T,
 );
 
-const SECOND_TRUE: Derivation<'static> = Derivation::Pair(
+pub(crate) const SECOND_TRUE: Derivation<'static> = Derivation::Pair(
     PairRule::Trans,
     &BETA_TRUE_AT_SECOND,
     &SECOND_IS_AT_T_T,
@@ -342,7 +345,7 @@ const SECOND_HOLDS: Derivation<'static> = Derivation::Pair(
     &EARLIER_TRUTH,
 );
 
-const REFL_SECOND: Derivation<'static> = Derivation::Term(TermRule::Refl, &SECOND);
+pub(crate) const REFL_SECOND: Derivation<'static> = Derivation::Term(TermRule::Refl, &SECOND);
 
 const AGREE_AT_SECOND: Derivation<'static> = Derivation::Pair(
     PairRule::MkComb,

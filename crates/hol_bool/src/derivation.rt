@@ -5,7 +5,7 @@ ghost use Rattle.hol_model.specs.Outcome.{Answers, given};
 ghost use Rattle.hol_model.specs.Rules.{refl_outcome, eq_mp_outcome, abs_outcome};
 ghost use Rattle.hol_journal.specs.Journal.{IsMade, theorem_in};
 ghost use Rattle.hol_bool.specs.Sketches.{followed, term_outcome};
-ghost use Rattle.hol_bool.specs.Derivations.{term_rule_outcome, pair_rule_outcome, inst_of, inst_type_of, derived_outcome, theorems, GoesOn, AreMade};
+ghost use Rattle.hol_bool.specs.Derivations.{axiom_theorem, term_rule_outcome, pair_rule_outcome, inst_of, inst_type_of, derived_outcome, theorems, GoesOn, AreMade};
 
 use crate::sketch::{TermSketch, TypeSketch, term_of, type_of};
 use hol_journal::{Rec, Recorder};
@@ -13,11 +13,19 @@ use hol_model::{Fault, PairRule, TermRule};
 use hol_terms::Term;
 use std::alloc::Global;
 
+/// An axiom of the kernel.
+#[derive(Clone, Copy)]
+pub(crate) enum Axiom {
+    Eta,
+    Select,
+}
+
 /// A derivation from earlier theorems.
 #[derive(Clone, Copy)]
 pub(crate) enum Derivation<'a> {
     /// The earlier theorem of this number.
     Earlier(usize),
+    Axiom(Axiom),
     Term(TermRule, &'a TermSketch<'a>),
     Pair(PairRule, &'a Derivation<'a>, &'a Derivation<'a>),
     /// ABS: the variable, and the theorem.
@@ -43,6 +51,7 @@ pub(crate) fn derive(
 {
     match derivation {
         Derivation::Earlier(number) => earlier_theorem(recorder, alloc, earlier, *number),
+        Derivation::Axiom(rule) => by_axiom(recorder, alloc, *rule),
         Derivation::Term(rule, term) => by_term(recorder, alloc, *rule, term),
         Derivation::Pair(rule, first, second) => {
             let first = derive(recorder, alloc, earlier, first)?;
@@ -78,6 +87,17 @@ fn earlier_theorem(
     match earlier.get(number) {
         Some(theorem) => theorem.copy(alloc),
         None => Err(Fault::BadShape),
+    }
+}
+
+// ETA or SELECT.
+fn by_axiom(recorder: &mut Recorder, alloc: Global, rule: Axiom) -> Result<Rec, Fault>
+    ensures outcome { Answers (theorem_in result) (Ok (axiom_theorem rule recorder.old.theory)) }
+    ensures goes_on { GoesOn recorder.old recorder.new result }
+{
+    match rule {
+        Axiom::Eta => recorder.eta(alloc),
+        Axiom::Select => recorder.select(alloc),
     }
 }
 

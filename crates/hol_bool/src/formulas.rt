@@ -7,19 +7,19 @@ pub(crate) const A: TypeSketch<'static> = TypeSketch::Variable("A");
 
 pub(crate) const UNARY: TypeSketch<'static> = TypeSketch::Function(&BOOL, &BOOL);
 
-pub(crate) const BINARY: TypeSketch<'static> = TypeSketch::Function(&BOOL, &UNARY);
+pub(crate) const BINARY: TypeSketch<'static> = TypeSketch::Binary;
 
-const PREDICATE: TypeSketch<'static> = TypeSketch::Function(&A, &BOOL);
+pub(crate) const PREDICATE: TypeSketch<'static> = TypeSketch::Function(&A, &BOOL);
 
-const QUANTIFIER: TypeSketch<'static> = TypeSketch::Function(&PREDICATE, &BOOL);
+pub(crate) const QUANTIFIER: TypeSketch<'static> = TypeSketch::Function(&PREDICATE, &BOOL);
 
 const BOOL_QUANTIFIER: TypeSketch<'static> = TypeSketch::Function(&UNARY, &BOOL);
 
-pub(crate) const P: TermSketch<'static> = TermSketch::Variable("p", &BOOL);
+pub(crate) const P: TermSketch<'static> = TermSketch::Formula("p");
 
-pub(crate) const Q: TermSketch<'static> = TermSketch::Variable("q", &BOOL);
+pub(crate) const Q: TermSketch<'static> = TermSketch::Formula("q");
 
-const R: TermSketch<'static> = TermSketch::Variable("r", &BOOL);
+pub(crate) const R: TermSketch<'static> = TermSketch::Formula("r");
 
 pub(crate) const X: TermSketch<'static> = TermSketch::Variable("x", &A);
 
@@ -33,7 +33,7 @@ pub(crate) const F: TermSketch<'static> = TermSketch::Constant("F", &BOOL);
 
 const AND: TermSketch<'static> = TermSketch::Constant("/\\", &BINARY);
 
-const IMP: TermSketch<'static> = TermSketch::Constant("==>", &BINARY);
+pub(crate) const IMP: TermSketch<'static> = TermSketch::Constant("==>", &BINARY);
 
 pub(crate) const NOT: TermSketch<'static> = TermSketch::Constant("~", &UNARY);
 
@@ -49,13 +49,13 @@ pub(crate) const TRUE_BODY: TermSketch<'static> = TermSketch::Equation(&IDENTITY
 // \p q. (\f. f p q) = (\f. f T T)
 pub(crate) const TEST: TermSketch<'static> = TermSketch::Variable("f", &BINARY);
 
-const TEST_P: TermSketch<'static> = TermSketch::Combination(&TEST, &P);
+pub(crate) const TEST_P: TermSketch<'static> = TermSketch::Combination(&TEST, &P);
 
 const TEST_P_Q: TermSketch<'static> = TermSketch::Combination(&TEST_P, &Q);
 
 pub(crate) const TESTED: TermSketch<'static> = TermSketch::Abstraction(&TEST, &TEST_P_Q);
 
-const TEST_T: TermSketch<'static> = TermSketch::Combination(&TEST, &T);
+pub(crate) const TEST_T: TermSketch<'static> = TermSketch::Combination(&TEST, &T);
 
 const TEST_T_T: TermSketch<'static> = TermSketch::Combination(&TEST_T, &T);
 
@@ -86,46 +86,58 @@ pub(crate) const IS_ALWAYS: TermSketch<'static> = TermSketch::Equation(&PRED, &A
 pub(crate) const FORALL_BODY: TermSketch<'static> = TermSketch::Abstraction(&PRED, &IS_ALWAYS);
 
 // \P. !q. (!x. P x ==> q) ==> q
-const PRED_X_IMP: TermSketch<'static> = TermSketch::Combination(&IMP, &PRED_X);
+pub(crate) const PRED_X_IMP: TermSketch<'static> = TermSketch::Combination(&IMP, &PRED_X);
 
 const PRED_X_IMP_Q: TermSketch<'static> = TermSketch::Combination(&PRED_X_IMP, &Q);
 
-const X_PRED_X_IMP_Q: TermSketch<'static> = TermSketch::Abstraction(&X, &PRED_X_IMP_Q);
+pub(crate) const X_PRED_X_IMP_Q: TermSketch<'static> = TermSketch::Abstraction(&X, &PRED_X_IMP_Q);
 
-const EACH_IMP_Q: TermSketch<'static> = TermSketch::Combination(&FORALL, &X_PRED_X_IMP_Q);
+pub(crate) const EACH_IMP_Q: TermSketch<'static> = TermSketch::Combination(
+    &FORALL,
+    &X_PRED_X_IMP_Q,
+);
 
-const EACH_IMP_Q_IMP: TermSketch<'static> = TermSketch::Combination(&IMP, &EACH_IMP_Q);
+pub(crate) const EACH_IMP_Q_IMP: TermSketch<'static> = TermSketch::Combination(&IMP, &EACH_IMP_Q);
 
-const EACH_IMP_Q_IMP_Q: TermSketch<'static> = TermSketch::Combination(&EACH_IMP_Q_IMP, &Q);
+pub(crate) const EACH_IMP_Q_IMP_Q: TermSketch<'static> = TermSketch::Combination(
+    &EACH_IMP_Q_IMP,
+    &Q,
+);
 
-const Q_EACH: TermSketch<'static> = TermSketch::Abstraction(&Q, &EACH_IMP_Q_IMP_Q);
+pub(crate) const Q_EACH: TermSketch<'static> = TermSketch::Abstraction(&Q, &EACH_IMP_Q_IMP_Q);
 
-const FORALL_Q_EACH: TermSketch<'static> = TermSketch::Combination(&FORALL_BOOL, &Q_EACH);
+pub(crate) const FORALL_Q_EACH: TermSketch<'static> = TermSketch::Combination(
+    &FORALL_BOOL,
+    &Q_EACH,
+);
 
 pub(crate) const EXISTS_BODY: TermSketch<'static> = TermSketch::Abstraction(&PRED, &FORALL_Q_EACH);
 
 // \p q. !r. (p ==> r) ==> (q ==> r) ==> r
 pub(crate) const P_IMP: TermSketch<'static> = TermSketch::Combination(&IMP, &P);
 
-const P_IMP_R: TermSketch<'static> = TermSketch::Combination(&P_IMP, &R);
+pub(crate) const P_IMP_R: TermSketch<'static> = TermSketch::Combination(&P_IMP, &R);
 
 const Q_IMP: TermSketch<'static> = TermSketch::Combination(&IMP, &Q);
 
-const Q_IMP_R: TermSketch<'static> = TermSketch::Combination(&Q_IMP, &R);
+pub(crate) const Q_IMP_R: TermSketch<'static> = TermSketch::Combination(&Q_IMP, &R);
 
-const Q_CASE: TermSketch<'static> = TermSketch::Combination(&IMP, &Q_IMP_R);
+pub(crate) const Q_CASE: TermSketch<'static> = TermSketch::Combination(&IMP, &Q_IMP_R);
 
-const Q_CASE_R: TermSketch<'static> = TermSketch::Combination(&Q_CASE, &R);
+pub(crate) const Q_CASE_R: TermSketch<'static> = TermSketch::Combination(&Q_CASE, &R);
 
-const P_CASE: TermSketch<'static> = TermSketch::Combination(&IMP, &P_IMP_R);
+pub(crate) const P_CASE: TermSketch<'static> = TermSketch::Combination(&IMP, &P_IMP_R);
 
-const BOTH_CASES: TermSketch<'static> = TermSketch::Combination(&P_CASE, &Q_CASE_R);
+pub(crate) const BOTH_CASES: TermSketch<'static> = TermSketch::Combination(&P_CASE, &Q_CASE_R);
 
-const R_BOTH_CASES: TermSketch<'static> = TermSketch::Abstraction(&R, &BOTH_CASES);
+pub(crate) const R_BOTH_CASES: TermSketch<'static> = TermSketch::Abstraction(&R, &BOTH_CASES);
 
-const FORALL_R_CASES: TermSketch<'static> = TermSketch::Combination(&FORALL_BOOL, &R_BOTH_CASES);
+pub(crate) const FORALL_R_CASES: TermSketch<'static> = TermSketch::Combination(
+    &FORALL_BOOL,
+    &R_BOTH_CASES,
+);
 
-const OR_P: TermSketch<'static> = TermSketch::Abstraction(&Q, &FORALL_R_CASES);
+pub(crate) const OR_P: TermSketch<'static> = TermSketch::Abstraction(&Q, &FORALL_R_CASES);
 
 pub(crate) const OR_BODY: TermSketch<'static> = TermSketch::Abstraction(&P, &OR_P);
 

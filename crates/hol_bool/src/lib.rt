@@ -2,23 +2,36 @@
 //! theorem is made by a recorder's calls.
 #![tactic(auto)]
 
+mod choice;
 mod conjunction;
+mod conjunction_rules;
 mod derivation;
+mod disjunction;
 mod equality;
+mod existence;
+mod formula_terms;
 mod formulas;
+mod implication_rules;
+mod laws;
 mod lemma;
 mod logic;
 mod making;
+mod negation_rules;
+mod prelude_rules;
 mod sketch;
+mod stages;
 mod steps;
 mod stored;
 mod truth;
 mod truth_rules;
 
+pub use conjunction_rules::{conj, conjunct1, conjunct2};
 pub use equality::{add_assum, beta_conv, named, prove_hyp, sym};
+pub use implication_rules::{disch, mp, undisch};
 pub use lemma::{by_lemma, instance};
-pub use stored::{Bool, prelude};
-pub use truth_rules::eqt_intro;
+pub use negation_rules::{contr, not_elim, not_intro};
+pub use stored::{Bool, logic_stays, prelude, theorem_of};
+pub use truth_rules::{eqt_elim, eqt_intro};
 
 #[cfg(test)]
 mod prelude_tests;

@@ -1,10 +1,16 @@
 // The definitions of the logical constants (HOL Light's `bool.ml`), and derivations from them, as data.
+use crate::choice::{CHOOSES, ETA_AX, SELECT_AX};
 use crate::conjunction::{AND_UNFOLDED, CONJ, CONJUNCT1, CONJUNCT2, REFL_P_AND_Q, REFL_Q};
 use crate::derivation::Derivation;
+use crate::disjunction::{DISJ_CASES, DISJ_P, DISJ_Q, OR_UNFOLDED, SYM_P_OR_Q_IS};
+use crate::existence::{CHOOSE, EXISTS_RULE, EXISTS_UNFOLDED};
 use crate::formulas::{
     A, ALWAYS, AND_BODY, BOOL, EXISTS_BODY, F, FALSE_BODY, FORALL, FORALL_BODY, FORALL_BOOL,
     IDENTITY, IMP_BODY, IMP_P, IS_ALWAYS, NOT, NOT_BODY, OR_BODY, P, P_ABSORBS_Q, P_IMP, P_IMP_F,
     PRED, PRED_X, Q, T, TRUE_BODY, UNARY, X,
+};
+use crate::laws::{
+    EACH_HOLDS_AT_X, FIRST_IS_U, IMP_TRUE_EQUATION, T_IMP_Q_IS_Q, TESTS_DISCHARGE, TRUE_EQUATION,
 };
 use crate::making::Making;
 use crate::sketch::TermSketch;
@@ -35,11 +41,11 @@ const IMP_UNFOLDED: Derivation<'static> = Derivation::Pair(
 );
 
 // p /\ q <=> p |- p ==> q
-const P_IMP_Q_IS: Derivation<'static> = Derivation::Earlier(15);
+pub(crate) const P_IMP_Q_IS: Derivation<'static> = Derivation::Earlier(15);
 
 const P_IMP_Q: TermSketch<'static> = TermSketch::Combination(&P_IMP, &Q);
 
-const REFL_P_IMP_Q: Derivation<'static> = Derivation::Term(TermRule::Refl, &P_IMP_Q);
+pub(crate) const REFL_P_IMP_Q: Derivation<'static> = Derivation::Term(TermRule::Refl, &P_IMP_Q);
 
 const P_IMP_Q_IS_EQUATES: Derivation<'static> = Derivation::Pair(
     PairRule::MkComb,
@@ -102,10 +108,36 @@ const BOTH_IS_Q: Derivation<'static> = Derivation::Pair(
 
 const MP: Derivation<'static> = Derivation::Pair(PairRule::EqMp, &BOTH_IS_Q, &BOTH);
 
+// p |- q <=> p /\ q
+const BOTH_FROM_PARTS: Derivation<'static> = Derivation::Earlier(12);
+
+const CONJ_EQUATION: Derivation<'static> = Derivation::Pair(
+    PairRule::DeductAntisym,
+    &P_AND_Q_SECOND,
+    &BOTH_FROM_PARTS,
+);
+
+// p |- p ==> q <=> q
+const BOTH_IS_P: Derivation<'static> = Derivation::Pair(
+    PairRule::DeductAntisym,
+    &BOTH_FROM_PARTS,
+    &ASSUME_P,
+);
+
+const FOLLOWS: Derivation<'static> = Derivation::Pair(PairRule::EqMp, &SYM_P_IMP_Q_IS, &BOTH_IS_P);
+
+const Q_FROM_P: Derivation<'static> = Derivation::Earlier(17);
+
+const MP_EQUATION: Derivation<'static> = Derivation::Pair(
+    PairRule::DeductAntisym,
+    &FOLLOWS,
+    &Q_FROM_P,
+);
+
 // |- (!) P <=> P = (\x. T): FORALL_DEF at P
 const FORALL_DEF: Derivation<'static> = Derivation::Earlier(3);
 
-const REFL_PRED: Derivation<'static> = Derivation::Term(TermRule::Refl, &PRED);
+pub(crate) const REFL_PRED: Derivation<'static> = Derivation::Term(TermRule::Refl, &PRED);
 
 const FORALL_BODY_PRED: TermSketch<'static> = TermSketch::Combination(&FORALL_BODY, &PRED);
 
@@ -124,7 +156,7 @@ const FORALL_UNFOLDED: Derivation<'static> = Derivation::Pair(
 );
 
 // P = (\x. T) |- (!) P
-const FORALL_PRED_IS: Derivation<'static> = Derivation::Earlier(18);
+pub(crate) const FORALL_PRED_IS: Derivation<'static> = Derivation::Earlier(18);
 
 const FORALL_PRED: TermSketch<'static> = TermSketch::Combination(&FORALL, &PRED);
 
@@ -165,13 +197,13 @@ const PRED_ALWAYS: Derivation<'static> = Derivation::Pair(
     &ASSUME_FORALL,
 );
 
-const REFL_X: Derivation<'static> = Derivation::Term(TermRule::Refl, &X);
+pub(crate) const REFL_X: Derivation<'static> = Derivation::Term(TermRule::Refl, &X);
 
 const PRED_AT_X: Derivation<'static> = Derivation::Pair(PairRule::MkComb, &PRED_ALWAYS, &REFL_X);
 
-const ALWAYS_X: TermSketch<'static> = TermSketch::Combination(&ALWAYS, &X);
+pub(crate) const ALWAYS_X: TermSketch<'static> = TermSketch::Combination(&ALWAYS, &X);
 
-const BETA_ALWAYS: Derivation<'static> = Derivation::Term(TermRule::Beta, &ALWAYS_X);
+pub(crate) const BETA_ALWAYS: Derivation<'static> = Derivation::Term(TermRule::Beta, &ALWAYS_X);
 
 const PRED_X_TRUE: Derivation<'static> = Derivation::Pair(
     PairRule::Trans,
@@ -179,7 +211,7 @@ const PRED_X_TRUE: Derivation<'static> = Derivation::Pair(
     &BETA_ALWAYS,
 );
 
-const REFL_PRED_X: Derivation<'static> = Derivation::Term(TermRule::Refl, &PRED_X);
+pub(crate) const REFL_PRED_X: Derivation<'static> = Derivation::Term(TermRule::Refl, &PRED_X);
 
 const PRED_X_TRUE_EQUATES: Derivation<'static> = Derivation::Pair(
     PairRule::MkComb,
@@ -257,22 +289,28 @@ const NOT_ELIM: Derivation<'static> = Derivation::Pair(PairRule::EqMp, &NOT_P_IS
 // F |- p: F_DEF, and FORALL_DEF for formulas
 const F_DEF: Derivation<'static> = Derivation::Earlier(6);
 
-const FORMULA_PRED: TermSketch<'static> = TermSketch::Variable("P", &UNARY);
+pub(crate) const FORMULA_PRED: TermSketch<'static> = TermSketch::Variable("P", &UNARY);
 
-const FORMULA: TermSketch<'static> = TermSketch::Variable("x", &BOOL);
+pub(crate) const FORMULA: TermSketch<'static> = TermSketch::Formula("x");
 
-const FORMULA_ALWAYS: TermSketch<'static> = TermSketch::Abstraction(&FORMULA, &T);
+pub(crate) const FORMULA_ALWAYS: TermSketch<'static> = TermSketch::Abstraction(&FORMULA, &T);
 
-const FORMULA_IS_ALWAYS: TermSketch<'static> = TermSketch::Equation(&FORMULA_PRED, &FORMULA_ALWAYS);
+pub(crate) const FORMULA_IS_ALWAYS: TermSketch<'static> = TermSketch::Equation(
+    &FORMULA_PRED,
+    &FORMULA_ALWAYS,
+);
 
-const FORALL_FORMULA: TermSketch<'static> = TermSketch::Combination(&FORALL_BOOL, &FORMULA_PRED);
+pub(crate) const FORALL_FORMULA: TermSketch<'static> = TermSketch::Combination(
+    &FORALL_BOOL,
+    &FORMULA_PRED,
+);
 
 const FORALL_FORMULA_MEANS: TermSketch<'static> = TermSketch::Equation(
     &FORALL_FORMULA,
     &FORMULA_IS_ALWAYS,
 );
 
-const FORALL_FORMULA_IS: Derivation<'static> = Derivation::InstType(
+pub(crate) const FORALL_FORMULA_IS: Derivation<'static> = Derivation::InstType(
     &BOOL,
     &A,
     &FORALL_PRED_IS,
@@ -374,9 +412,15 @@ const CONTR: Derivation<'static> = Derivation::Pair(
     &IDENTITY_HOLDS,
 );
 
+/// The number of the first law of the table. Laws are cited by later derivations alone.
+pub(crate) const FIRST_LAW: usize = 27;
+
+/// The number of the first theorem behind the laws.
+pub(crate) const BEHIND_LAWS: usize = 38;
+
 /// The definitions T_DEF, AND_DEF, IMP_DEF, FORALL_DEF, EXISTS_DEF, OR_DEF, F_DEF and NOT_DEF, then TRUTH, and the
 /// theorems from which rules are made.
-pub(crate) const PRELUDE: [Making<'static>; 25] = [
+pub(crate) const FIRST_THEOREMS: [Making<'static>; 27] = [
     Making::Define("T", &TRUE_BODY),
     Making::Define("/\\", &AND_BODY),
     Making::Define("==>", &IMP_BODY),
@@ -402,4 +446,40 @@ pub(crate) const PRELUDE: [Making<'static>; 25] = [
     Making::Derive(&NOT_INTRO),
     Making::Derive(&NOT_ELIM),
     Making::Derive(&CONTR),
+    Making::Derive(&CONJ_EQUATION),
+    Making::Derive(&MP_EQUATION),
+];
+
+/// Laws of `T`, `==>`, `!`, `\/`, `?` and `@`.
+pub(crate) const LAWS: [Making<'static>; 11] = [
+    Making::Derive(&TRUE_EQUATION),
+    Making::Derive(&TESTS_DISCHARGE),
+    Making::Derive(&FIRST_IS_U),
+    Making::Derive(&T_IMP_Q_IS_Q),
+    Making::Derive(&IMP_TRUE_EQUATION),
+    Making::Derive(&SYM_FORALL_PRED_IS),
+    Making::Derive(&EACH_HOLDS_AT_X),
+    Making::Derive(&OR_UNFOLDED),
+    Making::Derive(&SYM_P_OR_Q_IS),
+    Making::Derive(&EXISTS_UNFOLDED),
+    Making::Derive(&CHOOSES),
+];
+
+/// DISJ1.
+pub(crate) const DISJUNCTION: [Making<'static>; 1] = [Making::Derive(&DISJ_P)];
+
+/// DISJ2 and DISJ_CASES.
+pub(crate) const CASES: [Making<'static>; 2] = [
+    Making::Derive(&DISJ_Q),
+    Making::Derive(&DISJ_CASES),
+];
+
+/// EXISTS.
+pub(crate) const EXISTENCE: [Making<'static>; 1] = [Making::Derive(&EXISTS_RULE)];
+
+/// CHOOSE, ETA_AX and SELECT_AX.
+pub(crate) const AXIOMS: [Making<'static>; 3] = [
+    Making::Derive(&CHOOSE),
+    Making::Derive(&ETA_AX),
+    Making::Derive(&SELECT_AX),
 ];

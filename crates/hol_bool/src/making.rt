@@ -1,10 +1,10 @@
 // Lists of definitions and derivations, made one after another.
-ghost use Rattle.std.specs.Prelude.{◌≡◌, IfOk, [], ◌∷◌, map};
+ghost use Rattle.std.specs.Prelude.{◌≡◌, IfOk, []};
 ghost use Rattle.hol_model.specs.Outcome.{Answers};
 ghost use Rattle.hol_journal.specs.Journal.{IsMade, theorem_in};
 ghost use Rattle.hol_journal.specs.Growth.{IsGrown};
 ghost use Rattle.hol_bool.specs.Derivations.{theorems, AreMade};
-ghost use Rattle.hol_bool.specs.Makings.{made_outcome, next_theory, all_made, theorems_in, MakesAll};
+ghost use Rattle.hol_bool.specs.Makings.{made_outcome, next_theory, all_made, made_in, MakesAll};
 
 use crate::derivation::{Derivation, derive};
 use crate::sketch::{TermSketch, term_of};
@@ -49,7 +49,7 @@ fn make_all(
     makings: &[Making<'_>],
 ) -> Result<Vec<Rec>, Fault>
     requires { AreMade recorder.old earlier.items }
-    ensures outcome { Answers (theorems_in result) (all_made recorder.old.theory (theorems earlier.items) makings.now) }
+    ensures outcome { Answers (made_in recorder.new.theory result) (all_made recorder.old.theory (theorems earlier.items) makings.now) }
     ensures made { IfOk result (λ all. AreMade recorder.new all.items) }
     ensures grown { IsGrown recorder.old recorder.new }
 {
@@ -61,15 +61,30 @@ fn make_all(
     make_all(recorder, alloc, earlier, rest)
 }
 
-/// The theorems of the list, from none.
+/// The earlier theorems, and those of a table.
 pub(crate) fn make_table(
+    recorder: &mut Recorder,
+    alloc: Global,
+    earlier: Vec<Rec>,
+    makings: &[Making<'_>],
+) -> Result<Vec<Rec>, Fault>
+    requires { AreMade recorder.old earlier.items }
+    ensures outcome { MakesAll recorder.old.theory (theorems earlier.items) makings.now recorder.new.theory result }
+    ensures made { IfOk result (λ all. AreMade recorder.new all.items) }
+    ensures grown { IsGrown recorder.old recorder.new }
+{
+    make_all(recorder, alloc, earlier, makings)
+}
+
+/// The theorems of a table, from none.
+pub(crate) fn make_first(
     recorder: &mut Recorder,
     alloc: Global,
     makings: &[Making<'_>],
 ) -> Result<Vec<Rec>, Fault>
-    ensures outcome { MakesAll recorder.old.theory makings.now result }
+    ensures outcome { MakesAll recorder.old.theory [] makings.now recorder.new.theory result }
     ensures made { IfOk result (λ all. AreMade recorder.new all.items) }
     ensures grown { IsGrown recorder.old recorder.new }
 {
-    make_all(recorder, alloc, Vec::new(alloc), makings)
+    make_table(recorder, alloc, Vec::new(alloc), makings)
 }

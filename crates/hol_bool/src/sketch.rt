@@ -12,12 +12,16 @@ use std::alloc::Global;
 pub(crate) enum TypeSketch<'a> {
     Variable(&'a str),
     Bool,
+    /// The type of a connective, `bool -> bool -> bool`.
+    Binary,
     Function(&'a TypeSketch<'a>, &'a TypeSketch<'a>),
 }
 
 /// A term.
 #[derive(Clone, Copy)]
 pub(crate) enum TermSketch<'a> {
+    /// A variable of type `bool`.
+    Formula(&'a str),
     Variable(&'a str, &'a TypeSketch<'a>),
     Constant(&'a str, &'a TypeSketch<'a>),
     Combination(&'a TermSketch<'a>, &'a TermSketch<'a>),
@@ -33,6 +37,11 @@ pub(crate) fn type_of(alloc: Global, sketch: &TypeSketch<'_>) -> Result<Ty, Faul
     match sketch {
         TypeSketch::Variable(name) => Ty::tyvar(alloc, name),
         TypeSketch::Bool => Ty::boolean(alloc),
+        TypeSketch::Binary => {
+            let boolean = Ty::boolean(alloc)?;
+            let unary = Ty::fun(alloc, &boolean, &boolean)?;
+            Ty::fun(alloc, &boolean, &unary)
+        }
         TypeSketch::Function(domain, codomain) => {
             let domain = type_of(alloc, domain)?;
             let codomain = type_of(alloc, codomain)?;
@@ -46,6 +55,7 @@ pub(crate) fn term_of(alloc: Global, sketch: &TermSketch<'_>) -> Result<Term, Fa
     ensures outcome { Answers result (term_outcome sketch.now) }
 {
     match sketch {
+        TermSketch::Formula(name) => Term::mk_var(alloc, name, &Ty::boolean(alloc)?),
         TermSketch::Variable(name, ty) => Term::mk_var(alloc, name, &type_of(alloc, ty)?),
         TermSketch::Constant(name, ty) => Term::mk_const(alloc, name, &type_of(alloc, ty)?),
         TermSketch::Combination(function, argument) => {

@@ -1,10 +1,19 @@
-use Rattle.std.proofs.Common.{refl}
-use Rattle.hol_bool.specs.Prelude.{prelude_theorems}
-use Rattle.hol_bool.proofs.PreludeLemmas.{makes-ok, makes-err}
+use Rattle.std.proofs.Common.{◌++◌, refl, sym, ap, ◌∙◌, subst}
+use Rattle.hol_bool.specs.Derivations.{theorems, AreMade}
+use Rattle.hol_bool.specs.Laws.{without_laws}
+use Rattle.hol_bool.proofs.PreludeLemmas.{theorems-without_laws, made-without_laws}
 use Rattle.hol_bool.proofs.stored.prelude.Goals as goal
 
 pub returns-in-Ok-clause-ok : goal.returns-in-Ok-clause-ok
-returns-in-Ok-clause-ok c = makes-ok c.args.recorder.now.theory c.in-Ok.theorems prelude_theorems c.in-Ok.ensures.outcome c.requires.new refl
+returns-in-Ok-clause-ok c =
+    ap theorems c.without_laws.ensures ∙ theorems-without_laws c.in-Ok.all.items ∙ ap without_laws c.in-Ok.ensures.ok.theorems_are
 
-pub returns-in-Err-clause-err : goal.returns-in-Err-clause-err
-returns-in-Err-clause-err c = makes-err c.args.recorder.now.theory c.in-Err.fault prelude_theorems c.in-Err.ensures.outcome c.requires.new refl
+pub returns-in-Ok-clause-made : goal.returns-in-Ok-clause-made
+returns-in-Ok-clause-made c =
+    subst (AreMade c.with_axioms.new.recorder) (sym c.without_laws.ensures) (made-without_laws c.with_axioms.new.recorder c.in-Ok.all.items c.in-Ok.ensures.made)
+
+pub returns-in-Ok-clause-logic : goal.returns-in-Ok-clause-logic
+returns-in-Ok-clause-logic c = record {
+  theorems_are = returns-in-Ok-clause-ok c;
+  made = returns-in-Ok-clause-made c;
+}

@@ -1,0 +1,95 @@
+// The theorems of the prelude and the laws among them, table by table.
+ghost use Rattle.std.specs.Prelude.{◌≡◌, [], ◌++◌, IfOk, IfErr};
+ghost use Rattle.hol_model.specs.declared.fault.Fault.TheVariants.{Memory};
+ghost use Rattle.hol_journal.specs.Growth.{IsGrown};
+ghost use Rattle.hol_bool.specs.Derivations.{AreMade};
+ghost use Rattle.hol_bool.specs.Makings.{HasMade};
+ghost use Rattle.hol_bool.specs.Prelude.{first_theorems, disjunction_theorems, case_theorems, existence_theorems, axiom_theorems};
+ghost use Rattle.hol_bool.specs.Laws.{laws};
+
+use crate::logic::{AXIOMS, CASES, DISJUNCTION, EXISTENCE, FIRST_THEOREMS, LAWS};
+use crate::making::{make_first, make_table};
+use hol_journal::{Rec, Recorder};
+use hol_model::Fault;
+use std::alloc::Global;
+
+// The definitions, TRUTH and the theorems of the first connectives.
+fn first(recorder: &mut Recorder, alloc: Global) -> Result<Vec<Rec>, Fault>
+    requires new { recorder.old.theory ≡ [] }
+    ensures ok { IfOk result (λ all. HasMade recorder.new.theory all.items (first_theorems)) }
+    ensures made { IfOk result (λ all. AreMade recorder.new all.items) }
+    ensures err { IfErr result (λ fault. fault ≡ Memory) }
+    ensures grown { IsGrown recorder.old recorder.new }
+{
+    make_first(recorder, alloc, &FIRST_THEOREMS)
+}
+
+// The theorems, and the laws that the later tables cite.
+fn with_laws(recorder: &mut Recorder, alloc: Global) -> Result<Vec<Rec>, Fault>
+    requires new { recorder.old.theory ≡ [] }
+    ensures ok { IfOk result (λ all. HasMade recorder.new.theory all.items (first_theorems ++ laws)) }
+    ensures made { IfOk result (λ all. AreMade recorder.new all.items) }
+    ensures err { IfErr result (λ fault. fault ≡ Memory) }
+    ensures grown { IsGrown recorder.old recorder.new }
+{
+    match first(recorder, alloc) {
+        Ok(earlier) => make_table(recorder, alloc, earlier, &LAWS),
+        Err(fault) => Err(fault),
+    }
+}
+
+// The theorems, and DISJ1.
+fn with_disjunction(recorder: &mut Recorder, alloc: Global) -> Result<Vec<Rec>, Fault>
+    requires new { recorder.old.theory ≡ [] }
+    ensures ok { IfOk result (λ all. HasMade recorder.new.theory all.items (first_theorems ++ laws ++ disjunction_theorems)) }
+    ensures made { IfOk result (λ all. AreMade recorder.new all.items) }
+    ensures err { IfErr result (λ fault. fault ≡ Memory) }
+    ensures grown { IsGrown recorder.old recorder.new }
+{
+    match with_laws(recorder, alloc) {
+        Ok(earlier) => make_table(recorder, alloc, earlier, &DISJUNCTION),
+        Err(fault) => Err(fault),
+    }
+}
+
+// The theorems, and DISJ2 and DISJ_CASES.
+fn with_cases(recorder: &mut Recorder, alloc: Global) -> Result<Vec<Rec>, Fault>
+    requires new { recorder.old.theory ≡ [] }
+    ensures ok { IfOk result (λ all. HasMade recorder.new.theory all.items (first_theorems ++ laws ++ disjunction_theorems ++ case_theorems)) }
+    ensures made { IfOk result (λ all. AreMade recorder.new all.items) }
+    ensures err { IfErr result (λ fault. fault ≡ Memory) }
+    ensures grown { IsGrown recorder.old recorder.new }
+{
+    match with_disjunction(recorder, alloc) {
+        Ok(earlier) => make_table(recorder, alloc, earlier, &CASES),
+        Err(fault) => Err(fault),
+    }
+}
+
+// The theorems, and EXISTS.
+fn with_existence(recorder: &mut Recorder, alloc: Global) -> Result<Vec<Rec>, Fault>
+    requires new { recorder.old.theory ≡ [] }
+    ensures ok { IfOk result (λ all. HasMade recorder.new.theory all.items (first_theorems ++ laws ++ disjunction_theorems ++ case_theorems ++ existence_theorems)) }
+    ensures made { IfOk result (λ all. AreMade recorder.new all.items) }
+    ensures err { IfErr result (λ fault. fault ≡ Memory) }
+    ensures grown { IsGrown recorder.old recorder.new }
+{
+    match with_cases(recorder, alloc) {
+        Ok(earlier) => make_table(recorder, alloc, earlier, &EXISTENCE),
+        Err(fault) => Err(fault),
+    }
+}
+
+/// All theorems, the laws among them.
+pub(crate) fn with_axioms(recorder: &mut Recorder, alloc: Global) -> Result<Vec<Rec>, Fault>
+    requires new { recorder.old.theory ≡ [] }
+    ensures ok { IfOk result (λ all. HasMade recorder.new.theory all.items (first_theorems ++ laws ++ disjunction_theorems ++ case_theorems ++ existence_theorems ++ axiom_theorems)) }
+    ensures made { IfOk result (λ all. AreMade recorder.new all.items) }
+    ensures err { IfErr result (λ fault. fault ≡ Memory) }
+    ensures grown { IsGrown recorder.old recorder.new }
+{
+    match with_existence(recorder, alloc) {
+        Ok(earlier) => make_table(recorder, alloc, earlier, &AXIOMS),
+        Err(fault) => Err(fault),
+    }
+}
