@@ -1,4 +1,4 @@
-use Rattle.std.proofs.Common.{◌++◌, refl, sym, ap, ◌∙◌, subst}
+use Rattle.std.proofs.Common.{sym, ap, ◌∙◌, subst}
 use Rattle.hol_bool.specs.Derivations.{theorems, AreMade}
 use Rattle.hol_bool.specs.Laws.{without_laws}
 use Rattle.hol_bool.proofs.PreludeLemmas.{theorems-without_laws, made-without_laws}
