@@ -8,3 +8,4 @@ pub mod DerivationLemmas
 pub mod PreludeLemmas
 pub mod BetaLemmas
 pub mod TruthLemmas
+pub mod ConversionLemmas

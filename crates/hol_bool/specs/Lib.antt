@@ -4,3 +4,4 @@ pub mod Sketches
 pub mod Derivations
 pub mod Makings
 pub mod Prelude
+pub mod Conversions

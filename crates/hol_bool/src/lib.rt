@@ -3,6 +3,7 @@
 #![tactic(auto)]
 
 mod conjunction;
+mod conversion;
 mod derivation;
 mod equality;
 mod formulas;
@@ -15,8 +16,10 @@ mod stored;
 mod truth;
 mod truth_rules;
 
-pub use equality::{add_assum, beta_conv, named, prove_hyp, sym};
+pub use conversion::converted;
+pub use equality::{add_assum, beta_conv, is_legal, named, prove_hyp, sym};
 pub use lemma::{by_lemma, instance};
+pub use steps::{abs, eq_mp};
 pub use stored::{Bool, prelude};
 pub use truth_rules::eqt_intro;
 

@@ -1,0 +1,4 @@
+pub mod InstanceLemmas
+pub mod PartLemmas
+pub mod RoomLemmas
+pub mod SpecLemmas
