@@ -9,3 +9,4 @@ pub mod PreludeLemmas
 pub mod BetaLemmas
 pub mod TruthLemmas
 pub mod ConversionLemmas
+pub mod LogicLemmas

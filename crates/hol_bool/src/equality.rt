@@ -86,8 +86,8 @@ fn redex_parts(term: &Term) -> Option<Redex<'_>>
     }
 }
 
-/// A theory is legal. A theorem on it is made and let go: the clause is for callers' proofs.
-pub fn is_legal(recorder: &Recorder, alloc: Global) -> Result<(), Fault>
+// A theory is legal. A theorem on it is made and let go: the clause is for callers' proofs.
+pub(crate) fn is_legal(recorder: &Recorder, alloc: Global) -> Result<(), Fault>
     ensures legal { OnOk result (IsLegal recorder.now.theory) }
     ensures err { IfErr result (λ fault. fault ≡ Memory) }
 {

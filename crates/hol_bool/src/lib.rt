@@ -17,10 +17,10 @@ mod truth;
 mod truth_rules;
 
 pub use conversion::converted;
-pub use equality::{add_assum, beta_conv, is_legal, named, prove_hyp, sym};
+pub use equality::{add_assum, beta_conv, named, prove_hyp, sym};
 pub use lemma::{by_lemma, instance};
 pub use steps::{abs, eq_mp};
-pub use stored::{Bool, prelude};
+pub use stored::{Bool, logic_stays, prelude, theorem_of};
 pub use truth_rules::eqt_intro;
 
 #[cfg(test)]

@@ -1,10 +1,12 @@
 // The theorems of the prelude.
-ghost use Rattle.std.specs.Prelude.{◌≡◌, [], IfOk, IfErr};
+ghost use Rattle.std.specs.Prelude.{◌≡◌, ◌<◌, [], length, slice_get, Some, IfOk, IfErr};
 ghost use Rattle.hol_model.specs.Logic.{logical_definitions};
 ghost use Rattle.hol_model.specs.declared.fault.Fault.TheVariants.{Memory};
 ghost use Rattle.hol_journal.specs.Growth.{IsGrown};
+ghost use Rattle.hol_journal.specs.Journal.{IsMade};
 ghost use Rattle.hol_bool.specs.Derivations.{theorems, AreMade};
 ghost use Rattle.hol_bool.specs.Prelude.{prelude_theorems};
+ghost use Rattle.hol_bool.specs.HasLogic.{HasLogic, LogicStays};
 
 use crate::logic::PRELUDE;
 use crate::making::make_table;
@@ -34,6 +36,7 @@ pub fn prelude(recorder: &mut Recorder, alloc: Global) -> Result<Bool, Fault>
     requires new { recorder.old.theory ≡ [] }
     ensures ok { IfOk result (λ bool. theorems bool.theorems.items ≡ prelude_theorems) }
     ensures made { IfOk result (λ bool. AreMade recorder.new bool.theorems.items) }
+    ensures logic { IfOk result (HasLogic recorder.new) }
     ensures err { IfErr result (λ fault. fault ≡ Memory) }
     ensures grown { IsGrown recorder.old recorder.new }
 {
@@ -42,3 +45,19 @@ pub fn prelude(recorder: &mut Recorder, alloc: Global) -> Result<Bool, Fault>
         Err(fault) => Err(fault),
     }
 }
+
+/// The theorem of this number among those of the prelude.
+pub fn theorem_of<'a>(recorder: &Recorder, logic: &'a Bool, number: usize) -> &'a Rec
+    requires logic { HasLogic recorder.now logic.now }
+    requires number { number < length prelude_theorems }
+    ensures made { IsMade recorder.now result.now }
+    ensures theorem { slice_get prelude_theorems number ≡ Some result.now.theorem }
+{
+    &logic.theorems[number]
+}
+
+/// A recorder that has the theorems of the prelude keeps them as its journal grows. Nothing is computed: the clause is
+/// the law, for callers' proofs.
+pub fn logic_stays()
+    ensures { LogicStays }
+{}

@@ -3,6 +3,7 @@ ghost use Rattle.std.specs.Prelude.{◌≡◌, [], ◌∷◌, ◌++◌, length, 
 ghost use Rattle.hol_model.specs.Instantiation as instance;
 ghost use Rattle.hol_model.specs.NamedAxioms as axioms;
 ghost use Rattle.hol_model.specs.Outcome.{Answers, AnswersSuch};
+ghost use Rattle.hol_model.specs.Theory.{IsLegal};
 ghost use Rattle.hol_model.specs.Rules as outcome;
 ghost use Rattle.hol_kernel.specs.Leaving.{leaving};
 ghost use Rattle.hol_model.specs.declared.fault.Fault.TheVariants.{Memory};
@@ -129,6 +130,13 @@ impl Recorder {
         ensures { result.now ≡ self.now.theory }
     {
         &self.theory
+    }
+
+    /// The theory is legal. Nothing is computed: the clause is the law, for callers' proofs.
+    pub fn theory_is_legal(&self)
+        ensures { IsLegal self.now.theory }
+    {
+        let _entries = self.entries.len();
     }
 
     // The theorem with an entry of its own.

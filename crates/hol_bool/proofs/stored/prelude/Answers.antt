@@ -8,3 +8,9 @@ returns-in-Ok-clause-ok c = makes-ok c.args.recorder.now.theory c.in-Ok.theorems
 
 pub returns-in-Err-clause-err : goal.returns-in-Err-clause-err
 returns-in-Err-clause-err c = makes-err c.args.recorder.now.theory c.in-Err.fault prelude_theorems c.in-Err.ensures.outcome c.requires.new refl
+
+pub returns-in-Ok-clause-logic : goal.returns-in-Ok-clause-logic
+returns-in-Ok-clause-logic c = record {
+  theorems_are = makes-ok c.args.recorder.now.theory c.in-Ok.theorems prelude_theorems c.in-Ok.ensures.outcome c.requires.new refl;
+  made = c.in-Ok.ensures.made;
+}

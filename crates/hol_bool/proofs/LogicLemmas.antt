@@ -1,0 +1,165 @@
+-- What a recorder with the prelude has: its theorems, the types of the logical constants, and the parts of formulas.
+use Rattle.std.proofs.Common.{◌≡◌, ◌<◌, ℕ, List, [], ◌∷◌, ◌++◌, map, length, Bool, true, false, refl, sym, ◌∙◌, ap, subst, Option, Some, None, arith, if◌then◌else◌}
+use Rattle.std.specs.Prelude.{slice_get}
+use Rattle.std.specs.Option.{option_map}
+use Rattle.std.specs.Str.{bytes_eq}
+use Rattle.std.proofs.lemmas.List.{length-map}
+use Rattle.std.proofs.lemmas.Option.{slice_get-map}
+use Rattle.std.proofs.lemmas.Slice.Eq.{bytes_eq-Decides}
+use Rattle.hol_model.specs.HolType.{HolType, bool_type, function_type, instantiate_type}
+use Rattle.hol_model.specs.NamedTerm.{NamedTerm, variable, constant, combination, abstraction, type_of}
+use Rattle.hol_model.specs.Nameless.{Nameless, free, const, bound, app, lam, HasType, image}
+use Rattle.hol_model.specs.Theory.{Theory, IsLegal, IsEarlier, IsKnown, IsKnownConstant, generic_type}
+use Rattle.hol_model.specs.Theorem.{Theorem}
+use Rattle.hol_model.specs.Logic.{logical_definitions, true_name, and_name, implies_name, forall_name, exists_name, or_name, false_name, not_name, unary, binary, quantifier}
+use Rattle.hol_model.specs.NamedLogic.{false_term, connected, negation, is_constant_named, dest_connected, dest_negation}
+use Rattle.hol_model.proofs.Later.{head_is_new, rest_is_legal, generic_type-later}
+use Rattle.hol_model.proofs.Images.{image-type}
+use Rattle.hol_journal.specs.Journal.{Journal, Recorded, IsMade}
+use Rattle.hol_journal.specs.Growth.{IsGrown}
+use Rattle.hol_journal.proofs.GrowthLemmas.{journals-grow}
+use Rattle.hol_bool.specs.declared.stored.Bool.{Bool as Stored}
+use Rattle.hol_bool.specs.Derivations.{theorems, AreMade}
+use Rattle.hol_bool.specs.Prelude.{prelude_theorems, shown, p}
+use Rattle.hol_bool.specs.HasLogic.{HasLogic, LogicStays}
+
+pub logic-stays : LogicStays
+logic-stays old new logic grown has = record {
+  theorems_are = has.theorems_are;
+  made = record { each = λ number made there. journals-grow.stays old new made grown (has.made.each number made there) };
+}
+
+-- the theorem of a number
+
+pub stored-within : (all : List Recorded) (number : ℕ) → theorems all ≡ prelude_theorems → number < length prelude_theorems → number < length all
+stored-within all number are within = let same : length all ≡ length prelude_theorems = sym (length-map all (λ made. made.theorem)) ∙ ap length are in subst (λ n. number < n) (sym same) within
+
+pub stored-is : (all : List Recorded) (number : ℕ) (made : Recorded) → theorems all ≡ prelude_theorems → slice_get all number ≡ Some made → slice_get prelude_theorems number ≡ Some made.theorem
+stored-is all number made are there =
+    ap (λ (l : List Theorem). slice_get l number) (sym are) ∙ slice_get-map (λ made. made.theorem) all number ∙ ap (option_map (λ (m : Recorded). m.theorem)) there
+
+-- the theory
+
+generic_type-added : (added rest : Theory) → IsLegal (added ++ rest) → (name : List ℕ) (generic : HolType) → generic_type rest name ≡ Some generic → generic_type (added ++ rest) name ≡ Some generic
+generic_type-added [] rest legal name generic is = is
+generic_type-added (entry ∷ added) rest legal name generic is =
+    generic_type-later entry (added ++ rest) (head_is_new entry (added ++ rest) legal) name generic (generic_type-added added rest (rest_is_legal entry (added ++ rest) legal) name generic is)
+
+stored-stands : (all : List Recorded) (number : ℕ) (theorem : Theorem) → theorems all ≡ prelude_theorems → slice_get prelude_theorems number ≡ Some theorem
+    → (made : Recorded) × (slice_get all number ≡ Some made) × (made.theorem ≡ theorem)
+stored-stands all number theorem are there =
+    go (slice_get all number) refl (sym (slice_get-map (λ (m : Recorded). m.theorem) all number) ∙ ap (λ (l : List Theorem). slice_get l number) are ∙ there)
+  where
+    go : (found : Option Recorded) → slice_get all number ≡ found → option_map (λ (m : Recorded). m.theorem) found ≡ Some theorem → (made : Recorded) × (slice_get all number ≡ Some made) × (made.theorem ≡ theorem)
+    go None found is = cc
+    go (Some made) found is = let same : made.theorem ≡ theorem = cc in (made, found, same)
+
+-- the theory stands on the definitions of the logical constants
+pub stands-on-logic : (journal : Journal) (logic : Stored) → HasLogic journal logic → IsEarlier logical_definitions journal.theory
+stands-on-logic journal logic has =
+    let at = stored-stands logic.theorems.items 24 (shown (false_term ∷ []) p) has.theorems_are refl in
+    subst (λ (t : Theorem). IsEarlier t.theory journal.theory) at.2 (has.made.each 24 at.0 at.1).earlier
+
+-- the generic type of a logical constant
+pub logical-type : (journal : Journal) (logic : Stored) → HasLogic journal logic → IsLegal journal.theory → (name : List ℕ) (generic : HolType) → generic_type logical_definitions name ≡ Some generic
+    → generic_type journal.theory name ≡ Some generic
+logical-type journal logic has legal name generic is =
+    let earlier = stands-on-logic journal logic has in
+    subst (λ (t : Theory). generic_type t name ≡ Some generic) (sym earlier.is_added)
+    (generic_type-added earlier.added logical_definitions (subst (λ (t : Theory). IsLegal t) earlier.is_added legal) name generic is)
+
+-- formulas of the theory
+
+-- a formula that the theory knows
+pub record IsFormula (theory : Theory) (term : NamedTerm) : Type 0 where
+  pub typed : type_of term ≡ Some bool_type
+  pub known : IsKnown theory (image term) bool_type
+
+-- a constant whose generic type has no type variables has that type
+fixed-type : (theory : Theory) (name : List ℕ) (generic ty : HolType) → generic_type theory name ≡ Some generic → ((tau : List ℕ → HolType) → instantiate_type tau generic ≡ generic)
+    → IsKnownConstant theory name ty → ty ≡ generic
+fixed-type theory name generic ty is fixed known =
+    let found = known.is_generic in
+    let same : known.generic ≡ generic = cc in
+    known.is_instance.is_instance ∙ ap (instantiate_type known.is_instance.instance) same ∙ fixed known.is_instance.instance
+
+-- the sides of a formula of a binary connective
+pub record ConnectedParts (theory : Theory) (name : List ℕ) (term left right : NamedTerm) : Type 0 where
+  pub is : term ≡ connected name left right
+  pub left_formula : IsFormula theory left
+  pub right_formula : IsFormula theory right
+
+pub connected-parts : (theory : Theory) (name : List ℕ) → generic_type theory name ≡ Some binary → (term left right : NamedTerm) → dest_connected name term ≡ Some (left, right)
+    → IsKnown theory (image term) bool_type → ConnectedParts theory name term left right
+connected-parts theory name generic (combination (combination (constant other ty) a) b) left right dest known = go (bytes_eq other name) refl dest
+  where
+    go : (test : Bool) → bytes_eq other name ≡ test → if◌then◌else◌ {A = Option (NamedTerm × NamedTerm)} test (Some (a, b)) None ≡ Some (left, right) → ConnectedParts theory name (combination (combination (constant other ty) a) b) left right
+    go false tested dest = cc
+    go true tested dest =
+        let named : other ≡ name = (bytes_eq-Decides other name).0 tested in
+        let sides : NamedTerm × NamedTerm = (a, b) in
+        let found : NamedTerm × NamedTerm = (left, right) in
+        let same : sides ≡ found = cc in
+        let a_is : a ≡ left = ap (λ (s : NamedTerm × NamedTerm). s.0) same in
+        let b_is : b ≡ right = ap (λ (s : NamedTerm × NamedTerm). s.1) same in
+        let generic_here : generic_type theory other ≡ Some binary = ap (generic_type theory) named ∙ generic in
+        let ty_is : ty ≡ binary = fixed-type theory other binary ty generic_here (λ tau. refl) known.parts.0.0.1 in
+        let typed : HasType [] (app (app (const other binary) (image a)) (image b)) bool_type = subst (λ (t : HolType). HasType [] (app (app (const other t) (image a)) (image b)) bool_type) ty_is known.typed in
+        let first : typed.1.0 ≡ bool_type = cc in
+        let second : typed.0 ≡ bool_type = cc in
+        let left_known : IsKnown theory (image a) bool_type = record { typed = subst (λ (t : HolType). HasType [] (image a) t) first typed.1.2; parts = known.parts.0.1 } in
+        let right_known : IsKnown theory (image b) bool_type = record { typed = subst (λ (t : HolType). HasType [] (image b) t) second typed.2; parts = known.parts.1 } in
+        record {
+          is = λ i. combination (combination (constant (named i) (ty_is i)) (a_is i)) (b_is i);
+          left_formula = subst (λ (t : NamedTerm). IsFormula theory t) a_is (record { typed = image-type a bool_type left_known.typed; known = left_known });
+          right_formula = subst (λ (t : NamedTerm). IsFormula theory t) b_is (record { typed = image-type b bool_type right_known.typed; known = right_known });
+        }
+connected-parts theory name generic (combination (combination (variable other ty) a) b) left right dest known = cc
+connected-parts theory name generic (combination (combination (combination f x) a) b) left right dest known = cc
+connected-parts theory name generic (combination (combination (abstraction other ty x) a) b) left right dest known = cc
+connected-parts theory name generic (combination (variable other ty) b) left right dest known = cc
+connected-parts theory name generic (combination (constant other ty) b) left right dest known = cc
+connected-parts theory name generic (combination (abstraction other ty x) b) left right dest known = cc
+connected-parts theory name generic (variable other ty) left right dest known = cc
+connected-parts theory name generic (constant other ty) left right dest known = cc
+connected-parts theory name generic (abstraction other ty x) left right dest known = cc
+
+-- the formula under a negation
+pub record NegatedPart (theory : Theory) (term part : NamedTerm) : Type 0 where
+  pub is : term ≡ negation part
+  pub formula : IsFormula theory part
+
+pub negated-part : (theory : Theory) → generic_type theory not_name ≡ Some unary → (term part : NamedTerm) → dest_negation term ≡ Some part → IsKnown theory (image term) bool_type
+    → NegatedPart theory term part
+negated-part theory generic (combination (constant other ty) a) part dest known = go (bytes_eq other not_name) refl dest
+  where
+    go : (test : Bool) → bytes_eq other not_name ≡ test → (if test then Some a else None) ≡ Some part → NegatedPart theory (combination (constant other ty) a) part
+    go false tested dest = cc
+    go true tested dest =
+        let named : other ≡ not_name = (bytes_eq-Decides other not_name).0 tested in
+        let a_is : a ≡ part = cc in
+        let generic_here : generic_type theory other ≡ Some unary = ap (generic_type theory) named ∙ generic in
+        let ty_is : ty ≡ unary = fixed-type theory other unary ty generic_here (λ tau. refl) known.parts.0.1 in
+        let typed : HasType [] (app (const other unary) (image a)) bool_type = subst (λ (t : HolType). HasType [] (app (const other t) (image a)) bool_type) ty_is known.typed in
+        let domain : typed.0 ≡ bool_type = cc in
+        let part_known : IsKnown theory (image a) bool_type = record { typed = subst (λ (t : HolType). HasType [] (image a) t) domain typed.2; parts = known.parts.1 } in
+        record {
+          is = λ i. combination (constant (named i) (ty_is i)) (a_is i);
+          formula = subst (λ (t : NamedTerm). IsFormula theory t) a_is (record { typed = image-type a bool_type part_known.typed; known = part_known });
+        }
+negated-part theory generic (combination (variable other ty) a) part dest known = cc
+negated-part theory generic (combination (combination f x) a) part dest known = cc
+negated-part theory generic (combination (abstraction other ty x) a) part dest known = cc
+negated-part theory generic (variable other ty) part dest known = cc
+negated-part theory generic (constant other ty) part dest known = cc
+negated-part theory generic (abstraction other ty x) part dest known = cc
+
+-- T and F
+pub constant-is : (theory : Theory) (name : List ℕ) (term : NamedTerm) → generic_type theory name ≡ Some bool_type → is_constant_named name term ≡ true → IsKnown theory (image term) bool_type → term ≡ constant name bool_type
+constant-is theory name (constant other ty) generic named known =
+    let name_is : other ≡ name = (bytes_eq-Decides other name).0 named in
+    let ty_is : ty ≡ bool_type = known.typed in
+    λ i. constant (name_is i) (ty_is i)
+constant-is theory name (variable other ty) generic named known = cc
+constant-is theory name (combination f x) generic named known = cc
+constant-is theory name (abstraction other ty x) generic named known = cc
