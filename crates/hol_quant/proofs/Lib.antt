@@ -2,3 +2,4 @@ pub mod InstanceLemmas
 pub mod PartLemmas
 pub mod RoomLemmas
 pub mod SpecLemmas
+pub mod GenLemmas

@@ -3,10 +3,10 @@ use Rattle.std.specs.Prelude.{ℕ, List, [], ◌∷◌, Bool, codes}
 use Rattle.std.specs.List.{list_all}
 use Rattle.hol_model.specs.HolType.{HolType, bool_type}
 use Rattle.hol_model.specs.NamedTerm.{NamedTerm, variable}
-use Rattle.hol_model.specs.Nameless.{Nameless, free, const, app}
+use Rattle.hol_model.specs.Nameless.{Nameless, free, const, app, lam}
 use Rattle.hol_model.specs.Measures.{nameless_within_limits}
 use Rattle.hol_model.specs.Instantiation.{instantiate_all}
-use Rattle.hol_model.specs.Logic.{predicate, quantifier}
+use Rattle.hol_model.specs.Logic.{true_term, predicate, quantifier}
 use Rattle.hol_model.specs.Theory.{type_a}
 use Rattle.hol_model.specs.Derivable.{nameless_equation}
 use Rattle.hol_bool.specs.Sequents.{instance_of}
@@ -34,3 +34,7 @@ applied = app (free (codes "P") (predicate type_a)) (free (codes "x") type_a)
 -- a quantifier over P
 abbrev pub over_predicate : List ℕ → Nameless
 over_predicate quantifier_name = app (const quantifier_name (quantifier type_a)) (free (codes "P") (predicate type_a))
+
+-- P = (\x. T)
+abbrev pub is_always : Nameless
+is_always = nameless_equation (predicate type_a) (free (codes "P") (predicate type_a)) (lam type_a true_term)

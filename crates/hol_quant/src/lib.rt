@@ -1,6 +1,7 @@
 //! Rules of the quantifiers, derived from the kernel's rules and the theorems of the prelude (HOL Light's `bool.ml`).
 #![tactic(auto)]
 
+mod generalization;
 mod instances;
 mod parts;
 mod specialization;

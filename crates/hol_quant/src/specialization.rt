@@ -10,7 +10,7 @@ ghost use Rattle.hol_quant.specs.PredicateLemmas.{applied, over_predicate};
 
 use crate::instances::by_predicate_lemma;
 use crate::parts::quantified_parts;
-use hol_bool::{converted, eq_mp, is_legal};
+use hol_bool::{converted, eq_mp};
 use hol_journal::{Rec, Recorder};
 use hol_model::Fault;
 use hol_terms::Term;
@@ -32,10 +32,7 @@ pub(crate) fn specialized(
     ensures outcome { AnswersStated (theorem_in result) (image term.now ∷ terms_of_theorem premise.now.theorem) (spec_outcome recorder.old.theory term.now premise.now.theorem) }
 {
     let formula = recorder.thm(premise).concl();
-    match is_legal(recorder, alloc) {
-        Ok(()) => {}
-        Err(fault) => return Err(fault),
-    }
+    recorder.theory_is_legal();
     let Some(parts) = quantified_parts(formula, "!") else {
         return Err(Fault::BadShape);
     };

@@ -24,8 +24,8 @@ use Rattle.hol_quant.proofs.SpecLemmas.{IsWalkRefused, walk-refused, spec-start,
 use Rattle.hol_quant.proofs.SpecLemmas.IsWalkRefused.{no_memory, unknown, past}
 use Rattle.hol_quant.proofs.specialization.specialized.Goals as goal
 
-pub returns-in-Err-refl-clause-outcome : goal.returns-in-Err-refl-clause-outcome
-returns-in-Err-refl-clause-outcome c =
+pub returns-in-Err-clause-outcome : goal.returns-in-Err-clause-outcome
+returns-in-Err-clause-outcome c =
     let journal = c.args.recorder.now in
     let theory = journal.theory in
     let term = c.args.term.now in
@@ -34,13 +34,13 @@ returns-in-Err-refl-clause-outcome c =
     let binder = c.in-Some.parts.binder.now in
     let body = c.in-Some.parts.body.now in
     let start =
-    spec-start journal c.in-Ok.ensures.legal c.args.premise.now c.requires.premise c.thm.result.now c.thm.ensures c.concl-formula.ensures.theorem c.requires.generic term c.concl-formula.result.now
+    spec-start journal c.theory_is_legal.ensures c.args.premise.now c.requires.premise c.thm.result.now c.thm.ensures c.concl-formula.ensures.theorem c.requires.generic term c.concl-formula.result.now
     c.in-Some.parts.quantifier.now function binder body c.concl-formula.ensures.value c.in-Some.ensures.whole c.in-Some.ensures.named c.in-Some.ensures.abstraction
     c.ty.result.now c.ty-2.result.now c.ty.ensures c.ty-2.ensures (c.eq.ensures.same.0 c.if-not-eq.false) in
     let at = start.at in
-    let fault = c.in-Err-refl.fault in
+    let fault = c.in-Err.fault in
     let fits = list_all is_roomy (small theory term premise function binder body at start.typed) in
-    elim (walk-refused theory term at.ty fault start.typed (rw c.theory.ensures at c.in-Err-refl.ensures.outcome)) [
+    elim (walk-refused theory term at.ty fault start.typed (rw c.theory.ensures at c.in-Err.ensures.outcome)) [
       | no_memory memory ↦ memory-answers fault (image term ∷ terms_of_theorem premise) (spec_outcome theory term premise) memory
       | unknown is ↦ spec-unknown theory term premise function binder body at start.typed fault is
       | past none is_past ↦ spec-answers theory term premise function binder body at start.typed (Err fault) none
@@ -57,11 +57,11 @@ returns-in-Err-by_predicate_lemma-clause-outcome c =
     let binder = c.in-Some.parts.binder.now in
     let body = c.in-Some.parts.body.now in
     let start =
-    spec-start journal c.in-Ok.ensures.legal c.args.premise.now c.requires.premise c.thm.result.now c.thm.ensures c.concl-formula.ensures.theorem c.requires.generic term c.concl-formula.result.now
+    spec-start journal c.theory_is_legal.ensures c.args.premise.now c.requires.premise c.thm.result.now c.thm.ensures c.concl-formula.ensures.theorem c.requires.generic term c.concl-formula.result.now
     c.in-Some.parts.quantifier.now function binder body c.concl-formula.ensures.value c.in-Some.ensures.whole c.in-Some.ensures.named c.in-Some.ensures.abstraction
     c.ty.result.now c.ty-2.result.now c.ty.ensures c.ty-2.ensures (c.eq.ensures.same.0 c.if-not-eq.false) in
     let at = start.at in
-    let none = passed-none (first_unknown theory term) (concluded theory [] (equation term term)) c.in-Ok-refl._walked (rw c.theory.ensures at c.in-Ok-refl.ensures.outcome) in
+    let none = passed-none (first_unknown theory term) (concluded theory [] (equation term term)) c.in-Ok._walked (rw c.theory.ensures at c.in-Ok.ensures.outcome) in
     let fits = list_all is_roomy (small theory term premise function binder body at start.typed) in
     let term_known = known_term theory term at.ty none start.typed in
     let function_known = subst (λ (t : Nameless). IsKnown theory t (predicate at.ty)) (sym (function_image theory term premise function binder body at start.typed)) at.function_known in
@@ -82,11 +82,11 @@ returns-in-Err-converted-clause-outcome c =
     let binder = c.in-Some.parts.binder.now in
     let body = c.in-Some.parts.body.now in
     let start =
-    spec-start journal c.in-Ok.ensures.legal c.args.premise.now c.requires.premise c.thm.result.now c.thm.ensures c.concl-formula.ensures.theorem c.requires.generic term c.concl-formula.result.now
+    spec-start journal c.theory_is_legal.ensures c.args.premise.now c.requires.premise c.thm.result.now c.thm.ensures c.concl-formula.ensures.theorem c.requires.generic term c.concl-formula.result.now
     c.in-Some.parts.quantifier.now function binder body c.concl-formula.ensures.value c.in-Some.ensures.whole c.in-Some.ensures.named c.in-Some.ensures.abstraction
     c.ty.result.now c.ty-2.result.now c.ty.ensures c.ty-2.ensures (c.eq.ensures.same.0 c.if-not-eq.false) in
     let at = start.at in
-    let none = passed-none (first_unknown theory term) (concluded theory [] (equation term term)) c.in-Ok-refl._walked (rw c.theory.ensures at c.in-Ok-refl.ensures.outcome) in
+    let none = passed-none (first_unknown theory term) (concluded theory [] (equation term term)) c.in-Ok._walked (rw c.theory.ensures at c.in-Ok.ensures.outcome) in
     let fits = list_all is_roomy (small theory term premise function binder body at start.typed) in
     let term_known = known_term theory term at.ty none start.typed in
     let function_known = subst (λ (t : Nameless). IsKnown theory t (predicate at.ty)) (sym (function_image theory term premise function binder body at start.typed)) at.function_known in
@@ -117,11 +117,11 @@ returns-clause-outcome c =
     let binder = c.in-Some.parts.binder.now in
     let body = c.in-Some.parts.body.now in
     let start =
-    spec-start journal c.in-Ok.ensures.legal c.args.premise.now c.requires.premise c.thm.result.now c.thm.ensures c.concl-formula.ensures.theorem c.requires.generic term c.concl-formula.result.now
+    spec-start journal c.theory_is_legal.ensures c.args.premise.now c.requires.premise c.thm.result.now c.thm.ensures c.concl-formula.ensures.theorem c.requires.generic term c.concl-formula.result.now
     c.in-Some.parts.quantifier.now function binder body c.concl-formula.ensures.value c.in-Some.ensures.whole c.in-Some.ensures.named c.in-Some.ensures.abstraction
     c.ty.result.now c.ty-2.result.now c.ty.ensures c.ty-2.ensures (c.eq.ensures.same.0 c.if-not-eq.false) in
     let at = start.at in
-    let none = passed-none (first_unknown theory term) (concluded theory [] (equation term term)) c.in-Ok-refl._walked (rw c.theory.ensures at c.in-Ok-refl.ensures.outcome) in
+    let none = passed-none (first_unknown theory term) (concluded theory [] (equation term term)) c.in-Ok._walked (rw c.theory.ensures at c.in-Ok.ensures.outcome) in
     let fits = list_all is_roomy (small theory term premise function binder body at start.typed) in
     let term_known = known_term theory term at.ty none start.typed in
     let function_known = subst (λ (t : Nameless). IsKnown theory t (predicate at.ty)) (sym (function_image theory term premise function binder body at start.typed)) at.function_known in
