@@ -3,3 +3,4 @@ pub mod PartLemmas
 pub mod RoomLemmas
 pub mod SpecLemmas
 pub mod GenLemmas
+pub mod GenAnswers

@@ -85,3 +85,61 @@ fn is_free_in_some(hypotheses: &[Term], name: &str, ty: &Ty) -> bool
         .iter()
         .any(|hypothesis| is_free(hypothesis, name, ty))
 }
+
+// From `p`, `!x. p`.
+fn generalized(
+    recorder: &mut Recorder,
+    alloc: Global,
+    truth_lemma: &Rec,
+    forall_lemma: &Rec,
+    binder: &Term,
+    premise: &Rec,
+) -> Result<Rec, Fault>
+    requires truth_lemma { IsMade recorder.old truth_lemma.now }
+    requires truth_shows { Shows truth_lemma.now.theorem (free (codes "p") bool_type ∷ []) (nameless_equation bool_type (free (codes "p") bool_type) (image true_term)) }
+    requires forall_lemma { IsMade recorder.old forall_lemma.now }
+    requires forall_shows { Shows forall_lemma.now.theorem (is_always ∷ []) (over_predicate forall_name) }
+    requires premise { IsMade recorder.old premise.now }
+    ensures continues { Continues recorder.old recorder.new result }
+    ensures outcome { AnswersStated (theorem_in result) (terms_of_theorem premise.now.theorem) (gen_outcome recorder.old.theory binder.now premise.now.theorem) }
+{
+    let Some((name, ty)) = binder.dest_var() else {
+        return Err(Fault::NotVariable);
+    };
+    if !recorder.theory().known(binder) {
+        return Err(Fault::UnknownType);
+    }
+    let theorem = recorder.thm(premise);
+    if is_free_in_some(theorem.hyps(), name, ty) {
+        return Err(Fault::FreeInHypothesis);
+    }
+    recorder.theory_is_legal();
+    let function = match Term::mk_abs(alloc, binder, theorem.concl()) {
+        Ok(function) => function,
+        Err(fault) => return Err(fault),
+    };
+    let formula = match universal(alloc, &function) {
+        Ok(formula) => formula,
+        Err(fault) => return Err(fault),
+    };
+    let equal = match equal_to_truth(recorder, alloc, truth_lemma, premise) {
+        Ok(equal) => equal,
+        Err(fault) => return Err(fault),
+    };
+    let always = match abs(recorder, alloc, binder, &equal) {
+        Ok(always) => always,
+        Err(fault) => return Err(fault),
+    };
+    let answer = match by_predicate_lemma(
+        recorder,
+        alloc,
+        forall_lemma,
+        &function,
+        binder,
+        &always,
+    ) {
+        Ok(answer) => answer,
+        Err(fault) => return Err(fault),
+    };
+    named(recorder, alloc, &formula, &answer)
+}
