@@ -4,3 +4,4 @@ pub mod RoomLemmas
 pub mod SpecLemmas
 pub mod GenLemmas
 pub mod GenAnswers
+pub mod PreludeParts

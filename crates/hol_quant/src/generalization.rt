@@ -143,3 +143,23 @@ fn generalized(
     };
     named(recorder, alloc, &formula, &answer)
 }
+
+/// GEN: from `p`, `!x. p`, by the lemmas `p |- p <=> T` and `P = (\x. T) |- (!) P`, in eleven steps. Refused where the
+/// term is no variable, then where the theory does not know a type of its type, and then where it is free in a
+/// hypothesis.
+pub fn generalize(
+    recorder: &mut Recorder,
+    alloc: Global,
+    logic: &Bool,
+    binder: &Term,
+    premise: &Rec,
+) -> Result<Rec, Fault>
+    requires logic { HasLogic recorder.old logic.now }
+    requires premise { IsMade recorder.old premise.now }
+    ensures continues { Continues recorder.old recorder.new result }
+    ensures outcome { AnswersStated (theorem_in result) (terms_of_theorem premise.now.theorem) (gen_outcome recorder.old.theory binder.now premise.now.theorem) }
+{
+    let truth_lemma = theorem_of(recorder, logic, 9);
+    let forall_lemma = theorem_of(recorder, logic, 19);
+    generalized(recorder, alloc, truth_lemma, forall_lemma, binder, premise)
+}

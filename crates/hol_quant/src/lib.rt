@@ -5,3 +5,6 @@ mod generalization;
 mod instances;
 mod parts;
 mod specialization;
+
+pub use generalization::generalize;
+pub use specialization::spec;
