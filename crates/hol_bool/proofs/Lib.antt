@@ -7,6 +7,11 @@ pub mod DerivationSize
 pub mod DerivationLemmas
 pub mod PreludeLemmas
 pub mod BetaLemmas
-pub mod TruthLemmas
 pub mod ConversionLemmas
 pub mod LogicLemmas
+pub mod RoomLemmas
+pub mod PreludeSteps
+pub mod FormulaLemmas
+pub mod RuleAnswers
+pub mod TruthAnswers
+pub mod ConjunctionAnswers

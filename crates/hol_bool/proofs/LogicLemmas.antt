@@ -22,6 +22,7 @@ use Rattle.hol_bool.specs.declared.stored.Bool.{Bool as Stored}
 use Rattle.hol_bool.specs.Derivations.{theorems, AreMade}
 use Rattle.hol_bool.specs.Prelude.{prelude_theorems, shown, p}
 use Rattle.hol_bool.specs.HasLogic.{HasLogic, LogicStays}
+use Rattle.hol_bool.specs.Formulas.{IsFormula, AreSides, IsNegated}
 
 pub logic-stays : LogicStays
 logic-stays old new logic grown has = record {
@@ -70,11 +71,6 @@ logical-type journal logic has legal name generic is =
 
 -- formulas of the theory
 
--- a formula that the theory knows
-pub record IsFormula (theory : Theory) (term : NamedTerm) : Type 0 where
-  pub typed : type_of term ≡ Some bool_type
-  pub known : IsKnown theory (image term) bool_type
-
 -- a constant whose generic type has no type variables has that type
 fixed-type : (theory : Theory) (name : List ℕ) (generic ty : HolType) → generic_type theory name ≡ Some generic → ((tau : List ℕ → HolType) → instantiate_type tau generic ≡ generic)
     → IsKnownConstant theory name ty → ty ≡ generic
@@ -84,16 +80,11 @@ fixed-type theory name generic ty is fixed known =
     known.is_instance.is_instance ∙ ap (instantiate_type known.is_instance.instance) same ∙ fixed known.is_instance.instance
 
 -- the sides of a formula of a binary connective
-pub record ConnectedParts (theory : Theory) (name : List ℕ) (term left right : NamedTerm) : Type 0 where
-  pub is : term ≡ connected name left right
-  pub left_formula : IsFormula theory left
-  pub right_formula : IsFormula theory right
-
 pub connected-parts : (theory : Theory) (name : List ℕ) → generic_type theory name ≡ Some binary → (term left right : NamedTerm) → dest_connected name term ≡ Some (left, right)
-    → IsKnown theory (image term) bool_type → ConnectedParts theory name term left right
+    → IsKnown theory (image term) bool_type → AreSides theory name term left right
 connected-parts theory name generic (combination (combination (constant other ty) a) b) left right dest known = go (bytes_eq other name) refl dest
   where
-    go : (test : Bool) → bytes_eq other name ≡ test → if◌then◌else◌ {A = Option (NamedTerm × NamedTerm)} test (Some (a, b)) None ≡ Some (left, right) → ConnectedParts theory name (combination (combination (constant other ty) a) b) left right
+    go : (test : Bool) → bytes_eq other name ≡ test → if◌then◌else◌ {A = Option (NamedTerm × NamedTerm)} test (Some (a, b)) None ≡ Some (left, right) → AreSides theory name (combination (combination (constant other ty) a) b) left right
     go false tested dest = cc
     go true tested dest =
         let named : other ≡ name = (bytes_eq-Decides other name).0 tested in
@@ -125,15 +116,11 @@ connected-parts theory name generic (constant other ty) left right dest known = 
 connected-parts theory name generic (abstraction other ty x) left right dest known = cc
 
 -- the formula under a negation
-pub record NegatedPart (theory : Theory) (term part : NamedTerm) : Type 0 where
-  pub is : term ≡ negation part
-  pub formula : IsFormula theory part
-
 pub negated-part : (theory : Theory) → generic_type theory not_name ≡ Some unary → (term part : NamedTerm) → dest_negation term ≡ Some part → IsKnown theory (image term) bool_type
-    → NegatedPart theory term part
+    → IsNegated theory term part
 negated-part theory generic (combination (constant other ty) a) part dest known = go (bytes_eq other not_name) refl dest
   where
-    go : (test : Bool) → bytes_eq other not_name ≡ test → (if test then Some a else None) ≡ Some part → NegatedPart theory (combination (constant other ty) a) part
+    go : (test : Bool) → bytes_eq other not_name ≡ test → (if test then Some a else None) ≡ Some part → IsNegated theory (combination (constant other ty) a) part
     go false tested dest = cc
     go true tested dest =
         let named : other ≡ not_name = (bytes_eq-Decides other not_name).0 tested in

@@ -12,12 +12,7 @@ use Rattle.hol_model.specs.Derivable.{nameless_equation}
 use Rattle.hol_model.specs.DerivedRules.{is_roomy, is_roomy_type, has_roomy_types, ROOMY_HEIGHT, ROOMY_NODES, ROOMY_TYPE_NODES}
 use Rattle.hol_model.proofs.Tests.{first_of_both, second_of_both, both}
 use Rattle.hol_bool.specs.Sequents.{IsPast}
-
--- a term of at most this height and so many nodes, with types within the limit
-pub record IsSized (tall many : ℕ) (term : Nameless) : Type 0 where
-  pub height : nameless_height term ≤ tall
-  pub nodes : nameless_nodes term ≤ many
-  pub types : nameless_types_fit [] term ≡ true
+pub use Rattle.hol_bool.specs.Room.{IsSized}
 
 pub sized-within : (tall many : ℕ) (term : Nameless) → IsSized tall many term → tall ≤ 2000 → many ≤ 4000000 → nameless_within_limits term ≡ true
 sized-within tall many term sized low few =

@@ -88,7 +88,7 @@ abbrev pub shown : List NamedTerm → NamedTerm → Theorem
 shown hypotheses conclusion = record { theory = logical_definitions; hypotheses = hypotheses; conclusion = conclusion }
 
 -- the definitions; TRUTH; then the pieces of EQT_INTRO, EQT_ELIM, CONJ, CONJUNCT1, CONJUNCT2, DISCH, MP, GEN, SPEC,
--- NOT_INTRO, NOT_ELIM and CONTR, those of each connective after its definition at variables
+-- NOT_INTRO, NOT_ELIM and CONTR, those of each connective after its definition at variables; CONJ and MP as equations
 abbrev pub prelude_theorems : List Theorem
 prelude_theorems =
     defined (drop 7 logical_definitions) true_name bool_type true_body
@@ -116,4 +116,6 @@ prelude_theorems =
     ∷ shown (implication p false_term ∷ []) (negation p)
     ∷ shown (negation p ∷ []) (implication p false_term)
     ∷ shown (false_term ∷ []) p
+    ∷ shown (p ∷ []) (equation q (conjunction p q))
+    ∷ shown (p ∷ []) (equation (implication p q) q)
     ∷ []

@@ -1,12 +1,10 @@
 // Derived rules without connectives.
-ghost use Rattle.std.specs.Prelude.{◌≡◌, List, [], ◌∷◌, ◌++◌, IfOk, IfErr, IfSome, OnOk, Some};
+ghost use Rattle.std.specs.Prelude.{◌≡◌, List, [], ◌∷◌, ◌++◌, IfOk, IfSome, Some};
 ghost use Rattle.std.specs.List.{list_any};
 ghost use Rattle.std.specs.Option.{option_map, is_some};
-ghost use Rattle.hol_model.specs.declared.fault.Fault.TheVariants.{Memory};
 ghost use Rattle.hol_model.specs.NamedTerm.{combination, dest_abstraction};
 ghost use Rattle.hol_model.specs.NamedLogic.{dest_redex};
 ghost use Rattle.hol_model.specs.Rules.{dest_equation};
-ghost use Rattle.hol_model.specs.Theory.{IsLegal};
 ghost use Rattle.hol_model.specs.Nameless.{Nameless, image, same_term};
 ghost use Rattle.hol_model.specs.HolType.{bool_type};
 ghost use Rattle.hol_model.specs.Measures.{nameless_within_limits};
@@ -24,14 +22,14 @@ use std::alloc::Global;
 
 // The parts of an equation, `=` among them.
 #[derive(Clone, Copy)]
-struct Equation<'a> {
-    relation: &'a Term,
-    left: &'a Term,
-    right: &'a Term,
+pub(crate) struct Equation<'a> {
+    pub(crate) relation: &'a Term,
+    pub(crate) left: &'a Term,
+    pub(crate) right: &'a Term,
 }
 
 // The parts of the term, where it is an equation.
-fn equation_parts(term: &Term) -> Option<Equation<'_>>
+pub(crate) fn equation_parts(term: &Term) -> Option<Equation<'_>>
     ensures sides { option_map (λ parts. (parts.left.now, parts.right.now)) result ≡ dest_equation term.now }
     ensures whole { IfSome result (λ parts. term.now ≡ combination (combination parts.relation.now parts.left.now) parts.right.now) }
 {
@@ -86,19 +84,6 @@ fn redex_parts(term: &Term) -> Option<Redex<'_>>
     }
 }
 
-// A theory is legal. A theorem on it is made and let go: the clause is for callers' proofs.
-pub(crate) fn is_legal(recorder: &Recorder, alloc: Global) -> Result<(), Fault>
-    ensures legal { OnOk result (IsLegal recorder.now.theory) }
-    ensures err { IfErr result (λ fault. fault ≡ Memory) }
-{
-    let axiom = match recorder.theory().eta(alloc) {
-        Ok(axiom) => axiom,
-        Err(fault) => return Err(fault),
-    };
-    let _theorem = axiom.concl();
-    Ok(())
-}
-
 /// SYM: from `a = b`, `b = a`, in five steps of the kernel's rules. Refused where the conclusion is no equation.
 pub fn sym(recorder: &mut Recorder, alloc: Global, premise: &Rec) -> Result<Rec, Fault>
     requires { IsMade recorder.old premise.now }
@@ -108,10 +93,7 @@ pub fn sym(recorder: &mut Recorder, alloc: Global, premise: &Rec) -> Result<Rec,
     let Some(parts) = equation_parts(recorder.thm(premise).concl()) else {
         return Err(Fault::NotEquation);
     };
-    match is_legal(recorder, alloc) {
-        Ok(()) => {}
-        Err(fault) => return Err(fault),
-    }
+    recorder.theory_is_legal();
     let same = match steps::refl(recorder, alloc, parts.relation) {
         Ok(same) => same,
         Err(fault) => return Err(fault),
@@ -145,10 +127,7 @@ pub fn named(
 {
     let _premise = recorder.thm(premise).concl();
     let _type = term.ty();
-    match is_legal(recorder, alloc) {
-        Ok(()) => {}
-        Err(fault) => return Err(fault),
-    }
+    recorder.theory_is_legal();
     let reflexive = match steps::refl(recorder, alloc, term) {
         Ok(reflexive) => reflexive,
         Err(fault) => return Err(fault),

@@ -3,13 +3,17 @@
 #![tactic(auto)]
 
 mod conjunction;
+mod conjunction_rules;
 mod conversion;
 mod derivation;
 mod equality;
+mod formula_terms;
 mod formulas;
+mod implication_rules;
 mod lemma;
 mod logic;
 mod making;
+mod prelude_rules;
 mod sketch;
 mod steps;
 mod stored;
@@ -17,7 +21,9 @@ mod truth;
 mod truth_rules;
 
 pub use conversion::converted;
+pub use conjunction_rules::{conj, conjunct1, conjunct2};
 pub use equality::{add_assum, beta_conv, named, prove_hyp, sym};
+pub use implication_rules::mp;
 pub use lemma::{by_lemma, instance};
 pub use steps::{abs, eq_mp};
 pub use stored::{Bool, logic_stays, prelude, theorem_of};

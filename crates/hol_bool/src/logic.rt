@@ -102,6 +102,32 @@ const BOTH_IS_Q: Derivation<'static> = Derivation::Pair(
 
 const MP: Derivation<'static> = Derivation::Pair(PairRule::EqMp, &BOTH_IS_Q, &BOTH);
 
+// p |- q <=> p /\ q
+const BOTH_FROM_PARTS: Derivation<'static> = Derivation::Earlier(12);
+
+const CONJ_EQUATION: Derivation<'static> = Derivation::Pair(
+    PairRule::DeductAntisym,
+    &P_AND_Q_SECOND,
+    &BOTH_FROM_PARTS,
+);
+
+// p |- p ==> q <=> q
+const BOTH_IS_P: Derivation<'static> = Derivation::Pair(
+    PairRule::DeductAntisym,
+    &BOTH_FROM_PARTS,
+    &ASSUME_P,
+);
+
+const FOLLOWS: Derivation<'static> = Derivation::Pair(PairRule::EqMp, &SYM_P_IMP_Q_IS, &BOTH_IS_P);
+
+const Q_FROM_P: Derivation<'static> = Derivation::Earlier(17);
+
+const MP_EQUATION: Derivation<'static> = Derivation::Pair(
+    PairRule::DeductAntisym,
+    &FOLLOWS,
+    &Q_FROM_P,
+);
+
 // |- (!) P <=> P = (\x. T): FORALL_DEF at P
 const FORALL_DEF: Derivation<'static> = Derivation::Earlier(3);
 
@@ -376,7 +402,7 @@ const CONTR: Derivation<'static> = Derivation::Pair(
 
 /// The definitions T_DEF, AND_DEF, IMP_DEF, FORALL_DEF, EXISTS_DEF, OR_DEF, F_DEF and NOT_DEF, then TRUTH, and the
 /// theorems from which rules are made.
-pub(crate) const PRELUDE: [Making<'static>; 25] = [
+pub(crate) const PRELUDE: [Making<'static>; 27] = [
     Making::Define("T", &TRUE_BODY),
     Making::Define("/\\", &AND_BODY),
     Making::Define("==>", &IMP_BODY),
@@ -402,4 +428,6 @@ pub(crate) const PRELUDE: [Making<'static>; 25] = [
     Making::Derive(&NOT_INTRO),
     Making::Derive(&NOT_ELIM),
     Making::Derive(&CONTR),
+    Making::Derive(&CONJ_EQUATION),
+    Making::Derive(&MP_EQUATION),
 ];

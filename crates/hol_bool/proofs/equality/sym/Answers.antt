@@ -18,7 +18,7 @@ returns-in-Err-refl-clause-outcome c =
     let a = c.in-Some.parts.left.now in
     let b = c.in-Some.parts.right.now in
     let parts =
-    sym-parts-at journal c.in-Ok.ensures.legal c.args.premise.now c.requires c.thm.result.now c.thm.ensures c.concl.ensures.theorem c.concl.result.now relation a b c.concl.ensures.value c.in-Some.ensures.whole c.in-Some.ensures.sides in
+    sym-parts-at journal c.theory_is_legal.ensures c.args.premise.now c.requires c.thm.result.now c.thm.ensures c.concl.ensures.theorem c.concl.result.now relation a b c.concl.ensures.value c.in-Some.ensures.whole c.in-Some.ensures.sides in
     let at = equality_at parts.ty in
     sym-past c.in-Err-refl.fault journal.theory premise relation a b parts (nameless_within_limits (nameless_equation (equality_type parts.ty) (image relation) (image relation)))
     (c.in-Err-refl.ensures.derives (equality_type parts.ty) parts.relation_known)
@@ -36,7 +36,7 @@ returns-in-Err-mk_comb-clause-outcome c =
     let a = c.in-Some.parts.left.now in
     let b = c.in-Some.parts.right.now in
     let parts =
-    sym-parts-at journal c.in-Ok.ensures.legal c.args.premise.now c.requires c.thm.result.now c.thm.ensures c.concl.ensures.theorem c.concl.result.now relation a b c.concl.ensures.value c.in-Some.ensures.whole c.in-Some.ensures.sides in
+    sym-parts-at journal c.theory_is_legal.ensures c.args.premise.now c.requires c.thm.result.now c.thm.ensures c.concl.ensures.theorem c.concl.result.now relation a b c.concl.ensures.value c.in-Some.ensures.whole c.in-Some.ensures.sides in
     let at = equality_at parts.ty in
     let same = relation-shows journal.theory premise relation a b parts c.in-Ok-refl.same.theorem (c.in-Ok-refl.ensures.derives (equality_type parts.ty) parts.relation_known) in
     sym-past c.in-Err-mk_comb.fault journal.theory premise relation a b parts (nameless_within_limits (nameless_equation (function_type parts.ty bool_type) (app at (image a)) (app at (image b))))
@@ -51,7 +51,7 @@ returns-in-Err-refl-2-clause-outcome c =
     let a = c.in-Some.parts.left.now in
     let b = c.in-Some.parts.right.now in
     let parts =
-    sym-parts-at journal c.in-Ok.ensures.legal c.args.premise.now c.requires c.thm.result.now c.thm.ensures c.concl.ensures.theorem c.concl.result.now relation a b c.concl.ensures.value c.in-Some.ensures.whole c.in-Some.ensures.sides in
+    sym-parts-at journal c.theory_is_legal.ensures c.args.premise.now c.requires c.thm.result.now c.thm.ensures c.concl.ensures.theorem c.concl.result.now relation a b c.concl.ensures.value c.in-Some.ensures.whole c.in-Some.ensures.sides in
     let at = equality_at parts.ty in
     let known = known_in c.mk_comb.new.recorder.theory journal.theory (image a) parts.ty (c.in-Ok-mk_comb.ensures.continues.theory ∙ c.in-Ok-refl.ensures.continues.theory) parts.left_known in
     sym-past c.in-Err-refl-2.fault journal.theory premise relation a b parts (nameless_within_limits (nameless_equation parts.ty (image a) (image a)))
@@ -70,7 +70,7 @@ returns-in-Err-mk_comb-2-clause-outcome c =
     let a = c.in-Some.parts.left.now in
     let b = c.in-Some.parts.right.now in
     let parts =
-    sym-parts-at journal c.in-Ok.ensures.legal c.args.premise.now c.requires c.thm.result.now c.thm.ensures c.concl.ensures.theorem c.concl.result.now relation a b c.concl.ensures.value c.in-Some.ensures.whole c.in-Some.ensures.sides in
+    sym-parts-at journal c.theory_is_legal.ensures c.args.premise.now c.requires c.thm.result.now c.thm.ensures c.concl.ensures.theorem c.concl.result.now relation a b c.concl.ensures.value c.in-Some.ensures.whole c.in-Some.ensures.sides in
     let at = equality_at parts.ty in
     let same = relation-shows journal.theory premise relation a b parts c.in-Ok-refl.same.theorem (c.in-Ok-refl.ensures.derives (equality_type parts.ty) parts.relation_known) in
     let applied =
@@ -100,7 +100,7 @@ returns-clause-outcome c =
     let a = c.in-Some.parts.left.now in
     let b = c.in-Some.parts.right.now in
     let parts =
-    sym-parts-at journal c.in-Ok.ensures.legal c.args.premise.now c.requires c.thm.result.now c.thm.ensures c.concl.ensures.theorem c.concl.result.now relation a b c.concl.ensures.value c.in-Some.ensures.whole c.in-Some.ensures.sides in
+    sym-parts-at journal c.theory_is_legal.ensures c.args.premise.now c.requires c.thm.result.now c.thm.ensures c.concl.ensures.theorem c.concl.result.now relation a b c.concl.ensures.value c.in-Some.ensures.whole c.in-Some.ensures.sides in
     let at = equality_at parts.ty in
     let same = relation-shows journal.theory premise relation a b parts c.in-Ok-refl.same.theorem (c.in-Ok-refl.ensures.derives (equality_type parts.ty) parts.relation_known) in
     let applied =

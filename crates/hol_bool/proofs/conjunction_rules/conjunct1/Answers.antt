@@ -1,0 +1,26 @@
+use Rattle.std.proofs.Common.{Option, ◌∙◌, refl, sym, ap}
+use Rattle.hol_model.specs.declared.fault.Fault.TheVariants.{BadShape}
+use Rattle.hol_model.specs.NamedTerm.{NamedTerm}
+use Rattle.hol_model.specs.Nameless.{image}
+use Rattle.hol_model.specs.NamedLogic.{conjunction}
+use Rattle.hol_model.specs.Outcome.{given}
+use Rattle.hol_model.specs.DerivedRules.{stated, images, conjunct1_outcome}
+use Rattle.hol_bool.specs.Prelude.{p, q}
+use Rattle.hol_bool.proofs.CutLemmas.{shows-itself}
+use Rattle.hol_bool.proofs.RuleAnswers.{answered-one, leads-p_q, roomy-fits}
+use Rattle.hol_bool.proofs.conjunction_rules.conjunct1.Goals as goal
+
+pub returns-clause-outcome : goal.returns-clause-outcome
+returns-clause-outcome c =
+    let theory = c.args.recorder.now.theory in
+    let premise = c.args.premise.now.theorem in
+    let a = c.in-Some.sides.left.now in
+    let b = c.in-Some.sides.right.now in
+    let parts = c.in-Some.ensures.parts in
+    answered-one c.by_theorem.result premise c.in-Some.sides.left.now (conjunct1_outcome premise)
+    (ap (λ (o : Option (NamedTerm × NamedTerm)). given o BadShape (λ sides. stated (images premise) sides.0)) (sym c.in-Some.ensures.sides))
+    (λ room whole part. c.by_theorem.ensures.derives (images premise) (image premise.conclusion) room
+    (leads-p_q theory 13 (conjunction p q) p a b c.deref.result.now refl refl parts.left_formula parts.right_formula (c.deref.ensures.value ∙ c.in-Ok.ensures.ok) room (image premise.conclusion) (image c.in-Some.sides.left.now) (ap image parts.is) refl
+    (roomy-fits room (image premise.conclusion) whole) (roomy-fits room (image c.in-Some.sides.left.now) part))
+    (shows-itself premise))
+    c.by_theorem.ensures.names

@@ -1,0 +1,14 @@
+use Rattle.std.proofs.Common.{subst}
+use Rattle.hol_model.specs.HolType.{bool_type}
+use Rattle.hol_model.specs.NamedTerm.{NamedTerm, constant}
+use Rattle.hol_model.specs.Logic.{not_name, unary}
+use Rattle.hol_model.specs.Outcome.{Answers}
+use Rattle.hol_model.specs.Constructors.{combination_outcome}
+use Rattle.hol_bool.proofs.RoomLemmas.{made-combination, negation-typed}
+use Rattle.hol_bool.proofs.formula_terms.negate.Goals as goal
+
+pub returns : goal.returns
+returns c room typed fits =
+    let part = c.args.part.now in
+    made-combination c.mk_comb.result (constant not_name unary) part bool_type room (negation-typed part typed) fits
+    (subst (λ (t : NamedTerm). Answers c.mk_comb.result (combination_outcome t part)) c.in-Ok.ensures.ok c.mk_comb.ensures.outcome)

@@ -1,0 +1,69 @@
+use Rattle.std.proofs.Common.{◌≡◌, ◌∙◌, [], ◌∷◌, ◌++◌, List, Ok, Err, sym, subst, ap, refl}
+use Rattle.hol_model.specs.HolType.{bool_type}
+use Rattle.hol_model.specs.NamedTerm.{NamedTerm, equation}
+use Rattle.hol_model.specs.Nameless.{Nameless, image}
+use Rattle.hol_model.specs.Derivable.{nameless_equation}
+use Rattle.hol_model.specs.Logic as nameless
+use Rattle.hol_model.proofs.Images.{image-equation}
+use Rattle.hol_bool.specs.Prelude.{p, q}
+use Rattle.hol_bool.specs.Room.{FitsIf, LeadsTo, at_p_q}
+use Rattle.hol_bool.specs.Sequents.{Shows, DerivesIf}
+use Rattle.hol_bool.proofs.CutLemmas.{right-names, given-derives}
+use Rattle.hol_bool.proofs.RoomLemmas.{equation-is, equation-past}
+use Rattle.hol_bool.proofs.ConjunctionAnswers.{mp_equation, mp-leads}
+use Rattle.hol_bool.proofs.implication_rules.implied.Goals as goal
+
+pub returns-in-Err-clause-derives : goal.returns-in-Err-clause-derives
+returns-in-Err-clause-derives c h k s room first second fits =
+    let whole = c.args.first.now.theorem.conclusion in
+    let b = c.args.consequent.now in
+    let zero = c.conclusion_of-whole.ensures in
+    equation-past c.in-Err.fault whole b c.conclusion_of-whole.result.now b zero.formula.typed c.requires.consequent.typed zero.value refl c.in-Err.ensures room
+    (subst (λ (u : Nameless). FitsIf room (nameless_equation bool_type u (image b))) (sym first.concludes) fits)
+
+pub returns-in-Err-by_theorem-clause-derives : goal.returns-in-Err-by_theorem-clause-derives
+returns-in-Err-by_theorem-clause-derives c h k s room first second fits =
+    let whole = c.args.first.now.theorem.conclusion in
+    let a = c.args.second.now.theorem.conclusion in
+    let b = c.args.consequent.now in
+    let zero = c.conclusion_of-whole.ensures in
+    let one = c.conclusion_of-antecedent.ensures in
+    let two = c.requires.consequent in
+    let theory = c.args.recorder.now.theory in
+    let terms = c.deref.result.now in
+    let stated_is = equation-is c.in-Ok.stated whole b c.conclusion_of-whole.result.now b zero.formula.typed two.typed zero.value refl c.in-Ok.ensures in
+    let terms_are : terms ≡ at_p_q a b = c.deref.ensures.value ∙ c.in-Ok-for_p_q.ensures.ok ∙ ap (λ (u : NamedTerm). at_p_q u b) one.value in
+    let whole_is : image whole ≡ nameless.implication (image a) (image b) = first.concludes ∙ ap (λ (u : Nameless). nameless.implication u (image b)) (sym second.concludes) in
+    let leads = mp-leads theory whole a b terms zero.formula one.formula two terms_are whole_is room (subst (λ (u : Nameless). FitsIf room (mp_equation u (image b))) (sym second.concludes) fits) in
+    subst (λ (u : NamedTerm). LeadsTo theory 26 terms room (image a) (image u) → DerivesIf room (Err c.in-Err-by_theorem.fault) k (image u)) stated_is
+    (λ l. c.in-Err-by_theorem.ensures.derives k (image a) room l (subst (λ (u : Nameless). Shows c.args.second.now.theorem k u) (sym second.concludes) second)) leads
+
+pub returns-clause-names : goal.returns-clause-names
+returns-clause-names c =
+    let whole = c.args.first.now.theorem.conclusion in
+    let b = c.args.consequent.now in
+    let zero = c.conclusion_of-whole.ensures in
+    let stated_is = equation-is c.in-Ok.stated whole b c.conclusion_of-whole.result.now b zero.formula.typed c.requires.consequent.typed zero.value refl c.in-Ok.ensures in
+    right-names c.eq_mp.result c.in-Ok-by_theorem.equation.theorem.conclusion whole b zero.formula.typed (c.in-Ok-by_theorem.ensures.names ∙ stated_is) c.eq_mp.ensures.names
+
+pub returns-clause-derives : goal.returns-clause-derives
+returns-clause-derives c h k s room first second fits =
+    let whole = c.args.first.now.theorem.conclusion in
+    let a = c.args.second.now.theorem.conclusion in
+    let b = c.args.consequent.now in
+    let zero = c.conclusion_of-whole.ensures in
+    let one = c.conclusion_of-antecedent.ensures in
+    let two = c.requires.consequent in
+    let theory = c.args.recorder.now.theory in
+    let terms = c.deref.result.now in
+    let stated_is = equation-is c.in-Ok.stated whole b c.conclusion_of-whole.result.now b zero.formula.typed two.typed zero.value refl c.in-Ok.ensures in
+    let terms_are : terms ≡ at_p_q a b = c.deref.ensures.value ∙ c.in-Ok-for_p_q.ensures.ok ∙ ap (λ (u : NamedTerm). at_p_q u b) one.value in
+    let whole_is : image whole ≡ nameless.implication (image a) (image b) = first.concludes ∙ ap (λ (u : Nameless). nameless.implication u (image b)) (sym second.concludes) in
+    let leads = mp-leads theory whole a b terms zero.formula one.formula two terms_are whole_is room (subst (λ (u : Nameless). FitsIf room (mp_equation u (image b))) (sym second.concludes) fits) in
+    let equation_shown : Shows c.in-Ok-by_theorem.equation.theorem k (image (equation whole b)) =
+    subst (λ (u : NamedTerm). LeadsTo theory 26 terms room (image a) (image u) → Shows c.in-Ok-by_theorem.equation.theorem k (image u)) stated_is
+    (λ l. c.in-Ok-by_theorem.ensures.derives k (image a) room l (subst (λ (u : Nameless). Shows c.args.second.now.theorem k u) (sym second.concludes) second)) leads in
+    let at_images : Shows c.in-Ok-by_theorem.equation.theorem k (mp_equation s (image b)) =
+    subst (λ (u : Nameless). Shows c.in-Ok-by_theorem.equation.theorem k u) (image-equation whole b bool_type zero.formula.typed ∙ ap (λ (u : Nameless). nameless_equation bool_type u (image b)) first.concludes) equation_shown in
+    given-derives room c.eq_mp.result (k ++ h) (image b)
+    (c.eq_mp.ensures.gives k h (nameless.implication s (image b)) (image b) at_images first)

@@ -1,0 +1,36 @@
+use Rattle.std.proofs.Common.{◌≡◌, ◌∙◌, [], ◌∷◌, ◌++◌, true, Option, Some, sym, subst, ap, refl}
+use Rattle.hol_model.specs.declared.fault.Fault.TheVariants.{BadShape, NotAlpha}
+use Rattle.hol_model.specs.NamedTerm.{NamedTerm}
+use Rattle.hol_model.specs.Nameless.{Nameless, image, same_term}
+use Rattle.hol_model.specs.Outcome.{given, unless}
+use Rattle.hol_model.specs.Theorem.{are_alpha_equivalent}
+use Rattle.hol_model.specs.DerivedRules.{images, stated, terms_of_theorem, mp_outcome}
+use Rattle.hol_model.proofs.Tests.{same_term-Decides}
+use Rattle.hol_bool.specs.Room.{IsSized}
+use Rattle.hol_bool.specs.Sequents.{Shows}
+use Rattle.hol_bool.proofs.CutLemmas.{shows-itself}
+use Rattle.hol_bool.proofs.RuleAnswers.{answered}
+use Rattle.hol_bool.proofs.ConjunctionAnswers.{mp-equation-fits, first-roomy, stated-roomy, swapped-set}
+use Rattle.hol_bool.proofs.implication_rules.mp.Goals as goal
+
+pub returns-clause-outcome : goal.returns-clause-outcome
+returns-clause-outcome c =
+    let first = c.args.first.now.theorem in
+    let second = c.args.second.now.theorem in
+    let a = c.in-Some.sides.left.now in
+    let b = c.in-Some.sides.right.now in
+    let parts = c.in-Some.ensures.parts in
+    let wanted = images first ++ images second in
+    let meet : are_alpha_equivalent a second.conclusion ≡ true =
+    subst (λ (t : NamedTerm). same_term (image a) (image t) ≡ true) c.conclusion_of.ensures.value (sym c.aconv.ensures.value ∙ c.if-not-aconv.false) in
+    let same : image a ≡ image second.conclusion = (same_term-Decides (image a) (image second.conclusion)).0 meet in
+    answered c.implied.result (terms_of_theorem first ++ terms_of_theorem second) (images second ++ images first) wanted b (mp_outcome first second)
+    (ap (λ (o : Option (NamedTerm × NamedTerm)). given o BadShape (λ sides. unless (are_alpha_equivalent sides.0 second.conclusion) NotAlpha (stated wanted sides.1))) (sym c.in-Some.ensures.sides)
+    ∙ ap (λ test. unless test NotAlpha (stated wanted b)) meet)
+    (swapped-set (images first) (images second))
+    (λ room roomy. c.implied.ensures.derives (images first) (images second) (image a) room
+    (subst (λ (t : Nameless). Shows first (images first) t) (ap image parts.is) (shows-itself first))
+    (subst (λ (t : Nameless). Shows second (images second) t) (sym same) (shows-itself second))
+    (mp-equation-fits room (image a) (image b) (subst (λ (t : Nameless). room ≡ true → IsSized 1000 5000 t) (ap image parts.is) (first-roomy room first second (image b ∷ wanted) roomy))
+    (stated-roomy room (terms_of_theorem first ++ terms_of_theorem second) wanted (image b) roomy)))
+    c.implied.ensures.names

@@ -1,0 +1,40 @@
+use Rattle.std.proofs.Common.{◌≡◌, [], ◌∷◌, sym, subst, refl}
+use Rattle.std.specs.List.{list_all}
+use Rattle.hol_model.specs.HolType.{bool_type}
+use Rattle.hol_model.specs.Nameless.{Nameless, image}
+use Rattle.hol_model.specs.Measures.{nameless_within_limits}
+use Rattle.hol_model.specs.Derivable.{nameless_equation}
+use Rattle.hol_model.specs.Instantiation.{instantiate_all}
+use Rattle.hol_bool.specs.Sequents.{Shows, DerivesIf, instance_of}
+use Rattle.hol_bool.proofs.Sizes.{past-room}
+use Rattle.hol_bool.proofs.CutLemmas.{derives-where}
+use Rattle.hol_bool.proofs.PreludeSteps.{leads-shows, way-fits, equation-fits}
+use Rattle.hol_bool.proofs.prelude_rules.by_theorem.Goals as goal
+
+pub returns-in-Err-clause-derives : goal.returns-in-Err-clause-derives
+returns-in-Err-clause-derives c h premise room leads shows =
+    let theory = c.args.recorder.now.theory in
+    let terms = c.args.terms.now in
+    let stated = image c.args.stated.now in
+    let at = instance_of [] terms in
+    let p = image leads.hypothesis in
+    let d = image leads.stated in
+    past-room c.in-Err.fault (list_all nameless_within_limits (instantiate_all [] d ∷ instantiate_all [] p ∷ at d ∷ at p ∷ nameless_equation bool_type (at p) (at d) ∷ [])) room
+    (c.in-Err.ensures.derives refl leads.may_replace h p d (leads-shows theory c.args.number terms room premise stated leads c.theorem_of-lemma.result.now.theorem c.theorem_of-lemma.ensures.theorem)
+    (subst (λ (t : Nameless). Shows c.args.premise.now.theorem h t) leads.premise_is shows))
+    (way-fits theory c.args.number terms room premise stated leads)
+
+pub returns-clause-derives : goal.returns-clause-derives
+returns-clause-derives c h premise room leads shows =
+    let theory = c.args.recorder.now.theory in
+    let terms = c.args.terms.now in
+    let stated = image c.args.stated.now in
+    let at = instance_of [] terms in
+    let p = image leads.hypothesis in
+    let d = image leads.stated in
+    let answer : Shows c.in-Ok.answer.theorem h (at d) =
+    c.in-Ok.ensures.derives refl leads.may_replace h p d (leads-shows theory c.args.number terms room premise stated leads c.theorem_of-lemma.result.now.theorem c.theorem_of-lemma.ensures.theorem)
+    (subst (λ (t : Nameless). Shows c.args.premise.now.theorem h t) leads.premise_is shows) in
+    derives-where (nameless_within_limits (nameless_equation bool_type stated stated)) room c.named.result h stated
+    (equation-fits room stated stated leads.conclusion_fits leads.conclusion_fits)
+    (c.named.ensures.derives h (subst (λ (t : Nameless). Shows c.in-Ok.answer.theorem h t) (sym leads.conclusion_is) answer))

@@ -1,0 +1,118 @@
+// Rules of conjunction.
+ghost use Rattle.std.specs.Prelude.{◌≡◌, ◌++◌, List, IfOk};
+ghost use Rattle.hol_model.specs.HolType.{bool_type};
+ghost use Rattle.hol_model.specs.Nameless.{Nameless};
+ghost use Rattle.hol_model.specs.Logic as nameless;
+ghost use Rattle.hol_model.specs.NamedLogic.{conjunction};
+ghost use Rattle.hol_model.specs.Derivable.{nameless_equation};
+ghost use Rattle.hol_model.specs.DerivedRules.{AnswersStated, terms_of_theorem, conj_outcome, conjunct1_outcome, conjunct2_outcome};
+ghost use Rattle.hol_journal.specs.Journal.{IsMade, theorem_in};
+ghost use Rattle.hol_bool.specs.HasLogic.{HasLogic};
+ghost use Rattle.hol_bool.specs.Room.{Room, FitsIf};
+ghost use Rattle.hol_bool.specs.Sequents.{Shows, DerivesIf, Continues};
+
+use crate::formula_terms::{connect, equivalence, for_p_q};
+use crate::prelude_rules::{by_theorem, conclusion_of, sides_of};
+use crate::steps;
+use crate::stored::Bool;
+use hol_journal::{Rec, Recorder};
+use hol_model::Fault;
+use std::alloc::Global;
+
+/// CONJUNCT1: from `p /\ q`, `p`. Refused where the conclusion is no conjunction.
+pub fn conjunct1(
+    recorder: &mut Recorder,
+    alloc: Global,
+    logic: &Bool,
+    premise: &Rec,
+) -> Result<Rec, Fault>
+    requires logic { HasLogic recorder.old logic.now }
+    requires premise { IsMade recorder.old premise.now }
+    ensures continues { Continues recorder.old recorder.new result }
+    ensures outcome { AnswersStated (theorem_in result) (terms_of_theorem premise.now.theorem) (conjunct1_outcome premise.now.theorem) }
+{
+    let Some(sides) = sides_of(recorder, logic, premise, "/\\") else {
+        return Err(Fault::BadShape);
+    };
+    let terms = match for_p_q(alloc, sides.left, sides.right) {
+        Ok(terms) => terms,
+        Err(fault) => return Err(fault),
+    };
+    by_theorem(recorder, alloc, logic, 13, &terms, sides.left, premise)
+}
+
+/// CONJUNCT2: from `p /\ q`, `q`. Refused where the conclusion is no conjunction.
+pub fn conjunct2(
+    recorder: &mut Recorder,
+    alloc: Global,
+    logic: &Bool,
+    premise: &Rec,
+) -> Result<Rec, Fault>
+    requires logic { HasLogic recorder.old logic.now }
+    requires premise { IsMade recorder.old premise.now }
+    ensures continues { Continues recorder.old recorder.new result }
+    ensures outcome { AnswersStated (theorem_in result) (terms_of_theorem premise.now.theorem) (conjunct2_outcome premise.now.theorem) }
+{
+    let Some(sides) = sides_of(recorder, logic, premise, "/\\") else {
+        return Err(Fault::BadShape);
+    };
+    let terms = match for_p_q(alloc, sides.left, sides.right) {
+        Ok(terms) => terms,
+        Err(fault) => return Err(fault),
+    };
+    by_theorem(recorder, alloc, logic, 14, &terms, sides.right, premise)
+}
+
+// CONJ, with the room that it needs.
+#[tactic(auto, using(crate::proofs::StepLemmas::still_made, crate::proofs::StepLemmas::now_made))]
+pub(crate) fn joined(
+    recorder: &mut Recorder,
+    alloc: Global,
+    logic: &Bool,
+    first: &Rec,
+    second: &Rec,
+) -> Result<Rec, Fault>
+    requires logic { HasLogic recorder.old logic.now }
+    requires first { IsMade recorder.old first.now }
+    requires second { IsMade recorder.old second.now }
+    ensures continues { Continues recorder.old recorder.new result }
+    ensures names { IfOk result (λ made. made.theorem.conclusion ≡ conjunction first.now.theorem.conclusion second.now.theorem.conclusion) }
+    ensures derives { (h k : List Nameless) (p q : Nameless) (room : Room) → Shows first.now.theorem h p → Shows second.now.theorem k q → FitsIf room (nameless_equation bool_type q (nameless.conjunction p q)) → DerivesIf room result (h ++ k) (nameless.conjunction p q) }
+{
+    let p = conclusion_of(recorder, first);
+    let q = conclusion_of(recorder, second);
+    let both = match connect(alloc, "/\\", p, q) {
+        Ok(both) => both,
+        Err(fault) => return Err(fault),
+    };
+    let stated = match equivalence(alloc, q, &both) {
+        Ok(stated) => stated,
+        Err(fault) => return Err(fault),
+    };
+    let terms = match for_p_q(alloc, p, q) {
+        Ok(terms) => terms,
+        Err(fault) => return Err(fault),
+    };
+    let equation = match by_theorem(recorder, alloc, logic, 25, &terms, &stated, first) {
+        Ok(equation) => equation,
+        Err(fault) => return Err(fault),
+    };
+    steps::eq_mp(recorder, alloc, &equation, second)
+}
+
+/// CONJ: from `p` and `q`, `p /\ q`.
+pub fn conj(
+    recorder: &mut Recorder,
+    alloc: Global,
+    logic: &Bool,
+    first: &Rec,
+    second: &Rec,
+) -> Result<Rec, Fault>
+    requires logic { HasLogic recorder.old logic.now }
+    requires first { IsMade recorder.old first.now }
+    requires second { IsMade recorder.old second.now }
+    ensures continues { Continues recorder.old recorder.new result }
+    ensures outcome { AnswersStated (theorem_in result) (terms_of_theorem first.now.theorem ++ terms_of_theorem second.now.theorem) (conj_outcome first.now.theorem second.now.theorem) }
+{
+    joined(recorder, alloc, logic, first, second)
+}

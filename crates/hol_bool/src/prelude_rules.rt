@@ -1,0 +1,86 @@
+// Steps by the theorems of the prelude.
+ghost use Rattle.std.specs.Prelude.{◌≡◌, ◌<◌, List, IfOk, IfErr, OnOk, IfSome, Some, length};
+ghost use Rattle.std.specs.Option.{option_map};
+ghost use Rattle.hol_model.specs.Theory.{generic_type};
+ghost use Rattle.hol_model.specs.Logic.{logical_definitions, binary};
+ghost use Rattle.hol_model.specs.NamedLogic.{dest_connected};
+ghost use Rattle.hol_model.specs.Nameless.{Nameless, image};
+ghost use Rattle.hol_journal.specs.Journal.{IsMade};
+ghost use Rattle.hol_bool.specs.Prelude.{prelude_theorems};
+ghost use Rattle.hol_bool.specs.HasLogic.{HasLogic};
+ghost use Rattle.hol_bool.specs.Formulas.{IsFormula, AreSides, IsPassed, IsRefused};
+ghost use Rattle.hol_bool.specs.Room.{Room, LeadsTo};
+ghost use Rattle.hol_bool.specs.Sequents.{Shows, DerivesIf, Continues};
+
+use crate::equality::named;
+use crate::formula_terms::{Sides, connected_sides};
+use crate::lemma::by_lemma;
+use crate::stored::{Bool, theorem_of};
+use hol_journal::{Rec, Recorder};
+use hol_model::Fault;
+use hol_terms::Term;
+use std::alloc::Global;
+
+/// From the hypothesis of a theorem of the prelude at these terms, its conclusion there with these names, in six steps.
+pub(crate) fn by_theorem(
+    recorder: &mut Recorder,
+    alloc: Global,
+    logic: &Bool,
+    number: usize,
+    terms: &[(Term, Term)],
+    stated: &Term,
+    premise: &Rec,
+) -> Result<Rec, Fault>
+    requires logic { HasLogic recorder.old logic.now }
+    requires number { number < length prelude_theorems }
+    requires premise { IsMade recorder.old premise.now }
+    ensures continues { Continues recorder.old recorder.new result }
+    ensures names { IfOk result (λ made. made.theorem.conclusion ≡ stated.now) }
+    ensures derives { (h : List Nameless) (p : Nameless) (room : Room) → LeadsTo recorder.old.theory number terms.now room p (image stated.now) → Shows premise.now.theorem h p → DerivesIf room result h (image stated.now) }
+{
+    let lemma = theorem_of(recorder, logic, number);
+    let answer = match by_lemma(recorder, alloc, &[], terms, lemma, premise) {
+        Ok(answer) => answer,
+        Err(fault) => return Err(fault),
+    };
+    named(recorder, alloc, stated, &answer)
+}
+
+/// The conclusion of a theorem that this recorder made.
+pub(crate) fn conclusion_of<'a>(recorder: &Recorder, premise: &'a Rec) -> &'a Term
+    requires { IsMade recorder.now premise.now }
+    ensures value { result.now ≡ premise.now.theorem.conclusion }
+    ensures formula { IsFormula recorder.now.theory premise.now.theorem.conclusion }
+{
+    recorder.theory_is_legal();
+    recorder.thm(premise).concl()
+}
+
+/// The sides of a conclusion with the binary connective of this name.
+pub(crate) fn sides_of<'a>(
+    recorder: &Recorder,
+    _logic: &Bool,
+    premise: &'a Rec,
+    name: &str,
+) -> Option<Sides<'a>>
+    requires logic { HasLogic recorder.now _logic.now }
+    requires name { generic_type logical_definitions name.now ≡ Some binary }
+    requires premise { IsMade recorder.now premise.now }
+    ensures sides { option_map (λ sides. (sides.left.now, sides.right.now)) result ≡ dest_connected name.now premise.now.theorem.conclusion }
+    ensures parts { IfSome result (λ sides. AreSides recorder.now.theory name.now premise.now.theorem.conclusion sides.left.now sides.right.now) }
+{
+    recorder.theory_is_legal();
+    connected_sides(conclusion_of(recorder, premise), name)
+}
+
+/// Walks a term that comes in: it is to be a formula that the theory knows.
+pub(crate) fn pass_formula(recorder: &Recorder, alloc: Global, term: &Term) -> Result<(), Fault>
+    ensures ok { OnOk result (IsPassed recorder.now.theory term.now) }
+    ensures err { IfErr result (IsRefused recorder.now.theory term.now) }
+{
+    let _type = term.ty();
+    match recorder.theory().assume(alloc, term) {
+        Ok(_assumed) => Ok(()),
+        Err(fault) => Err(fault),
+    }
+}
