@@ -8,3 +8,6 @@ mod specialization;
 
 pub use generalization::generalize;
 pub use specialization::spec;
+
+#[cfg(test)]
+mod rule_tests;
