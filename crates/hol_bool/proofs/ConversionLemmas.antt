@@ -1,9 +1,8 @@
 -- A redex of known parts: what is past the limits on the way to its conversion, and the conversion itself.
-use Rattle.std.proofs.Common.{◌≡◌, ℕ, List, [], ◌∷◌, Bool, true, false, ◌&&◌, refl, ap, subst, Some, Result, Err}
-use Rattle.std.specs.List.{list_all}
+use Rattle.std.proofs.Common.{◌≡◌, ℕ, List, [], ◌∷◌, Bool, true, false, ◌&&◌, refl, subst, Some, Result, Err}
 use Rattle.hol_model.specs.declared.fault.Fault.{Fault}
 use Rattle.hol_model.specs.HolType.{HolType}
-use Rattle.hol_model.specs.NamedTerm.{NamedTerm, variable, combination, abstraction, type_of}
+use Rattle.hol_model.specs.NamedTerm.{NamedTerm, variable, abstraction, type_of}
 use Rattle.hol_model.specs.Nameless.{Nameless, free, app, image}
 use Rattle.hol_model.specs.Measures.{nameless_within_limits}
 use Rattle.hol_model.specs.Substitution.{put_all}

@@ -20,8 +20,8 @@ mod stored;
 mod truth;
 mod truth_rules;
 
-pub use conversion::converted;
 pub use conjunction_rules::{conj, conjunct1, conjunct2};
+pub use conversion::converted;
 pub use equality::{add_assum, beta_conv, named, prove_hyp, sym};
 pub use implication_rules::mp;
 pub use lemma::{by_lemma, instance};

@@ -1,5 +1,5 @@
 -- GEN: the parts of a call, and what it answers.
-use Rattle.std.proofs.Common.{◌≡◌, ◌⊎◌, ℕ, ◌≤◌, List, [], ◌∷◌, ◌++◌, map, Bool, true, false, ◌&&◌, ◌||◌, not, refl, sym, ◌∙◌, ap, subst, inl, inr, Option, Some, None, Result, Ok, Err, IfOk, arith}
+use Rattle.std.proofs.Common.{◌≡◌, ℕ, List, [], ◌∷◌, map, Bool, true, false, ◌&&◌, ◌||◌, refl, sym, ◌∙◌, ap, subst, inl, inr, Option, Some, Result, Ok, Err, IfOk, arith}
 use Rattle.std.specs.Prelude.{codes}
 use Rattle.std.specs.List.{list_all}
 use Rattle.std.specs.Option.{option_map_or}
@@ -17,7 +17,7 @@ use Rattle.hol_model.specs.Substitution.{occurs_free}
 use Rattle.hol_model.specs.Theory.{Theory, IsLegal, IsKnown, IsKnownType}
 use Rattle.hol_model.specs.KnownTerm.{knows_type, is_known}
 use Rattle.hol_model.specs.Theorem.{Theorem, IsTheorem}
-use Rattle.hol_model.specs.Derivable.{IsMember, NotFreeInAny, nameless_equation}
+use Rattle.hol_model.specs.Derivable.{NotFreeInAny, nameless_equation}
 use Rattle.hol_model.specs.Outcome.{Answers, unless}
 use Rattle.hol_model.specs.Rules.{is_free_in_hypotheses, limited, abstraction_outcome}
 use Rattle.hol_model.specs.DerivedRules.{Stated, AnswersStated, named, images, terms_of_theorem, terms_of_stated, is_roomy, is_free_in_some, gen_outcome}

@@ -1,11 +1,11 @@
 -- GEN: the lemmas at a formula and at its abstraction, and the answer.
-use Rattle.std.proofs.Common.{◌≡◌, ◌⊎◌, ℕ, ◌≤◌, List, [], ◌∷◌, ◌++◌, map, Bool, true, false, ◌&&◌, ◌||◌, not, if◌then◌else◌, refl, sym, ◌∙◌, ap, subst, inl, inr, Option, Some, None, Result, Ok, Err, IfOk, IfErr, arith}
+use Rattle.std.proofs.Common.{◌≡◌, [], ◌∷◌, Bool, true, false, ◌&&◌, not, if◌then◌else◌, refl, ◌∙◌, ap, subst, Some, None, Result, Ok, Err, IfErr, arith}
 use Rattle.std.specs.Prelude.{codes}
 use Rattle.std.specs.List.{list_all}
 use Rattle.hol_model.specs.declared.fault.Fault.{Fault}
 use Rattle.hol_model.specs.declared.fault.Fault.TheVariants.{BadName, TooLarge}
 use Rattle.hol_model.specs.HolType.{HolType, bool_type, function_type}
-use Rattle.hol_model.specs.NamedTerm.{NamedTerm, variable, constant, combination, type_of, type_fits}
+use Rattle.hol_model.specs.NamedTerm.{NamedTerm, variable, constant, type_of, type_fits}
 use Rattle.hol_model.specs.NamedLogic.{true_term}
 use Rattle.hol_model.specs.Nameless.{Nameless, free, const, app, image}
 use Rattle.hol_model.specs.Measures.{nameless_within_limits}
@@ -17,7 +17,6 @@ use Rattle.hol_model.specs.Constructors.{constant_outcome, function_type_outcome
 use Rattle.hol_model.specs.KnownTerm.{knows_types, knows_constants, has_instances}
 use Rattle.hol_model.specs.Instantiation.{replacements_refusal}
 use Rattle.hol_model.specs.DerivedRules.{is_roomy}
-use Rattle.hol_model.proofs.HolTypeEq.{type_eq-self}
 use Rattle.hol_model.proofs.NamedTests.{is_known-Decides}
 use Rattle.hol_model.proofs.Outcomes.{passed_value}
 use Rattle.hol_bool.specs.Sequents.{IsPast}
@@ -54,8 +53,11 @@ truth-fits p roomy =
     let sized = (leaves_room p roomy).sized in
     let equal = sized-equation 1000 5000 1 bool_type p truth (omega arith) (omega arith) sized truth-sized in
     let both = sized-equation 1002 5000 5004 bool_type p (nameless_equation bool_type p truth) (omega arith) (omega arith) (sized-more 1000 5000 1002 5000 p sized (omega arith) (omega arith)) equal in
-    rw (sized-within 1002 5004 (nameless_equation bool_type p truth) equal (omega arith) (omega arith), sized-within 1000 5000 p sized (omega arith) (omega arith),
-    sized-within 1004 10007 (nameless_equation bool_type p (nameless_equation bool_type p truth)) both (omega arith) (omega arith)) refl
+    rw (
+      sized-within 1002 5004 (nameless_equation bool_type p truth) equal (omega arith) (omega arith),
+      sized-within 1000 5000 p sized (omega arith) (omega arith),
+      sized-within 1004 10007 (nameless_equation bool_type p (nameless_equation bool_type p truth)) both (omega arith) (omega arith),
+    ) refl
 
 -- !x. p
 

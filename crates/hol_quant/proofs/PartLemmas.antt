@@ -1,13 +1,12 @@
 -- A known quantified formula by its parts.
-use Rattle.std.proofs.Common.{◌≡◌, ℕ, List, [], ◌∷◌, Bool, true, refl, sym, ◌∙◌, ap, subst, Option, Some, None, if◌then◌else◌}
+use Rattle.std.proofs.Common.{◌≡◌, ℕ, List, [], true, sym, ◌∙◌, ap, subst, Option, Some}
 use Rattle.std.specs.Prelude.{codes}
 use Rattle.std.specs.Option.{option_map, option_map_or}
-use Rattle.std.specs.Str.{bytes_eq}
 use Rattle.std.proofs.lemmas.Slice.Eq.{bytes_eq-Decides}
 use Rattle.hol_model.specs.HolType.{HolType, bool_type, function_type, instantiate_type}
 use Rattle.hol_model.specs.NamedTerm.{NamedTerm, variable, constant, combination, abstraction, type_of, dest_abstraction}
 use Rattle.hol_model.specs.NamedLogic.{Abstracted, is_constant_named, dest_quantified}
-use Rattle.hol_model.specs.Nameless.{Nameless, const, app, lam, HasType, image}
+use Rattle.hol_model.specs.Nameless.{Nameless, const, app, HasType, image}
 use Rattle.hol_model.specs.Logic.{predicate, quantifier}
 use Rattle.hol_model.specs.Theory.{Theory, IsKnown, generic_type, type_a}
 use Rattle.hol_model.proofs.Images.{image-type, image-abstraction}

@@ -1,5 +1,5 @@
 -- What single theorems of the prelude show.
-use Rattle.std.proofs.Common.{◌≡◌, [], ◌∷◌, Some, refl, subst}
+use Rattle.std.proofs.Common.{◌≡◌, [], ◌∷◌, Some, subst}
 use Rattle.std.specs.Prelude.{slice_get}
 use Rattle.hol_model.specs.Theorem.{Theorem}
 use Rattle.hol_model.specs.HolType.{bool_type}

@@ -1,5 +1,5 @@
 -- What is made of quantified formulas that leave room is within the limits.
-use Rattle.std.proofs.Common.{◌≡◌, ℕ, ◌+◌, ◌≤◌, List, [], ◌∷◌, Bool, true, false, ◌&&◌, refl, sym, ◌∙◌, ap, subst, Some, arith, nat_le}
+use Rattle.std.proofs.Common.{◌≡◌, ℕ, ◌+◌, ◌≤◌, List, [], Bool, true, false, ◌&&◌, refl, sym, ◌∙◌, ap, Some, arith, nat_le}
 use Rattle.std.proofs.lemmas.Bool.{leb-true, le-leb}
 use Rattle.hol_model.specs.declared.limits.TheConstants.{TYPE_NODES_LIMIT, TERM_NODES_LIMIT, TERM_HEIGHT_LIMIT}
 use Rattle.hol_model.specs.HolType.{HolType, bool_type, type_nodes}
@@ -76,8 +76,11 @@ conversion-within name ty body argument room argument_sized result_sized =
     let redex = sized-app 1000 5000 5000 (closed name ty body) (image argument) room.function argument_sized in
     let result = fill (image argument) (close name ty (image body)) in
     let third = sized-equation 1001 10001 5000 bool_type (app (closed name ty body) (image argument)) result (omega arith) (omega arith) redex (sized-more 1000 5000 1001 5000 result result_sized (omega arith) (omega arith)) in
-    rw (sized-within 1001 5002 (trivial name ty body) first (omega arith) (omega arith), sized-within 1003 10005 (nameless_equation bool_type (trivial name ty body) (image body)) second (omega arith) (omega arith),
-    sized-within 1003 15004 (conversion name ty bool_type body argument) third (omega arith) (omega arith)) refl
+    rw (
+      sized-within 1001 5002 (trivial name ty body) first (omega arith) (omega arith),
+      sized-within 1003 10005 (nameless_equation bool_type (trivial name ty body) (image body)) second (omega arith) (omega arith),
+      sized-within 1003 15004 (conversion name ty bool_type body argument) third (omega arith) (omega arith),
+    ) refl
 
 -- an instance of a lemma
 pub lemma-within : (ty : HolType) (function element : NamedTerm) (p q left right : Nameless) → at_predicate ty function element p ≡ left → at_predicate ty function element q ≡ right

@@ -1,10 +1,10 @@
 -- SPEC: the lemma at a predicate and an element, and the answer.
-use Rattle.std.proofs.Common.{◌≡◌, ◌⊎◌, ℕ, ◌≤◌, List, [], ◌∷◌, ◌++◌, map, Bool, true, false, ◌&&◌, refl, sym, ◌∙◌, ap, subst, inl, inr, Option, Some, None, Result, Ok, Err, IfOk, arith}
+use Rattle.std.proofs.Common.{◌≡◌, ℕ, List, [], ◌∷◌, ◌++◌, true, refl, sym, ◌∙◌, ap, subst, inl, inr, Option, Some, None, Result, Ok, Err, IfOk, arith}
 use Rattle.std.specs.Prelude.{codes}
 use Rattle.std.specs.List.{list_all}
 use Rattle.hol_model.specs.declared.fault.Fault.{Fault}
 use Rattle.hol_model.specs.declared.fault.Fault.TheVariants.{Memory}
-use Rattle.hol_model.specs.HolType.{HolType, bool_type, type_nodes}
+use Rattle.hol_model.specs.HolType.{HolType, bool_type}
 use Rattle.hol_model.specs.NamedTerm.{NamedTerm, combination, type_of, dest_abstraction, equation}
 use Rattle.hol_model.specs.NamedLogic.{is_constant_named}
 use Rattle.hol_model.specs.Nameless.{Nameless, free, const, app, image}
@@ -23,11 +23,11 @@ use Rattle.hol_model.proofs.Membership.{IsMember-append_right}
 use Rattle.hol_model.proofs.Tests.{first_of_both, second_of_both}
 use Rattle.hol_kernel.proofs.RuleLemmas.{known_term}
 use Rattle.hol_journal.specs.Journal.{Journal, Recorded, IsMade, theorem_in}
-use Rattle.hol_bool.specs.Sequents.{Shows, DerivesIf, IsPast}
+use Rattle.hol_bool.specs.Sequents.{DerivesIf, IsPast}
 use Rattle.hol_bool.specs.Conversions.{closed, conversion_fits}
 use Rattle.hol_bool.proofs.StepLemmas.{refl-derives}
 use Rattle.hol_bool.proofs.CutLemmas.{answers-stated, conclusion-known}
-use Rattle.hol_bool.proofs.Sizes.{IsSized, LeavesRoom, leaves_room, sized-app, sized-equation, sized-more, sized-within, past-room}
+use Rattle.hol_bool.proofs.Sizes.{IsSized, leaves_room, sized-app, sized-equation, sized-more, sized-within}
 use Rattle.hol_quant.specs.PredicateLemmas.{applied, over_predicate, at_type, at_predicate, lemma_fits}
 use Rattle.hol_quant.proofs.PartLemmas.{IsQuantified, quantified-at}
 use Rattle.hol_quant.proofs.RoomLemmas.{PredicateRoom, predicate-room, conversion-within, lemma-within, free-sized, const-sized}

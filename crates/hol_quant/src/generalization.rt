@@ -1,5 +1,5 @@
 // GEN, over the lemmas `p |- p <=> T` and `P = (\x. T) |- (!) P`.
-ghost use Rattle.std.specs.Prelude.{◌≡◌, ◌∷◌, List, [], Some, IfOk, IfErr, codes};
+ghost use Rattle.std.specs.Prelude.{◌≡◌, ◌∷◌, [], Some, IfOk, IfErr, codes};
 ghost use Rattle.hol_model.specs.declared.fault.Fault.TheVariants.{Memory};
 ghost use Rattle.hol_model.specs.HolType.{HolType, bool_type};
 ghost use Rattle.hol_model.specs.Logic.{forall_name, predicate, quantifier};
@@ -7,7 +7,6 @@ ghost use Rattle.hol_model.specs.Measures.{nameless_within_limits};
 ghost use Rattle.hol_model.specs.NamedLogic.{true_term};
 ghost use Rattle.hol_model.specs.NamedTerm.{variable, constant, combination, type_of};
 ghost use Rattle.hol_model.specs.Nameless.{free, const, app, image};
-ghost use Rattle.hol_model.specs.Theory.{generic_type, type_a};
 ghost use Rattle.hol_model.specs.Derivable.{nameless_equation};
 ghost use Rattle.hol_model.specs.Rules.{is_free_in_hypotheses};
 ghost use Rattle.hol_model.specs.DerivedRules.{AnswersStated, images, is_roomy, terms_of_theorem, gen_outcome};

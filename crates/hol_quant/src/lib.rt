@@ -8,6 +8,3 @@ mod specialization;
 
 pub use generalization::generalize;
 pub use specialization::spec;
-
-#[cfg(test)]
-mod rule_tests;

@@ -3,6 +3,8 @@
 
 mod files;
 mod new_file;
+#[cfg(test)]
+mod quantifier_tests;
 mod status;
 
 use clap::{Arg, ArgAction, ArgMatches, Command};

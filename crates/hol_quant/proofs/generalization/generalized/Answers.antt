@@ -1,4 +1,4 @@
-use Rattle.std.proofs.Common.{◌≡◌, [], ◌∷◌, ◌∙◌, List, ap, subst, sym, Err, IfOk}
+use Rattle.std.proofs.Common.{◌≡◌, ◌∙◌, ap, subst, sym, Err, IfOk}
 use Rattle.std.specs.List.{list_all}
 use Rattle.hol_model.specs.HolType.{bool_type}
 use Rattle.hol_model.specs.Logic.{forall_name, predicate, quantifier}
@@ -187,4 +187,3 @@ returns-clause-outcome c =
     gen-answers theory premise binder name ty at c.named.result
     (derives-where (nameless_within_limits (nameless_equation bool_type (image whole) (image whole))) (list_all is_roomy (small theory premise binder name ty at)) c.named.result (images premise) (image whole) (names-within theory premise binder name ty at) derives)
     (subst (λ (t : NamedTerm). IfOk c.named.result (λ made. made.theorem.conclusion ≡ t)) formula_is c.named.ensures.names)
-

@@ -8,7 +8,7 @@ use Rattle.hol_model.specs.Measures.{nameless_within_limits}
 use Rattle.hol_model.specs.Theory.{Theory, IsKnown}
 use Rattle.hol_model.specs.Derivable.{nameless_equation}
 use Rattle.hol_model.specs.Rules.{first_unknown, concluded}
-use Rattle.hol_model.specs.DerivedRules.{AnswersStated, images, is_roomy, terms_of_theorem, spec_outcome}
+use Rattle.hol_model.specs.DerivedRules.{images, is_roomy, terms_of_theorem, spec_outcome}
 use Rattle.hol_model.proofs.Images.{image-abstraction}
 use Rattle.hol_model.proofs.Known.{app-known}
 use Rattle.hol_kernel.proofs.RuleLemmas.{known_term}
@@ -20,7 +20,7 @@ use Rattle.hol_bool.proofs.StepLemmas.{no_unknown}
 use Rattle.hol_bool.proofs.Sizes.{past-room}
 use Rattle.hol_bool.proofs.CutLemmas.{shows-itself, given-derives}
 use Rattle.hol_quant.specs.PredicateLemmas.{applied, over_predicate, lemma_fits}
-use Rattle.hol_quant.proofs.SpecLemmas.{IsWalkRefused, walk-refused, spec-start, small, specialized_body, memory-answers, spec-answers, spec-unknown, walk-within, function_image, premise-at, redex-at, spec-lemma-within, spec-conversion-within}
+use Rattle.hol_quant.proofs.SpecLemmas.{walk-refused, spec-start, small, specialized_body, memory-answers, spec-answers, spec-unknown, walk-within, function_image, premise-at, redex-at, spec-lemma-within, spec-conversion-within}
 use Rattle.hol_quant.proofs.SpecLemmas.IsWalkRefused.{no_memory, unknown, past}
 use Rattle.hol_quant.proofs.specialization.specialized.Goals as goal
 

@@ -1,9 +1,9 @@
 // SPEC and GEN once each, and their refusals in order.
-use crate::{generalize, spec};
 use hol_alpha::aconv;
 use hol_bool::{add_assum, beta_conv, prelude, theorem_of};
 use hol_journal::Recorder;
 use hol_model::Fault;
+use hol_quant::{generalize, spec};
 use hol_terms::{Term, mk_eq};
 use hol_types::Ty;
 use std::alloc::Global;
