@@ -5,21 +5,24 @@ use Rattle.hol_model.specs.declared.fault.Fault.{Fault}
 use Rattle.hol_model.specs.declared.fault.Fault.TheVariants.{NotBool}
 use Rattle.hol_model.specs.HolType.{HolType, bool_type, type_eq}
 use Rattle.hol_model.specs.NamedTerm.{NamedTerm, type_of}
-use Rattle.hol_model.specs.Theory.{Theory, IsLegal, generic_type}
-use Rattle.hol_model.specs.Logic.{logical_definitions, binary}
-use Rattle.hol_model.specs.NamedLogic.{dest_connected}
+use Rattle.hol_model.specs.Nameless.{Nameless, image}
+use Rattle.hol_model.specs.Derivable.{nameless_equation}
+use Rattle.hol_model.proofs.Known.{equation-sides}
+use Rattle.hol_model.specs.Theory.{Theory, IsLegal, IsKnown, generic_type}
+use Rattle.hol_model.specs.Logic.{logical_definitions, true_name, false_name, not_name, unary, binary}
+use Rattle.hol_model.specs.NamedLogic.{true_term, false_term, is_true, is_false, dest_connected, dest_negation}
 use Rattle.hol_model.specs.Theorem.{Theorem, IsTheorem}
 use Rattle.hol_model.specs.Outcome.{unless, refused}
-use Rattle.hol_model.specs.Rules.{is_formula, first_unknown, assume_outcome}
+use Rattle.hol_model.specs.Rules.{dest_equation, is_formula, first_unknown, assume_outcome}
 use Rattle.hol_model.proofs.HolTypeEq.{type_eq-Decides}
 use Rattle.hol_kernel.proofs.RuleLemmas.{known_term}
 use Rattle.hol_journal.specs.Journal.{Journal, Recorded, IsMade}
-use Rattle.hol_journal.proofs.Showing.{formula_of}
+use Rattle.hol_journal.proofs.Showing.{formula_of, sides_of}
 use Rattle.hol_bool.specs.HasLogic.{HasLogic}
-use Rattle.hol_bool.specs.Formulas.{IsFormula, AreSides, IsPassed}
+use Rattle.hol_bool.specs.Formulas.{IsFormula, AreSides, IsNegated, IsPassed}
 use Rattle.hol_bool.specs.declared.stored.Bool.{Bool as Stored}
 use Rattle.hol_bool.proofs.CutLemmas.{IsAssumed, assumed, conclusion-known}
-use Rattle.hol_bool.proofs.LogicLemmas.{logical-type, connected-parts}
+use Rattle.hol_bool.proofs.LogicLemmas.{logical-type, connected-parts, negated-part, constant-is}
 
 pub conclusion-formula : (journal : Journal) → IsLegal journal.theory → (made : Recorded) → IsMade journal made → (theorem : Theorem) → theorem ≡ made.theorem → IsTheorem theorem → IsFormula journal.theory made.theorem.conclusion
 conclusion-formula journal legal made is_made theorem same is =
@@ -34,6 +37,41 @@ pub parts-of : {S : Type 0} (left right : S → NamedTerm) (result : Option S) (
 parts-of left right None journal logic has legal name generic term formula dest = tt
 parts-of left right (Some s) journal logic has legal name generic term formula dest =
     connected-parts journal.theory name (logical-type journal logic has legal name binary generic) term (left s) (right s) (sym dest) formula.known
+
+abbrev pub part_in : {S : Type 0} → (S → NamedTerm) → Option S → Option NamedTerm
+part_in part found = option_map part found
+
+pub part-of : {S : Type 0} (part : S → NamedTerm) (result : Option S) (journal : Journal) (logic : Stored) → HasLogic journal logic → IsLegal journal.theory
+    → (term : NamedTerm) → IsFormula journal.theory term → part_in part result ≡ dest_negation term → IfSome result (λ s. IsNegated journal.theory term (part s))
+part-of part None journal logic has legal term formula dest = tt
+part-of part (Some s) journal logic has legal term formula dest =
+    negated-part journal.theory (logical-type journal logic has legal not_name unary refl) term (part s) (sym dest) formula.known
+
+-- a conclusion that is an equation with `T`
+pub record IsTruthEquation (theory : Theory) (term left : NamedTerm) : Type 0 where
+  pub formula : IsFormula theory left
+  pub image_is : image term ≡ nameless_equation bool_type (image left) (image true_term)
+
+pub truth-equation : (journal : Journal) (logic : Stored) → HasLogic journal logic → IsLegal journal.theory → (theorem : Theorem) → IsTheorem theorem → IsFormula journal.theory theorem.conclusion → (left right : NamedTerm)
+    → dest_equation theorem.conclusion ≡ Some (left, right) → is_true right ≡ true → IsTruthEquation journal.theory theorem.conclusion left
+truth-equation journal logic has legal theorem is formula left right dest true_right =
+    let theory = journal.theory in
+    let e = sides_of theorem is left right dest in
+    let sides = equation-sides theory e.ty (image left) (image right) (subst (λ (t : Nameless). IsKnown theory t bool_type) e.image_is formula.known) in
+    let right_is = constant-is theory true_name right e.ty (logical-type journal logic has legal true_name bool_type refl) true_right sides.right in
+    let same : Some e.ty ≡ Some bool_type = sym e.right_typed ∙ ap type_of right_is in
+    let ty_is : e.ty ≡ bool_type = cc in
+    record {
+      formula = record { typed = e.left_typed ∙ same; known = subst (λ (t : HolType). IsKnown theory (image left) t) ty_is sides.left };
+      image_is = e.image_is ∙ (λ i. nameless_equation (ty_is i) (image left) (image (right_is i)));
+    }
+
+-- a conclusion that is `F`
+pub false-is : (journal : Journal) (logic : Stored) → HasLogic journal logic → IsLegal journal.theory → (term : NamedTerm) → IsFormula journal.theory term → is_false term ≡ true → term ≡ false_term
+false-is journal logic has legal term formula is = constant-is journal.theory false_name term bool_type (logical-type journal logic has legal false_name bool_type refl) is formula.known
+
+abbrev pub sides_as : NamedTerm → NamedTerm → Option (NamedTerm × NamedTerm)
+sides_as left right = Some (left, right)
 
 typed-formula : (term : NamedTerm) → is_formula term ≡ true → type_of term ≡ Some bool_type
 typed-formula term is = go (type_of term) refl is

@@ -15,3 +15,4 @@ pub mod FormulaLemmas
 pub mod RuleAnswers
 pub mod TruthAnswers
 pub mod ConjunctionAnswers
+pub mod ImplicationAnswers

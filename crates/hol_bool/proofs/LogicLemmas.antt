@@ -141,12 +141,13 @@ negated-part theory generic (variable other ty) part dest known = cc
 negated-part theory generic (constant other ty) part dest known = cc
 negated-part theory generic (abstraction other ty x) part dest known = cc
 
--- T and F
-pub constant-is : (theory : Theory) (name : List ℕ) (term : NamedTerm) → generic_type theory name ≡ Some bool_type → is_constant_named name term ≡ true → IsKnown theory (image term) bool_type → term ≡ constant name bool_type
-constant-is theory name (constant other ty) generic named known =
+-- T and F, where the theory knows them
+pub constant-is : (theory : Theory) (name : List ℕ) (term : NamedTerm) (found : HolType) → generic_type theory name ≡ Some bool_type → is_constant_named name term ≡ true → IsKnown theory (image term) found
+    → term ≡ constant name bool_type
+constant-is theory name (constant other ty) found generic named known =
     let name_is : other ≡ name = (bytes_eq-Decides other name).0 named in
-    let ty_is : ty ≡ bool_type = known.typed in
+    let ty_is : ty ≡ bool_type = fixed-type theory other bool_type ty (ap (generic_type theory) name_is ∙ generic) (λ tau. refl) known.parts.1 in
     λ i. constant (name_is i) (ty_is i)
-constant-is theory name (variable other ty) generic named known = cc
-constant-is theory name (combination f x) generic named known = cc
-constant-is theory name (abstraction other ty x) generic named known = cc
+constant-is theory name (variable other ty) found generic named known = cc
+constant-is theory name (combination f x) found generic named known = cc
+constant-is theory name (abstraction other ty x) found generic named known = cc

@@ -29,6 +29,10 @@ use Rattle.hol_bool.proofs.LogicLemmas.{logic-stays}
 pub still_logical : (old new : Journal) (result : Result Recorded Fault) (logic : Stored) → Continues old new result → HasLogic old logic → HasLogic new logic
 still_logical old new result logic continues has = logic-stays old new logic continues.grown has
 
+-- so do formulas of the theory
+pub still_formula : (old new : Journal) (result : Result Recorded Fault) (term : NamedTerm) → Continues old new result → IsFormula old.theory term → IsFormula new.theory term
+still_formula old new result term continues formula = subst (λ (t : Theory). IsFormula t term) (sym continues.theory) formula
+
 -- the theorem of the number says what leads from the premise to the conclusion
 pub leads-shows : (theory : Theory) (number : ℕ) (terms : List (NamedTerm × NamedTerm)) (room : Bool) (premise conclusion : Nameless) (leads : LeadsTo theory number terms room premise conclusion) (theorem : Theorem)
     → slice_get prelude_theorems number ≡ Some theorem → Shows theorem (image leads.hypothesis ∷ []) (image leads.stated)

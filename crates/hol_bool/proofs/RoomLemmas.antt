@@ -78,6 +78,12 @@ connected-past fault name l r s t l_typed r_typed s_is t_is makes room fits =
     let moved = subst (λ (u : NamedTerm). MakesConnected (Err fault) name u r) s_is (subst (λ (u : NamedTerm). MakesConnected (Err fault) name s u) t_is makes) in
     moved room l_typed r_typed fits
 
+abbrev pub MakesNegation : Result NamedTerm Fault → NamedTerm → Type 0
+MakesNegation result part = (room : Bool) → type_of part ≡ Some bool_type → FitsIf room (image (negation part)) → MakesIf room result (negation part)
+
+pub negation-is : (made part : NamedTerm) → type_of part ≡ Some bool_type → MakesNegation (Ok made) part → made ≡ negation part
+negation-is made part typed makes = makes false typed (no_room (image (negation part)))
+
 pub fits-argument : (room : Bool) (f x : Nameless) → FitsIf room (app f x) → FitsIf room x
 fits-argument room f x fits is =
     let whole = fits is in

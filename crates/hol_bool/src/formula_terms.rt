@@ -50,13 +50,7 @@ pub(crate) fn negated_part(term: &Term) -> Option<&Term>
 {
     match term.parts() {
         Parts::Combination(connective, part) => match connective.parts() {
-            Parts::Constant(found, _) => {
-                if found == "~" {
-                    Some(part)
-                } else {
-                    None
-                }
-            }
+            Parts::Constant(found, _) => { if found == "~" { Some(part) } else { None } }
             _ => None,
         },
         _ => None,
@@ -99,12 +93,7 @@ pub(crate) fn equivalence(alloc: Global, left: &Term, right: &Term) -> Result<Te
 }
 
 /// The formula of two formulas and the binary connective of this name.
-pub(crate) fn connect(
-    alloc: Global,
-    name: &str,
-    left: &Term,
-    right: &Term,
-) -> Result<Term, Fault>
+pub(crate) fn connect(alloc: Global, name: &str, left: &Term, right: &Term) -> Result<Term, Fault>
     requires { is_constant_name name.now ≡ true }
     ensures { (room : Room) → type_of left.now ≡ Some bool_type → type_of right.now ≡ Some bool_type → FitsIf room (image (connected name.now left.now right.now)) → MakesIf room result (connected name.now left.now right.now) }
 {

@@ -4,16 +4,18 @@ ghost use Rattle.hol_model.specs.HolType.{bool_type};
 ghost use Rattle.hol_model.specs.Nameless.{Nameless, image};
 ghost use Rattle.hol_model.specs.Logic as nameless;
 ghost use Rattle.hol_model.specs.NamedLogic.{implication};
-ghost use Rattle.hol_model.specs.Derivable.{nameless_equation};
-ghost use Rattle.hol_model.specs.DerivedRules.{AnswersStated, terms_of_theorem, mp_outcome};
+ghost use Rattle.hol_model.specs.Logic.{and_name};
+ghost use Rattle.hol_model.specs.Derivable.{without, nameless_equation};
+ghost use Rattle.hol_model.specs.DerivedRules.{AnswersStated, terms_of_theorem, mp_outcome, disch_outcome, undisch_outcome};
 ghost use Rattle.hol_journal.specs.Journal.{IsMade, theorem_in};
 ghost use Rattle.hol_bool.specs.HasLogic.{HasLogic};
-ghost use Rattle.hol_bool.specs.Formulas.{IsFormula};
+ghost use Rattle.hol_bool.specs.Formulas.{IsFormula, AreSides};
 ghost use Rattle.hol_bool.specs.Room.{Room, FitsIf};
 ghost use Rattle.hol_bool.specs.Sequents.{Shows, DerivesIf, Continues};
 
-use crate::formula_terms::{equivalence, for_p_q};
-use crate::prelude_rules::{by_theorem, conclusion_of, sides_of};
+use crate::conjunction_rules::joined;
+use crate::formula_terms::{connect, equivalence, for_p_q};
+use crate::prelude_rules::{by_theorem, conclusion_of, pass_formula, sides_of};
 use crate::steps;
 use crate::stored::Bool;
 use hol_alpha::aconv;
@@ -79,4 +81,140 @@ pub fn mp(
         return Err(Fault::NotAlpha);
     }
     implied(recorder, alloc, logic, sides.right, first, second)
+}
+
+// From `p /\ q`, as a hypothesis, `p`.
+#[tactic(auto, using(crate::proofs::StepLemmas::still_made, crate::proofs::StepLemmas::now_made, crate::proofs::PreludeSteps::still_logical, crate::proofs::PreludeSteps::still_formula))]
+fn first_of_both(
+    recorder: &mut Recorder,
+    alloc: Global,
+    logic: &Bool,
+    p: &Term,
+    q: &Term,
+    both: &Term,
+) -> Result<Rec, Fault>
+    requires logic { HasLogic recorder.old logic.now }
+    requires sides { AreSides recorder.old.theory and_name both.now p.now q.now }
+    requires both { IsFormula recorder.old.theory both.now }
+    ensures continues { Continues recorder.old recorder.new result }
+    ensures names { IfOk result (λ made. made.theorem.conclusion ≡ p.now) }
+    ensures derives { (room : Room) → FitsIf room (image both.now) → DerivesIf room result (image both.now ∷ []) (image p.now) }
+{
+    let assumed = match steps::assume(recorder, alloc, both) {
+        Ok(assumed) => assumed,
+        Err(fault) => return Err(fault),
+    };
+    let terms = match for_p_q(alloc, p, q) {
+        Ok(terms) => terms,
+        Err(fault) => return Err(fault),
+    };
+    by_theorem(recorder, alloc, logic, 13, &terms, p, &assumed)
+}
+
+// From `q`, `p /\ q <=> p` without the hypothesis `p`.
+#[tactic(auto, using(crate::proofs::StepLemmas::still_made, crate::proofs::StepLemmas::now_made, crate::proofs::PreludeSteps::still_logical, crate::proofs::PreludeSteps::still_formula))]
+fn absorbed(
+    recorder: &mut Recorder,
+    alloc: Global,
+    logic: &Bool,
+    p: &Term,
+    premise: &Rec,
+) -> Result<Rec, Fault>
+    requires logic { HasLogic recorder.old logic.now }
+    requires formula { IsFormula recorder.old.theory p.now }
+    requires premise { IsMade recorder.old premise.now }
+    ensures continues { Continues recorder.old recorder.new result }
+    ensures derives { (h : List Nameless) (q : Nameless) (room : Room) → Shows premise.now.theorem h q → FitsIf room (nameless_equation bool_type (nameless.conjunction (image p.now) q) (nameless.conjunction (image p.now) q)) → DerivesIf room result (without (image p.now) h) (nameless_equation bool_type (nameless.conjunction (image p.now) q) (image p.now)) }
+{
+    let assumed = match steps::assume(recorder, alloc, p) {
+        Ok(assumed) => assumed,
+        Err(fault) => return Err(fault),
+    };
+    let joined = match joined(recorder, alloc, logic, &assumed, premise) {
+        Ok(joined) => joined,
+        Err(fault) => return Err(fault),
+    };
+    let both = conclusion_of(recorder, &joined);
+    let q = conclusion_of(recorder, premise);
+    let first = match first_of_both(recorder, alloc, logic, p, q, both) {
+        Ok(first) => first,
+        Err(fault) => return Err(fault),
+    };
+    steps::deduct_antisym(recorder, alloc, &joined, &first)
+}
+
+// DISCH, with the room that it needs.
+#[tactic(auto, using(crate::proofs::StepLemmas::still_made, crate::proofs::StepLemmas::now_made, crate::proofs::PreludeSteps::still_logical, crate::proofs::PreludeSteps::still_formula))]
+pub(crate) fn discharged(
+    recorder: &mut Recorder,
+    alloc: Global,
+    logic: &Bool,
+    p: &Term,
+    premise: &Rec,
+) -> Result<Rec, Fault>
+    requires logic { HasLogic recorder.old logic.now }
+    requires formula { IsFormula recorder.old.theory p.now }
+    requires premise { IsMade recorder.old premise.now }
+    ensures continues { Continues recorder.old recorder.new result }
+    ensures names { IfOk result (λ made. made.theorem.conclusion ≡ implication p.now premise.now.theorem.conclusion) }
+    ensures derives { (h : List Nameless) (q : Nameless) (room : Room) → Shows premise.now.theorem h q → FitsIf room (nameless_equation bool_type (nameless.conjunction (image p.now) q) (nameless.conjunction (image p.now) q)) → DerivesIf room result (without (image p.now) h) (nameless.implication (image p.now) q) }
+{
+    let q = conclusion_of(recorder, premise);
+    let stated = match connect(alloc, "==>", p, q) {
+        Ok(stated) => stated,
+        Err(fault) => return Err(fault),
+    };
+    let terms = match for_p_q(alloc, p, q) {
+        Ok(terms) => terms,
+        Err(fault) => return Err(fault),
+    };
+    let equation = match absorbed(recorder, alloc, logic, p, premise) {
+        Ok(equation) => equation,
+        Err(fault) => return Err(fault),
+    };
+    by_theorem(recorder, alloc, logic, 16, &terms, &stated, &equation)
+}
+
+/// DISCH: from `q`, `p ==> q` without the hypothesis `p`. Refused where `p` is not of type `bool`, and then where the
+/// theory does not know a type or a constant of it.
+pub fn disch(
+    recorder: &mut Recorder,
+    alloc: Global,
+    logic: &Bool,
+    p: &Term,
+    premise: &Rec,
+) -> Result<Rec, Fault>
+    requires logic { HasLogic recorder.old logic.now }
+    requires premise { IsMade recorder.old premise.now }
+    ensures continues { Continues recorder.old recorder.new result }
+    ensures outcome { AnswersStated (theorem_in result) (image p.now ∷ terms_of_theorem premise.now.theorem) (disch_outcome recorder.old.theory p.now premise.now.theorem) }
+{
+    match pass_formula(recorder, alloc, p) {
+        Ok(()) => {}
+        Err(fault) => return Err(fault),
+    }
+    discharged(recorder, alloc, logic, p, premise)
+}
+
+/// UNDISCH: from `p ==> q`, `q` with the hypothesis `p`. Refused where the conclusion is no implication.
+#[tactic(auto, using(crate::proofs::StepLemmas::still_made, crate::proofs::StepLemmas::now_made, crate::proofs::PreludeSteps::still_logical, crate::proofs::PreludeSteps::still_formula))]
+pub fn undisch(
+    recorder: &mut Recorder,
+    alloc: Global,
+    logic: &Bool,
+    premise: &Rec,
+) -> Result<Rec, Fault>
+    requires logic { HasLogic recorder.old logic.now }
+    requires premise { IsMade recorder.old premise.now }
+    ensures continues { Continues recorder.old recorder.new result }
+    ensures outcome { AnswersStated (theorem_in result) (terms_of_theorem premise.now.theorem) (undisch_outcome premise.now.theorem) }
+{
+    let Some(sides) = sides_of(recorder, logic, premise, "==>") else {
+        return Err(Fault::BadShape);
+    };
+    let assumed = match steps::assume(recorder, alloc, sides.left) {
+        Ok(assumed) => assumed,
+        Err(fault) => return Err(fault),
+    };
+    implied(recorder, alloc, logic, sides.right, premise, &assumed)
 }

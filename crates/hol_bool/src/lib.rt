@@ -13,6 +13,7 @@ mod implication_rules;
 mod lemma;
 mod logic;
 mod making;
+mod negation_rules;
 mod prelude_rules;
 mod sketch;
 mod steps;
@@ -23,11 +24,12 @@ mod truth_rules;
 pub use conjunction_rules::{conj, conjunct1, conjunct2};
 pub use conversion::converted;
 pub use equality::{add_assum, beta_conv, named, prove_hyp, sym};
-pub use implication_rules::mp;
+pub use implication_rules::{disch, mp, undisch};
 pub use lemma::{by_lemma, instance};
+pub use negation_rules::{contr, not_elim, not_intro};
 pub use steps::{abs, eq_mp};
 pub use stored::{Bool, logic_stays, prelude, theorem_of};
-pub use truth_rules::eqt_intro;
+pub use truth_rules::{eqt_elim, eqt_intro};
 
 #[cfg(test)]
 mod prelude_tests;

@@ -1,19 +1,20 @@
 // Steps by the theorems of the prelude.
 ghost use Rattle.std.specs.Prelude.{◌≡◌, ◌<◌, List, IfOk, IfErr, OnOk, IfSome, Some, length};
 ghost use Rattle.std.specs.Option.{option_map};
-ghost use Rattle.hol_model.specs.Theory.{generic_type};
+ghost use Rattle.hol_model.specs.Theory.{IsLegal, generic_type};
+ghost use Rattle.hol_model.specs.Theorem.{IsTheorem};
 ghost use Rattle.hol_model.specs.Logic.{logical_definitions, binary};
-ghost use Rattle.hol_model.specs.NamedLogic.{dest_connected};
+ghost use Rattle.hol_model.specs.NamedLogic.{dest_connected, dest_negation};
 ghost use Rattle.hol_model.specs.Nameless.{Nameless, image};
 ghost use Rattle.hol_journal.specs.Journal.{IsMade};
 ghost use Rattle.hol_bool.specs.Prelude.{prelude_theorems};
 ghost use Rattle.hol_bool.specs.HasLogic.{HasLogic};
-ghost use Rattle.hol_bool.specs.Formulas.{IsFormula, AreSides, IsPassed, IsRefused};
+ghost use Rattle.hol_bool.specs.Formulas.{IsFormula, AreSides, IsNegated, IsPassed, IsRefused};
 ghost use Rattle.hol_bool.specs.Room.{Room, LeadsTo};
 ghost use Rattle.hol_bool.specs.Sequents.{Shows, DerivesIf, Continues};
 
 use crate::equality::named;
-use crate::formula_terms::{Sides, connected_sides};
+use crate::formula_terms::{Sides, connected_sides, negated_part};
 use crate::lemma::by_lemma;
 use crate::stored::{Bool, theorem_of};
 use hol_journal::{Rec, Recorder};
@@ -51,6 +52,8 @@ pub(crate) fn conclusion_of<'a>(recorder: &Recorder, premise: &'a Rec) -> &'a Te
     requires { IsMade recorder.now premise.now }
     ensures value { result.now ≡ premise.now.theorem.conclusion }
     ensures formula { IsFormula recorder.now.theory premise.now.theorem.conclusion }
+    ensures theorem { IsTheorem premise.now.theorem }
+    ensures legal { IsLegal recorder.now.theory }
 {
     recorder.theory_is_legal();
     recorder.thm(premise).concl()
@@ -71,6 +74,20 @@ pub(crate) fn sides_of<'a>(
 {
     recorder.theory_is_legal();
     connected_sides(conclusion_of(recorder, premise), name)
+}
+
+/// The formula under the negation that a conclusion is.
+pub(crate) fn negated_of<'a>(
+    recorder: &Recorder,
+    _logic: &Bool,
+    premise: &'a Rec,
+) -> Option<&'a Term>
+    requires logic { HasLogic recorder.now _logic.now }
+    requires premise { IsMade recorder.now premise.now }
+    ensures found { option_map (λ part. part.now) result ≡ dest_negation premise.now.theorem.conclusion }
+    ensures part { IfSome result (λ part. IsNegated recorder.now.theory premise.now.theorem.conclusion part.now) }
+{
+    negated_part(conclusion_of(recorder, premise))
 }
 
 /// Walks a term that comes in: it is to be a formula that the theory knows.

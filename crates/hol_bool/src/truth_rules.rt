@@ -1,10 +1,11 @@
 // Rules of truth.
-ghost use Rattle.hol_model.specs.DerivedRules.{AnswersStated, terms_of_theorem, eqt_intro_outcome};
+ghost use Rattle.hol_model.specs.DerivedRules.{AnswersStated, terms_of_theorem, eqt_intro_outcome, eqt_elim_outcome};
 ghost use Rattle.hol_journal.specs.Journal.{IsMade, theorem_in};
 ghost use Rattle.hol_bool.specs.HasLogic.{HasLogic};
 ghost use Rattle.hol_bool.specs.Sequents.{Continues};
 
-use crate::formula_terms::{equivalence, for_p, truth};
+use crate::equality::equation_parts;
+use crate::formula_terms::{equivalence, for_p, is_named, truth};
 use crate::prelude_rules::{by_theorem, conclusion_of};
 use crate::stored::Bool;
 use hol_journal::{Rec, Recorder};
@@ -37,4 +38,30 @@ pub fn eqt_intro(
         Err(fault) => return Err(fault),
     };
     by_theorem(recorder, alloc, logic, 9, &terms, &stated, premise)
+}
+
+/// EQT_ELIM: from `p <=> T`, `p`. Refused where the conclusion is no equation with `T` on its right.
+pub fn eqt_elim(
+    recorder: &mut Recorder,
+    alloc: Global,
+    logic: &Bool,
+    premise: &Rec,
+) -> Result<Rec, Fault>
+    requires logic { HasLogic recorder.old logic.now }
+    requires premise { IsMade recorder.old premise.now }
+    ensures continues { Continues recorder.old recorder.new result }
+    ensures outcome { AnswersStated (theorem_in result) (terms_of_theorem premise.now.theorem) (eqt_elim_outcome premise.now.theorem) }
+{
+    let conclusion = conclusion_of(recorder, premise);
+    let Some(parts) = equation_parts(conclusion) else {
+        return Err(Fault::BadShape);
+    };
+    if !is_named(parts.right, "T") {
+        return Err(Fault::BadShape);
+    }
+    let terms = match for_p(alloc, parts.left) {
+        Ok(terms) => terms,
+        Err(fault) => return Err(fault),
+    };
+    by_theorem(recorder, alloc, logic, 10, &terms, parts.left, premise)
 }

@@ -1,4 +1,4 @@
-use Rattle.std.proofs.Common.{[], ◌∷◌, ◌++◌, refl}
+use Rattle.std.proofs.Common.{◌∷◌, ◌++◌, refl}
 use Rattle.hol_model.specs.Nameless.{image}
 use Rattle.hol_model.specs.NamedLogic.{conjunction}
 use Rattle.hol_model.specs.DerivedRules.{images, terms_of_theorem, conj_outcome}

@@ -1,8 +1,7 @@
-use Rattle.std.proofs.Common.{◌≡◌, ◌∙◌, [], ◌∷◌, ◌++◌, List, Ok, Err, sym, subst}
+use Rattle.std.proofs.Common.{◌≡◌, ◌∙◌, [], ◌∷◌, ◌++◌, Err, sym, subst}
 use Rattle.hol_model.specs.HolType.{bool_type}
 use Rattle.hol_model.specs.NamedTerm.{NamedTerm, equation}
 use Rattle.hol_model.specs.Nameless.{Nameless, image}
-use Rattle.hol_model.specs.Derivable.{nameless_equation}
 use Rattle.hol_model.specs.Logic as nameless
 use Rattle.hol_model.specs.Logic.{and_name}
 use Rattle.hol_model.specs.NamedLogic.{conjunction}

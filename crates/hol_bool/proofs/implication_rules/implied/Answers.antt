@@ -1,11 +1,10 @@
-use Rattle.std.proofs.Common.{◌≡◌, ◌∙◌, [], ◌∷◌, ◌++◌, List, Ok, Err, sym, subst, ap, refl}
+use Rattle.std.proofs.Common.{◌≡◌, ◌∙◌, ◌++◌, Err, sym, subst, ap, refl}
 use Rattle.hol_model.specs.HolType.{bool_type}
 use Rattle.hol_model.specs.NamedTerm.{NamedTerm, equation}
 use Rattle.hol_model.specs.Nameless.{Nameless, image}
 use Rattle.hol_model.specs.Derivable.{nameless_equation}
 use Rattle.hol_model.specs.Logic as nameless
 use Rattle.hol_model.proofs.Images.{image-equation}
-use Rattle.hol_bool.specs.Prelude.{p, q}
 use Rattle.hol_bool.specs.Room.{FitsIf, LeadsTo, at_p_q}
 use Rattle.hol_bool.specs.Sequents.{Shows, DerivesIf}
 use Rattle.hol_bool.proofs.CutLemmas.{right-names, given-derives}

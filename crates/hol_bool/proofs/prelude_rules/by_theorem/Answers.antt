@@ -1,11 +1,11 @@
-use Rattle.std.proofs.Common.{◌≡◌, [], ◌∷◌, sym, subst, refl}
+use Rattle.std.proofs.Common.{[], ◌∷◌, sym, subst, refl}
 use Rattle.std.specs.List.{list_all}
 use Rattle.hol_model.specs.HolType.{bool_type}
 use Rattle.hol_model.specs.Nameless.{Nameless, image}
 use Rattle.hol_model.specs.Measures.{nameless_within_limits}
 use Rattle.hol_model.specs.Derivable.{nameless_equation}
 use Rattle.hol_model.specs.Instantiation.{instantiate_all}
-use Rattle.hol_bool.specs.Sequents.{Shows, DerivesIf, instance_of}
+use Rattle.hol_bool.specs.Sequents.{Shows, instance_of}
 use Rattle.hol_bool.proofs.Sizes.{past-room}
 use Rattle.hol_bool.proofs.CutLemmas.{derives-where}
 use Rattle.hol_bool.proofs.PreludeSteps.{leads-shows, way-fits, equation-fits}

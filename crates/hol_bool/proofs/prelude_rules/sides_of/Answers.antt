@@ -1,7 +1,3 @@
-use Rattle.std.proofs.Common.{◌≡◌, subst}
-use Rattle.std.specs.Option.{option_map}
-use Rattle.hol_model.specs.NamedTerm.{NamedTerm}
-use Rattle.hol_model.specs.NamedLogic.{dest_connected}
 use Rattle.hol_bool.proofs.FormulaLemmas.{parts-of}
 use Rattle.hol_bool.proofs.prelude_rules.sides_of.Goals as goal
 

@@ -1,13 +1,12 @@
-use Rattle.std.proofs.Common.{◌≡◌, ◌∙◌, [], ◌∷◌, Err, refl, sym, ap, subst, IfOk}
+use Rattle.std.proofs.Common.{◌≡◌, ◌∙◌, [], ◌∷◌, Err, refl, ap, subst, IfOk}
 use Rattle.hol_model.specs.HolType.{bool_type}
 use Rattle.hol_model.specs.NamedTerm.{NamedTerm, equation}
-use Rattle.hol_model.specs.Nameless.{Nameless, image}
-use Rattle.hol_model.specs.Derivable.{nameless_equation}
+use Rattle.hol_model.specs.Nameless.{image}
 use Rattle.hol_model.specs.NamedLogic.{true_term}
 use Rattle.hol_model.specs.DerivedRules.{images, eqt_intro_outcome}
 use Rattle.hol_model.proofs.Images.{image-equation}
 use Rattle.hol_bool.specs.Prelude.{p}
-use Rattle.hol_bool.specs.Room.{FitsIf, LeadsTo}
+use Rattle.hol_bool.specs.Room.{LeadsTo}
 use Rattle.hol_bool.specs.Sequents.{DerivesIf}
 use Rattle.hol_bool.proofs.CutLemmas.{shows-itself}
 use Rattle.hol_bool.proofs.RoomLemmas.{equation-is, equation-past}

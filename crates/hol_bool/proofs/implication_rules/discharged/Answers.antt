@@ -1,0 +1,48 @@
+use Rattle.std.proofs.Common.{◌≡◌, ◌∙◌, IfOk, refl, sym, subst, ap}
+use Rattle.hol_model.specs.HolType.{bool_type}
+use Rattle.hol_model.specs.NamedTerm.{NamedTerm}
+use Rattle.hol_model.specs.Nameless.{Nameless, image}
+use Rattle.hol_model.specs.Theory.{Theory}
+use Rattle.hol_model.specs.Derivable.{without, nameless_equation}
+use Rattle.hol_model.specs.Logic as nameless
+use Rattle.hol_model.specs.Logic.{implies_name}
+use Rattle.hol_model.specs.NamedLogic.{implication}
+use Rattle.hol_bool.specs.Room.{FitsIf, LeadsTo, at_p_q}
+use Rattle.hol_bool.specs.Sequents.{Shows, DerivesIf}
+use Rattle.hol_bool.proofs.RoomLemmas.{connected-is, connected-past}
+use Rattle.hol_bool.proofs.ImplicationAnswers.{disch_equation, disch-implication-fits, disch-leads}
+use Rattle.hol_bool.proofs.implication_rules.discharged.Goals as goal
+
+pub returns-in-Err-clause-derives : goal.returns-in-Err-clause-derives
+returns-in-Err-clause-derives c h q room shown fits =
+    let a = c.args.p.now in
+    let b = c.args.premise.now.theorem.conclusion in
+    let concluded = c.conclusion_of-q.ensures in
+    connected-past c.in-Err.fault implies_name a b a c.conclusion_of-q.result.now c.requires.formula.typed concluded.formula.typed refl concluded.value c.in-Err.ensures room
+    (disch-implication-fits room (image a) (image b) (subst (λ (t : Nameless). FitsIf room (disch_equation (image a) t)) (sym shown.concludes) fits))
+
+pub returns-clause-names : goal.returns-clause-names
+returns-clause-names c =
+    let a = c.args.p.now in
+    let b = c.args.premise.now.theorem.conclusion in
+    let concluded = c.conclusion_of-q.ensures in
+    let stated_is = connected-is c.in-Ok.stated implies_name a b a c.conclusion_of-q.result.now c.requires.formula.typed concluded.formula.typed refl concluded.value c.in-Ok.ensures in
+    subst (λ (t : NamedTerm). IfOk c.by_theorem.result (λ made. made.theorem.conclusion ≡ t)) stated_is c.by_theorem.ensures.names
+
+pub returns-clause-derives : goal.returns-clause-derives
+returns-clause-derives c h q room shown fits =
+    let a = c.args.p.now in
+    let b = c.args.premise.now.theorem.conclusion in
+    let concluded = c.conclusion_of-q.ensures in
+    let terms = c.deref.result.now in
+    let left = without (image a) h in
+    let stated_is = connected-is c.in-Ok.stated implies_name a b a c.conclusion_of-q.result.now c.requires.formula.typed concluded.formula.typed refl concluded.value c.in-Ok.ensures in
+    let terms_are : terms ≡ at_p_q a b = c.deref.ensures.value ∙ c.in-Ok-for_p_q.ensures.ok ∙ ap (at_p_q a) concluded.value in
+    let fits_here = subst (λ (t : Nameless). FitsIf room (disch_equation (image a) t)) (sym shown.concludes) fits in
+    let from = nameless_equation bool_type (nameless.conjunction (image a) (image b)) (image a) in
+    let leads = subst (λ (t : Theory). LeadsTo t 16 terms room from (image (implication a b))) (sym c.in-Ok-absorbed.ensures.continues.theory) (disch-leads c.args.recorder.now.theory a b terms c.requires.formula concluded.formula terms_are room fits_here) in
+    let equation = subst (λ (t : Nameless). Shows c.in-Ok-absorbed.equation.theorem left (nameless_equation bool_type (nameless.conjunction (image a) t) (image a))) (sym shown.concludes) (c.in-Ok-absorbed.ensures.derives h q room shown fits) in
+    let answer : DerivesIf room c.by_theorem.result left (nameless.implication (image a) (image b)) =
+    subst (λ (t : NamedTerm). LeadsTo c.absorbed.new.recorder.theory 16 terms room from (image t) → DerivesIf room c.by_theorem.result left (image t)) stated_is
+    (λ l. c.by_theorem.ensures.derives left from room l equation) leads in
+    subst (λ (t : Nameless). DerivesIf room c.by_theorem.result left (nameless.implication (image a) t)) shown.concludes answer

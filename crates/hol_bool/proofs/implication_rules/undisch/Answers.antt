@@ -1,0 +1,29 @@
+use Rattle.std.proofs.Common.{◌≡◌, [], ◌∷◌, true, Option, sym, subst, ap, refl, inl}
+use Rattle.hol_model.specs.declared.fault.Fault.TheVariants.{BadShape}
+use Rattle.hol_model.specs.NamedTerm.{NamedTerm}
+use Rattle.hol_model.specs.Nameless.{Nameless, image}
+use Rattle.hol_model.specs.Outcome.{given}
+use Rattle.hol_model.specs.DerivedRules.{images, stated, terms_of_theorem, undisch_outcome}
+use Rattle.hol_bool.specs.Room.{IsSized}
+use Rattle.hol_bool.specs.Sequents.{Shows}
+use Rattle.hol_bool.proofs.CutLemmas.{shows-itself}
+use Rattle.hol_bool.proofs.RuleAnswers.{answered}
+use Rattle.hol_bool.proofs.ConjunctionAnswers.{mp-equation-fits, stated-roomy}
+use Rattle.hol_bool.proofs.implication_rules.undisch.Goals as goal
+
+pub returns-clause-outcome : goal.returns-clause-outcome
+returns-clause-outcome c =
+    let premise = c.args.premise.now.theorem in
+    let a = c.in-Some.sides.left.now in
+    let b = c.in-Some.sides.right.now in
+    let parts = c.in-Some.ensures.parts in
+    let wanted = image a ∷ images premise in
+    answered c.implied.result (terms_of_theorem premise) wanted wanted b (undisch_outcome premise)
+    (ap (λ (o : Option (NamedTerm × NamedTerm)). given o BadShape (λ sides. stated (image sides.0 ∷ images premise) sides.1)) (sym c.in-Some.ensures.sides))
+    (record { to = λ x m. m; back = λ x m. m })
+    (λ room roomy. c.implied.ensures.derives (images premise) (image a ∷ []) (image a) room
+    (subst (λ (t : Nameless). Shows premise (images premise) t) (ap image parts.is) (shows-itself premise))
+    (c.in-Ok.ensures.gives parts.left_formula.known)
+    (mp-equation-fits room (image a) (image b) (subst (λ (t : Nameless). room ≡ true → IsSized 1000 5000 t) (ap image parts.is) (roomy (image premise.conclusion) (inl refl)))
+    (stated-roomy room (terms_of_theorem premise) wanted (image b) roomy)))
+    c.implied.ensures.names

@@ -1,0 +1,27 @@
+use Rattle.std.proofs.Common.{◌≡◌, ◌∙◌, ◌∷◌, true, subst, refl, sym, ap, inl, inr}
+use Rattle.hol_model.specs.NamedTerm.{NamedTerm}
+use Rattle.hol_model.specs.Nameless.{image}
+use Rattle.hol_model.specs.NamedLogic.{false_term, is_false}
+use Rattle.hol_model.specs.DerivedRules.{images, stated, terms_of_theorem, contr_outcome}
+use Rattle.hol_bool.specs.Prelude.{p}
+use Rattle.hol_bool.proofs.CutLemmas.{shows-itself}
+use Rattle.hol_bool.proofs.FormulaLemmas.{false-is}
+use Rattle.hol_bool.proofs.RuleAnswers.{answered, leads-p, roomy-fits}
+use Rattle.hol_bool.proofs.negation_rules.contr.Goals as goal
+
+pub returns-clause-outcome : goal.returns-clause-outcome
+returns-clause-outcome c =
+    let journal = c.args.recorder.now in
+    let premise = c.args.premise.now.theorem in
+    let a = c.args.p.now in
+    let concluded = c.conclusion_of-conclusion.ensures in
+    let passed = c.in-Ok.ensures.ok in
+    let is_falsity : is_false premise.conclusion ≡ true = subst (λ (t : NamedTerm). is_false t ≡ true) concluded.value (sym c.is_named.ensures ∙ c.if-not-is_named.false) in
+    let premise_is = false-is journal c.args.logic.now c.requires.logic concluded.legal premise.conclusion concluded.formula is_falsity in
+    let outcome : contr_outcome journal.theory a premise ≡ stated (images premise) a = rw (is_falsity, passed.is_formula, passed.is_known) refl in
+    answered c.by_theorem.result (image a ∷ terms_of_theorem premise) (images premise) (images premise) a (contr_outcome journal.theory a premise) outcome (record { to = λ x m. m; back = λ x m. m })
+    (λ room roomy. c.by_theorem.ensures.derives (images premise) (image premise.conclusion) room
+    (leads-p journal.theory 24 false_term p a c.deref.result.now refl refl passed.formula (c.deref.ensures.value ∙ c.in-Ok-for_p.ensures.ok) room (image premise.conclusion) (image a) (ap image premise_is) refl
+    (roomy-fits room (image premise.conclusion) (roomy (image premise.conclusion) (inr (inl refl)))) (roomy-fits room (image a) (roomy (image a) (inl refl))))
+    (shows-itself premise))
+    c.by_theorem.ensures.names

@@ -1,0 +1,41 @@
+use Rattle.std.proofs.Common.{◌≡◌, ◌∙◌, Option, Err, IfOk, refl, sym, ap, subst}
+use Rattle.hol_model.specs.declared.fault.Fault.TheVariants.{BadShape}
+use Rattle.hol_model.specs.NamedTerm.{NamedTerm}
+use Rattle.hol_model.specs.Nameless.{image}
+use Rattle.hol_model.specs.Logic.{implies_name}
+use Rattle.hol_model.specs.NamedLogic.{false_term, implication, negation}
+use Rattle.hol_model.specs.Outcome.{given}
+use Rattle.hol_model.specs.DerivedRules.{images, stated, not_elim_outcome}
+use Rattle.hol_bool.specs.Prelude.{p}
+use Rattle.hol_bool.specs.Room.{LeadsTo}
+use Rattle.hol_bool.specs.Sequents.{DerivesIf}
+use Rattle.hol_bool.proofs.CutLemmas.{shows-itself}
+use Rattle.hol_bool.proofs.RoomLemmas.{connected-is, connected-past}
+use Rattle.hol_bool.proofs.RuleAnswers.{answered-one, leads-p, roomy-fits}
+use Rattle.hol_bool.proofs.negation_rules.not_elim.Goals as goal
+
+pub returns-in-Err-connect-clause-outcome : goal.returns-in-Err-connect-clause-outcome
+returns-in-Err-connect-clause-outcome c =
+    let premise = c.args.premise.now.theorem in
+    let a = c.in-Some.part.now in
+    answered-one (Err c.in-Err-connect.fault) premise (implication a false_term) (not_elim_outcome premise)
+    (ap (λ (o : Option NamedTerm). given o BadShape (λ part. stated (images premise) (implication part false_term))) (sym c.in-Some.ensures.found))
+    (λ room whole part. connected-past c.in-Err-connect.fault implies_name a false_term a c.in-Ok.falsity c.in-Some.ensures.part.formula.typed refl refl c.in-Ok.ensures.ok c.in-Err-connect.ensures room
+    (roomy-fits room (image (implication a false_term)) part)) tt
+
+pub returns-clause-outcome : goal.returns-clause-outcome
+returns-clause-outcome c =
+    let theory = c.args.recorder.now.theory in
+    let premise = c.args.premise.now.theorem in
+    let a = c.in-Some.part.now in
+    let negated = c.in-Some.ensures.part in
+    let terms = c.deref.result.now in
+    let stated_is = connected-is c.in-Ok-connect.stated implies_name a false_term a c.in-Ok.falsity negated.formula.typed refl refl c.in-Ok.ensures.ok c.in-Ok-connect.ensures in
+    answered-one c.by_theorem.result premise (implication a false_term) (not_elim_outcome premise)
+    (ap (λ (o : Option NamedTerm). given o BadShape (λ part. stated (images premise) (implication part false_term))) (sym c.in-Some.ensures.found))
+    (λ room whole part.
+    subst (λ (s : NamedTerm). LeadsTo theory 23 terms room (image premise.conclusion) (image s) → DerivesIf room c.by_theorem.result (images premise) (image s)) stated_is
+    (λ leads. c.by_theorem.ensures.derives (images premise) (image premise.conclusion) room leads (shows-itself premise))
+    (leads-p theory 23 (negation p) (implication p false_term) a terms refl refl negated.formula (c.deref.ensures.value ∙ c.in-Ok-for_p.ensures.ok) room (image premise.conclusion) (image (implication a false_term)) (ap image negated.is) refl
+    (roomy-fits room (image premise.conclusion) whole) (roomy-fits room (image (implication a false_term)) part)))
+    (subst (λ (s : NamedTerm). IfOk c.by_theorem.result (λ made. made.theorem.conclusion ≡ s)) stated_is c.by_theorem.ensures.names)

@@ -1,0 +1,48 @@
+use Rattle.std.proofs.Common.{◌≡◌, ◌∙◌, true, Option, Err, IfOk, refl, sym, ap, subst}
+use Rattle.hol_model.specs.declared.fault.Fault.TheVariants.{BadShape}
+use Rattle.hol_model.specs.NamedTerm.{NamedTerm}
+use Rattle.hol_model.specs.Nameless.{image}
+use Rattle.hol_model.specs.NamedLogic.{false_term, is_false, implication, negation}
+use Rattle.hol_model.specs.Outcome.{given, unless}
+use Rattle.hol_model.specs.DerivedRules.{images, stated, not_intro_outcome}
+use Rattle.hol_bool.specs.Prelude.{p}
+use Rattle.hol_bool.specs.Room.{LeadsTo}
+use Rattle.hol_bool.specs.Sequents.{DerivesIf}
+use Rattle.hol_bool.proofs.CutLemmas.{shows-itself}
+use Rattle.hol_bool.proofs.RoomLemmas.{negation-is}
+use Rattle.hol_bool.proofs.FormulaLemmas.{false-is}
+use Rattle.hol_bool.proofs.RuleAnswers.{answered-one, leads-p, roomy-fits}
+use Rattle.hol_bool.proofs.negation_rules.not_intro.Goals as goal
+
+pub returns-in-Err-clause-outcome : goal.returns-in-Err-clause-outcome
+returns-in-Err-clause-outcome c =
+    let premise = c.args.premise.now.theorem in
+    let a = c.in-Some.sides.left.now in
+    let b = c.in-Some.sides.right.now in
+    let false_right : is_false b ≡ true = sym c.is_named.ensures ∙ c.if-not-is_named.false in
+    answered-one (Err c.in-Err.fault) premise (negation a) (not_intro_outcome premise)
+    (ap (λ (o : Option (NamedTerm × NamedTerm)). given o BadShape (λ sides. unless (is_false sides.1) BadShape (stated (images premise) (negation sides.0)))) (sym c.in-Some.ensures.sides)
+    ∙ ap (λ test. unless test BadShape (stated (images premise) (negation a))) false_right)
+    (λ room whole part. c.in-Err.ensures room c.in-Some.ensures.parts.left_formula.typed (roomy-fits room (image (negation a)) part)) tt
+
+pub returns-clause-outcome : goal.returns-clause-outcome
+returns-clause-outcome c =
+    let journal = c.args.recorder.now in
+    let premise = c.args.premise.now.theorem in
+    let a = c.in-Some.sides.left.now in
+    let b = c.in-Some.sides.right.now in
+    let parts = c.in-Some.ensures.parts in
+    let terms = c.deref.result.now in
+    let false_right : is_false b ≡ true = sym c.is_named.ensures ∙ c.if-not-is_named.false in
+    let right_is = false-is journal c.args.logic.now c.requires.logic c.theory_is_legal.ensures b parts.right_formula false_right in
+    let premise_is : image premise.conclusion ≡ image (implication a false_term) = ap image parts.is ∙ ap (λ (t : NamedTerm). image (implication a t)) right_is in
+    let stated_is = negation-is c.in-Ok.stated a parts.left_formula.typed c.in-Ok.ensures in
+    answered-one c.by_theorem.result premise (negation a) (not_intro_outcome premise)
+    (ap (λ (o : Option (NamedTerm × NamedTerm)). given o BadShape (λ sides. unless (is_false sides.1) BadShape (stated (images premise) (negation sides.0)))) (sym c.in-Some.ensures.sides)
+    ∙ ap (λ test. unless test BadShape (stated (images premise) (negation a))) false_right)
+    (λ room whole part.
+    subst (λ (s : NamedTerm). LeadsTo journal.theory 22 terms room (image premise.conclusion) (image s) → DerivesIf room c.by_theorem.result (images premise) (image s)) stated_is
+    (λ leads. c.by_theorem.ensures.derives (images premise) (image premise.conclusion) room leads (shows-itself premise))
+    (leads-p journal.theory 22 (implication p false_term) (negation p) a terms refl refl parts.left_formula (c.deref.ensures.value ∙ c.in-Ok-for_p.ensures.ok) room (image premise.conclusion) (image (negation a)) premise_is refl
+    (roomy-fits room (image premise.conclusion) whole) (roomy-fits room (image (negation a)) part)))
+    (subst (λ (s : NamedTerm). IfOk c.by_theorem.result (λ made. made.theorem.conclusion ≡ s)) stated_is c.by_theorem.ensures.names)

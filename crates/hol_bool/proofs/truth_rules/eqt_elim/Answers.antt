@@ -1,0 +1,32 @@
+use Rattle.std.proofs.Common.{◌≡◌, ◌∙◌, true, Option, refl, sym, ap}
+use Rattle.hol_model.specs.declared.fault.Fault.TheVariants.{BadShape}
+use Rattle.hol_model.specs.NamedTerm.{NamedTerm, equation}
+use Rattle.hol_model.specs.Nameless.{image}
+use Rattle.hol_model.specs.NamedLogic.{true_term, is_true}
+use Rattle.hol_model.specs.Outcome.{given, unless}
+use Rattle.hol_model.specs.Rules.{dest_equation}
+use Rattle.hol_model.specs.DerivedRules.{images, stated, eqt_elim_outcome}
+use Rattle.hol_bool.specs.Prelude.{p}
+use Rattle.hol_bool.proofs.CutLemmas.{shows-itself}
+use Rattle.hol_bool.proofs.FormulaLemmas.{sides_as, truth-equation}
+use Rattle.hol_bool.proofs.RuleAnswers.{answered-one, leads-p, roomy-fits}
+use Rattle.hol_bool.proofs.truth_rules.eqt_elim.Goals as goal
+
+pub returns-clause-outcome : goal.returns-clause-outcome
+returns-clause-outcome c =
+    let journal = c.args.recorder.now in
+    let premise = c.args.premise.now.theorem in
+    let concluded = c.conclusion_of-conclusion.ensures in
+    let a = c.in-Some.parts.left.now in
+    let b = c.in-Some.parts.right.now in
+    let dest : sides_as a b ≡ dest_equation premise.conclusion = c.in-Some.ensures.sides ∙ ap dest_equation concluded.value in
+    let true_right : is_true b ≡ true = sym c.is_named.ensures ∙ c.if-not-is_named.false in
+    let parts = truth-equation journal c.args.logic.now c.requires.logic concluded.legal premise concluded.theorem concluded.formula a b (sym dest) true_right in
+    answered-one c.by_theorem.result premise a (eqt_elim_outcome premise)
+    (ap (λ (o : Option (NamedTerm × NamedTerm)). given o BadShape (λ sides. unless (is_true sides.1) BadShape (stated (images premise) sides.0))) (sym dest)
+    ∙ ap (λ test. unless test BadShape (stated (images premise) a)) true_right)
+    (λ room whole part. c.by_theorem.ensures.derives (images premise) (image premise.conclusion) room
+    (leads-p journal.theory 10 (equation p true_term) p a c.deref.result.now refl refl parts.formula (c.deref.ensures.value ∙ c.in-Ok.ensures.ok) room (image premise.conclusion) (image a) parts.image_is refl
+    (roomy-fits room (image premise.conclusion) whole) (roomy-fits room (image a) part))
+    (shows-itself premise))
+    c.by_theorem.ensures.names

@@ -1,0 +1,104 @@
+// Rules of negation and falsity.
+ghost use Rattle.std.specs.Prelude.{◌∷◌};
+ghost use Rattle.hol_model.specs.Nameless.{image};
+ghost use Rattle.hol_model.specs.DerivedRules.{AnswersStated, terms_of_theorem, not_intro_outcome, not_elim_outcome, contr_outcome};
+ghost use Rattle.hol_journal.specs.Journal.{IsMade, theorem_in};
+ghost use Rattle.hol_bool.specs.HasLogic.{HasLogic};
+ghost use Rattle.hol_bool.specs.Sequents.{Continues};
+
+use crate::formula_terms::{connect, falsity, for_p, is_named, negate};
+use crate::prelude_rules::{by_theorem, conclusion_of, negated_of, pass_formula, sides_of};
+use crate::stored::Bool;
+use hol_journal::{Rec, Recorder};
+use hol_model::Fault;
+use hol_terms::Term;
+use std::alloc::Global;
+
+/// NOT_INTRO: from `p ==> F`, `~p`. Refused where the conclusion is no implication of `F`.
+pub fn not_intro(
+    recorder: &mut Recorder,
+    alloc: Global,
+    logic: &Bool,
+    premise: &Rec,
+) -> Result<Rec, Fault>
+    requires logic { HasLogic recorder.old logic.now }
+    requires premise { IsMade recorder.old premise.now }
+    ensures continues { Continues recorder.old recorder.new result }
+    ensures outcome { AnswersStated (theorem_in result) (terms_of_theorem premise.now.theorem) (not_intro_outcome premise.now.theorem) }
+{
+    let Some(sides) = sides_of(recorder, logic, premise, "==>") else {
+        return Err(Fault::BadShape);
+    };
+    if !is_named(sides.right, "F") {
+        return Err(Fault::BadShape);
+    }
+    recorder.theory_is_legal();
+    let stated = match negate(alloc, sides.left) {
+        Ok(stated) => stated,
+        Err(fault) => return Err(fault),
+    };
+    let terms = match for_p(alloc, sides.left) {
+        Ok(terms) => terms,
+        Err(fault) => return Err(fault),
+    };
+    by_theorem(recorder, alloc, logic, 22, &terms, &stated, premise)
+}
+
+/// NOT_ELIM: from `~p`, `p ==> F`. Refused where the conclusion is no negation.
+pub fn not_elim(
+    recorder: &mut Recorder,
+    alloc: Global,
+    logic: &Bool,
+    premise: &Rec,
+) -> Result<Rec, Fault>
+    requires logic { HasLogic recorder.old logic.now }
+    requires premise { IsMade recorder.old premise.now }
+    ensures continues { Continues recorder.old recorder.new result }
+    ensures outcome { AnswersStated (theorem_in result) (terms_of_theorem premise.now.theorem) (not_elim_outcome premise.now.theorem) }
+{
+    let Some(part) = negated_of(recorder, logic, premise) else {
+        return Err(Fault::BadShape);
+    };
+    let falsity = match falsity(alloc) {
+        Ok(falsity) => falsity,
+        Err(fault) => return Err(fault),
+    };
+    let stated = match connect(alloc, "==>", part, &falsity) {
+        Ok(stated) => stated,
+        Err(fault) => return Err(fault),
+    };
+    let terms = match for_p(alloc, part) {
+        Ok(terms) => terms,
+        Err(fault) => return Err(fault),
+    };
+    by_theorem(recorder, alloc, logic, 23, &terms, &stated, premise)
+}
+
+/// CONTR: from `F`, `p`. Refused where the conclusion is not `F`, then where `p` is not of type `bool`, and then where
+/// the theory does not know a type or a constant of it.
+pub fn contr(
+    recorder: &mut Recorder,
+    alloc: Global,
+    logic: &Bool,
+    p: &Term,
+    premise: &Rec,
+) -> Result<Rec, Fault>
+    requires logic { HasLogic recorder.old logic.now }
+    requires premise { IsMade recorder.old premise.now }
+    ensures continues { Continues recorder.old recorder.new result }
+    ensures outcome { AnswersStated (theorem_in result) (image p.now ∷ terms_of_theorem premise.now.theorem) (contr_outcome recorder.old.theory p.now premise.now.theorem) }
+{
+    let conclusion = conclusion_of(recorder, premise);
+    if !is_named(conclusion, "F") {
+        return Err(Fault::BadShape);
+    }
+    match pass_formula(recorder, alloc, p) {
+        Ok(()) => {}
+        Err(fault) => return Err(fault),
+    }
+    let terms = match for_p(alloc, p) {
+        Ok(terms) => terms,
+        Err(fault) => return Err(fault),
+    };
+    by_theorem(recorder, alloc, logic, 24, &terms, p, premise)
+}
