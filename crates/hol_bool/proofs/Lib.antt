@@ -7,6 +7,7 @@ pub mod DerivationSize
 pub mod DerivationLemmas
 pub mod PreludeLemmas
 pub mod BetaLemmas
+pub mod ConversionLemmas
 pub mod LogicLemmas
 pub mod RoomLemmas
 pub mod PreludeSteps

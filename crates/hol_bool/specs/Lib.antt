@@ -7,3 +7,4 @@ pub mod Derivations
 pub mod Makings
 pub mod Prelude
 pub mod Laws
+pub mod Conversions

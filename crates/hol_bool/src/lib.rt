@@ -5,6 +5,7 @@
 mod choice;
 mod conjunction;
 mod conjunction_rules;
+mod conversion;
 mod derivation;
 mod disjunction;
 mod equality;
@@ -26,10 +27,12 @@ mod truth;
 mod truth_rules;
 
 pub use conjunction_rules::{conj, conjunct1, conjunct2};
+pub use conversion::converted;
 pub use equality::{add_assum, beta_conv, named, prove_hyp, sym};
 pub use implication_rules::{disch, mp, undisch};
 pub use lemma::{by_lemma, instance};
 pub use negation_rules::{contr, not_elim, not_intro};
+pub use steps::{abs, eq_mp};
 pub use stored::{Bool, logic_stays, prelude, theorem_of};
 pub use truth_rules::{eqt_elim, eqt_intro};
 

@@ -61,8 +61,8 @@ pub(crate) fn trans(
     recorder.trans(alloc, first, second)
 }
 
-// EQ_MP.
-pub(crate) fn eq_mp(
+/// EQ_MP, of theorems that show sequents.
+pub fn eq_mp(
     recorder: &mut Recorder,
     alloc: Global,
     first: &Rec,
@@ -115,8 +115,8 @@ pub(crate) fn deduct_antisym(
     recorder.deduct_antisym(alloc, first, second)
 }
 
-// ABS, over a variable of a known type that is free in no hypothesis.
-pub(crate) fn abs(
+/// ABS of a theorem that shows a sequent, over a variable of a known type that is free in no hypothesis.
+pub fn abs(
     recorder: &mut Recorder,
     alloc: Global,
     binder: &Term,

@@ -1,0 +1,28 @@
+-- What beta conversion makes of an abstraction and an argument.
+use Rattle.std.specs.Prelude.{ℕ, List, [], ◌∷◌, Bool}
+use Rattle.std.specs.List.{list_all}
+use Rattle.hol_model.specs.HolType.{HolType}
+use Rattle.hol_model.specs.NamedTerm.{NamedTerm}
+use Rattle.hol_model.specs.Nameless.{Nameless, free, app, lam, image}
+use Rattle.hol_model.specs.Measures.{nameless_within_limits}
+use Rattle.hol_model.specs.Substitution.{close, fill}
+use Rattle.hol_model.specs.Derivable.{nameless_equation}
+
+-- \x. b
+abbrev pub closed : List ℕ → HolType → NamedTerm → Nameless
+closed name ty body = lam ty (close name ty (image body))
+
+-- (\x. b) x
+abbrev pub trivial : List ℕ → HolType → NamedTerm → Nameless
+trivial name ty body = app (closed name ty body) (free name ty)
+
+-- (\x. b) a = b[a/x]
+abbrev pub conversion : List ℕ → HolType → HolType → NamedTerm → NamedTerm → Nameless
+conversion name ty codomain body argument =
+    nameless_equation codomain (app (closed name ty body) (image argument)) (fill (image argument) (close name ty (image body)))
+
+-- the redex of the variable, its conversion and that of the argument are within the limits
+abbrev pub conversion_fits : List ℕ → HolType → HolType → NamedTerm → NamedTerm → Bool
+conversion_fits name ty codomain body argument =
+    list_all nameless_within_limits
+    (trivial name ty body ∷ nameless_equation codomain (trivial name ty body) (image body) ∷ conversion name ty codomain body argument ∷ [])

@@ -1,0 +1,223 @@
+-- GEN: the parts of a call, and what it answers.
+use Rattle.std.proofs.Common.{◌≡◌, ℕ, List, [], ◌∷◌, map, Bool, true, false, ◌&&◌, ◌||◌, refl, sym, ◌∙◌, ap, subst, inl, inr, Option, Some, Result, Ok, Err, IfOk, arith}
+use Rattle.std.specs.Prelude.{codes}
+use Rattle.std.specs.List.{list_all}
+use Rattle.std.specs.Option.{option_map_or}
+use Rattle.std.proofs.lemmas.Bool.{le-leb}
+use Rattle.hol_model.specs.declared.fault.Fault.{Fault}
+use Rattle.hol_model.specs.declared.fault.Fault.TheVariants.{TooLarge, FreeInHypothesis}
+use Rattle.hol_model.specs.declared.limits.TheConstants.{TYPE_NODES_LIMIT}
+use Rattle.hol_model.specs.HolType.{HolType, bool_type}
+use Rattle.hol_model.specs.NamedTerm.{NamedTerm, variable, constant, combination, abstraction, dest_variable, type_of, is_free, is_within_limits}
+use Rattle.hol_model.specs.NamedLogic.{forall_term}
+use Rattle.hol_model.specs.Nameless.{Nameless, free, const, app, lam, image}
+use Rattle.hol_model.specs.Measures.{nameless_within_limits}
+use Rattle.hol_model.specs.Logic.{forall_name, predicate, quantifier}
+use Rattle.hol_model.specs.Substitution.{occurs_free}
+use Rattle.hol_model.specs.Theory.{Theory, IsLegal, IsKnown, IsKnownType}
+use Rattle.hol_model.specs.KnownTerm.{knows_type, is_known}
+use Rattle.hol_model.specs.Theorem.{Theorem, IsTheorem}
+use Rattle.hol_model.specs.Derivable.{NotFreeInAny, nameless_equation}
+use Rattle.hol_model.specs.Outcome.{Answers, unless}
+use Rattle.hol_model.specs.Rules.{is_free_in_hypotheses, limited, abstraction_outcome}
+use Rattle.hol_model.specs.DerivedRules.{Stated, AnswersStated, named, images, terms_of_theorem, terms_of_stated, is_roomy, is_free_in_some, gen_outcome}
+use Rattle.hol_model.proofs.HolTypeEq.{type_eq-self}
+use Rattle.hol_model.proofs.TypeTests.{knows_type-Decides}
+use Rattle.hol_model.proofs.Images.{image-abstraction, occurs_free-image}
+use Rattle.hol_model.proofs.Known.{close-known}
+use Rattle.hol_model.proofs.Measures.{past_limits-image}
+use Rattle.hol_model.proofs.Membership.{IsMember-append_right}
+use Rattle.hol_model.proofs.Tests.{first_of_both, second_of_both, first_of_neither, second_of_neither}
+use Rattle.hol_kernel.proofs.LimitLemmas.{limited-is, abstraction-limited}
+use Rattle.hol_journal.specs.Journal.{Journal, Recorded, IsMade, theorem_in}
+use Rattle.hol_journal.proofs.Showing.{formula_of}
+use Rattle.hol_bool.specs.Sequents.{DerivesIf, IsPast}
+use Rattle.hol_bool.specs.Conversions.{closed}
+use Rattle.hol_bool.proofs.CutLemmas.{answers-stated, conclusion-known, formulas-within}
+use Rattle.hol_bool.proofs.Sizes.{IsSized, leaves_room, sized-app, sized-equation, sized-more, sized-within, past-room}
+use Rattle.hol_quant.specs.PredicateLemmas.{is_always, over_predicate, at_type, at_predicate, lemma_fits}
+use Rattle.hol_quant.proofs.RoomLemmas.{PredicateRoom, predicate-room, lemma-within, free-sized, const-sized}
+use Rattle.hol_quant.proofs.SpecLemmas.{over_predicate-at}
+use Rattle.hol_quant.proofs.GenLemmas.{truth}
+
+-- the variable, and hypotheses in which it is not free
+
+pub variable_of : (binder : NamedTerm) (name : List ℕ) (ty : HolType) → dest_variable binder ≡ Some (name, ty) → binder ≡ variable name ty
+variable_of (variable other s) name ty is =
+    let one : other ≡ name = ap (λ (o : Option (List ℕ × HolType)). option_map_or (λ (p : List ℕ × HolType). p.0) o other) is in
+    let two : s ≡ ty = ap (λ (o : Option (List ℕ × HolType)). option_map_or (λ (p : List ℕ × HolType). p.1) o s) is in
+    λ i. variable (one i) (two i)
+variable_of (constant other s) name ty is = cc
+variable_of (combination f x) name ty is = cc
+variable_of (abstraction other s body) name ty is = cc
+
+pub free-same : (name : List ℕ) (ty : HolType) (hypotheses : List NamedTerm) → is_free_in_some name ty (map image hypotheses) ≡ is_free_in_hypotheses name ty hypotheses
+free-same name ty [] = refl
+free-same name ty (h ∷ hypotheses) = λ i. occurs_free-image name ty h i || free-same name ty hypotheses i
+
+in_none : (name : List ℕ) (ty : HolType) (terms : List Nameless) → is_free_in_some name ty terms ≡ false → NotFreeInAny name ty terms
+in_none name ty [] fresh t m = absurd m
+in_none name ty (u ∷ terms) fresh t (inl e) = ap (occurs_free name ty) e ∙ first_of_neither (occurs_free name ty u) (is_free_in_some name ty terms) fresh
+in_none name ty (u ∷ terms) fresh t (inr m) = in_none name ty terms (second_of_neither (occurs_free name ty u) (is_free_in_some name ty terms) fresh) t m
+
+-- what a call that is not refused for its arguments has
+pub record IsGeneral (theory : Theory) (premise : Theorem) (binder : NamedTerm) (name : List ℕ) (ty : HolType) : Type 0 where
+  pub binder_is : binder ≡ variable name ty
+  pub knows : IsKnownType theory ty
+  pub fresh : NotFreeInAny name ty (images premise)
+  pub typed : type_of premise.conclusion ≡ Some bool_type
+  pub known : IsKnown theory (image premise.conclusion) bool_type
+  pub outcome : gen_outcome theory binder premise ≡ Ok (record { hypotheses = images premise; conclusion = named (forall_term name ty premise.conclusion) })
+
+known-variable : (theory : Theory) (name : List ℕ) (ty : HolType) → is_known theory (variable name ty) ≡ true → knows_type theory ty ≡ true
+known-variable theory name ty known = first_of_both (knows_type theory ty) true (first_of_both (knows_type theory ty && true) true known)
+
+pub gen-free : (theory : Theory) (premise : Theorem) (binder : NamedTerm) (name : List ℕ) (ty : HolType) (arguments : List Nameless) → dest_variable binder ≡ Some (name, ty) → is_known theory binder ≡ true
+    → is_free_in_hypotheses name ty premise.hypotheses ≡ true → AnswersStated (Err FreeInHypothesis) arguments (gen_outcome theory binder premise)
+gen-free theory premise binder name ty arguments dest known is_free =
+    let knows = known-variable theory name ty (ap (is_known theory) (sym (variable_of binder name ty dest)) ∙ known) in
+    rw (dest, knows, free-same name ty premise.hypotheses, is_free) (inr refl)
+
+pub gen-start : (journal : Journal) → IsLegal journal.theory → (made : Recorded) → IsMade journal made → IsTheorem made.theorem → (binder : NamedTerm) (name : List ℕ) (ty : HolType) → dest_variable binder ≡ Some (name, ty)
+    → is_known journal.theory binder ≡ true → is_free_in_hypotheses name ty made.theorem.hypotheses ≡ false → IsGeneral journal.theory made.theorem binder name ty
+gen-start journal legal made is_made is binder name ty dest known fresh =
+    let theory = journal.theory in
+    let premise = made.theorem in
+    let binder_is = variable_of binder name ty dest in
+    let knows = known-variable theory name ty (ap (is_known theory) (sym binder_is) ∙ known) in
+    let free_nowhere = free-same name ty premise.hypotheses ∙ fresh in
+    record {
+      binder_is = binder_is;
+      knows = (knows_type-Decides theory ty).0 knows;
+      fresh = in_none name ty (images premise) free_nowhere;
+      typed = formula_of premise is;
+      known = conclusion-known journal legal made is_made is;
+      outcome = rw (dest, knows, free_nowhere) refl;
+    }
+
+limited-past : (fault : Fault) (term : NamedTerm) (ty : HolType) → type_of term ≡ Some ty → Answers {A = NamedTerm} (Err fault) (limited term) → IsPast fault (nameless_within_limits (image term))
+limited-past fault term ty typed (inl memory) = inl memory
+limited-past fault term ty typed (inr refusal) = go (is_within_limits term) refl refusal
+  where
+    go : (test : Bool) → is_within_limits term ≡ test → unless {A = NamedTerm} test TooLarge (Ok term) ≡ Err fault → IsPast fault (nameless_within_limits (image term))
+    go true is refusal = cc
+    go false is refusal = let large : TooLarge ≡ fault = cc in inr (sym large, past_limits-image term ty typed is)
+
+module _ (theory : Theory) (premise : Theorem) (binder : NamedTerm) (name : List ℕ) (ty : HolType) (at : IsGeneral theory premise binder name ty) where
+  abbrev p : Nameless
+  p = image premise.conclusion
+
+  abbrev pub formula : NamedTerm
+  formula = forall_term name ty premise.conclusion
+
+  abbrev sequent : Stated
+  sequent = record { hypotheses = images premise; conclusion = named formula }
+
+  -- the terms that have to leave room
+  abbrev pub small : List Nameless
+  small = p ∷ image formula ∷ []
+
+  abbrev pub function : NamedTerm
+  function = abstraction name ty premise.conclusion
+
+  pub function_image : image function ≡ closed name ty premise.conclusion
+  function_image = image-abstraction name ty premise.conclusion
+
+  formula_image : image formula ≡ app (const forall_name (quantifier ty)) (closed name ty premise.conclusion)
+  formula_image = ap (app (const forall_name (quantifier ty))) function_image
+
+  pub function_typed : type_of function ≡ Some (predicate ty)
+  function_typed = rw at.typed refl
+
+  pub function_known : IsKnown theory (image function) (predicate ty)
+  function_known = subst (λ (t : Nameless). IsKnown theory t (predicate ty)) (sym function_image) (close-known theory name ty bool_type p at.knows at.known)
+
+  pub binder_known : IsKnown theory (image binder) ty
+  binder_known = subst (λ (t : NamedTerm). IsKnown theory (image t) ty) (sym at.binder_is) (record { typed = refl; parts = at.knows })
+
+  pub gen-answers : (result : Result Recorded Fault) → DerivesIf (list_all is_roomy small) result (images premise) (image formula) → IfOk result (λ made. made.theorem.conclusion ≡ formula)
+      → AnswersStated (theorem_in result) (terms_of_theorem premise) (gen_outcome theory binder premise)
+  gen-answers result derives names =
+      subst (λ (o : Result Stated Fault). AnswersStated (theorem_in result) (terms_of_theorem premise) o) (sym at.outcome)
+      (answers-stated result (terms_of_theorem premise) small (images premise) (image formula) sequent derives (record { to = λ x m. m; back = λ x m. m }) names
+      (λ t m. elim m [ inl e ↦ inl e | inr k ↦ (elim k [ inl e ↦ IsMember-append_right t (terms_of_theorem premise) (terms_of_stated sequent) (inl e) | inr none ↦ absurd none ]) ]))
+
+  pub gen-past : (fault : Fault) (within : Bool) → IsPast fault within → (list_all is_roomy small ≡ true → within ≡ true) → AnswersStated (Err fault) (terms_of_theorem premise) (gen_outcome theory binder premise)
+  gen-past fault within past fits = gen-answers (Err fault) (past-room fault within (list_all is_roomy small) past fits) tt
+
+  -- what leaves room
+  record GenRoom : Type 0 where
+    conclusion_roomy : is_roomy p ≡ true
+    formula_sized : IsSized 1000 5000 (app (const forall_name (quantifier ty)) (closed name ty premise.conclusion))
+    parts : PredicateRoom name ty premise.conclusion
+
+  gen-room : list_all is_roomy small ≡ true → GenRoom
+  gen-room all =
+      let roomy = ap is_roomy (sym formula_image) ∙ first_of_both (is_roomy (image formula)) true (second_of_both (is_roomy p) (list_all is_roomy (image formula ∷ [])) all) in
+      record {
+        conclusion_roomy = first_of_both (is_roomy p) (list_all is_roomy (image formula ∷ [])) all;
+        formula_sized = (leaves_room (app (const forall_name (quantifier ty)) (closed name ty premise.conclusion)) roomy).sized;
+        parts = predicate-room forall_name name ty premise.conclusion at.typed roomy;
+      }
+
+  pub conclusion-roomy : list_all is_roomy small ≡ true → is_roomy p ≡ true
+  conclusion-roomy all = (gen-room all).conclusion_roomy
+
+  -- \x. p
+  pub abstraction-past : (fault : Fault) → Answers {A = NamedTerm} (Err fault) (abstraction_outcome binder premise.conclusion) → AnswersStated (Err fault) (terms_of_theorem premise) (gen_outcome theory binder premise)
+  abstraction-past fault answers =
+      gen-past fault (nameless_within_limits (image function))
+      (limited-past fault function (predicate ty) function_typed
+      (subst (λ (o : Result NamedTerm Fault). Answers {A = NamedTerm} (Err fault) o) (abstraction-limited binder premise.conclusion name ty (ap dest_variable at.binder_is)) answers))
+      (λ all. ap nameless_within_limits function_image ∙ sized-within 1000 5000 (closed name ty premise.conclusion) (gen-room all).parts.function (omega arith) (omega arith))
+
+  pub abstraction-made : (made : NamedTerm) → abstraction_outcome binder premise.conclusion ≡ Ok made → made ≡ function
+  abstraction-made made is = limited-is function made (sym (abstraction-limited binder premise.conclusion name ty (ap dest_variable at.binder_is)) ∙ is)
+
+  pub formula-within : list_all is_roomy small ≡ true → nameless_within_limits (app (const forall_name (quantifier ty)) (image function)) ≡ true
+  formula-within all = ap nameless_within_limits formula_image ∙ sized-within 1000 5000 (app (const forall_name (quantifier ty)) (closed name ty premise.conclusion)) (gen-room all).formula_sized (omega arith) (omega arith)
+
+  -- (\x. p) = (\x. T)
+  abbrev pub always : Nameless
+  always = nameless_equation (predicate ty) (closed name ty premise.conclusion) (lam ty truth)
+
+  always-sized : list_all is_roomy small ≡ true → IsSized 1002 5005 always
+  always-sized all =
+      let parts = (gen-room all).parts in
+      let few = parts.few in
+      let truths : IsSized 1000 2 (lam ty truth) = record { height = omega arith; nodes = omega arith; types = le-leb _ TYPE_NODES_LIMIT (omega arith) } in
+      sized-equation 1000 5000 2 (predicate ty) (closed name ty premise.conclusion) (lam ty truth) (omega arith) (omega arith) parts.function truths
+
+  pub always-within : list_all is_roomy small ≡ true → nameless_within_limits always ≡ true
+  always-within all = sized-within 1002 5005 always (always-sized all) (omega arith) (omega arith)
+
+  pub always-at : at_predicate ty function binder is_always ≡ always
+  always-at = at_type_of ∙ ap (λ (f : Nameless). nameless_equation (predicate ty) f (lam ty truth)) function_image
+    where
+      at_type_of : at_predicate ty function binder is_always ≡ nameless_equation (predicate ty) (image function) (lam ty truth)
+      at_type_of = rw (type_eq-self ty) refl
+
+  pub formula-at : at_predicate ty function binder (over_predicate forall_name) ≡ image formula
+  formula-at = over_predicate-at forall_name ty function binder
+
+  pub gen-lemma-within : list_all is_roomy small ≡ true → lemma_fits ty function binder is_always (over_predicate forall_name) ≡ true
+  gen-lemma-within all =
+      let room = gen-room all in
+      let few = room.parts.few in
+      let predicate_sized = free-sized (codes "P") (predicate ty) (omega arith) in
+      let quantifier_sized = const-sized forall_name (quantifier ty) (omega arith) in
+      let truths : IsSized 2 2 (lam ty truth) = record { height = omega arith; nodes = omega arith; types = le-leb _ TYPE_NODES_LIMIT (omega arith) } in
+      let generic_left : IsSized 4 6 (nameless_equation (predicate ty) (free (codes "P") (predicate ty)) (lam ty truth)) =
+      sized-equation 2 1 2 (predicate ty) (free (codes "P") (predicate ty)) (lam ty truth) (omega arith) (omega arith) (sized-more 1 1 2 1 (free (codes "P") (predicate ty)) predicate_sized (omega arith) (omega arith)) truths in
+      let generic_right : IsSized 2 3 (app (const forall_name (quantifier ty)) (free (codes "P") (predicate ty))) =
+      sized-app 1 1 1 (const forall_name (quantifier ty)) (free (codes "P") (predicate ty)) quantifier_sized predicate_sized in
+      lemma-within ty function binder is_always (over_predicate forall_name) always (app (const forall_name (quantifier ty)) (closed name ty premise.conclusion)) always-at (formula-at ∙ formula_image)
+      (sized-more 4 6 1100 12000 (at_type ty is_always) generic_left (omega arith) (omega arith))
+      (sized-more 2 3 1100 12000 (at_type ty (over_predicate forall_name)) generic_right (omega arith) (omega arith))
+      (sized-more 1002 5005 1100 12000 always (always-sized all) (omega arith) (omega arith))
+      (sized-more 1000 5000 1100 12000 (app (const forall_name (quantifier ty)) (closed name ty premise.conclusion)) room.formula_sized (omega arith) (omega arith))
+
+  pub names-within : list_all is_roomy small ≡ true → nameless_within_limits (nameless_equation bool_type (image formula) (image formula)) ≡ true
+  names-within all =
+      let roomy = first_of_both (is_roomy (image formula)) true (second_of_both (is_roomy p) (list_all is_roomy (image formula ∷ [])) all) in
+      formulas-within (image formula) (image formula) (rw roomy refl)

@@ -1,0 +1,35 @@
+-- What single theorems of the prelude show.
+use Rattle.std.proofs.Common.{◌≡◌, [], ◌∷◌, Some, subst}
+use Rattle.std.specs.Prelude.{slice_get}
+use Rattle.hol_model.specs.Theorem.{Theorem}
+use Rattle.hol_model.specs.HolType.{bool_type}
+use Rattle.hol_model.specs.NamedTerm.{combination, equation}
+use Rattle.hol_model.specs.NamedLogic.{true_term}
+use Rattle.hol_model.specs.Derivable.{nameless_equation}
+use Rattle.hol_model.specs.Logic.{forall_name}
+use Rattle.hol_bool.specs.Sequents.{Shows}
+use Rattle.hol_bool.specs.Prelude.{prelude_theorems, shown, p, P, x, always, forall_P}
+use Rattle.hol_bool.proofs.CutLemmas.{shows-itself}
+use Rattle.hol_quant.specs.PredicateLemmas.{applied, over_predicate, is_always}
+use Rattle.hol_quant.proofs.GenLemmas.{proposition, truth}
+
+same_theorem : (a b : Theorem) → Some a ≡ Some b → a ≡ b
+same_theorem a b is = cc
+
+-- p |- p <=> T
+pub truth-shows : (theorem : Theorem) → slice_get prelude_theorems 9 ≡ Some theorem → Shows theorem (proposition ∷ []) (nameless_equation bool_type proposition truth)
+truth-shows theorem is =
+    let stated : Theorem = shown (p ∷ []) (equation p true_term) in
+    subst (λ (t : Theorem). Shows t (proposition ∷ []) (nameless_equation bool_type proposition truth)) (same_theorem stated theorem is) (shows-itself stated)
+
+-- P = (\x. T) |- (!) P
+pub always-shows : (theorem : Theorem) → slice_get prelude_theorems 19 ≡ Some theorem → Shows theorem (is_always ∷ []) (over_predicate forall_name)
+always-shows theorem is =
+    let stated : Theorem = shown (equation P always ∷ []) forall_P in
+    subst (λ (t : Theorem). Shows t (is_always ∷ []) (over_predicate forall_name)) (same_theorem stated theorem is) (shows-itself stated)
+
+-- (!) P |- P x
+pub forall-shows : (theorem : Theorem) → slice_get prelude_theorems 20 ≡ Some theorem → Shows theorem (over_predicate forall_name ∷ []) applied
+forall-shows theorem is =
+    let stated : Theorem = shown (forall_P ∷ []) (combination P x) in
+    subst (λ (t : Theorem). Shows t (over_predicate forall_name ∷ []) applied) (same_theorem stated theorem is) (shows-itself stated)

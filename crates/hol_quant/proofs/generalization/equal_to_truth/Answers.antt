@@ -1,0 +1,38 @@
+use Rattle.std.proofs.Common.{◌≡◌, [], ◌∷◌, ◌∙◌, List, ap, subst, sym, refl, None}
+use Rattle.std.specs.Prelude.{codes}
+use Rattle.std.specs.List.{list_all}
+use Rattle.hol_model.specs.HolType.{bool_type}
+use Rattle.hol_model.specs.NamedTerm.{NamedTerm, variable}
+use Rattle.hol_model.specs.Nameless.{image}
+use Rattle.hol_model.specs.Measures.{nameless_within_limits}
+use Rattle.hol_model.specs.Derivable.{nameless_equation}
+use Rattle.hol_model.specs.Theorem.{Theorem}
+use Rattle.hol_model.specs.Instantiation.{instantiate_all, replacements_refusal}
+use Rattle.hol_model.specs.DerivedRules.{images, is_roomy}
+use Rattle.hol_journal.proofs.Showing.{formula_of}
+use Rattle.hol_bool.specs.Sequents.{Shows, DerivesIf, instance_of}
+use Rattle.hol_bool.proofs.CutLemmas.{conclusion-known, shows-itself, derives-where}
+use Rattle.hol_quant.proofs.GenLemmas.{truth, proposition, formula-passes, truth-fits}
+use Rattle.hol_quant.proofs.generalization.equal_to_truth.Goals as goal
+
+pub returns-clause-derives : goal.returns-clause-derives
+returns-clause-derives c =
+    let premise = c.args.premise.now.theorem in
+    let p = image premise.conclusion in
+    let theory = c.args.recorder.now.theory in
+    let is_theorem = rw c.thm.ensures at c.concl.ensures.theorem in
+    let typed = formula_of premise is_theorem in
+    let known = conclusion-known c.args.recorder.now c.theory_is_legal.ensures c.args.premise.now c.requires.premise is_theorem in
+    let conclusion_is : c.concl.result.now ≡ premise.conclusion = c.concl.ensures.value ∙ ap (λ (t : Theorem). t.conclusion) c.thm.ensures in
+    let theta : List (NamedTerm × NamedTerm) = c.in-Ok.of_formula ∷ [] in
+    let wanted : List (NamedTerm × NamedTerm) = (premise.conclusion, variable (codes "p") bool_type) ∷ [] in
+    let pair_is : c.in-Ok.of_formula ≡ (premise.conclusion, variable (codes "p") bool_type) = c.in-Ok.ensures.ok ∙ (λ i. (conclusion_is i, variable (codes "p") bool_type)) in
+    let theta_is : theta ≡ wanted = λ i. pair_is i ∷ [] in
+    let passes = subst (λ (l : List (NamedTerm × NamedTerm)). replacements_refusal theory l ≡ None) (sym theta_is) (formula-passes theory premise.conclusion typed known) in
+    let shows = subst (λ (l : List (NamedTerm × NamedTerm)). Shows premise (images premise) (instance_of [] l proposition)) (sym theta_is) (shows-itself premise) in
+    let d = nameless_equation bool_type proposition truth in
+    derives-where
+    (list_all nameless_within_limits (d ∷ proposition ∷ nameless_equation bool_type p truth ∷ p ∷ nameless_equation bool_type p (nameless_equation bool_type p truth) ∷ []))
+    (is_roomy p) c.by_lemma.result (images premise) (nameless_equation bool_type p truth) (truth-fits p)
+    (subst (λ (l : List (NamedTerm × NamedTerm)). DerivesIf (list_all nameless_within_limits (instantiate_all [] d ∷ instantiate_all [] proposition ∷ instance_of [] l d ∷ instance_of [] l proposition ∷ nameless_equation bool_type (instance_of [] l proposition) (instance_of [] l d) ∷ [])) c.by_lemma.result (images premise) (instance_of [] l d)) theta_is
+    (c.by_lemma.ensures.derives refl passes (images premise) proposition d c.requires.shows shows))

@@ -1,0 +1,40 @@
+-- Lemmas over a predicate `P` on the type variable `A` and an element `x`, at a predicate and an element.
+use Rattle.std.specs.Prelude.{ℕ, List, [], ◌∷◌, Bool, codes}
+use Rattle.std.specs.List.{list_all}
+use Rattle.hol_model.specs.HolType.{HolType, bool_type}
+use Rattle.hol_model.specs.NamedTerm.{NamedTerm, variable}
+use Rattle.hol_model.specs.Nameless.{Nameless, free, const, app, lam}
+use Rattle.hol_model.specs.Measures.{nameless_within_limits}
+use Rattle.hol_model.specs.Instantiation.{instantiate_all}
+use Rattle.hol_model.specs.Logic.{true_term, predicate, quantifier}
+use Rattle.hol_model.specs.Theory.{type_a}
+use Rattle.hol_model.specs.Derivable.{nameless_equation}
+use Rattle.hol_bool.specs.Sequents.{instance_of}
+
+-- a term of the lemma with the type for `A`
+abbrev pub at_type : HolType → Nameless → Nameless
+at_type ty term = instantiate_all ((ty, type_a) ∷ []) term
+
+-- and with the predicate for `P` and the element for `x`
+abbrev pub at_predicate : HolType → NamedTerm → NamedTerm → Nameless → Nameless
+at_predicate ty function element term =
+    instance_of ((ty, type_a) ∷ []) ((function, variable (codes "P") (predicate ty)) ∷ (element, variable (codes "x") ty) ∷ []) term
+
+-- the lemma's hypothesis and conclusion are within the limits on the way
+abbrev pub lemma_fits : HolType → NamedTerm → NamedTerm → Nameless → Nameless → Bool
+lemma_fits ty function element p q =
+    let left : Nameless = at_predicate ty function element p in
+    let right : Nameless = at_predicate ty function element q in
+    list_all nameless_within_limits (at_type ty q ∷ at_type ty p ∷ right ∷ left ∷ nameless_equation bool_type left right ∷ [])
+
+-- P x
+abbrev pub applied : Nameless
+applied = app (free (codes "P") (predicate type_a)) (free (codes "x") type_a)
+
+-- a quantifier over P
+abbrev pub over_predicate : List ℕ → Nameless
+over_predicate quantifier_name = app (const quantifier_name (quantifier type_a)) (free (codes "P") (predicate type_a))
+
+-- P = (\x. T)
+abbrev pub is_always : Nameless
+is_always = nameless_equation (predicate type_a) (free (codes "P") (predicate type_a)) (lam type_a true_term)

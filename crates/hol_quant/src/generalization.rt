@@ -1,0 +1,164 @@
+// GEN, over the lemmas `p |- p <=> T` and `P = (\x. T) |- (!) P`.
+ghost use Rattle.std.specs.Prelude.{◌≡◌, ◌∷◌, [], Some, IfOk, IfErr, codes};
+ghost use Rattle.hol_model.specs.declared.fault.Fault.TheVariants.{Memory};
+ghost use Rattle.hol_model.specs.HolType.{HolType, bool_type};
+ghost use Rattle.hol_model.specs.Logic.{forall_name, predicate, quantifier};
+ghost use Rattle.hol_model.specs.Measures.{nameless_within_limits};
+ghost use Rattle.hol_model.specs.NamedLogic.{true_term};
+ghost use Rattle.hol_model.specs.NamedTerm.{variable, constant, combination, type_of};
+ghost use Rattle.hol_model.specs.Nameless.{free, const, app, image};
+ghost use Rattle.hol_model.specs.Derivable.{nameless_equation};
+ghost use Rattle.hol_model.specs.Rules.{is_free_in_hypotheses};
+ghost use Rattle.hol_model.specs.DerivedRules.{AnswersStated, images, is_roomy, terms_of_theorem, gen_outcome};
+ghost use Rattle.hol_journal.specs.Journal.{IsMade, theorem_in};
+ghost use Rattle.hol_bool.specs.HasLogic.{HasLogic};
+ghost use Rattle.hol_bool.specs.Sequents.{Shows, DerivesIf, IsPast, Continues};
+ghost use Rattle.hol_quant.specs.PredicateLemmas.{is_always, over_predicate};
+
+use crate::instances::by_predicate_lemma;
+use hol_bool::{Bool, abs, by_lemma, named, theorem_of};
+use hol_journal::{Rec, Recorder};
+use hol_model::Fault;
+use hol_terms::{Term, is_free};
+use hol_types::Ty;
+use std::alloc::Global;
+
+// The formula, for the variable `p`.
+fn formula_pair(alloc: Global, formula: &Term) -> Result<(Term, Term), Fault>
+    ensures ok { IfOk result (λ pair. pair ≡ (formula.now, variable (codes "p") bool_type)) }
+    ensures err { IfErr result (λ fault. fault ≡ Memory) }
+{
+    let new = formula.copy(alloc)?;
+    let boolean = Ty::boolean(alloc)?;
+    let old = Term::mk_var(alloc, "p", &boolean)?;
+    Ok((new, old))
+}
+
+// From `p`, `p <=> T`.
+fn equal_to_truth(
+    recorder: &mut Recorder,
+    alloc: Global,
+    lemma: &Rec,
+    premise: &Rec,
+) -> Result<Rec, Fault>
+    requires lemma { IsMade recorder.old lemma.now }
+    requires shows { Shows lemma.now.theorem (free (codes "p") bool_type ∷ []) (nameless_equation bool_type (free (codes "p") bool_type) (image true_term)) }
+    requires premise { IsMade recorder.old premise.now }
+    ensures continues { Continues recorder.old recorder.new result }
+    ensures derives { DerivesIf (is_roomy (image premise.now.theorem.conclusion)) result (images premise.now.theorem) (nameless_equation bool_type (image premise.now.theorem.conclusion) (image true_term)) }
+{
+    recorder.theory_is_legal();
+    let of_formula = match formula_pair(alloc, recorder.thm(premise).concl()) {
+        Ok(of_formula) => of_formula,
+        Err(fault) => return Err(fault),
+    };
+    let terms = [of_formula];
+    by_lemma(recorder, alloc, &[], &terms, lemma, premise)
+}
+
+// `!x. p`, from `\x. p`.
+fn universal(alloc: Global, function: &Term) -> Result<Term, Fault>
+    ensures ok { IfOk result (λ formula. (ty : HolType) → type_of function.now ≡ Some (predicate ty) → formula ≡ combination (constant forall_name (quantifier ty)) function.now) }
+    ensures err { IfErr result (λ fault. (ty : HolType) → type_of function.now ≡ Some (predicate ty) → IsPast fault (nameless_within_limits (app (const forall_name (quantifier ty)) (image function.now)))) }
+{
+    let boolean = match Ty::boolean(alloc) {
+        Ok(boolean) => boolean,
+        Err(fault) => return Err(fault),
+    };
+    let ty = match Ty::fun(alloc, function.ty(), &boolean) {
+        Ok(ty) => ty,
+        Err(fault) => return Err(fault),
+    };
+    let quantifier = match Term::mk_const(alloc, "!", &ty) {
+        Ok(quantifier) => quantifier,
+        Err(fault) => return Err(fault),
+    };
+    Term::mk_comb(alloc, &quantifier, function)
+}
+
+// Whether a variable is free in some hypothesis.
+fn is_free_in_some(hypotheses: &[Term], name: &str, ty: &Ty) -> bool
+    ensures { result ≡ is_free_in_hypotheses name.now ty.now hypotheses.now }
+{
+    hypotheses
+        .iter()
+        .any(|hypothesis| is_free(hypothesis, name, ty))
+}
+
+// From `p`, `!x. p`.
+fn generalized(
+    recorder: &mut Recorder,
+    alloc: Global,
+    truth_lemma: &Rec,
+    forall_lemma: &Rec,
+    binder: &Term,
+    premise: &Rec,
+) -> Result<Rec, Fault>
+    requires truth_lemma { IsMade recorder.old truth_lemma.now }
+    requires truth_shows { Shows truth_lemma.now.theorem (free (codes "p") bool_type ∷ []) (nameless_equation bool_type (free (codes "p") bool_type) (image true_term)) }
+    requires forall_lemma { IsMade recorder.old forall_lemma.now }
+    requires forall_shows { Shows forall_lemma.now.theorem (is_always ∷ []) (over_predicate forall_name) }
+    requires premise { IsMade recorder.old premise.now }
+    ensures continues { Continues recorder.old recorder.new result }
+    ensures outcome { AnswersStated (theorem_in result) (terms_of_theorem premise.now.theorem) (gen_outcome recorder.old.theory binder.now premise.now.theorem) }
+{
+    let Some((name, ty)) = binder.dest_var() else {
+        return Err(Fault::NotVariable);
+    };
+    if !recorder.theory().known(binder) {
+        return Err(Fault::UnknownType);
+    }
+    let theorem = recorder.thm(premise);
+    if is_free_in_some(theorem.hyps(), name, ty) {
+        return Err(Fault::FreeInHypothesis);
+    }
+    recorder.theory_is_legal();
+    let function = match Term::mk_abs(alloc, binder, theorem.concl()) {
+        Ok(function) => function,
+        Err(fault) => return Err(fault),
+    };
+    let formula = match universal(alloc, &function) {
+        Ok(formula) => formula,
+        Err(fault) => return Err(fault),
+    };
+    let equal = match equal_to_truth(recorder, alloc, truth_lemma, premise) {
+        Ok(equal) => equal,
+        Err(fault) => return Err(fault),
+    };
+    let always = match abs(recorder, alloc, binder, &equal) {
+        Ok(always) => always,
+        Err(fault) => return Err(fault),
+    };
+    let answer = match by_predicate_lemma(
+        recorder,
+        alloc,
+        forall_lemma,
+        &function,
+        binder,
+        &always,
+    ) {
+        Ok(answer) => answer,
+        Err(fault) => return Err(fault),
+    };
+    named(recorder, alloc, &formula, &answer)
+}
+
+/// GEN: from `p`, `!x. p`, by the lemmas `p |- p <=> T` and `P = (\x. T) |- (!) P`, in eleven steps. Refused where the
+/// term is no variable, then where the theory does not know a type of its type, and then where it is free in a
+/// hypothesis.
+pub fn generalize(
+    recorder: &mut Recorder,
+    alloc: Global,
+    logic: &Bool,
+    binder: &Term,
+    premise: &Rec,
+) -> Result<Rec, Fault>
+    requires logic { HasLogic recorder.old logic.now }
+    requires premise { IsMade recorder.old premise.now }
+    ensures continues { Continues recorder.old recorder.new result }
+    ensures outcome { AnswersStated (theorem_in result) (terms_of_theorem premise.now.theorem) (gen_outcome recorder.old.theory binder.now premise.now.theorem) }
+{
+    let truth_lemma = theorem_of(recorder, logic, 9);
+    let forall_lemma = theorem_of(recorder, logic, 19);
+    generalized(recorder, alloc, truth_lemma, forall_lemma, binder, premise)
+}

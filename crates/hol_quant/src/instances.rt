@@ -1,0 +1,79 @@
+// Instances of lemmas over a predicate `P` and an element `x`.
+ghost use Rattle.std.specs.Prelude.{◌≡◌, ◌∷◌, List, [], Some, IfOk, IfErr, codes};
+ghost use Rattle.hol_model.specs.declared.fault.Fault.TheVariants.{Memory};
+ghost use Rattle.hol_model.specs.HolType.{HolType};
+ghost use Rattle.hol_model.specs.Logic.{predicate};
+ghost use Rattle.hol_model.specs.NamedTerm.{variable, type_of};
+ghost use Rattle.hol_model.specs.Nameless.{Nameless, image};
+ghost use Rattle.hol_model.specs.Theory.{IsKnown, type_a};
+ghost use Rattle.hol_journal.specs.Journal.{IsMade};
+ghost use Rattle.hol_bool.specs.Sequents.{Shows, DerivesIf, Continues};
+ghost use Rattle.hol_quant.specs.PredicateLemmas.{at_predicate, lemma_fits};
+
+use hol_bool::by_lemma;
+use hol_journal::{Rec, Recorder};
+use hol_model::Fault;
+use hol_terms::Term;
+use hol_types::Ty;
+use std::alloc::Global;
+
+// The type of the element, for the type variable `A`.
+fn type_pair(alloc: Global, element: &Term) -> Result<(Ty, Ty), Fault>
+    ensures ok { IfOk result (λ pair. (ty : HolType) → type_of element.now ≡ Some ty → pair ≡ (ty, type_a)) }
+    ensures err { IfErr result (λ fault. fault ≡ Memory) }
+{
+    let new = element.type_of(alloc)?;
+    let old = Ty::tyvar(alloc, "A")?;
+    Ok((new, old))
+}
+
+// The predicate, for the variable `P` of its type.
+fn predicate_pair(alloc: Global, function: &Term) -> Result<(Term, Term), Fault>
+    ensures ok { IfOk result (λ pair. (ty : HolType) → type_of function.now ≡ Some ty → pair ≡ (function.now, variable (codes "P") ty)) }
+    ensures err { IfErr result (λ fault. fault ≡ Memory) }
+{
+    let new = function.copy(alloc)?;
+    let old = Term::mk_var(alloc, "P", function.ty())?;
+    Ok((new, old))
+}
+
+// The element, for the variable `x` of its type.
+fn element_pair(alloc: Global, element: &Term) -> Result<(Term, Term), Fault>
+    ensures ok { IfOk result (λ pair. (ty : HolType) → type_of element.now ≡ Some ty → pair ≡ (element.now, variable (codes "x") ty)) }
+    ensures err { IfErr result (λ fault. fault ≡ Memory) }
+{
+    let new = element.copy(alloc)?;
+    let old = Term::mk_var(alloc, "x", element.ty())?;
+    Ok((new, old))
+}
+
+// From the lemma's hypothesis at a predicate for `P` and an element for `x`, its conclusion there.
+pub(crate) fn by_predicate_lemma(
+    recorder: &mut Recorder,
+    alloc: Global,
+    lemma: &Rec,
+    function: &Term,
+    element: &Term,
+    premise: &Rec,
+) -> Result<Rec, Fault>
+    requires lemma { IsMade recorder.old lemma.now }
+    requires premise { IsMade recorder.old premise.now }
+    ensures continues { Continues recorder.old recorder.new result }
+    ensures derives { (ty : HolType) → IsKnown recorder.old.theory (image function.now) (predicate ty) → IsKnown recorder.old.theory (image element.now) ty → (h : List Nameless) (p q : Nameless) → Shows lemma.now.theorem (p ∷ []) q → Shows premise.now.theorem h (at_predicate ty function.now element.now p) → DerivesIf (lemma_fits ty function.now element.now p q) result h (at_predicate ty function.now element.now q) }
+{
+    let of_type = match type_pair(alloc, element) {
+        Ok(of_type) => of_type,
+        Err(fault) => return Err(fault),
+    };
+    let of_predicate = match predicate_pair(alloc, function) {
+        Ok(of_predicate) => of_predicate,
+        Err(fault) => return Err(fault),
+    };
+    let of_element = match element_pair(alloc, element) {
+        Ok(of_element) => of_element,
+        Err(fault) => return Err(fault),
+    };
+    let types = [of_type];
+    let terms = [of_predicate, of_element];
+    by_lemma(recorder, alloc, &types, &terms, lemma, premise)
+}

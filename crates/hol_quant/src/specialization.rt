@@ -1,0 +1,76 @@
+// SPEC, over the lemma `(!) P |- P x`.
+ghost use Rattle.std.specs.Prelude.{◌≡◌, ◌∷◌, [], Some};
+ghost use Rattle.hol_model.specs.Logic.{forall_name, quantifier};
+ghost use Rattle.hol_model.specs.Nameless.{image};
+ghost use Rattle.hol_model.specs.Theory.{generic_type, type_a};
+ghost use Rattle.hol_model.specs.DerivedRules.{AnswersStated, terms_of_theorem, spec_outcome};
+ghost use Rattle.hol_journal.specs.Journal.{IsMade, theorem_in};
+ghost use Rattle.hol_bool.specs.HasLogic.{HasLogic};
+ghost use Rattle.hol_bool.specs.Sequents.{Shows, Continues};
+ghost use Rattle.hol_quant.specs.PredicateLemmas.{applied, over_predicate};
+
+use crate::instances::by_predicate_lemma;
+use crate::parts::quantified_parts;
+use hol_bool::{Bool, converted, eq_mp, theorem_of};
+use hol_journal::{Rec, Recorder};
+use hol_model::Fault;
+use hol_terms::Term;
+use std::alloc::Global;
+
+// From `!x. p`, `p[t/x]`.
+pub(crate) fn specialized(
+    recorder: &mut Recorder,
+    alloc: Global,
+    lemma: &Rec,
+    term: &Term,
+    premise: &Rec,
+) -> Result<Rec, Fault>
+    requires lemma { IsMade recorder.old lemma.now }
+    requires shows { Shows lemma.now.theorem (over_predicate forall_name ∷ []) applied }
+    requires generic { generic_type recorder.old.theory forall_name ≡ Some (quantifier type_a) }
+    requires premise { IsMade recorder.old premise.now }
+    ensures continues { Continues recorder.old recorder.new result }
+    ensures outcome { AnswersStated (theorem_in result) (image term.now ∷ terms_of_theorem premise.now.theorem) (spec_outcome recorder.old.theory term.now premise.now.theorem) }
+{
+    let formula = recorder.thm(premise).concl();
+    recorder.theory_is_legal();
+    let Some(parts) = quantified_parts(formula, "!") else {
+        return Err(Fault::BadShape);
+    };
+    if !term.ty().eq(parts.binder.ty()) {
+        return Err(Fault::TypeMismatch);
+    }
+    match recorder.theory().refl(alloc, term) {
+        Ok(_walked) => {}
+        Err(fault) => return Err(fault),
+    }
+    let redex = match by_predicate_lemma(recorder, alloc, lemma, parts.predicate, term, premise) {
+        Ok(redex) => redex,
+        Err(fault) => return Err(fault),
+    };
+    let equation = match converted(recorder, alloc, parts.predicate, parts.binder, term) {
+        Ok(equation) => equation,
+        Err(fault) => return Err(fault),
+    };
+    eq_mp(recorder, alloc, &equation, &redex)
+}
+
+/// SPEC: from `!x. p`, `p[t/x]`, by the lemma `(!) P |- P x`, in seven steps. Refused where the conclusion is no
+/// universal formula, then where the term is of another type than the variable, and then where the theory does not know
+/// a type or a constant of the term.
+pub fn spec(
+    recorder: &mut Recorder,
+    alloc: Global,
+    logic: &Bool,
+    term: &Term,
+    premise: &Rec,
+) -> Result<Rec, Fault>
+    requires logic { HasLogic recorder.old logic.now }
+    requires premise { IsMade recorder.old premise.now }
+    ensures continues { Continues recorder.old recorder.new result }
+    ensures outcome { AnswersStated (theorem_in result) (image term.now ∷ terms_of_theorem premise.now.theorem) (spec_outcome recorder.old.theory term.now premise.now.theorem) }
+{
+    recorder.theory_is_legal();
+    let lemma = theorem_of(recorder, logic, 20);
+    specialized(recorder, alloc, lemma, term, premise)
+}
