@@ -11,6 +11,8 @@ mod log_tests;
 #[cfg(test)]
 mod proof_trees;
 #[cfg(test)]
+mod quantifier_tests;
+#[cfg(test)]
 mod recorder_tests;
 #[cfg(test)]
 mod replacement_tests;

@@ -4,8 +4,6 @@
 mod files;
 mod laws;
 mod new_file;
-#[cfg(test)]
-mod quantifier_tests;
 mod status;
 
 use clap::{Arg, ArgAction, ArgMatches, Command};

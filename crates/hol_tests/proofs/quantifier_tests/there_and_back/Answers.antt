@@ -1,5 +1,5 @@
 use Rattle.hol_bool.proofs.LogicLemmas.{logic-stays}
-use Rattle.holp.proofs.quantifier_tests.there_and_back.Goals as goal
+use Rattle.hol_tests.proofs.quantifier_tests.there_and_back.Goals as goal
 
 pub spec-requires-clause-logic : goal.spec-requires-clause-logic
 spec-requires-clause-logic c =
