@@ -31,7 +31,7 @@ fn create(rt: &HostRuntime, name: &str) -> Result<IntoWrite<File>, Fault>
 }
 
 /// Runs a script, and answers how many of its commands were refused.
-pub fn run_file(rt: &HostRuntime, script: &str) -> Result<u64, Fault> {
+pub(crate) fn run_file(rt: &HostRuntime, script: &str) -> Result<u64, Fault> {
     let alloc = rt.alloc();
     let mut reader = open(rt, script)?;
     let mut writer = IntoWrite::new(io::writer(rt));
@@ -42,7 +42,7 @@ pub fn run_file(rt: &HostRuntime, script: &str) -> Result<u64, Fault> {
 
 /// Runs a script and writes its log, and answers how many commands were refused. The log's file is made once the script
 /// is open, before the run.
-pub fn run_file_with_log(rt: &HostRuntime, script: &str, log: &str) -> Result<u64, Fault> {
+pub(crate) fn run_file_with_log(rt: &HostRuntime, script: &str, log: &str) -> Result<u64, Fault> {
     logs_are_checked();
     let mut reader = open(rt, script)?;
     let mut log = create(rt, log)?;
@@ -52,7 +52,7 @@ pub fn run_file_with_log(rt: &HostRuntime, script: &str, log: &str) -> Result<u6
 }
 
 /// Checks a log, and prints its claims and their number.
-pub fn check_file(rt: &HostRuntime, log: &str) -> Result<u64, Fault> {
+pub(crate) fn check_file(rt: &HostRuntime, log: &str) -> Result<u64, Fault> {
     let alloc = rt.alloc();
     let mut reader = open(rt, log)?;
     let claims = check(alloc, &mut reader)?;
@@ -65,7 +65,7 @@ pub fn check_file(rt: &HostRuntime, log: &str) -> Result<u64, Fault> {
 
 /// Checks a log, writes it in the second version to a new file, and prints the number of its claims. The log is read to
 /// its end before the new file is made, and the file is made for an accepted log alone.
-pub fn migrate_file(rt: &HostRuntime, log: &str, new: &str) -> Result<u64, Fault> {
+pub(crate) fn migrate_file(rt: &HostRuntime, log: &str, new: &str) -> Result<u64, Fault> {
     let mut reader = open(rt, log)?;
     let mut writer = NewFile::new(rt, new);
     let claims = migrate(rt.alloc(), &mut reader, &mut writer)?;
@@ -77,7 +77,7 @@ pub fn migrate_file(rt: &HostRuntime, log: &str, new: &str) -> Result<u64, Fault
 
 /// Tells how a command ended, and answers the exit status: a refused log on standard output, another fault on standard
 /// error.
-pub fn tell(rt: &HostRuntime, answer: Result<u64, Fault>) -> io::Result<u8> {
+pub(crate) fn tell(rt: &HostRuntime, answer: Result<u64, Fault>) -> io::Result<u8> {
     let fault = match answer {
         Ok(refused) => return Ok(status(refused, None)),
         Err(Fault::LogFault { line, cause }) => {

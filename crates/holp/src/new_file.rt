@@ -15,7 +15,7 @@ pub struct NewFile<'a> {
 
 impl NewFile<'_> {
     /// The sink for a file of this name, which is not made yet.
-    pub fn new<'a>(rt: &'a HostRuntime, name: &'a str) -> NewFile<'a>
+    pub(crate) fn new<'a>(rt: &'a HostRuntime, name: &'a str) -> NewFile<'a>
         ensures { result.failed ≡ false }
     {
         NewFile {
