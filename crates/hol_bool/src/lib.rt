@@ -35,10 +35,3 @@ pub use negation_rules::{contr, not_elim, not_intro};
 pub use steps::{abs, eq_mp};
 pub use stored::{Bool, logic_stays, prelude, theorem_of};
 pub use truth_rules::{eqt_elim, eqt_intro};
-
-#[cfg(test)]
-mod prelude_rule_tests;
-#[cfg(test)]
-mod prelude_tests;
-#[cfg(test)]
-mod rule_tests;

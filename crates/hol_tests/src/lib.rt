@@ -9,6 +9,10 @@ mod kernel_tests;
 #[cfg(test)]
 mod log_tests;
 #[cfg(test)]
+mod prelude_rule_tests;
+#[cfg(test)]
+mod prelude_tests;
+#[cfg(test)]
 mod proof_trees;
 #[cfg(test)]
 mod quantifier_tests;
@@ -16,6 +20,8 @@ mod quantifier_tests;
 mod recorder_tests;
 #[cfg(test)]
 mod replacement_tests;
+#[cfg(test)]
+mod rule_tests;
 #[cfg(test)]
 mod run_log_tests;
 #[cfg(test)]

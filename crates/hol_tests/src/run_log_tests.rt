@@ -62,6 +62,14 @@ fn claims(alloc: Global, script: &[u8], lines: &[u8]) -> Result<bool, Fault> {
     Ok(writer.bytes.as_slice() == lines)
 }
 
+// Whether the log of a script is accepted, with so many claims.
+fn has_claims(alloc: Global, script: &[u8], number: usize) -> Result<bool, Fault> {
+    let log = log_of(alloc, script)?;
+    let mut reader = FromRead::new(log.as_slice());
+    let claims = check(alloc, &mut reader)?;
+    Ok(claims.len() == number)
+}
+
 #[test]
 fn logs_reflexivity(rt: HostRuntime) -> Result<(), Fail> {
     let log = log_of(rt.alloc(), b"thm a = REFL `(x:bool)` ;;")?;
@@ -80,6 +88,41 @@ fn logs_what_is_shown_again(rt: HostRuntime) -> Result<(), Fail> {
         log.as_slice()
             == "holp-log 2\ny b\nt v x 0\nk REFL 0\ny f 0 0\ny f 0 1\nt c = 2\nt a 1 0\nt a 2 0\nc a 0 3\nc a 0 3\nend 2\n".as_bytes()
     );
+    Ok(())
+}
+
+#[test]
+fn logs_what_a_constant_needs(rt: HostRuntime) -> Result<(), Fail> {
+    let script = b"newtype num ;; newconst zero : num ;; thm a = REFL `zero` ;;";
+    let log = log_of(rt.alloc(), script)?;
+    assert!(rt;
+        log.as_slice()
+            == "holp-log 2\nny num\ny n num\nnc zero 0\nt c zero 0\nk REFL 0\ny b\ny f 0 1\ny f 0 2\nt c = 3\nt a 1 0\nt a 2 0\nc a 0 3\nend 1\n".as_bytes()
+    );
+    Ok(())
+}
+
+#[test]
+fn claims_each_printed_theorem(rt: HostRuntime) -> Result<(), Fail> {
+    let alloc = rt.alloc();
+    let names = b"thm f = REFL `\\x:bool. x` ;; thm g = REFL `\\y:bool. y` ;; thm h = TRANS f g ;;";
+    assert!(rt; has_claims(alloc, names, 3)?);
+    let captures = b"thm a = REFL `\\y:A. (x:A)` ;; thm b = INST [`(y:A)`, `(x:A)`] a ;;";
+    assert!(rt; has_claims(alloc, captures, 2)?);
+    let types = b"thm a = REFL `\\x:A. (x:B)` ;; thm b = INST_TYPE [`A`, `B`] a ;;";
+    assert!(rt; has_claims(alloc, types, 2)?);
+    let abstracts = b"thm h = ASSUME `(x:bool) <=> (y:bool)` ;;\n\
+thm i = ABS `(x:bool)` h ;;\nthm j = ABS `(x:A)` h ;;";
+    assert!(rt; has_claims(alloc, abstracts, 2)?);
+    let reduces =
+        b"thm k = BETA `(\\x:bool. x) (y:bool)` ;; thm k = BETA `(\\x:bool. x) (x:bool)` ;;";
+    assert!(rt; has_claims(alloc, reduces, 1)?);
+    let deduces = b"thm p = ASSUME `(p:bool)` ;; thm q = ASSUME `(q:bool)` ;;\n\
+thm r = DEDUCT_ANTISYM_RULE p q ;; thm s = DEDUCT_ANTISYM_RULE p p ;; thm t = TRANS p q ;;";
+    assert!(rt; has_claims(alloc, deduces, 4)?);
+    let defines = b"def c = `(\\x:A. x) = (\\x:A. x)` ;;\ndef c = `(x:bool)` ;;\n\
+def c = `\\x:bool. x` ;;\nshow c_def ;;";
+    assert!(rt; has_claims(alloc, defines, 2)?);
     Ok(())
 }
 

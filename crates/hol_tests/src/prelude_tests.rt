@@ -1,5 +1,5 @@
 // The prelude on a new recorder.
-use crate::prelude;
+use hol_bool::prelude;
 use hol_journal::Recorder;
 use std::test::Fail;
 

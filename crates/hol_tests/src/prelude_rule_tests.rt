@@ -1,5 +1,5 @@
 // Each rule of the logical constants once, on theorems of the prelude.
-use crate::{
+use hol_bool::{
     conj, conjunct1, conjunct2, contr, disch, eqt_elim, eqt_intro, mp, not_elim, not_intro,
     prelude, theorem_of, undisch,
 };

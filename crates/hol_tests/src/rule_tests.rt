@@ -1,7 +1,7 @@
 // Each rule once, on small formulas.
-use crate::{add_assum, beta_conv, by_lemma, instance, named, prove_hyp, steps, sym};
 use hol_alpha::aconv;
-use hol_journal::Recorder;
+use hol_bool::{add_assum, beta_conv, by_lemma, instance, named, prove_hyp, sym};
+use hol_journal::{Recorder, journals_grow};
 use hol_model::Fault;
 use hol_terms::{Term, mk_eq};
 use hol_types::Ty;
@@ -27,7 +27,8 @@ fn turned(alloc: Global) -> Result<bool, Fault> {
     let equation = mk_eq(alloc, &p, &q)?;
     let wanted = mk_eq(alloc, &q, &p)?;
     let mut recorder = Recorder::new(alloc)?;
-    let premise = steps::assume(&mut recorder, alloc, &equation)?;
+    let premise = recorder.assume(alloc, &equation)?;
+    journals_grow();
     let answer = sym(&mut recorder, alloc, &premise)?;
     Ok(aconv(recorder.thm(&answer).concl(), &wanted))
 }
@@ -37,7 +38,8 @@ fn weakened(alloc: Global) -> Result<bool, Fault> {
     let p = formula(alloc, "p")?;
     let q = formula(alloc, "q")?;
     let mut recorder = Recorder::new(alloc)?;
-    let premise = steps::assume(&mut recorder, alloc, &q)?;
+    let premise = recorder.assume(alloc, &q)?;
+    journals_grow();
     let answer = add_assum(&mut recorder, alloc, &p, &premise)?;
     Ok(recorder.thm(&answer).hyps().len() == 2)
 }
@@ -46,7 +48,8 @@ fn weakened(alloc: Global) -> Result<bool, Fault> {
 fn taken_away(alloc: Global) -> Result<bool, Fault> {
     let p = formula(alloc, "p")?;
     let mut recorder = Recorder::new(alloc)?;
-    let premise = steps::assume(&mut recorder, alloc, &p)?;
+    let premise = recorder.assume(alloc, &p)?;
+    journals_grow();
     let answer = prove_hyp(&mut recorder, alloc, &premise, &premise)?;
     Ok(recorder.thm(&answer).hyps().len() == 1)
 }
@@ -70,7 +73,8 @@ fn renamed(alloc: Global) -> Result<bool, Fault> {
     let redex = Term::mk_comb(alloc, &first, &p)?;
     let wanted = Term::mk_comb(alloc, &second, &p)?;
     let mut recorder = Recorder::new(alloc)?;
-    let premise = steps::assume(&mut recorder, alloc, &redex)?;
+    let premise = recorder.assume(alloc, &redex)?;
+    journals_grow();
     let answer = named(&mut recorder, alloc, &wanted, &premise)?;
     Ok(aconv(recorder.thm(&answer).concl(), &wanted))
 }
@@ -80,7 +84,8 @@ fn instantiated(alloc: Global) -> Result<bool, Fault> {
     let p = formula(alloc, "p")?;
     let q = formula(alloc, "q")?;
     let mut recorder = Recorder::new(alloc)?;
-    let lemma = steps::assume(&mut recorder, alloc, &p)?;
+    let lemma = recorder.assume(alloc, &p)?;
+    journals_grow();
     let theta = [(q.copy(alloc)?, p)];
     let answer = instance(&mut recorder, alloc, &[], &theta, &lemma)?;
     Ok(aconv(recorder.thm(&answer).concl(), &q))
@@ -90,7 +95,8 @@ fn instantiated(alloc: Global) -> Result<bool, Fault> {
 fn by_assumption(alloc: Global) -> Result<bool, Fault> {
     let p = formula(alloc, "p")?;
     let mut recorder = Recorder::new(alloc)?;
-    let lemma = steps::assume(&mut recorder, alloc, &p)?;
+    let lemma = recorder.assume(alloc, &p)?;
+    journals_grow();
     let answer = by_lemma(&mut recorder, alloc, &[], &[], &lemma, &lemma)?;
     Ok(aconv(recorder.thm(&answer).concl(), &p))
 }
