@@ -29,6 +29,7 @@ pub mod Constructors
 pub mod Instantiation
 pub mod DerivedRules
 pub mod NamedAxioms
+pub mod Prelude
 pub mod Token
 pub mod Lexing
 pub mod TypeGrammar

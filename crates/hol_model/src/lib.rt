@@ -25,7 +25,9 @@ pub use limits::{
     TERM_NESTING_LIMIT, TERM_NODES_LIMIT, TEXT_BYTES_LIMIT, TYPE_NESTING_LIMIT, TYPE_NODES_LIMIT,
 };
 pub use name::{is_constant_name, is_declared_type_name, is_identifier, is_type_variable_name};
-pub use rule::{Axiom, PairRule, RuleKind, TermRule};
+pub use rule::{
+    Axiom, DerivedKind, PairRule, PremiseRule, PremisesRule, RuleKind, TermPremiseRule, TermRule,
+};
 pub use sink::{IntoWrite, Sink};
 pub use source::{FromRead, Source};
 pub use symbol::Symbol;

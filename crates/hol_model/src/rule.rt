@@ -1,4 +1,4 @@
-// The kernel's rules, by the arguments that a script gives them.
+// Rules, by the arguments that a script gives them.
 
 /// A rule for a term.
 #[derive(Clone, Copy, Debug, PartialEq, Eq)]
@@ -24,8 +24,54 @@ pub enum Axiom {
     Select,
 }
 
-/// A rule, by the arguments that it takes: a term, two theorems, a variable and a theorem, replacements and a theorem, or
-/// none.
+/// A derived rule for a theorem.
+#[derive(Clone, Copy, Debug, PartialEq, Eq)]
+pub enum PremiseRule {
+    Sym,
+    EqtIntro,
+    EqtElim,
+    Conjunct1,
+    Conjunct2,
+    Undisch,
+    NotIntro,
+    NotElim,
+}
+
+/// A derived rule for two theorems.
+#[derive(Clone, Copy, Debug, PartialEq, Eq)]
+pub enum PremisesRule {
+    ProveHyp,
+    Conj,
+    Mp,
+}
+
+/// A derived rule for a term and a theorem.
+#[derive(Clone, Copy, Debug, PartialEq, Eq)]
+pub enum TermPremiseRule {
+    AddAssum,
+    Disch,
+    Spec,
+    Gen,
+    Disj1,
+    Disj2,
+    Contr,
+}
+
+/// A derived rule, by the arguments that it takes: a term, a theorem, two theorems, a term and a theorem, three theorems,
+/// a formula, a witness and a theorem, or a variable and two theorems.
+#[derive(Clone, Copy, Debug, PartialEq, Eq)]
+pub enum DerivedKind {
+    BetaConv,
+    Premise(PremiseRule),
+    Premises(PremisesRule),
+    TermPremise(TermPremiseRule),
+    DisjCases,
+    Exists,
+    Choose,
+}
+
+/// A rule, by the arguments that it takes: a term, two theorems, a variable and a theorem, replacements and a theorem,
+/// none, or those of a derived rule.
 #[derive(Clone, Copy, Debug, PartialEq, Eq)]
 pub enum RuleKind {
     Term(TermRule),
@@ -34,4 +80,5 @@ pub enum RuleKind {
     Inst,
     InstType,
     Axiom(Axiom),
+    Derived(DerivedKind),
 }
