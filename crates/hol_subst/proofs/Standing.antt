@@ -12,7 +12,7 @@ use Rattle.hol_terms.specs.Classes.{class_of_name, have_common_class, classes_of
 use Rattle.hol_terms.proofs.FreeNames.{nothing_common, apart_from_first, apart_from_second, other_names, has_class}
 use Rattle.hol_subst.specs.Entries.{Entry, entries, looked_up, instance_of, mapped, replaced}
 use Rattle.hol_subst.specs.Touched.{Covers, changes_type, changes_types}
-use Rattle.hol_subst.specs.Occurrences.{OccursIn}
+use Rattle.hol_subst.specs.Occurrences.{IsFreeIn}
 use Rattle.hol_subst.specs.VariableTypes.{Admits, HasVariables}
 use Rattle.hol_subst.specs.Sought.{IsBroughtBy, IsKeptIn, is_apart}
 use Rattle.hol_subst.proofs.Apart.{first_apart, second_apart, type_stays, function_stays, argument_stays, body_stays, leaf_stays}
@@ -136,13 +136,13 @@ IsKeptIn-name class types binders name ty term is = record {
 }
 
 -- a variable of a term whose types stay keeps its type
-variable_stays : (types : List (HolType × HolType)) (name : List ℕ) (ty : HolType) (term : NamedTerm) → OccursIn name ty term → changes_types types term ≡ false
+variable_stays : (types : List (HolType × HolType)) (name : List ℕ) (ty : HolType) (term : NamedTerm) → IsFreeIn name ty term → changes_types types term ≡ false
     → type_put types ty ≡ ty
 variable_stays types name ty (variable other s) occurs none = rw (occurs.1) (type_stays types s (leaf_stays types other s none))
 variable_stays types name ty (constant other s) occurs none = absurd occurs
 variable_stays types name ty (combination f x) (inl occurs) none = variable_stays types name ty f occurs (function_stays types f x none)
 variable_stays types name ty (combination f x) (inr occurs) none = variable_stays types name ty x occurs (argument_stays types f x none)
-variable_stays types name ty (abstraction other s body) occurs none = variable_stays types name ty body occurs (body_stays types other s body none)
+variable_stays types name ty (abstraction other s body) occurs none = variable_stays types name ty body occurs.0 (body_stays types other s body none)
 
 -- the variable that the one binder binds is not free under it
 unbound_differs : (name : List ℕ) (ty : HolType) (other : List ℕ) (s : HolType) → binder_index ((name, ty) ∷ []) other s ≡ None → same_variable name ty other s ≡ false
@@ -209,6 +209,10 @@ still_unbound true index none = cc
 still_unbound false None none = refl
 still_unbound false (Some index) none = cc
 
+not_here : (test : Bool) (index : Option ℕ) → (if test then Some 0 else option_map suc index) ≡ None → test ≡ false
+not_here true index none = cc
+not_here false index none = refl
+
 pub IsKeptIn-body : (classes : ℕ) (types : List (HolType × HolType)) (binders : List Binder) (name : List ℕ) (ty : HolType)
     (bound_name : List ℕ) (bound_type : HolType) (body whole : NamedTerm)
     → abstraction bound_name bound_type body ≡ whole → IsKeptIn classes types binders name ty whole
@@ -217,7 +221,7 @@ IsKeptIn-body classes types binders name ty bound_name bound_type body whole is 
     let of_parts : IsKeptIn classes types binders name ty (abstraction bound_name bound_type body) = rw is kept in
     record {
       differs = λ other s occurs far unbound.
-          of_parts.differs other s occurs far (still_unbound (same_variable bound_name bound_type other s) (binder_index binders other s) unbound);
+          of_parts.differs other s (occurs, not_here (same_variable bound_name bound_type other s) (binder_index binders other s) unbound) far (still_unbound (same_variable bound_name bound_type other s) (binder_index binders other s) unbound);
     }
 
 -- one more binder
@@ -229,7 +233,7 @@ IsBroughtBy-under classes env binders name ty bound_name bound_type is = record 
 }
 
 -- a variable of a term that lacks some classes has none of them
-variable_apart : (classes : ℕ) (name : List ℕ) (ty : HolType) (term : NamedTerm) → OccursIn name ty term → bit_and classes (classes_of_names term) ≡ 0
+variable_apart : (classes : ℕ) (name : List ℕ) (ty : HolType) (term : NamedTerm) → IsFreeIn name ty term → bit_and classes (classes_of_names term) ≡ 0
     → bit_and classes (class_of_name name) ≡ 0
 variable_apart classes name ty (variable other s) occurs apart = ap (λ n. bit_and classes (class_of_name n)) occurs.0 ∙ apart
 variable_apart classes name ty (constant other s) occurs apart = absurd occurs
@@ -237,7 +241,7 @@ variable_apart classes name ty (combination f x) (inl occurs) apart =
     variable_apart classes name ty f occurs (apart_from_first classes (classes_of_names f) (classes_of_names x) apart)
 variable_apart classes name ty (combination f x) (inr occurs) apart =
     variable_apart classes name ty x occurs (apart_from_second classes (classes_of_names f) (classes_of_names x) apart)
-variable_apart classes name ty (abstraction other s body) occurs apart = variable_apart classes name ty body occurs apart
+variable_apart classes name ty (abstraction other s body) occurs apart = variable_apart classes name ty body occurs.0 apart
 
 -- what stands for a variable of no class that is sought lacks the variable
 instance-apart : (env : List Entry) (types : List (HolType × HolType)) (binders : List Binder) (brought : ℕ) (other : List ℕ) (s : HolType) (name : List ℕ) (ty : HolType)
@@ -255,7 +259,7 @@ neither p q first second = cc
 
 -- a variable that stands for no free variable of a term is not free after the replacement
 nowhere : (env : List Entry) (types : List (HolType × HolType)) (name : List ℕ) (ty : HolType) (term : NamedTerm) (binders : List Binder)
-    → ((other : List ℕ) (s : HolType) → OccursIn other s term → binder_index binders other s ≡ None → occurs_free name ty (instance_of env types other s) ≡ false)
+    → ((other : List ℕ) (s : HolType) → IsFreeIn other s term → binder_index binders other s ≡ None → occurs_free name ty (instance_of env types other s) ≡ false)
     → occurs_free name ty (replaced env types (image_under binders term)) ≡ false
 nowhere env types name ty (variable other s) binders none = go (binder_index binders other s) refl
   where
@@ -271,7 +275,7 @@ nowhere env types name ty (combination f x) binders none =
 nowhere env types name ty (abstraction bound_name bound_type body) binders none =
     nowhere env types name ty body ((bound_name, bound_type) ∷ binders)
     (λ other s occurs unbound.
-    none other s occurs (still_unbound (same_variable bound_name bound_type other s) (binder_index binders other s) unbound))
+    none other s (occurs, not_here (same_variable bound_name bound_type other s) (binder_index binders other s) unbound) (still_unbound (same_variable bound_name bound_type other s) (binder_index binders other s) unbound))
 
 -- nor is it where the term lacks the classes that are sought
 pub apart-after : (env : List Entry) (types : List (HolType × HolType)) (brought kept : ℕ) (term : NamedTerm) (binders : List Binder) (name : List ℕ) (ty : HolType)

@@ -12,8 +12,9 @@ ghost use Rattle.hol_subst.specs.Replacements.{entries_of, binders_of};
 ghost use Rattle.hol_subst.specs.Touched.{Covers};
 ghost use Rattle.hol_subst.specs.Sought.{IsBroughtBy, IsKeptIn};
 ghost use Rattle.hol_subst.specs.Sought as spec;
-ghost use Rattle.hol_subst.specs.VariableTypes.{HasVariables, table_of};
+ghost use Rattle.hol_subst.specs.VariableTypes.{HasVariables, known_table, table_of};
 
+use crate::known_variables::{KnownVariables, becomes, has_instance, has_other_instance};
 use crate::passed::{Passed, is_bound};
 use crate::place::Place;
 use crate::replacements::{Replacements, look_up};
@@ -21,7 +22,7 @@ use crate::touched::{Touched, changes_type, changes_types, stays};
 use crate::variable_types::VariableTypes;
 use hol_model::Fault;
 use hol_terms::{NameClasses, Parts, Term, is_free};
-use hol_types::{Ty, is_replaced_type};
+use hol_types::Ty;
 use std::alloc::Global;
 
 // The classes of the names of variables in whose place a variable may stand free: of those that are replaced by a term
@@ -44,10 +45,10 @@ pub(crate) fn is_free_after(
     replacements: &Replacements<'_>,
     hint: Place,
     touched: Touched,
-    variables: &VariableTypes,
+    known: &KnownVariables<'_>,
 ) -> bool
     requires covered { Covers touched.old.bits touched.new.bits (entries_of replacements.now) }
-    requires known { HasVariables (table_of variables.now) term.now }
+    requires known { HasVariables (known_table known.now) term.now }
     ensures { result ≡ occurs_free name.now ty.now (replaced (entries_of replacements.now) types.now (image_under (binders_of passed.now) term.now)) }
 {
     if stands_at(
@@ -65,7 +66,7 @@ pub(crate) fn is_free_after(
     let mut place = Place::first();
     let sought = Sought {
         brought_by: brought_by(name, ty, &*passed, &*replacements, touched),
-        kept_in: kept_in(name, ty, types, variables),
+        kept_in: kept_in(name, ty, types, &*known),
     };
     stands_after(
         term,
@@ -90,12 +91,12 @@ pub(crate) fn captures(
     types: &[(Ty, Ty)],
     replacements: &Replacements<'_>,
     touched: Touched,
-    variables: &VariableTypes,
+    known: &KnownVariables<'_>,
     hint: &mut Place,
 ) -> bool
     requires typed { new_type.now ≡ type_put types.now ty.now }
     requires covered { Covers touched.old.bits touched.new.bits (entries_of replacements.now) }
-    requires known { HasVariables (table_of variables.now) body.now }
+    requires known { HasVariables (known_table known.now) body.now }
     ensures { result ≡ occurs_free name.now new_type.now (replaced (entries_of replacements.now) types.now (image_under ((name.now, ty.now) ∷ []) body.now)) }
 {
     let outermost = Passed::Outermost;
@@ -115,7 +116,7 @@ pub(crate) fn captures(
     let mut place = Place::first();
     let sought = Sought {
         brought_by: brought_by(name, new_type, &passed, &*replacements, touched),
-        kept_in: kept_in_body(name, ty, new_type, body, types, variables),
+        kept_in: kept_in_body(name, ty, new_type, body, types, &*known),
     };
     if !stands_after(
         body,
@@ -201,16 +202,16 @@ fn kept_in_body(
     new_type: &Ty,
     body: &Term,
     types: &[(Ty, Ty)],
-    variables: &VariableTypes,
+    known: &KnownVariables<'_>,
 ) -> NameClasses
     requires typed { new_type.now ≡ type_put types.now ty.now }
-    requires known { HasVariables (table_of variables.now) body.now }
+    requires known { HasVariables (known_table known.now) body.now }
     ensures { IsKeptIn result.bits types.now ((name.now, ty.now) ∷ []) name.now new_type.now body.now }
 {
     if !changes_type(types, ty) && !changes_types(types, body) {
         return NameClasses::none();
     }
-    if !variables.has_other_instance(name, ty, types, new_type) {
+    if !has_other_instance(&*known, name, ty, types, new_type) {
         return NameClasses::none();
     }
     NameClasses::of_name(name)
@@ -224,10 +225,10 @@ pub(crate) fn walked_in_vain(
     new_type: &Ty,
     body: &Term,
     types: &[(Ty, Ty)],
-    variables: &VariableTypes,
+    known: &KnownVariables<'_>,
 ) -> u64 {
     let may_change = changes_type(types, ty) || changes_types(types, body);
-    if may_change && variables.has_other_instance(name, ty, types, new_type) {
+    if may_change && has_other_instance(&*known, name, ty, types, new_type) {
         u64::from(body.nodes())
     } else {
         0
@@ -236,10 +237,10 @@ pub(crate) fn walked_in_vain(
 
 // The classes of the variables that may become a variable of this name and type.
 #[tactic(auto, using(crate::proofs::Standing::keeping_classes))]
-fn kept_in(name: &str, ty: &Ty, types: &[(Ty, Ty)], variables: &VariableTypes) -> NameClasses
-    ensures { (binders : List Binder) (term : NamedTerm) → HasVariables (table_of variables.now) term → IsKeptIn result.bits types.now binders name.now ty.now term }
+fn kept_in(name: &str, ty: &Ty, types: &[(Ty, Ty)], known: &KnownVariables<'_>) -> NameClasses
+    ensures { (binders : List Binder) (term : NamedTerm) → HasVariables (known_table known.now) term → IsKeptIn result.bits types.now binders name.now ty.now term }
 {
-    if !variables.has_instance(name, types, ty) {
+    if !has_instance(&*known, name, types, ty) {
         return NameClasses::none();
     }
     NameClasses::of_name(name)
@@ -510,11 +511,4 @@ fn is_free_in_instance(
         Some(new) => is_free(new, name, ty),
         None => becomes(other, other_ty, name, ty, types),
     }
-}
-
-// Whether a variable that is kept becomes the other with its new type.
-fn becomes(other: &str, other_ty: &Ty, name: &str, ty: &Ty, types: &[(Ty, Ty)]) -> bool
-    ensures { result ≡ terms.same_variable name.now ty.now other.now (type_put types.now other_ty.now) }
-{
-    name == other && is_replaced_type(types, other_ty, ty)
 }
