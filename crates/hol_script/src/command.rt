@@ -4,6 +4,7 @@ ghost use Rattle.hol_syntax.specs.Views.{tokens_of};
 ghost use Rattle.hol_script.specs.Reading.{AreTokens, rule_kind_of, command_kind_of, ParsesQuote, ParsesTyping, ParsesArguments, ParsesRule, ParsesBody, ParsesCommand};
 ghost use Rattle.hol_script.specs.Pairs.{ParsesPairs};
 
+use crate::derived::Derived;
 use crate::pairs::{
     QuotedPair, TermPair, TypePair, parse_term_pairs, parse_type_pairs, take_pairs,
 };
@@ -21,6 +22,7 @@ pub enum Rule<'a> {
     Inst(Vec<TermPair<'a>>, &'a str),
     InstType(Vec<TypePair<'a>>, &'a str),
     OfAxiom(Axiom),
+    Derived(Derived<'a>),
 }
 
 /// A command with its arguments: terms and types by their steps.
@@ -212,6 +214,7 @@ fn parse_rule<'a>(alloc: Global, tokens: &'a [Token<'a>]) -> Result<Rule<'a>, Re
         RuleKind::Inst => parse_inst(alloc, arguments),
         RuleKind::InstType => parse_inst_type(alloc, arguments),
         RuleKind::Axiom(axiom) => parse_axiom(axiom, arguments),
+        RuleKind::Derived(_) => Err(ReadError::Syntax),
     }
 }
 

@@ -3,6 +3,7 @@
 
 mod command;
 mod cut;
+mod derived;
 mod execute;
 mod laws;
 mod pairs;
