@@ -8,6 +8,7 @@ mod execute;
 mod laws;
 mod pairs;
 mod progress;
+mod quotes;
 mod runner;
 mod session;
 mod tokens;
