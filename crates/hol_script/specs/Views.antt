@@ -1,14 +1,16 @@
 -- The commands of the code as those of the grammar.
 use Rattle.std.specs.Prelude.{◌≡◌, ℕ, true, List, [], ◌∷◌}
 use Rattle.hol_model.specs.Name.{is_type_variable_name}
-use Rattle.hol_model.specs.Commands.{RuleTree, by_term, by_pair, by_abs, by_inst, by_inst_type, by_axiom, CommandTree, thm_command, show_command, var_command, def_command, newtype_command, newconst_command}
+use Rattle.hol_model.specs.Commands.{DerivedTree, by_conversion, by_premise, by_premises, by_term_and_premise, by_cases, by_witness, by_choice, RuleTree, by_term, by_pair, by_abs, by_inst, by_inst_type, by_axiom, by_derived, CommandTree, thm_command, show_command, var_command, def_command, newtype_command, newconst_command}
 use Rattle.hol_model.specs.TypeGrammar.{TypeTree, type_steps}
 use Rattle.hol_model.specs.TermGrammar.{TermTree}
 use Rattle.hol_syntax.specs.TermSteps.{term_steps, flat_steps}
 use Rattle.hol_syntax.specs.Views.{steps_of}
 use Rattle.hol_syntax.specs.Steps.{flat_steps_of}
 use Rattle.hol_script.specs.declared.command.Rule.{Rule}
-use Rattle.hol_script.specs.declared.command.Rule.TheVariants.{OfTerm, OfTheorems, Abs, Inst, InstType, OfAxiom}
+use Rattle.hol_script.specs.declared.command.Rule.TheVariants.{OfTerm, OfTheorems, Abs, Inst, InstType, OfAxiom, Derived as OfDerived}
+use Rattle.hol_script.specs.declared.derived.Derived.{Derived}
+use Rattle.hol_script.specs.declared.derived.Derived.TheVariants.{OfTerm as OfConversion, OfPremise, OfPremises, OfTermAndPremise, Cases, Witness, Choice}
 use Rattle.hol_script.specs.declared.pairs.TermPair.{TermPair}
 use Rattle.hol_script.specs.declared.pairs.TypePair.{TypePair}
 use Rattle.hol_script.specs.declared.command.Command.{Command}
@@ -34,6 +36,18 @@ IsTypePair pair parts = (steps_of pair.new.items ≡ type_steps parts.0) × (pai
 abbrev pub AreTypePairs : List TypePair → List (TypeTree × List ℕ) → Type 0
 AreTypePairs pairs trees = Match IsTypePair pairs trees
 
+-- the derived rule has the arguments of the tree, its terms by their steps
+abbrev pub IsDerived : Derived → DerivedTree → Type 0
+IsDerived (OfConversion steps) (by_conversion tree) = flat_steps_of steps.items ≡ flat_steps (term_steps tree)
+IsDerived (OfPremise rule a) (by_premise other b) = (rule ≡ other) × (a.now ≡ b)
+IsDerived (OfPremises rule a b) (by_premises other c d) = (rule ≡ other) × (a.now ≡ c) × (b.now ≡ d)
+IsDerived (OfTermAndPremise rule steps a) (by_term_and_premise other tree b) = (rule ≡ other) × (flat_steps_of steps.items ≡ flat_steps (term_steps tree)) × (a.now ≡ b)
+IsDerived (Cases a b c) (by_cases d e f) = (a.now ≡ d) × (b.now ≡ e) × (c.now ≡ f)
+IsDerived (Witness formula witness a) (by_witness tree other b) =
+    (flat_steps_of formula.items ≡ flat_steps (term_steps tree)) × (flat_steps_of witness.items ≡ flat_steps (term_steps other)) × (a.now ≡ b)
+IsDerived (Choice steps a b) (by_choice tree c d) = (flat_steps_of steps.items ≡ flat_steps (term_steps tree)) × (a.now ≡ c) × (b.now ≡ d)
+IsDerived _ _ = ⊥
+
 -- the rule has the arguments of the tree, its terms by their steps
 abbrev pub IsRule : Rule → RuleTree → Type 0
 IsRule (OfTerm rule steps) (by_term other tree) = (rule ≡ other) × (flat_steps_of steps.items ≡ flat_steps (term_steps tree))
@@ -42,6 +56,7 @@ IsRule (Abs steps a) (by_abs tree b) = (flat_steps_of steps.items ≡ flat_steps
 IsRule (Inst pairs a) (by_inst others b) = AreTermPairs pairs.items others × (a.now ≡ b)
 IsRule (InstType pairs a) (by_inst_type others b) = AreTypePairs pairs.items others × (a.now ≡ b)
 IsRule (OfAxiom rule) (by_axiom other) = rule ≡ other
+IsRule (OfDerived derived) (by_derived tree) = IsDerived derived tree
 IsRule _ _ = ⊥
 
 abbrev pub IsCommand : Command → CommandTree → Type 0

@@ -3,10 +3,12 @@
 
 mod command;
 mod cut;
+mod derived;
 mod execute;
 mod laws;
 mod pairs;
 mod progress;
+mod quotes;
 mod runner;
 mod session;
 mod tokens;

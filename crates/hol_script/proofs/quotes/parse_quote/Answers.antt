@@ -1,6 +1,6 @@
 use Rattle.hol_syntax.specs.Views.{tokens_of}
 use Rattle.hol_script.proofs.ReadingLemmas.{quote-error}
-use Rattle.hol_script.proofs.command.parse_quote.Goals as goal
+use Rattle.hol_script.proofs.quotes.parse_quote.Goals as goal
 
 pub returns-in-Err : goal.returns-in-Err
 returns-in-Err c =
