@@ -12,9 +12,9 @@ use Rattle.hol_model.specs.HolType.{HolType, type_eq, type_put}
 use Rattle.hol_model.specs.NamedTerm.{NamedTerm, variable, constant, combination, abstraction, Binder, same_variable}
 use Rattle.hol_model.specs.Nameless.{binder_index}
 use Rattle.hol_model.proofs.HolTypeEq.{same_from_type_eq, type_eq-self}
-use Rattle.hol_model.proofs.Tests.{first_of_both, same_name, same_variable-type, same_variable-self}
+use Rattle.hol_model.proofs.Tests.{same_answer, first_of_both, same_name, same_variable-type, same_variable-self}
 use Rattle.hol_subst.specs.Occurrences.{IsFreeIn}
-use Rattle.hol_subst.specs.VariableTypes.{Admits, Widens, HasVariables, HasUnbound, Grows, types_kept, kept_types, table_with}
+use Rattle.hol_subst.specs.VariableTypes.{Admits, Widens, HasVariables, HasUnbound, Grows, types_kept, kept_types, table_with, admits}
 
 abbrev Table : Type 0
 Table = List ℕ → Option (List HolType)
@@ -28,6 +28,15 @@ Admits-any known ty is = subst (λ types. Admits types ty) is tt
 
 pub Admits-found : (listed : List HolType) (known : Option (List HolType)) (ty : HolType) → Some listed ≡ known → list_any (type_eq ty) listed ≡ true → Admits known ty
 Admits-found listed known ty is found = subst (λ types. Admits types ty) is (Contains-from_any same_from_type_eq ty listed found)
+
+-- the test answers so
+test_admits : (known : Option (List HolType)) (ty : HolType) → admits known ty ≡ true → Admits known ty
+test_admits None ty is = tt
+test_admits (Some listed) ty is = Contains-from_any same_from_type_eq ty listed is
+
+pub admitted_test : (known : Option (List HolType)) (ty : HolType) → Admits known ty → admits known ty ≡ true
+admitted_test None ty admitted = refl
+admitted_test (Some listed) ty admitted = list_any_at (type_eq ty) listed admitted.0 ty admitted.1 (ap (type_eq ty) admitted.2 ∙ type_eq-self ty)
 
 -- one more type
 pub Contains-more : (more listed : List HolType) (ty : HolType) → more ≡ listed ++ ty ∷ [] → Contains more ty
@@ -172,6 +181,25 @@ Admits-with_cases table other t name ty = go (bytes_eq other name) refl
         named (inr typed) = inr ((bytes_eq-Decides other name).0 same, typed)
     go false same admitted = inl admitted
 
+-- the test under one more type
+pub admits_here : (table : Table) (other : List ℕ) (t : HolType) (name : List ℕ) (ty : HolType) → same_variable other t name ty ≡ true
+    → admits (table_with other t table name) ty ≡ true
+admits_here table other t name ty same = admitted_test (table_with other t table name) ty (Admits-with_here table other t name ty same)
+
+pub admits_later : (table : Table) (other : List ℕ) (t : HolType) (name : List ℕ) (ty : HolType) → same_variable other t name ty ≡ false
+    → admits (table name) ty ≡ admits (table_with other t table name) ty
+admits_later table other t name ty differs =
+    same_answer (admits (table name) ty) (admits (table_with other t table name) ty)
+    (λ passed. admitted_test (table_with other t table name) ty (Admits-with_later table other t name ty (test_admits (table name) ty passed)))
+    (λ passed. back (Admits-with_cases table other t name ty (test_admits (table_with other t table name) ty passed)))
+  where
+    back : Admits (table name) ty ⊎ ((other ≡ name) × (t ≡ ty)) → admits (table name) ty ≡ true
+    back (inl before) = admitted_test (table name) ty before
+    back (inr same) =
+        let passed : same_variable other t name ty ≡ true = rw (same.0, same.1) (same_variable-self name ty) in
+        let clash : true ≡ false = sym passed ∙ differs in
+        cc
+
 -- where the one more type does not become a type either, none does
 pub none_with : (table : Table) (other : List ℕ) (t : HolType) (types : List (HolType × HolType)) (name : List ℕ) (ty : HolType)
     → same_variable name ty other (type_put types t) ≡ false
@@ -207,15 +235,16 @@ no_other_with table other t types name ty new differs only s admitted becomes = 
 
 -- the body of an abstraction, whose variable is known or gets known
 pub HasVariables-known : (table : Table) (name : List ℕ) (ty : HolType) (body whole : NamedTerm) → abstraction name ty body ≡ whole → HasVariables table whole
-    → Admits (table name) ty → HasVariables table body
-HasVariables-known table name ty body whole is has known =
+    → admits (table name) ty ≡ true → HasVariables table body
+HasVariables-known table name ty body whole is has passed =
+    let known : Admits (table name) ty = test_admits (table name) ty passed in
     let of_parts : HasVariables table (abstraction name ty body) = rw is has in
-    record { has = λ other s occurs. go other s (same_variable name ty other s) refl occurs of_parts }
+    record { has = λ other s occurs. go other s (same_variable name ty other s) refl occurs of_parts known }
   where
     go : (other : List ℕ) (s : HolType) (test : Bool) → same_variable name ty other s ≡ test → IsFreeIn other s body
-        → HasVariables table (abstraction name ty body) → Admits (table other) s
-    go other s true same occurs of_parts = rw (← same_name name other ty s same, ← same_variable-type name other ty s same) known
-    go other s false differs occurs of_parts = of_parts.has other s (occurs, differs)
+        → HasVariables table (abstraction name ty body) → Admits (table name) ty → Admits (table other) s
+    go other s true same occurs of_parts known = rw (← same_name name other ty s same, ← same_variable-type name other ty s same) known
+    go other s false differs occurs of_parts known = of_parts.has other s (occurs, differs)
 
 pub HasVariables-body : (table : Table) (name : List ℕ) (ty : HolType) (body whole : NamedTerm) → abstraction name ty body ≡ whole → HasVariables table whole
     → HasVariables (table_with name ty table) body
@@ -295,4 +324,4 @@ pub ruleset free_tables = (
 
 pub ruleset under_binders = (HasVariables-known, HasVariables-body)
 
-pub ruleset known_with = (Admits-with_here, Admits-with_later, none_with, no_other_with)
+pub ruleset known_with = (admits_here, admits_later, none_with, no_other_with)

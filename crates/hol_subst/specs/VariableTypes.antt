@@ -1,12 +1,13 @@
 -- What is known of the types of a term's variables, by their names.
-use Rattle.std.specs.Prelude.{◌≡◌, ℕ, List, [], ◌∷◌, ◌++◌, Option, Some, None, Contains, if◌then◌else◌}
+use Rattle.std.specs.Prelude.{◌≡◌, ℕ, List, [], ◌∷◌, ◌++◌, Option, Some, None, Contains, Bool, true, false, if◌then◌else◌}
+use Rattle.std.specs.List.{list_any}
 use Rattle.std.specs.Option.{option_map}
 use Rattle.std.specs.Str.{bytes_eq}
 use Rattle.std.specs.declared.alloc.Global.{Global}
 use Rattle.std.specs.declared.vec.Vec.{Vec}
 use Rattle.indexmap.specs.IndexMap.{get_by_text}
-use Rattle.hol_model.specs.HolType.{HolType}
-use Rattle.hol_model.specs.NamedTerm.{NamedTerm, Binder}
+use Rattle.hol_model.specs.HolType.{HolType, type_eq}
+use Rattle.hol_model.specs.NamedTerm.{NamedTerm, variable, Binder}
 use Rattle.hol_model.specs.Nameless.{binder_index}
 use Rattle.hol_subst.specs.Occurrences.{IsFreeIn}
 use Rattle.hol_subst.specs.declared.known_variables.KnownVariables.{KnownVariables, Listed, AndBound'}
@@ -16,6 +17,16 @@ use Rattle.hol_subst.specs.declared.variable_types.VariableTypes.{VariableTypes}
 abbrev pub Admits : Option (List HolType) → HolType → Type 0
 Admits None ty = Unit {0}
 Admits (Some known) ty = Contains known ty
+
+-- the same as a test
+abbrev pub admits : Option (List HolType) → HolType → Bool
+admits None ty = true
+admits (Some known) ty = list_any (type_eq ty) known
+
+-- a table may have the variable that a term is
+abbrev pub may_have : (List ℕ → Option (List HolType)) → NamedTerm → Bool
+may_have table (variable name ty) = admits (table name) ty
+may_have table _ = false
 
 -- the second admits each type that the first does
 pub record Widens (old new : Option (List HolType)) : Type 0 where

@@ -12,9 +12,9 @@ use crate::capture::captures;
 use crate::fresh::fresh_binder;
 use crate::known_variables::KnownVariables;
 use crate::passed::Passed;
-use crate::place::Place;
 use crate::replacements::Replacements;
 use crate::touched::Touched;
+use crate::walks::Walks;
 use hol_model::{Fault, TYPE_NODES_LIMIT};
 use hol_terms::Term;
 use hol_types::{Ty, replaced_type};
@@ -29,8 +29,8 @@ pub enum NewBinder {
     Renamed(Term),
 }
 
-/// What becomes of a binder over a body. The hint tells where a captured variable may stand in the body, and is set to
-/// where one was found.
+/// What becomes of a binder over a body. The walks tell where a captured variable may stand in the body, and are told
+/// where one was found, or how far none was.
 pub(crate) fn new_binder(
     alloc: Global,
     name: &str,
@@ -40,7 +40,7 @@ pub(crate) fn new_binder(
     replacements: &Replacements<'_>,
     touched: Touched,
     known: &KnownVariables<'_>,
-    hint: &mut Place,
+    walks: &mut Walks,
 ) -> Result<NewBinder, Fault>
     requires named { IsTrue (is_identifier name.now) }
     requires known { HasVariables (known_table known.now) body.now }
@@ -60,7 +60,7 @@ pub(crate) fn new_binder(
         &*replacements,
         touched,
         &*known,
-        &mut *hint,
+        &mut *walks,
     ) {
         return Ok(NewBinder::Kept(changed_type));
     }
@@ -74,7 +74,7 @@ pub(crate) fn new_binder(
         types,
         &passed,
         &*replacements,
-        *hint,
+        walks.hint,
         touched,
         &*known,
     )?;

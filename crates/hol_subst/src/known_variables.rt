@@ -1,12 +1,13 @@
 // What is known of the variables that are free in a part of a term.
-ghost use Rattle.std.specs.Prelude.{◌≡◌, ◌&&◌, not, IsTrue, IsFalse};
+ghost use Rattle.std.specs.Prelude.{◌≡◌, ◌&&◌, not, IsFalse};
 ghost use Rattle.hol_model.specs.HolType.{HolType, type_eq, type_put};
 ghost use Rattle.hol_model.specs.NamedTerm.{NamedTerm, abstraction};
 ghost use Rattle.hol_model.specs.NamedTerm as terms;
+ghost use Rattle.hol_subst.specs.VariableTypes as spec;
 ghost use Rattle.hol_subst.specs.VariableTypes.{Admits, HasVariables, known_table};
 
 use crate::variable_types::VariableTypes;
-use hol_terms::same_variable;
+use hol_terms::{Parts, Term, same_variable};
 use hol_types::{Ty, is_replaced_type};
 
 /// The variables that may be free in a part: frames that borrow one another.
@@ -34,15 +35,25 @@ pub(crate) fn under_binder<'a>(
     }
 }
 
-// Whether the variable of this name and type is among those that may be free.
+/// Whether the variable of this name and type is among those that may be free.
 #[tactic(auto, using(crate::proofs::Variables::known_with))]
-fn admits(known: &KnownVariables<'_>, name: &str, ty: &Ty) -> bool
-    ensures { IsTrue result → Admits (known_table known.now name.now) ty.now }
+pub(crate) fn admits(known: &KnownVariables<'_>, name: &str, ty: &Ty) -> bool
+    ensures { result ≡ spec.admits (known_table known.now name.now) ty.now }
 {
     match known {
         KnownVariables::Listed(table) => table.admits(name, ty),
         KnownVariables::AndBound(other, s, outer) => same_variable(other, s, name, ty)
             || admits(outer, name, ty),
+    }
+}
+
+/// Whether a term is a variable that may be free.
+pub(crate) fn may_have(known: &KnownVariables<'_>, term: &Term) -> bool
+    ensures { result ≡ spec.may_have (known_table known.now) term.now }
+{
+    match term.parts() {
+        Parts::Variable(name, ty) => admits(&*known, name, ty),
+        _ => false,
     }
 }
 

@@ -7,6 +7,7 @@ ghost use Rattle.hol_model.specs.HolType.{HolType, type_eq, type_put};
 ghost use Rattle.hol_model.specs.NamedTerm.{NamedTerm, variable};
 ghost use Rattle.hol_model.specs.declared.fault.Fault.TheVariants.{Memory};
 ghost use Rattle.hol_subst.specs.Replacements.{binders_of};
+ghost use Rattle.hol_subst.specs.VariableTypes as spec;
 ghost use Rattle.hol_subst.specs.VariableTypes.{Admits, Widens, HasVariables, HasUnbound, Grows, types_kept, kept_types, table_of};
 
 use crate::passed::{Passed, is_bound};
@@ -66,9 +67,8 @@ impl VariableTypes {
     }
 
     /// Whether a variable of this name and type may occur.
-    #[tactic(auto, using(crate::proofs::Variables::known_types))]
     pub(crate) fn admits(&self, name: &str, ty: &Ty) -> bool
-        ensures { IsTrue result → Admits (table_of self.now name.now) ty.now }
+        ensures { result ≡ spec.admits (table_of self.now name.now) ty.now }
     {
         match self.types_of(name) {
             None => true,
