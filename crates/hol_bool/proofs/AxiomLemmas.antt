@@ -1,11 +1,10 @@
 -- Theorems of the prelude without hypotheses, stated again.
-use Rattle.std.proofs.Common.{◌≡◌, List, [], ◌∷◌, map, Bool, true, refl, sym, ◌∙◌, ap, subst, inl, inr, Some, Result, Ok, Err, IfOk, IfErr}
+use Rattle.std.proofs.Common.{◌≡◌, List, [], ◌∷◌, map, Bool, true, refl, sym, ◌∙◌, subst, inl, inr, Some, Result, Ok, Err, IfOk, IfErr}
 use Rattle.std.specs.Prelude.{ℕ, slice_get}
 use Rattle.hol_model.specs.declared.fault.Fault.{Fault}
 use Rattle.hol_model.specs.declared.fault.Fault.TheVariants.{Memory}
 use Rattle.hol_model.specs.NamedTerm.{NamedTerm}
-use Rattle.hol_model.specs.Nameless.{Nameless, image}
-use Rattle.hol_model.specs.Theory.{Theory}
+use Rattle.hol_model.specs.Nameless.{image}
 use Rattle.hol_model.specs.Derivable.{IsSameSet}
 use Rattle.hol_model.specs.Theorem.{Theorem}
 use Rattle.hol_journal.specs.Journal.{Journal, Recorded}

@@ -1,12 +1,12 @@
 -- DISJ1, DISJ2 and DISJ_CASES: what has to fit, the steps, and the answers.
-use Rattle.std.proofs.Common.{◌≡◌, ◌≤◌, ℕ, List, [], ◌∷◌, ◌++◌, Bool, true, false, refl, sym, ◌∙◌, ap, subst, inl, inr, Some, Result, Ok, Err, IfOk, arith}
+use Rattle.std.proofs.Common.{◌≡◌, ℕ, List, [], ◌∷◌, ◌++◌, Bool, false, refl, sym, subst, inl, inr, Some, Result, Ok, IfOk, arith}
 use Rattle.hol_model.specs.declared.fault.Fault.{Fault}
 use Rattle.hol_model.specs.HolType.{bool_type}
 use Rattle.hol_model.specs.NamedTerm.{NamedTerm, type_of}
 use Rattle.hol_model.specs.Nameless.{Nameless, const, app, image}
 use Rattle.hol_model.specs.Measures.{nameless_types_fit}
 use Rattle.hol_model.specs.Theory.{Theory, IsLegal}
-use Rattle.hol_model.specs.Derivable.{IsMember, IsSameSet, nameless_equation}
+use Rattle.hol_model.specs.Derivable.{IsSameSet, nameless_equation}
 use Rattle.hol_model.specs.Theorem.{Theorem}
 use Rattle.hol_model.specs.Logic as nameless
 use Rattle.hol_model.specs.Logic.{binary, implies_name, or_name}
@@ -16,7 +16,7 @@ use Rattle.hol_model.proofs.Tests.{first_of_both, second_of_both}
 use Rattle.hol_model.proofs.Membership.{of_append, IsMember-append_left, IsMember-append_right}
 use Rattle.hol_journal.specs.Journal.{Journal, Recorded, theorem_in}
 use Rattle.hol_bool.specs.Prelude.{p, q, r}
-use Rattle.hol_bool.specs.Sequents.{DerivesIf, Shows}
+use Rattle.hol_bool.specs.Sequents.{DerivesIf}
 use Rattle.hol_bool.specs.HasLogic.{HasLogic}
 use Rattle.hol_bool.specs.Formulas.{IsFormula, IsPassed}
 use Rattle.hol_bool.specs.Room.{IsSized, FitsIf, MakesIf, LeadsTo, at_p_q, at_p_q_r}
@@ -26,7 +26,7 @@ use Rattle.hol_bool.proofs.Sizes.{sized-more, sized-equation}
 use Rattle.hol_bool.proofs.LogicLemmas.{logical-type}
 use Rattle.hol_bool.proofs.FormulaLemmas.{connected-formula}
 use Rattle.hol_bool.proofs.RoomLemmas.{connected-typed}
-use Rattle.hol_bool.proofs.RuleAnswers.{Roomy, answered, leads-p_q, leads-p_q_r, sized-connected, sized-fits}
+use Rattle.hol_bool.proofs.RuleAnswers.{answered, leads-p_q, leads-p_q_r, sized-connected, sized-fits}
 use Rattle.hol_bool.proofs.ConjunctionAnswers.{mp_equation, stated-roomy}
 
 -- a rule that takes a formula and a theorem, whose hypotheses it keeps

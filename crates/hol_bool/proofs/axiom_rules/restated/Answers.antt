@@ -1,4 +1,4 @@
-use Rattle.std.proofs.Common.{◌≡◌, ◌∙◌, [], Bool, IfOk, sym, subst, ap}
+use Rattle.std.proofs.Common.{◌≡◌, ◌∙◌, [], IfOk, sym, subst, ap}
 use Rattle.hol_model.specs.HolType.{bool_type}
 use Rattle.hol_model.specs.NamedTerm.{NamedTerm}
 use Rattle.hol_model.specs.Nameless.{image}

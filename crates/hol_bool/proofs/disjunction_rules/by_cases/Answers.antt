@@ -1,13 +1,12 @@
-use Rattle.std.proofs.Common.{◌≡◌, ◌∙◌, List, ◌++◌, Bool, Ok, Err, IfOk, refl, sym, ap, subst}
-use Rattle.hol_model.specs.HolType.{bool_type}
+use Rattle.std.proofs.Common.{◌≡◌, ◌∙◌, List, ◌++◌, Ok, IfOk, sym, ap, subst}
 use Rattle.hol_model.specs.Nameless.{Nameless, image}
 use Rattle.hol_model.specs.NamedTerm.{NamedTerm}
 use Rattle.hol_model.specs.Derivable.{without}
 use Rattle.hol_model.specs.Logic as nameless
 use Rattle.hol_bool.specs.Room.{FitsIf}
-use Rattle.hol_bool.specs.Sequents.{Shows, DerivesIf, IsPast}
+use Rattle.hol_bool.specs.Sequents.{Shows, DerivesIf}
 use Rattle.hol_bool.specs.Formulas.{IsFormula}
-use Rattle.hol_bool.specs.Disjunctions.{LeavesRoomIf, other_case, both_cases}
+use Rattle.hol_bool.specs.Disjunctions.{LeavesRoomIf}
 use Rattle.hol_bool.proofs.ConjunctionAnswers.{mp_equation}
 use Rattle.hol_bool.proofs.ImplicationAnswers.{disch-fits}
 use Rattle.hol_bool.proofs.PreludeSteps.{still_formula}

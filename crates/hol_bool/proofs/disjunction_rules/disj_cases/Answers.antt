@@ -1,4 +1,4 @@
-use Rattle.std.proofs.Common.{◌≡◌, ◌∙◌, List, ◌∷◌, ◌++◌, true, Option, sym, subst, ap, inl, refl}
+use Rattle.std.proofs.Common.{◌≡◌, ◌∙◌, List, ◌++◌, true, Option, sym, subst, ap, inl, refl}
 use Rattle.hol_model.specs.declared.fault.Fault.TheVariants.{BadShape, NotAlpha}
 use Rattle.hol_model.specs.NamedTerm.{NamedTerm}
 use Rattle.hol_model.specs.Nameless.{Nameless, image, same_term}
