@@ -100,6 +100,23 @@ leads-p_q theory number hypothesis conclusion a b terms there small one two term
       conclusion_fits = to_fits;
     })
 
+pub leads-p_q_r : (theory : Theory) (number : ℕ) (hypothesis conclusion a b d : NamedTerm) (terms : List (NamedTerm × NamedTerm)) → slice_get prelude_theorems number ≡ Some (shown (hypothesis ∷ []) conclusion)
+    → list_all nameless_within_limits (instantiate_all [] (image conclusion) ∷ instantiate_all [] (image hypothesis) ∷ []) ≡ true → IsFormula theory a → IsFormula theory b → IsFormula theory d → terms ≡ at_p_q_r a b d
+    → (room : Bool) (from to : Nameless) → from ≡ instance_of [] (at_p_q_r a b d) (image hypothesis) → to ≡ instance_of [] (at_p_q_r a b d) (image conclusion) → FitsIf room from → FitsIf room to
+    → LeadsTo theory number terms room from to
+leads-p_q_r theory number hypothesis conclusion a b d terms there small one two three terms_are room from to from_is to_is from_fits to_fits =
+    subst (λ (l : List (NamedTerm × NamedTerm)). LeadsTo theory number l room from to) (sym terms_are) (record {
+      hypothesis = hypothesis;
+      stated = conclusion;
+      theorem_is = there;
+      is_small = small;
+      may_replace = p_q_r-passes theory a b d one two three;
+      premise_is = from_is;
+      conclusion_is = to_is;
+      premise_fits = from_fits;
+      conclusion_fits = to_fits;
+    })
+
 -- sizes of what connectives make
 
 pub sized-connected : (tall many more : ℕ) (name : List ℕ) (l r : Nameless) → 1 ≤ tall → IsSized tall many l → IsSized tall more r → IsSized (tall + 2) (many + more + 3) (app (app (const name binary) l) r)

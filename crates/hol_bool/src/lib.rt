@@ -2,12 +2,14 @@
 //! theorem is made by a recorder's calls.
 #![tactic(auto)]
 
+mod axiom_rules;
 mod choice;
 mod conjunction;
 mod conjunction_rules;
 mod conversion;
 mod derivation;
 mod disjunction;
+mod disjunction_rules;
 mod equality;
 mod existence;
 mod formula_terms;
@@ -26,8 +28,10 @@ mod stored;
 mod truth;
 mod truth_rules;
 
+pub use axiom_rules::{eta_ax, select_ax};
 pub use conjunction_rules::{conj, conjunct1, conjunct2};
 pub use conversion::converted;
+pub use disjunction_rules::{disj_cases, disj1, disj2};
 pub use equality::{add_assum, beta_conv, named, prove_hyp, sym};
 pub use implication_rules::{disch, mp, undisch};
 pub use lemma::{by_lemma, instance};
