@@ -166,5 +166,16 @@ axiom_theorems =
     ∷ shown [] (forall_term (codes "P") (predicate type_a) (forall_term (codes "x") type_a (implication select_hypothesis select_conclusion)))
     ∷ []
 
+-- p \/ ~p
+abbrev pub middle : NamedTerm
+middle = disjunction p (negation p)
+
+-- the piece of EXCLUDED_MIDDLE; EXCLUDED_MIDDLE
+abbrev pub middle_theorems : List Theorem
+middle_theorems =
+    shown [] middle
+    ∷ shown [] (forall_term (codes "t") bool_type (disjunction t (negation t)))
+    ∷ []
+
 abbrev pub prelude_theorems : List Theorem
-prelude_theorems = first_theorems ++ disjunction_theorems ++ case_theorems ++ existence_theorems ++ axiom_theorems
+prelude_theorems = first_theorems ++ disjunction_theorems ++ case_theorems ++ existence_theorems ++ axiom_theorems ++ middle_theorems
