@@ -18,7 +18,7 @@ use Rattle.hol_journal.specs.Journal.{Recorded, theorem_in}
 use Rattle.hol_bool.specs.Prelude.{prelude_theorems, shown}
 use Rattle.hol_bool.specs.Sequents.{DerivesIf, instance_of}
 use Rattle.hol_bool.specs.Formulas.{IsFormula}
-use Rattle.hol_bool.specs.Room.{IsSized, FitsIf, LeadsTo, at_p, at_p_q, at_p_q_r}
+use Rattle.hol_bool.specs.Room.{IsSized, FitsIf, LeadsTo, Says, at_p, at_p_q, at_p_q_r}
 use Rattle.hol_bool.proofs.StepLemmas.{member_passes}
 use Rattle.hol_bool.proofs.Sizes.{leaves_room, sized-more, sized-app}
 use Rattle.hol_bool.proofs.CutLemmas.{answers-stated}
@@ -114,6 +114,19 @@ leads-p_q_r theory number hypothesis conclusion a b d terms there small one two 
       premise_is = from_is;
       conclusion_is = to_is;
       premise_fits = from_fits;
+      conclusion_fits = to_fits;
+    })
+
+pub says-p : (theory : Theory) (number : ℕ) (conclusion a : NamedTerm) (terms : List (NamedTerm × NamedTerm)) → slice_get prelude_theorems number ≡ Some (shown [] conclusion)
+    → nameless_within_limits (instantiate_all [] (image conclusion)) ≡ true → IsFormula theory a → terms ≡ at_p a
+    → (room : Bool) (to : Nameless) → to ≡ instance_of [] (at_p a) (image conclusion) → FitsIf room to → Says theory number terms room to
+says-p theory number conclusion a terms there small one terms_are room to to_is to_fits =
+    subst (λ (l : List (NamedTerm × NamedTerm)). Says theory number l room to) (sym terms_are) (record {
+      stated = conclusion;
+      theorem_is = there;
+      is_small = small;
+      may_replace = p-passes theory a one;
+      conclusion_is = to_is;
       conclusion_fits = to_fits;
     })
 
