@@ -48,6 +48,7 @@ pub fn prelude(recorder: &mut Recorder, alloc: Global) -> Result<Bool, Fault>
     ensures ok { IfOk result (λ bool. theorems bool.theorems.items ≡ prelude_theorems) }
     ensures made { IfOk result (λ bool. AreMade recorder.new bool.theorems.items) }
     ensures logic { IfOk result (HasLogic recorder.new) }
+    ensures theory { IfOk result (λ bool. recorder.new.theory ≡ logical_definitions) }
     ensures err { IfErr result (λ fault. fault ≡ Memory) }
     ensures grown { IsGrown recorder.old recorder.new }
 {
