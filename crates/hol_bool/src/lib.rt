@@ -28,10 +28,11 @@ mod truth_rules;
 
 pub use conjunction_rules::{conj, conjunct1, conjunct2};
 pub use conversion::converted;
-pub use equality::{add_assum, beta_conv, named, prove_hyp, sym};
-pub use implication_rules::{disch, mp, undisch};
+pub use equality::{add_assum, beta_conv, cut, named, prove_hyp, sym};
+pub use implication_rules::{disch, discharged, implied, mp, undisch};
 pub use lemma::{by_lemma, instance};
 pub use negation_rules::{contr, not_elim, not_intro};
-pub use steps::{abs, eq_mp};
+pub use prelude_rules::conclusion_of;
+pub use steps::{abs, assume, eq_mp};
 pub use stored::{Bool, logic_stays, prelude, theorem_of};
 pub use truth_rules::{eqt_elim, eqt_intro};
