@@ -135,8 +135,8 @@ pub fn named(
     steps::eq_mp(recorder, alloc, &reflexive, premise)
 }
 
-// From `p` and `q`, `q`, with the hypotheses of the first, and those of the second but `p`.
-pub(crate) fn cut(
+/// From `p` and `q`, `q`, with the hypotheses of the first, and those of the second but `p`, in two steps.
+pub fn cut(
     recorder: &mut Recorder,
     alloc: Global,
     first: &Rec,

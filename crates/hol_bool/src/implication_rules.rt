@@ -24,9 +24,9 @@ use hol_model::Fault;
 use hol_terms::Term;
 use std::alloc::Global;
 
-// MP, with the room that it needs: from `p ==> q` and `p`, the `q` that is handed in.
+/// MP, with the room that it needs: from `p ==> q` and `p`, the `q` that is handed in.
 #[tactic(auto, using(crate::proofs::StepLemmas::still_made, crate::proofs::StepLemmas::now_made))]
-pub(crate) fn implied(
+pub fn implied(
     recorder: &mut Recorder,
     alloc: Global,
     logic: &Bool,
@@ -143,9 +143,10 @@ fn absorbed(
     steps::deduct_antisym(recorder, alloc, &joined, &first)
 }
 
-// DISCH, with the room that it needs.
+/// DISCH, with the room that it needs: from `q`, `p ==> q` without the hypothesis `p`, for a formula `p` that the theory
+/// knows.
 #[tactic(auto, using(crate::proofs::StepLemmas::still_made, crate::proofs::StepLemmas::now_made, crate::proofs::PreludeSteps::still_logical, crate::proofs::PreludeSteps::still_formula))]
-pub(crate) fn discharged(
+pub fn discharged(
     recorder: &mut Recorder,
     alloc: Global,
     logic: &Bool,

@@ -71,7 +71,7 @@ pub(crate) fn instance_of_theorem(
 }
 
 /// The conclusion of a theorem that this recorder made.
-pub(crate) fn conclusion_of<'a>(recorder: &Recorder, premise: &'a Rec) -> &'a Term
+pub fn conclusion_of<'a>(recorder: &Recorder, premise: &'a Rec) -> &'a Term
     requires { IsMade recorder.now premise.now }
     ensures value { result.now ≡ premise.now.theorem.conclusion }
     ensures formula { IsFormula recorder.now.theory premise.now.theorem.conclusion }
