@@ -19,7 +19,7 @@ use hol_journal::{Rec, Recorder};
 use hol_model::Fault;
 use std::alloc::Global;
 
-/// CONJUNCT1: from `p /\ q`, `p`. Refused where the conclusion is no conjunction.
+/// CONJUNCT1: from `p /\ q`, `p`, in six steps. Refused where the conclusion is no conjunction.
 pub fn conjunct1(
     recorder: &mut Recorder,
     alloc: Global,
@@ -41,7 +41,7 @@ pub fn conjunct1(
     by_theorem(recorder, alloc, logic, 13, &terms, sides.left, premise)
 }
 
-/// CONJUNCT2: from `p /\ q`, `q`. Refused where the conclusion is no conjunction.
+/// CONJUNCT2: from `p /\ q`, `q`, in six steps. Refused where the conclusion is no conjunction.
 pub fn conjunct2(
     recorder: &mut Recorder,
     alloc: Global,
@@ -100,7 +100,7 @@ pub(crate) fn joined(
     steps::eq_mp(recorder, alloc, &equation, second)
 }
 
-/// CONJ: from `p` and `q`, `p /\ q`.
+/// CONJ: from `p` and `q`, `p /\ q`, in seven steps.
 pub fn conj(
     recorder: &mut Recorder,
     alloc: Global,

@@ -24,8 +24,8 @@ use hol_model::Fault;
 use hol_terms::Term;
 use std::alloc::Global;
 
-/// DISJ1: from `p`, `p \/ q`. Refused where `q` is not of type `bool`, and then where the theory does not know a type or
-/// a constant of it.
+/// DISJ1: from `p`, `p \/ q`, in six steps. Refused where `q` is not of type `bool`, and then where the theory does not
+/// know a type or a constant of it.
 pub fn disj1(
     recorder: &mut Recorder,
     alloc: Global,
@@ -54,8 +54,8 @@ pub fn disj1(
     by_theorem(recorder, alloc, logic, 27, &terms, &stated, premise)
 }
 
-/// DISJ2: from `q`, `p \/ q`. Refused where `p` is not of type `bool`, and then where the theory does not know a type or
-/// a constant of it.
+/// DISJ2: from `q`, `p \/ q`, in six steps. Refused where `p` is not of type `bool`, and then where the theory does not
+/// know a type or a constant of it.
 pub fn disj2(
     recorder: &mut Recorder,
     alloc: Global,
@@ -193,8 +193,8 @@ fn by_cases(
     with_case(recorder, alloc, logic, sides.right, r, &other, second)
 }
 
-/// DISJ_CASES: from `p \/ q`, `r` and `r`, `r` without the hypothesis `p` of the first case and `q` of the second.
-/// Refused where the conclusion is no disjunction, and then where the cases' conclusions differ in more than the names
+/// DISJ_CASES: from `p \/ q`, `r` and `r`, `r` without the hypothesis `p` of the first case and `q` of the second, in 64
+/// steps. Refused where the conclusion is no disjunction, and then where the cases' conclusions differ in more than the names
 /// of bound variables.
 pub fn disj_cases(
     recorder: &mut Recorder,

@@ -59,8 +59,8 @@ pub fn implied(
     steps::eq_mp(recorder, alloc, &equation, first)
 }
 
-/// MP: from `p ==> q` and `p`, `q`. Refused where the first conclusion is no implication, and then where the second is
-/// not its left side up to the names of bound variables.
+/// MP: from `p ==> q` and `p`, `q`, in seven steps. Refused where the first conclusion is no implication, and then where
+/// the second is not its left side up to the names of bound variables.
 pub fn mp(
     recorder: &mut Recorder,
     alloc: Global,
@@ -176,8 +176,8 @@ pub fn discharged(
     by_theorem(recorder, alloc, logic, 16, &terms, &stated, &equation)
 }
 
-/// DISCH: from `q`, `p ==> q` without the hypothesis `p`. Refused where `p` is not of type `bool`, and then where the
-/// theory does not know a type or a constant of it.
+/// DISCH: from `q`, `p ==> q` without the hypothesis `p`, in 22 steps. Refused where `p` is not of type `bool`, and then
+/// where the theory does not know a type or a constant of it.
 pub fn disch(
     recorder: &mut Recorder,
     alloc: Global,
@@ -197,7 +197,7 @@ pub fn disch(
     discharged(recorder, alloc, logic, p, premise)
 }
 
-/// UNDISCH: from `p ==> q`, `q` with the hypothesis `p`. Refused where the conclusion is no implication.
+/// UNDISCH: from `p ==> q`, `q` with the hypothesis `p`, in eight steps. Refused where the conclusion is no implication.
 #[tactic(auto, using(crate::proofs::StepLemmas::still_made, crate::proofs::StepLemmas::now_made, crate::proofs::PreludeSteps::still_logical, crate::proofs::PreludeSteps::still_formula))]
 pub fn undisch(
     recorder: &mut Recorder,

@@ -14,7 +14,7 @@ use hol_model::Fault;
 use hol_terms::Term;
 use std::alloc::Global;
 
-/// NOT_INTRO: from `p ==> F`, `~p`. Refused where the conclusion is no implication of `F`.
+/// NOT_INTRO: from `p ==> F`, `~p`, in six steps. Refused where the conclusion is no implication of `F`.
 pub fn not_intro(
     recorder: &mut Recorder,
     alloc: Global,
@@ -44,7 +44,7 @@ pub fn not_intro(
     by_theorem(recorder, alloc, logic, 22, &terms, &stated, premise)
 }
 
-/// NOT_ELIM: from `~p`, `p ==> F`. Refused where the conclusion is no negation.
+/// NOT_ELIM: from `~p`, `p ==> F`, in six steps. Refused where the conclusion is no negation.
 pub fn not_elim(
     recorder: &mut Recorder,
     alloc: Global,
@@ -74,8 +74,8 @@ pub fn not_elim(
     by_theorem(recorder, alloc, logic, 23, &terms, &stated, premise)
 }
 
-/// CONTR: from `F`, `p`. Refused where the conclusion is not `F`, then where `p` is not of type `bool`, and then where
-/// the theory does not know a type or a constant of it.
+/// CONTR: from `F`, `p`, in six steps. Refused where the conclusion is not `F`, then where `p` is not of type `bool`, and
+/// then where the theory does not know a type or a constant of it.
 pub fn contr(
     recorder: &mut Recorder,
     alloc: Global,

@@ -12,7 +12,7 @@ use hol_journal::{Rec, Recorder};
 use hol_model::Fault;
 use std::alloc::Global;
 
-/// EQT_INTRO: from `p`, `p <=> T`.
+/// EQT_INTRO: from `p`, `p <=> T`, in six steps.
 pub fn eqt_intro(
     recorder: &mut Recorder,
     alloc: Global,
@@ -40,7 +40,7 @@ pub fn eqt_intro(
     by_theorem(recorder, alloc, logic, 9, &terms, &stated, premise)
 }
 
-/// EQT_ELIM: from `p <=> T`, `p`. Refused where the conclusion is no equation with `T` on its right.
+/// EQT_ELIM: from `p <=> T`, `p`, in six steps. Refused where the conclusion is no equation with `T` on its right.
 pub fn eqt_elim(
     recorder: &mut Recorder,
     alloc: Global,
