@@ -32,6 +32,6 @@ pub use equality::{add_assum, beta_conv, named, prove_hyp, sym};
 pub use implication_rules::{disch, mp, undisch};
 pub use lemma::{by_lemma, instance};
 pub use negation_rules::{contr, not_elim, not_intro};
-pub use steps::{abs, eq_mp};
+pub use steps::{abs, eq_mp, trans};
 pub use stored::{Bool, logic_stays, prelude, theorem_of};
 pub use truth_rules::{eqt_elim, eqt_intro};
