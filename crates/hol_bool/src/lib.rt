@@ -41,6 +41,6 @@ pub use lemma::{by_lemma, instance};
 pub use middle_rules::excluded_middle;
 pub use negation_rules::{contr, not_elim, not_intro};
 pub use prelude_rules::conclusion_of;
-pub use steps::{abs, assume, eq_mp};
+pub use steps::{abs, assume, eq_mp, trans};
 pub use stored::{Bool, logic_stays, prelude, theorem_of};
 pub use truth_rules::{eqt_elim, eqt_intro};

@@ -44,8 +44,8 @@ pub(crate) fn beta(recorder: &mut Recorder, alloc: Global, term: &Term) -> Resul
     recorder.beta(alloc, term)
 }
 
-// TRANS.
-pub(crate) fn trans(
+/// TRANS, of theorems that show sequents.
+pub fn trans(
     recorder: &mut Recorder,
     alloc: Global,
     first: &Rec,

@@ -44,7 +44,7 @@ formula-passes theory formula typed known =
     go true false instances known = cc
     go false constants instances known = cc
 
-truth-sized : IsSized 1000 1 truth
+pub truth-sized : IsSized 1000 1 truth
 truth-sized = record { height = omega arith; nodes = omega arith; types = refl }
 
 pub truth-fits : (p : Nameless) → is_roomy p ≡ true

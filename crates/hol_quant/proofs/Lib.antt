@@ -5,3 +5,5 @@ pub mod SpecLemmas
 pub mod GenLemmas
 pub mod GenAnswers
 pub mod PreludeParts
+pub mod WalkLemmas
+pub mod ExistsLemmas

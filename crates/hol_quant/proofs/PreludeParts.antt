@@ -6,9 +6,9 @@ use Rattle.hol_model.specs.HolType.{bool_type}
 use Rattle.hol_model.specs.NamedTerm.{combination, equation}
 use Rattle.hol_model.specs.NamedLogic.{true_term}
 use Rattle.hol_model.specs.Derivable.{nameless_equation}
-use Rattle.hol_model.specs.Logic.{forall_name}
+use Rattle.hol_model.specs.Logic.{forall_name, exists_name}
 use Rattle.hol_bool.specs.Sequents.{Shows}
-use Rattle.hol_bool.specs.Prelude.{prelude_theorems, shown, p, P, x, always, forall_P}
+use Rattle.hol_bool.specs.Prelude.{prelude_theorems, shown, p, P, x, always, forall_P, exists_P}
 use Rattle.hol_bool.proofs.CutLemmas.{shows-itself}
 use Rattle.hol_quant.specs.PredicateLemmas.{applied, over_predicate, is_always}
 use Rattle.hol_quant.proofs.GenLemmas.{proposition, truth}
@@ -33,3 +33,15 @@ pub forall-shows : (theorem : Theorem) → slice_get prelude_theorems 20 ≡ Som
 forall-shows theorem is =
     let stated : Theorem = shown (forall_P ∷ []) (combination P x) in
     subst (λ (t : Theorem). Shows t (over_predicate forall_name ∷ []) applied) (same_theorem stated theorem is) (shows-itself stated)
+
+-- p <=> T |- p
+pub back-shows : (theorem : Theorem) → slice_get prelude_theorems 10 ≡ Some theorem → Shows theorem (nameless_equation bool_type proposition truth ∷ []) proposition
+back-shows theorem is =
+    let stated : Theorem = shown (equation p true_term ∷ []) p in
+    subst (λ (t : Theorem). Shows t (nameless_equation bool_type proposition truth ∷ []) proposition) (same_theorem stated theorem is) (shows-itself stated)
+
+-- P x |- (?) P
+pub exists-shows : (theorem : Theorem) → slice_get prelude_theorems 30 ≡ Some theorem → Shows theorem (applied ∷ []) (over_predicate exists_name)
+exists-shows theorem is =
+    let stated : Theorem = shown (combination P x ∷ []) exists_P in
+    subst (λ (t : Theorem). Shows t (applied ∷ []) (over_predicate exists_name)) (same_theorem stated theorem is) (shows-itself stated)

@@ -1,1 +1,2 @@
 pub mod PredicateLemmas
+pub mod QuantifiedParts

@@ -24,7 +24,7 @@ use hol_types::Ty;
 use std::alloc::Global;
 
 // The formula, for the variable `p`.
-fn formula_pair(alloc: Global, formula: &Term) -> Result<(Term, Term), Fault>
+pub(crate) fn formula_pair(alloc: Global, formula: &Term) -> Result<(Term, Term), Fault>
     ensures ok { IfOk result (λ pair. pair ≡ (formula.now, variable (codes "p") bool_type)) }
     ensures err { IfErr result (λ fault. fault ≡ Memory) }
 {
@@ -35,7 +35,7 @@ fn formula_pair(alloc: Global, formula: &Term) -> Result<(Term, Term), Fault>
 }
 
 // From `p`, `p <=> T`.
-fn equal_to_truth(
+pub(crate) fn equal_to_truth(
     recorder: &mut Recorder,
     alloc: Global,
     lemma: &Rec,
