@@ -6,7 +6,8 @@ use std::test::Fail;
 
 #[test]
 fn shows_the_definitions(rt: HostRuntime) -> Result<(), Fail> {
-    let script = b"show T_DEF ;; show AND_DEF ;; show IMP_DEF ;; show FORALL_DEF ;; show EXISTS_DEF ;; show OR_DEF ;; \
+    let script =
+        b"show T_DEF ;; show AND_DEF ;; show IMP_DEF ;; show FORALL_DEF ;; show EXISTS_DEF ;; show OR_DEF ;; \
 show F_DEF ;; show NOT_DEF ;;";
     let expected = b"T_DEF: |- T <=> (\\p:bool. p) = (\\p:bool. p)\n\
 AND_DEF: |- [/\\:bool->bool->bool] = (\\p:bool. \\q:bool. (\\f:bool->bool->bool. f p q) = (\\f:bool->bool->bool. f T T))\n\
@@ -23,7 +24,8 @@ NOT_DEF: |- [~:bool->bool] = (\\p:bool. p ==> F)\n";
 // None of them, and none of the definitions, concludes `F`.
 #[test]
 fn shows_the_first_theorems(rt: HostRuntime) -> Result<(), Fail> {
-    let script = b"show TRUTH ;; show ETA_AX ;; show SELECT_AX ;; show EXCLUDED_MIDDLE ;; show FALSITY ;;";
+    let script =
+        b"show TRUTH ;; show ETA_AX ;; show SELECT_AX ;; show EXCLUDED_MIDDLE ;; show FALSITY ;;";
     let expected = b"TRUTH: |- T\n\
 ETA_AX: |- !t:A->B. (\\x:A. t x) = t\n\
 SELECT_AX: |- !P:A->bool. !x:A. P x ==> P ([@:(A->bool)->A] P)\n\
@@ -67,7 +69,8 @@ c: |- (\\T:bool. T) = (\\T:bool. T)\n";
 
 #[test]
 fn specializes_and_applies(rt: HostRuntime) -> Result<(), Fail> {
-    let script = b"thm p = ASSUME `(p:bool)` ;; thm d = DISCH `(p:bool)` p ;; thm g = GEN `(p:bool)` d ;; \
+    let script =
+        b"thm p = ASSUME `(p:bool)` ;; thm d = DISCH `(p:bool)` p ;; thm g = GEN `(p:bool)` d ;; \
 thm s = SPEC `T` g ;; thm t = MP s TRUTH ;;";
     let expected = b"p: (p:bool) |- (p:bool)\n\
 d: |- (p:bool) ==> (p:bool)\n\
@@ -80,7 +83,8 @@ t: |- T\n";
 
 #[test]
 fn turns_equations(rt: HostRuntime) -> Result<(), Fail> {
-    let script = b"thm e = ASSUME `(x:A) = (y:A)` ;; thm s = SYM e ;; thm n = SYM TRUTH ;; thm n = SYM none ;;";
+    let script =
+        b"thm e = ASSUME `(x:A) = (y:A)` ;; thm s = SYM e ;; thm n = SYM TRUTH ;; thm n = SYM none ;;";
     let expected = b"e: (x:A) = (y:A) |- (x:A) = (y:A)\n\
 s: (x:A) = (y:A) |- (y:A) = (x:A)\n\
 line 1: E8 NotEquation\n\
@@ -91,7 +95,8 @@ line 1: E21 UnknownName\n";
 
 #[test]
 fn adds_and_proves_hypotheses(rt: HostRuntime) -> Result<(), Fail> {
-    let script = b"thm p = ASSUME `(p:bool)` ;; thm a = ADD_ASSUM `T` p ;; thm h = PROVE_HYP TRUTH a ;; \
+    let script =
+        b"thm p = ASSUME `(p:bool)` ;; thm a = ADD_ASSUM `T` p ;; thm h = PROVE_HYP TRUTH a ;; \
 thm k = PROVE_HYP TRUTH p ;;\n\
 thm n = ADD_ASSUM `(x:A)` p ;;\n\
 thm n = ADD_ASSUM `(x:A)` none ;;";
@@ -151,7 +156,8 @@ line 3: E16 BadShape\n";
 
 #[test]
 fn discharges_and_applies(rt: HostRuntime) -> Result<(), Fail> {
-    let script = b"thm p = ASSUME `(p:bool)` ;; thm q = ASSUME `(q:bool)` ;; thm d = DISCH `(p:bool)` p ;; \
+    let script =
+        b"thm p = ASSUME `(p:bool)` ;; thm q = ASSUME `(q:bool)` ;; thm d = DISCH `(p:bool)` p ;; \
 thm u = UNDISCH d ;; thm v = DISCH `(q:bool)` p ;; thm m = MP v q ;;\n\
 thm n = DISCH `(x:A)` p ;;\n\
 thm n = UNDISCH p ;;\n\
@@ -197,7 +203,8 @@ n: !x:A. (P:A->bool) x |- !x:A. (P:A->bool) x\n";
 
 #[test]
 fn weakens_to_disjunctions(rt: HostRuntime) -> Result<(), Fail> {
-    let script = b"thm p = ASSUME `(p:bool)` ;; thm a = DISJ1 `(q:bool)` p ;; thm b = DISJ2 `(q:bool)` p ;;\n\
+    let script =
+        b"thm p = ASSUME `(p:bool)` ;; thm a = DISJ1 `(q:bool)` p ;; thm b = DISJ2 `(q:bool)` p ;;\n\
 thm n = DISJ1 `(x:A)` p ;;\n\
 thm n = DISJ2 `(x:A)` p ;;";
     let expected = b"p: (p:bool) |- (p:bool)\n\
@@ -211,7 +218,8 @@ line 3: E7 NotBool\n";
 
 #[test]
 fn goes_by_cases(rt: HostRuntime) -> Result<(), Fail> {
-    let script = b"thm p = ASSUME `(p:bool)` ;; thm q = ASSUME `(q:bool)` ;; thm o = ASSUME `(p:bool) \\/ (q:bool)` ;; \
+    let script =
+        b"thm p = ASSUME `(p:bool)` ;; thm q = ASSUME `(q:bool)` ;; thm o = ASSUME `(p:bool) \\/ (q:bool)` ;; \
 thm f = DISJ2 `(q:bool)` p ;; thm s = DISJ1 `(p:bool)` q ;; thm c = DISJ_CASES o f s ;;\n\
 thm n = DISJ_CASES p f q ;;\n\
 thm n = DISJ_CASES o f q ;;";
@@ -242,7 +250,8 @@ line 3: E7 NotBool\n";
 
 #[test]
 fn introduces_and_eliminates_negations(rt: HostRuntime) -> Result<(), Fail> {
-    let script = b"thm f = ASSUME `F` ;; thm i = DISCH `(p:bool)` f ;; thm n = NOT_INTRO i ;; thm e = NOT_ELIM n ;;\n\
+    let script =
+        b"thm f = ASSUME `F` ;; thm i = DISCH `(p:bool)` f ;; thm n = NOT_INTRO i ;; thm e = NOT_ELIM n ;;\n\
 thm m = NOT_INTRO f ;;\n\
 thm d = DISCH `F` TRUTH ;; thm m = NOT_INTRO d ;;\n\
 thm m = NOT_ELIM e ;;";

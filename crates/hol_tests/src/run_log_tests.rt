@@ -195,7 +195,8 @@ T_DEF: |- (([=:bool->bool->bool] [T:bool]) (([=:(bool->bool)->(bool->bool)->bool
 
 #[test]
 fn claims_derived_theorems(rt: HostRuntime) -> Result<(), Fail> {
-    let script = b"thm p = ASSUME `(p:bool)` ;; thm d = DISCH `(p:bool)` p ;; thm g = GEN `(p:bool)` d ;; \
+    let script =
+        b"thm p = ASSUME `(p:bool)` ;; thm d = DISCH `(p:bool)` p ;; thm g = GEN `(p:bool)` d ;; \
 thm s = SPEC `T` g ;; thm t = MP s TRUTH ;;";
     let lines = b"p: (p:bool) |- (p:bool)\n\
 d: |- (([==>:bool->bool->bool] (p:bool)) (p:bool))\n\
@@ -208,7 +209,8 @@ t: |- [T:bool]\n";
 
 #[test]
 fn claims_each_stored_theorem(rt: HostRuntime) -> Result<(), Fail> {
-    let script = b"show T_DEF ;; show AND_DEF ;; show IMP_DEF ;; show FORALL_DEF ;; show EXISTS_DEF ;; show OR_DEF ;; \
+    let script =
+        b"show T_DEF ;; show AND_DEF ;; show IMP_DEF ;; show FORALL_DEF ;; show EXISTS_DEF ;; show OR_DEF ;; \
 show F_DEF ;; show NOT_DEF ;; show TRUTH ;; show ETA_AX ;; show SELECT_AX ;; show EXCLUDED_MIDDLE ;;";
     assert!(rt; has_claims(rt.alloc(), script, 12)?);
     Ok(())
