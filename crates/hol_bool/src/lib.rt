@@ -20,6 +20,7 @@ mod lemma;
 mod logic;
 mod making;
 mod negation_rules;
+pub mod numbers;
 mod prelude_rules;
 mod sketch;
 mod stages;
