@@ -8,6 +8,7 @@ ghost use Rattle.hol_bool.specs.Prelude.{prelude_theorems};
 ghost use Rattle.hol_bool.specs.Sequents.{Continues};
 
 use crate::equality::named;
+use crate::numbers::{ETA_AX, SELECT_AX};
 use crate::prelude_rules::conclusion_of;
 use crate::stored::{Bool, theorem_of};
 use hol_journal::{Rec, Recorder};
@@ -40,7 +41,7 @@ pub fn eta_ax(recorder: &mut Recorder, alloc: Global, logic: &Bool) -> Result<Re
     ensures ok { IfOk result (λ made. made.theorem ≡ record { theory = recorder.old.theory; hypotheses = []; conclusion = eta_axiom }) }
     ensures err { IfErr result (λ fault. fault ≡ Memory) }
 {
-    restated(recorder, alloc, logic, 32)
+    restated(recorder, alloc, logic, ETA_AX)
 }
 
 /// SELECT_AX: `!P x. P x ==> P (@ P)`, on the theory that the recorder has now. It is refused where there is no memory,
@@ -51,5 +52,5 @@ pub fn select_ax(recorder: &mut Recorder, alloc: Global, logic: &Bool) -> Result
     ensures ok { IfOk result (λ made. made.theorem ≡ record { theory = recorder.old.theory; hypotheses = []; conclusion = select_axiom }) }
     ensures err { IfErr result (λ fault. fault ≡ Memory) }
 {
-    restated(recorder, alloc, logic, 33)
+    restated(recorder, alloc, logic, SELECT_AX)
 }

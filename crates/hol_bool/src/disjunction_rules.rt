@@ -16,6 +16,7 @@ ghost use Rattle.hol_bool.specs.Sequents.{Shows, DerivesIf, Continues};
 
 use crate::formula_terms::{Sides, connect, for_p_q, for_p_q_r};
 use crate::implication_rules::{discharged, implied};
+use crate::numbers::{DISJ_CASES, DISJ1, DISJ2};
 use crate::prelude_rules::{by_theorem, conclusion_of, pass_formula, sides_of};
 use crate::stored::Bool;
 use hol_alpha::aconv;
@@ -51,7 +52,7 @@ pub fn disj1(
         Ok(terms) => terms,
         Err(fault) => return Err(fault),
     };
-    by_theorem(recorder, alloc, logic, 27, &terms, &stated, premise)
+    by_theorem(recorder, alloc, logic, DISJ1, &terms, &stated, premise)
 }
 
 /// DISJ2: from `q`, `p \/ q`, in six steps. Refused where `p` is not of type `bool`, and then where the theory does not
@@ -81,7 +82,7 @@ pub fn disj2(
         Ok(terms) => terms,
         Err(fault) => return Err(fault),
     };
-    by_theorem(recorder, alloc, logic, 28, &terms, &stated, premise)
+    by_theorem(recorder, alloc, logic, DISJ2, &terms, &stated, premise)
 }
 
 // `(q ==> r) ==> r`, of formulas.
@@ -126,7 +127,7 @@ fn eliminated(
         Ok(terms) => terms,
         Err(fault) => return Err(fault),
     };
-    by_theorem(recorder, alloc, logic, 29, &terms, &stated, theorem)
+    by_theorem(recorder, alloc, logic, DISJ_CASES, &terms, &stated, theorem)
 }
 
 // From `(p ==> r) ==> s` and `r`, the `s` that is handed in, without the hypothesis `p` of the second.

@@ -15,6 +15,7 @@ ghost use Rattle.hol_bool.specs.Sequents.{Shows, DerivesIf, Continues};
 
 use crate::conjunction_rules::joined;
 use crate::formula_terms::{connect, equivalence, for_p_q};
+use crate::numbers::{CONJUNCT1, DISCH, MP};
 use crate::prelude_rules::{by_theorem, conclusion_of, pass_formula, sides_of};
 use crate::steps;
 use crate::stored::Bool;
@@ -52,7 +53,7 @@ pub fn implied(
         Ok(terms) => terms,
         Err(fault) => return Err(fault),
     };
-    let equation = match by_theorem(recorder, alloc, logic, 26, &terms, &stated, second) {
+    let equation = match by_theorem(recorder, alloc, logic, MP, &terms, &stated, second) {
         Ok(equation) => equation,
         Err(fault) => return Err(fault),
     };
@@ -108,7 +109,7 @@ fn first_of_both(
         Ok(terms) => terms,
         Err(fault) => return Err(fault),
     };
-    by_theorem(recorder, alloc, logic, 13, &terms, p, &assumed)
+    by_theorem(recorder, alloc, logic, CONJUNCT1, &terms, p, &assumed)
 }
 
 // From `q`, `p /\ q <=> p` without the hypothesis `p`.
@@ -173,7 +174,7 @@ pub fn discharged(
         Ok(equation) => equation,
         Err(fault) => return Err(fault),
     };
-    by_theorem(recorder, alloc, logic, 16, &terms, &stated, &equation)
+    by_theorem(recorder, alloc, logic, DISCH, &terms, &stated, &equation)
 }
 
 /// DISCH: from `q`, `p ==> q` without the hypothesis `p`, in 22 steps. Refused where `p` is not of type `bool`, and then

@@ -23,6 +23,7 @@ mod making;
 mod middle;
 mod middle_rules;
 mod negation_rules;
+pub mod numbers;
 mod prelude_rules;
 mod sketch;
 mod stages;
