@@ -3,5 +3,9 @@ pub mod PartLemmas
 pub mod RoomLemmas
 pub mod SpecLemmas
 pub mod GenLemmas
+pub mod ForAllLemmas
 pub mod GenAnswers
 pub mod PreludeParts
+pub mod VariableLemmas
+pub mod ChooseLemmas
+pub mod ChooseAnswers

@@ -1,1 +1,3 @@
 pub mod PredicateLemmas
+pub mod Universals
+pub mod Witnesses

@@ -1,10 +1,12 @@
 //! Rules of the quantifiers, derived from the kernel's rules and the theorems of the prelude (HOL Light's `bool.ml`).
 #![tactic(auto)]
 
+mod elimination;
 mod generalization;
 mod instances;
 mod parts;
 mod specialization;
 
+pub use elimination::choose;
 pub use generalization::generalize;
 pub use specialization::spec;
