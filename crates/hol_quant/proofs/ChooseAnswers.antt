@@ -1,5 +1,5 @@
 -- CHOOSE: the parts of a call, the hypotheses that are left, and what it answers.
-use Rattle.std.proofs.Common.{◌≡◌, ℕ, List, [], ◌∷◌, ◌++◌, map, Bool, true, false, ◌||◌, not, refl, sym, ◌∙◌, ap, subst, inl, inr, Option, Some, Result, Ok, Err, IfOk}
+use Rattle.std.proofs.Common.{◌≡◌, ℕ, List, [], ◌∷◌, ◌++◌, Bool, true, false, ◌||◌, not, refl, sym, ◌∙◌, ap, subst, inl, inr, Some, Result, Ok, Err, IfOk}
 use Rattle.std.specs.List.{list_all}
 use Rattle.hol_model.specs.declared.fault.Fault.{Fault}
 use Rattle.hol_model.specs.declared.fault.Fault.TheVariants.{TypeMismatch, FreeInHypothesis}
@@ -10,12 +10,12 @@ use Rattle.hol_model.specs.Nameless.{Nameless, HasType, image, same_term}
 use Rattle.hol_model.specs.Logic as nameless
 use Rattle.hol_model.specs.Logic.{exists_name, predicate, quantifier}
 use Rattle.hol_model.specs.Substitution.{occurs_free}
-use Rattle.hol_model.specs.Theory.{Theory, IsKnown, IsKnownType, generic_type, type_a}
+use Rattle.hol_model.specs.Theory.{Theory, IsKnownType, generic_type, type_a}
 use Rattle.hol_model.specs.KnownTerm.{knows_type}
 use Rattle.hol_model.specs.Theorem.{Theorem}
 use Rattle.hol_model.specs.Derivable.{IsMember, IsSameSet, NotFreeInAny, without}
 use Rattle.hol_model.specs.Outcome.{unless}
-use Rattle.hol_model.specs.DerivedRules.{Stated, AnswersStated, named, stated, images, is_roomy, is_free_in_some, terms_of_theorem, terms_of_stated, choose_outcome}
+use Rattle.hol_model.specs.DerivedRules.{Stated, AnswersStated, named, stated, images, is_roomy, is_free_in_some, terms_of_theorem, choose_outcome}
 use Rattle.hol_model.proofs.HolTypeEq.{type_eq-self}
 use Rattle.hol_model.proofs.TypeTests.{knows_type-Decides}
 use Rattle.hol_model.proofs.Images.{image-type, image-typed, occurs_free-image}

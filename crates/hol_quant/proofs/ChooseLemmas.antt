@@ -1,49 +1,35 @@
 -- CHOOSE: the abstraction at the variable, what fits on the way, and the answer.
-use Rattle.std.proofs.Common.{◌≡◌, ◌≤◌, ℕ, suc, List, [], ◌∷◌, ◌++◌, map, Bool, true, false, ◌&&◌, ◌||◌, not, if◌then◌else◌, refl, sym, ◌∙◌, ap, subst, inl, inr, Some, None, Result, Ok, Err, IfOk, arith}
+use Rattle.std.proofs.Common.{◌≡◌, ◌≤◌, ℕ, suc, List, [], ◌∷◌, map, Bool, true, false, ◌&&◌, ◌||◌, not, if◌then◌else◌, refl, sym, ◌∙◌, ap, subst, Some, None, arith}
 use Rattle.std.specs.Prelude.{codes}
 use Rattle.std.specs.List.{list_all, list_any}
 use Rattle.std.proofs.lemmas.Bool.{le-leb}
-use Rattle.hol_model.specs.declared.fault.Fault.{Fault}
-use Rattle.hol_model.specs.declared.fault.Fault.TheVariants.{FreeInHypothesis}
 use Rattle.hol_model.specs.declared.limits.TheConstants.{TYPE_NODES_LIMIT}
-use Rattle.hol_model.specs.HolType.{HolType, bool_type, type_nodes, function_type}
-use Rattle.hol_model.specs.NamedTerm.{NamedTerm, variable, combination, abstraction, type_of, type_fits, is_free, dest_variable}
-use Rattle.hol_model.specs.NamedTerm as named
-use Rattle.hol_model.specs.NamedLogic.{dest_exists}
+use Rattle.hol_model.specs.HolType.{HolType, bool_type, type_nodes}
+use Rattle.hol_model.specs.NamedTerm.{NamedTerm, combination, abstraction, type_of, type_fits, is_free}
 use Rattle.hol_model.specs.Nameless.{Nameless, free, const, bound, app, lam, image, same_term}
 use Rattle.hol_model.specs.Measures.{nameless_types_fit, nameless_within_limits}
 use Rattle.hol_model.specs.Logic as nameless
 use Rattle.hol_model.specs.Logic.{implies_name, forall_name, exists_name, binary, predicate, quantifier}
 use Rattle.hol_model.specs.Substitution.{close, close_at, occurs_free}
-use Rattle.hol_model.specs.Theory.{Theory, IsKnown, IsKnownType}
-use Rattle.hol_model.specs.KnownTerm.{knows_type}
-use Rattle.hol_model.specs.Theorem.{Theorem}
-use Rattle.hol_model.specs.Derivable.{IsMember, IsSameSet, NotFreeInAny, without, nameless_equation}
-use Rattle.hol_model.specs.Outcome.{unless}
+use Rattle.hol_model.specs.Theory.{Theory, IsKnown}
+use Rattle.hol_model.specs.Derivable.{without, nameless_equation}
 use Rattle.hol_model.specs.Rules.{first_unknown}
-use Rattle.hol_model.specs.DerivedRules.{Stated, AnswersStated, named as by_name, stated, images, is_roomy, is_free_in_some, terms_of_theorem, terms_of_stated, choose_outcome}
+use Rattle.hol_model.specs.DerivedRules.{is_roomy, is_free_in_some}
 use Rattle.hol_model.proofs.HolTypeEq.{type_eq-self}
-use Rattle.hol_model.proofs.TypeTests.{knows_type-Decides}
 use Rattle.hol_model.proofs.Images.{image-abstraction, occurs_free-image}
-use Rattle.hol_model.proofs.Known.{IsKnown-type, app-known}
-use Rattle.hol_model.proofs.Membership.{of_append, IsMember-append_left, IsMember-append_right}
-use Rattle.hol_model.proofs.Tests.{first_of_both, second_of_both, both, same_term-Decides, same_variable-self}
-use Rattle.hol_journal.specs.Journal.{Recorded, theorem_in}
+use Rattle.hol_model.proofs.Known.{app-known}
+use Rattle.hol_model.proofs.Tests.{first_of_both, second_of_both, both, same_variable-self}
 use Rattle.hol_bool.specs.Conversions.{closed, conversion_fits}
 use Rattle.hol_bool.specs.Formulas.{IsFormula}
 use Rattle.hol_bool.specs.Room.{IsSized, FitsIf}
-use Rattle.hol_bool.specs.Sequents.{DerivesIf}
-use Rattle.hol_bool.proofs.StepLemmas.{application, no_unknown, of_without, not_without, in_without, same_sets}
-use Rattle.hol_bool.proofs.CutLemmas.{answers-stated, shows-set}
+use Rattle.hol_bool.proofs.StepLemmas.{application, no_unknown}
 use Rattle.hol_bool.proofs.RuleAnswers.{sized-connected}
 use Rattle.hol_bool.proofs.Sizes.{leaves_room, sized-app, sized-equation, sized-more, sized-within}
 use Rattle.hol_quant.specs.PredicateLemmas.{over_predicate, eliminated, at_type, at_formula, formula_lemma_fits}
 use Rattle.hol_quant.specs.Universals.{for_all, FitsForAll}
 use Rattle.hol_quant.specs.Witnesses.{IsAtVariable, existential, redex, witnessed, suffices, eliminates, leave_room}
-use Rattle.hol_quant.proofs.PartLemmas.{IsQuantified}
 use Rattle.hol_quant.proofs.RoomLemmas.{PredicateRoom, predicate-room, conversion-within, closed-sized, instance-within, free-sized, const-sized}
 use Rattle.hol_quant.proofs.VariableLemmas.{witnessed-sized}
-use Rattle.hol_quant.proofs.GenAnswers.{variable_of}
 
 -- a variable that is not free is closed over in vain
 fresh-close : (passed : ℕ) (name : List ℕ) (ty : HolType) (term : Nameless) → occurs_free name ty term ≡ false → close_at passed name ty term ≡ term

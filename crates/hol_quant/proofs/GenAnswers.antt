@@ -1,16 +1,13 @@
 -- GEN: the parts of a call, and what it answers.
 use Rattle.std.proofs.Common.{◌≡◌, ℕ, List, [], ◌∷◌, map, Bool, true, false, ◌&&◌, ◌||◌, refl, sym, ◌∙◌, ap, subst, inl, inr, Option, Some, Result, Ok, Err, IfOk, arith}
-use Rattle.std.specs.Prelude.{codes}
 use Rattle.std.specs.List.{list_all}
 use Rattle.std.specs.Option.{option_map_or}
-use Rattle.std.proofs.lemmas.Bool.{le-leb}
 use Rattle.hol_model.specs.declared.fault.Fault.{Fault}
-use Rattle.hol_model.specs.declared.fault.Fault.TheVariants.{TooLarge, FreeInHypothesis}
-use Rattle.hol_model.specs.declared.limits.TheConstants.{TYPE_NODES_LIMIT}
+use Rattle.hol_model.specs.declared.fault.Fault.TheVariants.{FreeInHypothesis}
 use Rattle.hol_model.specs.HolType.{HolType, bool_type}
-use Rattle.hol_model.specs.NamedTerm.{NamedTerm, variable, constant, combination, abstraction, dest_variable, type_of, is_free, is_within_limits}
+use Rattle.hol_model.specs.NamedTerm.{NamedTerm, variable, constant, combination, abstraction, dest_variable, type_of, is_free}
 use Rattle.hol_model.specs.NamedLogic.{forall_term}
-use Rattle.hol_model.specs.Nameless.{Nameless, free, const, app, lam, image}
+use Rattle.hol_model.specs.Nameless.{Nameless, const, app, image}
 use Rattle.hol_model.specs.Measures.{nameless_within_limits}
 use Rattle.hol_model.specs.Logic.{forall_name, predicate, quantifier}
 use Rattle.hol_model.specs.Substitution.{occurs_free}
@@ -18,14 +15,11 @@ use Rattle.hol_model.specs.Theory.{Theory, IsLegal, IsKnown, IsKnownType}
 use Rattle.hol_model.specs.KnownTerm.{knows_type, is_known}
 use Rattle.hol_model.specs.Theorem.{Theorem, IsTheorem}
 use Rattle.hol_model.specs.Derivable.{NotFreeInAny, nameless_equation}
-use Rattle.hol_model.specs.Outcome.{Answers, unless}
-use Rattle.hol_model.specs.Rules.{is_free_in_hypotheses, limited, abstraction_outcome}
+use Rattle.hol_model.specs.Outcome.{Answers}
+use Rattle.hol_model.specs.Rules.{is_free_in_hypotheses, abstraction_outcome}
 use Rattle.hol_model.specs.DerivedRules.{Stated, AnswersStated, named, images, terms_of_theorem, terms_of_stated, is_roomy, is_free_in_some, gen_outcome}
-use Rattle.hol_model.proofs.HolTypeEq.{type_eq-self}
 use Rattle.hol_model.proofs.TypeTests.{knows_type-Decides}
 use Rattle.hol_model.proofs.Images.{image-abstraction, occurs_free-image}
-use Rattle.hol_model.proofs.Known.{close-known}
-use Rattle.hol_model.proofs.Measures.{past_limits-image}
 use Rattle.hol_model.proofs.Membership.{IsMember-append_right}
 use Rattle.hol_model.proofs.Tests.{first_of_both, second_of_both, first_of_neither, second_of_neither}
 use Rattle.hol_kernel.proofs.LimitLemmas.{limited-is, abstraction-limited}
@@ -34,7 +28,7 @@ use Rattle.hol_journal.proofs.Showing.{formula_of}
 use Rattle.hol_bool.specs.Sequents.{DerivesIf, IsPast}
 use Rattle.hol_bool.specs.Conversions.{closed}
 use Rattle.hol_bool.proofs.CutLemmas.{answers-stated, conclusion-known, formulas-within}
-use Rattle.hol_bool.proofs.Sizes.{IsSized, leaves_room, sized-app, sized-equation, sized-more, sized-within, past-room}
+use Rattle.hol_bool.proofs.Sizes.{IsSized, leaves_room, sized-more, sized-within, past-room}
 use Rattle.hol_quant.specs.Universals.{for_all, MayGeneralize, FitsForAll}
 use Rattle.hol_quant.proofs.RoomLemmas.{PredicateRoom, predicate-room}
 use Rattle.hol_quant.proofs.ForAllLemmas.{limited-past}

@@ -1,5 +1,5 @@
 -- A variable put for a variable of its type keeps the height, the nodes and the types of a term.
-use Rattle.std.proofs.Common.{◌≡◌, ◌⊎◌, ◌≤◌, ℕ, List, [], ◌∷◌, Bool, true, false, ◌&&◌, refl, sym, ◌∙◌, ap, subst, inl, inr, Option, Some, None, Result, Ok, Err, IfOk, IfErr, IsTrue, if◌then◌else◌, nat_le, arith}
+use Rattle.std.proofs.Common.{◌≡◌, ◌⊎◌, ℕ, List, [], ◌∷◌, Bool, true, false, ◌&&◌, refl, sym, ◌∙◌, ap, subst, inl, inr, Option, Some, None, Result, Ok, Err, IfOk, IfErr, IsTrue, if◌then◌else◌, nat_le, arith}
 use Rattle.hol_model.specs.declared.fault.Fault.{Fault}
 use Rattle.hol_model.specs.declared.fault.Fault.TheVariants.{Memory}
 use Rattle.hol_model.specs.declared.limits.TheConstants.{TERM_NODES_LIMIT, TERM_HEIGHT_LIMIT}
@@ -7,7 +7,7 @@ use Rattle.hol_model.specs.HolType.{HolType, bool_type, function_type, codomain_
 use Rattle.hol_model.specs.NamedTerm.{NamedTerm, variable, type_of, same_variable, type_fits, is_within_limits}
 use Rattle.hol_model.specs.Nameless.{Nameless, free, const, bound, app, lam, image, nameless_type}
 use Rattle.hol_model.specs.Measures.{nameless_height, nameless_nodes, nameless_types_fit, nameless_within_limits}
-use Rattle.hol_model.specs.Substitution.{TermInstance, close, fill, put, only, put_all, replacement}
+use Rattle.hol_model.specs.Substitution.{TermInstance, put, only, put_all}
 use Rattle.hol_model.specs.Outcome.{AnswersSuch}
 use Rattle.hol_model.proofs.WithinLimits.{within_limits-image}
 use Rattle.hol_model.proofs.Filling.{fill_at-close_at}

@@ -1,9 +1,9 @@
-use Rattle.std.proofs.Common.{◌≡◌, ◌∙◌, ◌∷◌, ◌++◌, ◌&&◌, true, false, not, refl, sym, ap, subst}
+use Rattle.std.proofs.Common.{◌≡◌, ◌∙◌, ◌∷◌, ◌++◌, ◌&&◌, true, false, not, refl, sym, ap}
 use Rattle.std.specs.List.{list_any}
 use Rattle.hol_model.specs.HolType.{type_eq}
 use Rattle.hol_model.specs.Logic.{exists_name, quantifier}
-use Rattle.hol_model.specs.NamedTerm.{NamedTerm, is_free}
-use Rattle.hol_model.specs.Nameless.{Nameless, image, same_term}
+use Rattle.hol_model.specs.NamedTerm.{is_free}
+use Rattle.hol_model.specs.Nameless.{image, same_term}
 use Rattle.hol_model.specs.Theory.{type_a}
 use Rattle.hol_model.specs.Theorem.{Theorem}
 use Rattle.hol_model.specs.DerivedRules.{is_free_in_some, terms_of_theorem, choose_outcome}

@@ -1,9 +1,8 @@
-use Rattle.std.proofs.Common.{◌≡◌, ◌∙◌, [], ◌∷◌, ◌++◌, List, Ok, Err, IfOk, ap, subst, sym}
+use Rattle.std.proofs.Common.{◌≡◌, ◌∙◌, ◌++◌, Ok, Err, IfOk, subst, sym}
 use Rattle.hol_model.specs.HolType.{bool_type}
 use Rattle.hol_model.specs.NamedTerm.{NamedTerm}
 use Rattle.hol_model.specs.Nameless.{Nameless, image}
 use Rattle.hol_model.specs.Theory.{Theory, IsKnown}
-use Rattle.hol_model.specs.Theorem.{Theorem}
 use Rattle.hol_model.specs.Logic as nameless
 use Rattle.hol_model.specs.Logic.{exists_name, predicate}
 use Rattle.hol_model.specs.Derivable.{without, nameless_equation}
@@ -12,12 +11,12 @@ use Rattle.hol_bool.specs.Conversions.{closed}
 use Rattle.hol_bool.specs.Formulas.{IsFormula}
 use Rattle.hol_bool.specs.Room.{FitsIf}
 use Rattle.hol_bool.specs.Sequents.{Shows, DerivesIf}
-use Rattle.hol_bool.proofs.CutLemmas.{shows-itself, derives-where}
+use Rattle.hol_bool.proofs.CutLemmas.{shows-itself}
 use Rattle.hol_bool.proofs.PreludeSteps.{still_logical}
 use Rattle.hol_bool.proofs.Sizes.{past-room}
 use Rattle.hol_quant.specs.PredicateLemmas.{over_predicate, eliminated, at_formula, formula_lemma_fits}
-use Rattle.hol_quant.specs.Universals.{for_all, MayGeneralize}
-use Rattle.hol_quant.specs.Witnesses.{existential, suffices, eliminates}
+use Rattle.hol_quant.specs.Universals.{MayGeneralize}
+use Rattle.hol_quant.specs.Witnesses.{suffices}
 use Rattle.hol_quant.proofs.PreludeParts.{exists-shows}
 use Rattle.hol_quant.proofs.ChooseLemmas.{witness, argument-known, function-known, room, formula-at, eliminates-at, for_all-is, for_all-fits, implied-fits, cases-fit}
 use Rattle.hol_quant.proofs.ChooseAnswers.{sufficient-at, derives-set}

@@ -1,6 +1,5 @@
-use Rattle.std.proofs.Common.{◌≡◌, ◌∙◌, ap, subst, sym, Result, Err}
-use Rattle.hol_model.specs.declared.fault.Fault.{Fault}
-use Rattle.hol_model.specs.NamedTerm.{NamedTerm, abstraction, dest_variable}
+use Rattle.std.proofs.Common.{◌∙◌, ap, subst, sym, Err}
+use Rattle.hol_model.specs.NamedTerm.{NamedTerm}
 use Rattle.hol_model.specs.Outcome.{Answers}
 use Rattle.hol_model.specs.Rules.{abstraction_outcome}
 use Rattle.hol_quant.proofs.PreludeParts.{truth-shows, always-shows}

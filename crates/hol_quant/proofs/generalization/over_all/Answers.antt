@@ -1,17 +1,16 @@
-use Rattle.std.proofs.Common.{◌≡◌, ◌∙◌, List, ap, subst, sym}
-use Rattle.hol_model.specs.HolType.{HolType, bool_type}
+use Rattle.std.proofs.Common.{◌≡◌, ◌∙◌, ap, subst, sym}
+use Rattle.hol_model.specs.HolType.{bool_type}
 use Rattle.hol_model.specs.Logic.{forall_name, predicate}
 use Rattle.hol_model.specs.NamedTerm.{NamedTerm, abstraction}
-use Rattle.hol_model.specs.Nameless.{Nameless, free, image}
+use Rattle.hol_model.specs.Nameless.{Nameless, image}
 use Rattle.hol_model.specs.Measures.{nameless_within_limits}
 use Rattle.hol_model.specs.Theory.{Theory, IsKnown, IsKnownType}
 use Rattle.hol_model.specs.DerivedRules.{images}
-use Rattle.hol_bool.specs.Room.{FitsIf}
 use Rattle.hol_bool.specs.Sequents.{Shows, DerivesIf}
 use Rattle.hol_bool.proofs.CutLemmas.{derives-where}
 use Rattle.hol_bool.proofs.Sizes.{past-room}
 use Rattle.hol_quant.specs.PredicateLemmas.{is_always, over_predicate, at_predicate, lemma_fits}
-use Rattle.hol_quant.specs.Universals.{for_all, FitsForAll}
+use Rattle.hol_quant.specs.Universals.{for_all}
 use Rattle.hol_quant.proofs.GenLemmas.{truth}
 use Rattle.hol_quant.proofs.ForAllLemmas.{binder-known, function-known, always, always-at, formula-at, body-fits, always-within, lemma-fits}
 use Rattle.hol_quant.proofs.generalization.over_all.Goals as goal
