@@ -47,12 +47,16 @@ right_side : Nameless → Nameless
 right_side (app f x) = x
 right_side term = term
 
+-- what leaves room fits
+pub roomy-fits : (p : Nameless) → FitsIf (is_roomy p) p
+roomy-fits p roomy = sized-more 1000 5000 1900 900000 p (leaves_room p roomy).sized (omega arith) (omega arith)
+
 -- from p <=> T to p
 pub back-fits : (room : Bool) (p : Nameless) → FitsIf room p → room ≡ true
     → list_all nameless_within_limits (proposition ∷ nameless_equation bool_type proposition truth ∷ p ∷ nameless_equation bool_type p truth ∷ nameless_equation bool_type (nameless_equation bool_type p truth) p ∷ []) ≡ true
 back-fits room p fits is =
     let sized = fits is in
-    let equal = sized-equation 1900 900000 1 bool_type p truth (omega arith) (omega arith) sized (sized-more 1000 1 1900 1 truth truth-sized (omega arith) (omega arith)) in
+    let equal = sized-equation 1900 900000 1 bool_type p truth (omega arith) (omega arith) sized truth-sized in
     let both =
     sized-equation 1902 900004 900000 bool_type (nameless_equation bool_type p truth) p (omega arith) (omega arith) equal (sized-more 1900 900000 1902 900000 p sized (omega arith) (omega arith)) in
     rw (
@@ -178,7 +182,7 @@ module _ (theory : Theory) (formula function binder body witness : NamedTerm) (i
   -- (\x. p) w <=> T
   pub truth-within : list_all is_roomy small ≡ true → nameless_within_limits (nameless_equation bool_type redex truth) ≡ true
   truth-within all =
-      let equal = sized-equation 1001 10001 1 bool_type redex truth (omega arith) (omega arith) (redex-sized all) (sized-more 1000 1 1001 1 truth truth-sized (omega arith) (omega arith)) in
+      let equal = sized-equation 1001 10001 1 bool_type redex truth (omega arith) (omega arith) (redex-sized all) (record { height = omega arith; nodes = omega arith; types = refl }) in
       sized-within 1003 10005 (nameless_equation bool_type redex truth) equal (omega arith) (omega arith)
 
   pub redex-at : at_predicate ty function witness applied ≡ app (image function) (image witness)

@@ -12,7 +12,7 @@ use Rattle.hol_bool.specs.Room.{FitsIf}
 use Rattle.hol_bool.specs.Sequents.{Shows, DerivesIf}
 use Rattle.hol_quant.proofs.GenLemmas.{truth}
 use Rattle.hol_quant.proofs.PreludeParts.{truth-shows, back-shows}
-use Rattle.hol_quant.proofs.ExistsLemmas.{small, redex, redex_passes, redex_known, redex_image, redex-fits, redex-past, conversion-past, instance-past, truth-past, conversion-at}
+use Rattle.hol_quant.proofs.ExistsLemmas.{roomy-fits, small, redex, redex_passes, redex_known, redex_image, redex-fits, redex-past, conversion-past, instance-past, truth-past, conversion-at}
 use Rattle.hol_quant.proofs.existence.expanded.Goals as goal
 
 pub returns-in-Err-clause-derives : goal.returns-in-Err-clause-derives
@@ -58,7 +58,7 @@ returns-in-Err-equal_to_truth-clause-derives c formula at =
     let witness = c.args.witness.now in
     let premise = c.args.premise.now.theorem in
     let instance = image premise.conclusion in
-    instance-past theory formula function binder body witness instance at c.in-Err-equal_to_truth.fault c.in-Err-equal_to_truth.ensures.derives
+    instance-past theory formula function binder body witness instance at c.in-Err-equal_to_truth.fault (c.in-Err-equal_to_truth.ensures.derives (is_roomy instance) (roomy-fits instance))
 
 pub trans-requires-clause-first : goal.trans-requires-clause-first
 trans-requires-clause-first c =
@@ -76,7 +76,7 @@ returns-in-Err-trans-clause-derives c formula at =
     let conversion = c.in-Ok-converted.ensures.derives at.parts.name at.parts.ty bool_type body at.parts.function_is at.parts.binder_is at.parts.body_typed at.witness_typed (redex_passes theory formula function binder body witness instance at) in
     let conversion_shown = conversion-at theory formula function binder body witness instance at c.in-Ok-converted.conversion.theorem conversion in
     truth-past theory formula function binder body witness instance at c.in-Err-trans.fault
-    (c.in-Err-trans.ensures.derives [] (images premise) bool_type (redex theory formula function binder body witness instance at) instance truth conversion_shown c.in-Ok-equal_to_truth.ensures.derives)
+    (c.in-Err-trans.ensures.derives [] (images premise) bool_type (redex theory formula function binder body witness instance at) instance truth conversion_shown (c.in-Ok-equal_to_truth.ensures.derives (is_roomy instance) (roomy-fits instance)))
 
 pub from_truth-requires-clause-lemma : goal.from_truth-requires-clause-lemma
 from_truth-requires-clause-lemma c =
@@ -103,7 +103,7 @@ returns-clause-derives c formula at =
     let made_is : c.in-Ok.redex ≡ combination function witness = (applied function witness c.in-Ok.redex c.in-Ok.ensures.outcome).is in
     let fits = list_all is_roomy (small theory formula function binder body witness instance at) in
     let redex_is : image c.in-Ok.redex ≡ redex theory formula function binder body witness instance at = ap image made_is ∙ redex_image theory formula function binder body witness instance at in
-    let equal = c.in-Ok-trans.ensures.derives [] (images premise) bool_type (redex theory formula function binder body witness instance at) instance truth conversion_shown c.in-Ok-equal_to_truth.ensures.derives in
+    let equal = c.in-Ok-trans.ensures.derives [] (images premise) bool_type (redex theory formula function binder body witness instance at) instance truth conversion_shown (c.in-Ok-equal_to_truth.ensures.derives (is_roomy instance) (roomy-fits instance)) in
     let shown = subst (λ (t : Nameless). Shows c.in-Ok-trans.redex_equal.theorem (images premise) (nameless_equation bool_type t truth)) (sym redex_is) equal in
     let known = subst (λ (th : Theory). IsKnown th (image c.in-Ok.redex) bool_type) (sym later) (subst (λ (t : NamedTerm). IsKnown theory (image t) bool_type) (sym made_is) (redex_known theory formula function binder body witness instance at)) in
     subst (λ (t : NamedTerm). DerivesIf fits c.from_truth.result (images premise) (image t)) made_is

@@ -12,7 +12,7 @@ use Rattle.hol_bool.specs.Sequents.{Shows}
 use Rattle.hol_bool.proofs.Sizes.{past-room}
 use Rattle.hol_bool.proofs.CutLemmas.{derives-where}
 use Rattle.hol_quant.specs.PredicateLemmas.{applied, over_predicate, lemma_fits}
-use Rattle.hol_quant.proofs.PreludeParts.{exists-shows}
+use Rattle.hol_quant.proofs.PreludeParts.{witness-shows}
 use Rattle.hol_quant.proofs.ExistsLemmas.{small, predicate_known, redex-at, formula-at, exists-lemma-within, exists-names-within}
 use Rattle.hol_quant.proofs.existence.witnessed.Goals as goal
 
@@ -34,7 +34,7 @@ returns-in-Err-by_predicate_lemma-clause-derives c at =
     let premise = c.args.premise.now.theorem in
     let instance = image premise.conclusion in
     let fits = list_all is_roomy (small theory formula function binder body witness instance at) in
-    let shows = exists-shows c.theorem_of-lemma.result.now.theorem c.theorem_of-lemma.ensures.theorem in
+    let shows = witness-shows c.theorem_of-lemma.result.now.theorem c.theorem_of-lemma.ensures.theorem in
     let later : c.expanded.new.recorder.theory ≡ theory = c.in-Ok.ensures.continues.theory in
     let function_known = subst (λ (th : Theory). IsKnown th (image function) (predicate at.parts.ty)) (sym later) (predicate_known theory formula function binder body witness instance at) in
     let witness_known = subst (λ (th : Theory). IsKnown th (image witness) at.parts.ty) (sym later) at.witness_known in
@@ -53,7 +53,7 @@ returns-clause-derives c at =
     let premise = c.args.premise.now.theorem in
     let instance = image premise.conclusion in
     let fits = list_all is_roomy (small theory formula function binder body witness instance at) in
-    let shows = exists-shows c.theorem_of-lemma.result.now.theorem c.theorem_of-lemma.ensures.theorem in
+    let shows = witness-shows c.theorem_of-lemma.result.now.theorem c.theorem_of-lemma.ensures.theorem in
     let later : c.expanded.new.recorder.theory ≡ theory = c.in-Ok.ensures.continues.theory in
     let function_known = subst (λ (th : Theory). IsKnown th (image function) (predicate at.parts.ty)) (sym later) (predicate_known theory formula function binder body witness instance at) in
     let witness_known = subst (λ (th : Theory). IsKnown th (image witness) at.parts.ty) (sym later) at.witness_known in
