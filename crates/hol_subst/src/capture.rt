@@ -182,10 +182,10 @@ fn brought_by_entries(
             if is_bound(&*passed, other, s) {
                 return classes;
             }
-            if !admits(&*known, other, s) {
+            if !is_free(new, name, ty) {
                 return classes;
             }
-            if is_free(new, name, ty) {
+            if admits(&*known, other, s) {
                 classes.union(NameClasses::of_name(other))
             } else {
                 classes
