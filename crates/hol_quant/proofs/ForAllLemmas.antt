@@ -31,7 +31,7 @@ use Rattle.hol_quant.proofs.RoomLemmas.{body-sized, instance-within, free-sized,
 use Rattle.hol_quant.proofs.SpecLemmas.{over_predicate-at}
 use Rattle.hol_quant.proofs.GenLemmas.{truth}
 
-pub limited-past : (fault : Fault) (term : NamedTerm) (ty : HolType) → type_of term ≡ Some ty → Answers {A = NamedTerm} (Err fault) (limited term) → IsPast fault (nameless_within_limits (image term))
+limited-past : (fault : Fault) (term : NamedTerm) (ty : HolType) → type_of term ≡ Some ty → Answers {A = NamedTerm} (Err fault) (limited term) → IsPast fault (nameless_within_limits (image term))
 limited-past fault term ty typed (inl memory) = inl memory
 limited-past fault term ty typed (inr refusal) = go (is_within_limits term) refl refusal
   where

@@ -22,7 +22,6 @@ use Rattle.hol_model.proofs.TypeTests.{knows_type-Decides}
 use Rattle.hol_model.proofs.Images.{image-abstraction, occurs_free-image}
 use Rattle.hol_model.proofs.Membership.{IsMember-append_right}
 use Rattle.hol_model.proofs.Tests.{first_of_both, second_of_both, first_of_neither, second_of_neither}
-use Rattle.hol_kernel.proofs.LimitLemmas.{limited-is, abstraction-limited}
 use Rattle.hol_journal.specs.Journal.{Journal, Recorded, IsMade, theorem_in}
 use Rattle.hol_journal.proofs.Showing.{formula_of}
 use Rattle.hol_bool.specs.Sequents.{DerivesIf, IsPast}
@@ -31,7 +30,7 @@ use Rattle.hol_bool.proofs.CutLemmas.{answers-stated, conclusion-known, formulas
 use Rattle.hol_bool.proofs.Sizes.{IsSized, leaves_room, sized-more, sized-within, past-room}
 use Rattle.hol_quant.specs.Universals.{for_all, MayGeneralize, FitsForAll}
 use Rattle.hol_quant.proofs.RoomLemmas.{PredicateRoom, predicate-room}
-use Rattle.hol_quant.proofs.ForAllLemmas.{limited-past}
+use Rattle.hol_quant.proofs.ForAllLemmas as abstractions
 
 -- the variable, and hypotheses in which it is not free
 
@@ -137,17 +136,6 @@ module _ (theory : Theory) (premise : Theorem) (binder : NamedTerm) (name : List
         parts = predicate-room forall_name name ty premise.conclusion at.typed roomy;
       }
 
-  -- \x. p
-  pub abstraction-past : (fault : Fault) → Answers {A = NamedTerm} (Err fault) (abstraction_outcome binder premise.conclusion) → AnswersStated (Err fault) (terms_of_theorem premise) (gen_outcome theory binder premise)
-  abstraction-past fault answers =
-      gen-past fault (nameless_within_limits (image function))
-      (limited-past fault function (predicate ty) function_typed
-      (subst (λ (o : Result NamedTerm Fault). Answers {A = NamedTerm} (Err fault) o) (abstraction-limited binder premise.conclusion name ty (ap dest_variable at.binder_is)) answers))
-      (λ all. ap nameless_within_limits function_image ∙ sized-within 1000 5000 (closed name ty premise.conclusion) (gen-room all).parts.function (omega arith) (omega arith))
-
-  pub abstraction-made : (made : NamedTerm) → abstraction_outcome binder premise.conclusion ≡ Ok made → made ≡ function
-  abstraction-made made is = limited-is function made (sym (abstraction-limited binder premise.conclusion name ty (ap dest_variable at.binder_is)) ∙ is)
-
   pub formula-within : list_all is_roomy small ≡ true → nameless_within_limits (app (const forall_name (quantifier ty)) (image function)) ≡ true
   formula-within all = ap nameless_within_limits formula_image ∙ sized-within 1000 5000 (app (const forall_name (quantifier ty)) (closed name ty premise.conclusion)) (gen-room all).formula_sized (omega arith) (omega arith)
 
@@ -159,6 +147,15 @@ module _ (theory : Theory) (premise : Theorem) (binder : NamedTerm) (name : List
     formula = λ all. sized-more 1000 5000 1900 900000 (for_all name ty premise.conclusion) (gen-room all).formula_sized (omega arith) (omega arith);
     few = λ all. (gen-room all).parts.few;
   }
+
+  -- \x. p
+
+  pub abstraction-past : (fault : Fault) → Answers {A = NamedTerm} (Err fault) (abstraction_outcome binder premise.conclusion) → AnswersStated (Err fault) (terms_of_theorem premise) (gen_outcome theory binder premise)
+  abstraction-past fault answers =
+      gen-past fault (list_all is_roomy small) (abstractions.abstraction-past name ty premise.conclusion (list_all is_roomy small) gen-fits binder at.binder_is at.typed fault answers) (λ all. all)
+
+  pub abstraction-made : (made : NamedTerm) → abstraction_outcome binder premise.conclusion ≡ Ok made → made ≡ function
+  abstraction-made made is = abstractions.abstraction-is name ty premise.conclusion binder at.binder_is made is
 
   pub names-within : list_all is_roomy small ≡ true → nameless_within_limits (nameless_equation bool_type (image formula) (image formula)) ≡ true
   names-within all =
