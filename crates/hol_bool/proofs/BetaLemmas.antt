@@ -48,7 +48,7 @@ put-closed passed name ty new (app f x) = λ i. app (put-closed passed name ty n
 put-closed passed name ty new (lam s body) = λ i. lam s (put-closed (suc passed) name ty new body i)
 
 -- one pair puts for its variable alone
-one_pair : (argument : NamedTerm) (name : List ℕ) (ty : HolType) (other : List ℕ) (s : HolType)
+pub one_pair : (argument : NamedTerm) (name : List ℕ) (ty : HolType) (other : List ℕ) (s : HolType)
     → replacement ((argument, variable name ty) ∷ []) other s ≡ only name ty (image argument) other s
 one_pair argument name ty other s = go (same_variable name ty other s)
   where

@@ -3,14 +3,14 @@ use Rattle.std.proofs.Common.{◌≡◌, ◌⊎◌, ℕ, List, Bool, true, false
 use Rattle.std.specs.Option.{option_map, option_map_or}
 use Rattle.hol_model.specs.declared.fault.Fault.{Fault}
 use Rattle.hol_model.specs.declared.fault.Fault.TheVariants.{NotBool}
-use Rattle.hol_model.specs.HolType.{HolType, bool_type, type_eq}
+use Rattle.hol_model.specs.HolType.{HolType, type_variable, bool_type, type_eq}
 use Rattle.hol_model.specs.NamedTerm.{NamedTerm, type_of}
-use Rattle.hol_model.specs.Nameless.{Nameless, image}
+use Rattle.hol_model.specs.Nameless.{Nameless, const, app, image}
 use Rattle.hol_model.specs.Derivable.{nameless_equation}
-use Rattle.hol_model.proofs.Known.{equation-sides}
+use Rattle.hol_model.proofs.Known.{equation-sides, app-known}
 use Rattle.hol_model.specs.Theory.{Theory, IsLegal, IsKnown, generic_type}
 use Rattle.hol_model.specs.Logic.{logical_definitions, true_name, false_name, not_name, unary, binary}
-use Rattle.hol_model.specs.NamedLogic.{true_term, false_term, is_true, is_false, dest_connected, dest_negation}
+use Rattle.hol_model.specs.NamedLogic.{true_term, false_term, is_true, is_false, connected, dest_connected, dest_negation}
 use Rattle.hol_model.specs.Theorem.{Theorem, IsTheorem}
 use Rattle.hol_model.specs.Outcome.{unless, refused}
 use Rattle.hol_model.specs.Rules.{dest_equation, is_formula, first_unknown, assume_outcome}
@@ -22,6 +22,7 @@ use Rattle.hol_bool.specs.HasLogic.{HasLogic}
 use Rattle.hol_bool.specs.Formulas.{IsFormula, AreSides, IsNegated, IsPassed}
 use Rattle.hol_bool.specs.declared.stored.Bool.{Bool as Stored}
 use Rattle.hol_bool.proofs.CutLemmas.{IsAssumed, assumed, conclusion-known}
+use Rattle.hol_bool.proofs.RoomLemmas.{connected-typed}
 use Rattle.hol_bool.proofs.LogicLemmas.{logical-type, connected-parts, negated-part, constant-is}
 
 pub conclusion-formula : (journal : Journal) → IsLegal journal.theory → (made : Recorded) → IsMade journal made → (theorem : Theorem) → theorem ≡ made.theorem → IsTheorem theorem → IsFormula journal.theory made.theorem.conclusion
@@ -37,6 +38,18 @@ pub parts-of : {S : Type 0} (left right : S → NamedTerm) (result : Option S) (
 parts-of left right None journal logic has legal name generic term formula dest = tt
 parts-of left right (Some s) journal logic has legal name generic term formula dest =
     connected-parts journal.theory name (logical-type journal logic has legal name binary generic) term (left s) (right s) (sym dest) formula.known
+
+-- two formulas under a binary connective
+pub connected-formula : (theory : Theory) (name : List ℕ) → generic_type theory name ≡ Some binary → (left right : NamedTerm) → IsFormula theory left → IsFormula theory right → IsFormula theory (connected name left right)
+connected-formula theory name generic left right one two =
+    let connective : IsKnown theory (const name binary) binary = record {
+      typed = refl;
+      parts = ((tt, (tt, tt)), record { generic = binary; is_generic = generic; is_instance = record { instance = type_variable; is_instance = refl } });
+    } in
+    record {
+      typed = connected-typed name left right one.typed two.typed;
+      known = app-known theory bool_type bool_type (app (const name binary) (image left)) (image right) (app-known theory bool_type unary (const name binary) (image left) connective one.known) two.known;
+    }
 
 abbrev pub part_in : {S : Type 0} → (S → NamedTerm) → Option S → Option NamedTerm
 part_in part found = option_map part found

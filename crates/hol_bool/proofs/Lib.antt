@@ -16,3 +16,5 @@ pub mod RuleAnswers
 pub mod TruthAnswers
 pub mod ConjunctionAnswers
 pub mod ImplicationAnswers
+pub mod DisjunctionAnswers
+pub mod AxiomLemmas

@@ -19,7 +19,7 @@ use Rattle.hol_bool.specs.Prelude.{prelude_theorems, shown}
 use Rattle.hol_bool.specs.Sequents.{Shows, Continues, instance_of}
 use Rattle.hol_bool.specs.HasLogic.{HasLogic}
 use Rattle.hol_bool.specs.Formulas.{IsFormula}
-use Rattle.hol_bool.specs.Room.{IsSized, FitsIf, LeadsTo, at_p, at_p_q, at_p_q_r}
+use Rattle.hol_bool.specs.Room.{IsSized, FitsIf, LeadsTo, Says, at_p, at_p_q, at_p_q_r}
 use Rattle.hol_bool.specs.declared.stored.Bool.{Bool as Stored}
 use Rattle.hol_bool.proofs.Sizes.{sized-more, sized-equation, sized-within}
 use Rattle.hol_bool.proofs.RoomLemmas.{fits-within}
@@ -62,6 +62,24 @@ way-fits theory number terms room premise conclusion leads is =
     joined true true c d e first three four five = rw (three, four, five) refl
     joined true false c d e first three four five = cc
     joined false b c d e first three four five = cc
+
+-- the theorem of the number says what is instantiated, which fits
+
+pub says-shows : (theory : Theory) (number : ℕ) (terms : List (NamedTerm × NamedTerm)) (room : Bool) (conclusion : Nameless) (says : Says theory number terms room conclusion) (theorem : Theorem)
+    → slice_get prelude_theorems number ≡ Some theorem → Shows theorem [] (image says.stated)
+says-shows theory number terms room conclusion says theorem is =
+    let there : Some (shown [] says.stated) ≡ Some theorem = sym says.theorem_is ∙ is in
+    let same : shown [] says.stated ≡ theorem = cc in
+    subst (λ (t : Theorem). Shows t [] (image says.stated)) same (record { same_set = record { to = λ x m. m; back = λ x m. m }; concludes = refl })
+
+pub says-fits : (theory : Theory) (number : ℕ) (terms : List (NamedTerm × NamedTerm)) (room : Bool) (conclusion : Nameless) (says : Says theory number terms room conclusion) → room ≡ true
+    → list_all nameless_within_limits (instantiate_all [] (image says.stated) ∷ instance_of [] terms (image says.stated) ∷ []) ≡ true
+says-fits theory number terms room conclusion says is =
+    subst (λ (c : Nameless). (nameless_within_limits (instantiate_all [] (image says.stated)) && (nameless_within_limits c && true)) ≡ true) says.conclusion_is
+    (joined (nameless_within_limits (instantiate_all [] (image says.stated))) (nameless_within_limits conclusion) says.is_small (fits-within room conclusion says.conclusion_fits is))
+  where
+    joined : (a b : Bool) → a ≡ true → b ≡ true → (a && (b && true)) ≡ true
+    joined a b one two = rw (one, two) refl
 
 -- formulas that the theory knows may stand for p, q and r
 

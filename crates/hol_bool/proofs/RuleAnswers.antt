@@ -18,7 +18,7 @@ use Rattle.hol_journal.specs.Journal.{Recorded, theorem_in}
 use Rattle.hol_bool.specs.Prelude.{prelude_theorems, shown}
 use Rattle.hol_bool.specs.Sequents.{DerivesIf, instance_of}
 use Rattle.hol_bool.specs.Formulas.{IsFormula}
-use Rattle.hol_bool.specs.Room.{IsSized, FitsIf, LeadsTo, at_p, at_p_q, at_p_q_r}
+use Rattle.hol_bool.specs.Room.{IsSized, FitsIf, LeadsTo, Says, at_p, at_p_q, at_p_q_r}
 use Rattle.hol_bool.proofs.StepLemmas.{member_passes}
 use Rattle.hol_bool.proofs.Sizes.{leaves_room, sized-more, sized-app}
 use Rattle.hol_bool.proofs.CutLemmas.{answers-stated}
@@ -97,6 +97,36 @@ leads-p_q theory number hypothesis conclusion a b terms there small one two term
       premise_is = from_is;
       conclusion_is = to_is;
       premise_fits = from_fits;
+      conclusion_fits = to_fits;
+    })
+
+pub leads-p_q_r : (theory : Theory) (number : ℕ) (hypothesis conclusion a b d : NamedTerm) (terms : List (NamedTerm × NamedTerm)) → slice_get prelude_theorems number ≡ Some (shown (hypothesis ∷ []) conclusion)
+    → list_all nameless_within_limits (instantiate_all [] (image conclusion) ∷ instantiate_all [] (image hypothesis) ∷ []) ≡ true → IsFormula theory a → IsFormula theory b → IsFormula theory d → terms ≡ at_p_q_r a b d
+    → (room : Bool) (from to : Nameless) → from ≡ instance_of [] (at_p_q_r a b d) (image hypothesis) → to ≡ instance_of [] (at_p_q_r a b d) (image conclusion) → FitsIf room from → FitsIf room to
+    → LeadsTo theory number terms room from to
+leads-p_q_r theory number hypothesis conclusion a b d terms there small one two three terms_are room from to from_is to_is from_fits to_fits =
+    subst (λ (l : List (NamedTerm × NamedTerm)). LeadsTo theory number l room from to) (sym terms_are) (record {
+      hypothesis = hypothesis;
+      stated = conclusion;
+      theorem_is = there;
+      is_small = small;
+      may_replace = p_q_r-passes theory a b d one two three;
+      premise_is = from_is;
+      conclusion_is = to_is;
+      premise_fits = from_fits;
+      conclusion_fits = to_fits;
+    })
+
+pub says-p : (theory : Theory) (number : ℕ) (conclusion a : NamedTerm) (terms : List (NamedTerm × NamedTerm)) → slice_get prelude_theorems number ≡ Some (shown [] conclusion)
+    → nameless_within_limits (instantiate_all [] (image conclusion)) ≡ true → IsFormula theory a → terms ≡ at_p a
+    → (room : Bool) (to : Nameless) → to ≡ instance_of [] (at_p a) (image conclusion) → FitsIf room to → Says theory number terms room to
+says-p theory number conclusion a terms there small one terms_are room to to_is to_fits =
+    subst (λ (l : List (NamedTerm × NamedTerm)). Says theory number l room to) (sym terms_are) (record {
+      stated = conclusion;
+      theorem_is = there;
+      is_small = small;
+      may_replace = p-passes theory a one;
+      conclusion_is = to_is;
       conclusion_fits = to_fits;
     })
 

@@ -8,3 +8,5 @@ pub mod Makings
 pub mod Prelude
 pub mod Laws
 pub mod Conversions
+pub mod Disjunctions
+pub mod Axioms

@@ -64,5 +64,16 @@ axiom_theorems =
     ∷ shown [] select_axiom
     ∷ []
 
+-- p \/ ~p
+abbrev pub middle : NamedTerm
+middle = disjunction p (negation p)
+
+-- the piece of EXCLUDED_MIDDLE; EXCLUDED_MIDDLE
+abbrev pub middle_theorems : List Theorem
+middle_theorems =
+    shown [] middle
+    ∷ shown [] excluded_middle
+    ∷ []
+
 abbrev pub prelude_theorems : List Theorem
-prelude_theorems = first_theorems ++ disjunction_theorems ++ case_theorems ++ existence_theorems ++ axiom_theorems
+prelude_theorems = first_theorems ++ disjunction_theorems ++ case_theorems ++ existence_theorems ++ axiom_theorems ++ middle_theorems

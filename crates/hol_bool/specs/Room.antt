@@ -52,3 +52,12 @@ pub record LeadsTo (theory : Theory) (number : ℕ) (terms : List (NamedTerm × 
   pub conclusion_is : conclusion ≡ instance_of [] terms (image stated)
   pub premise_fits : FitsIf room premise
   pub conclusion_fits : FitsIf room conclusion
+
+-- at these terms, the theorem of this number of the prelude says this, which fits where there is room
+pub record Says (theory : Theory) (number : ℕ) (terms : List (NamedTerm × NamedTerm)) (room : Room) (conclusion : Nameless) : Type 0 where
+  pub stated : NamedTerm
+  pub theorem_is : slice_get prelude_theorems number ≡ Some (shown [] stated)
+  pub is_small : nameless_within_limits (instantiate_all [] (image stated)) ≡ true
+  pub may_replace : replacements_refusal theory terms ≡ None
+  pub conclusion_is : conclusion ≡ instance_of [] terms (image stated)
+  pub conclusion_fits : FitsIf room conclusion

@@ -12,6 +12,7 @@ ghost use Rattle.hol_bool.specs.Room.{Room, FitsIf};
 ghost use Rattle.hol_bool.specs.Sequents.{Shows, DerivesIf, Continues};
 
 use crate::formula_terms::{connect, equivalence, for_p_q};
+use crate::numbers::{CONJ, CONJUNCT1, CONJUNCT2};
 use crate::prelude_rules::{by_theorem, conclusion_of, sides_of};
 use crate::steps;
 use crate::stored::Bool;
@@ -19,7 +20,7 @@ use hol_journal::{Rec, Recorder};
 use hol_model::Fault;
 use std::alloc::Global;
 
-/// CONJUNCT1: from `p /\ q`, `p`. Refused where the conclusion is no conjunction.
+/// CONJUNCT1: from `p /\ q`, `p`, in six steps. Refused where the conclusion is no conjunction.
 pub fn conjunct1(
     recorder: &mut Recorder,
     alloc: Global,
@@ -38,10 +39,12 @@ pub fn conjunct1(
         Ok(terms) => terms,
         Err(fault) => return Err(fault),
     };
-    by_theorem(recorder, alloc, logic, 13, &terms, sides.left, premise)
+    by_theorem(
+        recorder, alloc, logic, CONJUNCT1, &terms, sides.left, premise,
+    )
 }
 
-/// CONJUNCT2: from `p /\ q`, `q`. Refused where the conclusion is no conjunction.
+/// CONJUNCT2: from `p /\ q`, `q`, in six steps. Refused where the conclusion is no conjunction.
 pub fn conjunct2(
     recorder: &mut Recorder,
     alloc: Global,
@@ -60,7 +63,15 @@ pub fn conjunct2(
         Ok(terms) => terms,
         Err(fault) => return Err(fault),
     };
-    by_theorem(recorder, alloc, logic, 14, &terms, sides.right, premise)
+    by_theorem(
+        recorder,
+        alloc,
+        logic,
+        CONJUNCT2,
+        &terms,
+        sides.right,
+        premise,
+    )
 }
 
 // CONJ, with the room that it needs.
@@ -93,14 +104,14 @@ pub(crate) fn joined(
         Ok(terms) => terms,
         Err(fault) => return Err(fault),
     };
-    let equation = match by_theorem(recorder, alloc, logic, 25, &terms, &stated, first) {
+    let equation = match by_theorem(recorder, alloc, logic, CONJ, &terms, &stated, first) {
         Ok(equation) => equation,
         Err(fault) => return Err(fault),
     };
     steps::eq_mp(recorder, alloc, &equation, second)
 }
 
-/// CONJ: from `p` and `q`, `p /\ q`.
+/// CONJ: from `p` and `q`, `p /\ q`, in seven steps.
 pub fn conj(
     recorder: &mut Recorder,
     alloc: Global,

@@ -40,11 +40,11 @@ pub(crate) const OR_UNFOLDED: Derivation<'static> = Derivation::Pair(
 );
 
 // |- (!r. (p ==> r) ==> (q ==> r) ==> r) <=> p \/ q
-const OR: TermSketch<'static> = TermSketch::Constant("\\/", &BINARY);
+pub(crate) const OR: TermSketch<'static> = TermSketch::Constant("\\/", &BINARY);
 
-const P_OR: TermSketch<'static> = TermSketch::Combination(&OR, &P);
+pub(crate) const P_OR: TermSketch<'static> = TermSketch::Combination(&OR, &P);
 
-const P_OR_Q: TermSketch<'static> = TermSketch::Combination(&P_OR, &Q);
+pub(crate) const P_OR_Q: TermSketch<'static> = TermSketch::Combination(&P_OR, &Q);
 
 const REFL_P_OR_Q: Derivation<'static> = Derivation::Term(TermRule::Refl, &P_OR_Q);
 
@@ -73,7 +73,7 @@ pub(crate) const REFL_IMP: Derivation<'static> = Derivation::Term(TermRule::Refl
 
 const R_FROM_P_IMP: Derivation<'static> = Derivation::Pair(PairRule::MkComb, &REFL_IMP, &EQT_INTRO);
 
-const REFL_R: Derivation<'static> = Derivation::Term(TermRule::Refl, &R);
+pub(crate) const REFL_R: Derivation<'static> = Derivation::Term(TermRule::Refl, &R);
 
 const R_FROM_P_FOLLOWS: Derivation<'static> = Derivation::Pair(
     PairRule::MkComb,
@@ -81,11 +81,16 @@ const R_FROM_P_FOLLOWS: Derivation<'static> = Derivation::Pair(
     &REFL_R,
 );
 
-const T_IMP_R: TermSketch<'static> = TermSketch::Combination(&T_IMP, &R);
+pub(crate) const T_IMP_R: TermSketch<'static> = TermSketch::Combination(&T_IMP, &R);
 
 const T_IMP_R_IS_R: TermSketch<'static> = TermSketch::Equation(&T_IMP_R, &R);
 
-const FROM_TRUE_R: Derivation<'static> = Derivation::Inst(&R, &Q, &FROM_TRUE, &T_IMP_R_IS_R);
+pub(crate) const FROM_TRUE_R: Derivation<'static> = Derivation::Inst(
+    &R,
+    &Q,
+    &FROM_TRUE,
+    &T_IMP_R_IS_R,
+);
 
 const R_FROM_P_IS: Derivation<'static> = Derivation::Pair(
     PairRule::Trans,
@@ -535,7 +540,10 @@ const CASES_OF_R: Derivation<'static> = Derivation::Pair(
     &ASSUME_P_OR_Q,
 );
 
-const FORMULA_PRED_X: TermSketch<'static> = TermSketch::Combination(&FORMULA_PRED, &FORMULA);
+pub(crate) const FORMULA_PRED_X: TermSketch<'static> = TermSketch::Combination(
+    &FORMULA_PRED,
+    &FORMULA,
+);
 
 pub(crate) const FORMULA_ALWAYS_X: TermSketch<'static> = TermSketch::Combination(
     &FORMULA_ALWAYS,

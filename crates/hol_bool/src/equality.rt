@@ -135,13 +135,8 @@ pub fn named(
     steps::eq_mp(recorder, alloc, &reflexive, premise)
 }
 
-// From `p` and `q`, `q`, with the hypotheses of the first, and those of the second but `p`.
-pub(crate) fn cut(
-    recorder: &mut Recorder,
-    alloc: Global,
-    first: &Rec,
-    second: &Rec,
-) -> Result<Rec, Fault>
+/// From `p` and `q`, `q`, with the hypotheses of the first, and those of the second but `p`, in two steps.
+pub fn cut(recorder: &mut Recorder, alloc: Global, first: &Rec, second: &Rec) -> Result<Rec, Fault>
     requires first { IsMade recorder.old first.now }
     requires second { IsMade recorder.old second.now }
     ensures continues { Continues recorder.old recorder.new result }

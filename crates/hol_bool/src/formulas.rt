@@ -13,7 +13,7 @@ pub(crate) const PREDICATE: TypeSketch<'static> = TypeSketch::Function(&A, &BOOL
 
 pub(crate) const QUANTIFIER: TypeSketch<'static> = TypeSketch::Function(&PREDICATE, &BOOL);
 
-const BOOL_QUANTIFIER: TypeSketch<'static> = TypeSketch::Function(&UNARY, &BOOL);
+pub(crate) const BOOL_QUANTIFIER: TypeSketch<'static> = TypeSketch::Function(&UNARY, &BOOL);
 
 pub(crate) const P: TermSketch<'static> = TermSketch::Formula("p");
 

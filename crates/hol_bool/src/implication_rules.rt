@@ -15,6 +15,7 @@ ghost use Rattle.hol_bool.specs.Sequents.{Shows, DerivesIf, Continues};
 
 use crate::conjunction_rules::joined;
 use crate::formula_terms::{connect, equivalence, for_p_q};
+use crate::numbers::{CONJUNCT1, DISCH, MP};
 use crate::prelude_rules::{by_theorem, conclusion_of, pass_formula, sides_of};
 use crate::steps;
 use crate::stored::Bool;
@@ -24,9 +25,9 @@ use hol_model::Fault;
 use hol_terms::Term;
 use std::alloc::Global;
 
-// MP, with the room that it needs: from `p ==> q` and `p`, the `q` that is handed in.
+/// MP, with the room that it needs: from `p ==> q` and `p`, the `q` that is handed in.
 #[tactic(auto, using(crate::proofs::StepLemmas::still_made, crate::proofs::StepLemmas::now_made))]
-pub(crate) fn implied(
+pub fn implied(
     recorder: &mut Recorder,
     alloc: Global,
     logic: &Bool,
@@ -52,15 +53,15 @@ pub(crate) fn implied(
         Ok(terms) => terms,
         Err(fault) => return Err(fault),
     };
-    let equation = match by_theorem(recorder, alloc, logic, 26, &terms, &stated, second) {
+    let equation = match by_theorem(recorder, alloc, logic, MP, &terms, &stated, second) {
         Ok(equation) => equation,
         Err(fault) => return Err(fault),
     };
     steps::eq_mp(recorder, alloc, &equation, first)
 }
 
-/// MP: from `p ==> q` and `p`, `q`. Refused where the first conclusion is no implication, and then where the second is
-/// not its left side up to the names of bound variables.
+/// MP: from `p ==> q` and `p`, `q`, in seven steps. Refused where the first conclusion is no implication, and then where
+/// the second is not its left side up to the names of bound variables.
 pub fn mp(
     recorder: &mut Recorder,
     alloc: Global,
@@ -108,7 +109,7 @@ fn first_of_both(
         Ok(terms) => terms,
         Err(fault) => return Err(fault),
     };
-    by_theorem(recorder, alloc, logic, 13, &terms, p, &assumed)
+    by_theorem(recorder, alloc, logic, CONJUNCT1, &terms, p, &assumed)
 }
 
 // From `q`, `p /\ q <=> p` without the hypothesis `p`.
@@ -143,9 +144,10 @@ fn absorbed(
     steps::deduct_antisym(recorder, alloc, &joined, &first)
 }
 
-// DISCH, with the room that it needs.
+/// DISCH, with the room that it needs: from `q`, `p ==> q` without the hypothesis `p`, for a formula `p` that the theory
+/// knows.
 #[tactic(auto, using(crate::proofs::StepLemmas::still_made, crate::proofs::StepLemmas::now_made, crate::proofs::PreludeSteps::still_logical, crate::proofs::PreludeSteps::still_formula))]
-pub(crate) fn discharged(
+pub fn discharged(
     recorder: &mut Recorder,
     alloc: Global,
     logic: &Bool,
@@ -172,11 +174,11 @@ pub(crate) fn discharged(
         Ok(equation) => equation,
         Err(fault) => return Err(fault),
     };
-    by_theorem(recorder, alloc, logic, 16, &terms, &stated, &equation)
+    by_theorem(recorder, alloc, logic, DISCH, &terms, &stated, &equation)
 }
 
-/// DISCH: from `q`, `p ==> q` without the hypothesis `p`. Refused where `p` is not of type `bool`, and then where the
-/// theory does not know a type or a constant of it.
+/// DISCH: from `q`, `p ==> q` without the hypothesis `p`, in 22 steps. Refused where `p` is not of type `bool`, and then
+/// where the theory does not know a type or a constant of it.
 pub fn disch(
     recorder: &mut Recorder,
     alloc: Global,
@@ -196,7 +198,7 @@ pub fn disch(
     discharged(recorder, alloc, logic, p, premise)
 }
 
-/// UNDISCH: from `p ==> q`, `q` with the hypothesis `p`. Refused where the conclusion is no implication.
+/// UNDISCH: from `p ==> q`, `q` with the hypothesis `p`, in eight steps. Refused where the conclusion is no implication.
 #[tactic(auto, using(crate::proofs::StepLemmas::still_made, crate::proofs::StepLemmas::now_made, crate::proofs::PreludeSteps::still_logical, crate::proofs::PreludeSteps::still_formula))]
 pub fn undisch(
     recorder: &mut Recorder,

@@ -272,7 +272,7 @@ const TRUE_FOLLOWS_TRUE: Derivation<'static> = Derivation::Pair(
     &EARLIER_TRUTH,
 );
 
-const TEST_P_HOLDS: Derivation<'static> = Derivation::Pair(
+pub(crate) const TEST_P_HOLDS: Derivation<'static> = Derivation::Pair(
     PairRule::MkComb,
     &REFL_TEST,
     &EQT_INTRO,
@@ -333,7 +333,7 @@ const TRUE_FOLLOWS_OPEN_AGREE_IS: TermSketch<'static> = TermSketch::Equation(
     &P,
 );
 
-const TRUE_FOLLOWS_OPEN_FIRST: Derivation<'static> = Derivation::Inst(
+pub(crate) const TRUE_FOLLOWS_OPEN_FIRST: Derivation<'static> = Derivation::Inst(
     &P,
     &U,
     &FIRST_OF_TESTS,
@@ -390,7 +390,7 @@ const TRUE_FOLLOWS_OPEN_MEANS: TermSketch<'static> = TermSketch::Equation(
     &TRUE_FOLLOWS_OPEN_IMP,
 );
 
-const TRUE_FOLLOWS_OPEN_DISCHARGE: Derivation<'static> = Derivation::Inst(
+pub(crate) const TRUE_FOLLOWS_OPEN_DISCHARGE: Derivation<'static> = Derivation::Inst(
     &P,
     &U,
     &DISCHARGE,

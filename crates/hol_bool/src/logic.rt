@@ -4,6 +4,7 @@ use crate::conjunction::{AND_UNFOLDED, CONJ, CONJUNCT1, CONJUNCT2, REFL_P_AND_Q,
 use crate::derivation::Derivation;
 use crate::disjunction::{DISJ_CASES, DISJ_P, DISJ_Q, OR_UNFOLDED, SYM_P_OR_Q_IS};
 use crate::existence::{CHOOSE, EXISTS_RULE, EXISTS_UNFOLDED};
+use crate::falsity::{P_IMPLIES_P, P_OR_TRUE_EQUATION, SELF_DENIAL};
 use crate::formulas::{
     A, ALWAYS, AND_BODY, BOOL, EXISTS_BODY, F, FALSE_BODY, FORALL, FORALL_BODY, FORALL_BOOL,
     IDENTITY, IMP_BODY, IMP_P, IS_ALWAYS, NOT, NOT_BODY, OR_BODY, P, P_ABSORBS_Q, P_IMP, P_IMP_F,
@@ -13,6 +14,10 @@ use crate::laws::{
     EACH_HOLDS_AT_X, FIRST_IS_U, IMP_TRUE_EQUATION, T_IMP_Q_IS_Q, TESTS_DISCHARGE, TRUE_EQUATION,
 };
 use crate::making::Making;
+use crate::middle::{
+    EXCLUDED_MIDDLE, EXCLUDED_MIDDLE_EACH, MIDDLE_CHOSEN, MIDDLE_TRUE_FROM_DECIDER,
+    MIDDLE_TRUE_FROM_P, P_OR_Q_FROM_P,
+};
 use crate::sketch::TermSketch;
 use crate::truth::{ASSUME_P, EARLIER_TRUTH, EQT_ELIM, EQT_INTRO, REFL_EQ_BOOL, REFL_P, TRUTH};
 use hol_model::{PairRule, TermRule};
@@ -251,9 +256,9 @@ const NOT_UNFOLDED: Derivation<'static> = Derivation::Pair(PairRule::Trans, &NOT
 // p ==> F |- ~p
 const NOT_P_IS: Derivation<'static> = Derivation::Earlier(21);
 
-const NOT_P: TermSketch<'static> = TermSketch::Combination(&NOT, &P);
+pub(crate) const NOT_P: TermSketch<'static> = TermSketch::Combination(&NOT, &P);
 
-const REFL_NOT_P: Derivation<'static> = Derivation::Term(TermRule::Refl, &NOT_P);
+pub(crate) const REFL_NOT_P: Derivation<'static> = Derivation::Term(TermRule::Refl, &NOT_P);
 
 const NOT_P_IS_EQUATES: Derivation<'static> = Derivation::Pair(
     PairRule::MkComb,
@@ -267,7 +272,7 @@ const NOT_P_IS_SIDES: Derivation<'static> = Derivation::Pair(
     &REFL_NOT_P,
 );
 
-const SYM_NOT_P_IS: Derivation<'static> = Derivation::Pair(
+pub(crate) const SYM_NOT_P_IS: Derivation<'static> = Derivation::Pair(
     PairRule::EqMp,
     &NOT_P_IS_SIDES,
     &REFL_NOT_P,
@@ -330,7 +335,7 @@ const FALSE_IS: Derivation<'static> = Derivation::Inst(
     &FALSE_MEANS,
 );
 
-const ASSUME_F: Derivation<'static> = Derivation::Term(TermRule::Assume, &F);
+pub(crate) const ASSUME_F: Derivation<'static> = Derivation::Term(TermRule::Assume, &F);
 
 const EACH_HOLDS: Derivation<'static> = Derivation::Pair(PairRule::EqMp, &F_DEF, &ASSUME_F);
 
@@ -416,7 +421,7 @@ const CONTR: Derivation<'static> = Derivation::Pair(
 pub(crate) const FIRST_LAW: usize = 27;
 
 /// The number of the first theorem behind the laws.
-pub(crate) const BEHIND_LAWS: usize = 38;
+pub(crate) const BEHIND_LAWS: usize = 45;
 
 /// The definitions T_DEF, AND_DEF, IMP_DEF, FORALL_DEF, EXISTS_DEF, OR_DEF, F_DEF and NOT_DEF, then TRUTH, and the
 /// theorems from which rules are made.
@@ -465,8 +470,23 @@ pub(crate) const LAWS: [Making<'static>; 11] = [
     Making::Derive(&CHOOSES),
 ];
 
-/// DISJ1.
-pub(crate) const DISJUNCTION: [Making<'static>; 1] = [Making::Derive(&DISJ_P)];
+/// Laws of `F`, `p ==> p` and `p \/ T`, DISJ1, and what it says of `p \/ ~p`.
+pub(crate) const FALSITY_LAWS: [Making<'static>; 5] = [
+    Making::Derive(&SELF_DENIAL),
+    Making::Derive(&P_IMPLIES_P),
+    Making::Derive(&P_OR_TRUE_EQUATION),
+    Making::Derive(&DISJ_P),
+    Making::Derive(&MIDDLE_TRUE_FROM_P),
+];
+
+/// Laws of the formula that is chosen for `p \/ ~p`.
+pub(crate) const DECIDER_LAWS: [Making<'static>; 2] = [
+    Making::Derive(&MIDDLE_CHOSEN),
+    Making::Derive(&MIDDLE_TRUE_FROM_DECIDER),
+];
+
+/// DISJ1, which stands among the laws.
+pub(crate) const DISJUNCTION: [Making<'static>; 1] = [Making::Derive(&P_OR_Q_FROM_P)];
 
 /// DISJ2 and DISJ_CASES.
 pub(crate) const CASES: [Making<'static>; 2] = [
@@ -482,4 +502,10 @@ pub(crate) const AXIOMS: [Making<'static>; 3] = [
     Making::Derive(&CHOOSE),
     Making::Derive(&ETA_AX),
     Making::Derive(&SELECT_AX),
+];
+
+/// EXCLUDED_MIDDLE, of `p` and of each formula.
+pub(crate) const MIDDLE: [Making<'static>; 2] = [
+    Making::Derive(&EXCLUDED_MIDDLE),
+    Making::Derive(&EXCLUDED_MIDDLE_EACH),
 ];

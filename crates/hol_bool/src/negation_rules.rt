@@ -7,6 +7,7 @@ ghost use Rattle.hol_bool.specs.HasLogic.{HasLogic};
 ghost use Rattle.hol_bool.specs.Sequents.{Continues};
 
 use crate::formula_terms::{connect, falsity, for_p, is_named, negate};
+use crate::numbers::{CONTR, NOT_ELIM, NOT_INTRO};
 use crate::prelude_rules::{by_theorem, conclusion_of, negated_of, pass_formula, sides_of};
 use crate::stored::Bool;
 use hol_journal::{Rec, Recorder};
@@ -14,7 +15,7 @@ use hol_model::Fault;
 use hol_terms::Term;
 use std::alloc::Global;
 
-/// NOT_INTRO: from `p ==> F`, `~p`. Refused where the conclusion is no implication of `F`.
+/// NOT_INTRO: from `p ==> F`, `~p`, in six steps. Refused where the conclusion is no implication of `F`.
 pub fn not_intro(
     recorder: &mut Recorder,
     alloc: Global,
@@ -41,10 +42,10 @@ pub fn not_intro(
         Ok(terms) => terms,
         Err(fault) => return Err(fault),
     };
-    by_theorem(recorder, alloc, logic, 22, &terms, &stated, premise)
+    by_theorem(recorder, alloc, logic, NOT_INTRO, &terms, &stated, premise)
 }
 
-/// NOT_ELIM: from `~p`, `p ==> F`. Refused where the conclusion is no negation.
+/// NOT_ELIM: from `~p`, `p ==> F`, in six steps. Refused where the conclusion is no negation.
 pub fn not_elim(
     recorder: &mut Recorder,
     alloc: Global,
@@ -71,11 +72,11 @@ pub fn not_elim(
         Ok(terms) => terms,
         Err(fault) => return Err(fault),
     };
-    by_theorem(recorder, alloc, logic, 23, &terms, &stated, premise)
+    by_theorem(recorder, alloc, logic, NOT_ELIM, &terms, &stated, premise)
 }
 
-/// CONTR: from `F`, `p`. Refused where the conclusion is not `F`, then where `p` is not of type `bool`, and then where
-/// the theory does not know a type or a constant of it.
+/// CONTR: from `F`, `p`, in six steps. Refused where the conclusion is not `F`, then where `p` is not of type `bool`, and
+/// then where the theory does not know a type or a constant of it.
 pub fn contr(
     recorder: &mut Recorder,
     alloc: Global,
@@ -100,5 +101,5 @@ pub fn contr(
         Ok(terms) => terms,
         Err(fault) => return Err(fault),
     };
-    by_theorem(recorder, alloc, logic, 24, &terms, p, premise)
+    by_theorem(recorder, alloc, logic, CONTR, &terms, p, premise)
 }

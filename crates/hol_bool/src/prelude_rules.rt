@@ -1,5 +1,5 @@
 // Steps by the theorems of the prelude.
-ghost use Rattle.std.specs.Prelude.{◌≡◌, ◌<◌, List, IfOk, IfErr, OnOk, IfSome, Some, length};
+ghost use Rattle.std.specs.Prelude.{◌≡◌, ◌<◌, List, [], IfOk, IfErr, OnOk, IfSome, Some, length};
 ghost use Rattle.std.specs.Option.{option_map};
 ghost use Rattle.hol_model.specs.Theory.{IsLegal, generic_type};
 ghost use Rattle.hol_model.specs.Theorem.{IsTheorem};
@@ -10,12 +10,12 @@ ghost use Rattle.hol_journal.specs.Journal.{IsMade};
 ghost use Rattle.hol_bool.specs.Prelude.{prelude_theorems};
 ghost use Rattle.hol_bool.specs.HasLogic.{HasLogic};
 ghost use Rattle.hol_bool.specs.Formulas.{IsFormula, AreSides, IsNegated, IsPassed, IsRefused};
-ghost use Rattle.hol_bool.specs.Room.{Room, LeadsTo};
+ghost use Rattle.hol_bool.specs.Room.{Room, LeadsTo, Says};
 ghost use Rattle.hol_bool.specs.Sequents.{Shows, DerivesIf, Continues};
 
 use crate::equality::named;
 use crate::formula_terms::{Sides, connected_sides, negated_part};
-use crate::lemma::by_lemma;
+use crate::lemma::{by_lemma, instance};
 use crate::stored::{Bool, theorem_of};
 use hol_journal::{Rec, Recorder};
 use hol_model::Fault;
@@ -47,8 +47,31 @@ pub(crate) fn by_theorem(
     named(recorder, alloc, stated, &answer)
 }
 
+/// A theorem of the prelude without hypotheses, at these terms and with these names, in four steps.
+pub(crate) fn instance_of_theorem(
+    recorder: &mut Recorder,
+    alloc: Global,
+    logic: &Bool,
+    number: usize,
+    terms: &[(Term, Term)],
+    stated: &Term,
+) -> Result<Rec, Fault>
+    requires logic { HasLogic recorder.old logic.now }
+    requires number { number < length prelude_theorems }
+    ensures continues { Continues recorder.old recorder.new result }
+    ensures names { IfOk result (λ made. made.theorem.conclusion ≡ stated.now) }
+    ensures derives { (room : Room) → Says recorder.old.theory number terms.now room (image stated.now) → DerivesIf room result [] (image stated.now) }
+{
+    let lemma = theorem_of(recorder, logic, number);
+    let answer = match instance(recorder, alloc, &[], terms, lemma) {
+        Ok(answer) => answer,
+        Err(fault) => return Err(fault),
+    };
+    named(recorder, alloc, stated, &answer)
+}
+
 /// The conclusion of a theorem that this recorder made.
-pub(crate) fn conclusion_of<'a>(recorder: &Recorder, premise: &'a Rec) -> &'a Term
+pub fn conclusion_of<'a>(recorder: &Recorder, premise: &'a Rec) -> &'a Term
     requires { IsMade recorder.now premise.now }
     ensures value { result.now ≡ premise.now.theorem.conclusion }
     ensures formula { IsFormula recorder.now.theory premise.now.theorem.conclusion }

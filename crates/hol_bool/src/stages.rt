@@ -4,10 +4,12 @@ ghost use Rattle.hol_model.specs.declared.fault.Fault.TheVariants.{Memory};
 ghost use Rattle.hol_journal.specs.Growth.{IsGrown};
 ghost use Rattle.hol_bool.specs.Derivations.{AreMade};
 ghost use Rattle.hol_bool.specs.Makings.{HasMade};
-ghost use Rattle.hol_bool.specs.Prelude.{first_theorems, disjunction_theorems, case_theorems, existence_theorems, axiom_theorems};
-ghost use Rattle.hol_bool.specs.Laws.{laws};
+ghost use Rattle.hol_bool.specs.Prelude.{first_theorems, disjunction_theorems, case_theorems, existence_theorems, axiom_theorems, middle_theorems};
+ghost use Rattle.hol_bool.specs.Laws.{laws, falsity_laws, decider_laws};
 
-use crate::logic::{AXIOMS, CASES, DISJUNCTION, EXISTENCE, FIRST_THEOREMS, LAWS};
+use crate::logic::{
+    AXIOMS, CASES, DECIDER_LAWS, DISJUNCTION, EXISTENCE, FALSITY_LAWS, FIRST_THEOREMS, LAWS, MIDDLE,
+};
 use crate::making::{make_first, make_table};
 use hol_journal::{Rec, Recorder};
 use hol_model::Fault;
@@ -38,15 +40,43 @@ fn with_laws(recorder: &mut Recorder, alloc: Global) -> Result<Vec<Rec>, Fault>
     }
 }
 
-// The theorems, and DISJ1.
-fn with_disjunction(recorder: &mut Recorder, alloc: Global) -> Result<Vec<Rec>, Fault>
+// The theorems, and the laws of falsity.
+fn with_falsity(recorder: &mut Recorder, alloc: Global) -> Result<Vec<Rec>, Fault>
     requires new { recorder.old.theory ≡ [] }
-    ensures ok { IfOk result (λ all. HasMade recorder.new.theory all.items (first_theorems ++ laws ++ disjunction_theorems)) }
+    ensures ok { IfOk result (λ all. HasMade recorder.new.theory all.items (first_theorems ++ laws ++ falsity_laws)) }
     ensures made { IfOk result (λ all. AreMade recorder.new all.items) }
     ensures err { IfErr result (λ fault. fault ≡ Memory) }
     ensures grown { IsGrown recorder.old recorder.new }
 {
     match with_laws(recorder, alloc) {
+        Ok(earlier) => make_table(recorder, alloc, earlier, &FALSITY_LAWS),
+        Err(fault) => Err(fault),
+    }
+}
+
+// The theorems, and the laws of the formula that is chosen for `p \/ ~p`.
+fn with_decider(recorder: &mut Recorder, alloc: Global) -> Result<Vec<Rec>, Fault>
+    requires new { recorder.old.theory ≡ [] }
+    ensures ok { IfOk result (λ all. HasMade recorder.new.theory all.items (first_theorems ++ laws ++ falsity_laws ++ decider_laws)) }
+    ensures made { IfOk result (λ all. AreMade recorder.new all.items) }
+    ensures err { IfErr result (λ fault. fault ≡ Memory) }
+    ensures grown { IsGrown recorder.old recorder.new }
+{
+    match with_falsity(recorder, alloc) {
+        Ok(earlier) => make_table(recorder, alloc, earlier, &DECIDER_LAWS),
+        Err(fault) => Err(fault),
+    }
+}
+
+// The theorems, and DISJ1.
+fn with_disjunction(recorder: &mut Recorder, alloc: Global) -> Result<Vec<Rec>, Fault>
+    requires new { recorder.old.theory ≡ [] }
+    ensures ok { IfOk result (λ all. HasMade recorder.new.theory all.items (first_theorems ++ laws ++ falsity_laws ++ decider_laws ++ disjunction_theorems)) }
+    ensures made { IfOk result (λ all. AreMade recorder.new all.items) }
+    ensures err { IfErr result (λ fault. fault ≡ Memory) }
+    ensures grown { IsGrown recorder.old recorder.new }
+{
+    match with_decider(recorder, alloc) {
         Ok(earlier) => make_table(recorder, alloc, earlier, &DISJUNCTION),
         Err(fault) => Err(fault),
     }
@@ -55,7 +85,7 @@ fn with_disjunction(recorder: &mut Recorder, alloc: Global) -> Result<Vec<Rec>, 
 // The theorems, and DISJ2 and DISJ_CASES.
 fn with_cases(recorder: &mut Recorder, alloc: Global) -> Result<Vec<Rec>, Fault>
     requires new { recorder.old.theory ≡ [] }
-    ensures ok { IfOk result (λ all. HasMade recorder.new.theory all.items (first_theorems ++ laws ++ disjunction_theorems ++ case_theorems)) }
+    ensures ok { IfOk result (λ all. HasMade recorder.new.theory all.items (first_theorems ++ laws ++ falsity_laws ++ decider_laws ++ disjunction_theorems ++ case_theorems)) }
     ensures made { IfOk result (λ all. AreMade recorder.new all.items) }
     ensures err { IfErr result (λ fault. fault ≡ Memory) }
     ensures grown { IsGrown recorder.old recorder.new }
@@ -69,7 +99,7 @@ fn with_cases(recorder: &mut Recorder, alloc: Global) -> Result<Vec<Rec>, Fault>
 // The theorems, and EXISTS.
 fn with_existence(recorder: &mut Recorder, alloc: Global) -> Result<Vec<Rec>, Fault>
     requires new { recorder.old.theory ≡ [] }
-    ensures ok { IfOk result (λ all. HasMade recorder.new.theory all.items (first_theorems ++ laws ++ disjunction_theorems ++ case_theorems ++ existence_theorems)) }
+    ensures ok { IfOk result (λ all. HasMade recorder.new.theory all.items (first_theorems ++ laws ++ falsity_laws ++ decider_laws ++ disjunction_theorems ++ case_theorems ++ existence_theorems)) }
     ensures made { IfOk result (λ all. AreMade recorder.new all.items) }
     ensures err { IfErr result (λ fault. fault ≡ Memory) }
     ensures grown { IsGrown recorder.old recorder.new }
@@ -80,16 +110,30 @@ fn with_existence(recorder: &mut Recorder, alloc: Global) -> Result<Vec<Rec>, Fa
     }
 }
 
-/// All theorems, the laws among them.
-pub(crate) fn with_axioms(recorder: &mut Recorder, alloc: Global) -> Result<Vec<Rec>, Fault>
+// The theorems, and CHOOSE, ETA_AX and SELECT_AX.
+fn with_axioms(recorder: &mut Recorder, alloc: Global) -> Result<Vec<Rec>, Fault>
     requires new { recorder.old.theory ≡ [] }
-    ensures ok { IfOk result (λ all. HasMade recorder.new.theory all.items (first_theorems ++ laws ++ disjunction_theorems ++ case_theorems ++ existence_theorems ++ axiom_theorems)) }
+    ensures ok { IfOk result (λ all. HasMade recorder.new.theory all.items (first_theorems ++ laws ++ falsity_laws ++ decider_laws ++ disjunction_theorems ++ case_theorems ++ existence_theorems ++ axiom_theorems)) }
     ensures made { IfOk result (λ all. AreMade recorder.new all.items) }
     ensures err { IfErr result (λ fault. fault ≡ Memory) }
     ensures grown { IsGrown recorder.old recorder.new }
 {
     match with_existence(recorder, alloc) {
         Ok(earlier) => make_table(recorder, alloc, earlier, &AXIOMS),
+        Err(fault) => Err(fault),
+    }
+}
+
+/// All theorems, the laws among them.
+pub(crate) fn with_middle(recorder: &mut Recorder, alloc: Global) -> Result<Vec<Rec>, Fault>
+    requires new { recorder.old.theory ≡ [] }
+    ensures ok { IfOk result (λ all. HasMade recorder.new.theory all.items (first_theorems ++ laws ++ falsity_laws ++ decider_laws ++ disjunction_theorems ++ case_theorems ++ existence_theorems ++ axiom_theorems ++ middle_theorems)) }
+    ensures made { IfOk result (λ all. AreMade recorder.new all.items) }
+    ensures err { IfErr result (λ fault. fault ≡ Memory) }
+    ensures grown { IsGrown recorder.old recorder.new }
+{
+    match with_axioms(recorder, alloc) {
+        Ok(earlier) => make_table(recorder, alloc, earlier, &MIDDLE),
         Err(fault) => Err(fault),
     }
 }

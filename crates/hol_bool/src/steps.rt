@@ -27,8 +27,8 @@ pub(crate) fn refl(recorder: &mut Recorder, alloc: Global, term: &Term) -> Resul
     recorder.refl(alloc, term)
 }
 
-// ASSUME, of a known formula.
-pub(crate) fn assume(recorder: &mut Recorder, alloc: Global, term: &Term) -> Result<Rec, Fault>
+/// ASSUME, of a known formula.
+pub fn assume(recorder: &mut Recorder, alloc: Global, term: &Term) -> Result<Rec, Fault>
     ensures continues { Continues recorder.old recorder.new result }
     ensures outcome { Answers (theorem_in result) (assume_outcome recorder.old.theory term.now) }
     ensures gives { IsKnown recorder.old.theory (image term.now) bool_type → Gives result (image term.now ∷ []) (image term.now) }
@@ -44,8 +44,8 @@ pub(crate) fn beta(recorder: &mut Recorder, alloc: Global, term: &Term) -> Resul
     recorder.beta(alloc, term)
 }
 
-// TRANS.
-pub(crate) fn trans(
+/// TRANS, of theorems that show sequents.
+pub fn trans(
     recorder: &mut Recorder,
     alloc: Global,
     first: &Rec,

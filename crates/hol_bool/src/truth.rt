@@ -11,7 +11,7 @@ const EQ_BOOL: TermSketch<'static> = TermSketch::Constant("=", &BINARY);
 
 pub(crate) const REFL_EQ_BOOL: Derivation<'static> = Derivation::Term(TermRule::Refl, &EQ_BOOL);
 
-const REFL_T: Derivation<'static> = Derivation::Term(TermRule::Refl, &T);
+pub(crate) const REFL_T: Derivation<'static> = Derivation::Term(TermRule::Refl, &T);
 
 const REFL_IDENTITY: Derivation<'static> = Derivation::Term(TermRule::Refl, &IDENTITY);
 

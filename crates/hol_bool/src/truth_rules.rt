@@ -6,13 +6,14 @@ ghost use Rattle.hol_bool.specs.Sequents.{Continues};
 
 use crate::equality::equation_parts;
 use crate::formula_terms::{equivalence, for_p, is_named, truth};
+use crate::numbers::{EQT_ELIM, EQT_INTRO};
 use crate::prelude_rules::{by_theorem, conclusion_of};
 use crate::stored::Bool;
 use hol_journal::{Rec, Recorder};
 use hol_model::Fault;
 use std::alloc::Global;
 
-/// EQT_INTRO: from `p`, `p <=> T`.
+/// EQT_INTRO: from `p`, `p <=> T`, in six steps.
 pub fn eqt_intro(
     recorder: &mut Recorder,
     alloc: Global,
@@ -37,10 +38,10 @@ pub fn eqt_intro(
         Ok(terms) => terms,
         Err(fault) => return Err(fault),
     };
-    by_theorem(recorder, alloc, logic, 9, &terms, &stated, premise)
+    by_theorem(recorder, alloc, logic, EQT_INTRO, &terms, &stated, premise)
 }
 
-/// EQT_ELIM: from `p <=> T`, `p`. Refused where the conclusion is no equation with `T` on its right.
+/// EQT_ELIM: from `p <=> T`, `p`, in six steps. Refused where the conclusion is no equation with `T` on its right.
 pub fn eqt_elim(
     recorder: &mut Recorder,
     alloc: Global,
@@ -63,5 +64,7 @@ pub fn eqt_elim(
         Ok(terms) => terms,
         Err(fault) => return Err(fault),
     };
-    by_theorem(recorder, alloc, logic, 10, &terms, parts.left, premise)
+    by_theorem(
+        recorder, alloc, logic, EQT_ELIM, &terms, parts.left, premise,
+    )
 }

@@ -1,16 +1,13 @@
 -- GEN: the parts of a call, and what it answers.
 use Rattle.std.proofs.Common.{◌≡◌, ℕ, List, [], ◌∷◌, map, Bool, true, false, ◌&&◌, ◌||◌, refl, sym, ◌∙◌, ap, subst, inl, inr, Option, Some, Result, Ok, Err, IfOk, arith}
-use Rattle.std.specs.Prelude.{codes}
 use Rattle.std.specs.List.{list_all}
 use Rattle.std.specs.Option.{option_map_or}
-use Rattle.std.proofs.lemmas.Bool.{le-leb}
 use Rattle.hol_model.specs.declared.fault.Fault.{Fault}
-use Rattle.hol_model.specs.declared.fault.Fault.TheVariants.{TooLarge, FreeInHypothesis}
-use Rattle.hol_model.specs.declared.limits.TheConstants.{TYPE_NODES_LIMIT}
+use Rattle.hol_model.specs.declared.fault.Fault.TheVariants.{FreeInHypothesis}
 use Rattle.hol_model.specs.HolType.{HolType, bool_type}
-use Rattle.hol_model.specs.NamedTerm.{NamedTerm, variable, constant, combination, abstraction, dest_variable, type_of, is_free, is_within_limits}
+use Rattle.hol_model.specs.NamedTerm.{NamedTerm, variable, constant, combination, abstraction, dest_variable, type_of, is_free}
 use Rattle.hol_model.specs.NamedLogic.{forall_term}
-use Rattle.hol_model.specs.Nameless.{Nameless, free, const, app, lam, image}
+use Rattle.hol_model.specs.Nameless.{Nameless, const, app, image}
 use Rattle.hol_model.specs.Measures.{nameless_within_limits}
 use Rattle.hol_model.specs.Logic.{forall_name, predicate, quantifier}
 use Rattle.hol_model.specs.Substitution.{occurs_free}
@@ -18,14 +15,11 @@ use Rattle.hol_model.specs.Theory.{Theory, IsLegal, IsKnown, IsKnownType}
 use Rattle.hol_model.specs.KnownTerm.{knows_type, is_known}
 use Rattle.hol_model.specs.Theorem.{Theorem, IsTheorem}
 use Rattle.hol_model.specs.Derivable.{NotFreeInAny, nameless_equation}
-use Rattle.hol_model.specs.Outcome.{Answers, unless}
-use Rattle.hol_model.specs.Rules.{is_free_in_hypotheses, limited, abstraction_outcome}
+use Rattle.hol_model.specs.Outcome.{Answers}
+use Rattle.hol_model.specs.Rules.{is_free_in_hypotheses, abstraction_outcome}
 use Rattle.hol_model.specs.DerivedRules.{Stated, AnswersStated, named, images, terms_of_theorem, terms_of_stated, is_roomy, is_free_in_some, gen_outcome}
-use Rattle.hol_model.proofs.HolTypeEq.{type_eq-self}
 use Rattle.hol_model.proofs.TypeTests.{knows_type-Decides}
 use Rattle.hol_model.proofs.Images.{image-abstraction, occurs_free-image}
-use Rattle.hol_model.proofs.Known.{close-known}
-use Rattle.hol_model.proofs.Measures.{past_limits-image}
 use Rattle.hol_model.proofs.Membership.{IsMember-append_right}
 use Rattle.hol_model.proofs.Tests.{first_of_both, second_of_both, first_of_neither, second_of_neither}
 use Rattle.hol_kernel.proofs.LimitLemmas.{limited-is, abstraction-limited}
@@ -34,11 +28,10 @@ use Rattle.hol_journal.proofs.Showing.{formula_of}
 use Rattle.hol_bool.specs.Sequents.{DerivesIf, IsPast}
 use Rattle.hol_bool.specs.Conversions.{closed}
 use Rattle.hol_bool.proofs.CutLemmas.{answers-stated, conclusion-known, formulas-within}
-use Rattle.hol_bool.proofs.Sizes.{IsSized, leaves_room, sized-app, sized-equation, sized-more, sized-within, past-room}
-use Rattle.hol_quant.specs.PredicateLemmas.{is_always, over_predicate, at_type, at_predicate, lemma_fits}
-use Rattle.hol_quant.proofs.RoomLemmas.{PredicateRoom, predicate-room, lemma-within, free-sized, const-sized}
-use Rattle.hol_quant.proofs.SpecLemmas.{over_predicate-at}
-use Rattle.hol_quant.proofs.GenLemmas.{truth}
+use Rattle.hol_bool.proofs.Sizes.{IsSized, leaves_room, sized-more, sized-within, past-room}
+use Rattle.hol_quant.specs.Universals.{for_all, MayGeneralize, FitsForAll}
+use Rattle.hol_quant.proofs.RoomLemmas.{PredicateRoom, predicate-room}
+use Rattle.hol_quant.proofs.ForAllLemmas.{limited-past}
 
 -- the variable, and hypotheses in which it is not free
 
@@ -55,7 +48,7 @@ pub free-same : (name : List ℕ) (ty : HolType) (hypotheses : List NamedTerm) �
 free-same name ty [] = refl
 free-same name ty (h ∷ hypotheses) = λ i. occurs_free-image name ty h i || free-same name ty hypotheses i
 
-in_none : (name : List ℕ) (ty : HolType) (terms : List Nameless) → is_free_in_some name ty terms ≡ false → NotFreeInAny name ty terms
+pub in_none : (name : List ℕ) (ty : HolType) (terms : List Nameless) → is_free_in_some name ty terms ≡ false → NotFreeInAny name ty terms
 in_none name ty [] fresh t m = absurd m
 in_none name ty (u ∷ terms) fresh t (inl e) = ap (occurs_free name ty) e ∙ first_of_neither (occurs_free name ty u) (is_free_in_some name ty terms) fresh
 in_none name ty (u ∷ terms) fresh t (inr m) = in_none name ty terms (second_of_neither (occurs_free name ty u) (is_free_in_some name ty terms) fresh) t m
@@ -95,14 +88,6 @@ gen-start journal legal made is_made is binder name ty dest known fresh =
       outcome = rw (dest, knows, free_nowhere) refl;
     }
 
-limited-past : (fault : Fault) (term : NamedTerm) (ty : HolType) → type_of term ≡ Some ty → Answers {A = NamedTerm} (Err fault) (limited term) → IsPast fault (nameless_within_limits (image term))
-limited-past fault term ty typed (inl memory) = inl memory
-limited-past fault term ty typed (inr refusal) = go (is_within_limits term) refl refusal
-  where
-    go : (test : Bool) → is_within_limits term ≡ test → unless {A = NamedTerm} test TooLarge (Ok term) ≡ Err fault → IsPast fault (nameless_within_limits (image term))
-    go true is refusal = cc
-    go false is refusal = let large : TooLarge ≡ fault = cc in inr (sym large, past_limits-image term ty typed is)
-
 module _ (theory : Theory) (premise : Theorem) (binder : NamedTerm) (name : List ℕ) (ty : HolType) (at : IsGeneral theory premise binder name ty) where
   abbrev p : Nameless
   p = image premise.conclusion
@@ -123,17 +108,11 @@ module _ (theory : Theory) (premise : Theorem) (binder : NamedTerm) (name : List
   pub function_image : image function ≡ closed name ty premise.conclusion
   function_image = image-abstraction name ty premise.conclusion
 
-  formula_image : image formula ≡ app (const forall_name (quantifier ty)) (closed name ty premise.conclusion)
+  pub formula_image : image formula ≡ app (const forall_name (quantifier ty)) (closed name ty premise.conclusion)
   formula_image = ap (app (const forall_name (quantifier ty))) function_image
 
   pub function_typed : type_of function ≡ Some (predicate ty)
   function_typed = rw at.typed refl
-
-  pub function_known : IsKnown theory (image function) (predicate ty)
-  function_known = subst (λ (t : Nameless). IsKnown theory t (predicate ty)) (sym function_image) (close-known theory name ty bool_type p at.knows at.known)
-
-  pub binder_known : IsKnown theory (image binder) ty
-  binder_known = subst (λ (t : NamedTerm). IsKnown theory (image t) ty) (sym at.binder_is) (record { typed = refl; parts = at.knows })
 
   pub gen-answers : (result : Result Recorded Fault) → DerivesIf (list_all is_roomy small) result (images premise) (image formula) → IfOk result (λ made. made.theorem.conclusion ≡ formula)
       → AnswersStated (theorem_in result) (terms_of_theorem premise) (gen_outcome theory binder premise)
@@ -147,7 +126,6 @@ module _ (theory : Theory) (premise : Theorem) (binder : NamedTerm) (name : List
 
   -- what leaves room
   record GenRoom : Type 0 where
-    conclusion_roomy : is_roomy p ≡ true
     formula_sized : IsSized 1000 5000 (app (const forall_name (quantifier ty)) (closed name ty premise.conclusion))
     parts : PredicateRoom name ty premise.conclusion
 
@@ -155,13 +133,9 @@ module _ (theory : Theory) (premise : Theorem) (binder : NamedTerm) (name : List
   gen-room all =
       let roomy = ap is_roomy (sym formula_image) ∙ first_of_both (is_roomy (image formula)) true (second_of_both (is_roomy p) (list_all is_roomy (image formula ∷ [])) all) in
       record {
-        conclusion_roomy = first_of_both (is_roomy p) (list_all is_roomy (image formula ∷ [])) all;
         formula_sized = (leaves_room (app (const forall_name (quantifier ty)) (closed name ty premise.conclusion)) roomy).sized;
         parts = predicate-room forall_name name ty premise.conclusion at.typed roomy;
       }
-
-  pub conclusion-roomy : list_all is_roomy small ≡ true → is_roomy p ≡ true
-  conclusion-roomy all = (gen-room all).conclusion_roomy
 
   -- \x. p
   pub abstraction-past : (fault : Fault) → Answers {A = NamedTerm} (Err fault) (abstraction_outcome binder premise.conclusion) → AnswersStated (Err fault) (terms_of_theorem premise) (gen_outcome theory binder premise)
@@ -177,45 +151,14 @@ module _ (theory : Theory) (premise : Theorem) (binder : NamedTerm) (name : List
   pub formula-within : list_all is_roomy small ≡ true → nameless_within_limits (app (const forall_name (quantifier ty)) (image function)) ≡ true
   formula-within all = ap nameless_within_limits formula_image ∙ sized-within 1000 5000 (app (const forall_name (quantifier ty)) (closed name ty premise.conclusion)) (gen-room all).formula_sized (omega arith) (omega arith)
 
-  -- (\x. p) = (\x. T)
-  abbrev pub always : Nameless
-  always = nameless_equation (predicate ty) (closed name ty premise.conclusion) (lam ty truth)
+  pub may-generalize : MayGeneralize theory premise binder name ty
+  may-generalize = record { binder_is = at.binder_is; type_known = at.knows; fresh = at.fresh }
 
-  always-sized : list_all is_roomy small ≡ true → IsSized 1002 5005 always
-  always-sized all =
-      let parts = (gen-room all).parts in
-      let few = parts.few in
-      let truths : IsSized 1000 2 (lam ty truth) = record { height = omega arith; nodes = omega arith; types = le-leb _ TYPE_NODES_LIMIT (omega arith) } in
-      sized-equation 1000 5000 2 (predicate ty) (closed name ty premise.conclusion) (lam ty truth) (omega arith) (omega arith) parts.function truths
-
-  pub always-within : list_all is_roomy small ≡ true → nameless_within_limits always ≡ true
-  always-within all = sized-within 1002 5005 always (always-sized all) (omega arith) (omega arith)
-
-  pub always-at : at_predicate ty function binder is_always ≡ always
-  always-at = at_type_of ∙ ap (λ (f : Nameless). nameless_equation (predicate ty) f (lam ty truth)) function_image
-    where
-      at_type_of : at_predicate ty function binder is_always ≡ nameless_equation (predicate ty) (image function) (lam ty truth)
-      at_type_of = rw (type_eq-self ty) refl
-
-  pub formula-at : at_predicate ty function binder (over_predicate forall_name) ≡ image formula
-  formula-at = over_predicate-at forall_name ty function binder
-
-  pub gen-lemma-within : list_all is_roomy small ≡ true → lemma_fits ty function binder is_always (over_predicate forall_name) ≡ true
-  gen-lemma-within all =
-      let room = gen-room all in
-      let few = room.parts.few in
-      let predicate_sized = free-sized (codes "P") (predicate ty) (omega arith) in
-      let quantifier_sized = const-sized forall_name (quantifier ty) (omega arith) in
-      let truths : IsSized 2 2 (lam ty truth) = record { height = omega arith; nodes = omega arith; types = le-leb _ TYPE_NODES_LIMIT (omega arith) } in
-      let generic_left : IsSized 4 6 (nameless_equation (predicate ty) (free (codes "P") (predicate ty)) (lam ty truth)) =
-      sized-equation 2 1 2 (predicate ty) (free (codes "P") (predicate ty)) (lam ty truth) (omega arith) (omega arith) (sized-more 1 1 2 1 (free (codes "P") (predicate ty)) predicate_sized (omega arith) (omega arith)) truths in
-      let generic_right : IsSized 2 3 (app (const forall_name (quantifier ty)) (free (codes "P") (predicate ty))) =
-      sized-app 1 1 1 (const forall_name (quantifier ty)) (free (codes "P") (predicate ty)) quantifier_sized predicate_sized in
-      lemma-within ty function binder is_always (over_predicate forall_name) always (app (const forall_name (quantifier ty)) (closed name ty premise.conclusion)) always-at (formula-at ∙ formula_image)
-      (sized-more 4 6 1100 12000 (at_type ty is_always) generic_left (omega arith) (omega arith))
-      (sized-more 2 3 1100 12000 (at_type ty (over_predicate forall_name)) generic_right (omega arith) (omega arith))
-      (sized-more 1002 5005 1100 12000 always (always-sized all) (omega arith) (omega arith))
-      (sized-more 1000 5000 1100 12000 (app (const forall_name (quantifier ty)) (closed name ty premise.conclusion)) room.formula_sized (omega arith) (omega arith))
+  pub gen-fits : FitsForAll (list_all is_roomy small) name ty premise.conclusion
+  gen-fits = record {
+    formula = λ all. sized-more 1000 5000 1900 900000 (for_all name ty premise.conclusion) (gen-room all).formula_sized (omega arith) (omega arith);
+    few = λ all. (gen-room all).parts.few;
+  }
 
   pub names-within : list_all is_roomy small ≡ true → nameless_within_limits (nameless_equation bool_type (image formula) (image formula)) ≡ true
   names-within all =

@@ -16,13 +16,13 @@ use Rattle.hol_model.specs.Outcome.{Answers}
 use Rattle.hol_model.specs.Constructors.{constant_outcome, function_type_outcome, combination_outcome}
 use Rattle.hol_model.specs.KnownTerm.{knows_types, knows_constants, has_instances}
 use Rattle.hol_model.specs.Instantiation.{replacements_refusal}
-use Rattle.hol_model.specs.DerivedRules.{is_roomy}
 use Rattle.hol_model.proofs.NamedTests.{is_known-Decides}
 use Rattle.hol_model.proofs.Outcomes.{passed_value}
 use Rattle.hol_bool.specs.Sequents.{IsPast}
 use Rattle.hol_bool.proofs.BetaLemmas.{applied-past}
 use Rattle.hol_bool.proofs.StepLemmas.{application}
-use Rattle.hol_bool.proofs.Sizes.{IsSized, leaves_room, sized-equation, sized-more, sized-within}
+use Rattle.hol_bool.specs.Room.{IsSized, FitsIf}
+use Rattle.hol_bool.proofs.Sizes.{sized-equation, sized-more, sized-within}
 
 -- p <=> T
 
@@ -44,19 +44,19 @@ formula-passes theory formula typed known =
     go true false instances known = cc
     go false constants instances known = cc
 
-truth-sized : IsSized 1000 1 truth
+pub truth-sized : IsSized 1900 1 truth
 truth-sized = record { height = omega arith; nodes = omega arith; types = refl }
 
-pub truth-fits : (p : Nameless) → is_roomy p ≡ true
+pub truth-fits : (room : Bool) (p : Nameless) → FitsIf room p → room ≡ true
     → list_all nameless_within_limits (nameless_equation bool_type proposition truth ∷ proposition ∷ nameless_equation bool_type p truth ∷ p ∷ nameless_equation bool_type p (nameless_equation bool_type p truth) ∷ []) ≡ true
-truth-fits p roomy =
-    let sized = (leaves_room p roomy).sized in
-    let equal = sized-equation 1000 5000 1 bool_type p truth (omega arith) (omega arith) sized truth-sized in
-    let both = sized-equation 1002 5000 5004 bool_type p (nameless_equation bool_type p truth) (omega arith) (omega arith) (sized-more 1000 5000 1002 5000 p sized (omega arith) (omega arith)) equal in
+truth-fits room p fits is =
+    let sized = fits is in
+    let equal = sized-equation 1900 900000 1 bool_type p truth (omega arith) (omega arith) sized truth-sized in
+    let both = sized-equation 1902 900000 900004 bool_type p (nameless_equation bool_type p truth) (omega arith) (omega arith) (sized-more 1900 900000 1902 900000 p sized (omega arith) (omega arith)) equal in
     rw (
-      sized-within 1002 5004 (nameless_equation bool_type p truth) equal (omega arith) (omega arith),
-      sized-within 1000 5000 p sized (omega arith) (omega arith),
-      sized-within 1004 10007 (nameless_equation bool_type p (nameless_equation bool_type p truth)) both (omega arith) (omega arith),
+      sized-within 1902 900004 (nameless_equation bool_type p truth) equal (omega arith) (omega arith),
+      sized-within 1900 900000 p sized (omega arith) (omega arith),
+      sized-within 1904 1800007 (nameless_equation bool_type p (nameless_equation bool_type p truth)) both (omega arith) (omega arith),
     ) refl
 
 -- !x. p

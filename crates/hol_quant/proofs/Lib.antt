@@ -3,5 +3,11 @@ pub mod PartLemmas
 pub mod RoomLemmas
 pub mod SpecLemmas
 pub mod GenLemmas
+pub mod ForAllLemmas
 pub mod GenAnswers
 pub mod PreludeParts
+pub mod WalkLemmas
+pub mod ExistsLemmas
+pub mod VariableLemmas
+pub mod ChooseLemmas
+pub mod ChooseAnswers

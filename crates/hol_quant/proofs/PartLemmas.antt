@@ -12,16 +12,7 @@ use Rattle.hol_model.specs.Theory.{Theory, IsKnown, generic_type, type_a}
 use Rattle.hol_model.proofs.Images.{image-type, image-abstraction}
 use Rattle.hol_model.proofs.Measures.{some_type}
 use Rattle.hol_bool.specs.Conversions.{closed}
-
-pub record IsQuantified (theory : Theory) (quantifier_name : List ℕ) (formula function binder body : NamedTerm) : Type 0 where
-  pub name : List ℕ
-  pub ty : HolType
-  pub function_is : function ≡ abstraction name ty body
-  pub binder_is : binder ≡ variable name ty
-  pub dest : dest_quantified quantifier_name formula ≡ Some (record { name = name; ty = ty; body = body })
-  pub formula_image : image formula ≡ app (const quantifier_name (quantifier ty)) (closed name ty body)
-  pub body_typed : type_of body ≡ Some bool_type
-  pub function_known : IsKnown theory (closed name ty body) (predicate ty)
+pub use Rattle.hol_quant.specs.QuantifiedParts.{IsQuantified}
 
 -- the type of the quantifier, and of the body
 record IsTyped (theory : Theory) (s : HolType) (name : List ℕ) (ty : HolType) (body : NamedTerm) : Type 0 where
@@ -70,10 +61,39 @@ same_pair name ty inner binder body same = (
   ap (λ (o : Option (NamedTerm × NamedTerm)). option_map_or (λ (p : NamedTerm × NamedTerm). p.1) o inner) same,
 )
 
+-- the parts of a formula with a quantifier over an abstraction
+pub record HasParts (quantifier_name : List ℕ) (formula function binder body : NamedTerm) : Type 0 where
+  pub name : List ℕ
+  pub ty : HolType
+  pub function_is : function ≡ abstraction name ty body
+  pub binder_is : binder ≡ variable name ty
+  pub dest : dest_quantified quantifier_name formula ≡ Some (record { name = name; ty = ty; body = body })
+
+parts-of : (quantifier_name : List ℕ) (constant_term function binder body : NamedTerm) → is_constant_named quantifier_name constant_term ≡ true → dest_abstraction function ≡ Some (binder, body)
+    → HasParts quantifier_name (combination constant_term function) function binder body
+parts-of quantifier_name (constant other s) (abstraction name ty inner) binder body is_named dest =
+    let same = same_pair name ty inner binder body dest in
+    record { name = name; ty = ty; function_is = ap (abstraction name ty) same.1; binder_is = sym same.0; dest = rw is_named (ap (λ (b : NamedTerm). Some (abstracted b)) same.1) }
+  where
+    abstracted : NamedTerm → Abstracted
+    abstracted b = record { name = name; ty = ty; body = b }
+parts-of quantifier_name (constant other s) (variable name ty) binder body is_named dest = cc
+parts-of quantifier_name (constant other s) (constant name ty) binder body is_named dest = cc
+parts-of quantifier_name (constant other s) (combination f x) binder body is_named dest = cc
+parts-of quantifier_name (variable other s) function binder body is_named dest = cc
+parts-of quantifier_name (combination f x) function binder body is_named dest = cc
+parts-of quantifier_name (abstraction other s inner) function binder body is_named dest = cc
+
+pub has-parts : (quantifier_name : List ℕ) (formula constant_term function binder body : NamedTerm) → formula ≡ combination constant_term function → is_constant_named quantifier_name constant_term ≡ true
+    → dest_abstraction function ≡ Some (binder, body) → HasParts quantifier_name formula function binder body
+has-parts quantifier_name formula constant_term function binder body is is_named dest =
+    subst (λ (t : NamedTerm). HasParts quantifier_name t function binder body) (sym is) (parts-of quantifier_name constant_term function binder body is_named dest)
+
 -- the parts of a formula that is known
 by_parts : (theory : Theory) (quantifier_name : List ℕ) → generic_type theory quantifier_name ≡ Some (quantifier type_a) → (constant_term function binder body : NamedTerm) (whole : HolType)
     → IsKnown theory (image (combination constant_term function)) whole → is_constant_named quantifier_name constant_term ≡ true → dest_abstraction function ≡ Some (binder, body)
     → IsQuantified theory quantifier_name (combination constant_term function) function binder body
+unfolding parts-of
 by_parts theory quantifier_name generic (constant other s) (abstraction name ty inner) binder body whole known is_named dest =
     let other_is : other ≡ quantifier_name = (bytes_eq-Decides other quantifier_name).0 is_named in
     let same = same_pair name ty inner binder body dest in
@@ -81,19 +101,17 @@ by_parts theory quantifier_name generic (constant other s) (abstraction name ty 
     let image_is : image (combination (constant other s) (abstraction name ty inner)) ≡ app (const quantifier_name s) (closed name ty body) =
     λ i. app (const (other_is i) s) ((image-abstraction name ty inner ∙ ap (closed name ty) inner_is) i) in
     let typed = typed-at theory quantifier_name generic s name ty body whole (subst (λ (t : Nameless). IsKnown theory t whole) image_is known) in
+    let parts = parts-of quantifier_name (constant other s) (abstraction name ty inner) binder body is_named dest in
     record {
       name = name;
       ty = ty;
-      function_is = ap (abstraction name ty) inner_is;
-      binder_is = sym same.0;
-      dest = rw is_named (ap (λ (b : NamedTerm). Some (abstracted b)) inner_is);
+      function_is = parts.function_is;
+      binder_is = parts.binder_is;
+      dest = parts.dest;
       formula_image = image_is ∙ ap (λ (q : HolType). app (const quantifier_name q) (closed name ty body)) typed.quantifier_type;
       body_typed = typed.body_typed;
       function_known = typed.function_known;
     }
-  where
-    abstracted : NamedTerm → Abstracted
-    abstracted b = record { name = name; ty = ty; body = b }
 by_parts theory quantifier_name generic (constant other s) (variable name ty) binder body whole known is_named dest = cc
 by_parts theory quantifier_name generic (constant other s) (constant name ty) binder body whole known is_named dest = cc
 by_parts theory quantifier_name generic (constant other s) (combination f x) binder body whole known is_named dest = cc

@@ -1,16 +1,17 @@
 -- What single theorems of the prelude show.
 use Rattle.std.proofs.Common.{◌≡◌, [], ◌∷◌, Some, subst}
-use Rattle.std.specs.Prelude.{slice_get}
+use Rattle.std.specs.Prelude.{slice_get, codes}
 use Rattle.hol_model.specs.Theorem.{Theorem}
 use Rattle.hol_model.specs.HolType.{bool_type}
 use Rattle.hol_model.specs.NamedTerm.{combination, equation}
-use Rattle.hol_model.specs.NamedLogic.{true_term}
+use Rattle.hol_model.specs.NamedLogic.{true_term, implication, forall_term}
+use Rattle.hol_model.specs.Theory.{type_a}
 use Rattle.hol_model.specs.Derivable.{nameless_equation}
-use Rattle.hol_model.specs.Logic.{forall_name}
+use Rattle.hol_model.specs.Logic.{forall_name, exists_name}
 use Rattle.hol_bool.specs.Sequents.{Shows}
-use Rattle.hol_bool.specs.Prelude.{prelude_theorems, shown, p, P, x, always, forall_P}
+use Rattle.hol_bool.specs.Prelude.{prelude_theorems, shown, p, q, P, x, P_x, always, forall_P, exists_P}
 use Rattle.hol_bool.proofs.CutLemmas.{shows-itself}
-use Rattle.hol_quant.specs.PredicateLemmas.{applied, over_predicate, is_always}
+use Rattle.hol_quant.specs.PredicateLemmas.{applied, over_predicate, is_always, eliminated}
 use Rattle.hol_quant.proofs.GenLemmas.{proposition, truth}
 
 same_theorem : (a b : Theorem) → Some a ≡ Some b → a ≡ b
@@ -33,3 +34,21 @@ pub forall-shows : (theorem : Theorem) → slice_get prelude_theorems 20 ≡ Som
 forall-shows theorem is =
     let stated : Theorem = shown (forall_P ∷ []) (combination P x) in
     subst (λ (t : Theorem). Shows t (over_predicate forall_name ∷ []) applied) (same_theorem stated theorem is) (shows-itself stated)
+
+-- p <=> T |- p
+pub back-shows : (theorem : Theorem) → slice_get prelude_theorems 10 ≡ Some theorem → Shows theorem (nameless_equation bool_type proposition truth ∷ []) proposition
+back-shows theorem is =
+    let stated : Theorem = shown (equation p true_term ∷ []) p in
+    subst (λ (t : Theorem). Shows t (nameless_equation bool_type proposition truth ∷ []) proposition) (same_theorem stated theorem is) (shows-itself stated)
+
+-- P x |- (?) P
+pub witness-shows : (theorem : Theorem) → slice_get prelude_theorems 30 ≡ Some theorem → Shows theorem (applied ∷ []) (over_predicate exists_name)
+witness-shows theorem is =
+    let stated : Theorem = shown (combination P x ∷ []) exists_P in
+    subst (λ (t : Theorem). Shows t (applied ∷ []) (over_predicate exists_name)) (same_theorem stated theorem is) (shows-itself stated)
+
+-- (?) P |- (!x. P x ==> q) ==> q
+pub exists-shows : (theorem : Theorem) → slice_get prelude_theorems 31 ≡ Some theorem → Shows theorem (over_predicate exists_name ∷ []) eliminated
+exists-shows theorem is =
+    let stated : Theorem = shown (exists_P ∷ []) (implication (forall_term (codes "x") type_a (implication P_x q)) q) in
+    subst (λ (t : Theorem). Shows t (over_predicate exists_name ∷ []) eliminated) (same_theorem stated theorem is) (shows-itself stated)

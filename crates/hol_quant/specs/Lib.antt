@@ -1,1 +1,4 @@
 pub mod PredicateLemmas
+pub mod QuantifiedParts
+pub mod Universals
+pub mod Witnesses

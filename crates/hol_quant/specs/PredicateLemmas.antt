@@ -1,12 +1,12 @@
--- Lemmas over a predicate `P` on the type variable `A` and an element `x`, at a predicate and an element.
+-- Lemmas over a predicate `P` on the type variable `A` and an element `x` or a formula `q`, at a predicate and at such.
 use Rattle.std.specs.Prelude.{ℕ, List, [], ◌∷◌, Bool, codes}
 use Rattle.std.specs.List.{list_all}
 use Rattle.hol_model.specs.HolType.{HolType, bool_type}
 use Rattle.hol_model.specs.NamedTerm.{NamedTerm, variable}
-use Rattle.hol_model.specs.Nameless.{Nameless, free, const, app, lam}
+use Rattle.hol_model.specs.Nameless.{Nameless, free, const, bound, app, lam}
 use Rattle.hol_model.specs.Measures.{nameless_within_limits}
 use Rattle.hol_model.specs.Instantiation.{instantiate_all}
-use Rattle.hol_model.specs.Logic.{true_term, predicate, quantifier}
+use Rattle.hol_model.specs.Logic.{true_term, predicate, quantifier, implication, forall_term}
 use Rattle.hol_model.specs.Theory.{type_a}
 use Rattle.hol_model.specs.Derivable.{nameless_equation}
 use Rattle.hol_bool.specs.Sequents.{instance_of}
@@ -27,6 +27,18 @@ lemma_fits ty function element p q =
     let right : Nameless = at_predicate ty function element q in
     list_all nameless_within_limits (at_type ty q ∷ at_type ty p ∷ right ∷ left ∷ nameless_equation bool_type left right ∷ [])
 
+-- and with the predicate for `P` and a formula for `q`
+abbrev pub at_formula : HolType → NamedTerm → NamedTerm → Nameless → Nameless
+at_formula ty function formula term =
+    instance_of ((ty, type_a) ∷ []) ((function, variable (codes "P") (predicate ty)) ∷ (formula, variable (codes "q") bool_type) ∷ []) term
+
+-- so are they there
+abbrev pub formula_lemma_fits : HolType → NamedTerm → NamedTerm → Nameless → Nameless → Bool
+formula_lemma_fits ty function formula p q =
+    let left : Nameless = at_formula ty function formula p in
+    let right : Nameless = at_formula ty function formula q in
+    list_all nameless_within_limits (at_type ty q ∷ at_type ty p ∷ right ∷ left ∷ nameless_equation bool_type left right ∷ [])
+
 -- P x
 abbrev pub applied : Nameless
 applied = app (free (codes "P") (predicate type_a)) (free (codes "x") type_a)
@@ -38,3 +50,9 @@ over_predicate quantifier_name = app (const quantifier_name (quantifier type_a))
 -- P = (\x. T)
 abbrev pub is_always : Nameless
 is_always = nameless_equation (predicate type_a) (free (codes "P") (predicate type_a)) (lam type_a true_term)
+
+-- (!x. P x ==> q) ==> q
+abbrev pub eliminated : Nameless
+eliminated =
+    let q : Nameless = free (codes "q") bool_type in
+    implication (forall_term type_a (implication (app (free (codes "P") (predicate type_a)) (bound 0)) q)) q

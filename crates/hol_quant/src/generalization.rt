@@ -1,22 +1,24 @@
 // GEN, over the lemmas `p |- p <=> T` and `P = (\x. T) |- (!) P`.
-ghost use Rattle.std.specs.Prelude.{◌≡◌, ◌∷◌, [], Some, IfOk, IfErr, codes};
+ghost use Rattle.std.specs.Prelude.{◌≡◌, ◌∷◌, ℕ, List, [], Some, IfOk, IfErr, codes};
 ghost use Rattle.hol_model.specs.declared.fault.Fault.TheVariants.{Memory};
 ghost use Rattle.hol_model.specs.HolType.{HolType, bool_type};
 ghost use Rattle.hol_model.specs.Logic.{forall_name, predicate, quantifier};
 ghost use Rattle.hol_model.specs.Measures.{nameless_within_limits};
 ghost use Rattle.hol_model.specs.NamedLogic.{true_term};
-ghost use Rattle.hol_model.specs.NamedTerm.{variable, constant, combination, type_of};
+ghost use Rattle.hol_model.specs.NamedTerm.{variable, constant, combination, abstraction, type_of};
 ghost use Rattle.hol_model.specs.Nameless.{free, const, app, image};
 ghost use Rattle.hol_model.specs.Derivable.{nameless_equation};
 ghost use Rattle.hol_model.specs.Rules.{is_free_in_hypotheses};
-ghost use Rattle.hol_model.specs.DerivedRules.{AnswersStated, images, is_roomy, terms_of_theorem, gen_outcome};
+ghost use Rattle.hol_model.specs.DerivedRules.{AnswersStated, images, terms_of_theorem, gen_outcome};
 ghost use Rattle.hol_journal.specs.Journal.{IsMade, theorem_in};
 ghost use Rattle.hol_bool.specs.HasLogic.{HasLogic};
+ghost use Rattle.hol_bool.specs.Room.{Room, FitsIf};
 ghost use Rattle.hol_bool.specs.Sequents.{Shows, DerivesIf, IsPast, Continues};
 ghost use Rattle.hol_quant.specs.PredicateLemmas.{is_always, over_predicate};
+ghost use Rattle.hol_quant.specs.Universals.{for_all, MayGeneralize, FitsForAll};
 
 use crate::instances::by_predicate_lemma;
-use hol_bool::{Bool, abs, by_lemma, named, theorem_of};
+use hol_bool::{Bool, abs, by_lemma, conclusion_of, named, theorem_of};
 use hol_journal::{Rec, Recorder};
 use hol_model::Fault;
 use hol_terms::{Term, is_free};
@@ -24,7 +26,7 @@ use hol_types::Ty;
 use std::alloc::Global;
 
 // The formula, for the variable `p`.
-fn formula_pair(alloc: Global, formula: &Term) -> Result<(Term, Term), Fault>
+pub(crate) fn formula_pair(alloc: Global, formula: &Term) -> Result<(Term, Term), Fault>
     ensures ok { IfOk result (λ pair. pair ≡ (formula.now, variable (codes "p") bool_type)) }
     ensures err { IfErr result (λ fault. fault ≡ Memory) }
 {
@@ -35,7 +37,7 @@ fn formula_pair(alloc: Global, formula: &Term) -> Result<(Term, Term), Fault>
 }
 
 // From `p`, `p <=> T`.
-fn equal_to_truth(
+pub(crate) fn equal_to_truth(
     recorder: &mut Recorder,
     alloc: Global,
     lemma: &Rec,
@@ -45,7 +47,7 @@ fn equal_to_truth(
     requires shows { Shows lemma.now.theorem (free (codes "p") bool_type ∷ []) (nameless_equation bool_type (free (codes "p") bool_type) (image true_term)) }
     requires premise { IsMade recorder.old premise.now }
     ensures continues { Continues recorder.old recorder.new result }
-    ensures derives { DerivesIf (is_roomy (image premise.now.theorem.conclusion)) result (images premise.now.theorem) (nameless_equation bool_type (image premise.now.theorem.conclusion) (image true_term)) }
+    ensures derives { (room : Room) → FitsIf room (image premise.now.theorem.conclusion) → DerivesIf room result (images premise.now.theorem) (nameless_equation bool_type (image premise.now.theorem.conclusion) (image true_term)) }
 {
     recorder.theory_is_legal();
     let of_formula = match formula_pair(alloc, recorder.thm(premise).concl()) {
@@ -85,6 +87,68 @@ fn is_free_in_some(hypotheses: &[Term], name: &str, ty: &Ty) -> bool
         .any(|hypothesis| is_free(hypothesis, name, ty))
 }
 
+// From `p` and the term `\x. p`, `!x. p` up to the names of bound variables, with the room that it needs.
+#[tactic(auto, using(hol_bool::proofs::StepLemmas::still_made, hol_bool::proofs::StepLemmas::now_made))]
+fn over_all(
+    recorder: &mut Recorder,
+    alloc: Global,
+    truth_lemma: &Rec,
+    forall_lemma: &Rec,
+    binder: &Term,
+    function: &Term,
+    premise: &Rec,
+) -> Result<Rec, Fault>
+    requires truth_lemma { IsMade recorder.old truth_lemma.now }
+    requires truth_shows { Shows truth_lemma.now.theorem (free (codes "p") bool_type ∷ []) (nameless_equation bool_type (free (codes "p") bool_type) (image true_term)) }
+    requires forall_lemma { IsMade recorder.old forall_lemma.now }
+    requires forall_shows { Shows forall_lemma.now.theorem (is_always ∷ []) (over_predicate forall_name) }
+    requires premise { IsMade recorder.old premise.now }
+    ensures continues { Continues recorder.old recorder.new result }
+    ensures derives { (name : List ℕ) (ty : HolType) (room : Room) → MayGeneralize recorder.old.theory premise.now.theorem binder.now name ty → function.now ≡ abstraction name ty premise.now.theorem.conclusion → FitsForAll room name ty premise.now.theorem.conclusion → DerivesIf room result (images premise.now.theorem) (for_all name ty premise.now.theorem.conclusion) }
+{
+    let _formula = conclusion_of(recorder, premise);
+    let equal = match equal_to_truth(recorder, alloc, truth_lemma, premise) {
+        Ok(equal) => equal,
+        Err(fault) => return Err(fault),
+    };
+    let always = match abs(recorder, alloc, binder, &equal) {
+        Ok(always) => always,
+        Err(fault) => return Err(fault),
+    };
+    by_predicate_lemma(recorder, alloc, forall_lemma, function, binder, &always)
+}
+
+// GEN, with the room that it needs: from `p`, `!x. p` up to the names of bound variables.
+pub(crate) fn generalized_up_to_names(
+    recorder: &mut Recorder,
+    alloc: Global,
+    logic: &Bool,
+    binder: &Term,
+    premise: &Rec,
+) -> Result<Rec, Fault>
+    requires logic { HasLogic recorder.old logic.now }
+    requires premise { IsMade recorder.old premise.now }
+    ensures continues { Continues recorder.old recorder.new result }
+    ensures derives { (name : List ℕ) (ty : HolType) (room : Room) → MayGeneralize recorder.old.theory premise.now.theorem binder.now name ty → FitsForAll room name ty premise.now.theorem.conclusion → DerivesIf room result (images premise.now.theorem) (for_all name ty premise.now.theorem.conclusion) }
+{
+    let truth_lemma = theorem_of(recorder, logic, 9);
+    let forall_lemma = theorem_of(recorder, logic, 19);
+    let formula = conclusion_of(recorder, premise);
+    let function = match Term::mk_abs(alloc, binder, formula) {
+        Ok(function) => function,
+        Err(fault) => return Err(fault),
+    };
+    over_all(
+        recorder,
+        alloc,
+        truth_lemma,
+        forall_lemma,
+        binder,
+        &function,
+        premise,
+    )
+}
+
 // From `p`, `!x. p`.
 fn generalized(
     recorder: &mut Recorder,
@@ -121,21 +185,14 @@ fn generalized(
         Ok(formula) => formula,
         Err(fault) => return Err(fault),
     };
-    let equal = match equal_to_truth(recorder, alloc, truth_lemma, premise) {
-        Ok(equal) => equal,
-        Err(fault) => return Err(fault),
-    };
-    let always = match abs(recorder, alloc, binder, &equal) {
-        Ok(always) => always,
-        Err(fault) => return Err(fault),
-    };
-    let answer = match by_predicate_lemma(
+    let answer = match over_all(
         recorder,
         alloc,
+        truth_lemma,
         forall_lemma,
-        &function,
         binder,
-        &always,
+        &function,
+        premise,
     ) {
         Ok(answer) => answer,
         Err(fault) => return Err(fault),

@@ -1,14 +1,15 @@
-// Instances of lemmas over a predicate `P` and an element `x`.
+// Instances of lemmas over a predicate `P` and an element `x`, or a formula `q`.
 ghost use Rattle.std.specs.Prelude.{◌≡◌, ◌∷◌, List, [], Some, IfOk, IfErr, codes};
 ghost use Rattle.hol_model.specs.declared.fault.Fault.TheVariants.{Memory};
-ghost use Rattle.hol_model.specs.HolType.{HolType};
+ghost use Rattle.hol_model.specs.HolType.{HolType, bool_type};
 ghost use Rattle.hol_model.specs.Logic.{predicate};
 ghost use Rattle.hol_model.specs.NamedTerm.{variable, type_of};
 ghost use Rattle.hol_model.specs.Nameless.{Nameless, image};
 ghost use Rattle.hol_model.specs.Theory.{IsKnown, type_a};
 ghost use Rattle.hol_journal.specs.Journal.{IsMade};
+ghost use Rattle.hol_bool.specs.Formulas.{IsFormula};
 ghost use Rattle.hol_bool.specs.Sequents.{Shows, DerivesIf, Continues};
-ghost use Rattle.hol_quant.specs.PredicateLemmas.{at_predicate, lemma_fits};
+ghost use Rattle.hol_quant.specs.PredicateLemmas.{at_predicate, lemma_fits, at_formula, formula_lemma_fits};
 
 use hol_bool::by_lemma;
 use hol_journal::{Rec, Recorder};
@@ -75,5 +76,49 @@ pub(crate) fn by_predicate_lemma(
     };
     let types = [of_type];
     let terms = [of_predicate, of_element];
+    by_lemma(recorder, alloc, &types, &terms, lemma, premise)
+}
+
+// The formula, for the variable `q`.
+fn formula_pair(alloc: Global, formula: &Term) -> Result<(Term, Term), Fault>
+    ensures ok { IfOk result (λ pair. pair ≡ (formula.now, variable (codes "q") bool_type)) }
+    ensures err { IfErr result (λ fault. fault ≡ Memory) }
+{
+    let new = formula.copy(alloc)?;
+    let boolean = Ty::boolean(alloc)?;
+    let old = Term::mk_var(alloc, "q", &boolean)?;
+    Ok((new, old))
+}
+
+// From the lemma's hypothesis at a predicate for `P`, on the type of an element, and a formula for `q`, its conclusion
+// there.
+pub(crate) fn by_formula_lemma(
+    recorder: &mut Recorder,
+    alloc: Global,
+    lemma: &Rec,
+    function: &Term,
+    element: &Term,
+    formula: &Term,
+    premise: &Rec,
+) -> Result<Rec, Fault>
+    requires lemma { IsMade recorder.old lemma.now }
+    requires premise { IsMade recorder.old premise.now }
+    ensures continues { Continues recorder.old recorder.new result }
+    ensures derives { (ty : HolType) → IsKnown recorder.old.theory (image function.now) (predicate ty) → IsKnown recorder.old.theory (image element.now) ty → IsFormula recorder.old.theory formula.now → (h : List Nameless) (p q : Nameless) → Shows lemma.now.theorem (p ∷ []) q → Shows premise.now.theorem h (at_formula ty function.now formula.now p) → DerivesIf (formula_lemma_fits ty function.now formula.now p q) result h (at_formula ty function.now formula.now q) }
+{
+    let of_type = match type_pair(alloc, element) {
+        Ok(of_type) => of_type,
+        Err(fault) => return Err(fault),
+    };
+    let of_predicate = match predicate_pair(alloc, function) {
+        Ok(of_predicate) => of_predicate,
+        Err(fault) => return Err(fault),
+    };
+    let of_formula = match formula_pair(alloc, formula) {
+        Ok(of_formula) => of_formula,
+        Err(fault) => return Err(fault),
+    };
+    let types = [of_type];
+    let terms = [of_predicate, of_formula];
     by_lemma(recorder, alloc, &types, &terms, lemma, premise)
 }

@@ -9,7 +9,7 @@ use Rattle.hol_model.specs.Name.{is_type_variable_name}
 use Rattle.hol_model.specs.Token.{Token, Name, Mark}
 use Rattle.hol_model.specs.TypeGrammar.{TypeTree}
 use Rattle.hol_model.specs.TermGrammar.{TermTree, IsWithin}
-use Rattle.hol_model.specs.Commands.{RuleTree, by_term, by_pair, by_abs, by_inst, by_inst_type, by_axiom, kind_of, quoted, pair_tokens, further_tokens, first_tokens, list_tokens, term_pair, type_pair, argument_tokens, ArePairs, AreTypePairs, IsQuotable, IsRuleTree}
+use Rattle.hol_model.specs.Commands.{RuleTree, by_term, by_pair, by_abs, by_inst, by_inst_type, by_axiom, by_derived, kind_of, quoted, pair_tokens, further_tokens, first_tokens, list_tokens, term_pair, type_pair, argument_tokens, ArePairs, AreTypePairs, IsQuotable, IsRuleTree}
 use Rattle.hol_syntax.specs.declared.token.Token.{Token as TokenHere}
 use Rattle.hol_syntax.specs.declared.type_reader.ReadError.{ReadError}
 use Rattle.hol_syntax.specs.declared.type_reader.ReadError.TheVariants.{Memory, Syntax}
@@ -240,6 +240,7 @@ inst-refused Syntax tokens refused = go
     go (by_abs argument a) grammatical kind same = cc
     go (by_inst_type trees a) grammatical kind same = cc
     go (by_axiom named) grammatical kind same = cc
+    go (by_derived derived) grammatical kind same = cc
 
 pub inst_type-refused : (error : ReadError) (tokens : List Token) → ParsesPairs (Err error) tokens → ParsesArguments (Err error) InstType tokens
 inst_type-refused Memory tokens refused = tt
@@ -252,6 +253,7 @@ inst_type-refused Syntax tokens refused = go
     go (by_abs argument a) grammatical kind same = cc
     go (by_inst trees a) grammatical kind same = cc
     go (by_axiom named) grammatical kind same = cc
+    go (by_derived derived) grammatical kind same = cc
 
 -- pairs that are not read are no arguments of them
 pub inst-unread : (error : ReadError) (tokens : List Token) (pairs : List Parts) (name : List ℕ) → AreUnquoted pairs → tokens ≡ list_tokens pairs (Name name ∷ []) → ParsesTermPairs (Err error) pairs
@@ -267,6 +269,7 @@ inst-unread Syntax tokens pairs name unquoted read refused = go
     go (by_abs argument a) grammatical kind same = cc
     go (by_inst_type trees a) grammatical kind same = cc
     go (by_axiom named) grammatical kind same = cc
+    go (by_derived derived) grammatical kind same = cc
 
 pub inst_type-unread : (error : ReadError) (tokens : List Token) (pairs : List Parts) (name : List ℕ) → AreUnquoted pairs → tokens ≡ list_tokens pairs (Name name ∷ []) → ParsesTypePairs (Err error) pairs
     → ParsesArguments (Err error) InstType tokens
@@ -281,6 +284,7 @@ inst_type-unread Syntax tokens pairs name unquoted read refused = go
     go (by_abs argument a) grammatical kind same = cc
     go (by_inst trees a) grammatical kind same = cc
     go (by_axiom named) grammatical kind same = cc
+    go (by_derived derived) grammatical kind same = cc
 
 -- ---- the loop over a list
 

@@ -1,6 +1,7 @@
 -- Names among tokens, where quoted terms end, and which words name rules.
 use Rattle.std.proofs.Common.{◌≡◌, ◌≢◌, ℕ, zero, suc, ◌+◌, ◌-◌, ◌<◌, ◌≤◌, arith, List, [], ◌∷◌, ◌++◌, length, get_or, take, drop, ◌==◌, eqb-true, Bool, true, false, ◌||◌, refl, sym, ◌∙◌, ap, subst, Option, None, Some, Result, Ok, Err, Bor, Vec, Global}
 use Rattle.std.specs.Prelude.{codes, if◌then◌else◌}
+use Rattle.std.specs.Option.{option_map}
 use Rattle.std.specs.Str.{bytes_eq}
 use Rattle.std.proofs.lemmas.Slice.Eq.{bytes_eq-Decides}
 use Rattle.std.proofs.lemmas.List.{take_all, length-drop}
@@ -8,18 +9,22 @@ use borrow.Author.Count.{below_more}
 use Rattle.hol_model.specs.Name.{is_capital, is_small, continues_name, all_continue, is_identifier}
 use Rattle.hol_model.specs.declared.symbol.Symbol.{Symbol}
 use Rattle.hol_model.specs.declared.symbol.Symbol.TheVariants.{Backquote, Colon, Equal}
-use Rattle.hol_model.specs.declared.rule.TermRule.{TermRule}
 use Rattle.hol_model.specs.declared.rule.TermRule.TheVariants.{Refl, Beta, Assume}
 use Rattle.hol_model.specs.declared.rule.PairRule.TheVariants.{Trans, MkComb, EqMp, DeductAntisym}
 use Rattle.hol_model.specs.declared.rule.Axiom.TheVariants.{Eta, Select}
+use Rattle.hol_model.specs.declared.rule.PremiseRule.TheVariants.{Sym, EqtIntro, EqtElim, Conjunct1, Conjunct2, Undisch, NotIntro, NotElim}
+use Rattle.hol_model.specs.declared.rule.PremisesRule.TheVariants.{ProveHyp, Conj, Mp}
+use Rattle.hol_model.specs.declared.rule.TermPremiseRule.TheVariants.{AddAssum, Disch, Spec, Gen, Disj1, Disj2, Contr}
+use Rattle.hol_model.specs.declared.rule.DerivedKind.{DerivedKind}
+use Rattle.hol_model.specs.declared.rule.DerivedKind.TheVariants.{BetaConv, Premise, Premises, TermPremise, DisjCases, Exists as ExistsRule, Choose}
 use Rattle.hol_model.specs.declared.rule.RuleKind.{RuleKind}
-use Rattle.hol_model.specs.declared.rule.RuleKind.TheVariants.{Term, Pair, Abs, Inst, InstType, Axiom as OfAxiom}
+use Rattle.hol_model.specs.declared.rule.RuleKind.TheVariants.{Term, Pair, Abs, Inst, InstType, Axiom as OfAxiom, Derived}
 use Rattle.hol_model.specs.Token.{Token, Name, Number, Mark}
 use Rattle.hol_model.specs.Lexing.{Lexes, IsToken, IsIdentifier, Every, is_name_byte}
 use Rattle.hol_model.specs.TypeGrammar.{TypeTree, Named, Enclosed, Function, type_tokens}
 use Rattle.hol_model.specs.TermGrammar.{Bare, Variable, Constant, TermTree, Leaf, Apply, Not, Join, Bind, IsConstantName, IsTermTree, Infix, IffInfix, ImpliesInfix, OrInfix, AndInfix, EqualInfix, Binder, Lambda, ForAll, Exists, Choice, Lexeme, InfixPiece, BinderPiece, pieces, all_tokens, IsReadTerm}
 use Rattle.hol_model.specs.TermGrammar.{Enclosed as EnclosedTerm}
-use Rattle.hol_model.specs.Commands.{RuleTree, by_term, by_pair, by_abs, by_inst, by_inst_type, by_axiom, CommandTree, thm_command, show_command, var_command, def_command, newtype_command, newconst_command, kind_of, rule_word, quoted, quote_tokens, argument_tokens, rule_tokens, command_tokens, IsQuotable, IsRuleTree, IsCommandTree, IsReadCommand}
+use Rattle.hol_model.specs.Commands.{DerivedTree, by_conversion, by_premise, by_premises, by_term_and_premise, by_cases, by_witness, by_choice, derived_kind_of, derived_word, derived_tokens, IsDerivedTree, RuleTree, CommandTree, thm_command, show_command, var_command, def_command, newtype_command, newconst_command, kind_of, rule_word, quoted, quote_tokens, argument_tokens, rule_tokens, command_tokens, IsQuotable, IsCommandTree, IsReadCommand}
 use Rattle.hol_model.proofs.Tests.{both}
 use Rattle.hol_syntax.specs.declared.token.Token.{Token as TokenHere}
 use Rattle.hol_syntax.specs.declared.token.Token.TheVariants.{Name as NameHere}
@@ -29,7 +34,7 @@ use Rattle.hol_syntax.specs.declared.type_reader.ReadError.TheVariants.{Memory, 
 use Rattle.hol_syntax.specs.declared.type_reader.TypeStep.{TypeStep}
 use Rattle.hol_syntax.specs.TermStates.{Parses}
 use Rattle.hol_syntax.specs.TypeStates.{ParsesType}
-use Rattle.hol_script.specs.Reading.{AreTokens, is_quote, HasNoQuote, rule_kind_of, kind_of_command, command_word, command_kind_of, name_in_command, body_tokens, ParsesQuote, ParsesTyping, ParsesArguments, ParsesRule, ParsesBody, ParsesCommand}
+use Rattle.hol_script.specs.Reading.{AreTokens, is_quote, HasNoQuote, derived_kind_of_word, rule_kind_of, kind_of_command, command_word, command_kind_of, name_in_command, body_tokens, ParsesQuote, ParsesOnlyQuote, ParsesQuoteAndName, ParsesTyping, ParsesDerived, ParsesArguments, ParsesRule, ParsesBody, ParsesCommand}
 use Rattle.hol_script.specs.declared.command.Rule.{Rule}
 use Rattle.hol_script.specs.declared.command.Command.{Command}
 use Rattle.hol_script.specs.declared.command.CommandKind.{CommandKind}
@@ -223,27 +228,58 @@ behind-quote tokens rest tree same all = go (all_tokens (pieces tree [])) (subst
     go [] all = all.1
     go (token ∷ before) all = go before all.1
 
--- a quoted term with more behind it is no argument of a rule for a term
-pub more-behind : (rule : TermRule) (tokens : List Token) (rest : List TokenHere) (tree : TermTree) → IsQuotable tree → tokens ≡ quote_tokens tree (tokens_of rest) → 1 ≤ length rest
-    → (other : RuleTree) → IsRuleTree other → kind_of other ≡ Term rule → tokens ≢ argument_tokens other
-more-behind rule tokens rest tree quotable read more (by_term named argument) grammatical kind same =
-    some-left rest more (same_rest tokens (tokens_of rest) [] tree argument quotable grammatical read same)
-more-behind rule tokens rest tree quotable read more (by_pair named a b) grammatical kind same = cc
-more-behind rule tokens rest tree quotable read more (by_abs argument a) grammatical kind same = cc
-more-behind rule tokens rest tree quotable read more (by_inst pairs a) grammatical kind same = cc
-more-behind rule tokens rest tree quotable read more (by_inst_type pairs a) grammatical kind same = cc
-more-behind rule tokens rest tree quotable read more (by_axiom named) grammatical kind same = cc
+-- a quoted term with more behind it is no quoted term alone
+pub more-behind : (tokens : List Token) (rest : List TokenHere) (tree : TermTree) → IsQuotable tree → tokens ≡ quote_tokens tree (tokens_of rest) → 1 ≤ length rest → ParsesOnlyQuote (Err Syntax) tokens
+more-behind tokens rest tree quotable read more = λ other grammatical same. some-left rest more (same_rest tokens (tokens_of rest) [] tree other quotable grammatical read same)
 
--- a quoted term with no name alone behind it is no argument of ABS
-pub no-name-behind : (tokens rest : List Token) (tree : TermTree) → IsQuotable tree → tokens ≡ quote_tokens tree rest → ((name : List ℕ) → rest ≢ Name name ∷ [])
-    → (other : RuleTree) → IsRuleTree other → kind_of other ≡ Abs → tokens ≢ argument_tokens other
-no-name-behind tokens rest tree quotable read none (by_abs argument a) grammatical kind same =
-    none a (same_rest tokens rest (Name a ∷ []) tree argument quotable grammatical read same)
-no-name-behind tokens rest tree quotable read none (by_term named argument) grammatical kind same = cc
-no-name-behind tokens rest tree quotable read none (by_pair named a b) grammatical kind same = cc
-no-name-behind tokens rest tree quotable read none (by_inst pairs a) grammatical kind same = cc
-no-name-behind tokens rest tree quotable read none (by_inst_type pairs a) grammatical kind same = cc
-no-name-behind tokens rest tree quotable read none (by_axiom named) grammatical kind same = cc
+-- nor is it a quoted term and a name, where what is behind it is no name alone
+pub no-name-behind : (tokens rest : List Token) (tree : TermTree) → IsQuotable tree → tokens ≡ quote_tokens tree rest → ((name : List ℕ) → rest ≢ Name name ∷ []) → ParsesQuoteAndName (Err Syntax) tokens
+no-name-behind tokens rest tree quotable read none = λ other name grammatical same. none name (same_rest tokens rest (Name name ∷ []) tree other quotable grammatical read same)
+
+-- ---- arguments of derived rules
+
+-- the tokens are no arguments of a derived rule of this kind
+abbrev IsNoDerived : DerivedKind → List Token → Type 0
+IsNoDerived BetaConv tokens = (tree : TermTree) → IsQuotable tree → tokens ≢ quote_tokens tree []
+IsNoDerived (Premise rule) tokens = (name : List ℕ) → tokens ≢ Name name ∷ []
+IsNoDerived (Premises rule) tokens = (first second : List ℕ) → tokens ≢ Name first ∷ Name second ∷ []
+IsNoDerived (TermPremise rule) tokens = (tree : TermTree) (name : List ℕ) → IsQuotable tree → tokens ≢ quote_tokens tree (Name name ∷ [])
+IsNoDerived DisjCases tokens = (theorem first second : List ℕ) → tokens ≢ Name theorem ∷ Name first ∷ Name second ∷ []
+IsNoDerived ExistsRule tokens =
+    (formula witness : TermTree) (name : List ℕ) → IsQuotable formula → IsQuotable witness → tokens ≢ quote_tokens formula (quote_tokens witness (Name name ∷ []))
+IsNoDerived Choose tokens = (tree : TermTree) (first second : List ℕ) → IsQuotable tree → tokens ≢ quote_tokens tree (Name first ∷ Name second ∷ [])
+
+pub derived-refused : (kind : DerivedKind) (tokens : List Token) → IsNoDerived kind tokens → ParsesDerived (Err Syntax) kind tokens
+derived-refused kind tokens none = λ tree grammatical same. go tree grammatical (subst (λ (k : DerivedKind). IsNoDerived k tokens) (sym same) none)
+  where
+    go : (tree : DerivedTree) → IsDerivedTree tree → IsNoDerived (derived_kind_of tree) tokens → tokens ≢ derived_tokens tree
+    go (by_conversion tree) grammatical none same = none tree grammatical same
+    go (by_premise rule a) grammatical none same = none a same
+    go (by_premises rule a b) grammatical none same = none a b same
+    go (by_term_and_premise rule tree a) grammatical none same = none tree a grammatical same
+    go (by_cases a b c) grammatical none same = none a b c same
+    go (by_witness formula witness a) grammatical none same = none formula witness a grammatical.0 grammatical.1 same
+    go (by_choice tree a b) grammatical none same = none tree a b grammatical same
+
+-- a quoted term with no two names alone behind it
+pub no-two-names-behind : (tokens rest : List Token) (tree : TermTree) → IsQuotable tree → tokens ≡ quote_tokens tree rest → ((first second : List ℕ) → rest ≢ Name first ∷ Name second ∷ []) → ParsesDerived (Err Syntax) Choose tokens
+no-two-names-behind tokens rest tree quotable read none = derived-refused Choose tokens (λ other first second grammatical same.
+    none first second (same_rest tokens rest (Name first ∷ Name second ∷ []) tree other quotable grammatical read same))
+
+-- a quoted formula with no quoted witness and name behind it
+pub no-witness-behind : (error : ReadError) (tokens rest : List Token) (tree : TermTree) → IsQuotable tree → tokens ≡ quote_tokens tree rest → ParsesQuoteAndName (Err error) rest → ParsesDerived (Err error) ExistsRule tokens
+no-witness-behind Memory tokens rest tree quotable read refused = tt
+no-witness-behind Syntax tokens rest tree quotable read refused = derived-refused ExistsRule tokens (λ formula witness name grammatical other same.
+    refused witness name other (same_rest tokens rest (quote_tokens witness (Name name ∷ [])) tree formula quotable grammatical read same))
+
+-- a refusal of the quoted term at the front is one of the arguments
+pub witness-unquoted : (error : ReadError) (tokens : List Token) → ParsesQuote (Err error) tokens → ParsesDerived (Err error) ExistsRule tokens
+witness-unquoted Memory tokens refused = tt
+witness-unquoted Syntax tokens refused = derived-refused ExistsRule tokens (λ formula witness name grammatical other. refused formula (quote_tokens witness (Name name ∷ [])) grammatical)
+
+pub choice-unquoted : (error : ReadError) (tokens : List Token) → ParsesQuote (Err error) tokens → ParsesDerived (Err error) Choose tokens
+choice-unquoted Memory tokens refused = tt
+choice-unquoted Syntax tokens refused = derived-refused Choose tokens (λ tree first second grammatical. refused tree (Name first ∷ Name second ∷ []) grammatical)
 
 -- ---- words
 
@@ -260,30 +296,82 @@ word-kind Inst = refl
 word-kind InstType = refl
 word-kind (OfAxiom Eta) = refl
 word-kind (OfAxiom Select) = refl
+word-kind (Derived BetaConv) = refl
+word-kind (Derived (Premise Sym)) = refl
+word-kind (Derived (Premise EqtIntro)) = refl
+word-kind (Derived (Premise EqtElim)) = refl
+word-kind (Derived (Premise Conjunct1)) = refl
+word-kind (Derived (Premise Conjunct2)) = refl
+word-kind (Derived (Premise Undisch)) = refl
+word-kind (Derived (Premise NotIntro)) = refl
+word-kind (Derived (Premise NotElim)) = refl
+word-kind (Derived (Premises ProveHyp)) = refl
+word-kind (Derived (Premises Conj)) = refl
+word-kind (Derived (Premises Mp)) = refl
+word-kind (Derived (TermPremise AddAssum)) = refl
+word-kind (Derived (TermPremise Disch)) = refl
+word-kind (Derived (TermPremise Spec)) = refl
+word-kind (Derived (TermPremise Gen)) = refl
+word-kind (Derived (TermPremise Disj1)) = refl
+word-kind (Derived (TermPremise Disj2)) = refl
+word-kind (Derived (TermPremise Contr)) = refl
+word-kind (Derived DisjCases) = refl
+word-kind (Derived ExistsRule) = refl
+word-kind (Derived Choose) = refl
 
 -- one test of a chain
-chosen : (word name : List ℕ) (here kind : RuleKind) (others : Option RuleKind) → name ≡ rule_word here → (if bytes_eq word name then Some here else others) ≡ Some kind
-    → (others ≡ Some kind → word ≡ rule_word kind) → word ≡ rule_word kind
-chosen word name here kind others named found later = go (bytes_eq word name) refl found
+chosen : {Kind : Type 0} (spelling : Kind → List ℕ) (word name : List ℕ) (here kind : Kind) (others : Option Kind) → name ≡ spelling here
+    → (if bytes_eq word name then Some here else others) ≡ Some kind → (others ≡ Some kind → word ≡ spelling kind) → word ≡ spelling kind
+chosen {Kind = Kind} spelling word name here kind others named found later = go (bytes_eq word name) refl found
   where
-    go : (test : Bool) → bytes_eq word name ≡ test → (if test then Some here else others) ≡ Some kind → word ≡ rule_word kind
-    go true passed found = (let same : here ≡ kind = cc in (bytes_eq-Decides word name).0 passed ∙ named ∙ ap rule_word same)
+    go : (test : Bool) → bytes_eq word name ≡ test → (if test then Some here else others) ≡ Some kind → word ≡ spelling kind
+    go true passed found = (let same : here ≡ kind = cc in (bytes_eq-Decides word name).0 passed ∙ named ∙ ap spelling same)
     go false failed found = later found
+
+derived-kind-word : (word : List ℕ) (kind : DerivedKind) → derived_kind_of_word word ≡ Some kind → word ≡ derived_word kind
+derived-kind-word word kind found =
+    chosen derived_word word (codes "BETA_CONV") BetaConv kind _ refl found (λ found.
+    chosen derived_word word (codes "SYM") (Premise Sym) kind _ refl found (λ found.
+    chosen derived_word word (codes "EQT_INTRO") (Premise EqtIntro) kind _ refl found (λ found.
+    chosen derived_word word (codes "EQT_ELIM") (Premise EqtElim) kind _ refl found (λ found.
+    chosen derived_word word (codes "CONJUNCT1") (Premise Conjunct1) kind _ refl found (λ found.
+    chosen derived_word word (codes "CONJUNCT2") (Premise Conjunct2) kind _ refl found (λ found.
+    chosen derived_word word (codes "UNDISCH") (Premise Undisch) kind _ refl found (λ found.
+    chosen derived_word word (codes "NOT_INTRO") (Premise NotIntro) kind _ refl found (λ found.
+    chosen derived_word word (codes "NOT_ELIM") (Premise NotElim) kind _ refl found (λ found.
+    chosen derived_word word (codes "PROVE_HYP") (Premises ProveHyp) kind _ refl found (λ found.
+    chosen derived_word word (codes "CONJ") (Premises Conj) kind _ refl found (λ found.
+    chosen derived_word word (codes "MP") (Premises Mp) kind _ refl found (λ found.
+    chosen derived_word word (codes "ADD_ASSUM") (TermPremise AddAssum) kind _ refl found (λ found.
+    chosen derived_word word (codes "DISCH") (TermPremise Disch) kind _ refl found (λ found.
+    chosen derived_word word (codes "SPEC") (TermPremise Spec) kind _ refl found (λ found.
+    chosen derived_word word (codes "GEN") (TermPremise Gen) kind _ refl found (λ found.
+    chosen derived_word word (codes "DISJ1") (TermPremise Disj1) kind _ refl found (λ found.
+    chosen derived_word word (codes "DISJ2") (TermPremise Disj2) kind _ refl found (λ found.
+    chosen derived_word word (codes "CONTR") (TermPremise Contr) kind _ refl found (λ found.
+    chosen derived_word word (codes "DISJ_CASES") DisjCases kind _ refl found (λ found.
+    chosen derived_word word (codes "EXISTS") ExistsRule kind _ refl found (λ found.
+    chosen derived_word word (codes "CHOOSE") Choose kind None refl found (λ found. cc))))))))))))))))))))))
+
+-- the last test of the chain
+behind-tests : (word : List ℕ) (kind : RuleKind) (known : Option DerivedKind) → derived_kind_of_word word ≡ known → option_map Derived known ≡ Some kind → word ≡ rule_word kind
+behind-tests word kind (Some derived) is found = (let same : Derived derived ≡ kind = cc in derived-kind-word word derived is ∙ ap rule_word same)
+behind-tests word kind None is found = cc
 
 pub kind-word : (word : List ℕ) (kind : RuleKind) → rule_kind_of word ≡ Some kind → word ≡ rule_word kind
 kind-word word kind found =
-    chosen word (codes "REFL") (Term Refl) kind _ refl found (λ found.
-    chosen word (codes "BETA") (Term Beta) kind _ refl found (λ found.
-    chosen word (codes "ASSUME") (Term Assume) kind _ refl found (λ found.
-    chosen word (codes "TRANS") (Pair Trans) kind _ refl found (λ found.
-    chosen word (codes "MK_COMB") (Pair MkComb) kind _ refl found (λ found.
-    chosen word (codes "EQ_MP") (Pair EqMp) kind _ refl found (λ found.
-    chosen word (codes "DEDUCT_ANTISYM_RULE") (Pair DeductAntisym) kind _ refl found (λ found.
-    chosen word (codes "ABS") Abs kind _ refl found (λ found.
-    chosen word (codes "INST") Inst kind _ refl found (λ found.
-    chosen word (codes "INST_TYPE") InstType kind _ refl found (λ found.
-    chosen word (codes "ETA") (OfAxiom Eta) kind _ refl found (λ found.
-    chosen word (codes "SELECT") (OfAxiom Select) kind None refl found (λ found. cc))))))))))))
+    chosen rule_word word (codes "REFL") (Term Refl) kind _ refl found (λ found.
+    chosen rule_word word (codes "BETA") (Term Beta) kind _ refl found (λ found.
+    chosen rule_word word (codes "ASSUME") (Term Assume) kind _ refl found (λ found.
+    chosen rule_word word (codes "TRANS") (Pair Trans) kind _ refl found (λ found.
+    chosen rule_word word (codes "MK_COMB") (Pair MkComb) kind _ refl found (λ found.
+    chosen rule_word word (codes "EQ_MP") (Pair EqMp) kind _ refl found (λ found.
+    chosen rule_word word (codes "DEDUCT_ANTISYM_RULE") (Pair DeductAntisym) kind _ refl found (λ found.
+    chosen rule_word word (codes "ABS") Abs kind _ refl found (λ found.
+    chosen rule_word word (codes "INST") Inst kind _ refl found (λ found.
+    chosen rule_word word (codes "INST_TYPE") InstType kind _ refl found (λ found.
+    chosen rule_word word (codes "ETA") (OfAxiom Eta) kind _ refl found (λ found.
+    chosen rule_word word (codes "SELECT") (OfAxiom Select) kind _ refl found (λ found. behind-tests word kind (derived_kind_of_word word) refl found))))))))))))
 
 -- ---- rules
 
@@ -318,23 +406,14 @@ command-kind Def = refl
 command-kind NewType = refl
 command-kind NewConst = refl
 
--- one test of a chain
-chosen-command : (word name : List ℕ) (here kind : CommandKind) (others : Option CommandKind) → name ≡ command_word here → (if bytes_eq word name then Some here else others) ≡ Some kind
-    → (others ≡ Some kind → word ≡ command_word kind) → word ≡ command_word kind
-chosen-command word name here kind others named found later = go (bytes_eq word name) refl found
-  where
-    go : (test : Bool) → bytes_eq word name ≡ test → (if test then Some here else others) ≡ Some kind → word ≡ command_word kind
-    go true passed found = (let same : here ≡ kind = cc in (bytes_eq-Decides word name).0 passed ∙ named ∙ ap command_word same)
-    go false failed found = later found
-
 pub kind-command : (word : List ℕ) (kind : CommandKind) → command_kind_of word ≡ Some kind → word ≡ command_word kind
 kind-command word kind found =
-    chosen-command word (codes "thm") Thm kind _ refl found (λ found.
-    chosen-command word (codes "show") Show kind _ refl found (λ found.
-    chosen-command word (codes "var") Var kind _ refl found (λ found.
-    chosen-command word (codes "def") Def kind _ refl found (λ found.
-    chosen-command word (codes "newtype") NewType kind _ refl found (λ found.
-    chosen-command word (codes "newconst") NewConst kind None refl found (λ found. cc))))))
+    chosen command_word word (codes "thm") Thm kind _ refl found (λ found.
+    chosen command_word word (codes "show") Show kind _ refl found (λ found.
+    chosen command_word word (codes "var") Var kind _ refl found (λ found.
+    chosen command_word word (codes "def") Def kind _ refl found (λ found.
+    chosen command_word word (codes "newtype") NewType kind _ refl found (λ found.
+    chosen command_word word (codes "newconst") NewConst kind None refl found (λ found. cc))))))
 
 -- a command is its word, its name and what follows them
 pub command-parts : (tree : CommandTree) → command_tokens tree ≡ Name (command_word (kind_of_command tree)) ∷ Name (name_in_command tree) ∷ body_tokens tree
@@ -447,15 +526,9 @@ def-unquoted name tokens rest begins none = go
     go (newtype_command other) grammatical kind same = cc
     go (newconst_command other tree) grammatical kind same = cc
 
-pub def-refused : (error : ReadError) (name : List ℕ) (tokens rest : List Token) → tokens ≡ Mark Equal ∷ rest → ParsesQuote (Err error) rest → ParsesBody (Err error) Def name tokens
+pub def-refused : (error : ReadError) (name : List ℕ) (tokens rest : List Token) → tokens ≡ Mark Equal ∷ rest → ParsesOnlyQuote (Err error) rest → ParsesBody (Err error) Def name tokens
 def-refused Memory name tokens rest begins refused = tt
-def-refused Syntax name tokens rest begins refused = def-unquoted name tokens rest begins (λ tree quotable. refused tree [] quotable)
-
--- a quoted term with more behind it is no body of `def`
-pub def-followed : (name : List ℕ) (tokens rest : List Token) (more : List TokenHere) (tree : TermTree) → tokens ≡ Mark Equal ∷ rest → IsQuotable tree → rest ≡ quote_tokens tree (tokens_of more) → 1 ≤ length more
-    → ParsesBody (Err Syntax) Def name tokens
-def-followed name tokens rest more tree begins quotable read some =
-    def-unquoted name tokens rest begins (λ other grammatical same. some-left more some (same_rest rest (tokens_of more) [] tree other quotable grammatical read same))
+def-refused Syntax name tokens rest begins refused = def-unquoted name tokens rest begins refused
 
 -- without an equals sign there is no body of `thm` or `def`
 pub thm-unequal : (name : List ℕ) (tokens : List Token) → ((rest : List Token) → tokens ≢ Mark Equal ∷ rest) → ParsesBody (Err Syntax) Thm name tokens

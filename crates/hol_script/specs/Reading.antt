@@ -1,5 +1,6 @@
 -- What the readers of commands answer.
 use Rattle.std.specs.Prelude.{◌≡◌, ◌≢◌, ℕ, List, [], ◌∷◌, Bool, true, false, Option, None, Some, Result, Ok, Err, codes, if◌then◌else◌}
+use Rattle.std.specs.Option.{option_map}
 use Rattle.std.specs.Str.{bytes_eq}
 use Rattle.std.proofs.Common.{Vec, Bor, Global}
 use Rattle.hol_model.specs.declared.symbol.Symbol.{Symbol}
@@ -7,13 +8,18 @@ use Rattle.hol_model.specs.declared.symbol.Symbol.TheVariants.{Backquote, Colon,
 use Rattle.hol_model.specs.declared.rule.TermRule.TheVariants.{Refl, Beta, Assume}
 use Rattle.hol_model.specs.declared.rule.PairRule.TheVariants.{Trans, MkComb, EqMp, DeductAntisym}
 use Rattle.hol_model.specs.declared.rule.Axiom.TheVariants.{Eta, Select}
+use Rattle.hol_model.specs.declared.rule.PremiseRule.TheVariants.{Sym, EqtIntro, EqtElim, Conjunct1, Conjunct2, Undisch, NotIntro, NotElim}
+use Rattle.hol_model.specs.declared.rule.PremisesRule.TheVariants.{ProveHyp, Conj, Mp}
+use Rattle.hol_model.specs.declared.rule.TermPremiseRule.TheVariants.{AddAssum, Disch, Spec, Gen, Disj1, Disj2, Contr}
+use Rattle.hol_model.specs.declared.rule.DerivedKind.{DerivedKind}
+use Rattle.hol_model.specs.declared.rule.DerivedKind.TheVariants.{BetaConv, Premise, Premises, TermPremise, DisjCases, Exists, Choose}
 use Rattle.hol_model.specs.declared.rule.RuleKind.{RuleKind}
-use Rattle.hol_model.specs.declared.rule.RuleKind.TheVariants.{Term, Pair, Abs, Inst, InstType, Axiom as OfAxiom}
+use Rattle.hol_model.specs.declared.rule.RuleKind.TheVariants.{Term, Pair, Abs, Inst, InstType, Axiom as OfAxiom, Derived}
 use Rattle.hol_model.specs.Token.{Token, Name, Mark}
 use Rattle.hol_model.specs.Lexing.{IsToken}
 use Rattle.hol_model.specs.TypeGrammar.{TypeTree, type_tokens, type_steps}
 use Rattle.hol_model.specs.TermGrammar.{TermTree, IsWithin}
-use Rattle.hol_model.specs.Commands.{RuleTree, CommandTree, thm_command, show_command, var_command, def_command, newtype_command, newconst_command, kind_of, quoted, quote_tokens, argument_tokens, rule_tokens, IsQuotable, IsRuleTree, IsCommandTree, IsReadCommand}
+use Rattle.hol_model.specs.Commands.{DerivedTree, derived_kind_of, derived_tokens, IsDerivedTree, RuleTree, CommandTree, thm_command, show_command, var_command, def_command, newtype_command, newconst_command, kind_of, quoted, quote_tokens, argument_tokens, rule_tokens, IsQuotable, IsRuleTree, IsCommandTree, IsReadCommand}
 use Rattle.hol_syntax.specs.declared.token.Token.{Token as TokenHere}
 use Rattle.hol_syntax.specs.declared.type_reader.ReadError.{ReadError}
 use Rattle.hol_syntax.specs.declared.type_reader.ReadError.TheVariants.{Memory, Syntax}
@@ -22,11 +28,12 @@ use Rattle.hol_syntax.specs.declared.steps.TermStep.{TermStep}
 use Rattle.hol_syntax.specs.Views.{tokens_of, steps_of}
 use Rattle.hol_syntax.specs.Steps.{flat_steps_of}
 use Rattle.hol_syntax.specs.TermSteps.{term_steps, flat_steps}
+use Rattle.hol_script.specs.declared.derived.Derived.{Derived as OfDerived}
 use Rattle.hol_script.specs.declared.command.Rule.{Rule}
 use Rattle.hol_script.specs.declared.command.Command.{Command}
 use Rattle.hol_script.specs.declared.command.CommandKind.{CommandKind}
 use Rattle.hol_script.specs.declared.command.CommandKind.TheVariants.{Thm, Show, Var, Def, NewType, NewConst}
-use Rattle.hol_script.specs.Views.{IsRule, IsCommand}
+use Rattle.hol_script.specs.Views.{IsDerived, IsRule, IsCommand}
 
 -- each of them is a token
 abbrev pub AreTokens : List Token → Type 0
@@ -40,6 +47,10 @@ TakesName (Some x) tokens = tokens ≡ Name x.0.now ∷ tokens_of x.1.now
 abbrev pub TakesOnlyName : Option (Bor (List ℕ)) → List Token → Type 0
 TakesOnlyName None tokens = (name : List ℕ) → tokens ≢ Name name ∷ []
 TakesOnlyName (Some x) tokens = tokens ≡ Name x.now ∷ []
+
+abbrev pub TakesOnlyTwoNames : Option (Bor (List ℕ) × Bor (List ℕ)) → List Token → Type 0
+TakesOnlyTwoNames None tokens = (first second : List ℕ) → tokens ≢ Name first ∷ Name second ∷ []
+TakesOnlyTwoNames (Some x) tokens = tokens ≡ Name x.0.now ∷ Name x.1.now ∷ []
 
 abbrev pub TakesMark : Option (Bor (List TokenHere)) → Symbol → List Token → Type 0
 TakesMark None symbol tokens = (rest : List Token) → tokens ≢ Mark symbol ∷ rest
@@ -69,6 +80,46 @@ ParsesQuote (Ok x) tokens =
 ParsesQuote (Err Memory) tokens = Unit {0}
 ParsesQuote (Err Syntax) tokens = (tree : TermTree) (rest : List Token) → IsQuotable tree → tokens ≢ quote_tokens tree rest
 
+-- a quoted term and nothing else
+abbrev pub ParsesOnlyQuote : Result (Vec TermStep Global) ReadError → List Token → Type 0
+ParsesOnlyQuote (Ok steps) tokens =
+    (tree : TermTree) × IsQuotable tree × (tokens ≡ quote_tokens tree []) × (flat_steps_of steps.items ≡ flat_steps (term_steps tree))
+ParsesOnlyQuote (Err Memory) tokens = Unit {0}
+ParsesOnlyQuote (Err Syntax) tokens = (tree : TermTree) → IsQuotable tree → tokens ≢ quote_tokens tree []
+
+-- a quoted term, a name and nothing else
+abbrev pub ParsesQuoteAndName : Result (Vec TermStep Global × Bor (List ℕ)) ReadError → List Token → Type 0
+ParsesQuoteAndName (Ok x) tokens =
+    (tree : TermTree) × IsQuotable tree × (tokens ≡ quote_tokens tree (Name x.1.now ∷ [])) × (flat_steps_of x.0.items ≡ flat_steps (term_steps tree))
+ParsesQuoteAndName (Err Memory) tokens = Unit {0}
+ParsesQuoteAndName (Err Syntax) tokens = (tree : TermTree) (name : List ℕ) → IsQuotable tree → tokens ≢ quote_tokens tree (Name name ∷ [])
+
+-- the kind of derived rule that a word names
+abbrev pub derived_kind_of_word : List ℕ → Option DerivedKind
+derived_kind_of_word word =
+    if bytes_eq word (codes "BETA_CONV") then Some BetaConv else
+    (if bytes_eq word (codes "SYM") then Some (Premise Sym) else
+    (if bytes_eq word (codes "EQT_INTRO") then Some (Premise EqtIntro) else
+    (if bytes_eq word (codes "EQT_ELIM") then Some (Premise EqtElim) else
+    (if bytes_eq word (codes "CONJUNCT1") then Some (Premise Conjunct1) else
+    (if bytes_eq word (codes "CONJUNCT2") then Some (Premise Conjunct2) else
+    (if bytes_eq word (codes "UNDISCH") then Some (Premise Undisch) else
+    (if bytes_eq word (codes "NOT_INTRO") then Some (Premise NotIntro) else
+    (if bytes_eq word (codes "NOT_ELIM") then Some (Premise NotElim) else
+    (if bytes_eq word (codes "PROVE_HYP") then Some (Premises ProveHyp) else
+    (if bytes_eq word (codes "CONJ") then Some (Premises Conj) else
+    (if bytes_eq word (codes "MP") then Some (Premises Mp) else
+    (if bytes_eq word (codes "ADD_ASSUM") then Some (TermPremise AddAssum) else
+    (if bytes_eq word (codes "DISCH") then Some (TermPremise Disch) else
+    (if bytes_eq word (codes "SPEC") then Some (TermPremise Spec) else
+    (if bytes_eq word (codes "GEN") then Some (TermPremise Gen) else
+    (if bytes_eq word (codes "DISJ1") then Some (TermPremise Disj1) else
+    (if bytes_eq word (codes "DISJ2") then Some (TermPremise Disj2) else
+    (if bytes_eq word (codes "CONTR") then Some (TermPremise Contr) else
+    (if bytes_eq word (codes "DISJ_CASES") then Some DisjCases else
+    (if bytes_eq word (codes "EXISTS") then Some Exists else
+    (if bytes_eq word (codes "CHOOSE") then Some Choose else None)))))))))))))))))))))
+
 -- the kind of rule that a word names
 abbrev pub rule_kind_of : List ℕ → Option RuleKind
 rule_kind_of word =
@@ -83,7 +134,13 @@ rule_kind_of word =
     (if bytes_eq word (codes "INST") then Some Inst else
     (if bytes_eq word (codes "INST_TYPE") then Some InstType else
     (if bytes_eq word (codes "ETA") then Some (OfAxiom Eta) else
-    (if bytes_eq word (codes "SELECT") then Some (OfAxiom Select) else None)))))))))))
+    (if bytes_eq word (codes "SELECT") then Some (OfAxiom Select) else option_map Derived (derived_kind_of_word word))))))))))))
+
+abbrev pub ParsesDerived : Result OfDerived ReadError → DerivedKind → List Token → Type 0
+ParsesDerived (Ok derived) kind tokens =
+    (tree : DerivedTree) × IsDerivedTree tree × (derived_kind_of tree ≡ kind) × (tokens ≡ derived_tokens tree) × IsDerived derived tree
+ParsesDerived (Err Memory) kind tokens = Unit {0}
+ParsesDerived (Err Syntax) kind tokens = (tree : DerivedTree) → IsDerivedTree tree → derived_kind_of tree ≡ kind → tokens ≢ derived_tokens tree
 
 abbrev pub ParsesArguments : Result Rule ReadError → RuleKind → List Token → Type 0
 ParsesArguments (Ok rule) kind tokens =

@@ -18,27 +18,60 @@ pub(crate) struct StoredTheorem<'a> {
     pub(crate) number: usize,
 }
 
-const T_DEF: StoredTheorem<'static> = StoredTheorem { name: "T_DEF", number: 0 };
+const T_DEF: StoredTheorem<'static> = StoredTheorem {
+    name: "T_DEF",
+    number: 0,
+};
 
-const AND_DEF: StoredTheorem<'static> = StoredTheorem { name: "AND_DEF", number: 1 };
+const AND_DEF: StoredTheorem<'static> = StoredTheorem {
+    name: "AND_DEF",
+    number: 1,
+};
 
-const IMP_DEF: StoredTheorem<'static> = StoredTheorem { name: "IMP_DEF", number: 2 };
+const IMP_DEF: StoredTheorem<'static> = StoredTheorem {
+    name: "IMP_DEF",
+    number: 2,
+};
 
-const FORALL_DEF: StoredTheorem<'static> = StoredTheorem { name: "FORALL_DEF", number: 3 };
+const FORALL_DEF: StoredTheorem<'static> = StoredTheorem {
+    name: "FORALL_DEF",
+    number: 3,
+};
 
-const EXISTS_DEF: StoredTheorem<'static> = StoredTheorem { name: "EXISTS_DEF", number: 4 };
+const EXISTS_DEF: StoredTheorem<'static> = StoredTheorem {
+    name: "EXISTS_DEF",
+    number: 4,
+};
 
-const OR_DEF: StoredTheorem<'static> = StoredTheorem { name: "OR_DEF", number: 5 };
+const OR_DEF: StoredTheorem<'static> = StoredTheorem {
+    name: "OR_DEF",
+    number: 5,
+};
 
-const F_DEF: StoredTheorem<'static> = StoredTheorem { name: "F_DEF", number: 6 };
+const F_DEF: StoredTheorem<'static> = StoredTheorem {
+    name: "F_DEF",
+    number: 6,
+};
 
-const NOT_DEF: StoredTheorem<'static> = StoredTheorem { name: "NOT_DEF", number: 7 };
+const NOT_DEF: StoredTheorem<'static> = StoredTheorem {
+    name: "NOT_DEF",
+    number: 7,
+};
 
-const TRUTH: StoredTheorem<'static> = StoredTheorem { name: "TRUTH", number: 8 };
+const TRUTH: StoredTheorem<'static> = StoredTheorem {
+    name: "TRUTH",
+    number: 8,
+};
 
-const ETA_AX: StoredTheorem<'static> = StoredTheorem { name: "ETA_AX", number: 32 };
+const ETA_AX: StoredTheorem<'static> = StoredTheorem {
+    name: "ETA_AX",
+    number: 32,
+};
 
-const SELECT_AX: StoredTheorem<'static> = StoredTheorem { name: "SELECT_AX", number: 33 };
+const SELECT_AX: StoredTheorem<'static> = StoredTheorem {
+    name: "SELECT_AX",
+    number: 33,
+};
 
 const EXCLUDED_MIDDLE: StoredTheorem<'static> = StoredTheorem {
     name: "EXCLUDED_MIDDLE",

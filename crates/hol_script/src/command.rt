@@ -1,16 +1,17 @@
 // Commands, read from the tokens of a text.
 ghost use Rattle.std.specs.Prelude.{◌≡◌};
 ghost use Rattle.hol_syntax.specs.Views.{tokens_of};
-ghost use Rattle.hol_script.specs.Reading.{AreTokens, rule_kind_of, command_kind_of, ParsesQuote, ParsesTyping, ParsesArguments, ParsesRule, ParsesBody, ParsesCommand};
+ghost use Rattle.hol_script.specs.Reading.{AreTokens, rule_kind_of, command_kind_of, ParsesTyping, ParsesArguments, ParsesRule, ParsesBody, ParsesCommand};
 ghost use Rattle.hol_script.specs.Pairs.{ParsesPairs};
 
-use crate::derived::Derived;
+use crate::derived::{Derived, derived_kind, parse_derived};
 use crate::pairs::{
     QuotedPair, TermPair, TypePair, parse_term_pairs, parse_type_pairs, take_pairs,
 };
-use crate::tokens::{only_name, take_mark, take_name, take_quote};
-use hol_model::{Axiom, PairRule, RuleKind, Symbol, TermRule};
-use hol_syntax::{ReadError, TermStep, Token, TypeStep, parse_term, parse_type};
+use crate::quotes::{parse_only_quote, parse_quote_and_name};
+use crate::tokens::{only_name, only_two_names, take_mark, take_name};
+use hol_model::{Axiom, DerivedKind, PairRule, RuleKind, Symbol, TermRule};
+use hol_syntax::{ReadError, TermStep, Token, TypeStep, parse_type};
 use std::alloc::Global;
 
 /// A rule with its arguments: terms and types by their steps, theorems and type variables by their names.
@@ -47,22 +48,6 @@ enum CommandKind {
     NewConst,
 }
 
-// The term between two backquotes at the front, and what follows them.
-fn parse_quote<'a>(
-    alloc: Global,
-    tokens: &'a [Token<'a>],
-) -> Result<(Vec<TermStep<'a>>, &'a [Token<'a>]), ReadError>
-    ensures { ParsesQuote result (tokens_of tokens.now) }
-{
-    let Some((inner, rest)) = take_quote(tokens) else {
-        return Err(ReadError::Syntax);
-    };
-    match parse_term(alloc, inner) {
-        Ok(steps) => Ok((steps, rest)),
-        Err(error) => Err(error),
-    }
-}
-
 // The kind of rule that a word names.
 fn rule_kind(word: &str) -> Option<RuleKind>
     ensures { result ≡ rule_kind_of word.now }
@@ -92,7 +77,10 @@ fn rule_kind(word: &str) -> Option<RuleKind>
     } else if word == "SELECT" {
         Some(RuleKind::Axiom(Axiom::Select))
     } else {
-        None
+        match derived_kind(word) {
+            Some(kind) => Some(RuleKind::Derived(kind)),
+            None => None,
+        }
     }
 }
 
@@ -104,9 +92,8 @@ fn parse_term_rule<'a>(
 ) -> Result<Rule<'a>, ReadError>
     ensures { ParsesArguments result (RuleKind.Term rule) (tokens_of tokens.now) }
 {
-    match parse_quote(alloc, tokens) {
-        Ok((steps, [])) => Ok(Rule::OfTerm(rule, steps)),
-        Ok(_) => Err(ReadError::Syntax),
+    match parse_only_quote(alloc, tokens) {
+        Ok(steps) => Ok(Rule::OfTerm(rule, steps)),
         Err(error) => Err(error),
     }
 }
@@ -116,11 +103,8 @@ fn parse_pair_rule<'a>(rule: PairRule, tokens: &'a [Token<'a>]) -> Result<Rule<'
     requires { AreTokens (tokens_of tokens.now) }
     ensures { ParsesArguments result (RuleKind.Pair rule) (tokens_of tokens.now) }
 {
-    let Some((first, rest)) = take_name(tokens) else {
-        return Err(ReadError::Syntax);
-    };
-    match only_name(rest) {
-        Some(second) => Ok(Rule::OfTheorems(rule, first, second)),
+    match only_two_names(tokens) {
+        Some((first, second)) => Ok(Rule::OfTheorems(rule, first, second)),
         None => Err(ReadError::Syntax),
     }
 }
@@ -130,11 +114,8 @@ fn parse_abs<'a>(alloc: Global, tokens: &'a [Token<'a>]) -> Result<Rule<'a>, Rea
     requires { AreTokens (tokens_of tokens.now) }
     ensures { ParsesArguments result RuleKind.Abs (tokens_of tokens.now) }
 {
-    match parse_quote(alloc, tokens) {
-        Ok((steps, rest)) => match only_name(rest) {
-            Some(name) => Ok(Rule::Abs(steps, name)),
-            None => Err(ReadError::Syntax),
-        },
+    match parse_quote_and_name(alloc, tokens) {
+        Ok((steps, name)) => Ok(Rule::Abs(steps, name)),
         Err(error) => Err(error),
     }
 }
@@ -196,6 +177,20 @@ fn parse_axiom<'a>(named: Axiom, tokens: &'a [Token<'a>]) -> Result<Rule<'a>, Re
     Ok(Rule::OfAxiom(named))
 }
 
+fn parse_derived_rule<'a>(
+    alloc: Global,
+    kind: DerivedKind,
+    tokens: &'a [Token<'a>],
+) -> Result<Rule<'a>, ReadError>
+    requires { AreTokens (tokens_of tokens.now) }
+    ensures { ParsesArguments result (RuleKind.Derived kind) (tokens_of tokens.now) }
+{
+    match parse_derived(alloc, kind, tokens) {
+        Ok(derived) => Ok(Rule::Derived(derived)),
+        Err(error) => Err(error),
+    }
+}
+
 // A rule with its arguments.
 fn parse_rule<'a>(alloc: Global, tokens: &'a [Token<'a>]) -> Result<Rule<'a>, ReadError>
     requires { AreTokens (tokens_of tokens.now) }
@@ -214,7 +209,7 @@ fn parse_rule<'a>(alloc: Global, tokens: &'a [Token<'a>]) -> Result<Rule<'a>, Re
         RuleKind::Inst => parse_inst(alloc, arguments),
         RuleKind::InstType => parse_inst_type(alloc, arguments),
         RuleKind::Axiom(axiom) => parse_axiom(axiom, arguments),
-        RuleKind::Derived(_) => Err(ReadError::Syntax),
+        RuleKind::Derived(kind) => parse_derived_rule(alloc, kind, arguments),
     }
 }
 
@@ -277,9 +272,8 @@ fn parse_def<'a>(
     let Some(quote) = take_mark(tokens, Symbol::Equal) else {
         return Err(ReadError::Syntax);
     };
-    match parse_quote(alloc, quote) {
-        Ok((steps, [])) => Ok(Command::Def(name, steps)),
-        Ok(_) => Err(ReadError::Syntax),
+    match parse_only_quote(alloc, quote) {
+        Ok(steps) => Ok(Command::Def(name, steps)),
         Err(error) => Err(error),
     }
 }

@@ -10,6 +10,7 @@ mod execute;
 mod laws;
 mod pairs;
 mod progress;
+mod quotes;
 mod runner;
 mod session;
 mod tokens;

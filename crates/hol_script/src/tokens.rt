@@ -2,7 +2,7 @@
 ghost use Rattle.std.specs.Prelude.{◌≡◌};
 ghost use Rattle.hol_syntax.specs.Views.{token_of, tokens_of};
 ghost use Rattle.hol_script.specs.Reading as reading;
-ghost use Rattle.hol_script.specs.Reading.{AreTokens, TakesName, TakesOnlyName, TakesMark, TakesQuote};
+ghost use Rattle.hol_script.specs.Reading.{AreTokens, TakesName, TakesOnlyName, TakesOnlyTwoNames, TakesMark, TakesQuote};
 
 use hol_model::Symbol;
 use hol_syntax::{Token, identifier};
@@ -28,6 +28,18 @@ pub fn only_name<'a>(tokens: &'a [Token<'a>]) -> Option<&'a str>
 {
     let (name, rest) = take_name(tokens)?;
     if rest.is_empty() { Some(name) } else { None }
+}
+
+/// The two names that the tokens are.
+pub fn only_two_names<'a>(tokens: &'a [Token<'a>]) -> Option<(&'a str, &'a str)>
+    requires { AreTokens (tokens_of tokens.now) }
+    ensures { TakesOnlyTwoNames result (tokens_of tokens.now) }
+{
+    let (first, rest) = take_name(tokens)?;
+    match only_name(rest) {
+        Some(second) => Some((first, second)),
+        None => None,
+    }
 }
 
 /// What follows a mark at the front of the tokens.

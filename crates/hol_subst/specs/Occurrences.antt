@@ -1,11 +1,11 @@
--- The variables that occur in a term, free or bound.
-use Rattle.std.specs.Prelude.{◌≡◌, ◌⊎◌, List, ℕ}
+-- The variables that are free in a term, as a fact.
+use Rattle.std.specs.Prelude.{◌≡◌, ◌⊎◌, List, ℕ, false}
 use Rattle.hol_model.specs.HolType.{HolType}
-use Rattle.hol_model.specs.NamedTerm.{NamedTerm, variable, constant, combination, abstraction}
+use Rattle.hol_model.specs.NamedTerm.{NamedTerm, variable, constant, combination, abstraction, same_variable}
 
--- the variable of this name and type stands in the term, other than as a binder
-abbrev pub OccursIn : List ℕ → HolType → NamedTerm → Type 0
-OccursIn name ty (variable other s) = (name ≡ other) × (ty ≡ s)
-OccursIn name ty (constant other s) = ⊥
-OccursIn name ty (combination function argument) = OccursIn name ty function ⊎ OccursIn name ty argument
-OccursIn name ty (abstraction other s body) = OccursIn name ty body
+-- the variable of this name and type is free in the term
+abbrev pub IsFreeIn : List ℕ → HolType → NamedTerm → Type 0
+IsFreeIn name ty (variable other s) = (name ≡ other) × (ty ≡ s)
+IsFreeIn name ty (constant other s) = ⊥
+IsFreeIn name ty (combination function argument) = IsFreeIn name ty function ⊎ IsFreeIn name ty argument
+IsFreeIn name ty (abstraction other s body) = IsFreeIn name ty body × (same_variable other s name ty ≡ false)

@@ -6,15 +6,15 @@ ghost use Rattle.hol_model.specs.declared.fault.Fault.TheVariants.{Memory, TooLa
 ghost use Rattle.hol_subst.specs.Binders.{IsBinderAfter};
 ghost use Rattle.hol_subst.specs.Replacements.{entries_of};
 ghost use Rattle.hol_subst.specs.Touched.{Covers};
-ghost use Rattle.hol_subst.specs.VariableTypes.{HasVariables, table_of};
+ghost use Rattle.hol_subst.specs.VariableTypes.{HasVariables, known_table};
 
 use crate::capture::captures;
 use crate::fresh::fresh_binder;
+use crate::known_variables::KnownVariables;
 use crate::passed::Passed;
-use crate::place::Place;
 use crate::replacements::Replacements;
 use crate::touched::Touched;
-use crate::variable_types::VariableTypes;
+use crate::walks::Walks;
 use hol_model::{Fault, TYPE_NODES_LIMIT};
 use hol_terms::Term;
 use hol_types::{Ty, replaced_type};
@@ -29,8 +29,8 @@ pub enum NewBinder {
     Renamed(Term),
 }
 
-/// What becomes of a binder over a body. The hint tells where a captured variable may stand in the body, and is set to
-/// where one was found.
+/// What becomes of a binder over a body. The walks tell where a captured variable may stand in the body, and are told
+/// where one was found, or how far none was.
 pub(crate) fn new_binder(
     alloc: Global,
     name: &str,
@@ -39,11 +39,11 @@ pub(crate) fn new_binder(
     types: &[(Ty, Ty)],
     replacements: &Replacements<'_>,
     touched: Touched,
-    variables: &VariableTypes,
-    hint: &mut Place,
+    known: &KnownVariables<'_>,
+    walks: &mut Walks,
 ) -> Result<NewBinder, Fault>
     requires named { IsTrue (is_identifier name.now) }
-    requires known { HasVariables (table_of variables.now) body.now }
+    requires known { HasVariables (known_table known.now) body.now }
     requires covered { Covers touched.old.bits touched.new.bits (entries_of replacements.now) }
     ensures ok { IfOk result (IsBinderAfter (entries_of replacements.now) types.now name.now ty.now body.now) }
     ensures too_large { result ≡ Err TooLarge → TYPE_NODES_LIMIT < type_nodes (type_put types.now ty.now) }
@@ -59,8 +59,8 @@ pub(crate) fn new_binder(
         types,
         &*replacements,
         touched,
-        variables,
-        &mut *hint,
+        &*known,
+        &mut *walks,
     ) {
         return Ok(NewBinder::Kept(changed_type));
     }
@@ -74,9 +74,9 @@ pub(crate) fn new_binder(
         types,
         &passed,
         &*replacements,
-        *hint,
+        walks.hint,
         touched,
-        variables,
+        &*known,
     )?;
     Ok(NewBinder::Renamed(fresh))
 }

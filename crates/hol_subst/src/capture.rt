@@ -1,5 +1,5 @@
 // Which variables are free in a term after the replacement, and which binders would capture them.
-ghost use Rattle.std.specs.Prelude.{◌≡◌, List, [], ◌∷◌, IfOk, IfErr, fold, bit_or, if◌then◌else◌, IsTrue};
+ghost use Rattle.std.specs.Prelude.{◌≡◌, List, [], ◌∷◌, IfOk, IfErr, fold, bit_or, if◌then◌else◌, ◌&&◌, IsTrue};
 ghost use Rattle.hol_model.specs.HolType.{HolType, type_put};
 ghost use Rattle.hol_model.specs.NamedTerm.{NamedTerm, Binder, variable};
 ghost use Rattle.hol_model.specs.NamedTerm as terms;
@@ -10,18 +10,22 @@ ghost use Rattle.hol_terms.specs.Classes.{classes_of_names};
 ghost use Rattle.hol_subst.specs.Entries.{entries, instance_of, replaced};
 ghost use Rattle.hol_subst.specs.Replacements.{entries_of, binders_of};
 ghost use Rattle.hol_subst.specs.Touched.{Covers};
-ghost use Rattle.hol_subst.specs.Sought.{IsBroughtBy, IsKeptIn};
+ghost use Rattle.hol_subst.specs.Sought.{IsBroughtBy, IsBroughtFrom, IsKeptIn};
 ghost use Rattle.hol_subst.specs.Sought as spec;
-ghost use Rattle.hol_subst.specs.VariableTypes.{HasVariables, table_of};
+ghost use Rattle.hol_subst.specs.VariableTypes.{HasVariables, known_table, may_have, table_of};
 
+use crate::known_variables::{
+    self, KnownVariables, admits, becomes, has_instance, has_other_instance,
+};
 use crate::passed::{Passed, is_bound};
 use crate::place::Place;
 use crate::replacements::{Replacements, look_up};
 use crate::touched::{Touched, changes_type, changes_types, stays};
 use crate::variable_types::VariableTypes;
+use crate::walks::Walks;
 use hol_model::Fault;
 use hol_terms::{NameClasses, Parts, Term, is_free};
-use hol_types::{Ty, is_replaced_type};
+use hol_types::Ty;
 use std::alloc::Global;
 
 // The classes of the names of variables in whose place a variable may stand free: of those that are replaced by a term
@@ -44,10 +48,10 @@ pub(crate) fn is_free_after(
     replacements: &Replacements<'_>,
     hint: Place,
     touched: Touched,
-    variables: &VariableTypes,
+    known: &KnownVariables<'_>,
 ) -> bool
     requires covered { Covers touched.old.bits touched.new.bits (entries_of replacements.now) }
-    requires known { HasVariables (table_of variables.now) term.now }
+    requires known { HasVariables (known_table known.now) term.now }
     ensures { result ≡ occurs_free name.now ty.now (replaced (entries_of replacements.now) types.now (image_under (binders_of passed.now) term.now)) }
 {
     if stands_at(
@@ -64,8 +68,8 @@ pub(crate) fn is_free_after(
     }
     let mut place = Place::first();
     let sought = Sought {
-        brought_by: brought_by(name, ty, &*passed, &*replacements, touched),
-        kept_in: kept_in(name, ty, types, variables),
+        brought_by: brought_by(name, ty, &*passed, &*replacements, touched, &*known),
+        kept_in: kept_in(name, ty, types, &*known),
     };
     stands_after(
         term,
@@ -80,8 +84,9 @@ pub(crate) fn is_free_after(
     )
 }
 
-/// Whether a binder, its type replaced by the new one, would capture in its body after the replacement. The hint tells
-/// where a captured variable may stand in the body, and is set to where one was found.
+/// Whether a binder, its type replaced by the new one, would capture in its body after the replacement. The walks tell
+/// where a captured variable may stand in the body, and are told where one was found, or how far none was.
+#[tactic(auto, using(crate::proofs::Standing::keeping_classes))]
 pub(crate) fn captures(
     name: &str,
     ty: &Ty,
@@ -90,19 +95,19 @@ pub(crate) fn captures(
     types: &[(Ty, Ty)],
     replacements: &Replacements<'_>,
     touched: Touched,
-    variables: &VariableTypes,
-    hint: &mut Place,
+    known: &KnownVariables<'_>,
+    walks: &mut Walks,
 ) -> bool
     requires typed { new_type.now ≡ type_put types.now ty.now }
     requires covered { Covers touched.old.bits touched.new.bits (entries_of replacements.now) }
-    requires known { HasVariables (table_of variables.now) body.now }
+    requires known { HasVariables (known_table known.now) body.now }
     ensures { result ≡ occurs_free name.now new_type.now (replaced (entries_of replacements.now) types.now (image_under ((name.now, ty.now) ∷ []) body.now)) }
 {
     let outermost = Passed::Outermost;
     let passed = Passed::Under(name, ty, &outermost);
     if stands_at(
         body,
-        *hint,
+        walks.hint,
         name,
         new_type,
         types,
@@ -114,8 +119,8 @@ pub(crate) fn captures(
     }
     let mut place = Place::first();
     let sought = Sought {
-        brought_by: brought_by(name, new_type, &passed, &*replacements, touched),
-        kept_in: kept_in_body(name, ty, new_type, body, types, variables),
+        brought_by: brought_by(name, new_type, &passed, &*replacements, touched, &*known),
+        kept_in: kept_in_body(name, ty, new_type, body, types, &*known),
     };
     if !stands_after(
         body,
@@ -128,14 +133,17 @@ pub(crate) fn captures(
         touched,
         &mut place,
     ) {
+        if is_sought(sought) {
+            *walks = walks.and_in_vain(u64::from(body.nodes()));
+        }
         return false;
     }
-    *hint = place.before();
+    walks.hint = place.before();
     true
 }
 
-// The classes of the variables that the passed binders do not bind and that are replaced by a term in which a variable
-// is free.
+// The classes of the variables that may be free, but that the passed binders do not bind, and that are replaced by a
+// term in which a variable is free.
 #[tactic(auto, using(crate::proofs::Standing::bringing_classes))]
 fn brought_by(
     name: &str,
@@ -143,14 +151,15 @@ fn brought_by(
     passed: &Passed<'_>,
     replacements: &Replacements<'_>,
     touched: Touched,
+    known: &KnownVariables<'_>,
 ) -> NameClasses
     requires { Covers touched.old.bits touched.new.bits (entries_of replacements.now) }
-    ensures { IsBroughtBy result.bits (entries_of replacements.now) (binders_of passed.now) name.now ty.now }
+    ensures { IsBroughtFrom (known_table known.now) result.bits (entries_of replacements.now) (binders_of passed.now) name.now ty.now }
 {
     if !touched.new.meets(NameClasses::of_name(name)) {
         return NameClasses::none();
     }
-    brought_by_entries(&*replacements, &*passed, name, ty)
+    brought_by_entries(&*replacements, &*passed, name, ty, &*known)
 }
 
 #[tactic(auto, using(crate::proofs::Standing::bringing_classes))]
@@ -159,15 +168,21 @@ fn brought_by_entries(
     passed: &Passed<'_>,
     name: &str,
     ty: &Ty,
+    known: &KnownVariables<'_>,
 ) -> NameClasses
-    ensures { IsBroughtBy result.bits (entries_of replacements.now) (binders_of passed.now) name.now ty.now }
+    ensures { IsBroughtFrom (known_table known.now) result.bits (entries_of replacements.now) (binders_of passed.now) name.now ty.now }
 {
     match replacements {
-        Replacements::Pairs(pairs) => brought_by_pairs(pairs, name, ty),
-        Replacements::Keeping(_, _, outer) => brought_by_entries(outer, &*passed, name, ty),
+        Replacements::Pairs(pairs) => brought_by_pairs(pairs, name, ty, &*known),
+        Replacements::Keeping(_, _, outer) => {
+            brought_by_entries(outer, &*passed, name, ty, &*known)
+        }
         Replacements::Putting(other, s, new, outer) => {
-            let classes = brought_by_entries(outer, &*passed, name, ty);
+            let classes = brought_by_entries(outer, &*passed, name, ty, &*known);
             if is_bound(&*passed, other, s) {
+                return classes;
+            }
+            if !admits(&*known, other, s) {
                 return classes;
             }
             if is_free(new, name, ty) {
@@ -179,12 +194,17 @@ fn brought_by_entries(
     }
 }
 
-fn brought_by_pairs(pairs: &[(Term, Term)], name: &str, ty: &Ty) -> NameClasses
-    ensures { result.bits ≡ fold (λ bits pair. if terms.is_free name.now ty.now pair.0 then bit_or bits (classes_of_names pair.1) else bits) 0 pairs.now }
+fn brought_by_pairs(
+    pairs: &[(Term, Term)],
+    name: &str,
+    ty: &Ty,
+    known: &KnownVariables<'_>,
+) -> NameClasses
+    ensures { result.bits ≡ fold (λ bits pair. if terms.is_free name.now ty.now pair.0 && may_have (known_table known.now) pair.1 then bit_or bits (classes_of_names pair.1) else bits) 0 pairs.now }
 {
     NameClasses {
         bits: pairs.iter().fold(0, |bits, pair| {
-            if is_free(&pair.0, name, ty) {
+            if is_free(&pair.0, name, ty) && known_variables::may_have(known, &pair.1) {
                 bits | pair.1.names().bits
             } else {
                 bits
@@ -201,45 +221,27 @@ fn kept_in_body(
     new_type: &Ty,
     body: &Term,
     types: &[(Ty, Ty)],
-    variables: &VariableTypes,
+    known: &KnownVariables<'_>,
 ) -> NameClasses
     requires typed { new_type.now ≡ type_put types.now ty.now }
-    requires known { HasVariables (table_of variables.now) body.now }
+    requires known { HasVariables (known_table known.now) body.now }
     ensures { IsKeptIn result.bits types.now ((name.now, ty.now) ∷ []) name.now new_type.now body.now }
 {
     if !changes_type(types, ty) && !changes_types(types, body) {
         return NameClasses::none();
     }
-    if !variables.has_other_instance(name, ty, types, new_type) {
+    if !has_other_instance(&*known, name, ty, types, new_type) {
         return NameClasses::none();
     }
     NameClasses::of_name(name)
 }
 
-/// How many nodes a walk may have gone into in search of a kept variable that a binder, which captures none, might have
-/// captured.
-pub(crate) fn walked_in_vain(
-    name: &str,
-    ty: &Ty,
-    new_type: &Ty,
-    body: &Term,
-    types: &[(Ty, Ty)],
-    variables: &VariableTypes,
-) -> u64 {
-    let may_change = changes_type(types, ty) || changes_types(types, body);
-    if may_change && variables.has_other_instance(name, ty, types, new_type) {
-        u64::from(body.nodes())
-    } else {
-        0
-    }
-}
-
 // The classes of the variables that may become a variable of this name and type.
 #[tactic(auto, using(crate::proofs::Standing::keeping_classes))]
-fn kept_in(name: &str, ty: &Ty, types: &[(Ty, Ty)], variables: &VariableTypes) -> NameClasses
-    ensures { (binders : List Binder) (term : NamedTerm) → HasVariables (table_of variables.now) term → IsKeptIn result.bits types.now binders name.now ty.now term }
+fn kept_in(name: &str, ty: &Ty, types: &[(Ty, Ty)], known: &KnownVariables<'_>) -> NameClasses
+    ensures { (binders : List Binder) (term : NamedTerm) → HasVariables (known_table known.now) term → IsKeptIn result.bits types.now binders name.now ty.now term }
 {
-    if !variables.has_instance(name, types, ty) {
+    if !has_instance(&*known, name, types, ty) {
         return NameClasses::none();
     }
     NameClasses::of_name(name)
@@ -287,8 +289,22 @@ fn may_capture(
 
 // Whether a variable is free in a new term.
 fn is_put(name: &str, ty: &Ty, replacements: &Replacements<'_>, touched: Touched) -> bool {
-    touched.new.meets(NameClasses::of_name(name))
-        && brought_by_entries(&*replacements, &Passed::Outermost, name, ty).bits != 0
+    touched.new.meets(NameClasses::of_name(name)) && is_put_by(&*replacements, name, ty)
+}
+
+fn is_put_by(replacements: &Replacements<'_>, name: &str, ty: &Ty) -> bool {
+    match replacements {
+        Replacements::Pairs(pairs) => pairs.iter().any(|pair| is_free(&pair.0, name, ty)),
+        Replacements::Keeping(_, _, outer) => is_put_by(outer, name, ty),
+        Replacements::Putting(_, _, new, outer) => {
+            is_free(new, name, ty) || is_put_by(outer, name, ty)
+        }
+    }
+}
+
+// Whether there is anything to walk for.
+fn is_sought(sought: Sought) -> bool {
+    sought.brought_by.union(sought.kept_in).bits != 0
 }
 
 // Whether no variable in whose place the sought one may stand is in the term.
@@ -381,7 +397,7 @@ fn stands_after(
     place: &mut Place,
 ) -> bool
     requires covered { Covers touched.old.bits touched.new.bits (entries_of replacements.now) }
-    requires brought { IsBroughtBy sought.brought_by.bits (entries_of replacements.now) (binders_of passed.now) name.now ty.now }
+    requires brought { IsBroughtBy sought.brought_by.bits (entries_of replacements.now) (binders_of passed.now) name.now ty.now term.now }
     requires kept { IsKeptIn sought.kept_in.bits types.now (binders_of passed.now) name.now ty.now term.now }
     ensures { result ≡ occurs_free name.now ty.now (replaced (entries_of replacements.now) types.now (image_under (binders_of passed.now) term.now)) }
 {
@@ -454,7 +470,7 @@ fn stands_for(
     touched: Touched,
 ) -> bool
     requires covered { Covers touched.old.bits touched.new.bits (entries_of replacements.now) }
-    requires brought { IsBroughtBy sought.brought_by.bits (entries_of replacements.now) (binders_of passed.now) name.now ty.now }
+    requires brought { IsBroughtBy sought.brought_by.bits (entries_of replacements.now) (binders_of passed.now) name.now ty.now (variable other.now other_ty.now) }
     ensures { result ≡ occurs_free name.now ty.now (replaced (entries_of replacements.now) types.now (image_under (binders_of passed.now) (variable other.now other_ty.now))) }
 {
     if !becomes(other, other_ty, name, ty, types)
@@ -510,11 +526,4 @@ fn is_free_in_instance(
         Some(new) => is_free(new, name, ty),
         None => becomes(other, other_ty, name, ty, types),
     }
-}
-
-// Whether a variable that is kept becomes the other with its new type.
-fn becomes(other: &str, other_ty: &Ty, name: &str, ty: &Ty, types: &[(Ty, Ty)]) -> bool
-    ensures { result ≡ terms.same_variable name.now ty.now other.now (type_put types.now other_ty.now) }
-{
-    name == other && is_replaced_type(types, other_ty, ty)
 }

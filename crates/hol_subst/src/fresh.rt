@@ -11,17 +11,17 @@ ghost use Rattle.hol_subst.specs.Replacements.{entries_of, binders_of};
 ghost use Rattle.hol_subst.specs.Touched.{Covers};
 ghost use Rattle.hol_subst.specs.Fresh.{IsFreshBinder};
 ghost use Rattle.hol_subst.specs.Outcomes.{variant_refusal};
-ghost use Rattle.hol_subst.specs.VariableTypes.{HasVariables, table_of};
+ghost use Rattle.hol_subst.specs.VariableTypes.{HasVariables, known_table};
 ghost use Rattle.hol_model.specs.Outcome.{AnswersSuch};
 ghost use Rattle.hol_model.specs.declared.fault.Fault.TheVariants.{Memory};
 
 use crate::capture::is_free_after;
+use crate::known_variables::KnownVariables;
 use crate::passed::Passed;
 use crate::place::Place;
 use crate::rebuild::variable_of;
 use crate::replacements::Replacements;
 use crate::touched::Touched;
-use crate::variable_types::VariableTypes;
 use hol_model::Fault;
 use hol_terms::{Term, is_free};
 use hol_types::Ty;
@@ -73,11 +73,11 @@ pub(crate) fn fresh_binder(
     replacements: &Replacements<'_>,
     hint: Place,
     touched: Touched,
-    variables: &VariableTypes,
+    known: &KnownVariables<'_>,
 ) -> Result<Term, Fault>
     requires named { IsTrue (is_identifier name.now) }
     requires covered { Covers touched.old.bits touched.new.bits (entries_of replacements.now) }
-    requires known { HasVariables (table_of variables.now) body.now }
+    requires known { HasVariables (known_table known.now) body.now }
     requires taken { occurs_free name.now ty.now (replaced (entries_of replacements.now) types.now (image_under (binders_of passed.now) body.now)) ≡ true }
     ensures fresh { IfOk result (IsFreshBinder (replaced (entries_of replacements.now) types.now (image_under (binders_of passed.now) body.now)) name.now ty.now) }
     ensures variable { IfOk result (λ binder. IsTrue (is_variable binder)) }
@@ -94,7 +94,7 @@ pub(crate) fn fresh_binder(
         &*replacements,
         hint,
         touched,
-        variables,
+        &*known,
     )?;
     variable_of(alloc, fresh.as_str(), ty)
 }
@@ -110,11 +110,11 @@ fn name_free_after(
     replacements: &Replacements<'_>,
     hint: Place,
     touched: Touched,
-    variables: &VariableTypes,
+    known: &KnownVariables<'_>,
 ) -> Result<String, Fault>
     requires named { IsTrue (is_identifier name.now) }
     requires covered { Covers touched.old.bits touched.new.bits (entries_of replacements.now) }
-    requires known { HasVariables (table_of variables.now) body.now }
+    requires known { HasVariables (known_table known.now) body.now }
     requires taken { occurs_free name.now ty.now (replaced (entries_of replacements.now) types.now (image_under (binders_of passed.now) body.now)) ≡ true }
     ensures fresh { IfOk result (λ fresh. IsFirstFree (λ other. occurs_free other ty.now (replaced (entries_of replacements.now) types.now (image_under (binders_of passed.now) body.now))) name.now (string_bytes fresh)) }
     ensures named { IfOk result (λ fresh. IsTrue (is_identifier (string_bytes fresh))) }
@@ -130,7 +130,7 @@ fn name_free_after(
         &*replacements,
         hint,
         touched,
-        variables,
+        &*known,
     ) {
         fresh.push_str("'")?;
     }

@@ -4,10 +4,13 @@ ghost use Rattle.std.specs.List.{list_any};
 ghost use Rattle.std.specs.Option.{option_map};
 ghost use Rattle.indexmap.specs.IndexMap.{get_by_text};
 ghost use Rattle.hol_model.specs.HolType.{HolType, type_eq, type_put};
-ghost use Rattle.hol_model.specs.NamedTerm.{NamedTerm};
+ghost use Rattle.hol_model.specs.NamedTerm.{NamedTerm, variable};
 ghost use Rattle.hol_model.specs.declared.fault.Fault.TheVariants.{Memory};
-ghost use Rattle.hol_subst.specs.VariableTypes.{Admits, Widens, HasVariables, Grows, types_kept, kept_types, table_of};
+ghost use Rattle.hol_subst.specs.Replacements.{binders_of};
+ghost use Rattle.hol_subst.specs.VariableTypes as spec;
+ghost use Rattle.hol_subst.specs.VariableTypes.{Admits, Widens, HasVariables, HasUnbound, Grows, types_kept, kept_types, table_of};
 
+use crate::passed::{Passed, is_bound};
 use hol_model::Fault;
 use hol_terms::{Parts, Term};
 use hol_types::{Ty, is_replaced_type};
@@ -21,8 +24,6 @@ const TYPES_KEPT: usize = 16;
 #[derive(Drop)]
 pub struct VariableTypes {
     is_known: bool,
-    // Once walks in vain went into this many times the nodes of a part, it gets a table of its own.
-    price: u64,
     // A name's types, or `None` where they may be any.
     by_name: IndexMap<String, Option<Vec<Ty>>>,
 }
@@ -34,33 +35,12 @@ impl VariableTypes {
     {
         VariableTypes {
             is_known: false,
-            price: 1,
             by_name: IndexMap::new(alloc),
         }
     }
 
-    /// The types of the variables of a term.
+    /// The types of the variables of a term, free or bound.
     pub(crate) fn of(alloc: Global, term: &Term) -> Result<VariableTypes, Fault>
-        ensures ok { IfOk result (λ types. HasVariables (table_of types) term.now) }
-        ensures err { IfErr result (λ fault. fault ≡ Memory) }
-    {
-        VariableTypes::at_price(alloc, term, 1)
-    }
-
-    /// The types of the variables of a part alone. The next smaller part has to be worth twice as much.
-    pub(crate) fn narrowed(&self, alloc: Global, part: &Term) -> Result<VariableTypes, Fault>
-        ensures ok { IfOk result (λ types. HasVariables (table_of types) part.now) }
-        ensures err { IfErr result (λ fault. fault ≡ Memory) }
-    {
-        VariableTypes::at_price(alloc, part, self.price.saturating_mul(2))
-    }
-
-    /// Whether a table of its own is worth its cost for a part, where walks in vain went into so many nodes.
-    pub(crate) fn is_worth_narrowing(&self, walked: u64, part: &Term) -> bool {
-        self.is_known && walked >= self.price.saturating_mul(u64::from(part.nodes()))
-    }
-
-    fn at_price(alloc: Global, term: &Term, price: u64) -> Result<VariableTypes, Fault>
         ensures ok { IfOk result (λ types. HasVariables (table_of types) term.now) }
         ensures err { IfErr result (λ fault. fault ≡ Memory) }
     {
@@ -68,9 +48,32 @@ impl VariableTypes {
         add_variables(alloc, term, &mut by_name)?;
         Ok(VariableTypes {
             is_known: true,
-            price,
             by_name,
         })
+    }
+
+    /// The types of the variables that are free in a term. It takes longer to make than the table of all.
+    #[tactic(auto, using(crate::proofs::Variables::free_tables))]
+    pub(crate) fn free_in(alloc: Global, term: &Term) -> Result<VariableTypes, Fault>
+        ensures ok { IfOk result (λ types. HasVariables (table_of types) term.now) }
+        ensures err { IfErr result (λ fault. fault ≡ Memory) }
+    {
+        let mut by_name = IndexMap::new(alloc);
+        add_free_variables(alloc, term, &Passed::Outermost, &mut by_name)?;
+        Ok(VariableTypes {
+            is_known: true,
+            by_name,
+        })
+    }
+
+    /// Whether a variable of this name and type may occur.
+    pub(crate) fn admits(&self, name: &str, ty: &Ty) -> bool
+        ensures { result ≡ spec.admits (table_of self.now name.now) ty.now }
+    {
+        match self.types_of(name) {
+            None => true,
+            Some(known) => contains(known, ty),
+        }
     }
 
     /// Whether a variable of this name may occur that gets the type `ty` by a list of pairs (new, old).
@@ -140,7 +143,7 @@ fn another_becomes(known: &[Ty], ty: &Ty, types: &[(Ty, Ty)], new_type: &Ty) -> 
         .any(|s| !s.eq(ty) && is_replaced_type(types, s, new_type))
 }
 
-// Puts the variables of a term into the table.
+// Puts the variables of a term, free or bound, into the table.
 #[tactic(auto, using(crate::proofs::Variables::tables))]
 fn add_variables(
     alloc: Global,
@@ -158,8 +161,59 @@ fn add_variables(
             add_variables(alloc, function, by_name)?;
             add_variables(alloc, argument, by_name)
         }
-        Parts::Abstraction(_, _, body) => add_variables(alloc, body, by_name),
+        Parts::Abstraction(name, ty, body) => {
+            add_variable(alloc, name, ty, by_name)?;
+            add_variables(alloc, body, by_name)
+        }
     }
+}
+
+// Puts the free variables of a term, but for those that the passed binders bind, into the table.
+#[tactic(auto, using(crate::proofs::Variables::free_tables))]
+fn add_free_variables(
+    alloc: Global,
+    term: &Term,
+    passed: &Passed<'_>,
+    by_name: &mut IndexMap<String, Option<Vec<Ty>>>,
+) -> Result<(), Fault>
+    ensures grows { OnOk result (Grows (kept_types (get_by_text by_name.old)) (kept_types (get_by_text by_name.new))) }
+    ensures has { OnOk result (HasUnbound (kept_types (get_by_text by_name.new)) (binders_of passed.now) term.now) }
+    ensures err { IfErr result (λ fault. fault ≡ Memory) }
+{
+    match term.parts() {
+        Parts::Variable(name, ty) => {
+            add_unbound_variable(alloc, name, ty, &*passed, &mut *by_name)
+        }
+        Parts::Constant(_, _) => Ok(()),
+        Parts::Combination(function, argument) => {
+            add_free_variables(alloc, function, &*passed, &mut *by_name)?;
+            add_free_variables(alloc, argument, &*passed, &mut *by_name)
+        }
+        Parts::Abstraction(name, ty, body) => add_free_variables(
+            alloc,
+            body,
+            &Passed::Under(name, ty, &*passed),
+            &mut *by_name,
+        ),
+    }
+}
+
+#[tactic(auto, using(crate::proofs::Variables::free_tables))]
+fn add_unbound_variable(
+    alloc: Global,
+    name: &str,
+    ty: &Ty,
+    passed: &Passed<'_>,
+    by_name: &mut IndexMap<String, Option<Vec<Ty>>>,
+) -> Result<(), Fault>
+    ensures grows { OnOk result (Grows (kept_types (get_by_text by_name.old)) (kept_types (get_by_text by_name.new))) }
+    ensures has { OnOk result (HasUnbound (kept_types (get_by_text by_name.new)) (binders_of passed.now) (variable name.now ty.now)) }
+    ensures err { IfErr result (λ fault. fault ≡ Memory) }
+{
+    if !admits(&*by_name, name, ty) && is_bound(&*passed, name, ty) {
+        return Ok(());
+    }
+    add_variable(alloc, name, ty, by_name)
 }
 
 fn add_variable(
@@ -187,8 +241,14 @@ fn admits(by_name: &IndexMap<String, Option<Vec<Ty>>>, name: &str, ty: &Ty) -> b
 {
     match types_in(by_name, name) {
         None => true,
-        Some(known) => known.iter().any(|s| ty.eq(s)),
+        Some(known) => contains(known, ty),
     }
+}
+
+fn contains(known: &[Ty], ty: &Ty) -> bool
+    ensures { result ≡ list_any (type_eq ty.now) known.now }
+{
+    known.iter().any(|s| ty.eq(s))
 }
 
 // The types of a name's variables once there is one of this type: any, where they are too many to be kept.

@@ -5,11 +5,11 @@
 #[cfg(test)]
 mod definition_tests;
 #[cfg(test)]
+mod derived_script_tests;
+#[cfg(test)]
 mod kernel_tests;
 #[cfg(test)]
 mod log_tests;
-#[cfg(test)]
-mod prelude_rule_tests;
 #[cfg(test)]
 mod prelude_tests;
 #[cfg(test)]

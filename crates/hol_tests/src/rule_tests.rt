@@ -1,9 +1,9 @@
-// Each rule once, on small formulas.
+// The steps of which rules are made, on small formulas.
 use hol_alpha::aconv;
-use hol_bool::{add_assum, beta_conv, by_lemma, instance, named, prove_hyp, sym};
+use hol_bool::{by_lemma, instance, named};
 use hol_journal::{Recorder, journals_grow};
 use hol_model::Fault;
-use hol_terms::{Term, mk_eq};
+use hol_terms::Term;
 use hol_types::Ty;
 use std::alloc::Global;
 use std::test::Fail;
@@ -18,51 +18,6 @@ fn formula(alloc: Global, name: &str) -> Result<Term, Fault> {
 fn identity(alloc: Global, name: &str) -> Result<Term, Fault> {
     let variable = formula(alloc, name)?;
     Term::mk_abs(alloc, &variable, &variable)
-}
-
-// `p = q |- p = q` turned.
-fn turned(alloc: Global) -> Result<bool, Fault> {
-    let p = formula(alloc, "p")?;
-    let q = formula(alloc, "q")?;
-    let equation = mk_eq(alloc, &p, &q)?;
-    let wanted = mk_eq(alloc, &q, &p)?;
-    let mut recorder = Recorder::new(alloc)?;
-    let premise = recorder.assume(alloc, &equation)?;
-    journals_grow();
-    let answer = sym(&mut recorder, alloc, &premise)?;
-    Ok(aconv(recorder.thm(&answer).concl(), &wanted))
-}
-
-// `q |- q` with the hypothesis `p`.
-fn weakened(alloc: Global) -> Result<bool, Fault> {
-    let p = formula(alloc, "p")?;
-    let q = formula(alloc, "q")?;
-    let mut recorder = Recorder::new(alloc)?;
-    let premise = recorder.assume(alloc, &q)?;
-    journals_grow();
-    let answer = add_assum(&mut recorder, alloc, &p, &premise)?;
-    Ok(recorder.thm(&answer).hyps().len() == 2)
-}
-
-// `p |- p` with its own hypothesis taken away by itself.
-fn taken_away(alloc: Global) -> Result<bool, Fault> {
-    let p = formula(alloc, "p")?;
-    let mut recorder = Recorder::new(alloc)?;
-    let premise = recorder.assume(alloc, &p)?;
-    journals_grow();
-    let answer = prove_hyp(&mut recorder, alloc, &premise, &premise)?;
-    Ok(recorder.thm(&answer).hyps().len() == 1)
-}
-
-// `(\x. x) p = p`.
-fn converted(alloc: Global) -> Result<bool, Fault> {
-    let p = formula(alloc, "p")?;
-    let function = identity(alloc, "x")?;
-    let redex = Term::mk_comb(alloc, &function, &p)?;
-    let wanted = mk_eq(alloc, &redex, &p)?;
-    let mut recorder = Recorder::new(alloc)?;
-    let answer = beta_conv(&mut recorder, alloc, &redex)?;
-    Ok(aconv(recorder.thm(&answer).concl(), &wanted))
 }
 
 // `(\x. x) p |- (\x. x) p` with `y` for `x`.
@@ -99,16 +54,6 @@ fn by_assumption(alloc: Global) -> Result<bool, Fault> {
     journals_grow();
     let answer = by_lemma(&mut recorder, alloc, &[], &[], &lemma, &lemma)?;
     Ok(aconv(recorder.thm(&answer).concl(), &p))
-}
-
-#[test]
-fn rules_without_connectives(rt: HostRuntime) -> Result<(), Fail> {
-    let alloc = rt.alloc();
-    assert!(rt; turned(alloc)?);
-    assert!(rt; weakened(alloc)?);
-    assert!(rt; taken_away(alloc)?);
-    assert!(rt; converted(alloc)?);
-    Ok(())
 }
 
 #[test]

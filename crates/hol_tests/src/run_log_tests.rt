@@ -181,3 +181,45 @@ c: ((p:bool->bool) (y:bool)) |- ((p:bool->bool) (y:bool))\n";
     assert!(rt; claims(rt.alloc(), script, lines)?);
     Ok(())
 }
+
+#[test]
+fn claims_over_the_prelude(rt: HostRuntime) -> Result<(), Fail> {
+    let script = b"def c = `(\\x:A. x) = (\\x:A. x)` ;;\ndef c = `(x:bool)` ;;\ndef T = `F` ;;\n\
+def c = `~T` ;;\nshow c_def ;;\nshow T_DEF ;;";
+    let lines = b"c_def: |- (([=:bool->bool->bool] [c:bool]) ([~:bool->bool] [T:bool]))\n\
+c_def: |- (([=:bool->bool->bool] [c:bool]) ([~:bool->bool] [T:bool]))\n\
+T_DEF: |- (([=:bool->bool->bool] [T:bool]) (([=:(bool->bool)->(bool->bool)->bool] (\\bool. #0)) (\\bool. #0)))\n";
+    assert!(rt; claims(rt.alloc(), script, lines)?);
+    Ok(())
+}
+
+#[test]
+fn claims_derived_theorems(rt: HostRuntime) -> Result<(), Fail> {
+    let script =
+        b"thm p = ASSUME `(p:bool)` ;; thm d = DISCH `(p:bool)` p ;; thm g = GEN `(p:bool)` d ;; \
+thm s = SPEC `T` g ;; thm t = MP s TRUTH ;;";
+    let lines = b"p: (p:bool) |- (p:bool)\n\
+d: |- (([==>:bool->bool->bool] (p:bool)) (p:bool))\n\
+g: |- ([!:(bool->bool)->bool] (\\bool. (([==>:bool->bool->bool] #0) #0)))\n\
+s: |- (([==>:bool->bool->bool] [T:bool]) [T:bool])\n\
+t: |- [T:bool]\n";
+    assert!(rt; claims(rt.alloc(), script, lines)?);
+    Ok(())
+}
+
+#[test]
+fn claims_each_stored_theorem(rt: HostRuntime) -> Result<(), Fail> {
+    let script =
+        b"show T_DEF ;; show AND_DEF ;; show IMP_DEF ;; show FORALL_DEF ;; show EXISTS_DEF ;; show OR_DEF ;; \
+show F_DEF ;; show NOT_DEF ;; show TRUTH ;; show ETA_AX ;; show SELECT_AX ;; show EXCLUDED_MIDDLE ;;";
+    assert!(rt; has_claims(rt.alloc(), script, 12)?);
+    Ok(())
+}
+
+#[test]
+fn claims_rules_of_quantifiers(rt: HostRuntime) -> Result<(), Fail> {
+    let script = b"thm e = ASSUME `?x:A. (P:A->bool) x` ;; thm a = ASSUME `(P:A->bool) (v:A)` ;; \
+thm w = EXISTS `?y:A. (P:A->bool) y` `(v:A)` a ;; thm c = CHOOSE `(v:A)` e w ;; thm m = SPEC `F` EXCLUDED_MIDDLE ;;";
+    assert!(rt; has_claims(rt.alloc(), script, 5)?);
+    Ok(())
+}

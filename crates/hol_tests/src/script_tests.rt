@@ -47,7 +47,8 @@ pub(crate) fn writes(alloc: Global, script: &[u8], expected: &[u8]) -> Result<bo
     Ok(writer.is_whole())
 }
 
-fn summary(alloc: Global, script: &[u8]) -> Result<Summary, Fault> {
+/// What a script comes to.
+pub(crate) fn summary(alloc: Global, script: &[u8]) -> Result<Summary, Fault> {
     let mut reader = FromRead::new(script);
     let mut writer = IntoWrite::new(Vec::new(alloc));
     let mut log = IntoWrite::new(Vec::new(alloc));

@@ -8,7 +8,7 @@ use Rattle.hol_model.specs.Measures.{nameless_within_limits}
 use Rattle.hol_model.specs.Derivable.{nameless_equation}
 use Rattle.hol_model.specs.Theorem.{Theorem}
 use Rattle.hol_model.specs.Instantiation.{instantiate_all, replacements_refusal}
-use Rattle.hol_model.specs.DerivedRules.{images, is_roomy}
+use Rattle.hol_model.specs.DerivedRules.{images}
 use Rattle.hol_journal.proofs.Showing.{formula_of}
 use Rattle.hol_bool.specs.Sequents.{Shows, DerivesIf, instance_of}
 use Rattle.hol_bool.proofs.CutLemmas.{conclusion-known, shows-itself, derives-where}
@@ -16,7 +16,7 @@ use Rattle.hol_quant.proofs.GenLemmas.{truth, proposition, formula-passes, truth
 use Rattle.hol_quant.proofs.generalization.equal_to_truth.Goals as goal
 
 pub returns-clause-derives : goal.returns-clause-derives
-returns-clause-derives c =
+returns-clause-derives c room fits =
     let premise = c.args.premise.now.theorem in
     let p = image premise.conclusion in
     let theory = c.args.recorder.now.theory in
@@ -33,6 +33,6 @@ returns-clause-derives c =
     let d = nameless_equation bool_type proposition truth in
     derives-where
     (list_all nameless_within_limits (d ∷ proposition ∷ nameless_equation bool_type p truth ∷ p ∷ nameless_equation bool_type p (nameless_equation bool_type p truth) ∷ []))
-    (is_roomy p) c.by_lemma.result (images premise) (nameless_equation bool_type p truth) (truth-fits p)
+    room c.by_lemma.result (images premise) (nameless_equation bool_type p truth) (truth-fits room p fits)
     (subst (λ (l : List (NamedTerm × NamedTerm)). DerivesIf (list_all nameless_within_limits (instantiate_all [] d ∷ instantiate_all [] proposition ∷ instance_of [] l d ∷ instance_of [] l proposition ∷ nameless_equation bool_type (instance_of [] l proposition) (instance_of [] l d) ∷ [])) c.by_lemma.result (images premise) (instance_of [] l d)) theta_is
     (c.by_lemma.ensures.derives refl passes (images premise) proposition d c.requires.shows shows))

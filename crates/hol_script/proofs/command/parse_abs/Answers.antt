@@ -1,20 +1,8 @@
-use Rattle.std.proofs.Common.{refl, ap, ◌∙◌}
-use Rattle.hol_model.specs.Commands.{by_abs, quote_tokens}
-use Rattle.hol_syntax.specs.Views.{tokens_of}
-use Rattle.hol_script.proofs.ReadingLemmas.{behind-quote, no-name-behind}
+use Rattle.std.proofs.Common.{refl}
+use Rattle.hol_model.specs.Commands.{by_abs}
 use Rattle.hol_script.proofs.command.parse_abs.Goals as goal
-
-pub only_name-requires : goal.only_name-requires
-only_name-requires c =
-    let read = c.in-Ok.ensures in
-    behind-quote (tokens_of c.args.tokens.now) (tokens_of c.in-Ok.rest.now) read.0 read.2 c.requires
-
-pub returns-in-Some : goal.returns-in-Some
-returns-in-Some c =
-    let read = c.in-Ok.ensures in
-    (by_abs read.0 c.in-Some.name.now, read.1, refl, read.2 ∙ ap (quote_tokens read.0) c.in-Some.ensures, (read.3, refl))
 
 pub returns-in-Ok : goal.returns-in-Ok
 returns-in-Ok c =
     let read = c.in-Ok.ensures in
-    no-name-behind (tokens_of c.args.tokens.now) (tokens_of c.in-Ok.rest.now) read.0 read.1 read.2 c.in-None.ensures
+    (by_abs read.0 c.in-Ok.name.now, read.1, refl, read.2, (read.3, refl))

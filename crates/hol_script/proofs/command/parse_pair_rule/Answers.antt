@@ -2,6 +2,5 @@ use Rattle.std.proofs.Common.{refl}
 use Rattle.hol_model.specs.Commands.{by_pair}
 use Rattle.hol_script.proofs.command.parse_pair_rule.Goals as goal
 
-pub returns-in-Some-only_name : goal.returns-in-Some-only_name
-returns-in-Some-only_name c =
-    (by_pair c.args.rule c.in-Some.first.now c.in-Some-only_name.second.now, tt, refl, cc (c.in-Some.ensures, c.in-Some-only_name.ensures), (refl, refl, refl))
+pub returns-in-Some : goal.returns-in-Some
+returns-in-Some c = (by_pair c.args.rule c.in-Some.first.now c.in-Some.second.now, tt, refl, c.in-Some.ensures, (refl, refl, refl))

@@ -1,5 +1,5 @@
 use Rattle.std.proofs.Common.{◌≡◌, Some}
-use Rattle.hol_model.specs.declared.rule.RuleKind.TheVariants.{Term, Pair, Abs, Inst, InstType, Axiom}
+use Rattle.hol_model.specs.declared.rule.RuleKind.TheVariants.{Term, Pair, Abs, Inst, InstType, Axiom, Derived}
 use Rattle.hol_syntax.specs.Views.{tokens_of}
 use Rattle.hol_script.specs.Reading.{rule_kind_of}
 use Rattle.hol_script.proofs.ReadingLemmas.{rule-parsed}
@@ -34,3 +34,8 @@ pub returns-in-Axiom : goal.returns-in-Axiom
 returns-in-Axiom c =
     let known : rule_kind_of c.in-Some.word.now ≡ Some (Axiom c.in-Axiom.axiom) = cc (c.in-Some-rule_kind.ensures, c.in-Axiom.is) in
     rule-parsed c.parse_axiom.result (Axiom c.in-Axiom.axiom) (tokens_of c.args.tokens.now) (tokens_of c.in-Some.arguments.now) c.in-Some.word.now c.in-Some.ensures known c.parse_axiom.ensures
+
+pub returns-in-Derived : goal.returns-in-Derived
+returns-in-Derived c =
+    let known : rule_kind_of c.in-Some.word.now ≡ Some (Derived c.in-Derived.kind) = cc (c.in-Some-rule_kind.ensures, c.in-Derived.is) in
+    rule-parsed c.parse_derived_rule.result (Derived c.in-Derived.kind) (tokens_of c.args.tokens.now) (tokens_of c.in-Some.arguments.now) c.in-Some.word.now c.in-Some.ensures known c.parse_derived_rule.ensures

@@ -1,16 +1,8 @@
-use Rattle.std.proofs.Common.{refl, ap, ◌∙◌}
-use Rattle.hol_model.specs.Commands.{by_term, quote_tokens}
-use Rattle.hol_syntax.specs.Views.{tokens_of}
-use Rattle.hol_script.proofs.ReadingLemmas.{none-below, more-behind}
+use Rattle.std.proofs.Common.{refl}
+use Rattle.hol_model.specs.Commands.{by_term}
 use Rattle.hol_script.proofs.command.parse_term_rule.Goals as goal
-
-pub returns-in-Ok-default-empty : goal.returns-in-Ok-default-empty
-returns-in-Ok-default-empty c =
-    let read = c.in-Ok-default-empty.ensures in
-    let empty = none-below c.in-Ok-default-empty.field-0-1.now c.in-Ok-default-empty.len_below in
-    (by_term c.args.rule read.0, read.1, refl, read.2 ∙ ap (quote_tokens read.0) empty, (refl, read.3))
 
 pub returns-in-Ok : goal.returns-in-Ok
 returns-in-Ok c =
     let read = c.in-Ok.ensures in
-    more-behind c.args.rule (tokens_of c.args.tokens.now) c.in-Ok.field-0.1.now read.0 read.1 read.2 c.in-Ok.len_at_least
+    (by_term c.args.rule read.0, read.1, refl, read.2, (refl, read.3))

@@ -1,0 +1,43 @@
+use Rattle.std.proofs.Common.{◌≡◌, ◌∙◌, Err, IfOk, refl, ap, subst}
+use Rattle.hol_model.specs.NamedTerm.{NamedTerm}
+use Rattle.hol_model.specs.Nameless.{image}
+use Rattle.hol_model.specs.Logic.{or_name}
+use Rattle.hol_model.specs.NamedLogic.{disjunction}
+use Rattle.hol_model.specs.DerivedRules.{images}
+use Rattle.hol_bool.specs.Room.{LeadsTo, at_p_q}
+use Rattle.hol_bool.specs.Sequents.{DerivesIf}
+use Rattle.hol_bool.proofs.CutLemmas.{shows-itself}
+use Rattle.hol_bool.proofs.RoomLemmas.{connected-is, connected-past}
+use Rattle.hol_bool.proofs.RuleAnswers.{roomy-fits}
+use Rattle.hol_bool.proofs.DisjunctionAnswers.{disj1-answered, disj1-leads}
+use Rattle.hol_bool.proofs.disjunction_rules.disj1.Goals as goal
+
+pub returns-in-Err-connect-clause-outcome : goal.returns-in-Err-connect-clause-outcome
+returns-in-Err-connect-clause-outcome c =
+    let premise = c.args.premise.now.theorem in
+    let a = premise.conclusion in
+    let b = c.args.q.now in
+    let passed = c.in-Ok.ensures.ok in
+    let concluded = c.conclusion_of-p.ensures in
+    let fault = c.in-Err-connect.fault in
+    disj1-answered (Err fault) c.args.recorder.now.theory b premise passed
+    (λ room part whole. connected-past fault or_name a b c.conclusion_of-p.result.now b concluded.formula.typed passed.formula.typed concluded.value refl c.in-Err-connect.ensures room
+    (roomy-fits room (image (disjunction a b)) whole)) tt
+
+pub returns-clause-outcome : goal.returns-clause-outcome
+returns-clause-outcome c =
+    let theory = c.args.recorder.now.theory in
+    let premise = c.args.premise.now.theorem in
+    let a = premise.conclusion in
+    let b = c.args.q.now in
+    let passed = c.in-Ok.ensures.ok in
+    let concluded = c.conclusion_of-p.ensures in
+    let terms = c.deref.result.now in
+    let stated_is = connected-is c.in-Ok-connect.stated or_name a b c.conclusion_of-p.result.now b concluded.formula.typed passed.formula.typed concluded.value refl c.in-Ok-connect.ensures in
+    let terms_are : terms ≡ at_p_q a b = c.deref.ensures.value ∙ c.in-Ok-for_p_q.ensures.ok ∙ ap (λ (t : NamedTerm). at_p_q t b) concluded.value in
+    disj1-answered c.by_theorem.result theory b premise passed
+    (λ room part whole.
+    subst (λ (s : NamedTerm). LeadsTo theory 27 terms room (image a) (image s) → DerivesIf room c.by_theorem.result (images premise) (image s)) stated_is
+    (λ leads. c.by_theorem.ensures.derives (images premise) (image a) room leads (shows-itself premise))
+    (disj1-leads theory a b terms concluded.formula passed.formula terms_are room (roomy-fits room (image a) part) (roomy-fits room (image (disjunction a b)) whole)))
+    (subst (λ (s : NamedTerm). IfOk c.by_theorem.result (λ made. made.theorem.conclusion ≡ s)) stated_is c.by_theorem.ensures.names)

@@ -1,0 +1,45 @@
+use Rattle.std.proofs.Common.{◌≡◌, ◌∙◌, refl, subst}
+use Rattle.hol_model.specs.Nameless.{const, image}
+use Rattle.hol_model.specs.NamedTerm.{NamedTerm}
+use Rattle.hol_model.specs.Logic.{binary, implies_name}
+use Rattle.hol_model.specs.NamedLogic.{disjunction, implication}
+use Rattle.hol_bool.specs.Room.{LeadsTo, at_p_q_r}
+use Rattle.hol_bool.specs.Sequents.{DerivesIf}
+use Rattle.hol_bool.specs.Disjunctions.{other_case, both_cases}
+use Rattle.hol_bool.proofs.RoomLemmas.{connected-is, connected-past, connected-typed, fits-left}
+use Rattle.hol_bool.proofs.DisjunctionAnswers.{other-typed, cases-leads}
+use Rattle.hol_bool.proofs.disjunction_rules.eliminated.Goals as goal
+
+pub returns-in-Err-clause-derives : goal.returns-in-Err-clause-derives
+returns-in-Err-clause-derives c h room shown whole stated =
+    let p = c.args.sides.left.now in
+    let q = c.args.sides.right.now in
+    let r = c.args.r.now in
+    connected-past c.in-Err.fault implies_name p r p r c.requires.left.typed c.requires.r.typed refl refl c.in-Err.ensures room
+    (fits-left room (const implies_name binary) (image (implication p r)) (image (other_case q r)) stated)
+
+pub returns-in-Err-connect-clause-derives : goal.returns-in-Err-connect-clause-derives
+returns-in-Err-connect-clause-derives c h room shown whole stated =
+    let p = c.args.sides.left.now in
+    let q = c.args.sides.right.now in
+    let r = c.args.r.now in
+    let case_is = connected-is c.in-Ok.case implies_name p r p r c.requires.left.typed c.requires.r.typed refl refl c.in-Ok.ensures in
+    connected-past c.in-Err-connect.fault implies_name (implication p r) (other_case q r) c.in-Ok.case c.args.rest.now (connected-typed implies_name p r c.requires.left.typed c.requires.r.typed)
+    (other-typed q r c.requires.right.typed c.requires.r.typed) case_is c.requires.rest c.in-Err-connect.ensures room stated
+
+pub returns-clause-derives : goal.returns-clause-derives
+returns-clause-derives c h room shown whole stated =
+    let theory = c.args.recorder.now.theory in
+    let p = c.args.sides.left.now in
+    let q = c.args.sides.right.now in
+    let r = c.args.r.now in
+    let terms = c.deref.result.now in
+    let premise = image (disjunction p q) in
+    let case_is = connected-is c.in-Ok.case implies_name p r p r c.requires.left.typed c.requires.r.typed refl refl c.in-Ok.ensures in
+    let stated_is : c.in-Ok-connect.stated ≡ both_cases p q r =
+    connected-is c.in-Ok-connect.stated implies_name (implication p r) (other_case q r) c.in-Ok.case c.args.rest.now (connected-typed implies_name p r c.requires.left.typed c.requires.r.typed)
+    (other-typed q r c.requires.right.typed c.requires.r.typed) case_is c.requires.rest c.in-Ok-connect.ensures in
+    let terms_are : terms ≡ at_p_q_r p q r = c.deref.ensures.value ∙ c.in-Ok-for_p_q_r.ensures.ok in
+    subst (λ (s : NamedTerm). LeadsTo theory 29 terms room premise (image s) → DerivesIf room c.by_theorem.result h (image s)) stated_is
+    (λ leads. c.by_theorem.ensures.derives h premise room leads shown)
+    (cases-leads theory p q r terms c.requires.left c.requires.right c.requires.r terms_are room whole stated)

@@ -1,0 +1,21 @@
+use Rattle.std.proofs.Common.{refl, subst}
+use Rattle.hol_model.specs.Nameless.{const, image}
+use Rattle.hol_model.specs.NamedTerm.{NamedTerm}
+use Rattle.hol_model.specs.Logic.{binary, implies_name}
+use Rattle.hol_model.specs.NamedLogic.{implication}
+use Rattle.hol_bool.proofs.RoomLemmas.{MakesConnected, connected-is, connected-past, connected-typed, fits-left}
+use Rattle.hol_bool.proofs.disjunction_rules.other_case.Goals as goal
+
+pub returns-in-Err : goal.returns-in-Err
+returns-in-Err c room q_typed r_typed fits =
+    let q = c.args.q.now in
+    let r = c.args.r.now in
+    connected-past c.in-Err.fault implies_name q r q r q_typed r_typed refl refl c.in-Err.ensures room
+    (fits-left room (const implies_name binary) (image (implication q r)) (image r) fits)
+
+pub returns : goal.returns
+returns c room q_typed r_typed fits =
+    let q = c.args.q.now in
+    let r = c.args.r.now in
+    let case_is = connected-is c.in-Ok.case implies_name q r q r q_typed r_typed refl refl c.in-Ok.ensures in
+    subst (λ (t : NamedTerm). MakesConnected c.connect-2.result implies_name t r) case_is c.connect-2.ensures room (connected-typed implies_name q r q_typed r_typed) r_typed fits

@@ -1,0 +1,55 @@
+use Rattle.std.proofs.Common.{◌≡◌, ◌∙◌, [], ◌∷◌, Err, IfOk, refl, subst, inl, inr}
+use Rattle.hol_model.specs.NamedTerm.{NamedTerm}
+use Rattle.hol_model.specs.Nameless.{const, app, image}
+use Rattle.hol_model.specs.Logic.{or_name, binary}
+use Rattle.hol_model.specs.NamedLogic.{disjunction, negation}
+use Rattle.hol_model.specs.DerivedRules.{stated, excluded_middle_outcome}
+use Rattle.hol_bool.specs.Prelude.{middle}
+use Rattle.hol_bool.specs.Room.{Says}
+use Rattle.hol_bool.specs.Sequents.{DerivesIf}
+use Rattle.hol_bool.proofs.RoomLemmas.{negation-is, negation-typed, connected-is, connected-past, fits-argument}
+use Rattle.hol_bool.proofs.RuleAnswers.{answered, says-p, roomy-fits}
+use Rattle.hol_bool.proofs.middle_rules.excluded_middle.Goals as goal
+
+pub returns-in-Err-negate-clause-outcome : goal.returns-in-Err-negate-clause-outcome
+returns-in-Err-negate-clause-outcome c =
+    let theory = c.args.recorder.now.theory in
+    let a = c.args.p.now in
+    let passed = c.in-Ok.ensures.ok in
+    let whole = disjunction a (negation a) in
+    let outcome : excluded_middle_outcome theory a ≡ stated [] whole = rw (passed.is_formula, passed.is_known) refl in
+    answered (Err c.in-Err-negate.fault) (image a ∷ []) [] [] whole (excluded_middle_outcome theory a) outcome (record { to = λ x m. m; back = λ x m. m })
+    (λ room roomy. c.in-Err-negate.ensures room passed.formula.typed
+    (fits-argument room (app (const or_name binary) (image a)) (image (negation a)) (roomy-fits room (image whole) (roomy (image whole) (inr (inl refl)))))) tt
+
+pub returns-in-Err-connect-clause-outcome : goal.returns-in-Err-connect-clause-outcome
+returns-in-Err-connect-clause-outcome c =
+    let theory = c.args.recorder.now.theory in
+    let a = c.args.p.now in
+    let passed = c.in-Ok.ensures.ok in
+    let typed = passed.formula.typed in
+    let whole = disjunction a (negation a) in
+    let outcome : excluded_middle_outcome theory a ≡ stated [] whole = rw (passed.is_formula, passed.is_known) refl in
+    let negated_is = negation-is c.in-Ok-negate.negated a typed c.in-Ok-negate.ensures in
+    answered (Err c.in-Err-connect.fault) (image a ∷ []) [] [] whole (excluded_middle_outcome theory a) outcome (record { to = λ x m. m; back = λ x m. m })
+    (λ room roomy. connected-past c.in-Err-connect.fault or_name a (negation a) a c.in-Ok-negate.negated typed (negation-typed a typed) refl negated_is c.in-Err-connect.ensures room
+    (roomy-fits room (image whole) (roomy (image whole) (inr (inl refl))))) tt
+
+pub returns-clause-outcome : goal.returns-clause-outcome
+returns-clause-outcome c =
+    let theory = c.args.recorder.now.theory in
+    let a = c.args.p.now in
+    let passed = c.in-Ok.ensures.ok in
+    let typed = passed.formula.typed in
+    let whole = disjunction a (negation a) in
+    let terms = c.deref.result.now in
+    let result = c.instance_of_theorem.result in
+    let outcome : excluded_middle_outcome theory a ≡ stated [] whole = rw (passed.is_formula, passed.is_known) refl in
+    let negated_is = negation-is c.in-Ok-negate.negated a typed c.in-Ok-negate.ensures in
+    let stated_is = connected-is c.in-Ok-connect.stated or_name a (negation a) a c.in-Ok-negate.negated typed (negation-typed a typed) refl negated_is c.in-Ok-connect.ensures in
+    answered result (image a ∷ []) [] [] whole (excluded_middle_outcome theory a) outcome (record { to = λ x m. m; back = λ x m. m })
+    (λ room roomy.
+    subst (λ (s : NamedTerm). Says theory 34 terms room (image s) → DerivesIf room result [] (image s)) stated_is (c.instance_of_theorem.ensures.derives room)
+    (says-p theory 34 middle a terms refl refl passed.formula (c.deref.ensures.value ∙ c.in-Ok-for_p.ensures.ok) room (image whole) refl
+    (roomy-fits room (image whole) (roomy (image whole) (inr (inl refl))))))
+    (subst (λ (s : NamedTerm). IfOk result (λ made. made.theorem.conclusion ≡ s)) stated_is c.instance_of_theorem.ensures.names)

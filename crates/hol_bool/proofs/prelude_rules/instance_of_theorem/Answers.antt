@@ -1,0 +1,34 @@
+use Rattle.std.proofs.Common.{[], ◌∷◌, sym, subst, refl}
+use Rattle.std.specs.List.{list_all}
+use Rattle.hol_model.specs.HolType.{bool_type}
+use Rattle.hol_model.specs.Nameless.{Nameless, image}
+use Rattle.hol_model.specs.Measures.{nameless_within_limits}
+use Rattle.hol_model.specs.Derivable.{nameless_equation}
+use Rattle.hol_model.specs.Instantiation.{instantiate_all}
+use Rattle.hol_bool.specs.Sequents.{Shows, instance_of}
+use Rattle.hol_bool.proofs.Sizes.{past-room}
+use Rattle.hol_bool.proofs.CutLemmas.{derives-where}
+use Rattle.hol_bool.proofs.PreludeSteps.{says-shows, says-fits, equation-fits}
+use Rattle.hol_bool.proofs.prelude_rules.instance_of_theorem.Goals as goal
+
+pub returns-in-Err-clause-derives : goal.returns-in-Err-clause-derives
+returns-in-Err-clause-derives c room says =
+    let theory = c.args.recorder.now.theory in
+    let terms = c.args.terms.now in
+    let stated = image c.args.stated.now in
+    let d = image says.stated in
+    past-room c.in-Err.fault (list_all nameless_within_limits (instantiate_all [] d ∷ instance_of [] terms d ∷ [])) room
+    (c.in-Err.ensures.derives refl says.may_replace [] d (says-shows theory c.args.number terms room stated says c.theorem_of-lemma.result.now.theorem c.theorem_of-lemma.ensures.theorem))
+    (says-fits theory c.args.number terms room stated says)
+
+pub returns-clause-derives : goal.returns-clause-derives
+returns-clause-derives c room says =
+    let theory = c.args.recorder.now.theory in
+    let terms = c.args.terms.now in
+    let stated = image c.args.stated.now in
+    let d = image says.stated in
+    let answer : Shows c.in-Ok.answer.theorem [] (instance_of [] terms d) =
+    c.in-Ok.ensures.derives refl says.may_replace [] d (says-shows theory c.args.number terms room stated says c.theorem_of-lemma.result.now.theorem c.theorem_of-lemma.ensures.theorem) in
+    derives-where (nameless_within_limits (nameless_equation bool_type stated stated)) room c.named.result [] stated
+    (equation-fits room stated stated says.conclusion_fits says.conclusion_fits)
+    (c.named.ensures.derives [] (subst (λ (t : Nameless). Shows c.in-Ok.answer.theorem [] t) (sym says.conclusion_is) answer))

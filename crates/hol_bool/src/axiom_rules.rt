@@ -1,0 +1,56 @@
+// Theorems of the prelude again, on the theory that the recorder has now.
+ghost use Rattle.std.specs.Prelude.{◌≡◌, ◌<◌, [], length, IfOk, IfErr};
+ghost use Rattle.hol_model.specs.declared.fault.Fault.TheVariants.{Memory};
+ghost use Rattle.hol_model.specs.NamedTerm.{NamedTerm};
+ghost use Rattle.hol_bool.specs.Axioms.{IsAxiom, eta_axiom, select_axiom};
+ghost use Rattle.hol_bool.specs.HasLogic.{HasLogic};
+ghost use Rattle.hol_bool.specs.Prelude.{prelude_theorems};
+ghost use Rattle.hol_bool.specs.Sequents.{Continues};
+
+use crate::equality::named;
+use crate::numbers::{ETA_AX, SELECT_AX};
+use crate::prelude_rules::conclusion_of;
+use crate::stored::{Bool, theorem_of};
+use hol_journal::{Rec, Recorder};
+use hol_model::Fault;
+use std::alloc::Global;
+
+// The theorem of this number, which has no hypotheses.
+fn restated(
+    recorder: &mut Recorder,
+    alloc: Global,
+    logic: &Bool,
+    number: usize,
+) -> Result<Rec, Fault>
+    requires logic { HasLogic recorder.old logic.now }
+    requires number { number < length prelude_theorems }
+    ensures continues { Continues recorder.old recorder.new result }
+    ensures ok { (conclusion : NamedTerm) → IsAxiom number conclusion → IfOk result (λ made. made.theorem ≡ record { theory = recorder.old.theory; hypotheses = []; conclusion = conclusion }) }
+    ensures err { (conclusion : NamedTerm) → IsAxiom number conclusion → IfErr result (λ fault. fault ≡ Memory) }
+{
+    let stored = theorem_of(recorder, logic, number);
+    let conclusion = conclusion_of(recorder, stored);
+    named(recorder, alloc, conclusion, stored)
+}
+
+/// ETA_AX: `!t. (\x. t x) = t`, on the theory that the recorder has now. It is refused where there is no memory, and for
+/// no other reason.
+pub fn eta_ax(recorder: &mut Recorder, alloc: Global, logic: &Bool) -> Result<Rec, Fault>
+    requires { HasLogic recorder.old logic.now }
+    ensures continues { Continues recorder.old recorder.new result }
+    ensures ok { IfOk result (λ made. made.theorem ≡ record { theory = recorder.old.theory; hypotheses = []; conclusion = eta_axiom }) }
+    ensures err { IfErr result (λ fault. fault ≡ Memory) }
+{
+    restated(recorder, alloc, logic, ETA_AX)
+}
+
+/// SELECT_AX: `!P x. P x ==> P (@ P)`, on the theory that the recorder has now. It is refused where there is no memory,
+/// and for no other reason.
+pub fn select_ax(recorder: &mut Recorder, alloc: Global, logic: &Bool) -> Result<Rec, Fault>
+    requires { HasLogic recorder.old logic.now }
+    ensures continues { Continues recorder.old recorder.new result }
+    ensures ok { IfOk result (λ made. made.theorem ≡ record { theory = recorder.old.theory; hypotheses = []; conclusion = select_axiom }) }
+    ensures err { IfErr result (λ fault. fault ≡ Memory) }
+{
+    restated(recorder, alloc, logic, SELECT_AX)
+}

@@ -1,0 +1,225 @@
+// Rules of disjunction.
+ghost use Rattle.std.specs.Prelude.{◌≡◌, ◌++◌, ◌∷◌, List, IfOk, Some};
+ghost use Rattle.hol_model.specs.HolType.{bool_type};
+ghost use Rattle.hol_model.specs.NamedTerm.{type_of};
+ghost use Rattle.hol_model.specs.Nameless.{Nameless, image};
+ghost use Rattle.hol_model.specs.Logic as nameless;
+ghost use Rattle.hol_model.specs.NamedLogic.{disjunction};
+ghost use Rattle.hol_model.specs.Derivable.{without, nameless_equation};
+ghost use Rattle.hol_model.specs.DerivedRules.{AnswersStated, terms_of_theorem, disj1_outcome, disj2_outcome, disj_cases_outcome};
+ghost use Rattle.hol_journal.specs.Journal.{IsMade, theorem_in};
+ghost use Rattle.hol_bool.specs.HasLogic.{HasLogic};
+ghost use Rattle.hol_bool.specs.Formulas.{IsFormula};
+ghost use Rattle.hol_bool.specs.Room.{Room, FitsIf, MakesIf};
+ghost use Rattle.hol_bool.specs.Disjunctions.{LeavesRoomIf, other_case, both_cases};
+ghost use Rattle.hol_bool.specs.Sequents.{Shows, DerivesIf, Continues};
+
+use crate::formula_terms::{Sides, connect, for_p_q, for_p_q_r};
+use crate::implication_rules::{discharged, implied};
+use crate::numbers::{DISJ_CASES, DISJ1, DISJ2};
+use crate::prelude_rules::{by_theorem, conclusion_of, pass_formula, sides_of};
+use crate::stored::Bool;
+use hol_alpha::aconv;
+use hol_journal::{Rec, Recorder};
+use hol_model::Fault;
+use hol_terms::Term;
+use std::alloc::Global;
+
+/// DISJ1: from `p`, `p \/ q`, in six steps. Refused where `q` is not of type `bool`, and then where the theory does not
+/// know a type or a constant of it.
+pub fn disj1(
+    recorder: &mut Recorder,
+    alloc: Global,
+    logic: &Bool,
+    q: &Term,
+    premise: &Rec,
+) -> Result<Rec, Fault>
+    requires logic { HasLogic recorder.old logic.now }
+    requires premise { IsMade recorder.old premise.now }
+    ensures continues { Continues recorder.old recorder.new result }
+    ensures outcome { AnswersStated (theorem_in result) (image q.now ∷ terms_of_theorem premise.now.theorem) (disj1_outcome recorder.old.theory q.now premise.now.theorem) }
+{
+    match pass_formula(recorder, alloc, q) {
+        Ok(()) => {}
+        Err(fault) => return Err(fault),
+    }
+    let p = conclusion_of(recorder, premise);
+    let stated = match connect(alloc, "\\/", p, q) {
+        Ok(stated) => stated,
+        Err(fault) => return Err(fault),
+    };
+    let terms = match for_p_q(alloc, p, q) {
+        Ok(terms) => terms,
+        Err(fault) => return Err(fault),
+    };
+    by_theorem(recorder, alloc, logic, DISJ1, &terms, &stated, premise)
+}
+
+/// DISJ2: from `q`, `p \/ q`, in six steps. Refused where `p` is not of type `bool`, and then where the theory does not
+/// know a type or a constant of it.
+pub fn disj2(
+    recorder: &mut Recorder,
+    alloc: Global,
+    logic: &Bool,
+    p: &Term,
+    premise: &Rec,
+) -> Result<Rec, Fault>
+    requires logic { HasLogic recorder.old logic.now }
+    requires premise { IsMade recorder.old premise.now }
+    ensures continues { Continues recorder.old recorder.new result }
+    ensures outcome { AnswersStated (theorem_in result) (image p.now ∷ terms_of_theorem premise.now.theorem) (disj2_outcome recorder.old.theory p.now premise.now.theorem) }
+{
+    match pass_formula(recorder, alloc, p) {
+        Ok(()) => {}
+        Err(fault) => return Err(fault),
+    }
+    let q = conclusion_of(recorder, premise);
+    let stated = match connect(alloc, "\\/", p, q) {
+        Ok(stated) => stated,
+        Err(fault) => return Err(fault),
+    };
+    let terms = match for_p_q(alloc, p, q) {
+        Ok(terms) => terms,
+        Err(fault) => return Err(fault),
+    };
+    by_theorem(recorder, alloc, logic, DISJ2, &terms, &stated, premise)
+}
+
+// `(q ==> r) ==> r`, of formulas.
+fn other_case(alloc: Global, q: &Term, r: &Term) -> Result<Term, Fault>
+    ensures { (room : Room) → type_of q.now ≡ Some bool_type → type_of r.now ≡ Some bool_type → FitsIf room (image (other_case q.now r.now)) → MakesIf room result (other_case q.now r.now) }
+{
+    let case = match connect(alloc, "==>", q, r) {
+        Ok(case) => case,
+        Err(fault) => return Err(fault),
+    };
+    connect(alloc, "==>", &case, r)
+}
+
+// From `p \/ q`, `(p ==> r) ==> (q ==> r) ==> r`, what is behind the first `==>` being handed in.
+fn eliminated(
+    recorder: &mut Recorder,
+    alloc: Global,
+    logic: &Bool,
+    sides: Sides,
+    r: &Term,
+    rest: &Term,
+    theorem: &Rec,
+) -> Result<Rec, Fault>
+    requires logic { HasLogic recorder.old logic.now }
+    requires left { IsFormula recorder.old.theory sides.left.now }
+    requires right { IsFormula recorder.old.theory sides.right.now }
+    requires r { IsFormula recorder.old.theory r.now }
+    requires rest { rest.now ≡ other_case sides.right.now r.now }
+    requires theorem { IsMade recorder.old theorem.now }
+    ensures continues { Continues recorder.old recorder.new result }
+    ensures derives { (h : List Nameless) (room : Room) → Shows theorem.now.theorem h (image (disjunction sides.entry.left.now sides.entry.right.now)) → FitsIf room (image (disjunction sides.entry.left.now sides.entry.right.now)) → FitsIf room (image (both_cases sides.entry.left.now sides.entry.right.now r.now)) → DerivesIf room result h (image (both_cases sides.entry.left.now sides.entry.right.now r.now)) }
+{
+    let case = match connect(alloc, "==>", sides.left, r) {
+        Ok(case) => case,
+        Err(fault) => return Err(fault),
+    };
+    let stated = match connect(alloc, "==>", &case, rest) {
+        Ok(stated) => stated,
+        Err(fault) => return Err(fault),
+    };
+    let terms = match for_p_q_r(alloc, sides.left, sides.right, r) {
+        Ok(terms) => terms,
+        Err(fault) => return Err(fault),
+    };
+    by_theorem(recorder, alloc, logic, DISJ_CASES, &terms, &stated, theorem)
+}
+
+// From `(p ==> r) ==> s` and `r`, the `s` that is handed in, without the hypothesis `p` of the second.
+#[tactic(auto, using(crate::proofs::StepLemmas::still_made, crate::proofs::StepLemmas::now_made, crate::proofs::PreludeSteps::still_logical, crate::proofs::PreludeSteps::still_formula))]
+fn with_case(
+    recorder: &mut Recorder,
+    alloc: Global,
+    logic: &Bool,
+    p: &Term,
+    consequent: &Term,
+    whole: &Rec,
+    case: &Rec,
+) -> Result<Rec, Fault>
+    requires logic { HasLogic recorder.old logic.now }
+    requires p { IsFormula recorder.old.theory p.now }
+    requires consequent { IsFormula recorder.old.theory consequent.now }
+    requires whole { IsMade recorder.old whole.now }
+    requires case { IsMade recorder.old case.now }
+    ensures continues { Continues recorder.old recorder.new result }
+    ensures names { IfOk result (λ made. made.theorem.conclusion ≡ consequent.now) }
+    ensures derives { (h k : List Nameless) (r : Nameless) (room : Room) → Shows whole.now.theorem h (nameless.implication (nameless.implication (image p.now) r) (image consequent.now)) → Shows case.now.theorem k r → FitsIf room (nameless_equation bool_type (nameless.conjunction (image p.now) r) (nameless.conjunction (image p.now) r)) → FitsIf room (nameless_equation bool_type (nameless.implication (nameless.implication (image p.now) r) (image consequent.now)) (image consequent.now)) → DerivesIf room result (without (image p.now) k ++ h) (image consequent.now) }
+{
+    let implication = match discharged(recorder, alloc, logic, p, case) {
+        Ok(implication) => implication,
+        Err(fault) => return Err(fault),
+    };
+    implied(recorder, alloc, logic, consequent, whole, &implication)
+}
+
+// DISJ_CASES, with the room that it needs: from `p \/ q`, `r` and `r`, the `r` of the first case.
+#[tactic(auto, using(crate::proofs::StepLemmas::still_made, crate::proofs::StepLemmas::now_made, crate::proofs::PreludeSteps::still_logical, crate::proofs::PreludeSteps::still_formula))]
+fn by_cases(
+    recorder: &mut Recorder,
+    alloc: Global,
+    logic: &Bool,
+    sides: Sides,
+    theorem: &Rec,
+    first: &Rec,
+    second: &Rec,
+) -> Result<Rec, Fault>
+    requires logic { HasLogic recorder.old logic.now }
+    requires left { IsFormula recorder.old.theory sides.left.now }
+    requires right { IsFormula recorder.old.theory sides.right.now }
+    requires theorem { IsMade recorder.old theorem.now }
+    requires first { IsMade recorder.old first.now }
+    requires second { IsMade recorder.old second.now }
+    ensures continues { Continues recorder.old recorder.new result }
+    ensures names { IfOk result (λ made. made.theorem.conclusion ≡ first.now.theorem.conclusion) }
+    ensures derives { (h i j : List Nameless) (r : Nameless) (room : Room) → Shows theorem.now.theorem h (image (disjunction sides.entry.left.now sides.entry.right.now)) → Shows first.now.theorem i r → Shows second.now.theorem j r → LeavesRoomIf room (image sides.entry.left.now) → LeavesRoomIf room (image sides.entry.right.now) → LeavesRoomIf room r → DerivesIf room result (without (image sides.entry.right.now) j ++ (without (image sides.entry.left.now) i ++ h)) r }
+{
+    let r = conclusion_of(recorder, first);
+    let rest = match other_case(alloc, sides.right, r) {
+        Ok(rest) => rest,
+        Err(fault) => return Err(fault),
+    };
+    let cases = match eliminated(recorder, alloc, logic, sides, r, &rest, theorem) {
+        Ok(cases) => cases,
+        Err(fault) => return Err(fault),
+    };
+    let other = match with_case(recorder, alloc, logic, sides.left, &rest, &cases, first) {
+        Ok(other) => other,
+        Err(fault) => return Err(fault),
+    };
+    with_case(recorder, alloc, logic, sides.right, r, &other, second)
+}
+
+/// DISJ_CASES: from `p \/ q`, `r` and `r`, `r` without the hypothesis `p` of the first case and `q` of the second, in 64
+/// steps. Refused where the conclusion is no disjunction, and then where the cases' conclusions differ in more than the names
+/// of bound variables.
+pub fn disj_cases(
+    recorder: &mut Recorder,
+    alloc: Global,
+    logic: &Bool,
+    theorem: &Rec,
+    first: &Rec,
+    second: &Rec,
+) -> Result<Rec, Fault>
+    requires logic { HasLogic recorder.old logic.now }
+    requires theorem { IsMade recorder.old theorem.now }
+    requires first { IsMade recorder.old first.now }
+    requires second { IsMade recorder.old second.now }
+    ensures continues { Continues recorder.old recorder.new result }
+    ensures outcome { AnswersStated (theorem_in result) (terms_of_theorem theorem.now.theorem ++ (terms_of_theorem first.now.theorem ++ terms_of_theorem second.now.theorem)) (disj_cases_outcome theorem.now.theorem first.now.theorem second.now.theorem) }
+{
+    let Some(sides) = sides_of(recorder, logic, theorem, "\\/") else {
+        return Err(Fault::BadShape);
+    };
+    if !aconv(
+        conclusion_of(recorder, first),
+        conclusion_of(recorder, second),
+    ) {
+        return Err(Fault::NotAlpha);
+    }
+    by_cases(recorder, alloc, logic, sides, theorem, first, second)
+}

@@ -1,0 +1,46 @@
+// The rule of excluded middle.
+ghost use Rattle.std.specs.Prelude.{[], ◌∷◌};
+ghost use Rattle.hol_model.specs.Nameless.{image};
+ghost use Rattle.hol_model.specs.DerivedRules.{AnswersStated, excluded_middle_outcome};
+ghost use Rattle.hol_journal.specs.Journal.{theorem_in};
+ghost use Rattle.hol_bool.specs.HasLogic.{HasLogic};
+ghost use Rattle.hol_bool.specs.Sequents.{Continues};
+
+use crate::formula_terms::{connect, for_p, negate};
+use crate::prelude_rules::{instance_of_theorem, pass_formula};
+use crate::stored::Bool;
+use hol_journal::{Rec, Recorder};
+use hol_model::Fault;
+use hol_terms::Term;
+use std::alloc::Global;
+
+/// EXCLUDED_MIDDLE: `p \/ ~p`. Refused where `p` is not of type `bool`, and then where the theory does not know a type or
+/// a constant of it.
+pub fn excluded_middle(
+    recorder: &mut Recorder,
+    alloc: Global,
+    logic: &Bool,
+    p: &Term,
+) -> Result<Rec, Fault>
+    requires logic { HasLogic recorder.old logic.now }
+    ensures continues { Continues recorder.old recorder.new result }
+    ensures outcome { AnswersStated (theorem_in result) (image p.now ∷ []) (excluded_middle_outcome recorder.old.theory p.now) }
+{
+    match pass_formula(recorder, alloc, p) {
+        Ok(()) => {}
+        Err(fault) => return Err(fault),
+    }
+    let negated = match negate(alloc, p) {
+        Ok(negated) => negated,
+        Err(fault) => return Err(fault),
+    };
+    let stated = match connect(alloc, "\\/", p, &negated) {
+        Ok(stated) => stated,
+        Err(fault) => return Err(fault),
+    };
+    let terms = match for_p(alloc, p) {
+        Ok(terms) => terms,
+        Err(fault) => return Err(fault),
+    };
+    instance_of_theorem(recorder, alloc, logic, 34, &terms, &stated)
+}

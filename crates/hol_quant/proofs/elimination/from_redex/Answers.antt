@@ -1,0 +1,43 @@
+use Rattle.std.proofs.Common.{◌≡◌, ◌∙◌, [], ◌∷◌, ap, inl, subst, sym}
+use Rattle.hol_model.specs.HolType.{bool_type}
+use Rattle.hol_model.specs.NamedTerm.{NamedTerm}
+use Rattle.hol_model.specs.Nameless.{Nameless, image}
+use Rattle.hol_model.specs.Theory.{Theory, IsKnown}
+use Rattle.hol_model.specs.DerivedRules.{is_roomy}
+use Rattle.hol_bool.specs.Conversions.{conversion_fits}
+use Rattle.hol_bool.specs.Sequents.{Shows}
+use Rattle.hol_bool.proofs.CutLemmas.{given-derives}
+use Rattle.hol_bool.proofs.Sizes.{past-room}
+use Rattle.hol_quant.proofs.ChooseLemmas.{formula, applied, witness, argument-typed, applied_image, applied-formula, none-unknown, conversion-fits}
+use Rattle.hol_quant.proofs.elimination.from_redex.Goals as goal
+
+pub returns-in-Err-clause-derives : goal.returns-in-Err-clause-derives
+returns-in-Err-clause-derives c at is =
+    let theory = c.args.recorder.now.theory in
+    let function = c.args.function.now in
+    let binder = c.args.binder.now in
+    let argument = c.args.argument.now in
+    past-room c.in-Err.fault (conversion_fits at.name at.ty bool_type at.body argument) (is_roomy (formula theory function binder argument at))
+    (c.in-Err.ensures.derives at.name at.ty bool_type at.body at.function_is at.binder_is at.body_typed (argument-typed theory function binder argument at) (none-unknown theory function binder argument at))
+    (conversion-fits theory function binder argument at)
+
+pub returns-in-Err-assume-clause-derives : goal.returns-in-Err-assume-clause-derives
+returns-in-Err-assume-clause-derives c at is =
+    let theory = c.args.recorder.now.theory in
+    let known = subst (λ (t : NamedTerm). IsKnown theory (image t) bool_type) (sym is) (applied-formula theory c.args.function.now c.args.binder.now c.args.argument.now at).known in
+    inl (c.in-Err-assume.ensures.gives (subst (λ (th : Theory). IsKnown th (image c.args.applied.now) bool_type) (sym c.in-Ok.ensures.continues.theory) known))
+
+pub returns-clause-derives : goal.returns-clause-derives
+returns-clause-derives c at is =
+    let theory = c.args.recorder.now.theory in
+    let function = c.args.function.now in
+    let binder = c.args.binder.now in
+    let argument = c.args.argument.now in
+    let redex = applied theory function binder argument at in
+    let result = witness theory function binder argument at in
+    let equation = c.in-Ok.ensures.derives at.name at.ty bool_type at.body at.function_is at.binder_is at.body_typed (argument-typed theory function binder argument at) (none-unknown theory function binder argument at) in
+    let known = subst (λ (t : NamedTerm). IsKnown theory (image t) bool_type) (sym is) (applied-formula theory function binder argument at).known in
+    let redex_is : image c.args.applied.now ≡ redex = ap image is ∙ applied_image theory function binder argument at in
+    let assumed = subst (λ (t : Nameless). Shows c.in-Ok-assume.assumed.theorem (t ∷ []) t) redex_is
+    (c.in-Ok-assume.ensures.gives (subst (λ (th : Theory). IsKnown th (image c.args.applied.now) bool_type) (sym c.in-Ok.ensures.continues.theory) known)) in
+    given-derives (is_roomy (formula theory function binder argument at)) c.eq_mp.result (redex ∷ []) result (c.eq_mp.ensures.gives [] (redex ∷ []) redex result equation assumed)

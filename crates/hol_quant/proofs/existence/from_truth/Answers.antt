@@ -1,0 +1,33 @@
+use Rattle.std.proofs.Common.{◌≡◌, [], ◌∷◌, List, subst, sym, refl, None}
+use Rattle.std.specs.Prelude.{codes}
+use Rattle.std.specs.List.{list_all}
+use Rattle.hol_model.specs.HolType.{bool_type}
+use Rattle.hol_model.specs.NamedTerm.{NamedTerm, variable}
+use Rattle.hol_model.specs.Nameless.{image}
+use Rattle.hol_model.specs.Measures.{nameless_within_limits}
+use Rattle.hol_model.specs.Derivable.{nameless_equation}
+use Rattle.hol_model.specs.Instantiation.{instantiate_all, replacements_refusal}
+use Rattle.hol_model.proofs.Images.{image-type}
+use Rattle.hol_bool.specs.Sequents.{Shows, DerivesIf, instance_of}
+use Rattle.hol_bool.proofs.CutLemmas.{derives-where}
+use Rattle.hol_quant.proofs.GenLemmas.{truth, proposition, formula-passes}
+use Rattle.hol_quant.proofs.ExistsLemmas.{back-fits}
+use Rattle.hol_quant.proofs.existence.from_truth.Goals as goal
+
+pub returns-clause-derives : goal.returns-clause-derives
+returns-clause-derives c room h known fits shown =
+    let formula = c.args.formula.now in
+    let p = image formula in
+    let theory = c.args.recorder.now.theory in
+    let typed = image-type formula bool_type known.typed in
+    let equal = nameless_equation bool_type proposition truth in
+    let theta : List (NamedTerm × NamedTerm) = c.in-Ok.of_formula ∷ [] in
+    let wanted : List (NamedTerm × NamedTerm) = (formula, variable (codes "p") bool_type) ∷ [] in
+    let theta_is : theta ≡ wanted = λ i. c.in-Ok.ensures.ok i ∷ [] in
+    let passes = subst (λ (l : List (NamedTerm × NamedTerm)). replacements_refusal theory l ≡ None) (sym theta_is) (formula-passes theory formula typed known) in
+    let shows = subst (λ (l : List (NamedTerm × NamedTerm)). Shows c.args.premise.now.theorem h (instance_of [] l equal)) (sym theta_is) shown in
+    derives-where
+    (list_all nameless_within_limits (proposition ∷ equal ∷ p ∷ nameless_equation bool_type p truth ∷ nameless_equation bool_type (nameless_equation bool_type p truth) p ∷ []))
+    room c.by_lemma.result h p (back-fits room p fits)
+    (subst (λ (l : List (NamedTerm × NamedTerm)). DerivesIf (list_all nameless_within_limits (instantiate_all [] proposition ∷ instantiate_all [] equal ∷ instance_of [] l proposition ∷ instance_of [] l equal ∷ nameless_equation bool_type (instance_of [] l equal) (instance_of [] l proposition) ∷ [])) c.by_lemma.result h (instance_of [] l proposition)) theta_is
+    (c.by_lemma.ensures.derives refl passes h equal proposition c.requires.shows shows))

@@ -1,0 +1,64 @@
+use Rattle.std.proofs.Common.{◌≡◌, subst, sym}
+use Rattle.std.specs.List.{list_all}
+use Rattle.hol_model.specs.HolType.{bool_type}
+use Rattle.hol_model.specs.Logic.{exists_name, predicate}
+use Rattle.hol_model.specs.Nameless.{Nameless, image}
+use Rattle.hol_model.specs.Measures.{nameless_within_limits}
+use Rattle.hol_model.specs.Theory.{Theory, IsKnown}
+use Rattle.hol_model.specs.Derivable.{nameless_equation}
+use Rattle.hol_model.specs.DerivedRules.{images, is_roomy}
+use Rattle.hol_journal.proofs.GrowthLemmas.{journals-grow}
+use Rattle.hol_bool.specs.Sequents.{Shows}
+use Rattle.hol_bool.proofs.Sizes.{past-room}
+use Rattle.hol_bool.proofs.CutLemmas.{derives-where}
+use Rattle.hol_quant.specs.PredicateLemmas.{applied, over_predicate, lemma_fits}
+use Rattle.hol_quant.proofs.PreludeParts.{witness-shows}
+use Rattle.hol_quant.proofs.ExistsLemmas.{small, predicate_known, redex-at, formula-at, exists-lemma-within, exists-names-within}
+use Rattle.hol_quant.proofs.existence.witnessed.Goals as goal
+
+pub returns-in-Err-clause-derives : goal.returns-in-Err-clause-derives
+returns-in-Err-clause-derives c at = c.in-Err.ensures.derives c.args.formula.now at
+
+pub by_predicate_lemma-requires-clause-lemma : goal.by_predicate_lemma-requires-clause-lemma
+by_predicate_lemma-requires-clause-lemma c =
+    journals-grow.stays c.args.recorder.now c.expanded.new.recorder c.theorem_of-lemma.result.now c.in-Ok.ensures.continues.grown c.theorem_of-lemma.ensures.made
+
+pub returns-in-Err-by_predicate_lemma-clause-derives : goal.returns-in-Err-by_predicate_lemma-clause-derives
+returns-in-Err-by_predicate_lemma-clause-derives c at =
+    let formula = c.args.formula.now in
+    let theory = c.args.recorder.now.theory in
+    let function = c.args.parts.predicate.now in
+    let binder = c.args.parts.binder.now in
+    let body = c.args.parts.body.now in
+    let witness = c.args.witness.now in
+    let premise = c.args.premise.now.theorem in
+    let instance = image premise.conclusion in
+    let fits = list_all is_roomy (small theory formula function binder body witness instance at) in
+    let shows = witness-shows c.theorem_of-lemma.result.now.theorem c.theorem_of-lemma.ensures.theorem in
+    let later : c.expanded.new.recorder.theory ≡ theory = c.in-Ok.ensures.continues.theory in
+    let function_known = subst (λ (th : Theory). IsKnown th (image function) (predicate at.parts.ty)) (sym later) (predicate_known theory formula function binder body witness instance at) in
+    let witness_known = subst (λ (th : Theory). IsKnown th (image witness) at.parts.ty) (sym later) at.witness_known in
+    let premise_shows = subst (λ (t : Nameless). Shows c.in-Ok.redex.theorem (images premise) t) (sym (redex-at theory formula function binder body witness instance at)) (c.in-Ok.ensures.derives formula at) in
+    past-room c.in-Err-by_predicate_lemma.fault (lemma_fits at.parts.ty function witness applied (over_predicate exists_name)) fits
+    (c.in-Err-by_predicate_lemma.ensures.derives at.parts.ty function_known witness_known (images premise) applied (over_predicate exists_name) shows premise_shows) (exists-lemma-within theory formula function binder body witness instance at)
+
+pub returns-clause-derives : goal.returns-clause-derives
+returns-clause-derives c at =
+    let formula = c.args.formula.now in
+    let theory = c.args.recorder.now.theory in
+    let function = c.args.parts.predicate.now in
+    let binder = c.args.parts.binder.now in
+    let body = c.args.parts.body.now in
+    let witness = c.args.witness.now in
+    let premise = c.args.premise.now.theorem in
+    let instance = image premise.conclusion in
+    let fits = list_all is_roomy (small theory formula function binder body witness instance at) in
+    let shows = witness-shows c.theorem_of-lemma.result.now.theorem c.theorem_of-lemma.ensures.theorem in
+    let later : c.expanded.new.recorder.theory ≡ theory = c.in-Ok.ensures.continues.theory in
+    let function_known = subst (λ (th : Theory). IsKnown th (image function) (predicate at.parts.ty)) (sym later) (predicate_known theory formula function binder body witness instance at) in
+    let witness_known = subst (λ (th : Theory). IsKnown th (image witness) at.parts.ty) (sym later) at.witness_known in
+    let premise_shows = subst (λ (t : Nameless). Shows c.in-Ok.redex.theorem (images premise) t) (sym (redex-at theory formula function binder body witness instance at)) (c.in-Ok.ensures.derives formula at) in
+    let answer = subst (λ (t : Nameless). Shows c.in-Ok-by_predicate_lemma.answer.theorem (images premise) t) (formula-at theory formula function binder body witness instance at)
+    (c.in-Ok-by_predicate_lemma.ensures.derives at.parts.ty function_known witness_known (images premise) applied (over_predicate exists_name) shows premise_shows) in
+    derives-where (nameless_within_limits (nameless_equation bool_type (image formula) (image formula))) fits c.named.result (images premise) (image formula) (exists-names-within theory formula function binder body witness instance at)
+    (c.named.ensures.derives (images premise) answer)

@@ -1,0 +1,51 @@
+use Rattle.std.proofs.Common.{◌≡◌, ◌∙◌, ap, subst, sym}
+use Rattle.hol_model.specs.HolType.{bool_type}
+use Rattle.hol_model.specs.Logic.{forall_name, predicate}
+use Rattle.hol_model.specs.NamedTerm.{NamedTerm, abstraction}
+use Rattle.hol_model.specs.Nameless.{Nameless, image}
+use Rattle.hol_model.specs.Measures.{nameless_within_limits}
+use Rattle.hol_model.specs.Theory.{Theory, IsKnown, IsKnownType}
+use Rattle.hol_model.specs.DerivedRules.{images}
+use Rattle.hol_bool.specs.Sequents.{Shows, DerivesIf}
+use Rattle.hol_bool.proofs.CutLemmas.{derives-where}
+use Rattle.hol_bool.proofs.Sizes.{past-room}
+use Rattle.hol_quant.specs.PredicateLemmas.{is_always, over_predicate, at_predicate, lemma_fits}
+use Rattle.hol_quant.specs.Universals.{for_all}
+use Rattle.hol_quant.proofs.GenLemmas.{truth}
+use Rattle.hol_quant.proofs.ForAllLemmas.{binder-known, function-known, always, always-at, formula-at, body-fits, always-within, lemma-fits}
+use Rattle.hol_quant.proofs.generalization.over_all.Goals as goal
+
+pub returns-in-Err-clause-derives : goal.returns-in-Err-clause-derives
+returns-in-Err-clause-derives c name ty room may function_is fits =
+    let conclusion = c.args.premise.now.theorem.conclusion in
+    c.in-Err.ensures.derives room (body-fits name ty conclusion room fits c.conclusion_of-formula.ensures.formula.typed)
+
+pub returns-in-Err-abs-clause-derives : goal.returns-in-Err-abs-clause-derives
+returns-in-Err-abs-clause-derives c name ty room may function_is fits =
+    let premise = c.args.premise.now.theorem in
+    let p = premise.conclusion in
+    let equal = c.in-Ok.ensures.derives room (body-fits name ty p room fits c.conclusion_of-formula.ensures.formula.typed) in
+    let knows = subst (λ (th : Theory). IsKnownType th ty) (sym c.in-Ok.ensures.continues.theory) may.type_known in
+    past-room c.in-Err-abs.fault (nameless_within_limits (always name ty p)) room
+    (c.in-Err-abs.ensures.derives (images premise) name ty bool_type (image p) truth (ap image may.binder_is) knows may.fresh equal) (always-within name ty p room fits)
+
+pub returns-clause-derives : goal.returns-clause-derives
+returns-clause-derives c name ty room may function_is fits =
+    let premise = c.args.premise.now.theorem in
+    let p = premise.conclusion in
+    let theory = c.args.recorder.now.theory in
+    let binder = c.args.binder.now in
+    let made = abstraction name ty p in
+    let equal = c.in-Ok.ensures.derives room (body-fits name ty p room fits c.conclusion_of-formula.ensures.formula.typed) in
+    let knows = subst (λ (th : Theory). IsKnownType th ty) (sym c.in-Ok.ensures.continues.theory) may.type_known in
+    let always_shows = c.in-Ok-abs.ensures.derives (images premise) name ty bool_type (image p) truth (ap image may.binder_is) knows may.fresh equal in
+    let later : c.abs.new.recorder.theory ≡ theory = c.in-Ok-abs.ensures.continues.theory ∙ c.in-Ok.ensures.continues.theory in
+    let function_there = subst (λ (th : Theory). IsKnown th (image c.args.function.now) (predicate ty)) (sym later)
+    (subst (λ (f : NamedTerm). IsKnown theory (image f) (predicate ty)) (sym function_is) (function-known name ty p theory may.type_known c.conclusion_of-formula.ensures.formula.known)) in
+    let binder_there = subst (λ (th : Theory). IsKnown th (image binder) ty) (sym later) (binder-known theory premise binder name ty may) in
+    let premise_shows = subst (λ (f : NamedTerm). Shows c.in-Ok-abs.always.theorem (images premise) (at_predicate ty f binder is_always)) (sym function_is)
+    (subst (λ (t : Nameless). Shows c.in-Ok-abs.always.theorem (images premise) t) (sym (always-at name ty p binder)) always_shows) in
+    let answer = c.by_predicate_lemma.ensures.derives ty function_there binder_there (images premise) is_always (over_predicate forall_name) c.requires.forall_shows premise_shows in
+    let at_abstraction = subst (λ (f : NamedTerm). DerivesIf (lemma_fits ty f binder is_always (over_predicate forall_name)) c.by_predicate_lemma.result (images premise) (at_predicate ty f binder (over_predicate forall_name))) function_is answer in
+    derives-where (lemma_fits ty made binder is_always (over_predicate forall_name)) room c.by_predicate_lemma.result (images premise) (for_all name ty p) (lemma-fits name ty p room fits binder)
+    (subst (λ (t : Nameless). DerivesIf (lemma_fits ty made binder is_always (over_predicate forall_name)) c.by_predicate_lemma.result (images premise) t) (formula-at name ty p binder) at_abstraction)

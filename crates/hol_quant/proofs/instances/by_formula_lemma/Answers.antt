@@ -1,0 +1,42 @@
+use Rattle.std.proofs.Common.{◌≡◌, ◌∷◌, [], List, subst, sym, None}
+use Rattle.std.specs.Prelude.{codes}
+use Rattle.std.specs.List.{list_all}
+use Rattle.hol_model.specs.HolType.{HolType, bool_type}
+use Rattle.hol_model.specs.Logic.{predicate}
+use Rattle.hol_model.specs.NamedTerm.{NamedTerm, variable}
+use Rattle.hol_model.specs.Nameless.{image}
+use Rattle.hol_model.specs.Measures.{nameless_within_limits}
+use Rattle.hol_model.specs.Theory.{type_a}
+use Rattle.hol_model.specs.Derivable.{nameless_equation}
+use Rattle.hol_model.specs.Instantiation.{instantiate_all, replacements_refusal, type_replacements_refusal}
+use Rattle.hol_model.proofs.Images.{image-type}
+use Rattle.hol_model.proofs.Known.{IsKnown-type}
+use Rattle.hol_bool.specs.Sequents.{Shows, DerivesIf, instance_of}
+use Rattle.hol_quant.proofs.InstanceLemmas.{type-passes, two-pass}
+use Rattle.hol_quant.proofs.instances.by_formula_lemma.Goals as goal
+
+pub returns-clause-derives : goal.returns-clause-derives
+returns-clause-derives c ty function_known element_known is_formula h p q shown premise =
+    let theory = c.args.recorder.now.theory in
+    let function = c.args.function.now in
+    let element = c.args.element.now in
+    let function_typed = image-type function (predicate ty) function_known.typed in
+    let element_typed = image-type element ty element_known.typed in
+    let formula = c.args.formula.now in
+    let types : List (HolType × HolType) = c.in-Ok.of_type ∷ [] in
+    let wanted_types : List (HolType × HolType) = (ty, type_a) ∷ [] in
+    let type_is : c.in-Ok.of_type ≡ (ty, type_a) = c.in-Ok.ensures.ok ty element_typed in
+    let types_are : types ≡ wanted_types = λ i. type_is i ∷ [] in
+    let terms : List (NamedTerm × NamedTerm) = c.in-Ok-predicate_pair.of_predicate ∷ c.in-Ok-formula_pair.of_formula ∷ [] in
+    let wanted_terms : List (NamedTerm × NamedTerm) = (function, variable (codes "P") (predicate ty)) ∷ (formula, variable (codes "q") bool_type) ∷ [] in
+    let predicate_is : c.in-Ok-predicate_pair.of_predicate ≡ (function, variable (codes "P") (predicate ty)) = c.in-Ok-predicate_pair.ensures.ok (predicate ty) function_typed in
+    let formula_is : c.in-Ok-formula_pair.of_formula ≡ (formula, variable (codes "q") bool_type) = c.in-Ok-formula_pair.ensures.ok in
+    let terms_are : terms ≡ wanted_terms = λ i. predicate_is i ∷ formula_is i ∷ [] in
+    let types_pass = subst (λ (l : List (HolType × HolType)). type_replacements_refusal theory l ≡ None) (sym types_are) (type-passes theory ty (IsKnown-type theory (image element) ty element_known)) in
+    let terms_pass = subst (λ (l : List (NamedTerm × NamedTerm)). replacements_refusal theory l ≡ None) (sym terms_are)
+    (two-pass theory function formula (codes "P") (codes "q") (predicate ty) bool_type function_typed is_formula.typed function_known is_formula.known) in
+    let premise_there = subst (λ (l : List (HolType × HolType)). Shows c.args.premise.now.theorem h (instance_of l terms p)) (sym types_are)
+    (subst (λ (l : List (NamedTerm × NamedTerm)). Shows c.args.premise.now.theorem h (instance_of wanted_types l p)) (sym terms_are) premise) in
+    subst (λ (l : List (NamedTerm × NamedTerm)). DerivesIf (list_all nameless_within_limits (instantiate_all wanted_types q ∷ instantiate_all wanted_types p ∷ instance_of wanted_types l q ∷ instance_of wanted_types l p ∷ nameless_equation bool_type (instance_of wanted_types l p) (instance_of wanted_types l q) ∷ [])) c.by_lemma.result h (instance_of wanted_types l q)) terms_are
+    (subst (λ (l : List (HolType × HolType)). DerivesIf (list_all nameless_within_limits (instantiate_all l q ∷ instantiate_all l p ∷ instance_of l terms q ∷ instance_of l terms p ∷ nameless_equation bool_type (instance_of l terms p) (instance_of l terms q) ∷ [])) c.by_lemma.result h (instance_of l terms q)) types_are
+    (c.by_lemma.ensures.derives types_pass terms_pass h p q shown premise_there))

@@ -1,0 +1,202 @@
+// CHOOSE, over the lemma `(?) P |- (!x. P x ==> q) ==> q`.
+ghost use Rattle.std.specs.Prelude.{◌≡◌, ◌∷◌, ◌++◌, ℕ, List, [], Some, IfOk, IfErr, not, ◌&&◌};
+ghost use Rattle.std.specs.List.{list_any};
+ghost use Rattle.hol_model.specs.declared.fault.Fault.TheVariants.{Memory};
+ghost use Rattle.hol_model.specs.HolType.{HolType, bool_type};
+ghost use Rattle.hol_model.specs.Logic.{implication};
+ghost use Rattle.hol_model.specs.NamedTerm.{NamedTerm, variable, combination, type_of};
+ghost use Rattle.hol_model.specs.NamedTerm as named;
+ghost use Rattle.hol_model.specs.Nameless.{image, same_term};
+ghost use Rattle.hol_model.specs.Derivable.{NotFreeInAny, without};
+ghost use Rattle.hol_model.specs.DerivedRules.{AnswersStated, images, is_roomy, terms_of_theorem, choose_outcome};
+ghost use Rattle.hol_journal.specs.Journal.{IsMade, theorem_in};
+ghost use Rattle.hol_bool.specs.HasLogic.{HasLogic};
+ghost use Rattle.hol_bool.specs.Sequents.{DerivesIf, Continues};
+ghost use Rattle.hol_quant.specs.Witnesses.{IsAtVariable, existential, redex, witnessed, leave_room};
+
+use crate::generalization::generalized_up_to_names;
+use crate::instances::by_formula_lemma;
+use crate::parts::quantified_parts;
+use hol_alpha::aconv;
+use hol_bool::{
+    Bool, assume, conclusion_of, converted, cut, discharged, eq_mp, implied, theorem_of,
+};
+use hol_journal::{Rec, Recorder};
+use hol_model::Fault;
+use hol_subst::vsubst;
+use hol_terms::{Term, is_free};
+use hol_types::Ty;
+use std::alloc::Global;
+
+// `p[v/x]`, for a variable of the type of `x`.
+fn body_at(alloc: Global, body: &Term, binder: &Term, argument: &Term) -> Result<Term, Fault>
+    ensures ok { IfOk result (λ made. (name other : List ℕ) (ty : HolType) → type_of body.now ≡ Some bool_type → binder.now ≡ variable name ty → argument.now ≡ variable other ty → image made ≡ witnessed name ty body.now argument.now) }
+    ensures err { IfErr result (λ fault. (name other : List ℕ) (ty : HolType) → type_of body.now ≡ Some bool_type → binder.now ≡ variable name ty → argument.now ≡ variable other ty → fault ≡ Memory) }
+{
+    body.well_formed();
+    let new = match argument.copy(alloc) {
+        Ok(new) => new,
+        Err(fault) => return Err(fault),
+    };
+    let old = match binder.copy(alloc) {
+        Ok(old) => old,
+        Err(fault) => return Err(fault),
+    };
+    vsubst(alloc, &[(new, old)], body)
+}
+
+// Whether the variable is free in a hypothesis other than the witness.
+fn is_free_in_others(hypotheses: &[Term], witness: &Term, name: &str, ty: &Ty) -> bool
+    ensures { result ≡ list_any (λ hypothesis. not (same_term (image hypothesis) (image witness.now)) && named.is_free name.now ty.now hypothesis) hypotheses.now }
+{
+    hypotheses.iter().any(|hypothesis| !aconv(hypothesis, witness) && is_free(hypothesis, name, ty))
+}
+
+// From `(\x. p) v`, as a hypothesis, `p[v/x]`.
+#[tactic(auto, using(hol_bool::proofs::StepLemmas::still_made, hol_bool::proofs::StepLemmas::now_made))]
+fn from_redex(
+    recorder: &mut Recorder,
+    alloc: Global,
+    function: &Term,
+    binder: &Term,
+    argument: &Term,
+    applied: &Term,
+) -> Result<Rec, Fault>
+    ensures continues { Continues recorder.old recorder.new result }
+    ensures derives { (at : IsAtVariable recorder.old.theory function.now binder.now argument.now) → applied.now ≡ combination function.now argument.now → DerivesIf (is_roomy (existential at.name at.ty at.body)) result (redex at.name at.ty at.body argument.now ∷ []) (witnessed at.name at.ty at.body argument.now) }
+{
+    let equation = match converted(recorder, alloc, function, binder, argument) {
+        Ok(equation) => equation,
+        Err(fault) => return Err(fault),
+    };
+    let assumed = match assume(recorder, alloc, applied) {
+        Ok(assumed) => assumed,
+        Err(fault) => return Err(fault),
+    };
+    eq_mp(recorder, alloc, &equation, &assumed)
+}
+
+// From `q`, `(\x. p) v ==> q` without the hypothesis `p[v/x]`.
+#[tactic(auto, using(hol_bool::proofs::StepLemmas::still_made, hol_bool::proofs::StepLemmas::now_made, hol_bool::proofs::PreludeSteps::still_logical))]
+fn implied_by_redex(
+    recorder: &mut Recorder,
+    alloc: Global,
+    logic: &Bool,
+    function: &Term,
+    binder: &Term,
+    argument: &Term,
+    premise: &Rec,
+) -> Result<Rec, Fault>
+    requires logic { HasLogic recorder.old logic.now }
+    requires at { IsAtVariable recorder.old.theory function.now binder.now argument.now }
+    requires premise { IsMade recorder.old premise.now }
+    ensures continues { Continues recorder.old recorder.new result }
+    ensures derives { (at : IsAtVariable recorder.old.theory function.now binder.now argument.now) → DerivesIf (leave_room at.name at.ty at.body premise.now.theorem.conclusion) result (without (redex at.name at.ty at.body argument.now) (redex at.name at.ty at.body argument.now ∷ without (witnessed at.name at.ty at.body argument.now) (images premise.now.theorem))) (implication (redex at.name at.ty at.body argument.now) (image premise.now.theorem.conclusion)) }
+{
+    let applied = match Term::mk_comb(alloc, function, argument) {
+        Ok(applied) => applied,
+        Err(fault) => return Err(fault),
+    };
+    let witness = match from_redex(recorder, alloc, function, binder, argument, &applied) {
+        Ok(witness) => witness,
+        Err(fault) => return Err(fault),
+    };
+    let consequent = match cut(recorder, alloc, &witness, premise) {
+        Ok(consequent) => consequent,
+        Err(fault) => return Err(fault),
+    };
+    discharged(recorder, alloc, logic, &applied, &consequent)
+}
+
+// CHOOSE, of parts that pass its tests.
+#[tactic(auto, using(hol_bool::proofs::StepLemmas::still_made, hol_bool::proofs::StepLemmas::now_made, hol_bool::proofs::PreludeSteps::still_logical, hol_bool::proofs::PreludeSteps::still_formula))]
+fn eliminated(
+    recorder: &mut Recorder,
+    alloc: Global,
+    logic: &Bool,
+    function: &Term,
+    binder: &Term,
+    argument: &Term,
+    first: &Rec,
+    second: &Rec,
+) -> Result<Rec, Fault>
+    requires logic { HasLogic recorder.old logic.now }
+    requires at { IsAtVariable recorder.old.theory function.now binder.now argument.now }
+    requires first { IsMade recorder.old first.now }
+    requires second { IsMade recorder.old second.now }
+    ensures continues { Continues recorder.old recorder.new result }
+    ensures names { IfOk result (λ made. made.theorem.conclusion ≡ second.now.theorem.conclusion) }
+    ensures derives { (at : IsAtVariable recorder.old.theory function.now binder.now argument.now) → image first.now.theorem.conclusion ≡ existential at.name at.ty at.body → NotFreeInAny at.other at.ty (existential at.name at.ty at.body ∷ image second.now.theorem.conclusion ∷ without (witnessed at.name at.ty at.body argument.now) (images second.now.theorem)) → DerivesIf (leave_room at.name at.ty at.body second.now.theorem.conclusion) result (images first.now.theorem ++ without (witnessed at.name at.ty at.body argument.now) (images second.now.theorem)) (image second.now.theorem.conclusion) }
+{
+    let formula = conclusion_of(recorder, second);
+    let lemma = theorem_of(recorder, logic, 31);
+    let sufficient = match implied_by_redex(
+        recorder, alloc, logic, function, binder, argument, second,
+    ) {
+        Ok(sufficient) => sufficient,
+        Err(fault) => return Err(fault),
+    };
+    let always = match generalized_up_to_names(recorder, alloc, logic, argument, &sufficient) {
+        Ok(always) => always,
+        Err(fault) => return Err(fault),
+    };
+    let cases = match by_formula_lemma(recorder, alloc, lemma, function, argument, formula, first) {
+        Ok(cases) => cases,
+        Err(fault) => return Err(fault),
+    };
+    implied(recorder, alloc, logic, formula, &cases, &always)
+}
+
+/// CHOOSE: from `?x. p` and `q`, `q` without the hypothesis `p[v/x]`, by the lemma `(?) P |- (!x. P x ==> q) ==> q`.
+/// Refused where the term is no variable, then where the first conclusion is no `?x. p`, then where the variable's type
+/// is not that of `x`, and then where it is free in `?x. p`, in `q` or in another hypothesis of `q`.
+#[tactic(auto, using(hol_bool::proofs::StepLemmas::still_made, hol_bool::proofs::StepLemmas::now_made))]
+pub fn choose(
+    recorder: &mut Recorder,
+    alloc: Global,
+    logic: &Bool,
+    variable: &Term,
+    first: &Rec,
+    second: &Rec,
+) -> Result<Rec, Fault>
+    requires logic { HasLogic recorder.old logic.now }
+    requires first { IsMade recorder.old first.now }
+    requires second { IsMade recorder.old second.now }
+    ensures continues { Continues recorder.old recorder.new result }
+    ensures outcome { AnswersStated (theorem_in result) (image variable.now ∷ terms_of_theorem first.now.theorem ++ terms_of_theorem second.now.theorem) (choose_outcome recorder.old.theory variable.now first.now.theorem second.now.theorem) }
+{
+    let Some((name, ty)) = variable.dest_var() else {
+        return Err(Fault::NotVariable);
+    };
+    let formula = conclusion_of(recorder, first);
+    let Some(parts) = quantified_parts(formula, "?") else {
+        return Err(Fault::BadShape);
+    };
+    if !parts.binder.ty().eq(ty) {
+        return Err(Fault::TypeMismatch);
+    }
+    let witness = match body_at(alloc, parts.body, parts.binder, variable) {
+        Ok(witness) => witness,
+        Err(fault) => return Err(fault),
+    };
+    let theorem = recorder.thm(second);
+    if is_free(formula, name, ty) {
+        return Err(Fault::FreeInHypothesis);
+    }
+    if is_free(theorem.concl(), name, ty) {
+        return Err(Fault::FreeInHypothesis);
+    }
+    if is_free_in_others(theorem.hyps(), &witness, name, ty) {
+        return Err(Fault::FreeInHypothesis);
+    }
+    eliminated(
+        recorder,
+        alloc,
+        logic,
+        parts.predicate,
+        parts.binder,
+        variable,
+        first,
+        second,
+    )
+}

@@ -1,0 +1,209 @@
+// EXISTS, over the lemmas `p |- p <=> T`, `p <=> T |- p` and `P x |- (?) P`.
+ghost use Rattle.std.specs.Prelude.{◌≡◌, ◌⊎◌, ◌∷◌, List, ℕ, [], Some, None, IfOk, IfErr, OnOk, codes};
+ghost use Rattle.std.specs.List.{list_all};
+ghost use Rattle.hol_model.specs.declared.fault.Fault.TheVariants.{Memory};
+ghost use Rattle.hol_model.specs.HolType.{HolType, bool_type};
+ghost use Rattle.hol_model.specs.NamedLogic.{true_term};
+ghost use Rattle.hol_model.specs.NamedTerm.{NamedTerm, variable, type_of};
+ghost use Rattle.hol_model.specs.Nameless.{Nameless, free, app, image, same_term};
+ghost use Rattle.hol_model.specs.Substitution.{close, fill};
+ghost use Rattle.hol_model.specs.Derivable.{nameless_equation};
+ghost use Rattle.hol_model.specs.Rules.{first_unknown};
+ghost use Rattle.hol_model.specs.Theory.{IsKnown};
+ghost use Rattle.hol_model.specs.DerivedRules.{AnswersStated, images, is_roomy, terms_of_theorem, exists_outcome};
+ghost use Rattle.hol_journal.specs.Journal.{IsMade, theorem_in};
+ghost use Rattle.hol_bool.specs.HasLogic.{HasLogic};
+ghost use Rattle.hol_bool.specs.Room.{Room, FitsIf};
+ghost use Rattle.hol_bool.specs.Sequents.{Shows, DerivesIf, Continues};
+ghost use Rattle.hol_quant.specs.QuantifiedParts.{IsWitnessed, witnessed_terms};
+
+use crate::generalization::{equal_to_truth, formula_pair};
+use crate::instances::by_predicate_lemma;
+use crate::parts::{Quantified, quantified_parts};
+use hol_alpha::aconv;
+use hol_bool::{Bool, by_lemma, converted, named, theorem_of, trans};
+use hol_journal::{Rec, Recorder};
+use hol_model::Fault;
+use hol_subst::vsubst;
+use hol_terms::Term;
+use std::alloc::Global;
+
+// Walks a term that comes in: the theory is to know its types and constants.
+fn pass_known(recorder: &Recorder, alloc: Global, term: &Term) -> Result<(), Fault>
+    ensures ok { OnOk result (first_unknown recorder.now.theory term.now ≡ None) }
+    ensures err { IfErr result (λ fault. (fault ≡ Memory) ⊎ (first_unknown recorder.now.theory term.now ≡ Some fault)) }
+{
+    if recorder.theory().known(term) {
+        return Ok(());
+    }
+    match recorder.theory().refl(alloc, term) {
+        Ok(_walked) => Ok(()),
+        Err(fault) => Err(fault),
+    }
+}
+
+// Whether the body of an abstraction, with the argument for its variable, is the other term up to the names of bound
+// variables. Past the limits it is not, since the other term is within them.
+fn is_body_with(
+    alloc: Global,
+    body: &Term,
+    binder: &Term,
+    argument: &Term,
+    other: &Term,
+) -> Result<bool, Fault>
+    ensures ok { IfOk result (λ same. (name : List ℕ) (ty : HolType) → binder.now ≡ variable name ty → type_of argument.now ≡ Some ty → same ≡ same_term (fill (image argument.now) (close name ty (image body.now))) (image other.now)) }
+    ensures err { IfErr result (λ fault. fault ≡ Memory) }
+{
+    let new = match argument.copy(alloc) {
+        Ok(new) => new,
+        Err(fault) => return Err(fault),
+    };
+    let old = match binder.copy(alloc) {
+        Ok(old) => old,
+        Err(fault) => return Err(fault),
+    };
+    let _body_type = body.ty();
+    let _other_type = other.ty();
+    other.well_formed();
+    match vsubst(alloc, &[(new, old)], body) {
+        Ok(instance) => Ok(aconv(&instance, other)),
+        Err(Fault::TooLarge) => Ok(false),
+        Err(_fault) => Err(Fault::Memory),
+    }
+}
+
+// From `p <=> T`, `p`.
+fn from_truth(
+    recorder: &mut Recorder,
+    alloc: Global,
+    lemma: &Rec,
+    formula: &Term,
+    premise: &Rec,
+) -> Result<Rec, Fault>
+    requires lemma { IsMade recorder.old lemma.now }
+    requires shows { Shows lemma.now.theorem (nameless_equation bool_type (free (codes "p") bool_type) (image true_term) ∷ []) (free (codes "p") bool_type) }
+    requires premise { IsMade recorder.old premise.now }
+    ensures continues { Continues recorder.old recorder.new result }
+    ensures derives { (room : Room) (h : List Nameless) → IsKnown recorder.old.theory (image formula.now) bool_type → FitsIf room (image formula.now) → Shows premise.now.theorem h (nameless_equation bool_type (image formula.now) (image true_term)) → DerivesIf room result h (image formula.now) }
+{
+    let of_formula = match formula_pair(alloc, formula) {
+        Ok(of_formula) => of_formula,
+        Err(fault) => return Err(fault),
+    };
+    let terms = [of_formula];
+    by_lemma(recorder, alloc, &[], &terms, lemma, premise)
+}
+
+// From `p[w/x]`, `(\x. p) w`.
+fn expanded(
+    recorder: &mut Recorder,
+    alloc: Global,
+    logic: &Bool,
+    parts: Quantified<'_>,
+    witness: &Term,
+    premise: &Rec,
+) -> Result<Rec, Fault>
+    requires logic { HasLogic recorder.old logic.now }
+    requires premise { IsMade recorder.old premise.now }
+    ensures continues { Continues recorder.old recorder.new result }
+    ensures derives { (formula : NamedTerm) → IsWitnessed recorder.old.theory formula parts.entry.predicate.now parts.entry.binder.now parts.entry.body.now witness.now (image premise.now.theorem.conclusion) → DerivesIf (list_all is_roomy (witnessed_terms formula witness.now (image premise.now.theorem.conclusion))) result (images premise.now.theorem) (app (image parts.entry.predicate.now) (image witness.now)) }
+{
+    let truth_lemma = theorem_of(recorder, logic, 9);
+    let back_lemma = theorem_of(recorder, logic, 10);
+    let redex = match Term::mk_comb(alloc, parts.predicate, witness) {
+        Ok(redex) => redex,
+        Err(fault) => return Err(fault),
+    };
+    let conversion = match converted(recorder, alloc, parts.predicate, parts.binder, witness) {
+        Ok(conversion) => conversion,
+        Err(fault) => return Err(fault),
+    };
+    let equal = match equal_to_truth(recorder, alloc, truth_lemma, premise) {
+        Ok(equal) => equal,
+        Err(fault) => return Err(fault),
+    };
+    let redex_equal = match trans(recorder, alloc, &conversion, &equal) {
+        Ok(redex_equal) => redex_equal,
+        Err(fault) => return Err(fault),
+    };
+    from_truth(recorder, alloc, back_lemma, &redex, &redex_equal)
+}
+
+// From `p[w/x]`, `?x. p`.
+fn witnessed(
+    recorder: &mut Recorder,
+    alloc: Global,
+    logic: &Bool,
+    formula: &Term,
+    parts: Quantified<'_>,
+    witness: &Term,
+    premise: &Rec,
+) -> Result<Rec, Fault>
+    requires logic { HasLogic recorder.old logic.now }
+    requires premise { IsMade recorder.old premise.now }
+    ensures continues { Continues recorder.old recorder.new result }
+    ensures names { IfOk result (λ made. made.theorem.conclusion ≡ formula.now) }
+    ensures derives { IsWitnessed recorder.old.theory formula.now parts.entry.predicate.now parts.entry.binder.now parts.entry.body.now witness.now (image premise.now.theorem.conclusion) → DerivesIf (list_all is_roomy (witnessed_terms formula.now witness.now (image premise.now.theorem.conclusion))) result (images premise.now.theorem) (image formula.now) }
+{
+    let lemma = theorem_of(recorder, logic, 30);
+    let redex = match expanded(recorder, alloc, logic, parts, witness, premise) {
+        Ok(redex) => redex,
+        Err(fault) => return Err(fault),
+    };
+    let answer = match by_predicate_lemma(
+        recorder,
+        alloc,
+        lemma,
+        parts.predicate,
+        witness,
+        &redex,
+    ) {
+        Ok(answer) => answer,
+        Err(fault) => return Err(fault),
+    };
+    named(recorder, alloc, formula, &answer)
+}
+
+/// EXISTS: for `?x. p` and a witness `w`, from `p[w/x]`, `?x. p`, by the lemma `P x |- (?) P`, in seventeen steps. Refused
+/// where the formula is no existential formula, then where the witness is of another type than the variable, then where
+/// the theory does not know a type or a constant of the formula, then of the witness, and then where the conclusion is
+/// not `p[w/x]`.
+pub fn exists(
+    recorder: &mut Recorder,
+    alloc: Global,
+    logic: &Bool,
+    formula: &Term,
+    witness: &Term,
+    premise: &Rec,
+) -> Result<Rec, Fault>
+    requires logic { HasLogic recorder.old logic.now }
+    requires premise { IsMade recorder.old premise.now }
+    ensures continues { Continues recorder.old recorder.new result }
+    ensures outcome { AnswersStated (theorem_in result) (image formula.now ∷ image witness.now ∷ terms_of_theorem premise.now.theorem) (exists_outcome recorder.old.theory formula.now witness.now premise.now.theorem) }
+{
+    recorder.theory_is_legal();
+    let Some(parts) = quantified_parts(formula, "?") else {
+        return Err(Fault::BadShape);
+    };
+    if !witness.ty().eq(parts.binder.ty()) {
+        return Err(Fault::TypeMismatch);
+    }
+    match pass_known(recorder, alloc, formula) {
+        Ok(()) => {}
+        Err(fault) => return Err(fault),
+    }
+    match pass_known(recorder, alloc, witness) {
+        Ok(()) => {}
+        Err(fault) => return Err(fault),
+    }
+    let conclusion = recorder.thm(premise).concl();
+    let is_instance = match is_body_with(alloc, parts.body, parts.binder, witness, conclusion) {
+        Ok(is_instance) => is_instance,
+        Err(fault) => return Err(fault),
+    };
+    if !is_instance {
+        return Err(Fault::NotAlpha);
+    }
+    let _formula_type = formula.ty();
+    witnessed(recorder, alloc, logic, formula, parts, witness, premise)
+}
