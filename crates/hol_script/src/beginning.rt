@@ -80,8 +80,18 @@ const EXCLUDED_MIDDLE: StoredTheorem<'static> = StoredTheorem {
 
 /// The theorems that are stored when a script begins, in order.
 pub(crate) const STORED: [StoredTheorem<'static>; 12] = [
-    T_DEF, AND_DEF, IMP_DEF, FORALL_DEF, EXISTS_DEF, OR_DEF, F_DEF, NOT_DEF, TRUTH, ETA_AX,
-    SELECT_AX, EXCLUDED_MIDDLE,
+    T_DEF,
+    AND_DEF,
+    IMP_DEF,
+    FORALL_DEF,
+    EXISTS_DEF,
+    OR_DEF,
+    F_DEF,
+    NOT_DEF,
+    TRUTH,
+    ETA_AX,
+    SELECT_AX,
+    EXCLUDED_MIDDLE,
 ];
 
 // The type `bool->bool`.

@@ -8,8 +8,8 @@ ghost use Rattle.hol_bool.specs.HasLogic.{HasLogic};
 ghost use Rattle.hol_bool.specs.Sequents.{Continues};
 
 use hol_bool::{
-    Bool, add_assum, conj, conjunct1, conjunct2, contr, disch, disj1, disj2, eqt_elim, eqt_intro, mp,
-    not_elim, not_intro, prove_hyp, sym, undisch,
+    Bool, add_assum, conj, conjunct1, conjunct2, contr, disch, disj1, disj2, eqt_elim, eqt_intro,
+    mp, not_elim, not_intro, prove_hyp, sym, undisch,
 };
 use hol_journal::{Rec, Recorder};
 use hol_model::{Fault, PremiseRule, PremisesRule, TermPremiseRule};

@@ -39,9 +39,7 @@ use crate::pairs::{TermPair, TypePair};
 use hol_bool::{Bool, beta_conv, disj_cases, logic_stays, prelude, theorem_of};
 use hol_journal::{Claim, Rec, Recorder, journals_grow};
 use hol_kernel::Thm;
-use hol_model::{
-    Axiom, Fault, PairRule, PremiseRule, PremisesRule, TermPremiseRule, TermRule,
-};
+use hol_model::{Axiom, Fault, PairRule, PremiseRule, PremisesRule, TermPremiseRule, TermRule};
 use hol_quant::{choose, exists};
 use hol_sound::sound;
 use hol_syntax::{Scope, TermStep, TypeStep, build_type, term_of_steps, text_of_sequent};
@@ -784,7 +782,14 @@ impl Session {
         let Some(second) = stored(&self.theorems, second) else {
             return Err(Fault::UnknownName);
         };
-        disj_cases(&mut self.recorder, alloc, &self.logic, disjunction, first, second)
+        disj_cases(
+            &mut self.recorder,
+            alloc,
+            &self.logic,
+            disjunction,
+            first,
+            second,
+        )
     }
 
     // EXISTS
@@ -844,7 +849,14 @@ impl Session {
         let Some(second) = stored(&self.theorems, second) else {
             return Err(Fault::UnknownName);
         };
-        choose(&mut self.recorder, alloc, &self.logic, &variable, first, second)
+        choose(
+            &mut self.recorder,
+            alloc,
+            &self.logic,
+            &variable,
+            first,
+            second,
+        )
     }
 
     // The terms of a pair.
