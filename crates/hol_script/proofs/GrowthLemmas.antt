@@ -36,6 +36,7 @@ use Rattle.hol_script.specs.declared.session.Session.{Session}
 use Rattle.hol_script.specs.declared.session.Printed.TheVariants.{Line}
 use Rattle.hol_journal.specs.Journal.{Journal, IsMade}
 use Rattle.hol_journal.specs.Growth.{IsGrown, JournalsGrow}
+use Rattle.hol_bool.specs.HasLogic.{HasLogic, LogicStays}
 use Rattle.hol_script.specs.SessionState.{state_of, theorem_of, IsSession}
 use Rattle.hol_script.specs.Growth.{IsRefused, LeavesNone, MakesEquation, Defines, KeepsSession}
 use Rattle.hol_script.specs.Answers.{IsLineOf, Turns}
@@ -300,12 +301,13 @@ pub kept_state : (old new : Session) → new.recorder ≡ old.recorder → Keeps
 kept_state old new same keeps stored = λ i. record { theory = (same i).theory; variables = λ name. keeps.variables name i; theorems = λ name. theorem_of (stored name i) }
 
 pub kept_session : (old new : Session) → IsSession old → new.recorder ≡ old.recorder → KeepsScope (scope_of old.scope) (scope_of new.scope) → ((name : List ℕ) → get_by_text new.theorems name ≡ get_by_text old.theorems name)
-    → IsSession new
-kept_session old new known same keeps stored = record {
+    → new.logic ≡ old.logic → IsSession new
+kept_session old new known same keeps stored logic = record {
   legal = subst (λ (j : Journal). IsLegal j.theory) (sym same) known.legal;
   constants = λ name. keeps.constants name ∙ known.constants name ∙ ap (λ (j : Journal). generic_type j.theory name) (sym same);
   types = λ name. keeps.types name ∙ known.types name ∙ ap (λ (j : Journal). is_declared j.theory name) (sym same);
   made = λ name answer found. subst (λ (j : Journal). IsMade j answer) (sym same) (known.made name answer (sym (stored name) ∙ found));
+  logic = subst (HasLogic new.recorder) (sym logic) (subst (λ (j : Journal). HasLogic j old.logic) (sym same) known.logic);
 }
 
 -- a scope from which a name was taken that was put in before
@@ -363,6 +365,7 @@ var_session old scope name ty known sets = record {
   constants = λ other. sets.constants other ∙ known.constants other;
   types = λ other. sets.types other ∙ known.types other;
   made = known.made;
+  logic = known.logic;
 }
 
 -- ---- declared types
@@ -375,9 +378,9 @@ either : (test known : Bool) → cond test true known ≡ (test || known)
 either true known = refl
 either false known = refl
 
-pub type_session : (old : Session) (grown : Journal) (scope : ScopeHere) (name : List ℕ) → JournalsGrow → IsSession old → SetsType (scope_of old.scope) (scope_of scope) name true
+pub type_session : (old : Session) (grown : Journal) (scope : ScopeHere) (name : List ℕ) → JournalsGrow → LogicStays → IsSession old → SetsType (scope_of old.scope) (scope_of scope) name true
     → new_type_outcome old.recorder.theory name ≡ Ok grown.theory → IsGrown old.recorder grown → IsSession (made old grown scope)
-type_session old grown scope name grow known sets outcome is_grown =
+type_session old grown scope name grow stay known sets outcome is_grown =
     let theory = old.recorder.theory in
     let accepted = type-accepted theory grown.theory name outcome in
     record {
@@ -386,13 +389,14 @@ type_session old grown scope name grow known sets outcome is_grown =
       types = λ other. sets.types other ∙ ap (λ (b : Bool). cond (bytes_eq name other) true b) (known.types other) ∙ either (bytes_eq name other) (is_declared theory other)
           ∙ ap (λ (t : Theory). is_declared t other) (sym accepted.grown);
       made = still_made old.recorder grown (get_by_text old.theorems) grow is_grown known.made;
+      logic = stay old.recorder grown old.logic is_grown known.logic;
     }
 
 -- ---- declared constants
 
-pub const_session : (old : Session) (grown : Journal) (scope : ScopeHere) (name : List ℕ) (ty : HolType) → JournalsGrow → IsSession old → SetsConstant (scope_of old.scope) (scope_of scope) name (Some ty)
+pub const_session : (old : Session) (grown : Journal) (scope : ScopeHere) (name : List ℕ) (ty : HolType) → JournalsGrow → LogicStays → IsSession old → SetsConstant (scope_of old.scope) (scope_of scope) name (Some ty)
     → new_const_outcome old.recorder.theory name ty ≡ Ok grown.theory → IsGrown old.recorder grown → IsSession (made old grown scope)
-const_session old grown scope name ty grow known sets outcome is_grown =
+const_session old grown scope name ty grow stay known sets outcome is_grown =
     let theory = old.recorder.theory in
     let accepted = const-accepted theory grown.theory name ty outcome in
     record {
@@ -401,6 +405,7 @@ const_session old grown scope name ty grow known sets outcome is_grown =
           ∙ ap (λ (t : Theory). generic_type t other) (sym accepted.grown);
       types = λ other. sets.types other ∙ known.types other ∙ ap (λ (t : Theory). is_declared t other) (sym accepted.grown);
       made = still_made old.recorder grown (get_by_text old.theorems) grow is_grown known.made;
+      logic = stay old.recorder grown old.logic is_grown known.logic;
     }
 
 pub newconst_outcome-is : (state : State) (name : List ℕ) (tree : TypeTree) (ty : HolType) → type_meaning (scope_in state) tree ≡ Ok ty
@@ -422,8 +427,8 @@ def-argument_refused state name tree fault meant = ap (λ (r : Result NamedTerm 
 
 -- the session of a definition: the old one, the scope with the constant, and what `define` made of them
 module _ (old new : Session) (scope : ScopeHere) (name : List ℕ) (term : NamedTerm) (ty : HolType) (line : TheoremLine) where
-  pub def_session : JournalsGrow → IsSession old → type_of term ≡ Some ty → SetsConstant (scope_of old.scope) (scope_of scope) name (Some ty) → Defines (made old old.recorder scope) new name term line → IsSession new
-  def_session grow known typed sets d =
+  pub def_session : JournalsGrow → LogicStays → IsSession old → type_of term ≡ Some ty → SetsConstant (scope_of old.scope) (scope_of scope) name (Some ty) → Defines (made old old.recorder scope) new name term line → IsSession new
+  def_session grow stay known typed sets d =
       let theory = old.recorder.theory in
       let grown : d.answer.theorem.theory ≡ definition name (own_type term) (image term) ∷ theory = definition-accepted theory name term d.answer.theorem d.outcome in
       let own : own_type term ≡ ty = rw typed refl in
@@ -437,6 +442,7 @@ module _ (old new : Session) (scope : ScopeHere) (name : List ℕ) (term : Named
         types = λ other. ap (λ (s : ScopeHere). (scope_of s).declares_type other) d.scope ∙ sets.types other ∙ known.types other ∙ ap (λ (t : Theory). is_declared t other) (sym whole);
         made = stored_made new.recorder d.answer (definition_name name) (get_by_text old.theorems) (get_by_text new.theorems)
             (still_made old.recorder new.recorder (get_by_text old.theorems) grow d.grown known.made) d.made d.stored;
+        logic = subst (HasLogic new.recorder) (sym d.logic) (stay old.recorder new.recorder old.logic d.grown known.logic);
       }
 
   pub def_state : SetsConstant (scope_of old.scope) (scope_of scope) name (Some ty) → (d : Defines (made old old.recorder scope) new name term line)
@@ -447,11 +453,11 @@ module _ (old new : Session) (scope : ScopeHere) (name : List ℕ) (term : Named
       let theorems = stored_theorem d.answer (definition_name name) (get_by_text old.theorems) (get_by_text new.theorems) d.stored in
       λ i. record { theory = d.theory i; variables = λ other. variables other i; theorems = λ other. theorems other i }
 
-pub def_turns : (old new : Session) (scope : ScopeHere) (text name : List ℕ) (tree : TermTree) (term : NamedTerm) (ty : HolType) (line : TheoremLine) → IsSound → JournalsGrow → IsSession old → SpellsCommand text (def_command name tree)
+pub def_turns : (old new : Session) (scope : ScopeHere) (text name : List ℕ) (tree : TermTree) (term : NamedTerm) (ty : HolType) (line : TheoremLine) → IsSound → JournalsGrow → LogicStays → IsSession old → SpellsCommand text (def_command name tree)
     → meaning (scope_in (state_of old)) [] tree ≡ Ok term → type_of term ≡ Some ty → SetsConstant (scope_of old.scope) (scope_of scope) name (Some ty)
     → Defines (made old old.recorder scope) new name term line → Turns (state_of old) (Some text) (Ok (Line line)) (state_of new)
-def_turns old new scope text name tree term ty line sound grow known spelled meant typed sets d =
-    let after : IsSession new = def_session old new scope name term ty line grow known typed sets d in
+def_turns old new scope text name tree term ty line sound grow stay known spelled meant typed sets d =
+    let after : IsSession new = def_session old new scope name term ty line grow stay known typed sets d in
     let outcome : def_outcome (state_of old) name tree ≡ Ok d.answer.theorem = def_outcome-is (state_of old) name tree term meant ∙ d.outcome in
     let allowed : Allows (state_of old) (Some text) (proves (definition_name name) d.answer.theorem) (state_of new) =
     subst (λ (state : State). Allows (state_of old) (Some text) (proves (definition_name name) d.answer.theorem) state) (sym (def_state old new scope name term ty line sets d)) (def_defines spelled outcome) in

@@ -2,8 +2,10 @@ pub mod CutLemmas
 pub mod ReadingLemmas
 pub mod PairLemmas
 pub mod RuleLemmas
+pub mod BeginningLemmas
 pub mod RecordingLemmas
 pub mod ReplacementLemmas
+pub mod DerivedLemmas
 pub mod SessionLemmas
 pub mod GrowthLemmas
 pub mod RunLemmas

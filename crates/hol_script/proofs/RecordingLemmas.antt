@@ -1,6 +1,6 @@
 -- What was recorded stays made by the recorder, and what the rules answer stands on its theory.
-use Rattle.std.proofs.Common.{◌≡◌, ℕ, List, [], ◌∷◌, refl, sym, subst, ap, ◌∙◌, Option, None, Some, Result, Ok, Err}
-use Rattle.std.specs.Prelude.{Bool, true, false, cond, IfOk}
+use Rattle.std.proofs.Common.{◌≡◌, ℕ, List, [], ◌∷◌, refl, sym, subst, ap, ◌∙◌, append-nil, Option, None, Some, Result, Ok, Err}
+use Rattle.std.specs.Prelude.{Bool, true, false, cond, IfOk, OnErr}
 use Rattle.std.specs.Map.{update}
 use Rattle.std.specs.Str.{bytes_eq}
 use Rattle.indexmap.specs.IndexMap.{get_by_text}
@@ -15,13 +15,16 @@ use Rattle.hol_model.specs.Theorem.{Theorem}
 use Rattle.hol_model.specs.Outcome.{Answers, unless, given, refused}
 use Rattle.hol_model.specs.Rules.{first_unknown, dest_trivial_redex, is_formula, concluded}
 use Rattle.hol_model.specs.Sessions.{term_rule_outcome}
-use Rattle.hol_journal.specs.Journal.{Journal, Recorded, IsMade, theorem_in}
+use Rattle.hol_journal.specs.Journal.{Journal, Recorded, IsMade, IsRecorded, theorem_in}
+use Rattle.hol_journal.specs.Steps.{Step}
 use Rattle.hol_journal.specs.Growth.{IsGrown, JournalsGrow}
+use Rattle.hol_bool.specs.HasLogic.{HasLogic, LogicStays}
+use Rattle.hol_bool.specs.Sequents.{Continues}
 use Rattle.hol_syntax.specs.declared.scope.Scope.{Scope as ScopeHere}
 use Rattle.hol_syntax.specs.Scope.{scope_of}
 use Rattle.hol_script.specs.declared.session.Session.{Session}
 use Rattle.hol_script.specs.SessionState.{state_of, theorem_of, AreMade, IsSession}
-use Rattle.hol_script.specs.Recording.{Records, AppliesRule}
+use Rattle.hol_script.specs.Recording.{Records, AppliesRule, GrowsJournal}
 
 -- ---- stored theorems
 
@@ -96,30 +99,59 @@ term_rule-answered session new (Ok made) rule term answers records = record {
   stands_on = answer-stands session.recorder.theory (term_rule_outcome rule session.recorder.theory term) made.theorem (term_rule-stands rule session.recorder.theory term) answers;
   scope = refl;
   theorems = refl;
+  logic = refl;
 }
 term_rule-answered session new (Err fault) rule term answers records = tt
 
--- the session after a rule
-module _ (old new : Session) (made : Recorded) (applies : AppliesRule old new made) where
-  pub same_theory : new.recorder.theory ≡ old.recorder.theory
-  same_theory = sym applies.records.is_recorded.stands_on ∙ applies.stands_on
+no_growth : (journal : Journal) → IsGrown journal journal
+no_growth journal = record { added = []; entries = sym (append-nil journal.entries); earlier = record { added = []; is_added = refl } }
 
+-- a refusal before any rule
+pub nothing-grows : (session : Session) (fault : Fault) → GrowsJournal session session (Err fault)
+nothing-grows session fault = record { continues = record { grown = no_growth session.recorder; theory = refl; held = tt }; scope = refl; theorems = refl; logic = refl }
+
+-- one more entry is a growth
+pub rule-grows : (old new : Session) (result : Result Recorded Fault) → JournalsGrow → IfOk result (AppliesRule old new) → OnErr result (new ≡ old) → GrowsJournal old new result
+rule-grows old new (Ok made) grow applies kept = record {
+  continues = record {
+    grown = grow.grown old.recorder new.recorder applies.records.step made applies.records.is_recorded;
+    theory = sym applies.records.is_recorded.stands_on ∙ applies.stands_on;
+    held = record { made = grow.made old.recorder new.recorder applies.records.step made applies.records.is_recorded; stands_on = applies.records.is_recorded.stands_on };
+  };
+  scope = applies.scope;
+  theorems = applies.theorems;
+  logic = applies.logic;
+}
+rule-grows old new (Err fault) grow applies kept = subst (λ (s : Session). GrowsJournal old s (Err fault)) (sym kept) (nothing-grows old fault)
+
+-- so is the entry of an axiom
+pub axiom-grows : (session : Session) (new : Journal) (result : Result Recorded Fault) (step : Step) (theorem : Theorem) → JournalsGrow → theorem.theory ≡ session.recorder.theory
+    → IfOk result (λ made. made.theorem ≡ theorem) → IfOk result (IsRecorded session.recorder new step) → OnErr result (new ≡ session.recorder) → GrowsJournal session (over_journal session new) result
+axiom-grows session new (Ok made) step theorem grow over is recorded kept =
+    rule-grows session (over_journal session new) (Ok made) grow
+    (record { records = record { step = step; is_recorded = recorded }; stands_on = ap (λ (t : Theorem). t.theory) is ∙ over; scope = refl; theorems = refl; logic = refl }) tt
+axiom-grows session new (Err fault) step theorem grow over is recorded kept =
+    subst (λ (j : Journal). GrowsJournal session (over_journal session j) (Err fault)) (sym kept) (nothing-grows session fault)
+
+-- a derived rule over the recorder
+pub derivation-grows : (old : Session) (new : Journal) (result : Result Recorded Fault) → Continues old.recorder new result → GrowsJournal old (over_journal old new) result
+derivation-grows old new result continues = record { continues = continues; scope = refl; theorems = refl; logic = refl }
+
+-- the session after a rule
+module _ (old new : Session) (result : Result Recorded Fault) (grows : GrowsJournal old new result) where
   pub rule_state : state_of new ≡ state_of old
   rule_state = λ i. record {
-    theory = same_theory i;
-    variables = (scope_of (applies.scope i)).variable_type;
-    theorems = λ name. theorem_of (get_by_text (applies.theorems i) name);
+    theory = grows.continues.theory i;
+    variables = (scope_of (grows.scope i)).variable_type;
+    theorems = λ name. theorem_of (get_by_text (grows.theorems i) name);
   }
 
-  pub rule_made : JournalsGrow → IsMade new.recorder made
-  rule_made grow = grow.made old.recorder new.recorder applies.records.step made applies.records.is_recorded
-
-  pub rule_session : JournalsGrow → IsSession old → IsSession new
-  rule_session grow known = record {
-    legal = subst IsLegal (sym same_theory) known.legal;
-    constants = λ name. ap (λ (s : ScopeHere). (scope_of s).generic_type name) applies.scope ∙ known.constants name ∙ ap (λ (t : Theory). generic_type t name) (sym same_theory);
-    types = λ name. ap (λ (s : ScopeHere). (scope_of s).declares_type name) applies.scope ∙ known.types name ∙ ap (λ (t : Theory). is_declared t name) (sym same_theory);
-    made = still_made old.recorder new.recorder (get_by_text new.theorems) grow
-        (grow.grown old.recorder new.recorder applies.records.step made applies.records.is_recorded)
-        (λ name answer found. known.made name answer (sym (ap (λ ts. get_by_text ts name) applies.theorems) ∙ found));
+  pub rule_session : JournalsGrow → LogicStays → IsSession old → IsSession new
+  rule_session grow stay known = record {
+    legal = subst IsLegal (sym grows.continues.theory) known.legal;
+    constants = λ name. ap (λ (s : ScopeHere). (scope_of s).generic_type name) grows.scope ∙ known.constants name ∙ ap (λ (t : Theory). generic_type t name) (sym grows.continues.theory);
+    types = λ name. ap (λ (s : ScopeHere). (scope_of s).declares_type name) grows.scope ∙ known.types name ∙ ap (λ (t : Theory). is_declared t name) (sym grows.continues.theory);
+    made = still_made old.recorder new.recorder (get_by_text new.theorems) grow grows.continues.grown
+        (λ name answer found. known.made name answer (sym (ap (λ ts. get_by_text ts name) grows.theorems) ∙ found));
+    logic = subst (HasLogic new.recorder) (sym grows.logic) (stay old.recorder new.recorder old.logic grows.continues.grown known.logic);
   }

@@ -27,7 +27,9 @@ use Rattle.hol_model.specs.Lexing.{is_name_byte, Every, IsIdentifier, IsToken, L
 use Rattle.hol_model.specs.Commands.{CommandTree, thm_command, show_command, def_command, quote_tokens, rule_tokens, command_tokens, SpellsCommand}
 use Rattle.hol_model.proofs.Tests.{first_of_both, second_of_both}
 use Rattle.std.proofs.lemmas.List.Folds.{list_all-append}
-use Rattle.hol_model.specs.Sessions.{State, start, scope_in, with_theorem, over_theory, is_theorem_name, definition_name, def_outcome, with_definition, newconst_outcome, Reply, proves, accepts, refused, Allows, finds_no_memory, is_unfinished, is_no_command, thm_has_bad_name, thm_has_taken_name, thm_is_refused, thm_stores, var_is_refused, var_declares, def_is_refused, def_defines, newtype_is_refused, newtype_declares, newconst_is_refused, newconst_declares, show_finds_none, show_prints, Session}
+use Rattle.hol_model.specs.Sessions.{State, start, scope_in, with_theorem, with_theorems, over_theory, is_theorem_name, definition_name, def_outcome, with_definition, newconst_outcome, Reply, proves, accepts, refused, Allows, finds_no_memory, is_unfinished, is_no_command, thm_has_bad_name, thm_has_taken_name, thm_is_refused, thm_stores, var_is_refused, var_declares, def_is_refused, def_defines, newtype_is_refused, newtype_declares, newconst_is_refused, newconst_declares, show_finds_none, show_prints, Session}
+use Rattle.hol_model.specs.Prelude.{stored_theorems}
+use Rattle.hol_script.specs.Beginning.{logical_state}
 use Rattle.hol_script.specs.Laws.{PrintedTheoremsStay}
 use Rattle.hol_script.proofs.GrowthLemmas.{definition-accepted, definition-was_new, type-accepted, const-accepted}
 
@@ -286,8 +288,38 @@ lasts (request ∷ requests) (reply ∷ replies) old final out told (mid, rest, 
       ];
     }
 
+-- no theorem of a definition is stored
+record IsUntold (state : State) : Type 0 where
+  none : (name : List ℕ) → state.theorems (definition_name name) ≡ None
+
+-- none of the names is that of a definition's theorem
+abbrev AreTheoremNames : List (List ℕ × Theorem) → Type 0
+AreTheoremNames [] = Unit {0}
+AreTheoremNames (named ∷ others) = (is_theorem_name named.0 ≡ true) × AreTheoremNames others
+
+untold-more : (state : State) (name : List ℕ) (theorem : Theorem) → is_theorem_name name ≡ true → IsUntold state → IsUntold (with_theorem state name theorem)
+untold-more state name theorem is_name untold = record { none = λ other. go other (bytes_eq name (definition_name other)) refl }
+  where
+    go : (other : List ℕ) (test : Bool) → bytes_eq name (definition_name other) ≡ test → cond test (Some theorem) (state.theorems (definition_name other)) ≡ None
+    go other true same =
+        let one : is_theorem_name name ≡ is_theorem_name (definition_name other) = ap is_theorem_name (same_name name (definition_name other) same) in
+        let two = ends_so other in
+        cc
+    go other false same = untold.none other
+
+untold-all : (state : State) (all : List (List ℕ × Theorem)) → AreTheoremNames all → IsUntold state → IsUntold (with_theorems state all)
+untold-all state [] are untold = untold
+untold-all state (named ∷ others) are untold = untold-all (with_theorem state named.0 named.1) others are.1 (untold-more state named.0 named.1 are.0 untold)
+
+not_there : {A B : Type 0} (found : Option A) (x : A) → found ≡ None → found ≡ Some x → B
+not_there None x none there = cc
+not_there (Some other) x none there = cc
+
+start-untold : IsUntold start
+start-untold = untold-all logical_state stored_theorems (refl, refl, refl, refl, refl, refl, refl, refl, refl, refl, refl, refl, tt) (record { none = λ name. refl })
+
 start-told : IsTold start
-start-told = record { told = λ name theorem is. cc }
+start-told = record { told = λ name theorem is. not_there (start.theorems (definition_name name)) theorem (start-untold.none name) is }
 
 pub printed_theorems_stay : PrintedTheoremsStay
 printed_theorems_stay = record {

@@ -51,11 +51,13 @@ pub record Defines (old new : Session) (name : List ℕ) (term : NamedTerm) (lin
   pub made : IsMade new.recorder answer
   pub grown : IsGrown old.recorder new.recorder
   pub scope : new.scope ≡ old.scope
+  pub logic : new.logic ≡ old.logic
   pub stored : (other : List ℕ) → get_by_text new.theorems other ≡ update bytes_eq (get_by_text old.theorems) (definition_name name) (Some answer) other
   pub line_is : IsLineOf line (scope_of old.scope) (definition_name name) answer.theorem
 
--- the journal, the scope and the stored theorems are those of before
+-- the journal, the scope, the stored theorems and those from which rules are made are those of before
 pub record KeepsSession (old new : Session) : Type 0 where
   pub recorder : new.recorder ≡ old.recorder
   pub scope : new.scope ≡ old.scope
   pub theorems : (name : List ℕ) → get_by_text new.theorems name ≡ get_by_text old.theorems name
+  pub logic : new.logic ≡ old.logic

@@ -4,6 +4,7 @@ pub mod Pairs
 pub mod SessionState
 pub mod Answers
 pub mod Growth
+pub mod Beginning
 pub mod Recording
 pub mod Runs
 pub mod Laws

@@ -7,6 +7,7 @@ use Rattle.hol_model.specs.KnownTerm.{is_declared}
 use Rattle.hol_model.specs.Theorem.{Theorem}
 use Rattle.hol_model.specs.Sessions.{State}
 use Rattle.hol_journal.specs.Journal.{Journal, Recorded, IsMade}
+use Rattle.hol_bool.specs.HasLogic.{HasLogic}
 use Rattle.hol_syntax.specs.Scope.{scope_of}
 use Rattle.hol_script.specs.declared.session.Session.{Session}
 
@@ -26,9 +27,10 @@ state_of session = record {
 abbrev pub AreMade : Journal → (List ℕ → Option Recorded) → Type 0
 AreMade journal stored = (name : List ℕ) (made : Recorded) → stored name ≡ Some made → IsMade journal made
 
--- the scope is that of the theory, and the recorder made each stored theorem
+-- the scope is that of the theory, and the recorder made each stored theorem and the theorems from which rules are made
 pub record IsSession (session : Session) : Type 0 where
   pub legal : IsLegal session.recorder.theory
   pub constants : (name : List ℕ) → (scope_of session.scope).generic_type name ≡ generic_type session.recorder.theory name
   pub types : (name : List ℕ) → (scope_of session.scope).declares_type name ≡ is_declared session.recorder.theory name
   pub made : AreMade session.recorder (get_by_text session.theorems)
+  pub logic : HasLogic session.recorder session.logic

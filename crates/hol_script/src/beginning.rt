@@ -73,10 +73,25 @@ const SELECT_AX: StoredTheorem<'static> = StoredTheorem {
     number: 33,
 };
 
+const EXCLUDED_MIDDLE: StoredTheorem<'static> = StoredTheorem {
+    name: "EXCLUDED_MIDDLE",
+    number: 35,
+};
+
 /// The theorems that are stored when a script begins, in order.
-pub(crate) const STORED: [StoredTheorem<'static>; 11] = [
-    T_DEF, AND_DEF, IMP_DEF, FORALL_DEF, EXISTS_DEF, OR_DEF, F_DEF, NOT_DEF, TRUTH, ETA_AX,
+pub(crate) const STORED: [StoredTheorem<'static>; 12] = [
+    T_DEF,
+    AND_DEF,
+    IMP_DEF,
+    FORALL_DEF,
+    EXISTS_DEF,
+    OR_DEF,
+    F_DEF,
+    NOT_DEF,
+    TRUTH,
+    ETA_AX,
     SELECT_AX,
+    EXCLUDED_MIDDLE,
 ];
 
 // The type `bool->bool`.

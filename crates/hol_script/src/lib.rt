@@ -1,8 +1,10 @@
 // Runs proof scripts.
 #![tactic(auto, using(hol_model::proofs::Refusals::refusals))]
 
+mod beginning;
 mod command;
 mod cut;
+mod derivation;
 mod derived;
 mod execute;
 mod laws;

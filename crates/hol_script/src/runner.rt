@@ -133,8 +133,8 @@ fn write_log<L: Sink>(alloc: Global, progress: &Progress, log: &mut L) -> Result
 /// is accepted, with a claim for each line of a theorem, in order. Where none is wanted, `log` is left alone.
 ///
 /// ReadFault and TooLong come before anything is written: the source failed, or the script is longer than the limit on
-/// texts. Memory comes while the script is read or the session is begun: a growth refused in a command refuses that
-/// command. After the last command Memory and TooLong come where the log finds no memory or is longer than the limit,
+/// texts. Memory comes while the script is read, or while the session is begun and the theorems of the prelude are made: a
+/// growth refused in a command refuses that command. After the last command Memory and TooLong come where the log finds no memory or is longer than the limit,
 /// and then none of it is written. WriteFault: a sink failed.
 pub fn run<R: Source, W: Sink, L: Sink>(
     alloc: Global,

@@ -1,14 +1,15 @@
 // Sessions: what the commands of a script have stored.
-ghost use Rattle.std.specs.Prelude.{◌≡◌, ◌⊎◌, ◌<◌, ◌++◌, ◌∷◌, ℕ, List, [], map, Some, OnOk, OnErr, IfOk, IfErr, IfSome, IsErrOf, Contains, codes, string_bytes};
+ghost use Rattle.std.specs.Prelude.{◌≡◌, ◌⊎◌, ◌<◌, ◌++◌, ◌∷◌, ℕ, List, [], map, length, Some, OnOk, OnErr, IfOk, IfErr, IfSome, IsErrOf, Contains, codes, string_bytes};
 ghost use Rattle.std.specs.Map.{update};
 ghost use Rattle.std.specs.Option.{option_map};
 ghost use Rattle.std.specs.Str.{bytes_eq};
 ghost use Rattle.indexmap.specs.IndexMap.{get_by_text, spare};
-ghost use Rattle.hol_model.specs.Commands.{RuleTree, by_term, by_pair, by_abs, by_inst, by_inst_type, thm_command, show_command, var_command, def_command, newtype_command, newconst_command, SpellsCommand};
+ghost use Rattle.hol_model.specs.Commands.{DerivedTree, by_conversion, by_premise, by_premises, by_term_and_premise, by_cases, by_witness, by_choice, RuleTree, by_term, by_pair, by_abs, by_inst, by_inst_type, by_derived, thm_command, show_command, var_command, def_command, newtype_command, newconst_command, SpellsCommand};
 ghost use Rattle.hol_model.specs.Outcome.{Answers};
 ghost use Rattle.hol_model.specs.Reading.{type_meaning, meaning};
 ghost use Rattle.hol_model.specs.Rules.{define_outcome, new_type_outcome, new_const_outcome};
-ghost use Rattle.hol_model.specs.Sessions.{start, each, scope_in, with_theorem, term_rule_outcome, pair_rule_outcome};
+ghost use Rattle.hol_model.specs.Prelude.{stored_theorems};
+ghost use Rattle.hol_model.specs.Sessions.{start, each, scope_in, with_theorem, with_theorems, term_rule_outcome, pair_rule_outcome};
 ghost use Rattle.hol_model.specs.Sessions as spec;
 ghost use Rattle.hol_model.specs.TermGrammar.{TermTree};
 ghost use Rattle.hol_model.specs.TypeGrammar.{TypeTree, type_steps};
@@ -18,21 +19,28 @@ ghost use Rattle.hol_syntax.specs.Steps.{flat_steps_of};
 ghost use Rattle.hol_syntax.specs.TermSteps.{term_steps, flat_steps};
 ghost use Rattle.hol_syntax.specs.Views.{steps_of};
 ghost use Rattle.hol_script.specs.Answers.{IsLineOf, Turns, AnswersRule, AnswersItems};
+ghost use Rattle.hol_bool.specs.Prelude.{prelude_theorems};
 ghost use Rattle.hol_journal.specs.Journal.{Journal, Recorded, IsMade, theorem_in};
 ghost use Rattle.hol_journal.specs.Claims.{claims_of};
 ghost use Rattle.hol_journal.specs.LogAccepted.{log_claim};
 ghost use Rattle.hol_journal.specs.Pruning.{HaveIdentifiers};
 ghost use Rattle.hol_script.specs.RunLogs.{stored_claims, IsAcceptedLog, IsLongLog};
 ghost use Rattle.hol_script.specs.Growth.{IsRefused, LeavesNone, MakesEquation, MakesLine, Defines, KeepsSession};
-ghost use Rattle.hol_script.specs.Recording.{Records, AppliesRule};
+ghost use Rattle.hol_script.specs.Recording.{Records, AppliesRule, GrowsJournal};
+ghost use Rattle.hol_script.specs.Beginning.{logical_state, AreStoredTheorems, StoresNumbered};
 ghost use Rattle.hol_script.specs.SessionState.{state_of, IsSession, AreMade};
-ghost use Rattle.hol_script.specs.Views.{IsRule, IsTermPair, AreTermPairs, IsTypePair, AreTypePairs};
+ghost use Rattle.hol_script.specs.Views.{IsRule, IsDerived, IsTermPair, AreTermPairs, IsTypePair, AreTypePairs};
 
+use crate::beginning::{STORED, StoredTheorem, logical_scope};
 use crate::command::Rule;
+use crate::derivation::{on_premise, on_premises, on_term_and_premise};
+use crate::derived::Derived;
 use crate::pairs::{TermPair, TypePair};
+use hol_bool::{Bool, beta_conv, disj_cases, logic_stays, prelude, theorem_of};
 use hol_journal::{Claim, Rec, Recorder, journals_grow};
 use hol_kernel::Thm;
-use hol_model::{Axiom, Fault, PairRule, TermRule};
+use hol_model::{Axiom, Fault, PairRule, PremiseRule, PremisesRule, TermPremiseRule, TermRule};
+use hol_quant::{choose, exists};
 use hol_sound::sound;
 use hol_syntax::{Scope, TermStep, TypeStep, build_type, term_of_steps, text_of_sequent};
 use hol_terms::{Term, mk_eq};
@@ -54,12 +62,14 @@ pub enum Printed {
     Line(TheoremLine),
 }
 
-/// A theory with its journal, what the names of texts stand for, and the stored theorems.
+/// A theory with its journal, what the names of texts stand for, the stored theorems, and those from which rules are
+/// made.
 #[derive(Drop)]
 pub struct Session {
     recorder: Recorder,
     scope: Scope,
     theorems: IndexMap<String, Rec>,
+    logic: Bool,
 }
 
 /// Whether `thm` may give this name: names that end in `_def` belong to definitions.
@@ -223,19 +233,79 @@ fn on_theorems(
 }
 
 impl Session {
-    /// The session in which a script begins.
+    /// The session in which a script begins: the logical constants are defined, and the theorems of the prelude stored.
     pub fn new(alloc: Global) -> Result<Session, Fault>
         ensures ok { IfOk result (λ session. state_of session ≡ start) }
         ensures is_session { IfOk result IsSession }
         ensures err { IfErr result (λ fault. fault ≡ Memory) }
     {
-        let recorder = Recorder::new(alloc)?;
-        let scope = Scope::new(alloc)?;
+        let mut session = match Session::with_logic(alloc) {
+            Ok(session) => session,
+            Err(fault) => return Err(fault),
+        };
+        match session.store_all(alloc, &STORED) {
+            Ok(()) => Ok(session),
+            Err(fault) => Err(fault),
+        }
+    }
+
+    // The logical constants, and no stored theorems.
+    fn with_logic(alloc: Global) -> Result<Session, Fault>
+        ensures ok { IfOk result (λ session. state_of session ≡ logical_state) }
+        ensures is_session { IfOk result IsSession }
+        ensures err { IfErr result (λ fault. fault ≡ Memory) }
+    {
+        let scope = match logical_scope(alloc) {
+            Ok(scope) => scope,
+            Err(fault) => return Err(fault),
+        };
+        let mut recorder = match Recorder::new(alloc) {
+            Ok(recorder) => recorder,
+            Err(fault) => return Err(fault),
+        };
+        let logic = match prelude(&mut recorder, alloc) {
+            Ok(logic) => logic,
+            Err(fault) => return Err(fault),
+        };
+        recorder.theory_is_legal();
         Ok(Session {
             recorder,
             scope,
             theorems: IndexMap::new(alloc),
+            logic,
         })
+    }
+
+    // Stores the theorems of a table, which are those of the prelude.
+    fn store_all(&mut self, alloc: Global, table: &[StoredTheorem<'_>]) -> Result<(), Fault>
+        requires session { IsSession self.old }
+        requires table { AreStoredTheorems table.now stored_theorems }
+        ensures ok { OnOk result (state_of self.new ≡ with_theorems (state_of self.old) stored_theorems) }
+        ensures err { IfErr result (λ fault. fault ≡ Memory) }
+        ensures kept { IsSession self.new }
+    {
+        for at in 0..table.len() {
+            let stored = &table[at];
+            match self.store_numbered(alloc, stored.name, stored.number) {
+                Ok(()) => {}
+                Err(fault) => return Err(fault),
+            }
+        }
+        Ok(())
+    }
+
+    // Stores the theorem of this number among those of the prelude.
+    fn store_numbered(&mut self, alloc: Global, name: &str, number: usize) -> Result<(), Fault>
+        requires session { IsSession self.old }
+        requires number { number < length prelude_theorems }
+        ensures ok { OnOk result (StoresNumbered (state_of self.old) (state_of self.new) name.now number) }
+        ensures err { IfErr result (λ fault. fault ≡ Memory) }
+        ensures kept { IsSession self.new }
+    {
+        match theorem_of(&self.recorder, &self.logic, number).copy(alloc) {
+            Ok(theorem) => self.store(alloc, name, theorem),
+            Err(fault) => Err(fault),
+        }
     }
 
     /// `thm NAME = RULE ..`: stores what the rule gives. A refusal changes nothing.
@@ -251,12 +321,13 @@ impl Session {
         if stored(&self.theorems, name).is_some() {
             return Err(Fault::NameTaken);
         }
+        journals_grow();
+        logic_stays();
         let theorem = match self.apply(alloc, rule) {
             Ok(theorem) => theorem,
             Err(fault) => return Err(fault),
         };
         sound();
-        journals_grow();
         let thm = self.recorder.thm(&theorem);
         let _theorem = thm.concl();
         let line = match theorem_line(alloc, &self.scope, name, thm) {
@@ -340,6 +411,7 @@ impl Session {
         }
         sound();
         journals_grow();
+        logic_stays();
         match self.define(alloc, name, &term) {
             Ok(line) => Ok(Printed::Line(line)),
             Err(fault) => {
@@ -361,6 +433,7 @@ impl Session {
             Err(_) => return Err(Fault::Memory),
         }
         journals_grow();
+        logic_stays();
         match self.recorder.new_type(alloc, name) {
             Ok(()) => Ok(Printed::Nothing),
             Err(fault) => {
@@ -392,6 +465,7 @@ impl Session {
             Err(_) => return Err(Fault::Memory),
         }
         journals_grow();
+        logic_stays();
         match self.recorder.new_const(alloc, name, &ty) {
             Ok(()) => Ok(Printed::Nothing),
             Err(fault) => {
@@ -450,6 +524,7 @@ impl Session {
         ensures stored { (other : List ℕ) → get_by_text self.new.theorems other ≡ update bytes_eq (get_by_text self.old.theorems) (string_bytes key) (Some theorem) other }
         ensures recorder { self.new.recorder ≡ self.old.recorder }
         ensures scope { self.new.scope ≡ self.old.scope }
+        ensures logic { self.new.logic ≡ self.old.logic }
     {
         match self.theorems.insert(key, theorem) {
             Ok(_) => {}
@@ -493,13 +568,13 @@ impl Session {
         }
     }
 
-    // What a rule gives: its arguments from left to right, then the rule. The state stays, and a refusal changes nothing.
+    // What a rule gives: its arguments from left to right, then the rule. The state stays.
     fn apply(&mut self, alloc: Global, rule: &Rule) -> Result<Rec, Fault>
         requires { IsSession self.old }
         ensures answers { (tree : RuleTree) → IsRule rule.now tree → AnswersRule (theorem_in result) (state_of self.old) tree }
-        ensures applies { IfOk result (AppliesRule self.old self.new) }
-        ensures kept { OnErr result (self.new ≡ self.old) }
+        ensures grows { GrowsJournal self.old self.new result }
     {
+        journals_grow();
         match rule {
             Rule::OfTerm(rule, steps) => self.by_term(alloc, *rule, steps),
             Rule::OfTheorems(rule, first, second) => self.by_pair(alloc, *rule, first, second),
@@ -508,6 +583,34 @@ impl Session {
             Rule::InstType(pairs, name) => self.inst_type(alloc, pairs, name),
             Rule::OfAxiom(Axiom::Eta) => self.recorder.eta(alloc),
             Rule::OfAxiom(Axiom::Select) => self.recorder.select(alloc),
+            Rule::Derived(rule) => self.derive(alloc, rule),
+        }
+    }
+
+    // What a derived rule gives: its arguments from left to right, then the rule. The state stays.
+    fn derive(&mut self, alloc: Global, rule: &Derived) -> Result<Rec, Fault>
+        requires { IsSession self.old }
+        ensures answers { (tree : DerivedTree) → IsDerived rule.now tree → AnswersRule (theorem_in result) (state_of self.old) (by_derived tree) }
+        ensures grows { GrowsJournal self.old self.new result }
+    {
+        match rule {
+            Derived::OfTerm(steps) => self.by_conversion(alloc, steps),
+            Derived::OfPremise(rule, name) => self.by_premise(alloc, *rule, name),
+            Derived::OfPremises(rule, first, second) => {
+                self.by_premises(alloc, *rule, first, second)
+            }
+            Derived::OfTermAndPremise(rule, steps, name) => {
+                self.by_term_and_premise(alloc, *rule, steps, name)
+            }
+            Derived::Cases(disjunction, first, second) => {
+                self.by_cases(alloc, disjunction, first, second)
+            }
+            Derived::Witness(formula, witness, name) => {
+                self.by_witness(alloc, formula, witness, name)
+            }
+            Derived::Choice(variable, first, second) => {
+                self.by_choice(alloc, variable, first, second)
+            }
         }
     }
 
@@ -580,6 +683,180 @@ impl Session {
             Some(theorem) => self.recorder.abs(alloc, &binder, theorem),
             None => Err(Fault::UnknownName),
         }
+    }
+
+    // BETA_CONV
+    fn by_conversion(&mut self, alloc: Global, steps: &[TermStep]) -> Result<Rec, Fault>
+        requires { IsSession self.old }
+        ensures answers { (tree : TermTree) → flat_steps_of steps.now ≡ flat_steps (term_steps tree)
+            → AnswersRule (theorem_in result) (state_of self.old) (by_derived (by_conversion tree)) }
+        ensures grows { GrowsJournal self.old self.new result }
+    {
+        match self.term(alloc, steps) {
+            Ok(term) => beta_conv(&mut self.recorder, alloc, &term),
+            Err(fault) => Err(fault),
+        }
+    }
+
+    // A derived rule on a stored theorem.
+    fn by_premise(&mut self, alloc: Global, rule: PremiseRule, name: &str) -> Result<Rec, Fault>
+        requires { IsSession self.old }
+        ensures answers { AnswersRule (theorem_in result) (state_of self.old) (by_derived (by_premise rule name.now)) }
+        ensures grows { GrowsJournal self.old self.new result }
+    {
+        match stored(&self.theorems, name) {
+            Some(premise) => on_premise(alloc, &mut self.recorder, &self.logic, rule, premise),
+            None => Err(Fault::UnknownName),
+        }
+    }
+
+    // A derived rule on two stored theorems.
+    fn by_premises(
+        &mut self,
+        alloc: Global,
+        rule: PremisesRule,
+        first: &str,
+        second: &str,
+    ) -> Result<Rec, Fault>
+        requires { IsSession self.old }
+        ensures answers { AnswersRule (theorem_in result) (state_of self.old) (by_derived (by_premises rule first.now second.now)) }
+        ensures grows { GrowsJournal self.old self.new result }
+    {
+        let Some(first) = stored(&self.theorems, first) else {
+            return Err(Fault::UnknownName);
+        };
+        let Some(second) = stored(&self.theorems, second) else {
+            return Err(Fault::UnknownName);
+        };
+        on_premises(alloc, &mut self.recorder, &self.logic, rule, first, second)
+    }
+
+    // A derived rule on a term and a stored theorem.
+    fn by_term_and_premise(
+        &mut self,
+        alloc: Global,
+        rule: TermPremiseRule,
+        steps: &[TermStep],
+        name: &str,
+    ) -> Result<Rec, Fault>
+        requires { IsSession self.old }
+        ensures answers { (tree : TermTree) → flat_steps_of steps.now ≡ flat_steps (term_steps tree)
+            → AnswersRule (theorem_in result) (state_of self.old) (by_derived (by_term_and_premise rule tree name.now)) }
+        ensures grows { GrowsJournal self.old self.new result }
+    {
+        let term = match self.term(alloc, steps) {
+            Ok(term) => term,
+            Err(fault) => return Err(fault),
+        };
+        match stored(&self.theorems, name) {
+            Some(premise) => on_term_and_premise(
+                alloc,
+                &mut self.recorder,
+                &self.logic,
+                rule,
+                &term,
+                premise,
+            ),
+            None => Err(Fault::UnknownName),
+        }
+    }
+
+    // DISJ_CASES
+    fn by_cases(
+        &mut self,
+        alloc: Global,
+        disjunction: &str,
+        first: &str,
+        second: &str,
+    ) -> Result<Rec, Fault>
+        requires { IsSession self.old }
+        ensures answers { AnswersRule (theorem_in result) (state_of self.old) (by_derived (by_cases disjunction.now first.now second.now)) }
+        ensures grows { GrowsJournal self.old self.new result }
+    {
+        let Some(disjunction) = stored(&self.theorems, disjunction) else {
+            return Err(Fault::UnknownName);
+        };
+        let Some(first) = stored(&self.theorems, first) else {
+            return Err(Fault::UnknownName);
+        };
+        let Some(second) = stored(&self.theorems, second) else {
+            return Err(Fault::UnknownName);
+        };
+        disj_cases(
+            &mut self.recorder,
+            alloc,
+            &self.logic,
+            disjunction,
+            first,
+            second,
+        )
+    }
+
+    // EXISTS
+    fn by_witness(
+        &mut self,
+        alloc: Global,
+        formula: &[TermStep],
+        witness: &[TermStep],
+        name: &str,
+    ) -> Result<Rec, Fault>
+        requires { IsSession self.old }
+        ensures answers { (tree other : TermTree) → flat_steps_of formula.now ≡ flat_steps (term_steps tree) → flat_steps_of witness.now ≡ flat_steps (term_steps other)
+            → AnswersRule (theorem_in result) (state_of self.old) (by_derived (by_witness tree other name.now)) }
+        ensures grows { GrowsJournal self.old self.new result }
+    {
+        let formula = match self.term(alloc, formula) {
+            Ok(formula) => formula,
+            Err(fault) => return Err(fault),
+        };
+        let witness = match self.term(alloc, witness) {
+            Ok(witness) => witness,
+            Err(fault) => return Err(fault),
+        };
+        match stored(&self.theorems, name) {
+            Some(premise) => exists(
+                &mut self.recorder,
+                alloc,
+                &self.logic,
+                &formula,
+                &witness,
+                premise,
+            ),
+            None => Err(Fault::UnknownName),
+        }
+    }
+
+    // CHOOSE
+    fn by_choice(
+        &mut self,
+        alloc: Global,
+        variable: &[TermStep],
+        first: &str,
+        second: &str,
+    ) -> Result<Rec, Fault>
+        requires { IsSession self.old }
+        ensures answers { (tree : TermTree) → flat_steps_of variable.now ≡ flat_steps (term_steps tree)
+            → AnswersRule (theorem_in result) (state_of self.old) (by_derived (by_choice tree first.now second.now)) }
+        ensures grows { GrowsJournal self.old self.new result }
+    {
+        let variable = match self.term(alloc, variable) {
+            Ok(variable) => variable,
+            Err(fault) => return Err(fault),
+        };
+        let Some(first) = stored(&self.theorems, first) else {
+            return Err(Fault::UnknownName);
+        };
+        let Some(second) = stored(&self.theorems, second) else {
+            return Err(Fault::UnknownName);
+        };
+        choose(
+            &mut self.recorder,
+            alloc,
+            &self.logic,
+            &variable,
+            first,
+            second,
+        )
     }
 
     // The terms of a pair.

@@ -30,7 +30,7 @@ returns-in-Err-NameTaken-clause-turns c = λ text tree spelled steps.
 pub returns-in-Err-NameTaken-clause-kept : goal.returns-in-Err-NameTaken-clause-kept
 returns-in-Err-NameTaken-clause-kept c =
     let old = c.args.self.now in
-    subst IsSession (sym c.refusal_of_definition.ensures.kept) (kept_session old (made old old.recorder c.add_const.new.self) c.requires refl c.in-Err-NameTaken.ensures.kept (λ name. refl))
+    subst IsSession (sym c.refusal_of_definition.ensures.kept) (kept_session old (made old old.recorder c.add_const.new.self) c.requires refl c.in-Err-NameTaken.ensures.kept (λ name. refl) refl)
 
 pub returns-in-Err-add_const-clause-turns : goal.returns-in-Err-add_const-clause-turns
 returns-in-Err-add_const-clause-turns c = λ text tree spelled steps.
@@ -41,16 +41,16 @@ returns-in-Err-add_const-clause-turns c = λ text tree spelled steps.
 pub returns-in-Err-add_const-clause-kept : goal.returns-in-Err-add_const-clause-kept
 returns-in-Err-add_const-clause-kept c =
     let old = c.args.self.now in
-    kept_session old (made old old.recorder c.add_const.new.self) c.requires refl c.in-Err-add_const.ensures.kept (λ name. refl)
+    kept_session old (made old old.recorder c.add_const.new.self) c.requires refl c.in-Err-add_const.ensures.kept (λ name. refl) refl
 
 pub returns-in-Ok-define-clause-turns : goal.returns-in-Ok-define-clause-turns
 returns-in-Ok-define-clause-turns c = λ text tree spelled steps.
-    def_turns c.args.self.now c.define.new.self c.add_const.new.self text c.args.name.now tree c.in-Ok.term c.ty.result.now c.in-Ok-define.line c.sound.ensures c.journals_grow.ensures c.requires spelled
+    def_turns c.args.self.now c.define.new.self c.add_const.new.self text c.args.name.now tree c.in-Ok.term c.ty.result.now c.in-Ok-define.line c.sound.ensures c.journals_grow.ensures c.logic_stays.ensures c.requires spelled
     (c.in-Ok.ensures tree steps) c.ty.ensures c.in-Ok-add_const.ensures.ok c.in-Ok-define.ensures.ok
 
 pub returns-in-Ok-define-clause-kept : goal.returns-in-Ok-define-clause-kept
 returns-in-Ok-define-clause-kept c =
-    def_session c.args.self.now c.define.new.self c.add_const.new.self c.args.name.now c.in-Ok.term c.ty.result.now _ c.journals_grow.ensures c.requires c.ty.ensures c.in-Ok-add_const.ensures.ok c.in-Ok-define.ensures.ok
+    def_session c.args.self.now c.define.new.self c.add_const.new.self c.args.name.now c.in-Ok.term c.ty.result.now _ c.journals_grow.ensures c.logic_stays.ensures c.requires c.ty.ensures c.in-Ok-add_const.ensures.ok c.in-Ok-define.ensures.ok
 
 pub returns-clause-turns : goal.returns-clause-turns
 returns-clause-turns c = λ text tree spelled steps.
@@ -68,4 +68,4 @@ returns-clause-kept c =
     let new = with_scope c.define.new.self c.remove_const.new.self in
     let keeps = removed_after old c.add_const.new.self c.define.new.self c.remove_const.new.self c.args.name.now c.ty.result.now c.in-Ok-add_const.ensures.ok c.in-Err-define.ensures.kept c.remove_const.ensures
     (not_some ((scope_of old.scope).generic_type c.args.name.now) (λ known. never (c.in-Ok-add_const.ensures.taken.1 known))) in
-    kept_session old new c.requires c.in-Err-define.ensures.kept.recorder keeps c.in-Err-define.ensures.kept.theorems
+    kept_session old new c.requires c.in-Err-define.ensures.kept.recorder keeps c.in-Err-define.ensures.kept.theorems c.in-Err-define.ensures.kept.logic

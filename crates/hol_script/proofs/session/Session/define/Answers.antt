@@ -32,6 +32,7 @@ returns-clause-ok c =
       made = subst (λ (j : Journal). IsMade j answer) put (grow.made before after _ answer recorded);
       grown = subst (λ (j : Journal). IsGrown before j) put (grow.grown before after _ answer recorded);
       scope = c.put.ensures.scope;
+      logic = c.put.ensures.logic;
       stored = λ other. c.put.ensures.stored other ∙ ap (λ (key : List ℕ). cond (bytes_eq key other) (Some answer) (get_by_text c.reserve.new.self other)) c.in-Ok.ensures.ok
           ∙ ap (λ found. cond (bytes_eq (definition_name c.args.name.now) other) (Some answer) found) (roomy other);
       line_is = definition-line before.theory (scope_of c.args.self.now.scope) c.args.name.now c.as_str.result.now c.args.term.now answer.theorem c.in-Ok-Some.line

@@ -32,7 +32,7 @@ returns-in-Err-NameTaken-clause-turns c = λ text tree spelled steps.
 pub returns-in-Err-NameTaken-clause-kept : goal.returns-in-Err-NameTaken-clause-kept
 returns-in-Err-NameTaken-clause-kept c =
     let old = c.args.self.now in
-    subst IsSession (sym c.refusal_of_const.ensures.kept) (kept_session old (made old old.recorder c.add_const.new.self) c.requires refl c.in-Err-NameTaken.ensures.kept (λ name. refl))
+    subst IsSession (sym c.refusal_of_const.ensures.kept) (kept_session old (made old old.recorder c.add_const.new.self) c.requires refl c.in-Err-NameTaken.ensures.kept (λ name. refl) refl)
 
 pub returns-in-Ok-new_const-clause-turns : goal.returns-in-Ok-new_const-clause-turns
 returns-in-Ok-new_const-clause-turns c = λ text tree spelled steps.
@@ -44,7 +44,7 @@ returns-in-Ok-new_const-clause-turns c = λ text tree spelled steps.
 
 pub returns-in-Ok-new_const-clause-kept : goal.returns-in-Ok-new_const-clause-kept
 returns-in-Ok-new_const-clause-kept c =
-    const_session c.args.self.now c.new_const.new.self c.add_const.new.self c.args.name.now c.in-Ok.ty c.journals_grow.ensures c.requires c.in-Ok-add_const.ensures.ok c.in-Ok-new_const.ensures.outcome c.in-Ok-new_const.ensures.grown
+    const_session c.args.self.now c.new_const.new.self c.add_const.new.self c.args.name.now c.in-Ok.ty c.journals_grow.ensures c.logic_stays.ensures c.requires c.in-Ok-add_const.ensures.ok c.in-Ok-new_const.ensures.outcome c.in-Ok-new_const.ensures.grown
 
 pub returns-clause-turns : goal.returns-clause-turns
 returns-clause-turns c = λ text tree spelled steps.
@@ -60,7 +60,7 @@ returns-clause-kept c =
     let old = c.args.self.now in
     let keeps = const_removed (scope_of old.scope) (scope_of c.add_const.new.self) (scope_of c.remove_const.new.self) c.args.name.now c.in-Ok.ty c.in-Ok-add_const.ensures.ok c.remove_const.ensures
     (not_some ((scope_of old.scope).generic_type c.args.name.now) (λ known. never (c.in-Ok-add_const.ensures.taken.1 known))) in
-    kept_session old (made old c.new_const.new.self c.remove_const.new.self) c.requires c.in-Err-new_const.ensures.kept keeps (λ name. refl)
+    kept_session old (made old c.new_const.new.self c.remove_const.new.self) c.requires c.in-Err-new_const.ensures.kept keeps (λ name. refl) refl
 
 pub returns-in-Err-add_const-clause-turns : goal.returns-in-Err-add_const-clause-turns
 returns-in-Err-add_const-clause-turns c = λ text tree spelled steps.
@@ -71,4 +71,4 @@ returns-in-Err-add_const-clause-turns c = λ text tree spelled steps.
 pub returns-in-Err-add_const-clause-kept : goal.returns-in-Err-add_const-clause-kept
 returns-in-Err-add_const-clause-kept c =
     let old = c.args.self.now in
-    kept_session old (made old old.recorder c.add_const.new.self) c.requires refl c.in-Err-add_const.ensures.kept (λ name. refl)
+    kept_session old (made old old.recorder c.add_const.new.self) c.requires refl c.in-Err-add_const.ensures.kept (λ name. refl) refl

@@ -22,7 +22,7 @@ returns-in-Err-NameTaken-clause-turns c = λ text spelled.
 pub returns-in-Err-NameTaken-clause-kept : goal.returns-in-Err-NameTaken-clause-kept
 returns-in-Err-NameTaken-clause-kept c =
     let old = c.args.self.now in
-    subst IsSession (sym c.refusal_of_type.ensures.kept) (kept_session old (made old old.recorder c.add_type.new.self) c.requires refl c.in-Err-NameTaken.ensures.kept (λ name. refl))
+    subst IsSession (sym c.refusal_of_type.ensures.kept) (kept_session old (made old old.recorder c.add_type.new.self) c.requires refl c.in-Err-NameTaken.ensures.kept (λ name. refl) refl)
 
 pub returns-in-Err-clause-turns : goal.returns-in-Err-clause-turns
 returns-in-Err-clause-turns c = λ text spelled.
@@ -33,7 +33,7 @@ returns-in-Err-clause-turns c = λ text spelled.
 pub returns-in-Err-clause-kept : goal.returns-in-Err-clause-kept
 returns-in-Err-clause-kept c =
     let old = c.args.self.now in
-    kept_session old (made old old.recorder c.add_type.new.self) c.requires refl c.in-Err.ensures.kept (λ name. refl)
+    kept_session old (made old old.recorder c.add_type.new.self) c.requires refl c.in-Err.ensures.kept (λ name. refl) refl
 
 pub returns-in-Ok-new_type-clause-turns : goal.returns-in-Ok-new_type-clause-turns
 returns-in-Ok-new_type-clause-turns c = λ text spelled.
@@ -44,7 +44,7 @@ returns-in-Ok-new_type-clause-turns c = λ text spelled.
 
 pub returns-in-Ok-new_type-clause-kept : goal.returns-in-Ok-new_type-clause-kept
 returns-in-Ok-new_type-clause-kept c =
-    type_session c.args.self.now c.new_type.new.self c.add_type.new.self c.args.name.now c.journals_grow.ensures c.requires c.in-Ok.ensures.ok c.in-Ok-new_type.ensures.outcome c.in-Ok-new_type.ensures.grown
+    type_session c.args.self.now c.new_type.new.self c.add_type.new.self c.args.name.now c.journals_grow.ensures c.logic_stays.ensures c.requires c.in-Ok.ensures.ok c.in-Ok-new_type.ensures.outcome c.in-Ok-new_type.ensures.grown
 
 pub returns-in-Err-new_type-clause-turns : goal.returns-in-Err-new_type-clause-turns
 returns-in-Err-new_type-clause-turns c = λ text spelled.
@@ -59,4 +59,4 @@ returns-in-Err-new_type-clause-kept c =
     let old = c.args.self.now in
     let keeps = type_removed (scope_of old.scope) (scope_of c.add_type.new.self) (scope_of c.remove_type.new.self) c.args.name.now c.in-Ok.ensures.ok c.remove_type.ensures
     (not_true ((scope_of old.scope).declares_type c.args.name.now) (λ known. never (c.in-Ok.ensures.taken.1 known))) in
-    kept_session old (made old c.new_type.new.self c.remove_type.new.self) c.requires c.in-Err-new_type.ensures.kept keeps (λ name. refl)
+    kept_session old (made old c.new_type.new.self c.remove_type.new.self) c.requires c.in-Err-new_type.ensures.kept keeps (λ name. refl) refl

@@ -26,4 +26,5 @@ returns-in-Ok-insert-clause-kept c =
       types = c.requires.session.types;
       made = stored_made c.args.self.now.recorder c.args.theorem c.args.name.now (get_by_text c.args.self.now.theorems) (get_by_text c.insert.new.self)
           c.requires.session.made c.requires.made stored;
+      logic = c.requires.session.logic;
     }

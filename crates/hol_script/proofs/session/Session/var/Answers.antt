@@ -29,4 +29,4 @@ returns-clause-turns c = λ text tree spelled steps.
 pub returns-clause-kept : goal.returns-clause-kept
 returns-clause-kept c =
     let old = c.args.self.now in
-    kept_session old (made old old.recorder c.set_var.new.self) c.requires refl c.in-Err-set_var.ensures.kept (λ name. refl)
+    kept_session old (made old old.recorder c.set_var.new.self) c.requires refl c.in-Err-set_var.ensures.kept (λ name. refl) refl
