@@ -1,7 +1,7 @@
 -- The theorems of the prelude.
 use Rattle.std.specs.Prelude.{List, [], ◌∷◌, ◌++◌, codes, drop}
 use Rattle.hol_model.specs.HolType.{bool_type}
-use Rattle.hol_model.specs.NamedTerm.{equation}
+use Rattle.hol_model.specs.NamedTerm.{NamedTerm, equation}
 use Rattle.hol_model.specs.Theory.{type_a}
 use Rattle.hol_model.specs.Theorem.{Theorem}
 use Rattle.hol_model.specs.Logic.{logical_definitions, true_name, and_name, implies_name, forall_name, exists_name, or_name, false_name, not_name, unary, binary, quantifier}
