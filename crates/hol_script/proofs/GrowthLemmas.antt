@@ -31,7 +31,7 @@ use Rattle.hol_model.proofs.LegalEntries.{fixed-has_none, new_name-IsNewName}
 use Rattle.hol_sound.specs.Laws.{IsSound}
 use Rattle.hol_syntax.specs.declared.scope.Scope.{Scope as ScopeHere}
 use Rattle.hol_syntax.specs.Scope.{scope_of, SetsConstant, SetsVariable, SetsType, KeepsScope}
-use Rattle.hol_script.specs.declared.session.TheoremLine.{TheoremLine}
+use Rattle.hol_script.specs.declared.lines.TheoremLine.{TheoremLine}
 use Rattle.hol_script.specs.declared.session.Session.{Session}
 use Rattle.hol_script.specs.declared.session.Printed.TheVariants.{Line}
 use Rattle.hol_journal.specs.Journal.{Journal, IsMade}

@@ -21,7 +21,7 @@ use Rattle.hol_script.specs.declared.command.Rule.{Rule}
 use Rattle.hol_script.specs.declared.command.Command.TheVariants.{Thm, Show, Var, Def, NewType, NewConst}
 use Rattle.hol_script.specs.Views.{IsRule, IsCommand}
 use Rattle.hol_script.specs.declared.session.Session.{Session}
-use Rattle.hol_script.specs.declared.session.TheoremLine.{TheoremLine}
+use Rattle.hol_script.specs.declared.lines.TheoremLine.{TheoremLine}
 use Rattle.hol_script.specs.declared.session.Printed.{Printed}
 use Rattle.hol_script.specs.declared.session.Printed.TheVariants.{Nothing, Line}
 use Rattle.hol_journal.specs.Journal.{Recorded}

@@ -7,7 +7,7 @@ use Rattle.hol_model.specs.Theorem.{Theorem}
 use Rattle.hol_model.specs.Commands.{RuleTree}
 use Rattle.hol_model.specs.Reading.{Scope}
 use Rattle.hol_model.specs.Sessions.{State, IsRuleAnswer, Reply, proves, accepts, refused, Turn, scope_in, theorem_line, refusal_line}
-use Rattle.hol_script.specs.declared.session.TheoremLine.{TheoremLine}
+use Rattle.hol_script.specs.declared.lines.TheoremLine.{TheoremLine}
 use Rattle.hol_script.specs.declared.session.Printed.{Printed}
 use Rattle.hol_script.specs.declared.session.Printed.TheVariants.{Nothing, Line}
 

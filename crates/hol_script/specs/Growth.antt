@@ -15,7 +15,7 @@ use Rattle.hol_model.specs.Sessions.{definition_name}
 use Rattle.hol_journal.specs.Journal.{Recorded, IsMade}
 use Rattle.hol_journal.specs.Growth.{IsGrown}
 use Rattle.hol_syntax.specs.Scope.{scope_of}
-use Rattle.hol_script.specs.declared.session.TheoremLine.{TheoremLine}
+use Rattle.hol_script.specs.declared.lines.TheoremLine.{TheoremLine}
 use Rattle.hol_script.specs.declared.session.Session.{Session}
 use Rattle.hol_script.specs.Answers.{IsLineOf}
 

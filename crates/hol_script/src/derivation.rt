@@ -1,21 +1,63 @@
-// Derived rules over the recorder, by the arguments that they take.
-ghost use Rattle.std.specs.Prelude.{◌++◌, ◌∷◌};
+// Rules over the recorder, by the arguments that they take.
+ghost use Rattle.std.specs.Prelude.{◌≡◌, ◌++◌, ◌∷◌, OnErr, IfOk};
 ghost use Rattle.hol_model.specs.Nameless.{image};
 ghost use Rattle.hol_model.specs.DerivedRules.{AnswersStated, terms_of_theorem};
-ghost use Rattle.hol_model.specs.Sessions.{premise_outcome, premises_outcome, term_premise_outcome};
+ghost use Rattle.hol_model.specs.Outcome.{Answers};
+ghost use Rattle.hol_model.specs.Sessions.{term_rule_outcome, pair_rule_outcome, premise_outcome, premises_outcome, term_premise_outcome};
 ghost use Rattle.hol_journal.specs.Journal.{IsMade, theorem_in};
 ghost use Rattle.hol_bool.specs.HasLogic.{HasLogic};
 ghost use Rattle.hol_bool.specs.Sequents.{Continues};
+ghost use Rattle.hol_script.specs.Recording.{Records};
 
 use hol_bool::{
     Bool, add_assum, conj, conjunct1, conjunct2, contr, disch, disj1, disj2, eqt_elim, eqt_intro,
     mp, not_elim, not_intro, prove_hyp, sym, undisch,
 };
 use hol_journal::{Rec, Recorder};
-use hol_model::{Fault, PremiseRule, PremisesRule, TermPremiseRule};
+use hol_model::{Fault, PairRule, PremiseRule, PremisesRule, TermPremiseRule, TermRule};
 use hol_quant::{generalize, spec};
 use hol_terms::Term;
 use std::alloc::Global;
+
+/// A rule of the kernel on a term.
+pub(crate) fn on_term(
+    alloc: Global,
+    recorder: &mut Recorder,
+    rule: TermRule,
+    term: &Term,
+) -> Result<Rec, Fault>
+    ensures outcome { Answers (theorem_in result) (term_rule_outcome rule recorder.old.theory term.now) }
+    ensures records { IfOk result (Records recorder.old recorder.new) }
+    ensures kept { OnErr result (recorder.new ≡ recorder.old) }
+{
+    match rule {
+        TermRule::Refl => recorder.refl(alloc, term),
+        TermRule::Beta => recorder.beta(alloc, term),
+        TermRule::Assume => recorder.assume(alloc, term),
+    }
+}
+
+/// A rule of the kernel on two theorems.
+pub(crate) fn on_theorems(
+    alloc: Global,
+    recorder: &mut Recorder,
+    rule: PairRule,
+    first: &Rec,
+    second: &Rec,
+) -> Result<Rec, Fault>
+    requires first { IsMade recorder.old first.now }
+    requires second { IsMade recorder.old second.now }
+    ensures outcome { Answers (theorem_in result) (pair_rule_outcome rule recorder.old.theory first.now.theorem second.now.theorem) }
+    ensures records { IfOk result (Records recorder.old recorder.new) }
+    ensures kept { OnErr result (recorder.new ≡ recorder.old) }
+{
+    match rule {
+        PairRule::Trans => recorder.trans(alloc, first, second),
+        PairRule::MkComb => recorder.mk_comb(alloc, first, second),
+        PairRule::EqMp => recorder.eq_mp(alloc, first, second),
+        PairRule::DeductAntisym => recorder.deduct_antisym(alloc, first, second),
+    }
+}
 
 /// A derived rule on a theorem.
 pub(crate) fn on_premise(

@@ -8,11 +8,13 @@ mod derivation;
 mod derived;
 mod execute;
 mod laws;
+mod lines;
 mod pairs;
 mod progress;
 mod quotes;
 mod runner;
 mod session;
+mod theorems;
 mod tokens;
 
 pub use laws::printed_theorems_stay;

@@ -1,7 +1,6 @@
 // Sessions: what the commands of a script have stored.
 ghost use Rattle.std.specs.Prelude.{◌≡◌, ◌⊎◌, ◌<◌, ◌++◌, ◌∷◌, ℕ, List, [], map, length, Some, OnOk, OnErr, IfOk, IfErr, IfSome, IsErrOf, Contains, codes, string_bytes};
 ghost use Rattle.std.specs.Map.{update};
-ghost use Rattle.std.specs.Option.{option_map};
 ghost use Rattle.std.specs.Str.{bytes_eq};
 ghost use Rattle.indexmap.specs.IndexMap.{get_by_text, spare};
 ghost use Rattle.hol_model.specs.Commands.{DerivedTree, by_conversion, by_premise, by_premises, by_term_and_premise, by_cases, by_witness, by_choice, RuleTree, by_term, by_pair, by_abs, by_inst, by_inst_type, by_derived, thm_command, show_command, var_command, def_command, newtype_command, newconst_command, SpellsCommand};
@@ -9,7 +8,7 @@ ghost use Rattle.hol_model.specs.Outcome.{Answers};
 ghost use Rattle.hol_model.specs.Reading.{type_meaning, meaning};
 ghost use Rattle.hol_model.specs.Rules.{define_outcome, new_type_outcome, new_const_outcome};
 ghost use Rattle.hol_model.specs.Prelude.{stored_theorems};
-ghost use Rattle.hol_model.specs.Sessions.{start, each, scope_in, with_theorem, with_theorems, term_rule_outcome, pair_rule_outcome};
+ghost use Rattle.hol_model.specs.Sessions.{start, each, scope_in, with_theorem, with_theorems};
 ghost use Rattle.hol_model.specs.Sessions as spec;
 ghost use Rattle.hol_model.specs.TermGrammar.{TermTree};
 ghost use Rattle.hol_model.specs.TypeGrammar.{TypeTree, type_steps};
@@ -18,42 +17,35 @@ ghost use Rattle.hol_syntax.specs.Scope.{scope_of};
 ghost use Rattle.hol_syntax.specs.Steps.{flat_steps_of};
 ghost use Rattle.hol_syntax.specs.TermSteps.{term_steps, flat_steps};
 ghost use Rattle.hol_syntax.specs.Views.{steps_of};
-ghost use Rattle.hol_script.specs.Answers.{IsLineOf, Turns, AnswersRule, AnswersItems};
+ghost use Rattle.hol_script.specs.Answers.{Turns, AnswersRule, AnswersItems};
 ghost use Rattle.hol_bool.specs.Prelude.{prelude_theorems};
 ghost use Rattle.hol_journal.specs.Journal.{Journal, Recorded, IsMade, theorem_in};
-ghost use Rattle.hol_journal.specs.Claims.{claims_of};
 ghost use Rattle.hol_journal.specs.LogAccepted.{log_claim};
 ghost use Rattle.hol_journal.specs.Pruning.{HaveIdentifiers};
 ghost use Rattle.hol_script.specs.RunLogs.{stored_claims, IsAcceptedLog, IsLongLog};
-ghost use Rattle.hol_script.specs.Growth.{IsRefused, LeavesNone, MakesEquation, MakesLine, Defines, KeepsSession};
-ghost use Rattle.hol_script.specs.Recording.{Records, AppliesRule, GrowsJournal};
+ghost use Rattle.hol_script.specs.Growth.{IsRefused, Defines, KeepsSession};
+ghost use Rattle.hol_script.specs.Recording.{AppliesRule, GrowsJournal};
 ghost use Rattle.hol_script.specs.Beginning.{logical_state, AreStoredTheorems, StoresNumbered};
 ghost use Rattle.hol_script.specs.SessionState.{state_of, IsSession, AreMade};
 ghost use Rattle.hol_script.specs.Views.{IsRule, IsDerived, IsTermPair, AreTermPairs, IsTypePair, AreTypePairs};
 
 use crate::beginning::{STORED, StoredTheorem, logical_scope};
 use crate::command::Rule;
-use crate::derivation::{on_premise, on_premises, on_term_and_premise};
+use crate::derivation::{on_premise, on_premises, on_term, on_term_and_premise, on_theorems};
 use crate::derived::Derived;
+use crate::lines::{TheoremLine, definition_line, definition_name, is_theorem_name, theorem_line};
 use crate::pairs::{TermPair, TypePair};
+use crate::theorems::{claims, stored};
 use hol_bool::{Bool, beta_conv, disj_cases, logic_stays, prelude, theorem_of};
-use hol_journal::{Claim, Rec, Recorder, journals_grow};
-use hol_kernel::Thm;
+use hol_journal::{Rec, Recorder, journals_grow};
 use hol_model::{Axiom, Fault, PairRule, PremiseRule, PremisesRule, TermPremiseRule, TermRule};
 use hol_quant::{choose, exists};
 use hol_sound::sound;
-use hol_syntax::{Scope, TermStep, TypeStep, build_type, term_of_steps, text_of_sequent};
-use hol_terms::{Term, mk_eq};
+use hol_syntax::{Scope, TermStep, TypeStep, build_type, term_of_steps};
+use hol_terms::Term;
 use hol_types::Ty;
 use indexmap::IndexMap;
 use std::alloc::Global;
-
-/// The line of a theorem, and the name in it.
-#[derive(Drop)]
-pub struct TheoremLine {
-    pub name: String,
-    pub text: String,
-}
 
 /// What an accepted command prints.
 #[derive(Drop)]
@@ -70,166 +62,6 @@ pub struct Session {
     scope: Scope,
     theorems: IndexMap<String, Rec>,
     logic: Bool,
-}
-
-/// Whether `thm` may give this name: names that end in `_def` belong to definitions.
-fn is_theorem_name(name: &str) -> bool
-    ensures { result ≡ spec.is_theorem_name name.now }
-{
-    !name.as_bytes().ends_with(b"_def")
-}
-
-// A name, a colon and a sequent.
-fn sequent_line(
-    alloc: Global,
-    scope: &Scope,
-    name: &str,
-    hyps: &[Term],
-    concl: &Term,
-) -> Result<TheoremLine, Fault>
-    ensures ok { IfOk result (λ line. IsLineOf line (scope_of scope.now) name.now (record { theory = []; hypotheses = hyps.now; conclusion = concl.now })) }
-    ensures err { IfErr result (λ fault. fault ≡ Memory) }
-{
-    let sequent = text_of_sequent(alloc, scope, hyps, concl)?;
-    let mut text = String::from_str(alloc, name)?;
-    text.push_str(": ")?;
-    text.push_str(sequent.as_str())?;
-    text.push_str("\n")?;
-    Ok(TheoremLine {
-        name: String::from_str(alloc, name)?,
-        text,
-    })
-}
-
-/// The line of a theorem.
-fn theorem_line(
-    alloc: Global,
-    scope: &Scope,
-    name: &str,
-    theorem: &Thm,
-) -> Result<TheoremLine, Fault>
-    ensures ok { IfOk result (λ line. IsLineOf line (scope_of scope.now) name.now theorem.now) }
-    ensures err { IfErr result (λ fault. fault ≡ Memory) }
-{
-    sequent_line(alloc, scope, name, theorem.hyps(), theorem.concl())
-}
-
-// The name under which the theorem of a definition is stored.
-fn definition_name(alloc: Global, name: &str) -> Result<String, Fault>
-    ensures ok { IfOk result (λ stored. string_bytes stored ≡ spec.definition_name name.now) }
-    ensures err { IfErr result (λ fault. fault ≡ Memory) }
-{
-    let mut stored = String::from_str(alloc, name)?;
-    stored.push_str("_def")?;
-    Ok(stored)
-}
-
-// Want of memory is told; any other refusal leaves no equation.
-fn no_equation(fault: Fault) -> Result<Option<Term>, Fault>
-    ensures { LeavesNone result fault }
-{
-    match fault {
-        Fault::Memory => Err(Fault::Memory),
-        _ => Ok(None),
-    }
-}
-
-// The equation `c = t` of a definition; `None` where there is none within the limits.
-fn definition_equation(alloc: Global, name: &str, term: &Term) -> Result<Option<Term>, Fault>
-    ensures { MakesEquation result name.now term.now }
-{
-    let constant = match Term::mk_const(alloc, name, term.ty()) {
-        Ok(constant) => constant,
-        Err(fault) => return no_equation(fault),
-    };
-    match mk_eq(alloc, &constant, term) {
-        Ok(equation) => Ok(Some(equation)),
-        Err(fault) => no_equation(fault),
-    }
-}
-
-// The line of the theorem of a definition; `None` where its equation is not within the limits.
-fn definition_line(
-    alloc: Global,
-    scope: &Scope,
-    name: &str,
-    stored: &str,
-    term: &Term,
-) -> Result<Option<TheoremLine>, Fault>
-    ensures { MakesLine result (scope_of scope.now) name.now stored.now term.now }
-{
-    match definition_equation(alloc, name, term) {
-        Ok(Some(equation)) => match sequent_line(alloc, scope, stored, &[], &equation) {
-            Ok(line) => Ok(Some(line)),
-            Err(fault) => Err(fault),
-        },
-        Ok(None) => Ok(None),
-        Err(fault) => Err(fault),
-    }
-}
-
-// The stored theorem of a name.
-fn stored<'a>(theorems: &'a IndexMap<String, Rec>, name: &str) -> Option<&'a Rec>
-    ensures { option_map (λ theorem. theorem.now) result ≡ get_by_text theorems.now name.now }
-{
-    theorems.get(name)
-}
-
-// A claim for each name under which a theorem is stored, in order.
-fn claims<'a>(
-    alloc: Global,
-    theorems: &'a IndexMap<String, Rec>,
-    names: &'a [String],
-) -> Result<Vec<Claim<'a>>, Fault>
-    ensures ok { IfOk result (λ claims. claims_of claims.items ≡ stored_claims (get_by_text theorems.now) (map string_bytes names.now)) }
-    ensures err { IfErr result (λ fault. fault ≡ Memory) }
-{
-    let mut claims = Vec::new(alloc);
-    for name in names {
-        let name = name.as_str();
-        if let Some(theorem) = stored(theorems, name) {
-            claims.push(Claim { name, theorem })?;
-        }
-    }
-    Ok(claims)
-}
-
-fn on_term(
-    alloc: Global,
-    recorder: &mut Recorder,
-    rule: TermRule,
-    term: &Term,
-) -> Result<Rec, Fault>
-    ensures outcome { Answers (theorem_in result) (term_rule_outcome rule recorder.old.theory term.now) }
-    ensures records { IfOk result (Records recorder.old recorder.new) }
-    ensures kept { OnErr result (recorder.new ≡ recorder.old) }
-{
-    match rule {
-        TermRule::Refl => recorder.refl(alloc, term),
-        TermRule::Beta => recorder.beta(alloc, term),
-        TermRule::Assume => recorder.assume(alloc, term),
-    }
-}
-
-fn on_theorems(
-    alloc: Global,
-    recorder: &mut Recorder,
-    rule: PairRule,
-    first: &Rec,
-    second: &Rec,
-) -> Result<Rec, Fault>
-    requires first { IsMade recorder.old first.now }
-    requires second { IsMade recorder.old second.now }
-    ensures outcome { Answers (theorem_in result) (pair_rule_outcome rule recorder.old.theory first.now.theorem second.now.theorem) }
-    ensures records { IfOk result (Records recorder.old recorder.new) }
-    ensures kept { OnErr result (recorder.new ≡ recorder.old) }
-{
-    match rule {
-        PairRule::Trans => recorder.trans(alloc, first, second),
-        PairRule::MkComb => recorder.mk_comb(alloc, first, second),
-        PairRule::EqMp => recorder.eq_mp(alloc, first, second),
-        PairRule::DeductAntisym => recorder.deduct_antisym(alloc, first, second),
-    }
 }
 
 impl Session {

@@ -1,5 +1,5 @@
 use Rattle.hol_script.proofs.GrowthLemmas.{unnamed_equation, large_equation, equation_answered}
-use Rattle.hol_script.proofs.session.definition_equation.Goals as goal
+use Rattle.hol_script.proofs.lines.definition_equation.Goals as goal
 
 pub returns-in-Err : goal.returns-in-Err
 returns-in-Err c = unnamed_equation c.no_equation.result c.in-Err.fault c.args.name.now c.ty.result.now c.args.term.now c.no_equation.ensures c.in-Err.ensures.outcome

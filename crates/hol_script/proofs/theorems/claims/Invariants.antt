@@ -2,7 +2,7 @@ use Rattle.std.proofs.Common.{◌≡◌, map, take, string_bytes}
 use Rattle.indexmap.specs.IndexMap.{get_by_text}
 use Rattle.hol_journal.specs.Claims.{claims_of}
 use Rattle.hol_script.specs.RunLogs.{stored_claims}
-use Rattle.hol_script.proofs.session.claims.Given as goal
+use Rattle.hol_script.proofs.theorems.claims.Given as goal
 
 -- the names so far have their claims
 abbrev pub invariant-loop-name : goal.invariant-loop-name

@@ -4,8 +4,8 @@ use Rattle.indexmap.specs.IndexMap.{get_by_text}
 use Rattle.hol_journal.specs.Journal.{Recorded}
 use Rattle.hol_journal.specs.Claims.{claims_of}
 use Rattle.hol_script.proofs.RunLogLemmas.{further_claims, pushed_claim}
-use Rattle.hol_script.proofs.session.claims.Goals as goal
-use Rattle.hol_script.proofs.session.claims.Goals.{in-Some+in_ok-push, in_default}
+use Rattle.hol_script.proofs.theorems.claims.Goals as goal
+use Rattle.hol_script.proofs.theorems.claims.Goals.{in-Some+in_ok-push, in_default}
 
 pub loop-name-preserved : goal.loop-name-preserved
 loop-name-preserved c =
