@@ -51,7 +51,7 @@ item-at items at default within = drop-cons items at default within ∙ ap (λ (
 
 -- ---- what the rules answer
 
-pub stored-is : {A : Type 0} → (read : Result A Fault) (theta : A) (state : State) (a : List ℕ) (found : Option Theorem) → read ≡ Ok theta → state.theorems a ≡ found
+stored-is : {A : Type 0} → (read : Result A Fault) (theta : A) (state : State) (a : List ℕ) (found : Option Theorem) → read ≡ Ok theta → state.theorems a ≡ found
     → with_stored read state a ≡ given found UnknownName (λ theorem. Ok (theta, theorem))
 stored-is read theta state a found is known =
     ap (λ r. with_stored r state a) is ∙ ap (λ (f : Option Theorem). given f UnknownName (λ theorem. Ok (theta, theorem))) known

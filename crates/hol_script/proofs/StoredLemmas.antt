@@ -316,7 +316,7 @@ not_there None x none there = cc
 not_there (Some other) x none there = cc
 
 start-untold : IsUntold start
-start-untold = untold-all logical_state stored_theorems (refl, refl, refl, refl, refl, refl, refl, refl, refl, refl, refl, refl, tt) (record { none = λ name. refl })
+start-untold = untold-all logical_state stored_theorems (refl, (refl, (refl, (refl, (refl, (refl, (refl, (refl, (refl, (refl, (refl, (refl, tt)))))))))))) (record { none = λ name. refl })
 
 start-told : IsTold start
 start-told = record { told = λ name theorem is. not_there (start.theorems (definition_name name)) theorem (start-untold.none name) is }

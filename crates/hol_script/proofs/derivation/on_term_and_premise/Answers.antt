@@ -6,5 +6,5 @@ use Rattle.hol_script.proofs.derivation.on_term_and_premise.Goals as goal
 
 pub returns-in-Gen-clause-outcome : goal.returns-in-Gen-clause-outcome
 returns-in-Gen-clause-outcome c =
-    more-arguments (theorem_in c.generalize.result) (image c.args.term.now) (terms_of_theorem c.args.premise.now.theorem)
-    (gen_outcome c.args.recorder.now.theory c.args.term.now c.args.premise.now.theorem) c.generalize.ensures.outcome
+    rw c.in-Gen.is (more-arguments (theorem_in c.generalize.result) (image c.args.term.now) (terms_of_theorem c.args.premise.now.theorem)
+    (gen_outcome c.args.recorder.now.theory c.args.term.now c.args.premise.now.theorem) c.generalize.ensures.outcome)
