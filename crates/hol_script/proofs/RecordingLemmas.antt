@@ -19,7 +19,6 @@ use Rattle.hol_journal.specs.Journal.{Journal, Recorded, IsMade, IsRecorded, the
 use Rattle.hol_journal.specs.Steps.{Step}
 use Rattle.hol_journal.specs.Growth.{IsGrown, JournalsGrow}
 use Rattle.hol_bool.specs.HasLogic.{HasLogic, LogicStays}
-use Rattle.hol_bool.specs.Sequents.{Continues}
 use Rattle.hol_syntax.specs.declared.scope.Scope.{Scope as ScopeHere}
 use Rattle.hol_syntax.specs.Scope.{scope_of}
 use Rattle.hol_script.specs.declared.session.Session.{Session}
@@ -132,10 +131,6 @@ axiom-grows session new (Ok made) step theorem grow over is recorded kept =
     (record { records = record { step = step; is_recorded = recorded }; stands_on = ap (λ (t : Theorem). t.theory) is ∙ over; scope = refl; theorems = refl; logic = refl }) tt
 axiom-grows session new (Err fault) step theorem grow over is recorded kept =
     subst (λ (j : Journal). GrowsJournal session (over_journal session j) (Err fault)) (sym kept) (nothing-grows session fault)
-
--- a derived rule over the recorder
-pub derivation-grows : (old : Session) (new : Journal) (result : Result Recorded Fault) → Continues old.recorder new result → GrowsJournal old (over_journal old new) result
-derivation-grows old new result continues = record { continues = continues; scope = refl; theorems = refl; logic = refl }
 
 -- the session after a rule
 module _ (old new : Session) (result : Result Recorded Fault) (grows : GrowsJournal old new result) where

@@ -1,5 +1,5 @@
 -- What stands when a script begins.
-use Rattle.std.specs.Prelude.{◌≡◌, ℕ, List, [], ◌∷◌, Some, None, slice_get}
+use Rattle.std.specs.Prelude.{◌≡◌, ℕ, List, Some, None, slice_get}
 use Rattle.hol_model.specs.Logic.{logical_definitions}
 use Rattle.hol_model.specs.Theory.{Theory, generic_type}
 use Rattle.hol_model.specs.KnownTerm.{is_declared}
