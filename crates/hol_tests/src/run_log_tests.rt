@@ -1,6 +1,7 @@
 // Logs of scripts, with the expected bytes by hand, and their claims as the checker prints them.
 ghost use Rattle.std.specs.Prelude.{◌≡◌, false};
 
+use crate::derived_script_tests::negations;
 use hol_check::{check, write_claims};
 use hol_model::{DeviceFail, Fault, FromRead, IntoWrite, Sink};
 use hol_script::run;
@@ -221,5 +222,21 @@ fn claims_rules_of_quantifiers(rt: HostRuntime) -> Result<(), Fail> {
     let script = b"thm e = ASSUME `?x:A. (P:A->bool) x` ;; thm a = ASSUME `(P:A->bool) (v:A)` ;; \
 thm w = EXISTS `?y:A. (P:A->bool) y` `(v:A)` a ;; thm c = CHOOSE `(v:A)` e w ;; thm m = SPEC `F` EXCLUDED_MIDDLE ;;";
     assert!(rt; has_claims(rt.alloc(), script, 5)?);
+    Ok(())
+}
+
+#[test]
+fn claims_under_binders(rt: HostRuntime) -> Result<(), Fail> {
+    let script = b"thm a = REFL `\\x:A. \\x:B. (x:A)` ;; thm b = REFL `\\T:bool. [T:bool]` ;; \
+thm c = REFL `\\T:bool. T` ;;";
+    assert!(rt; has_claims(rt.alloc(), script, 3)?);
+    Ok(())
+}
+
+#[test]
+fn claims_high_negations(rt: HostRuntime) -> Result<(), Fail> {
+    let alloc = rt.alloc();
+    let script = negations(alloc)?;
+    assert!(rt; has_claims(alloc, &script, 2)?);
     Ok(())
 }
