@@ -33,8 +33,8 @@ fn restated(
     named(recorder, alloc, conclusion, stored)
 }
 
-/// ETA_AX: `!t. (\x. t x) = t`, on the theory that the recorder has now. It is refused where there is no memory, and for
-/// no other reason.
+/// ETA_AX: `!t. (\x. t x) = t`, on the theory that the recorder has now, in two steps. It is refused where there is no
+/// memory, and for no other reason.
 pub fn eta_ax(recorder: &mut Recorder, alloc: Global, logic: &Bool) -> Result<Rec, Fault>
     requires { HasLogic recorder.old logic.now }
     ensures continues { Continues recorder.old recorder.new result }
@@ -44,8 +44,8 @@ pub fn eta_ax(recorder: &mut Recorder, alloc: Global, logic: &Bool) -> Result<Re
     restated(recorder, alloc, logic, ETA_AX)
 }
 
-/// SELECT_AX: `!P x. P x ==> P (@ P)`, on the theory that the recorder has now. It is refused where there is no memory,
-/// and for no other reason.
+/// SELECT_AX: `!P x. P x ==> P (@ P)`, on the theory that the recorder has now, in two steps. It is refused where there
+/// is no memory, and for no other reason.
 pub fn select_ax(recorder: &mut Recorder, alloc: Global, logic: &Bool) -> Result<Rec, Fault>
     requires { HasLogic recorder.old logic.now }
     ensures continues { Continues recorder.old recorder.new result }

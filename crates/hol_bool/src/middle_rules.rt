@@ -7,6 +7,7 @@ ghost use Rattle.hol_bool.specs.HasLogic.{HasLogic};
 ghost use Rattle.hol_bool.specs.Sequents.{Continues};
 
 use crate::formula_terms::{connect, for_p, negate};
+use crate::numbers::EXCLUDED_MIDDLE;
 use crate::prelude_rules::{instance_of_theorem, pass_formula};
 use crate::stored::Bool;
 use hol_journal::{Rec, Recorder};
@@ -14,8 +15,8 @@ use hol_model::Fault;
 use hol_terms::Term;
 use std::alloc::Global;
 
-/// EXCLUDED_MIDDLE: `p \/ ~p`. Refused where `p` is not of type `bool`, and then where the theory does not know a type or
-/// a constant of it.
+/// EXCLUDED_MIDDLE: `p \/ ~p`, in four steps. Refused where `p` is not of type `bool`, and then where the theory does not
+/// know a type or a constant of it.
 pub fn excluded_middle(
     recorder: &mut Recorder,
     alloc: Global,
@@ -42,5 +43,5 @@ pub fn excluded_middle(
         Ok(terms) => terms,
         Err(fault) => return Err(fault),
     };
-    instance_of_theorem(recorder, alloc, logic, 34, &terms, &stated)
+    instance_of_theorem(recorder, alloc, logic, EXCLUDED_MIDDLE, &terms, &stated)
 }

@@ -38,3 +38,5 @@ pub const CHOOSE: usize = 31;
 pub const ETA_AX: usize = 32;
 /// `|- !P x. P x ==> P (@ P)`.
 pub const SELECT_AX: usize = 33;
+/// `|- p \/ ~p`.
+pub const EXCLUDED_MIDDLE: usize = 34;

@@ -19,7 +19,7 @@ use crate::instances::by_formula_lemma;
 use crate::parts::quantified_parts;
 use hol_alpha::aconv;
 use hol_bool::{
-    Bool, assume, conclusion_of, converted, cut, discharged, eq_mp, implied, theorem_of,
+    Bool, assume, conclusion_of, converted, cut, discharged, eq_mp, implied, numbers, theorem_of,
 };
 use hol_journal::{Rec, Recorder};
 use hol_model::Fault;
@@ -129,7 +129,7 @@ fn eliminated(
     ensures derives { (at : IsAtVariable recorder.old.theory function.now binder.now argument.now) → image first.now.theorem.conclusion ≡ existential at.name at.ty at.body → NotFreeInAny at.other at.ty (existential at.name at.ty at.body ∷ image second.now.theorem.conclusion ∷ without (witnessed at.name at.ty at.body argument.now) (images second.now.theorem)) → DerivesIf (leave_room at.name at.ty at.body second.now.theorem.conclusion) result (images first.now.theorem ++ without (witnessed at.name at.ty at.body argument.now) (images second.now.theorem)) (image second.now.theorem.conclusion) }
 {
     let formula = conclusion_of(recorder, second);
-    let lemma = theorem_of(recorder, logic, 31);
+    let lemma = theorem_of(recorder, logic, numbers::CHOOSE);
     let sufficient = match implied_by_redex(
         recorder, alloc, logic, function, binder, argument, second,
     ) {
@@ -147,9 +147,9 @@ fn eliminated(
     implied(recorder, alloc, logic, formula, &cases, &always)
 }
 
-/// CHOOSE: from `?x. p` and `q`, `q` without the hypothesis `p[v/x]`, by the lemma `(?) P |- (!x. P x ==> q) ==> q`.
-/// Refused where the term is no variable, then where the first conclusion is no `?x. p`, then where the variable's type
-/// is not that of `x`, and then where it is free in `?x. p`, in `q` or in another hypothesis of `q`.
+/// CHOOSE: from `?x. p` and `q`, `q` without the hypothesis `p[v/x]`, by the lemma `(?) P |- (!x. P x ==> q) ==> q`,
+/// in 48 steps. Refused where the term is no variable, then where the first conclusion is no `?x. p`, then where the
+/// variable's type is not that of `x`, and then where it is free in `?x. p`, in `q` or in another hypothesis of `q`.
 #[tactic(auto, using(hol_bool::proofs::StepLemmas::still_made, hol_bool::proofs::StepLemmas::now_made))]
 pub fn choose(
     recorder: &mut Recorder,

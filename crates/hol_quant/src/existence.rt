@@ -21,7 +21,7 @@ use crate::generalization::{equal_to_truth, formula_pair};
 use crate::instances::by_predicate_lemma;
 use crate::parts::{Quantified, quantified_parts};
 use hol_alpha::aconv;
-use hol_bool::{Bool, by_lemma, converted, named, theorem_of, trans};
+use hol_bool::{Bool, by_lemma, converted, named, numbers, theorem_of, trans};
 use hol_journal::{Rec, Recorder};
 use hol_model::Fault;
 use hol_subst::vsubst;
@@ -108,8 +108,8 @@ fn expanded(
     ensures continues { Continues recorder.old recorder.new result }
     ensures derives { (formula : NamedTerm) → IsWitnessed recorder.old.theory formula parts.entry.predicate.now parts.entry.binder.now parts.entry.body.now witness.now (image premise.now.theorem.conclusion) → DerivesIf (list_all is_roomy (witnessed_terms formula witness.now (image premise.now.theorem.conclusion))) result (images premise.now.theorem) (app (image parts.entry.predicate.now) (image witness.now)) }
 {
-    let truth_lemma = theorem_of(recorder, logic, 9);
-    let back_lemma = theorem_of(recorder, logic, 10);
+    let truth_lemma = theorem_of(recorder, logic, numbers::EQT_INTRO);
+    let back_lemma = theorem_of(recorder, logic, numbers::EQT_ELIM);
     let redex = match Term::mk_comb(alloc, parts.predicate, witness) {
         Ok(redex) => redex,
         Err(fault) => return Err(fault),
@@ -145,7 +145,7 @@ fn witnessed(
     ensures names { IfOk result (λ made. made.theorem.conclusion ≡ formula.now) }
     ensures derives { IsWitnessed recorder.old.theory formula.now parts.entry.predicate.now parts.entry.binder.now parts.entry.body.now witness.now (image premise.now.theorem.conclusion) → DerivesIf (list_all is_roomy (witnessed_terms formula.now witness.now (image premise.now.theorem.conclusion))) result (images premise.now.theorem) (image formula.now) }
 {
-    let lemma = theorem_of(recorder, logic, 30);
+    let lemma = theorem_of(recorder, logic, numbers::EXISTS);
     let redex = match expanded(recorder, alloc, logic, parts, witness, premise) {
         Ok(redex) => redex,
         Err(fault) => return Err(fault),

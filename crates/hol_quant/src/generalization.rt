@@ -18,7 +18,7 @@ ghost use Rattle.hol_quant.specs.PredicateLemmas.{is_always, over_predicate};
 ghost use Rattle.hol_quant.specs.Universals.{for_all, MayGeneralize, FitsForAll};
 
 use crate::instances::by_predicate_lemma;
-use hol_bool::{Bool, abs, by_lemma, conclusion_of, named, theorem_of};
+use hol_bool::{Bool, abs, by_lemma, conclusion_of, named, numbers, theorem_of};
 use hol_journal::{Rec, Recorder};
 use hol_model::Fault;
 use hol_terms::{Term, is_free};
@@ -131,8 +131,8 @@ pub(crate) fn generalized_up_to_names(
     ensures continues { Continues recorder.old recorder.new result }
     ensures derives { (name : List ℕ) (ty : HolType) (room : Room) → MayGeneralize recorder.old.theory premise.now.theorem binder.now name ty → FitsForAll room name ty premise.now.theorem.conclusion → DerivesIf room result (images premise.now.theorem) (for_all name ty premise.now.theorem.conclusion) }
 {
-    let truth_lemma = theorem_of(recorder, logic, 9);
-    let forall_lemma = theorem_of(recorder, logic, 19);
+    let truth_lemma = theorem_of(recorder, logic, numbers::EQT_INTRO);
+    let forall_lemma = theorem_of(recorder, logic, numbers::GEN);
     let formula = conclusion_of(recorder, premise);
     let function = match Term::mk_abs(alloc, binder, formula) {
         Ok(function) => function,
@@ -215,7 +215,7 @@ pub fn generalize(
     ensures continues { Continues recorder.old recorder.new result }
     ensures outcome { AnswersStated (theorem_in result) (terms_of_theorem premise.now.theorem) (gen_outcome recorder.old.theory binder.now premise.now.theorem) }
 {
-    let truth_lemma = theorem_of(recorder, logic, 9);
-    let forall_lemma = theorem_of(recorder, logic, 19);
+    let truth_lemma = theorem_of(recorder, logic, numbers::EQT_INTRO);
+    let forall_lemma = theorem_of(recorder, logic, numbers::GEN);
     generalized(recorder, alloc, truth_lemma, forall_lemma, binder, premise)
 }

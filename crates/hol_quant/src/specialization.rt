@@ -11,7 +11,7 @@ ghost use Rattle.hol_quant.specs.PredicateLemmas.{applied, over_predicate};
 
 use crate::instances::by_predicate_lemma;
 use crate::parts::quantified_parts;
-use hol_bool::{Bool, converted, eq_mp, theorem_of};
+use hol_bool::{Bool, converted, eq_mp, numbers, theorem_of};
 use hol_journal::{Rec, Recorder};
 use hol_model::Fault;
 use hol_terms::Term;
@@ -71,6 +71,6 @@ pub fn spec(
     ensures outcome { AnswersStated (theorem_in result) (image term.now ∷ terms_of_theorem premise.now.theorem) (spec_outcome recorder.old.theory term.now premise.now.theorem) }
 {
     recorder.theory_is_legal();
-    let lemma = theorem_of(recorder, logic, 20);
+    let lemma = theorem_of(recorder, logic, numbers::SPEC);
     specialized(recorder, alloc, lemma, term, premise)
 }
