@@ -2,6 +2,8 @@
 #![tactic(auto)]
 
 mod device;
+#[cfg(test)]
+mod device_tests;
 mod fault;
 mod laws;
 mod limits;

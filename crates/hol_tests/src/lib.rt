@@ -3,19 +3,11 @@
 #![tactic(auto)]
 
 #[cfg(test)]
-mod constructor_tests;
-#[cfg(test)]
 mod definition_tests;
 #[cfg(test)]
 mod derived_script_tests;
 #[cfg(test)]
-mod device_tests;
-#[cfg(test)]
-mod height_tests;
-#[cfg(test)]
 mod kernel_tests;
-#[cfg(test)]
-mod line_tests;
 #[cfg(test)]
 mod log_tests;
 #[cfg(test)]
@@ -38,5 +30,3 @@ mod script_tests;
 mod shadowing_tests;
 #[cfg(test)]
 mod substitution_tests;
-#[cfg(test)]
-mod type_tests;
