@@ -1,27 +1,23 @@
 -- CONJ and MP: the equation that a theorem of the prelude gives, what has to fit, and the answers.
-use Rattle.std.proofs.Common.{◌≡◌, ◌≤◌, ℕ, List, [], ◌∷◌, ◌++◌, Bool, true, refl, sym, ◌∙◌, ap, subst, inl, inr, Some, Result, Ok, Err, IfOk, arith}
-use Rattle.hol_model.specs.declared.fault.Fault.{Fault}
-use Rattle.hol_model.specs.declared.fault.Fault.TheVariants.{BadShape, NotAlpha}
-use Rattle.hol_model.specs.HolType.{HolType, bool_type}
-use Rattle.hol_model.specs.NamedTerm.{NamedTerm, equation, type_of}
+use Rattle.std.proofs.Common.{◌≡◌, List, ◌∷◌, ◌++◌, Bool, true, refl, sym, ◌∙◌, ap, subst, inl, inr, arith}
+use Rattle.hol_model.specs.HolType.{bool_type}
+use Rattle.hol_model.specs.NamedTerm.{NamedTerm, equation}
 use Rattle.hol_model.specs.Nameless.{Nameless, const, app, image}
 use Rattle.hol_model.specs.Theory.{Theory, equality_name, equality_type}
-use Rattle.hol_model.specs.Derivable.{IsMember, IsSameSet, nameless_equation}
+use Rattle.hol_model.specs.Derivable.{IsSameSet, nameless_equation}
 use Rattle.hol_model.specs.Theorem.{Theorem}
 use Rattle.hol_model.specs.Logic as nameless
 use Rattle.hol_model.specs.Logic.{binary, and_name, implies_name}
 use Rattle.hol_model.specs.NamedLogic.{conjunction, implication}
-use Rattle.hol_model.specs.DerivedRules.{AnswersStated, images, terms_of_theorem, conj_outcome}
+use Rattle.hol_model.specs.DerivedRules.{terms_of_theorem}
 use Rattle.hol_model.proofs.Images.{image-equation}
 use Rattle.hol_model.proofs.Membership.{of_append, IsMember-append_left, IsMember-append_right}
-use Rattle.hol_journal.specs.Journal.{Recorded, theorem_in}
 use Rattle.hol_bool.specs.Prelude.{p, q}
-use Rattle.hol_bool.specs.Sequents.{DerivesIf, Shows}
 use Rattle.hol_bool.specs.Formulas.{IsFormula}
 use Rattle.hol_bool.specs.Room.{IsSized, FitsIf, LeadsTo, at_p_q}
 use Rattle.hol_bool.proofs.Sizes.{sized-more, sized-equation}
-use Rattle.hol_bool.proofs.RoomLemmas.{fits-argument, fits-left, connected-typed}
-use Rattle.hol_bool.proofs.RuleAnswers.{Roomy, answered, leads-p_q, sized-connected, sized-fits}
+use Rattle.hol_bool.proofs.RoomLemmas.{fits-argument, fits-left}
+use Rattle.hol_bool.proofs.RuleAnswers.{Roomy, leads-p_q, sized-connected, sized-fits}
 
 -- the equation of CONJ: q <=> p /\ q
 

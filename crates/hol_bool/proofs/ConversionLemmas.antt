@@ -13,7 +13,7 @@ use Rattle.hol_model.specs.Theory.{Theory}
 use Rattle.hol_model.proofs.Images.{image-abstraction}
 use Rattle.hol_journal.specs.Journal.{Recorded}
 use Rattle.hol_bool.specs.Sequents.{DerivesIf, DerivesInstance, IsPast}
-use Rattle.hol_bool.specs.Conversions.{closed, trivial, conversion, conversion_fits}
+use Rattle.hol_bool.specs.Conversions.{trivial, conversion, conversion_fits}
 use Rattle.hol_bool.proofs.BetaLemmas.{applied-past, put-redex, trivial_typed}
 use Rattle.hol_bool.proofs.CutLemmas.{derives-where}
 use Rattle.hol_bool.proofs.Sizes.{past-room}

@@ -1,8 +1,6 @@
 -- Formulas of a recorder's theory: conclusions, their parts, and terms that come in.
-use Rattle.std.proofs.Common.{◌≡◌, ◌⊎◌, ℕ, List, Bool, true, false, refl, sym, ◌∙◌, ap, subst, inl, inr, Option, Some, None, Result, Ok, Err, IfSome}
+use Rattle.std.proofs.Common.{◌≡◌, ℕ, List, true, false, refl, sym, ◌∙◌, ap, subst, Option, Some, None, Ok, IfSome}
 use Rattle.std.specs.Option.{option_map, option_map_or}
-use Rattle.hol_model.specs.declared.fault.Fault.{Fault}
-use Rattle.hol_model.specs.declared.fault.Fault.TheVariants.{NotBool}
 use Rattle.hol_model.specs.HolType.{HolType, type_variable, bool_type, type_eq}
 use Rattle.hol_model.specs.NamedTerm.{NamedTerm, type_of}
 use Rattle.hol_model.specs.Nameless.{Nameless, const, app, image}
@@ -12,8 +10,7 @@ use Rattle.hol_model.specs.Theory.{Theory, IsLegal, IsKnown, generic_type}
 use Rattle.hol_model.specs.Logic.{logical_definitions, true_name, false_name, not_name, unary, binary}
 use Rattle.hol_model.specs.NamedLogic.{true_term, false_term, is_true, is_false, connected, dest_connected, dest_negation}
 use Rattle.hol_model.specs.Theorem.{Theorem, IsTheorem}
-use Rattle.hol_model.specs.Outcome.{unless, refused}
-use Rattle.hol_model.specs.Rules.{dest_equation, is_formula, first_unknown, assume_outcome}
+use Rattle.hol_model.specs.Rules.{dest_equation, is_formula, assume_outcome}
 use Rattle.hol_model.proofs.HolTypeEq.{type_eq-Decides}
 use Rattle.hol_kernel.proofs.RuleLemmas.{known_term}
 use Rattle.hol_journal.specs.Journal.{Journal, Recorded, IsMade}
@@ -21,7 +18,7 @@ use Rattle.hol_journal.proofs.Showing.{formula_of, sides_of}
 use Rattle.hol_bool.specs.HasLogic.{HasLogic}
 use Rattle.hol_bool.specs.Formulas.{IsFormula, AreSides, IsNegated, IsPassed}
 use Rattle.hol_bool.specs.declared.stored.Bool.{Bool as Stored}
-use Rattle.hol_bool.proofs.CutLemmas.{IsAssumed, assumed, conclusion-known}
+use Rattle.hol_bool.proofs.CutLemmas.{assumed, conclusion-known}
 use Rattle.hol_bool.proofs.RoomLemmas.{connected-typed}
 use Rattle.hol_bool.proofs.LogicLemmas.{logical-type, connected-parts, negated-part, constant-is}
 

@@ -1,6 +1,6 @@
 -- DISCH and UNDISCH: what has to fit, and the steps.
-use Rattle.std.proofs.Common.{◌≡◌, ◌≤◌, ℕ, List, [], ◌∷◌, ◌++◌, Bool, true, ◌&&◌, refl, sym, ◌∙◌, ap, subst, arith}
-use Rattle.hol_model.specs.HolType.{HolType, bool_type}
+use Rattle.std.proofs.Common.{◌≡◌, List, [], ◌∷◌, ◌++◌, Bool, true, refl, ◌∙◌, ap, subst, arith}
+use Rattle.hol_model.specs.HolType.{bool_type}
 use Rattle.hol_model.specs.NamedTerm.{NamedTerm, equation}
 use Rattle.hol_model.specs.Nameless.{Nameless, const, app, image}
 use Rattle.hol_model.specs.Measures.{nameless_types_fit}
@@ -9,7 +9,7 @@ use Rattle.hol_model.specs.Derivable.{without, nameless_equation}
 use Rattle.hol_model.specs.Logic as nameless
 use Rattle.hol_model.specs.Logic.{binary, and_name, implies_name}
 use Rattle.hol_model.specs.NamedLogic.{conjunction, implication}
-use Rattle.hol_model.proofs.Tests.{first_of_both, second_of_both, both, same_term-Decides}
+use Rattle.hol_model.proofs.Tests.{both, same_term-Decides}
 use Rattle.hol_bool.specs.Prelude.{p, q}
 use Rattle.hol_bool.specs.Formulas.{IsFormula}
 use Rattle.hol_bool.specs.Room.{IsSized, FitsIf, LeadsTo, at_p_q}

@@ -1,25 +1,24 @@
 -- What a recorder with the prelude has: its theorems, the types of the logical constants, and the parts of formulas.
-use Rattle.std.proofs.Common.{◌≡◌, ◌<◌, ℕ, List, [], ◌∷◌, ◌++◌, map, length, Bool, true, false, refl, sym, ◌∙◌, ap, subst, Option, Some, None, arith, if◌then◌else◌}
+use Rattle.std.proofs.Common.{◌≡◌, ◌<◌, ℕ, List, [], ◌∷◌, ◌++◌, length, Bool, true, false, refl, sym, ◌∙◌, ap, subst, Option, Some, None, if◌then◌else◌}
 use Rattle.std.specs.Prelude.{slice_get}
 use Rattle.std.specs.Option.{option_map}
 use Rattle.std.specs.Str.{bytes_eq}
 use Rattle.std.proofs.lemmas.List.{length-map}
 use Rattle.std.proofs.lemmas.Option.{slice_get-map}
 use Rattle.std.proofs.lemmas.Slice.Eq.{bytes_eq-Decides}
-use Rattle.hol_model.specs.HolType.{HolType, bool_type, function_type, instantiate_type}
-use Rattle.hol_model.specs.NamedTerm.{NamedTerm, variable, constant, combination, abstraction, type_of}
-use Rattle.hol_model.specs.Nameless.{Nameless, free, const, bound, app, lam, HasType, image}
+use Rattle.hol_model.specs.HolType.{HolType, bool_type, instantiate_type}
+use Rattle.hol_model.specs.NamedTerm.{NamedTerm, variable, constant, combination, abstraction}
+use Rattle.hol_model.specs.Nameless.{const, app, HasType, image}
 use Rattle.hol_model.specs.Theory.{Theory, IsLegal, IsEarlier, IsKnown, IsKnownConstant, generic_type}
 use Rattle.hol_model.specs.Theorem.{Theorem}
-use Rattle.hol_model.specs.Logic.{logical_definitions, true_name, and_name, implies_name, forall_name, exists_name, or_name, false_name, not_name, unary, binary, quantifier}
-use Rattle.hol_model.specs.NamedLogic.{false_term, connected, negation, is_constant_named, dest_connected, dest_negation}
+use Rattle.hol_model.specs.Logic.{logical_definitions, not_name, unary, binary}
+use Rattle.hol_model.specs.NamedLogic.{false_term, is_constant_named, dest_connected, dest_negation}
 use Rattle.hol_model.proofs.Later.{head_is_new, rest_is_legal, generic_type-later}
 use Rattle.hol_model.proofs.Images.{image-type}
-use Rattle.hol_journal.specs.Journal.{Journal, Recorded, IsMade}
-use Rattle.hol_journal.specs.Growth.{IsGrown}
+use Rattle.hol_journal.specs.Journal.{Journal, Recorded}
 use Rattle.hol_journal.proofs.GrowthLemmas.{journals-grow}
 use Rattle.hol_bool.specs.declared.stored.Bool.{Bool as Stored}
-use Rattle.hol_bool.specs.Derivations.{theorems, AreMade}
+use Rattle.hol_bool.specs.Derivations.{theorems}
 use Rattle.hol_bool.specs.Prelude.{prelude_theorems, shown, p}
 use Rattle.hol_bool.specs.HasLogic.{HasLogic, LogicStays}
 use Rattle.hol_bool.specs.Formulas.{IsFormula, AreSides, IsNegated}

@@ -1,27 +1,26 @@
 -- Steps by the theorems of the prelude: what has to fit, and instances at formulas.
-use Rattle.std.proofs.Common.{◌≡◌, ◌<◌, ℕ, List, [], ◌∷◌, Bool, true, false, ◌&&◌, not, if◌then◌else◌, refl, sym, ◌∙◌, ap, subst, Option, Some, None, Result, arith, length}
+use Rattle.std.proofs.Common.{◌≡◌, ℕ, List, [], ◌∷◌, Bool, true, false, ◌&&◌, refl, sym, ◌∙◌, subst, Some, None, Result, arith}
 use Rattle.std.specs.Prelude.{slice_get}
 use Rattle.std.specs.List.{list_all}
 use Rattle.hol_model.specs.declared.fault.Fault.{Fault}
-use Rattle.hol_model.specs.HolType.{HolType, bool_type}
-use Rattle.hol_model.specs.NamedTerm.{NamedTerm, type_of}
+use Rattle.hol_model.specs.HolType.{bool_type}
+use Rattle.hol_model.specs.NamedTerm.{NamedTerm}
 use Rattle.hol_model.specs.Nameless.{Nameless, image}
 use Rattle.hol_model.specs.Measures.{nameless_within_limits}
-use Rattle.hol_model.specs.Theory.{Theory, IsKnown}
+use Rattle.hol_model.specs.Theory.{Theory}
 use Rattle.hol_model.specs.Derivable.{nameless_equation}
 use Rattle.hol_model.specs.Theorem.{Theorem}
 use Rattle.hol_model.specs.KnownTerm.{knows_types, knows_constants, has_instances}
 use Rattle.hol_model.specs.Instantiation.{instantiate_all, replacements_refusal}
-use Rattle.hol_model.proofs.HolTypeEq.{type_eq-self}
 use Rattle.hol_model.proofs.NamedTests.{is_known-Decides}
 use Rattle.hol_journal.specs.Journal.{Journal, Recorded}
 use Rattle.hol_bool.specs.Prelude.{prelude_theorems, shown}
 use Rattle.hol_bool.specs.Sequents.{Shows, Continues, instance_of}
 use Rattle.hol_bool.specs.HasLogic.{HasLogic}
 use Rattle.hol_bool.specs.Formulas.{IsFormula}
-use Rattle.hol_bool.specs.Room.{IsSized, FitsIf, LeadsTo, Says, at_p, at_p_q, at_p_q_r}
+use Rattle.hol_bool.specs.Room.{FitsIf, LeadsTo, Says, at_p, at_p_q, at_p_q_r}
 use Rattle.hol_bool.specs.declared.stored.Bool.{Bool as Stored}
-use Rattle.hol_bool.proofs.Sizes.{sized-more, sized-equation, sized-within}
+use Rattle.hol_bool.proofs.Sizes.{sized-equation, sized-within}
 use Rattle.hol_bool.proofs.RoomLemmas.{fits-within}
 use Rattle.hol_bool.proofs.LogicLemmas.{logic-stays}
 

@@ -1,5 +1,5 @@
 -- Formulas that are made where there is room.
-use Rattle.std.proofs.Common.{◌≡◌, ℕ, List, [], ◌∷◌, Bool, true, false, refl, sym, ◌∙◌, ap, subst, Some, Result, Ok, Err, arith}
+use Rattle.std.proofs.Common.{◌≡◌, ℕ, List, [], Bool, true, false, refl, sym, subst, Some, Result, Ok, Err, arith}
 use Rattle.hol_model.specs.declared.fault.Fault.{Fault}
 use Rattle.hol_model.specs.HolType.{HolType, bool_type}
 use Rattle.hol_model.specs.NamedTerm.{NamedTerm, constant, combination, equation, type_of}
@@ -14,7 +14,7 @@ use Rattle.hol_model.proofs.Images.{image-equation}
 use Rattle.hol_model.proofs.Tests.{first_of_both, second_of_both}
 use Rattle.hol_kernel.proofs.LimitLemmas.{applied}
 use Rattle.hol_bool.specs.Sequents.{IsPast}
-use Rattle.hol_bool.specs.Room.{IsSized, FitsIf, MakesIf}
+use Rattle.hol_bool.specs.Room.{FitsIf, MakesIf}
 use Rattle.hol_bool.proofs.Sizes.{sized-within, past-room}
 use Rattle.hol_bool.proofs.BetaLemmas.{applied-past}
 

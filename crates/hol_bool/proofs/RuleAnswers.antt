@@ -1,19 +1,18 @@
 -- What a rule by a theorem of the prelude answers.
-use Rattle.std.proofs.Common.{◌≡◌, ◌≤◌, ℕ, ◌+◌, List, [], ◌∷◌, ◌++◌, Bool, true, ◌&&◌, refl, sym, ◌∙◌, ap, subst, inl, inr, Some, Result, Ok, Err, IfOk, arith}
+use Rattle.std.proofs.Common.{◌≡◌, ◌≤◌, ℕ, ◌+◌, List, [], ◌∷◌, ◌++◌, Bool, true, refl, sym, subst, inl, inr, Some, Result, Ok, Err, IfOk, arith}
 use Rattle.std.specs.Prelude.{slice_get}
 use Rattle.std.specs.List.{list_all}
 use Rattle.hol_model.specs.declared.fault.Fault.{Fault}
 use Rattle.hol_model.specs.declared.fault.Fault.TheVariants.{Memory}
-use Rattle.hol_model.specs.HolType.{HolType, bool_type}
 use Rattle.hol_model.specs.NamedTerm.{NamedTerm}
 use Rattle.hol_model.specs.Nameless.{Nameless, const, app, image}
 use Rattle.hol_model.specs.Measures.{nameless_within_limits}
 use Rattle.hol_model.specs.Theory.{Theory}
 use Rattle.hol_model.specs.Derivable.{IsMember, IsSameSet}
 use Rattle.hol_model.specs.Theorem.{Theorem}
-use Rattle.hol_model.specs.Logic.{binary, unary}
-use Rattle.hol_model.specs.Instantiation.{instantiate_all, replacements_refusal}
-use Rattle.hol_model.specs.DerivedRules.{Stated, IsConclusion, AnswersStated, named, stated, images, terms_of_theorem, terms_of_stated, is_roomy}
+use Rattle.hol_model.specs.Logic.{binary}
+use Rattle.hol_model.specs.Instantiation.{instantiate_all}
+use Rattle.hol_model.specs.DerivedRules.{Stated, AnswersStated, named, stated, images, terms_of_theorem, is_roomy}
 use Rattle.hol_journal.specs.Journal.{Recorded, theorem_in}
 use Rattle.hol_bool.specs.Prelude.{prelude_theorems, shown}
 use Rattle.hol_bool.specs.Sequents.{DerivesIf, instance_of}

@@ -1,5 +1,5 @@
 -- The theory of a theorem knows its formulas.
-use Rattle.std.proofs.Common.{◌≡◌, List, [], ◌∷◌, map, refl, inl, inr}
+use Rattle.std.proofs.Common.{List, [], ◌∷◌, map, refl, inl, inr}
 use Rattle.std.specs.List.{All}
 use Rattle.std.proofs.lemmas.List.Elements.{All-nil, All-cons}
 use Rattle.hol_model.specs.HolType.{bool_type}
@@ -8,7 +8,6 @@ use Rattle.hol_model.specs.Nameless.{image}
 use Rattle.hol_model.specs.Theory.{Theory, IsKnown}
 use Rattle.hol_model.specs.Derivable.{AreKnown}
 use Rattle.hol_model.specs.Theorem.{Theorem, IsTheorem}
-use Rattle.hol_model.specs.Checks.{ChecksDecide}
 use Rattle.hol_model.proofs.Images.{image-type}
 use Rattle.hol_model.proofs.Known.{Derivable-known}
 use Rattle.hol_model.proofs.NamedTests.{is_known-Decides}

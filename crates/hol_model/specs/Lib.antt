@@ -28,6 +28,9 @@ pub mod Rules
 pub mod Constructors
 pub mod Instantiation
 pub mod DerivedRules
+pub mod InferenceRules
+pub mod NamelessLogic
+pub mod Inference
 pub mod NamedAxioms
 pub mod Prelude
 pub mod Token

@@ -1,16 +1,16 @@
 -- CHOOSE: the abstraction at the variable, what fits on the way, and the answer.
-use Rattle.std.proofs.Common.{◌≡◌, ◌≤◌, ℕ, suc, List, [], ◌∷◌, map, Bool, true, false, ◌&&◌, ◌||◌, not, if◌then◌else◌, refl, sym, ◌∙◌, ap, subst, Some, None, arith}
+use Rattle.std.proofs.Common.{◌≡◌, ◌≤◌, ℕ, List, [], ◌∷◌, map, Bool, true, false, ◌&&◌, ◌||◌, not, if◌then◌else◌, refl, sym, ◌∙◌, ap, subst, Some, None, arith}
 use Rattle.std.specs.Prelude.{codes}
 use Rattle.std.specs.List.{list_all, list_any}
 use Rattle.std.proofs.lemmas.Bool.{le-leb}
 use Rattle.hol_model.specs.declared.limits.TheConstants.{TYPE_NODES_LIMIT}
 use Rattle.hol_model.specs.HolType.{HolType, bool_type, type_nodes}
 use Rattle.hol_model.specs.NamedTerm.{NamedTerm, combination, abstraction, type_of, type_fits, is_free}
-use Rattle.hol_model.specs.Nameless.{Nameless, free, const, bound, app, lam, image, same_term}
+use Rattle.hol_model.specs.Nameless.{Nameless, free, const, bound, app, image, same_term}
 use Rattle.hol_model.specs.Measures.{nameless_types_fit, nameless_within_limits}
 use Rattle.hol_model.specs.Logic as nameless
 use Rattle.hol_model.specs.Logic.{implies_name, forall_name, exists_name, binary, predicate, quantifier}
-use Rattle.hol_model.specs.Substitution.{close, close_at, occurs_free}
+use Rattle.hol_model.specs.Substitution.{close, occurs_free}
 use Rattle.hol_model.specs.Theory.{Theory, IsKnown}
 use Rattle.hol_model.specs.Derivable.{without, nameless_equation}
 use Rattle.hol_model.specs.Rules.{first_unknown}
@@ -19,6 +19,7 @@ use Rattle.hol_model.proofs.HolTypeEq.{type_eq-self}
 use Rattle.hol_model.proofs.Images.{image-abstraction, occurs_free-image}
 use Rattle.hol_model.proofs.Known.{app-known}
 use Rattle.hol_model.proofs.Tests.{first_of_both, second_of_both, both, same_variable-self}
+use Rattle.hol_subst.proofs.Closing.{close_at-fresh}
 use Rattle.hol_bool.specs.Conversions.{closed, conversion_fits}
 use Rattle.hol_bool.specs.Formulas.{IsFormula}
 use Rattle.hol_bool.specs.Room.{IsSized, FitsIf}
@@ -30,21 +31,6 @@ use Rattle.hol_quant.specs.Universals.{for_all, FitsForAll}
 use Rattle.hol_quant.specs.Witnesses.{IsAtVariable, existential, redex, witnessed, suffices, eliminates, leave_room}
 use Rattle.hol_quant.proofs.RoomLemmas.{PredicateRoom, predicate-room, conversion-within, closed-sized, instance-within, free-sized, const-sized}
 use Rattle.hol_quant.proofs.VariableLemmas.{witnessed-sized}
-
--- a variable that is not free is closed over in vain
-fresh-close : (passed : ℕ) (name : List ℕ) (ty : HolType) (term : Nameless) → occurs_free name ty term ≡ false → close_at passed name ty term ≡ term
-fresh-close passed name ty (free other s) fresh = rw fresh refl
-fresh-close passed name ty (const other s) fresh = refl
-fresh-close passed name ty (bound index) fresh = refl
-fresh-close passed name ty (app f x) fresh =
-    let two = neither (occurs_free name ty f) (occurs_free name ty x) fresh in
-    λ i. app (fresh-close passed name ty f two.0 i) (fresh-close passed name ty x two.1 i)
-  where
-    neither : (a b : Bool) → (a || b) ≡ false → (a ≡ false) × (b ≡ false)
-    neither false false none = (refl, refl)
-    neither false true none = cc
-    neither true b none = cc
-fresh-close passed name ty (lam s body) fresh = ap (lam s) (fresh-close (suc passed) name ty body fresh)
 
 -- other hypotheses
 
@@ -179,7 +165,7 @@ module _ (theory : Theory) (function binder argument : NamedTerm) (at : IsAtVari
     for_all-is c is fresh fresh_q =
         let here = closed at.name at.ty at.body in
         ap (λ (t : Nameless). nameless.forall_term at.ty (close at.other at.ty t)) (is ∙ ap (λ (t : Nameless). nameless.implication (app here t) (image q)) argument_image)
-        ∙ (λ i. nameless.forall_term at.ty (nameless.implication (app (fresh-close 0 at.other at.ty here fresh i) (closed_argument i)) (fresh-close 0 at.other at.ty (image q) fresh_q i)))
+        ∙ (λ i. nameless.forall_term at.ty (nameless.implication (app (close_at-fresh here 0 at.other at.ty fresh i) (closed_argument i)) (close_at-fresh (image q) 0 at.other at.ty fresh_q i)))
       where
         closed_argument : close at.other at.ty (free at.other at.ty) ≡ bound 0
         closed_argument = rw (same_variable-self at.other at.ty) refl

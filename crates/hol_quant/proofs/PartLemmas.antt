@@ -15,10 +15,10 @@ use Rattle.hol_bool.specs.Conversions.{closed}
 pub use Rattle.hol_quant.specs.QuantifiedParts.{IsQuantified}
 
 -- the type of the quantifier, and of the body
-record IsTyped (theory : Theory) (s : HolType) (name : List ℕ) (ty : HolType) (body : NamedTerm) : Type 0 where
-  quantifier_type : s ≡ quantifier ty
-  body_typed : type_of body ≡ Some bool_type
-  function_known : IsKnown theory (closed name ty body) (predicate ty)
+pub record IsTyped (theory : Theory) (s : HolType) (name : List ℕ) (ty : HolType) (body : NamedTerm) : Type 0 where
+  pub quantifier_type : s ≡ quantifier ty
+  pub body_typed : type_of body ≡ Some bool_type
+  pub function_known : IsKnown theory (closed name ty body) (predicate ty)
 
 same_domain : (a b c d : HolType) → function_type a b ≡ function_type c d → a ≡ c
 same_domain a b c d same = cc
@@ -37,7 +37,7 @@ abstraction_body name ty body typed =
     let same : Some (function_type ty found.0) ≡ Some (predicate ty) = ap (option_map (function_type ty)) (sym found.1) ∙ whole in
     found.1 ∙ ap Some (same_codomain ty found.0 ty bool_type (same_type (function_type ty found.0) (predicate ty) same))
 
-typed-at : (theory : Theory) (quantifier_name : List ℕ) → generic_type theory quantifier_name ≡ Some (quantifier type_a) → (s : HolType) (name : List ℕ) (ty : HolType) (body : NamedTerm) (whole : HolType)
+pub typed-at : (theory : Theory) (quantifier_name : List ℕ) → generic_type theory quantifier_name ≡ Some (quantifier type_a) → (s : HolType) (name : List ℕ) (ty : HolType) (body : NamedTerm) (whole : HolType)
     → IsKnown theory (app (const quantifier_name s) (closed name ty body)) whole → IsTyped theory s name ty body
 typed-at theory quantifier_name generic s name ty body whole known =
     let there = known.parts.0.1 in

@@ -2,3 +2,4 @@ pub mod PredicateLemmas
 pub mod QuantifiedParts
 pub mod Universals
 pub mod Witnesses
+pub mod DrawnRules

@@ -15,8 +15,6 @@ mod prelude_tests;
 #[cfg(test)]
 mod proof_trees;
 #[cfg(test)]
-mod quantifier_tests;
-#[cfg(test)]
 mod recorder_tests;
 #[cfg(test)]
 mod replacement_tests;
@@ -29,4 +27,8 @@ mod script_tests;
 #[cfg(test)]
 mod shadowing_tests;
 #[cfg(test)]
+mod sinks;
+#[cfg(test)]
 mod substitution_tests;
+#[cfg(test)]
+mod walk_tests;

@@ -1,8 +1,9 @@
 // Whole logs with the answers that they must have.
 ghost use Rattle.std.specs.Prelude.{◌≡◌, false};
 
+use crate::sinks::Compared;
 use hol_check::{TermParts, TermView, check, migrate, write_claims};
-use hol_model::{Cause, DeviceFail, Fault, FromRead, Sink, Source};
+use hol_model::{Cause, DeviceFail, Fault, FromRead, Source};
 use itoa::Buffer;
 use std::alloc::Global;
 use std::test::Fail;
@@ -15,43 +16,11 @@ const MIGRATED: &[u8] =
 
 const CLAIM: &[u8] = b"a: |- (([=:bool->bool->bool] (x:bool)) (x:bool))\n";
 
-// A sink that compares what it takes with what is expected.
-#[derive(Drop)]
-struct Compared<'a> {
-    rest: &'a [u8],
-    differs: bool,
-}
-
-impl Compared<'_> {
-    fn is_whole(&self) -> bool {
-        !self.differs && self.rest.is_empty()
-    }
-}
-
-impl Sink for Compared<'_> {
-    ghost has_failed = { λ _. false };
-
-    fn emit(&mut self, piece: &[u8]) -> Result<usize, DeviceFail> {
-        match self.rest.strip_prefix(piece) {
-            Some(rest) => self.rest = rest,
-            None => self.differs = true,
-        }
-        Ok(piece.len())
-    }
-
-    fn failed(&self) -> bool {
-        false
-    }
-}
-
 // Whether a log is accepted, and its claims print as these lines.
 fn claims(alloc: Global, log: &[u8], lines: &[u8]) -> Result<bool, Fault> {
     let mut reader = FromRead::new(log);
     let claims = check(alloc, &mut reader)?;
-    let mut writer = Compared {
-        rest: lines,
-        differs: false,
-    };
+    let mut writer = Compared::new(lines);
     write_claims(alloc, claims.as_slice(), &mut writer)?;
     Ok(writer.is_whole())
 }
@@ -68,10 +37,7 @@ fn refuses(alloc: Global, log: &[u8], line: u64, cause: Cause) -> bool {
 // Whether a log is written as another.
 fn writes(alloc: Global, log: &[u8], expected: &[u8]) -> Result<bool, Fault> {
     let mut reader = FromRead::new(log);
-    let mut writer = Compared {
-        rest: expected,
-        differs: false,
-    };
+    let mut writer = Compared::new(expected);
     migrate(alloc, &mut reader, &mut writer)?;
     Ok(writer.is_whole())
 }
@@ -205,10 +171,7 @@ fn migrates_to_the_second_version(rt: HostRuntime) -> Result<(), Fail> {
 #[test]
 fn migrates_no_refused_log(rt: HostRuntime) {
     let mut reader = FromRead::new(b"holp-log 1\ny b\n".as_slice());
-    let mut writer = Compared {
-        rest: b"",
-        differs: false,
-    };
+    let mut writer = Compared::new(b"");
     let refusal = Fault::LogFault {
         line: 3,
         cause: Cause::End,

@@ -232,10 +232,16 @@ fn named_type(alloc: Global, name: &str) -> Result<Ty, Fault> {
     }
 }
 
+/// A variable of type `bool`.
+pub(crate) fn formula(alloc: Global, name: &str) -> Result<Term, Fault> {
+    let boolean = Ty::boolean(alloc)?;
+    Term::mk_var(alloc, name, &boolean)
+}
+
 /// The term of the tree.
 pub(crate) fn term(alloc: Global, tree: &Tree<'_>) -> Result<Term, Fault> {
     match tree {
-        Tree::Formula(name) => Term::mk_var(alloc, name, &Ty::boolean(alloc)?),
+        Tree::Formula(name) => formula(alloc, name),
         Tree::Connective(name) => connective(alloc, name),
         Tree::Element(name, ty) => Term::mk_var(alloc, name, &Ty::tyvar(alloc, ty)?),
         Tree::Undeclared => Term::mk_var(alloc, "n", &Ty::declared(alloc, "num")?),

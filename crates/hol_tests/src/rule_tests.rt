@@ -1,18 +1,12 @@
 // The steps of which rules are made, on small formulas.
+use crate::proof_trees::formula;
 use hol_alpha::aconv;
 use hol_bool::{by_lemma, instance, named};
 use hol_journal::{Recorder, journals_grow};
 use hol_model::Fault;
 use hol_terms::Term;
-use hol_types::Ty;
 use std::alloc::Global;
 use std::test::Fail;
-
-// A variable of type `bool`.
-fn formula(alloc: Global, name: &str) -> Result<Term, Fault> {
-    let boolean = Ty::boolean(alloc)?;
-    Term::mk_var(alloc, name, &boolean)
-}
 
 // `\x. x`, the variable of this name.
 fn identity(alloc: Global, name: &str) -> Result<Term, Fault> {

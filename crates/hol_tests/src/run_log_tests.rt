@@ -1,48 +1,11 @@
 // Logs of scripts, with the expected bytes by hand, and their claims as the checker prints them.
-ghost use Rattle.std.specs.Prelude.{◌≡◌, false};
-
 use crate::derived_script_tests::negations;
+use crate::sinks::Kept;
 use hol_check::{check, write_claims};
-use hol_model::{DeviceFail, Fault, FromRead, IntoWrite, Sink};
+use hol_model::{Fault, FromRead, IntoWrite};
 use hol_script::run;
 use std::alloc::Global;
 use std::test::Fail;
-
-// A sink that keeps what it takes.
-#[derive(Drop)]
-struct Kept {
-    bytes: Vec<u8>,
-    failed: bool,
-}
-
-impl Sink for Kept {
-    ghost has_failed = { λ s. s.failed };
-
-    fn emit(&mut self, piece: &[u8]) -> Result<usize, DeviceFail> {
-        match self.bytes.extend_from_slice(piece) {
-            Ok(()) => Ok(piece.len()),
-            Err(_) => {
-                self.failed = true;
-                Err(DeviceFail)
-            }
-        }
-    }
-
-    fn failed(&self) -> bool {
-        self.failed
-    }
-}
-
-impl Kept {
-    fn new(alloc: Global) -> Kept
-        ensures { result.failed ≡ false }
-    {
-        Kept {
-            bytes: Vec::new(alloc),
-            failed: false,
-        }
-    }
-}
 
 // The log of a script.
 fn log_of(alloc: Global, script: &[u8]) -> Result<Vec<u8>, Fault> {

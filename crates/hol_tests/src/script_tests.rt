@@ -1,47 +1,14 @@
 // Scripts with the output that each must have.
-ghost use Rattle.std.specs.Prelude.{◌≡◌, false};
-
-use hol_model::{DeviceFail, Fault, FromRead, IntoWrite, Sink};
+use crate::sinks::Compared;
+use hol_model::{Fault, FromRead, IntoWrite};
 use hol_script::{Summary, run};
 use std::alloc::Global;
 use std::test::Fail;
 
-// A sink that compares what it takes with what is expected.
-#[derive(Drop)]
-struct Compared<'a> {
-    rest: &'a [u8],
-    differs: bool,
-}
-
-impl Compared<'_> {
-    fn is_whole(&self) -> bool {
-        !self.differs && self.rest.is_empty()
-    }
-}
-
-impl Sink for Compared<'_> {
-    ghost has_failed = { λ _. false };
-
-    fn emit(&mut self, piece: &[u8]) -> Result<usize, DeviceFail> {
-        match self.rest.strip_prefix(piece) {
-            Some(rest) => self.rest = rest,
-            None => self.differs = true,
-        }
-        Ok(piece.len())
-    }
-
-    fn failed(&self) -> bool {
-        false
-    }
-}
-
 /// Whether a script writes this, and no more.
 pub(crate) fn writes(alloc: Global, script: &[u8], expected: &[u8]) -> Result<bool, Fault> {
     let mut reader = FromRead::new(script);
-    let mut writer = Compared {
-        rest: expected,
-        differs: false,
-    };
+    let mut writer = Compared::new(expected);
     let mut log = IntoWrite::new(Vec::new(alloc));
     run(alloc, &mut reader, &mut writer, &mut log, false)?;
     Ok(writer.is_whole())

@@ -1,0 +1,80 @@
+// Sinks that compare or keep what they take.
+ghost use Rattle.std.specs.Prelude.{◌≡◌, false};
+
+use hol_model::{DeviceFail, Sink};
+use std::alloc::Global;
+
+/// A sink that compares what it takes with what is expected.
+#[derive(Drop)]
+pub(crate) struct Compared<'a> {
+    rest: &'a [u8],
+    differs: bool,
+}
+
+impl<'a> Compared<'a> {
+    /// A sink that expects these bytes.
+    pub(crate) fn new(expected: &'a [u8]) -> Compared<'a> {
+        Compared {
+            rest: expected,
+            differs: false,
+        }
+    }
+
+    /// Whether it took what is expected, and no less.
+    pub(crate) fn is_whole(&self) -> bool {
+        !self.differs && self.rest.is_empty()
+    }
+}
+
+impl Sink for Compared<'_> {
+    ghost has_failed = { λ _. false };
+
+    fn emit(&mut self, piece: &[u8]) -> Result<usize, DeviceFail> {
+        match self.rest.strip_prefix(piece) {
+            Some(rest) => self.rest = rest,
+            None => self.differs = true,
+        }
+        Ok(piece.len())
+    }
+
+    fn failed(&self) -> bool {
+        false
+    }
+}
+
+/// A sink that keeps what it takes.
+#[derive(Drop)]
+pub(crate) struct Kept {
+    pub(crate) bytes: Vec<u8>,
+    failed: bool,
+}
+
+impl Kept {
+    /// A sink that has taken nothing.
+    pub(crate) fn new(alloc: Global) -> Kept
+        ensures { result.failed ≡ false }
+    {
+        Kept {
+            bytes: Vec::new(alloc),
+            failed: false,
+        }
+    }
+}
+
+impl Sink for Kept {
+    ghost has_failed = { λ s. s.failed };
+
+    fn emit(&mut self, piece: &[u8]) -> Result<usize, DeviceFail> {
+        match self.bytes.extend_from_slice(piece) {
+            Ok(()) => Ok(piece.len()),
+            Err(_) => {
+                self.failed = true;
+                Err(DeviceFail)
+            }
+        }
+    }
+
+    fn failed(&self) -> bool {
+        self.failed
+    }
+}
