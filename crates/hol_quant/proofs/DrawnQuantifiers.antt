@@ -1,12 +1,12 @@
 -- The rules of the quantifiers draw what their outcomes state.
-use Rattle.std.proofs.Common.{◌≡◌, ℕ, List, [], ◌∷◌, ◌++◌, map, Bool, true, false, ◌&&◌, ◌||◌, not, if◌then◌else◌, refl, sym, ◌∙◌, ap, subst, Option, Some, None}
+use Rattle.std.proofs.Common.{◌≡◌, ℕ, List, [], ◌∷◌, ◌++◌, map, Bool, true, false, ◌&&◌, ◌||◌, not, if◌then◌else◌, refl, sym, ◌∙◌, ap, subst, Option, Some, None, Result}
 use Rattle.std.specs.Option.{option_map}
 use Rattle.std.specs.Str.{bytes_eq}
 use Rattle.std.proofs.lemmas.Slice.Eq.{bytes_eq-Decides}
 use Rattle.hol_model.specs.declared.fault.Fault.{Fault}
-use Rattle.hol_model.specs.declared.fault.Fault.TheVariants.{TypeMismatch, UnknownType, UnknownConst, NotInstance, FreeInHypothesis, NotAlpha}
+use Rattle.hol_model.specs.declared.fault.Fault.TheVariants.{BadShape, TypeMismatch, UnknownType, UnknownConst, NotInstance, FreeInHypothesis, NotAlpha}
 use Rattle.hol_model.specs.HolType.{HolType, bool_type, function_type, type_eq}
-use Rattle.hol_model.specs.NamedTerm.{NamedTerm, variable, constant, combination, abstraction, type_of, application_type, same_variable}
+use Rattle.hol_model.specs.NamedTerm.{NamedTerm, variable, constant, combination, abstraction, type_of}
 use Rattle.hol_model.specs.Nameless.{Nameless, free, const, app, lam, image, same_term}
 use Rattle.hol_model.specs.Logic.{logical_definitions, forall_name, exists_name, predicate, quantifier}
 use Rattle.hol_model.specs.Logic as nameless_formulas
@@ -16,22 +16,21 @@ use Rattle.hol_model.specs.Theorem.{Theorem}
 use Rattle.hol_model.specs.KnownTerm.{knows_type, knows_types, knows_constants, has_instances, is_known}
 use Rattle.hol_model.specs.Checks.{knows_nameless}
 use Rattle.hol_model.specs.Derivable.{without}
-use Rattle.hol_model.specs.Outcome.{unless, refused}
+use Rattle.hol_model.specs.Outcome.{unless, given as stated_given, refused}
 use Rattle.hol_model.specs.Rules.{first_unknown}
 use Rattle.hol_model.specs.NamedLogic.{Abstracted}
 use Rattle.hol_model.specs.NamedLogic as named
 use Rattle.hol_model.specs.NamelessLogic as nameless
-use Rattle.hol_model.specs.DerivedRules.{images, stated, stated_up_to_names, body_with, is_free_in_some, spec_outcome, gen_outcome, exists_outcome, choose_outcome}
+use Rattle.hol_model.specs.DerivedRules.{Stated, images, stated, stated_up_to_names, body_with, is_of_type, is_free_in_some, spec_outcome, gen_outcome, exists_outcome, choose_outcome}
 use Rattle.hol_model.specs.InferenceRules.{rule_spec, rule_gen, rule_exists, rule_choose}
 use Rattle.hol_model.specs.Inference.{given, require, conclude, all, all_without_variable, all_but_without_variable, is_free_in_none, is_known_formula, drawn, unchanged}
 use Rattle.hol_model.proofs.HolTypeEq.{type_eq-Decides}
-use Rattle.hol_model.proofs.Tests.{same_variable-self, same_variable-type}
+use Rattle.hol_model.proofs.Tests.{same_variable-self}
 use Rattle.hol_model.proofs.NamedTests.{is_known-Decides}
 use Rattle.hol_model.proofs.TypeTests.{knows_type-Decides}
 use Rattle.hol_model.proofs.Images.{image-abstraction}
 use Rattle.hol_journal.specs.Journal.{Journal}
 use Rattle.hol_bool.specs.HasLogic.{HasLogic}
-use Rattle.hol_bool.specs.Formulas.{IsFormula}
 use Rattle.hol_bool.specs.declared.stored.Bool.{Bool as Stored}
 use Rattle.hol_bool.proofs.LogicLemmas.{logical-type}
 use Rattle.hol_quant.specs.DrawnRules.{IsDrawn, IsPremise, Draws}
@@ -47,11 +46,11 @@ parts_of name ty body = record { name = name; ty = ty; body = body }
 abbrev shown : Abstracted → Option (HolType × Nameless)
 shown parts = Some (parts.ty, close parts.name parts.ty (image parts.body))
 
--- a known formula with the quantifier, or without it, as its image shows
-data Quantified (theory : Theory) (quantifier_name : List ℕ) (term : NamedTerm) : Type 0 where
+-- a known term with the quantifier, which is a formula, or without it, as its image shows
+data Quantified (theory : Theory) (quantifier_name : List ℕ) (term : NamedTerm) (whole : HolType) : Type 0 where
   parted : (parts : Abstracted) → named.dest_quantified quantifier_name term ≡ Some parts → nameless.dest_quantified quantifier_name (image term) ≡ shown parts
-      → knows_type theory parts.ty ≡ true → Quantified theory quantifier_name term
-  apart : named.dest_quantified quantifier_name term ≡ None → nameless.dest_quantified quantifier_name (image term) ≡ None → Quantified theory quantifier_name term
+      → knows_type theory parts.ty ≡ true → whole ≡ bool_type → Quantified theory quantifier_name term whole
+  apart : named.dest_quantified quantifier_name term ≡ None → nameless.dest_quantified quantifier_name (image term) ≡ None → Quantified theory quantifier_name term whole
 
 -- the quantifier of a known formula is of the type that its abstraction asks for
 known-quantifier : (theory : Theory) (quantifier_name other : List ℕ) → generic_type theory quantifier_name ≡ Some (quantifier type_a) → other ≡ quantifier_name → (s : HolType) (name : List ℕ) (ty : HolType) (body : NamedTerm) (whole : HolType)
@@ -66,24 +65,26 @@ quantified-image : (quantifier_name other : List ℕ) → other ≡ quantifier_n
 quantified-image quantifier_name other same s name ty body is =
     (λ i. nameless.dest_quantified quantifier_name (app (const (same i) (is i)) (lam ty (body-image name ty body i)))) ∙ rw (same_variable-self quantifier_name (quantifier ty)) refl
 
-quantified : (theory : Theory) (quantifier_name : List ℕ) → generic_type theory quantifier_name ≡ Some (quantifier type_a) → (term : NamedTerm) → IsFormula theory term → Quantified theory quantifier_name term
-quantified theory quantifier_name generic (combination (constant other s) (abstraction name ty body)) formula = go (bytes_eq other quantifier_name) refl
+quantified : (theory : Theory) (quantifier_name : List ℕ) → generic_type theory quantifier_name ≡ Some (quantifier type_a) → (term : NamedTerm) (whole : HolType) → IsKnown theory (image term) whole → Quantified theory quantifier_name term whole
+quantified theory quantifier_name generic (combination (constant other s) (abstraction name ty body)) whole known = go (bytes_eq other quantifier_name) refl
   where
-    go : (test : Bool) → bytes_eq other quantifier_name ≡ test → Quantified theory quantifier_name (combination (constant other s) (abstraction name ty body))
+    go : (test : Bool) → bytes_eq other quantifier_name ≡ test → Quantified theory quantifier_name (combination (constant other s) (abstraction name ty body)) whole
     go true is =
         let same = (bytes_eq-Decides other quantifier_name).0 is in
-        let typed = known-quantifier theory quantifier_name other generic same s name ty body bool_type formula.known in
-        parted (parts_of name ty body) (rw is refl) (quantified-image quantifier_name other same s name ty body typed.quantifier_type) ((knows_type-Decides theory ty).1 typed.function_known.parts.0)
+        let typed = known-quantifier theory quantifier_name other generic same s name ty body whole known in
+        let is_type : function_type known.typed.0 whole ≡ quantifier ty = sym known.typed.1 ∙ typed.quantifier_type in
+        let whole_is : whole ≡ bool_type = cc in
+        parted (parts_of name ty body) (rw is refl) (quantified-image quantifier_name other same s name ty body typed.quantifier_type) ((knows_type-Decides theory ty).1 typed.function_known.parts.0) whole_is
     go false is = apart (rw is refl) (rw (other-name quantifier_name other (quantifier ty) s is) refl)
-quantified theory quantifier_name generic (combination (constant other s) (variable name ty)) formula = apart refl refl
-quantified theory quantifier_name generic (combination (constant other s) (constant name ty)) formula = apart refl refl
-quantified theory quantifier_name generic (combination (constant other s) (combination f x)) formula = apart refl refl
-quantified theory quantifier_name generic (combination (variable other s) argument) formula = apart refl refl
-quantified theory quantifier_name generic (combination (combination f x) argument) formula = apart refl refl
-quantified theory quantifier_name generic (combination (abstraction other s body) argument) formula = apart refl refl
-quantified theory quantifier_name generic (variable other s) formula = apart refl refl
-quantified theory quantifier_name generic (constant other s) formula = apart refl refl
-quantified theory quantifier_name generic (abstraction other s body) formula = apart refl refl
+quantified theory quantifier_name generic (combination (constant other s) (variable name ty)) whole known = apart refl refl
+quantified theory quantifier_name generic (combination (constant other s) (constant name ty)) whole known = apart refl refl
+quantified theory quantifier_name generic (combination (constant other s) (combination f x)) whole known = apart refl refl
+quantified theory quantifier_name generic (combination (variable other s) argument) whole known = apart refl refl
+quantified theory quantifier_name generic (combination (combination f x) argument) whole known = apart refl refl
+quantified theory quantifier_name generic (combination (abstraction other s body) argument) whole known = apart refl refl
+quantified theory quantifier_name generic (variable other s) whole known = apart refl refl
+quantified theory quantifier_name generic (constant other s) whole known = apart refl refl
+quantified theory quantifier_name generic (abstraction other s body) whole known = apart refl refl
 
 -- the variable is free in none exactly where it is not free in some
 free-in_none : (name : List ℕ) (ty : HolType) (terms : List Nameless) → is_free_in_none (Some (name, ty)) terms ≡ not (is_free_in_some name ty terms)
@@ -118,18 +119,6 @@ walk theory term = go (knows_types theory term) refl (knows_constants theory ter
     go true one false two instances three = fails UnknownConst (rw (one, two) refl) (rw (one, two) refl)
     go false one constants two instances three = fails UnknownType (rw one refl) (rw one refl)
 
--- what an existential quantifier makes of an abstraction is a formula
-formula-type : (other name : List ℕ) (ty found : HolType) (body : NamedTerm) → type_of (combination (constant other (quantifier ty)) (abstraction name ty body)) ≡ Some found → found ≡ bool_type
-formula-type other name ty found body typed = go (option_map (function_type ty) (type_of body)) typed
-  where
-    last : (test : Bool) → if◌then◌else◌ {A = Option HolType} test (Some bool_type) None ≡ Some found → found ≡ bool_type
-    last true is = cc
-    last false is = cc
-
-    go : (argument : Option HolType) → application_type (Some (quantifier ty)) argument ≡ Some found → found ≡ bool_type
-    go None is = cc
-    go (Some s) is = last (type_eq (predicate ty) s) is
-
 -- ---- rules
 
 pub drawn-gen : (theory : Theory) (x : NamedTerm) (a : Theorem) → Draws theory (rule_gen x) (a ∷ []) (gen_outcome theory x a)
@@ -149,12 +138,12 @@ drawn-gen theory (combination f x) a = tt
 drawn-gen theory (abstraction name ty body) a = tt
 
 module _ (journal : Journal) (logic : Stored) (has : HasLogic journal logic) (legal : IsLegal journal.theory) where
-  at : (name : List ℕ) → generic_type logical_definitions name ≡ Some (quantifier type_a) → (a : Theorem) → IsPremise journal.theory a → Quantified journal.theory name a.conclusion
-  at name generic a premise = quantified journal.theory name (logical-type journal logic has legal name (quantifier type_a) generic) a.conclusion premise
+  at : (name : List ℕ) → generic_type logical_definitions name ≡ Some (quantifier type_a) → (a : Theorem) → IsPremise journal.theory a → Quantified journal.theory name a.conclusion bool_type
+  at name generic a premise = quantified journal.theory name (logical-type journal logic has legal name (quantifier type_a) generic) a.conclusion bool_type premise.known
 
   pub drawn-spec : (t : NamedTerm) (ty : HolType) (a : Theorem) → type_of t ≡ Some ty → IsPremise journal.theory a → Draws journal.theory (rule_spec t) (a ∷ []) (spec_outcome journal.theory t a)
   drawn-spec t ty a typed premise = elim (at forall_name refl a premise) [
-    | parted parts dest is known ↦ rw (dest, is)
+    | parted parts dest is known whole ↦ rw (dest, is)
         (walked journal.theory t ty parts.ty typed TypeMismatch (stated_up_to_names (images a) (body_with parts t))
         (record { passing = all ∷ []; supposed = []; conclusion = body_with parts t }) (λ inference. drawn inference (images a ∷ []))
         (record { hypotheses = same_set (sym (one_premise (images a))); conclusion = refl }))
@@ -163,7 +152,7 @@ module _ (journal : Journal) (logic : Stored) (has : HasLogic journal logic) (le
 
   pub drawn-choose : (v : NamedTerm) (a b : Theorem) → IsPremise journal.theory a → Draws journal.theory (rule_choose v) (a ∷ b ∷ []) (choose_outcome journal.theory v a b)
   drawn-choose (variable name ty) a b premise = elim (at exists_name refl a premise) [
-    | parted parts dest is known ↦ rw (dest, is) (go parts known (type_eq parts.ty ty) refl)
+    | parted parts dest is known whole ↦ rw (dest, is) (go parts known (type_eq parts.ty ty) refl)
     | apart dest is ↦ rw (dest, is) tt
   ]
     where
@@ -198,68 +187,51 @@ module _ (journal : Journal) (logic : Stored) (has : HasLogic journal logic) (le
   drawn-choose (combination f x) a b premise = tt
   drawn-choose (abstraction name ty body) a b premise = tt
 
-  -- EXISTS, of a term that is a quantifier over an abstraction
-  exists-at : (other : List ℕ) (q : HolType) (name : List ℕ) (ty : HolType) (body w : NamedTerm) (found s : HolType) (a : Theorem) → other ≡ exists_name
-      → type_of (combination (constant other q) (abstraction name ty body)) ≡ Some found → type_of w ≡ Some s
-      → (test : Bool) → same_variable exists_name (quantifier ty) other q ≡ test
-      → IsDrawn (unless (type_eq s ty) TypeMismatch (refused (first_unknown journal.theory (combination (constant other q) (abstraction name ty body))) (refused (first_unknown journal.theory w)
-      (unless (same_term (body_with (parts_of name ty body) w) (image a.conclusion)) NotAlpha (stated (images a) (combination (constant other q) (abstraction name ty body)))))))
-      (given (given (if◌then◌else◌ {A = Option (HolType × Nameless)} test (Some (ty, close name ty (image body))) None) (λ quantified.
-      require (is_known_formula journal.theory (image (combination (constant other q) (abstraction name ty body))) && knows_nameless journal.theory (image w) quantified.0 && same_term (fill (image w) quantified.1) (image a.conclusion))
-      (conclude (all ∷ []) (image (combination (constant other q) (abstraction name ty body)))))) (λ inference. drawn inference (images a ∷ [])))
-  exists-at other q name ty body w found s a named typed typed_w true same =
-      let e : NamedTerm = combination (constant other q) (abstraction name ty body) in
-      let q_is : quantifier ty ≡ q = same_variable-type exists_name other (quantifier ty) q same in
-      let found_is : found ≡ bool_type = formula-type other name ty found body (subst (λ (t : HolType). type_of (combination (constant other t) (abstraction name ty body)) ≡ Some found) (sym q_is) typed) in
-      let formula : is_known_formula journal.theory (image e) ≡ is_known journal.theory e = knows-image journal.theory e found bool_type typed ∙ ap (λ (b : Bool). b && is_known journal.theory e) (ap (λ (t : HolType). type_eq t bool_type) found_is) in
-      rw (formula, knows-image journal.theory w s ty typed_w) (go (type_eq s ty) (walk journal.theory e) (walk journal.theory w) (same_term (fill (image w) (close name ty (image body))) (image a.conclusion)))
-    where
-      go : (fits : Bool) → Walk journal.theory (combination (constant other q) (abstraction name ty body)) → Walk journal.theory w → (alike : Bool)
-          → IsDrawn (unless fits TypeMismatch (refused (first_unknown journal.theory (combination (constant other q) (abstraction name ty body))) (refused (first_unknown journal.theory w)
-          (unless alike NotAlpha (stated (images a) (combination (constant other q) (abstraction name ty body)))))))
-          (given (require (is_known journal.theory (combination (constant other q) (abstraction name ty body)) && (fits && is_known journal.theory w) && alike)
-          (conclude (all ∷ []) (image (combination (constant other q) (abstraction name ty body))))) (λ inference. drawn inference (images a ∷ [])))
-      go true (passes one none) (passes two none_there) true =
-          rw (one, none, two, none_there) (drawn-of_one a (combination (constant other q) (abstraction name ty body)) (image (combination (constant other q) (abstraction name ty body))) refl)
-      go true (passes one none) (passes two none_there) false = rw (one, none, two, none_there) tt
-      go true (passes one none) (fails fault two there) alike = rw (one, none, two, there) tt
-      go true (fails fault one there) walked_w alike = rw (one, there) tt
-      go false (passes one none) walked_w alike = rw one tt
-      go false (fails fault one there) walked_w alike = rw one tt
-  exists-at other q name ty body w found s a named typed typed_w false differ = go (type_eq s ty) (walk journal.theory (combination (constant other q) (abstraction name ty body)))
-    where
-      go : (fits : Bool) → Walk journal.theory (combination (constant other q) (abstraction name ty body))
-          → IsDrawn (unless fits TypeMismatch (refused (first_unknown journal.theory (combination (constant other q) (abstraction name ty body))) (refused (first_unknown journal.theory w)
-          (unless (same_term (body_with (parts_of name ty body) w) (image a.conclusion)) NotAlpha (stated (images a) (combination (constant other q) (abstraction name ty body))))))) None
-      go false walked_e = tt
-      go true (fails fault one there) = rw there tt
-      go true (passes one none) =
-          let known = (is_known-Decides journal.theory (combination (constant other q) (abstraction name ty body)) found typed).0 one in
-          let at_type = known-quantifier journal.theory exists_name other (logical-type journal logic has legal exists_name (quantifier type_a) refl) named q name ty body found known in
-          let same : same_variable exists_name (quantifier ty) other q ≡ true =
-          (λ i. same_variable exists_name (quantifier ty) (named i) (at_type.quantifier_type i)) ∙ same_variable-self exists_name (quantifier ty) in
-          cc
-
   pub drawn-exists : (e w : NamedTerm) (ty s : HolType) (a : Theorem) → type_of e ≡ Some ty → type_of w ≡ Some s → Draws journal.theory (rule_exists e w) (a ∷ []) (exists_outcome journal.theory e w a)
-  drawn-exists (combination (constant other q) (abstraction name ty body)) w found s a typed typed_w = go (bytes_eq other exists_name) refl
+  drawn-exists e w ty s a typed typed_w = elim (walk journal.theory e) [
+    | passes tests none ↦ of_known tests none (quantified journal.theory exists_name generic e ty ((is_known-Decides journal.theory e ty typed).0 tests))
+    | fails fault tests there ↦ of_unknown fault tests there (named.dest_exists e) (nameless.dest_exists (image e))
+  ]
     where
-      go : (test : Bool) → bytes_eq other exists_name ≡ test → Draws journal.theory (rule_exists (combination (constant other q) (abstraction name ty body)) w) (a ∷ []) (exists_outcome journal.theory (combination (constant other q) (abstraction name ty body)) w a)
-      go false is = rw (is, other-name exists_name other (quantifier ty) q is) tt
-      go true is = rw (is, typed_w)
-          (subst (λ (b : Nameless).
-          IsDrawn (unless (type_eq s ty) TypeMismatch (refused (first_unknown journal.theory (combination (constant other q) (abstraction name ty body))) (refused (first_unknown journal.theory w)
-          (unless (same_term (body_with (parts_of name ty body) w) (image a.conclusion)) NotAlpha (stated (images a) (combination (constant other q) (abstraction name ty body)))))))
-          (given (given (if◌then◌else◌ {A = Option (HolType × Nameless)} (same_variable exists_name (quantifier ty) other q) (Some (ty, b)) None) (λ quantified.
-          require (is_known_formula journal.theory (image (combination (constant other q) (abstraction name ty body))) && knows_nameless journal.theory (image w) quantified.0 && same_term (fill (image w) quantified.1) (image a.conclusion))
-          (conclude (all ∷ []) (image (combination (constant other q) (abstraction name ty body)))))) (λ inference. drawn inference (images a ∷ []))))
-          (sym (body-image name ty body))
-          (exists-at other q name ty body w found s a ((bytes_eq-Decides other exists_name).0 is) typed typed_w (same_variable exists_name (quantifier ty) other q) refl))
-  drawn-exists (combination (constant other q) (variable name ty)) w found s a typed typed_w = tt
-  drawn-exists (combination (constant other q) (constant name ty)) w found s a typed typed_w = tt
-  drawn-exists (combination (constant other q) (combination f x)) w found s a typed typed_w = tt
-  drawn-exists (combination (variable other q) argument) w found s a typed typed_w = tt
-  drawn-exists (combination (combination f x) argument) w found s a typed typed_w = tt
-  drawn-exists (combination (abstraction other q body) argument) w found s a typed typed_w = tt
-  drawn-exists (variable other q) w found s a typed typed_w = tt
-  drawn-exists (constant other q) w found s a typed typed_w = tt
-  drawn-exists (abstraction other q body) w found s a typed typed_w = tt
+      generic : generic_type journal.theory exists_name ≡ Some (quantifier type_a)
+      generic = logical-type journal logic has legal exists_name (quantifier type_a) refl
+
+      formula : is_known_formula journal.theory (image e) ≡ (type_eq ty bool_type && is_known journal.theory e)
+      formula = knows-image journal.theory e ty bool_type typed
+
+      and_false : (test : Bool) → (test && false) ≡ false
+      and_false true = refl
+      and_false false = refl
+
+      of_witness : (fits : Bool) → Walk journal.theory w → (alike : Bool)
+          → IsDrawn (unless fits TypeMismatch (refused (first_unknown journal.theory w) (unless alike NotAlpha (stated (images a) e))))
+          (given (require (fits && is_known journal.theory w && alike) (conclude (all ∷ []) (image e))) (λ inference. drawn inference (images a ∷ [])))
+      of_witness true (passes tests none) true = rw (tests, none) (drawn-of_one a e (image e) refl)
+      of_witness true (passes tests none) false = rw (tests, none) tt
+      of_witness true (fails fault tests there) alike = rw (tests, there) tt
+      of_witness false walked_w alike = tt
+
+      of_known : is_known journal.theory e ≡ true → first_unknown journal.theory e ≡ None → Quantified journal.theory exists_name e ty → Draws journal.theory (rule_exists e w) (a ∷ []) (exists_outcome journal.theory e w a)
+      of_known tests none (parted parts dest is known whole) =
+          let passed : is_known_formula journal.theory (image e) ≡ true = formula ∙ rw (whole, tests) refl in
+          rw (dest, is, none, passed, knows-image journal.theory w s parts.ty typed_w, typed_w)
+          (of_witness (type_eq s parts.ty) (walk journal.theory w) (same_term (fill (image w) (close parts.name parts.ty (image parts.body))) (image a.conclusion)))
+      of_known tests none (apart dest is) = rw (dest, is) tt
+
+      unknown : is_known journal.theory e ≡ false → is_known_formula journal.theory (image e) ≡ false
+      unknown tests = formula ∙ ap (λ (b : Bool). type_eq ty bool_type && b) tests ∙ and_false (type_eq ty bool_type)
+
+      refuses : (fits : Bool) (fault : Fault) (next : Result Stated Fault) → IsDrawn (unless fits TypeMismatch (refused (Some fault) next)) None
+      refuses true fault next = tt
+      refuses false fault next = tt
+
+      of_unknown : (fault : Fault) → is_known journal.theory e ≡ false → first_unknown journal.theory e ≡ Some fault → (found : Option Abstracted) (image_found : Option (HolType × Nameless))
+          → IsDrawn (stated_given found BadShape (λ parts. unless (is_of_type parts.ty w) TypeMismatch (refused (first_unknown journal.theory e) (refused (first_unknown journal.theory w)
+          (unless (same_term (body_with parts w) (image a.conclusion)) NotAlpha (stated (images a) e))))))
+          (given (given image_found (λ parts. require (is_known_formula journal.theory (image e) && knows_nameless journal.theory (image w) parts.0 && same_term (fill (image w) parts.1) (image a.conclusion))
+          (conclude (all ∷ []) (image e)))) (λ inference. drawn inference (images a ∷ [])))
+      of_unknown fault tests there None None = tt
+      of_unknown fault tests there None (Some parts) = rw (unknown tests) tt
+      of_unknown fault tests there (Some parts) None = rw there (refuses (is_of_type parts.ty w) fault (refused (first_unknown journal.theory w) (unless (same_term (body_with parts w) (image a.conclusion)) NotAlpha (stated (images a) e))))
+      of_unknown fault tests there (Some parts) (Some image_parts) =
+          rw (there, unknown tests) (refuses (is_of_type parts.ty w) fault (refused (first_unknown journal.theory w) (unless (same_term (body_with parts w) (image a.conclusion)) NotAlpha (stated (images a) e))))

@@ -103,9 +103,6 @@ pub unchanged_all : (h : List Nameless) → map unchanged h ≡ h
 unchanged_all [] = refl
 unchanged_all (first ∷ rest) = ap (λ (all : List Nameless). first ∷ all) (unchanged_all rest)
 
-pub and_none : (h : List Nameless) → (h ++ []) ≡ h
-and_none h = append-nil h
-
 pub one_premise : (h : List Nameless) → (map unchanged h ++ []) ≡ h
 one_premise h = append-nil (map unchanged h) ∙ unchanged_all h
 
