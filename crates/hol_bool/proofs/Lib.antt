@@ -18,3 +18,8 @@ pub mod ConjunctionAnswers
 pub mod ImplicationAnswers
 pub mod DisjunctionAnswers
 pub mod AxiomLemmas
+pub mod DrawnTerms
+pub mod DrawnEquality
+pub mod DrawnConnectives
+pub mod InferredRules
+pub mod DrawnPrimitives

@@ -371,7 +371,7 @@ mapped f h k same = record {
   back = λ x m. let at = of_map f x k m in subst (λ (t : Nameless). IsMember t (map f h)) (sym at.2) (IsMember-map f at.0 h (same.back at.0 at.1));
 }
 
-changed-shows : (theory : Theory) (change : Nameless → Nameless) (theorem answer : Theorem) → IsChanged theory change theorem answer
+pub changed-shows : (theory : Theory) (change : Nameless → Nameless) (theorem answer : Theorem) → IsChanged theory change theorem answer
     → (h : List Nameless) (c : Nameless) → Shows theorem h c → Shows answer (map change h) (change c)
 changed-shows theory change theorem answer is h c shown = record {
   same_set = same_sets (map change h) (map image is.instances) (map image answer.hypotheses)

@@ -10,3 +10,5 @@ pub mod Laws
 pub mod Conversions
 pub mod Disjunctions
 pub mod Axioms
+pub mod Inferred
+pub mod PrimitiveRules

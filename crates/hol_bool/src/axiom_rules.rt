@@ -9,7 +9,7 @@ ghost use Rattle.hol_bool.specs.Sequents.{Continues};
 
 use crate::equality::named;
 use crate::numbers::{ETA_AX, SELECT_AX};
-use crate::prelude_rules::conclusion_of;
+use crate::steps::conclusion_of;
 use crate::stored::{Bool, theorem_of};
 use hol_journal::{Rec, Recorder};
 use hol_model::Fault;

@@ -1,26 +1,29 @@
 // Rules of conjunction.
-ghost use Rattle.std.specs.Prelude.{◌≡◌, ◌++◌, List, IfOk};
+ghost use Rattle.std.specs.Prelude.{◌≡◌, ◌++◌, List, IfOk, [], ◌∷◌};
 ghost use Rattle.hol_model.specs.HolType.{bool_type};
 ghost use Rattle.hol_model.specs.Nameless.{Nameless};
 ghost use Rattle.hol_model.specs.Logic as nameless;
 ghost use Rattle.hol_model.specs.NamedLogic.{conjunction};
 ghost use Rattle.hol_model.specs.Derivable.{nameless_equation};
 ghost use Rattle.hol_model.specs.DerivedRules.{AnswersStated, terms_of_theorem, conj_outcome, conjunct1_outcome, conjunct2_outcome};
+ghost use Rattle.hol_model.specs.InferenceRules.{rule_conj, rule_conjunct1, rule_conjunct2};
 ghost use Rattle.hol_journal.specs.Journal.{IsMade, theorem_in};
 ghost use Rattle.hol_bool.specs.HasLogic.{HasLogic};
 ghost use Rattle.hol_bool.specs.Room.{Room, FitsIf};
 ghost use Rattle.hol_bool.specs.Sequents.{Shows, DerivesIf, Continues};
+ghost use Rattle.hol_bool.specs.Inferred.{Infers};
 
 use crate::formula_terms::{connect, equivalence, for_p_q};
 use crate::numbers::{CONJ, CONJUNCT1, CONJUNCT2};
-use crate::prelude_rules::{by_theorem, conclusion_of, sides_of};
-use crate::steps;
+use crate::prelude_rules::{by_theorem, sides_of};
+use crate::steps::{self, conclusion_of};
 use crate::stored::Bool;
 use hol_journal::{Rec, Recorder};
 use hol_model::Fault;
 use std::alloc::Global;
 
 /// CONJUNCT1: from `p /\ q`, `p`, in six steps. Refused where the conclusion is no conjunction.
+#[tactic(auto, using(crate::proofs::InferredRules::infers_conjunct1))]
 pub fn conjunct1(
     recorder: &mut Recorder,
     alloc: Global,
@@ -31,6 +34,7 @@ pub fn conjunct1(
     requires premise { IsMade recorder.old premise.now }
     ensures continues { Continues recorder.old recorder.new result }
     ensures outcome { AnswersStated (theorem_in result) (terms_of_theorem premise.now.theorem) (conjunct1_outcome premise.now.theorem) }
+    ensures inferred { Infers recorder.old.theory rule_conjunct1 (premise.now.theorem ∷ []) (theorem_in result) }
 {
     let Some(sides) = sides_of(recorder, logic, premise, "/\\") else {
         return Err(Fault::BadShape);
@@ -45,6 +49,7 @@ pub fn conjunct1(
 }
 
 /// CONJUNCT2: from `p /\ q`, `q`, in six steps. Refused where the conclusion is no conjunction.
+#[tactic(auto, using(crate::proofs::InferredRules::infers_conjunct2))]
 pub fn conjunct2(
     recorder: &mut Recorder,
     alloc: Global,
@@ -55,6 +60,7 @@ pub fn conjunct2(
     requires premise { IsMade recorder.old premise.now }
     ensures continues { Continues recorder.old recorder.new result }
     ensures outcome { AnswersStated (theorem_in result) (terms_of_theorem premise.now.theorem) (conjunct2_outcome premise.now.theorem) }
+    ensures inferred { Infers recorder.old.theory rule_conjunct2 (premise.now.theorem ∷ []) (theorem_in result) }
 {
     let Some(sides) = sides_of(recorder, logic, premise, "/\\") else {
         return Err(Fault::BadShape);
@@ -112,6 +118,7 @@ pub(crate) fn joined(
 }
 
 /// CONJ: from `p` and `q`, `p /\ q`, in seven steps.
+#[tactic(auto, using(crate::proofs::InferredRules::infers_conj))]
 pub fn conj(
     recorder: &mut Recorder,
     alloc: Global,
@@ -124,6 +131,7 @@ pub fn conj(
     requires second { IsMade recorder.old second.now }
     ensures continues { Continues recorder.old recorder.new result }
     ensures outcome { AnswersStated (theorem_in result) (terms_of_theorem first.now.theorem ++ terms_of_theorem second.now.theorem) (conj_outcome first.now.theorem second.now.theorem) }
+    ensures inferred { Infers recorder.old.theory rule_conj (first.now.theorem ∷ second.now.theorem ∷ []) (theorem_in result) }
 {
     joined(recorder, alloc, logic, first, second)
 }

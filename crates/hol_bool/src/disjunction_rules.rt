@@ -1,5 +1,5 @@
 // Rules of disjunction.
-ghost use Rattle.std.specs.Prelude.{◌≡◌, ◌++◌, ◌∷◌, List, IfOk, Some};
+ghost use Rattle.std.specs.Prelude.{◌≡◌, ◌++◌, ◌∷◌, List, IfOk, Some, []};
 ghost use Rattle.hol_model.specs.HolType.{bool_type};
 ghost use Rattle.hol_model.specs.NamedTerm.{type_of};
 ghost use Rattle.hol_model.specs.Nameless.{Nameless, image};
@@ -7,17 +7,20 @@ ghost use Rattle.hol_model.specs.Logic as nameless;
 ghost use Rattle.hol_model.specs.NamedLogic.{disjunction};
 ghost use Rattle.hol_model.specs.Derivable.{without, nameless_equation};
 ghost use Rattle.hol_model.specs.DerivedRules.{AnswersStated, terms_of_theorem, disj1_outcome, disj2_outcome, disj_cases_outcome};
+ghost use Rattle.hol_model.specs.InferenceRules.{rule_disj1, rule_disj2, rule_disj_cases};
 ghost use Rattle.hol_journal.specs.Journal.{IsMade, theorem_in};
 ghost use Rattle.hol_bool.specs.HasLogic.{HasLogic};
 ghost use Rattle.hol_bool.specs.Formulas.{IsFormula};
 ghost use Rattle.hol_bool.specs.Room.{Room, FitsIf, MakesIf};
 ghost use Rattle.hol_bool.specs.Disjunctions.{LeavesRoomIf, other_case, both_cases};
 ghost use Rattle.hol_bool.specs.Sequents.{Shows, DerivesIf, Continues};
+ghost use Rattle.hol_bool.specs.Inferred.{Infers};
 
 use crate::formula_terms::{Sides, connect, for_p_q, for_p_q_r};
 use crate::implication_rules::{discharged, implied};
 use crate::numbers::{DISJ_CASES, DISJ1, DISJ2};
-use crate::prelude_rules::{by_theorem, conclusion_of, pass_formula, sides_of};
+use crate::prelude_rules::{by_theorem, pass_formula, sides_of};
+use crate::steps::conclusion_of;
 use crate::stored::Bool;
 use hol_alpha::aconv;
 use hol_journal::{Rec, Recorder};
@@ -27,6 +30,7 @@ use std::alloc::Global;
 
 /// DISJ1: from `p`, `p \/ q`, in six steps. Refused where `q` is not of type `bool`, and then where the theory does not
 /// know a type or a constant of it.
+#[tactic(auto, using(crate::proofs::InferredRules::infers_disj1))]
 pub fn disj1(
     recorder: &mut Recorder,
     alloc: Global,
@@ -38,7 +42,9 @@ pub fn disj1(
     requires premise { IsMade recorder.old premise.now }
     ensures continues { Continues recorder.old recorder.new result }
     ensures outcome { AnswersStated (theorem_in result) (image q.now ∷ terms_of_theorem premise.now.theorem) (disj1_outcome recorder.old.theory q.now premise.now.theorem) }
+    ensures inferred { Infers recorder.old.theory (rule_disj1 q.now) (premise.now.theorem ∷ []) (theorem_in result) }
 {
+    let _type = q.ty();
     match pass_formula(recorder, alloc, q) {
         Ok(()) => {}
         Err(fault) => return Err(fault),
@@ -57,6 +63,7 @@ pub fn disj1(
 
 /// DISJ2: from `q`, `p \/ q`, in six steps. Refused where `p` is not of type `bool`, and then where the theory does not
 /// know a type or a constant of it.
+#[tactic(auto, using(crate::proofs::InferredRules::infers_disj2))]
 pub fn disj2(
     recorder: &mut Recorder,
     alloc: Global,
@@ -68,7 +75,9 @@ pub fn disj2(
     requires premise { IsMade recorder.old premise.now }
     ensures continues { Continues recorder.old recorder.new result }
     ensures outcome { AnswersStated (theorem_in result) (image p.now ∷ terms_of_theorem premise.now.theorem) (disj2_outcome recorder.old.theory p.now premise.now.theorem) }
+    ensures inferred { Infers recorder.old.theory (rule_disj2 p.now) (premise.now.theorem ∷ []) (theorem_in result) }
 {
+    let _type = p.ty();
     match pass_formula(recorder, alloc, p) {
         Ok(()) => {}
         Err(fault) => return Err(fault),
@@ -197,6 +206,7 @@ fn by_cases(
 /// DISJ_CASES: from `p \/ q`, `r` and `r`, `r` without the hypothesis `p` of the first case and `q` of the second, in 64
 /// steps. Refused where the conclusion is no disjunction, and then where the cases' conclusions differ in more than the names
 /// of bound variables.
+#[tactic(auto, using(crate::proofs::InferredRules::infers_disj_cases))]
 pub fn disj_cases(
     recorder: &mut Recorder,
     alloc: Global,
@@ -211,6 +221,7 @@ pub fn disj_cases(
     requires second { IsMade recorder.old second.now }
     ensures continues { Continues recorder.old recorder.new result }
     ensures outcome { AnswersStated (theorem_in result) (terms_of_theorem theorem.now.theorem ++ (terms_of_theorem first.now.theorem ++ terms_of_theorem second.now.theorem)) (disj_cases_outcome theorem.now.theorem first.now.theorem second.now.theorem) }
+    ensures inferred { Infers recorder.old.theory rule_disj_cases (theorem.now.theorem ∷ first.now.theorem ∷ second.now.theorem ∷ []) (theorem_in result) }
 {
     let Some(sides) = sides_of(recorder, logic, theorem, "\\/") else {
         return Err(Fault::BadShape);

@@ -10,10 +10,12 @@ ghost use Rattle.hol_model.specs.HolType.{bool_type};
 ghost use Rattle.hol_model.specs.Measures.{nameless_within_limits};
 ghost use Rattle.hol_model.specs.Derivable.{without, nameless_equation};
 ghost use Rattle.hol_model.specs.DerivedRules.{AnswersStated, terms_of_theorem, sym_outcome, add_assum_outcome, prove_hyp_outcome, beta_conv_outcome};
+ghost use Rattle.hol_model.specs.InferenceRules.{rule_sym, rule_add_assum, rule_prove_hyp, rule_beta_conv};
 ghost use Rattle.hol_journal.specs.Journal.{IsMade, theorem_in};
 ghost use Rattle.hol_bool.specs.Sequents.{Shows, DerivesIf, Continues};
+ghost use Rattle.hol_bool.specs.Inferred.{Infers};
 
-use crate::steps;
+use crate::steps::{self, conclusion_of};
 use hol_alpha::aconv;
 use hol_journal::{Rec, Recorder};
 use hol_model::Fault;
@@ -85,15 +87,16 @@ fn redex_parts(term: &Term) -> Option<Redex<'_>>
 }
 
 /// SYM: from `a = b`, `b = a`, in five steps of the kernel's rules. Refused where the conclusion is no equation.
+#[tactic(auto, using(crate::proofs::InferredRules::infers_sym))]
 pub fn sym(recorder: &mut Recorder, alloc: Global, premise: &Rec) -> Result<Rec, Fault>
     requires { IsMade recorder.old premise.now }
     ensures continues { Continues recorder.old recorder.new result }
     ensures outcome { AnswersStated (theorem_in result) (terms_of_theorem premise.now.theorem) (sym_outcome premise.now.theorem) }
+    ensures inferred { Infers recorder.old.theory rule_sym (premise.now.theorem ∷ []) (theorem_in result) }
 {
-    let Some(parts) = equation_parts(recorder.thm(premise).concl()) else {
+    let Some(parts) = equation_parts(conclusion_of(recorder, premise)) else {
         return Err(Fault::NotEquation);
     };
-    recorder.theory_is_legal();
     let same = match steps::refl(recorder, alloc, parts.relation) {
         Ok(same) => same,
         Err(fault) => return Err(fault),
@@ -154,6 +157,7 @@ pub fn cut(recorder: &mut Recorder, alloc: Global, first: &Rec, second: &Rec) ->
 
 /// ADD_ASSUM: from `q`, `q` with the hypothesis `p`, in three steps. Refused where `p` is not of type `bool`, and then
 /// where the theory does not know a type or a constant of it.
+#[tactic(auto, using(crate::proofs::InferredRules::infers_add_assum))]
 pub fn add_assum(
     recorder: &mut Recorder,
     alloc: Global,
@@ -163,7 +167,9 @@ pub fn add_assum(
     requires { IsMade recorder.old premise.now }
     ensures continues { Continues recorder.old recorder.new result }
     ensures outcome { AnswersStated (theorem_in result) (image p.now ∷ terms_of_theorem premise.now.theorem) (add_assum_outcome recorder.old.theory p.now premise.now.theorem) }
+    ensures inferred { Infers recorder.old.theory (rule_add_assum p.now) (premise.now.theorem ∷ []) (theorem_in result) }
 {
+    let _type = p.ty();
     let assumed = match steps::assume(recorder, alloc, p) {
         Ok(assumed) => assumed,
         Err(fault) => return Err(fault),
@@ -173,6 +179,7 @@ pub fn add_assum(
 
 /// PROVE_HYP: from `p` and `q`, `q` without the hypothesis `p`, and with the hypotheses of the first where `p` is one of
 /// the second's, in two steps.
+#[tactic(auto, using(crate::proofs::InferredRules::infers_prove_hyp))]
 pub fn prove_hyp(
     recorder: &mut Recorder,
     alloc: Global,
@@ -183,6 +190,7 @@ pub fn prove_hyp(
     requires second { IsMade recorder.old second.now }
     ensures continues { Continues recorder.old recorder.new result }
     ensures outcome { AnswersStated (theorem_in result) (terms_of_theorem first.now.theorem ++ terms_of_theorem second.now.theorem) (prove_hyp_outcome first.now.theorem second.now.theorem) }
+    ensures inferred { Infers recorder.old.theory rule_prove_hyp (first.now.theorem ∷ second.now.theorem ∷ []) (theorem_in result) }
 {
     let p = recorder.thm(first).concl();
     let theorem = recorder.thm(second);
@@ -201,14 +209,16 @@ fn is_alpha_among(term: &Term, terms: &[Term]) -> bool
 
 /// BETA_CONV: for `(\x. b) a` the theorem `(\x. b) a = b[a/x]`, in two steps. Refused where the term is no abstraction
 /// that is applied, and then where the theory does not know a type or a constant of it.
+#[tactic(auto, using(crate::proofs::InferredRules::infers_beta_conv))]
 pub fn beta_conv(recorder: &mut Recorder, alloc: Global, term: &Term) -> Result<Rec, Fault>
     ensures continues { Continues recorder.old recorder.new result }
     ensures outcome { AnswersStated (theorem_in result) (image term.now ∷ []) (beta_conv_outcome recorder.old.theory term.now) }
+    ensures inferred { Infers recorder.old.theory (rule_beta_conv term.now) [] (theorem_in result) }
 {
+    let _type = term.ty();
     let Some(redex) = redex_parts(term) else {
         return Err(Fault::BadShape);
     };
-    let _type = term.ty();
     match recorder.theory().refl(alloc, term) {
         Ok(_walked) => {}
         Err(fault) => return Err(fault),

@@ -7,17 +7,19 @@ ghost use Rattle.hol_model.specs.NamedLogic.{implication};
 ghost use Rattle.hol_model.specs.Logic.{and_name};
 ghost use Rattle.hol_model.specs.Derivable.{without, nameless_equation};
 ghost use Rattle.hol_model.specs.DerivedRules.{AnswersStated, terms_of_theorem, mp_outcome, disch_outcome, undisch_outcome};
+ghost use Rattle.hol_model.specs.InferenceRules.{rule_disch, rule_undisch, rule_mp};
 ghost use Rattle.hol_journal.specs.Journal.{IsMade, theorem_in};
 ghost use Rattle.hol_bool.specs.HasLogic.{HasLogic};
 ghost use Rattle.hol_bool.specs.Formulas.{IsFormula, AreSides};
 ghost use Rattle.hol_bool.specs.Room.{Room, FitsIf};
 ghost use Rattle.hol_bool.specs.Sequents.{Shows, DerivesIf, Continues};
+ghost use Rattle.hol_bool.specs.Inferred.{Infers};
 
 use crate::conjunction_rules::joined;
 use crate::formula_terms::{connect, equivalence, for_p_q};
 use crate::numbers::{CONJUNCT1, DISCH, MP};
-use crate::prelude_rules::{by_theorem, conclusion_of, pass_formula, sides_of};
-use crate::steps;
+use crate::prelude_rules::{by_theorem, pass_formula, sides_of};
+use crate::steps::{self, conclusion_of};
 use crate::stored::Bool;
 use hol_alpha::aconv;
 use hol_journal::{Rec, Recorder};
@@ -62,6 +64,7 @@ pub fn implied(
 
 /// MP: from `p ==> q` and `p`, `q`, in seven steps. Refused where the first conclusion is no implication, and then where
 /// the second is not its left side up to the names of bound variables.
+#[tactic(auto, using(crate::proofs::InferredRules::infers_mp))]
 pub fn mp(
     recorder: &mut Recorder,
     alloc: Global,
@@ -74,6 +77,7 @@ pub fn mp(
     requires second { IsMade recorder.old second.now }
     ensures continues { Continues recorder.old recorder.new result }
     ensures outcome { AnswersStated (theorem_in result) (terms_of_theorem first.now.theorem ++ terms_of_theorem second.now.theorem) (mp_outcome first.now.theorem second.now.theorem) }
+    ensures inferred { Infers recorder.old.theory rule_mp (first.now.theorem ∷ second.now.theorem ∷ []) (theorem_in result) }
 {
     let Some(sides) = sides_of(recorder, logic, first, "==>") else {
         return Err(Fault::BadShape);
@@ -179,6 +183,7 @@ pub fn discharged(
 
 /// DISCH: from `q`, `p ==> q` without the hypothesis `p`, in 22 steps. Refused where `p` is not of type `bool`, and then
 /// where the theory does not know a type or a constant of it.
+#[tactic(auto, using(crate::proofs::InferredRules::infers_disch))]
 pub fn disch(
     recorder: &mut Recorder,
     alloc: Global,
@@ -190,7 +195,9 @@ pub fn disch(
     requires premise { IsMade recorder.old premise.now }
     ensures continues { Continues recorder.old recorder.new result }
     ensures outcome { AnswersStated (theorem_in result) (image p.now ∷ terms_of_theorem premise.now.theorem) (disch_outcome recorder.old.theory p.now premise.now.theorem) }
+    ensures inferred { Infers recorder.old.theory (rule_disch p.now) (premise.now.theorem ∷ []) (theorem_in result) }
 {
+    let _type = p.ty();
     match pass_formula(recorder, alloc, p) {
         Ok(()) => {}
         Err(fault) => return Err(fault),
@@ -199,7 +206,7 @@ pub fn disch(
 }
 
 /// UNDISCH: from `p ==> q`, `q` with the hypothesis `p`, in eight steps. Refused where the conclusion is no implication.
-#[tactic(auto, using(crate::proofs::StepLemmas::still_made, crate::proofs::StepLemmas::now_made, crate::proofs::PreludeSteps::still_logical, crate::proofs::PreludeSteps::still_formula))]
+#[tactic(auto, using(crate::proofs::InferredRules::infers_undisch, crate::proofs::StepLemmas::still_made, crate::proofs::StepLemmas::now_made, crate::proofs::PreludeSteps::still_logical, crate::proofs::PreludeSteps::still_formula))]
 pub fn undisch(
     recorder: &mut Recorder,
     alloc: Global,
@@ -210,6 +217,7 @@ pub fn undisch(
     requires premise { IsMade recorder.old premise.now }
     ensures continues { Continues recorder.old recorder.new result }
     ensures outcome { AnswersStated (theorem_in result) (terms_of_theorem premise.now.theorem) (undisch_outcome premise.now.theorem) }
+    ensures inferred { Infers recorder.old.theory rule_undisch (premise.now.theorem ∷ []) (theorem_in result) }
 {
     let Some(sides) = sides_of(recorder, logic, premise, "==>") else {
         return Err(Fault::BadShape);

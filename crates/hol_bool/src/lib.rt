@@ -1,5 +1,6 @@
 //! Rules of the logic of truth values, derived from the kernel's rules (HOL Light's `equal.ml` and `bool.ml`). Each
-//! theorem is made by a recorder's calls.
+//! theorem is made by a recorder's calls. A rule's contract says what it states (`outcome`), and that this is what the
+//! table of rules draws from the sequents of its premises (`inferred`).
 #![tactic(auto)]
 
 mod axiom_rules;
@@ -29,6 +30,7 @@ mod sketch;
 mod stages;
 mod steps;
 mod stored;
+mod table;
 mod truth;
 mod truth_rules;
 
@@ -41,7 +43,7 @@ pub use implication_rules::{disch, discharged, implied, mp, undisch};
 pub use lemma::{by_lemma, instance};
 pub use middle_rules::excluded_middle;
 pub use negation_rules::{contr, not_elim, not_intro};
-pub use prelude_rules::conclusion_of;
-pub use steps::{abs, assume, eq_mp, trans};
+pub use steps::{abs, assume, conclusion_of, eq_mp, trans};
 pub use stored::{Bool, logic_stays, prelude, theorem_of};
+pub use table::primitive_rules_infer;
 pub use truth_rules::{eqt_elim, eqt_intro};

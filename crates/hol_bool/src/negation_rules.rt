@@ -1,14 +1,17 @@
 // Rules of negation and falsity.
-ghost use Rattle.std.specs.Prelude.{◌∷◌};
+ghost use Rattle.std.specs.Prelude.{◌∷◌, []};
 ghost use Rattle.hol_model.specs.Nameless.{image};
 ghost use Rattle.hol_model.specs.DerivedRules.{AnswersStated, terms_of_theorem, not_intro_outcome, not_elim_outcome, contr_outcome};
+ghost use Rattle.hol_model.specs.InferenceRules.{rule_contr, rule_not_intro, rule_not_elim};
 ghost use Rattle.hol_journal.specs.Journal.{IsMade, theorem_in};
 ghost use Rattle.hol_bool.specs.HasLogic.{HasLogic};
 ghost use Rattle.hol_bool.specs.Sequents.{Continues};
+ghost use Rattle.hol_bool.specs.Inferred.{Infers};
 
 use crate::formula_terms::{connect, falsity, for_p, is_named, negate};
 use crate::numbers::{CONTR, NOT_ELIM, NOT_INTRO};
-use crate::prelude_rules::{by_theorem, conclusion_of, negated_of, pass_formula, sides_of};
+use crate::prelude_rules::{by_theorem, negated_of, pass_formula, sides_of};
+use crate::steps::conclusion_of;
 use crate::stored::Bool;
 use hol_journal::{Rec, Recorder};
 use hol_model::Fault;
@@ -16,6 +19,7 @@ use hol_terms::Term;
 use std::alloc::Global;
 
 /// NOT_INTRO: from `p ==> F`, `~p`, in six steps. Refused where the conclusion is no implication of `F`.
+#[tactic(auto, using(crate::proofs::InferredRules::infers_not_intro))]
 pub fn not_intro(
     recorder: &mut Recorder,
     alloc: Global,
@@ -26,6 +30,7 @@ pub fn not_intro(
     requires premise { IsMade recorder.old premise.now }
     ensures continues { Continues recorder.old recorder.new result }
     ensures outcome { AnswersStated (theorem_in result) (terms_of_theorem premise.now.theorem) (not_intro_outcome premise.now.theorem) }
+    ensures inferred { Infers recorder.old.theory rule_not_intro (premise.now.theorem ∷ []) (theorem_in result) }
 {
     let Some(sides) = sides_of(recorder, logic, premise, "==>") else {
         return Err(Fault::BadShape);
@@ -46,6 +51,7 @@ pub fn not_intro(
 }
 
 /// NOT_ELIM: from `~p`, `p ==> F`, in six steps. Refused where the conclusion is no negation.
+#[tactic(auto, using(crate::proofs::InferredRules::infers_not_elim))]
 pub fn not_elim(
     recorder: &mut Recorder,
     alloc: Global,
@@ -56,6 +62,7 @@ pub fn not_elim(
     requires premise { IsMade recorder.old premise.now }
     ensures continues { Continues recorder.old recorder.new result }
     ensures outcome { AnswersStated (theorem_in result) (terms_of_theorem premise.now.theorem) (not_elim_outcome premise.now.theorem) }
+    ensures inferred { Infers recorder.old.theory rule_not_elim (premise.now.theorem ∷ []) (theorem_in result) }
 {
     let Some(part) = negated_of(recorder, logic, premise) else {
         return Err(Fault::BadShape);
@@ -77,6 +84,7 @@ pub fn not_elim(
 
 /// CONTR: from `F`, `p`, in six steps. Refused where the conclusion is not `F`, then where `p` is not of type `bool`, and
 /// then where the theory does not know a type or a constant of it.
+#[tactic(auto, using(crate::proofs::InferredRules::infers_contr))]
 pub fn contr(
     recorder: &mut Recorder,
     alloc: Global,
@@ -88,7 +96,9 @@ pub fn contr(
     requires premise { IsMade recorder.old premise.now }
     ensures continues { Continues recorder.old recorder.new result }
     ensures outcome { AnswersStated (theorem_in result) (image p.now ∷ terms_of_theorem premise.now.theorem) (contr_outcome recorder.old.theory p.now premise.now.theorem) }
+    ensures inferred { Infers recorder.old.theory (rule_contr p.now) (premise.now.theorem ∷ []) (theorem_in result) }
 {
+    let _type = p.ty();
     let conclusion = conclusion_of(recorder, premise);
     if !is_named(conclusion, "F") {
         return Err(Fault::BadShape);

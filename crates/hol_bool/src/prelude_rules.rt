@@ -2,7 +2,6 @@
 ghost use Rattle.std.specs.Prelude.{◌≡◌, ◌<◌, List, [], IfOk, IfErr, OnOk, IfSome, Some, length};
 ghost use Rattle.std.specs.Option.{option_map};
 ghost use Rattle.hol_model.specs.Theory.{IsLegal, generic_type};
-ghost use Rattle.hol_model.specs.Theorem.{IsTheorem};
 ghost use Rattle.hol_model.specs.Logic.{logical_definitions, binary};
 ghost use Rattle.hol_model.specs.NamedLogic.{dest_connected, dest_negation};
 ghost use Rattle.hol_model.specs.Nameless.{Nameless, image};
@@ -16,6 +15,7 @@ ghost use Rattle.hol_bool.specs.Sequents.{Shows, DerivesIf, Continues};
 use crate::equality::named;
 use crate::formula_terms::{Sides, connected_sides, negated_part};
 use crate::lemma::{by_lemma, instance};
+use crate::steps::conclusion_of;
 use crate::stored::{Bool, theorem_of};
 use hol_journal::{Rec, Recorder};
 use hol_model::Fault;
@@ -70,18 +70,6 @@ pub(crate) fn instance_of_theorem(
     named(recorder, alloc, stated, &answer)
 }
 
-/// The conclusion of a theorem that this recorder made.
-pub fn conclusion_of<'a>(recorder: &Recorder, premise: &'a Rec) -> &'a Term
-    requires { IsMade recorder.now premise.now }
-    ensures value { result.now ≡ premise.now.theorem.conclusion }
-    ensures formula { IsFormula recorder.now.theory premise.now.theorem.conclusion }
-    ensures theorem { IsTheorem premise.now.theorem }
-    ensures legal { IsLegal recorder.now.theory }
-{
-    recorder.theory_is_legal();
-    recorder.thm(premise).concl()
-}
-
 /// The sides of a conclusion with the binary connective of this name.
 pub(crate) fn sides_of<'a>(
     recorder: &Recorder,
@@ -93,6 +81,8 @@ pub(crate) fn sides_of<'a>(
     requires name { generic_type logical_definitions name.now ≡ Some binary }
     requires premise { IsMade recorder.now premise.now }
     ensures sides { option_map (λ sides. (sides.left.now, sides.right.now)) result ≡ dest_connected name.now premise.now.theorem.conclusion }
+    ensures formula { IsFormula recorder.now.theory premise.now.theorem.conclusion }
+    ensures legal { IsLegal recorder.now.theory }
     ensures parts { IfSome result (λ sides. AreSides recorder.now.theory name.now premise.now.theorem.conclusion sides.left.now sides.right.now) }
 {
     recorder.theory_is_legal();
@@ -108,6 +98,8 @@ pub(crate) fn negated_of<'a>(
     requires logic { HasLogic recorder.now _logic.now }
     requires premise { IsMade recorder.now premise.now }
     ensures found { option_map (λ part. part.now) result ≡ dest_negation premise.now.theorem.conclusion }
+    ensures formula { IsFormula recorder.now.theory premise.now.theorem.conclusion }
+    ensures legal { IsLegal recorder.now.theory }
     ensures part { IfSome result (λ part. IsNegated recorder.now.theory premise.now.theorem.conclusion part.now) }
 {
     negated_part(conclusion_of(recorder, premise))

@@ -7,9 +7,11 @@ ghost use Rattle.hol_model.specs.Substitution.{close, put_all};
 ghost use Rattle.hol_model.specs.Instantiation.{instantiate_all, replacements_refusal, type_replacements_refusal};
 ghost use Rattle.hol_model.specs.Rules.{dest_equation, assume_outcome};
 ghost use Rattle.hol_model.specs.Outcome.{Answers};
-ghost use Rattle.hol_model.specs.Theory.{IsKnown, IsKnownType};
+ghost use Rattle.hol_model.specs.Theory.{IsKnown, IsKnownType, IsLegal};
+ghost use Rattle.hol_model.specs.Theorem.{IsTheorem};
 ghost use Rattle.hol_model.specs.Derivable.{NotFreeInAny, without, nameless_equation};
 ghost use Rattle.hol_journal.specs.Journal.{IsMade, theorem_in};
+ghost use Rattle.hol_bool.specs.Formulas.{IsFormula};
 ghost use Rattle.hol_bool.specs.Sequents.{Shows, Derives, DerivesInstance, Gives, Continues};
 
 use hol_journal::{Rec, Recorder};
@@ -17,6 +19,18 @@ use hol_model::Fault;
 use hol_terms::Term;
 use hol_types::Ty;
 use std::alloc::Global;
+
+/// The conclusion of a theorem that this recorder made.
+pub fn conclusion_of<'a>(recorder: &Recorder, premise: &'a Rec) -> &'a Term
+    requires { IsMade recorder.now premise.now }
+    ensures value { result.now ≡ premise.now.theorem.conclusion }
+    ensures formula { IsFormula recorder.now.theory premise.now.theorem.conclusion }
+    ensures theorem { IsTheorem premise.now.theorem }
+    ensures legal { IsLegal recorder.now.theory }
+{
+    recorder.theory_is_legal();
+    recorder.thm(premise).concl()
+}
 
 // REFL, of a known term.
 pub(crate) fn refl(recorder: &mut Recorder, alloc: Global, term: &Term) -> Result<Rec, Fault>

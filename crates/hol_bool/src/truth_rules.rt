@@ -1,19 +1,24 @@
 // Rules of truth.
+ghost use Rattle.std.specs.Prelude.{[], ◌∷◌};
 ghost use Rattle.hol_model.specs.DerivedRules.{AnswersStated, terms_of_theorem, eqt_intro_outcome, eqt_elim_outcome};
+ghost use Rattle.hol_model.specs.InferenceRules.{rule_eqt_intro, rule_eqt_elim};
 ghost use Rattle.hol_journal.specs.Journal.{IsMade, theorem_in};
 ghost use Rattle.hol_bool.specs.HasLogic.{HasLogic};
 ghost use Rattle.hol_bool.specs.Sequents.{Continues};
+ghost use Rattle.hol_bool.specs.Inferred.{Infers};
 
 use crate::equality::equation_parts;
 use crate::formula_terms::{equivalence, for_p, is_named, truth};
 use crate::numbers::{EQT_ELIM, EQT_INTRO};
-use crate::prelude_rules::{by_theorem, conclusion_of};
+use crate::prelude_rules::by_theorem;
+use crate::steps::conclusion_of;
 use crate::stored::Bool;
 use hol_journal::{Rec, Recorder};
 use hol_model::Fault;
 use std::alloc::Global;
 
 /// EQT_INTRO: from `p`, `p <=> T`, in six steps.
+#[tactic(auto, using(crate::proofs::InferredRules::infers_eqt_intro))]
 pub fn eqt_intro(
     recorder: &mut Recorder,
     alloc: Global,
@@ -24,6 +29,7 @@ pub fn eqt_intro(
     requires premise { IsMade recorder.old premise.now }
     ensures continues { Continues recorder.old recorder.new result }
     ensures outcome { AnswersStated (theorem_in result) (terms_of_theorem premise.now.theorem) (eqt_intro_outcome premise.now.theorem) }
+    ensures inferred { Infers recorder.old.theory rule_eqt_intro (premise.now.theorem ∷ []) (theorem_in result) }
 {
     let conclusion = conclusion_of(recorder, premise);
     let truth = match truth(alloc) {
@@ -42,6 +48,7 @@ pub fn eqt_intro(
 }
 
 /// EQT_ELIM: from `p <=> T`, `p`, in six steps. Refused where the conclusion is no equation with `T` on its right.
+#[tactic(auto, using(crate::proofs::InferredRules::infers_eqt_elim))]
 pub fn eqt_elim(
     recorder: &mut Recorder,
     alloc: Global,
@@ -52,6 +59,7 @@ pub fn eqt_elim(
     requires premise { IsMade recorder.old premise.now }
     ensures continues { Continues recorder.old recorder.new result }
     ensures outcome { AnswersStated (theorem_in result) (terms_of_theorem premise.now.theorem) (eqt_elim_outcome premise.now.theorem) }
+    ensures inferred { Infers recorder.old.theory rule_eqt_elim (premise.now.theorem ∷ []) (theorem_in result) }
 {
     let conclusion = conclusion_of(recorder, premise);
     let Some(parts) = equation_parts(conclusion) else {

@@ -33,10 +33,9 @@ use Rattle.hol_journal.specs.Journal.{Journal}
 use Rattle.hol_bool.specs.HasLogic.{HasLogic}
 use Rattle.hol_bool.specs.declared.stored.Bool.{Bool as Stored}
 use Rattle.hol_bool.proofs.LogicLemmas.{logical-type}
-use Rattle.hol_quant.specs.DrawnRules.{IsDrawn, IsPremise, Draws}
 use Rattle.hol_quant.proofs.PartLemmas.{IsTyped, typed-at}
-use Rattle.hol_quant.proofs.DrawnTerms.{knows-image, walked, one_premise, two_premises, same_set}
-use Rattle.hol_quant.proofs.DrawnEquality.{other-name, body-image, drawn-of_one}
+use Rattle.hol_bool.proofs.DrawnTerms.{StatesDrawn, IsPremise, Draws, knows-image, walked, one_premise, two_premises, same_set}
+use Rattle.hol_bool.proofs.DrawnEquality.{other-name, body-image, drawn-of_one}
 
 -- ---- parts
 
@@ -124,12 +123,12 @@ walk theory term = go (knows_types theory term) refl (knows_constants theory ter
 pub drawn-gen : (theory : Theory) (x : NamedTerm) (a : Theorem) → Draws theory (rule_gen x) (a ∷ []) (gen_outcome theory x a)
 drawn-gen theory (variable name ty) a = go (knows_type theory ty)
   where
-    passed_or_not : (some : Bool) → IsDrawn (unless (not some) FreeInHypothesis (stated (images a) (named.forall_term name ty a.conclusion)))
+    passed_or_not : (some : Bool) → StatesDrawn (unless (not some) FreeInHypothesis (stated (images a) (named.forall_term name ty a.conclusion)))
         (option_map (λ hypotheses. record { hypotheses = [] ++ hypotheses; conclusion = nameless_formulas.forall_term ty (close name ty (image a.conclusion)) }) (if not some then Some (map unchanged (images a) ++ []) else None))
     passed_or_not false = record { hypotheses = same_set (sym (one_premise (images a))); conclusion = ap (λ (b : Nameless). nameless_formulas.forall_term ty b) (body-image name ty a.conclusion) }
     passed_or_not true = tt
 
-    go : (known : Bool) → IsDrawn (unless known UnknownType (unless (not (is_free_in_some name ty (images a))) FreeInHypothesis (stated (images a) (named.forall_term name ty a.conclusion))))
+    go : (known : Bool) → StatesDrawn (unless known UnknownType (unless (not (is_free_in_some name ty (images a))) FreeInHypothesis (stated (images a) (named.forall_term name ty a.conclusion))))
         (given (require known (conclude (all_without_variable name ty ∷ []) (nameless_formulas.forall_term ty (close name ty (image a.conclusion))))) (λ inference. drawn inference (images a ∷ [])))
     go true = rw (free-in_none name ty (images a)) (passed_or_not (is_free_in_some name ty (images a)))
     go false = tt
@@ -156,14 +155,14 @@ module _ (journal : Journal) (logic : Stored) (has : HasLogic journal logic) (le
     | apart dest is ↦ rw (dest, is) tt
   ]
     where
-      passed_or_not : (all_others : List Nameless) (some : Bool) → IsDrawn (unless (not some) FreeInHypothesis (stated (images a ++ all_others) b.conclusion))
+      passed_or_not : (all_others : List Nameless) (some : Bool) → StatesDrawn (unless (not some) FreeInHypothesis (stated (images a ++ all_others) b.conclusion))
           (option_map (λ hypotheses. record { hypotheses = [] ++ hypotheses; conclusion = image b.conclusion })
           (option_map (λ hypotheses. map unchanged (images a) ++ hypotheses) (if not some then Some (map unchanged all_others ++ []) else None)))
       passed_or_not all_others false = record { hypotheses = same_set (sym (two_premises (images a) all_others)); conclusion = refl }
       passed_or_not all_others true = tt
 
       tests : (parts : Abstracted) (first second : Bool)
-          → IsDrawn (unless (not (first || (second || is_free_in_some name ty (without (body_with parts (variable name ty)) (images b))))) FreeInHypothesis (stated (images a ++ without (body_with parts (variable name ty)) (images b)) b.conclusion))
+          → StatesDrawn (unless (not (first || (second || is_free_in_some name ty (without (body_with parts (variable name ty)) (images b))))) FreeInHypothesis (stated (images a ++ without (body_with parts (variable name ty)) (images b)) b.conclusion))
           (given (require (not (first || second)) (conclude (all ∷ all_but_without_variable (fill (free name ty) (close parts.name parts.ty (image parts.body))) name ty ∷ []) (image b.conclusion))) (λ inference. drawn inference (images a ∷ images b ∷ [])))
       tests parts true second = tt
       tests parts false true = tt
@@ -172,7 +171,7 @@ module _ (journal : Journal) (logic : Stored) (has : HasLogic journal logic) (le
           (passed_or_not (without (body_with parts (variable name ty)) (images b)) (is_free_in_some name ty (without (body_with parts (variable name ty)) (images b))))
 
       go : (parts : Abstracted) → knows_type journal.theory parts.ty ≡ true → (same : Bool) → type_eq parts.ty ty ≡ same
-          → IsDrawn (unless same TypeMismatch (unless (knows_type journal.theory ty) UnknownType
+          → StatesDrawn (unless same TypeMismatch (unless (knows_type journal.theory ty) UnknownType
           (unless (not (is_free_in_some name ty (image a.conclusion ∷ image b.conclusion ∷ without (body_with parts (variable name ty)) (images b)))) FreeInHypothesis
           (stated (images a ++ without (body_with parts (variable name ty)) (images b)) b.conclusion))))
           (given (require (type_eq ty parts.ty && not (occurs_free name ty (image a.conclusion) || occurs_free name ty (image b.conclusion)))
@@ -204,7 +203,7 @@ module _ (journal : Journal) (logic : Stored) (has : HasLogic journal logic) (le
       and_false false = refl
 
       of_witness : (fits : Bool) → Walk journal.theory w → (alike : Bool)
-          → IsDrawn (unless fits TypeMismatch (refused (first_unknown journal.theory w) (unless alike NotAlpha (stated (images a) e))))
+          → StatesDrawn (unless fits TypeMismatch (refused (first_unknown journal.theory w) (unless alike NotAlpha (stated (images a) e))))
           (given (require (fits && is_known journal.theory w && alike) (conclude (all ∷ []) (image e))) (λ inference. drawn inference (images a ∷ [])))
       of_witness true (passes tests none) true = rw (tests, none) (drawn-of_one a e (image e) refl)
       of_witness true (passes tests none) false = rw (tests, none) tt
@@ -221,12 +220,12 @@ module _ (journal : Journal) (logic : Stored) (has : HasLogic journal logic) (le
       unknown : is_known journal.theory e ≡ false → is_known_formula journal.theory (image e) ≡ false
       unknown tests = formula ∙ ap (λ (b : Bool). type_eq ty bool_type && b) tests ∙ and_false (type_eq ty bool_type)
 
-      refuses : (fits : Bool) (fault : Fault) (next : Result Stated Fault) → IsDrawn (unless fits TypeMismatch (refused (Some fault) next)) None
+      refuses : (fits : Bool) (fault : Fault) (next : Result Stated Fault) → StatesDrawn (unless fits TypeMismatch (refused (Some fault) next)) None
       refuses true fault next = tt
       refuses false fault next = tt
 
       of_unknown : (fault : Fault) → is_known journal.theory e ≡ false → first_unknown journal.theory e ≡ Some fault → (found : Option Abstracted) (image_found : Option (HolType × Nameless))
-          → IsDrawn (stated_given found BadShape (λ parts. unless (is_of_type parts.ty w) TypeMismatch (refused (first_unknown journal.theory e) (refused (first_unknown journal.theory w)
+          → StatesDrawn (stated_given found BadShape (λ parts. unless (is_of_type parts.ty w) TypeMismatch (refused (first_unknown journal.theory e) (refused (first_unknown journal.theory w)
           (unless (same_term (body_with parts w) (image a.conclusion)) NotAlpha (stated (images a) e))))))
           (given (given image_found (λ parts. require (is_known_formula journal.theory (image e) && knows_nameless journal.theory (image w) parts.0 && same_term (fill (image w) parts.1) (image a.conclusion))
           (conclude (all ∷ []) (image e)))) (λ inference. drawn inference (images a ∷ [])))

@@ -11,7 +11,5 @@ pub mod ExistsLemmas
 pub mod VariableLemmas
 pub mod ChooseLemmas
 pub mod ChooseAnswers
-pub mod DrawnTerms
-pub mod DrawnEquality
-pub mod DrawnConnectives
 pub mod DrawnQuantifiers
+pub mod InferredQuantifiers

@@ -2,4 +2,3 @@ pub mod PredicateLemmas
 pub mod QuantifiedParts
 pub mod Universals
 pub mod Witnesses
-pub mod DrawnRules

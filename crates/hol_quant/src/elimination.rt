@@ -9,9 +9,11 @@ ghost use Rattle.hol_model.specs.NamedTerm as named;
 ghost use Rattle.hol_model.specs.Nameless.{image, same_term};
 ghost use Rattle.hol_model.specs.Derivable.{NotFreeInAny, without};
 ghost use Rattle.hol_model.specs.DerivedRules.{AnswersStated, images, is_roomy, terms_of_theorem, choose_outcome};
+ghost use Rattle.hol_model.specs.InferenceRules.{rule_choose};
 ghost use Rattle.hol_journal.specs.Journal.{IsMade, theorem_in};
 ghost use Rattle.hol_bool.specs.HasLogic.{HasLogic};
 ghost use Rattle.hol_bool.specs.Sequents.{DerivesIf, Continues};
+ghost use Rattle.hol_bool.specs.Inferred.{Infers};
 ghost use Rattle.hol_quant.specs.Witnesses.{IsAtVariable, existential, redex, witnessed, leave_room};
 
 use crate::generalization::generalized_up_to_names;
@@ -150,7 +152,7 @@ fn eliminated(
 /// CHOOSE: from `?x. p` and `q`, `q` without the hypothesis `p[v/x]`, by the lemma `(?) P |- (!x. P x ==> q) ==> q`,
 /// in 48 steps. Refused where the term is no variable, then where the first conclusion is no `?x. p`, then where the
 /// variable's type is not that of `x`, and then where it is free in `?x. p`, in `q` or in another hypothesis of `q`.
-#[tactic(auto, using(hol_bool::proofs::StepLemmas::still_made, hol_bool::proofs::StepLemmas::now_made))]
+#[tactic(auto, using(crate::proofs::InferredQuantifiers::infers_choose, hol_bool::proofs::StepLemmas::still_made, hol_bool::proofs::StepLemmas::now_made))]
 pub fn choose(
     recorder: &mut Recorder,
     alloc: Global,
@@ -164,11 +166,12 @@ pub fn choose(
     requires second { IsMade recorder.old second.now }
     ensures continues { Continues recorder.old recorder.new result }
     ensures outcome { AnswersStated (theorem_in result) (image variable.now ∷ terms_of_theorem first.now.theorem ++ terms_of_theorem second.now.theorem) (choose_outcome recorder.old.theory variable.now first.now.theorem second.now.theorem) }
+    ensures inferred { Infers recorder.old.theory (rule_choose variable.now) (first.now.theorem ∷ second.now.theorem ∷ []) (theorem_in result) }
 {
+    let formula = conclusion_of(recorder, first);
     let Some((name, ty)) = variable.dest_var() else {
         return Err(Fault::NotVariable);
     };
-    let formula = conclusion_of(recorder, first);
     let Some(parts) = quantified_parts(formula, "?") else {
         return Err(Fault::BadShape);
     };

@@ -11,10 +11,12 @@ ghost use Rattle.hol_model.specs.Derivable.{nameless_equation};
 ghost use Rattle.hol_model.specs.Rules.{first_unknown};
 ghost use Rattle.hol_model.specs.Theory.{IsKnown};
 ghost use Rattle.hol_model.specs.DerivedRules.{AnswersStated, images, is_roomy, terms_of_theorem, exists_outcome};
+ghost use Rattle.hol_model.specs.InferenceRules.{rule_exists};
 ghost use Rattle.hol_journal.specs.Journal.{IsMade, theorem_in};
 ghost use Rattle.hol_bool.specs.HasLogic.{HasLogic};
 ghost use Rattle.hol_bool.specs.Room.{Room, FitsIf};
 ghost use Rattle.hol_bool.specs.Sequents.{Shows, DerivesIf, Continues};
+ghost use Rattle.hol_bool.specs.Inferred.{Infers};
 ghost use Rattle.hol_quant.specs.QuantifiedParts.{IsWitnessed, witnessed_terms};
 
 use crate::generalization::{equal_to_truth, formula_pair};
@@ -168,6 +170,7 @@ fn witnessed(
 /// where the formula is no existential formula, then where the witness is of another type than the variable, then where
 /// the theory does not know a type or a constant of the formula, then of the witness, and then where the conclusion is
 /// not `p[w/x]`.
+#[tactic(auto, using(crate::proofs::InferredQuantifiers::infers_exists))]
 pub fn exists(
     recorder: &mut Recorder,
     alloc: Global,
@@ -180,7 +183,10 @@ pub fn exists(
     requires premise { IsMade recorder.old premise.now }
     ensures continues { Continues recorder.old recorder.new result }
     ensures outcome { AnswersStated (theorem_in result) (image formula.now ∷ image witness.now ∷ terms_of_theorem premise.now.theorem) (exists_outcome recorder.old.theory formula.now witness.now premise.now.theorem) }
+    ensures inferred { Infers recorder.old.theory (rule_exists formula.now witness.now) (premise.now.theorem ∷ []) (theorem_in result) }
 {
+    let _formula_type = formula.ty();
+    let _witness_type = witness.ty();
     recorder.theory_is_legal();
     let Some(parts) = quantified_parts(formula, "?") else {
         return Err(Fault::BadShape);
@@ -204,6 +210,5 @@ pub fn exists(
     if !is_instance {
         return Err(Fault::NotAlpha);
     }
-    let _formula_type = formula.ty();
     witnessed(recorder, alloc, logic, formula, parts, witness, premise)
 }

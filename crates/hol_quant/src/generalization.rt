@@ -10,10 +10,12 @@ ghost use Rattle.hol_model.specs.Nameless.{free, const, app, image};
 ghost use Rattle.hol_model.specs.Derivable.{nameless_equation};
 ghost use Rattle.hol_model.specs.Rules.{is_free_in_hypotheses};
 ghost use Rattle.hol_model.specs.DerivedRules.{AnswersStated, images, terms_of_theorem, gen_outcome};
+ghost use Rattle.hol_model.specs.InferenceRules.{rule_gen};
 ghost use Rattle.hol_journal.specs.Journal.{IsMade, theorem_in};
 ghost use Rattle.hol_bool.specs.HasLogic.{HasLogic};
 ghost use Rattle.hol_bool.specs.Room.{Room, FitsIf};
 ghost use Rattle.hol_bool.specs.Sequents.{Shows, DerivesIf, IsPast, Continues};
+ghost use Rattle.hol_bool.specs.Inferred.{Infers};
 ghost use Rattle.hol_quant.specs.PredicateLemmas.{is_always, over_predicate};
 ghost use Rattle.hol_quant.specs.Universals.{for_all, MayGeneralize, FitsForAll};
 
@@ -203,6 +205,7 @@ fn generalized(
 /// GEN: from `p`, `!x. p`, by the lemmas `p |- p <=> T` and `P = (\x. T) |- (!) P`, in eleven steps. Refused where the
 /// term is no variable, then where the theory does not know a type of its type, and then where it is free in a
 /// hypothesis.
+#[tactic(auto, using(crate::proofs::InferredQuantifiers::infers_gen))]
 pub fn generalize(
     recorder: &mut Recorder,
     alloc: Global,
@@ -214,6 +217,7 @@ pub fn generalize(
     requires premise { IsMade recorder.old premise.now }
     ensures continues { Continues recorder.old recorder.new result }
     ensures outcome { AnswersStated (theorem_in result) (terms_of_theorem premise.now.theorem) (gen_outcome recorder.old.theory binder.now premise.now.theorem) }
+    ensures inferred { Infers recorder.old.theory (rule_gen binder.now) (premise.now.theorem ∷ []) (theorem_in result) }
 {
     let truth_lemma = theorem_of(recorder, logic, numbers::EQT_INTRO);
     let forall_lemma = theorem_of(recorder, logic, numbers::GEN);

@@ -7,10 +7,8 @@ mod generalization;
 mod instances;
 mod parts;
 mod specialization;
-mod table;
 
 pub use elimination::choose;
 pub use existence::exists;
 pub use generalization::generalize;
 pub use specialization::spec;
-pub use table::rules_are_drawn;

@@ -4,14 +4,16 @@ ghost use Rattle.hol_model.specs.Logic.{forall_name, quantifier};
 ghost use Rattle.hol_model.specs.Nameless.{image};
 ghost use Rattle.hol_model.specs.Theory.{generic_type, type_a};
 ghost use Rattle.hol_model.specs.DerivedRules.{AnswersStated, terms_of_theorem, spec_outcome};
+ghost use Rattle.hol_model.specs.InferenceRules.{rule_spec};
 ghost use Rattle.hol_journal.specs.Journal.{IsMade, theorem_in};
 ghost use Rattle.hol_bool.specs.HasLogic.{HasLogic};
 ghost use Rattle.hol_bool.specs.Sequents.{Shows, Continues};
+ghost use Rattle.hol_bool.specs.Inferred.{Infers};
 ghost use Rattle.hol_quant.specs.PredicateLemmas.{applied, over_predicate};
 
 use crate::instances::by_predicate_lemma;
 use crate::parts::quantified_parts;
-use hol_bool::{Bool, converted, eq_mp, numbers, theorem_of};
+use hol_bool::{Bool, conclusion_of, converted, eq_mp, numbers, theorem_of};
 use hol_journal::{Rec, Recorder};
 use hol_model::Fault;
 use hol_terms::Term;
@@ -58,6 +60,7 @@ pub(crate) fn specialized(
 /// SPEC: from `!x. p`, `p[t/x]`, by the lemma `(!) P |- P x`, in seven steps. Refused where the conclusion is no
 /// universal formula, then where the term is of another type than the variable, and then where the theory does not know
 /// a type or a constant of the term.
+#[tactic(auto, using(crate::proofs::InferredQuantifiers::infers_spec))]
 pub fn spec(
     recorder: &mut Recorder,
     alloc: Global,
@@ -69,8 +72,10 @@ pub fn spec(
     requires premise { IsMade recorder.old premise.now }
     ensures continues { Continues recorder.old recorder.new result }
     ensures outcome { AnswersStated (theorem_in result) (image term.now ∷ terms_of_theorem premise.now.theorem) (spec_outcome recorder.old.theory term.now premise.now.theorem) }
+    ensures inferred { Infers recorder.old.theory (rule_spec term.now) (premise.now.theorem ∷ []) (theorem_in result) }
 {
-    recorder.theory_is_legal();
+    let _type = term.ty();
+    let _conclusion = conclusion_of(recorder, premise);
     let lemma = theorem_of(recorder, logic, numbers::SPEC);
     specialized(recorder, alloc, lemma, term, premise)
 }

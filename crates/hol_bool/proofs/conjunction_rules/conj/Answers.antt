@@ -5,6 +5,7 @@ use Rattle.hol_model.specs.DerivedRules.{images, terms_of_theorem, conj_outcome}
 use Rattle.hol_bool.proofs.CutLemmas.{shows-itself}
 use Rattle.hol_bool.proofs.RuleAnswers.{answered}
 use Rattle.hol_bool.proofs.ConjunctionAnswers.{conj-equation-fits, first-roomy, second-roomy}
+use Rattle.hol_bool.proofs.InferredRules.{infers_conj}
 use Rattle.hol_bool.proofs.conjunction_rules.conj.Goals as goal
 
 pub returns-clause-outcome : goal.returns-clause-outcome
@@ -17,3 +18,6 @@ returns-clause-outcome c =
     (λ room roomy. c.joined.ensures.derives (images first) (images second) (image first.conclusion) (image second.conclusion) room (shows-itself first) (shows-itself second)
     (conj-equation-fits room (image first.conclusion) (image second.conclusion) (first-roomy room first second (image both ∷ wanted) roomy) (second-roomy room first second (image both ∷ wanted) roomy)))
     c.joined.ensures.names
+
+pub returns-clause-inferred : goal.returns-clause-inferred
+returns-clause-inferred c = infers_conj (returns-clause-outcome c)

@@ -8,6 +8,7 @@ use Rattle.hol_model.specs.DerivedRules.{stated, images, conjunct2_outcome}
 use Rattle.hol_bool.specs.Prelude.{p, q}
 use Rattle.hol_bool.proofs.CutLemmas.{shows-itself}
 use Rattle.hol_bool.proofs.RuleAnswers.{answered-one, leads-p_q, roomy-fits}
+use Rattle.hol_bool.proofs.InferredRules.{infers_conjunct2}
 use Rattle.hol_bool.proofs.conjunction_rules.conjunct2.Goals as goal
 
 pub returns-clause-outcome : goal.returns-clause-outcome
@@ -24,3 +25,6 @@ returns-clause-outcome c =
     (roomy-fits room (image premise.conclusion) whole) (roomy-fits room (image c.in-Some.sides.right.now) part))
     (shows-itself premise))
     c.by_theorem.ensures.names
+
+pub returns-clause-inferred : goal.returns-clause-inferred
+returns-clause-inferred c = infers_conjunct2 c.requires.logic c.in-Some.ensures.legal c.in-Some.ensures.formula (returns-clause-outcome c)

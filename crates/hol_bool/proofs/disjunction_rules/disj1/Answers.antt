@@ -10,6 +10,7 @@ use Rattle.hol_bool.proofs.CutLemmas.{shows-itself}
 use Rattle.hol_bool.proofs.RoomLemmas.{connected-is, connected-past}
 use Rattle.hol_bool.proofs.RuleAnswers.{roomy-fits}
 use Rattle.hol_bool.proofs.DisjunctionAnswers.{disj1-answered, disj1-leads}
+use Rattle.hol_bool.proofs.InferredRules.{infers_disj1}
 use Rattle.hol_bool.proofs.disjunction_rules.disj1.Goals as goal
 
 pub returns-in-Err-connect-clause-outcome : goal.returns-in-Err-connect-clause-outcome
@@ -23,6 +24,9 @@ returns-in-Err-connect-clause-outcome c =
     disj1-answered (Err fault) c.args.recorder.now.theory b premise passed
     (λ room part whole. connected-past fault or_name a b c.conclusion_of-p.result.now b concluded.formula.typed passed.formula.typed concluded.value refl c.in-Err-connect.ensures room
     (roomy-fits room (image (disjunction a b)) whole)) tt
+
+pub returns-in-Err-connect-clause-inferred : goal.returns-in-Err-connect-clause-inferred
+returns-in-Err-connect-clause-inferred c = infers_disj1 c.ty-type.ensures (returns-in-Err-connect-clause-outcome c)
 
 pub returns-clause-outcome : goal.returns-clause-outcome
 returns-clause-outcome c =
@@ -41,3 +45,6 @@ returns-clause-outcome c =
     (λ leads. c.by_theorem.ensures.derives (images premise) (image a) room leads (shows-itself premise))
     (disj1-leads theory a b terms concluded.formula passed.formula terms_are room (roomy-fits room (image a) part) (roomy-fits room (image (disjunction a b)) whole)))
     (subst (λ (s : NamedTerm). IfOk c.by_theorem.result (λ made. made.theorem.conclusion ≡ s)) stated_is c.by_theorem.ensures.names)
+
+pub returns-clause-inferred : goal.returns-clause-inferred
+returns-clause-inferred c = infers_disj1 c.ty-type.ensures (returns-clause-outcome c)

@@ -10,6 +10,7 @@ use Rattle.hol_bool.proofs.CutLemmas.{shows-itself}
 use Rattle.hol_bool.proofs.RoomLemmas.{connected-is, connected-past}
 use Rattle.hol_bool.proofs.RuleAnswers.{roomy-fits}
 use Rattle.hol_bool.proofs.DisjunctionAnswers.{disj2-answered, disj2-leads}
+use Rattle.hol_bool.proofs.InferredRules.{infers_disj2}
 use Rattle.hol_bool.proofs.disjunction_rules.disj2.Goals as goal
 
 pub returns-in-Err-connect-clause-outcome : goal.returns-in-Err-connect-clause-outcome
@@ -23,6 +24,9 @@ returns-in-Err-connect-clause-outcome c =
     disj2-answered (Err fault) c.args.recorder.now.theory a premise passed
     (λ room part whole. connected-past fault or_name a b a c.conclusion_of-q.result.now passed.formula.typed concluded.formula.typed refl concluded.value c.in-Err-connect.ensures room
     (roomy-fits room (image (disjunction a b)) whole)) tt
+
+pub returns-in-Err-connect-clause-inferred : goal.returns-in-Err-connect-clause-inferred
+returns-in-Err-connect-clause-inferred c = infers_disj2 c.ty-type.ensures (returns-in-Err-connect-clause-outcome c)
 
 pub returns-clause-outcome : goal.returns-clause-outcome
 returns-clause-outcome c =
@@ -41,3 +45,6 @@ returns-clause-outcome c =
     (λ leads. c.by_theorem.ensures.derives (images premise) (image b) room leads (shows-itself premise))
     (disj2-leads theory a b terms passed.formula concluded.formula terms_are room (roomy-fits room (image b) part) (roomy-fits room (image (disjunction a b)) whole)))
     (subst (λ (s : NamedTerm). IfOk c.by_theorem.result (λ made. made.theorem.conclusion ≡ s)) stated_is c.by_theorem.ensures.names)
+
+pub returns-clause-inferred : goal.returns-clause-inferred
+returns-clause-inferred c = infers_disj2 c.ty-type.ensures (returns-clause-outcome c)

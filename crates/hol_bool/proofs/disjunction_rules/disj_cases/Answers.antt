@@ -15,6 +15,7 @@ use Rattle.hol_bool.proofs.CutLemmas.{shows-itself}
 use Rattle.hol_bool.proofs.RuleAnswers.{answered}
 use Rattle.hol_bool.proofs.ConjunctionAnswers.{stated-roomy}
 use Rattle.hol_bool.proofs.DisjunctionAnswers.{left-leaves, right-leaves, cases-set}
+use Rattle.hol_bool.proofs.InferredRules.{infers_disj_cases}
 use Rattle.hol_bool.proofs.disjunction_rules.disj_cases.Goals as goal
 
 pub returns-clause-outcome : goal.returns-clause-outcome
@@ -46,3 +47,6 @@ returns-clause-outcome c =
     (left-leaves room or_name (image p) (image q) whole) (right-leaves room or_name (image p) (image q) whole)
     (stated-roomy room arguments wanted (image r) roomy))
     c.by_cases.ensures.names
+
+pub returns-clause-inferred : goal.returns-clause-inferred
+returns-clause-inferred c = infers_disj_cases c.requires.logic c.in-Some.ensures.legal c.in-Some.ensures.formula (returns-clause-outcome c)

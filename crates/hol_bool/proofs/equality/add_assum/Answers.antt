@@ -2,6 +2,7 @@ use Rattle.std.proofs.Common.{[], ◌∷◌}
 use Rattle.hol_model.specs.Nameless.{image}
 use Rattle.hol_model.specs.DerivedRules.{images}
 use Rattle.hol_bool.proofs.CutLemmas.{assumed, shows-itself, add_assum-stated}
+use Rattle.hol_bool.proofs.InferredRules.{infers_add_assum}
 use Rattle.hol_bool.proofs.equality.add_assum.Goals as goal
 
 pub returns-clause-outcome : goal.returns-clause-outcome
@@ -11,3 +12,6 @@ returns-clause-outcome c =
     let is = assumed c.args.recorder.now.theory p c.in-Ok.assumed.theorem c.in-Ok.ensures.outcome in
     add_assum-stated c.cut.result c.args.recorder.now.theory p c.in-Ok.assumed.theorem premise is
     (c.cut.ensures.derives (image p ∷ []) (images premise) (image p) (image premise.conclusion) is.shows (shows-itself premise)) c.cut.ensures.names
+
+pub returns-clause-inferred : goal.returns-clause-inferred
+returns-clause-inferred c = infers_add_assum c.ty-type.ensures (returns-clause-outcome c)

@@ -14,6 +14,7 @@ use Rattle.hol_model.specs.DerivedRules.{AnswersStated, beta_conv_outcome}
 use Rattle.hol_journal.specs.Journal.{theorem_in}
 use Rattle.hol_kernel.proofs.LimitLemmas.{applied}
 use Rattle.hol_bool.proofs.BetaLemmas.{redex-of, term-is, walked, beta_conv-walk, beta_conv-past, applied-past, trivial_typed, trivial-within, trivial-known, conversion-within, replacement-passes, beta_conv-stated}
+use Rattle.hol_bool.proofs.InferredRules.{infers_beta_conv}
 use Rattle.hol_bool.proofs.equality.beta_conv.Goals as goal
 
 pub returns-in-Err-clause-outcome : goal.returns-in-Err-clause-outcome
@@ -30,6 +31,9 @@ returns-in-Err-clause-outcome c =
     subst (λ (t : NamedTerm). AnswersStated (Err c.in-Err.fault) (image t ∷ []) (beta_conv_outcome theory t)) (sym is)
     (beta_conv-walk theory parts.name parts.ty parts.codomain body argument parts.body_typed parts.argument_typed c.in-Err.fault
     (subst (λ (t : NamedTerm). Answers {A = Theorem} (Err c.in-Err.fault) (refl_outcome theory t)) is (rw c.theory.ensures at c.in-Err.ensures.outcome)))
+
+pub returns-in-Err-clause-inferred : goal.returns-in-Err-clause-inferred
+returns-in-Err-clause-inferred c = infers_beta_conv c.ty-type.ensures (returns-in-Err-clause-outcome c)
 
 pub returns-in-Err-mk_comb-clause-outcome : goal.returns-in-Err-mk_comb-clause-outcome
 returns-in-Err-mk_comb-clause-outcome c =
@@ -51,6 +55,9 @@ returns-in-Err-mk_comb-clause-outcome c =
     (subst (λ (b : NamedTerm). Answers {A = NamedTerm} (Err c.in-Err-mk_comb.fault) (combination_outcome function b)) parts.binder_is c.in-Err-mk_comb.ensures.outcome)))
     (trivial-within theory parts.name parts.ty parts.codomain body argument parts.body_typed parts.argument_typed))
 
+pub returns-in-Err-mk_comb-clause-inferred : goal.returns-in-Err-mk_comb-clause-inferred
+returns-in-Err-mk_comb-clause-inferred c = infers_beta_conv c.ty-type.ensures (returns-in-Err-mk_comb-clause-outcome c)
+
 pub returns-in-Err-beta-clause-outcome : goal.returns-in-Err-beta-clause-outcome
 returns-in-Err-beta-clause-outcome c =
     let theory = c.args.recorder.now.theory in
@@ -71,6 +78,9 @@ returns-in-Err-beta-clause-outcome c =
     (beta_conv-past theory parts.name parts.ty parts.codomain body argument parts.body_typed parts.argument_typed c.in-Err-beta.fault (nameless_within_limits (nameless_equation parts.codomain (app (lam parts.ty (close parts.name parts.ty (image body))) (free parts.name parts.ty)) (image body))) none
     (c.in-Err-beta.ensures.derives parts.name parts.ty parts.codomain body trivial_is parts.body_typed known)
     (conversion-within theory parts.name parts.ty parts.codomain body argument parts.body_typed parts.argument_typed))
+
+pub returns-in-Err-beta-clause-inferred : goal.returns-in-Err-beta-clause-inferred
+returns-in-Err-beta-clause-inferred c = infers_beta_conv c.ty-type.ensures (returns-in-Err-beta-clause-outcome c)
 
 pub returns-clause-outcome : goal.returns-clause-outcome
 returns-clause-outcome c =
@@ -98,3 +108,6 @@ returns-clause-outcome c =
     subst (λ (t : NamedTerm). AnswersStated (theorem_in c.inst.result) (image t ∷ []) (beta_conv_outcome theory t)) (sym is)
     (beta_conv-stated theory parts.name parts.ty parts.codomain body argument parts.body_typed parts.argument_typed c.inst.result none theta theta_is
     (c.inst.ensures.derives passes [] (nameless_equation parts.codomain (app (lam parts.ty (close parts.name parts.ty (image body))) (free parts.name parts.ty)) (image body)) converted))
+
+pub returns-clause-inferred : goal.returns-clause-inferred
+returns-clause-inferred c = infers_beta_conv c.ty-type.ensures (returns-clause-outcome c)

@@ -6,6 +6,7 @@ use Rattle.hol_model.specs.DerivedRules.{images, stated, terms_of_theorem, disch
 use Rattle.hol_bool.proofs.CutLemmas.{shows-itself}
 use Rattle.hol_bool.proofs.RuleAnswers.{answered}
 use Rattle.hol_bool.proofs.ImplicationAnswers.{disch-fits}
+use Rattle.hol_bool.proofs.InferredRules.{infers_disch}
 use Rattle.hol_bool.proofs.implication_rules.disch.Goals as goal
 
 pub returns-clause-outcome : goal.returns-clause-outcome
@@ -20,3 +21,6 @@ returns-clause-outcome c =
     (λ room roomy. c.discharged.ensures.derives (images premise) (image premise.conclusion) room (shows-itself premise)
     (disch-fits room (image p) (image premise.conclusion) (roomy (image p) (inl refl)) (roomy (image premise.conclusion) (inr (inl refl)))))
     c.discharged.ensures.names
+
+pub returns-clause-inferred : goal.returns-clause-inferred
+returns-clause-inferred c = infers_disch c.ty-type.ensures (returns-clause-outcome c)

@@ -11,6 +11,7 @@ use Rattle.hol_bool.specs.Sequents.{Shows}
 use Rattle.hol_bool.proofs.CutLemmas.{shows-itself}
 use Rattle.hol_bool.proofs.RuleAnswers.{answered}
 use Rattle.hol_bool.proofs.ConjunctionAnswers.{mp-equation-fits, first-roomy, stated-roomy, swapped-set}
+use Rattle.hol_bool.proofs.InferredRules.{infers_mp}
 use Rattle.hol_bool.proofs.implication_rules.mp.Goals as goal
 
 pub returns-clause-outcome : goal.returns-clause-outcome
@@ -34,3 +35,6 @@ returns-clause-outcome c =
     (mp-equation-fits room (image a) (image b) (subst (λ (t : Nameless). room ≡ true → IsSized 1000 5000 t) (ap image parts.is) (first-roomy room first second (image b ∷ wanted) roomy))
     (stated-roomy room (terms_of_theorem first ++ terms_of_theorem second) wanted (image b) roomy)))
     c.implied.ensures.names
+
+pub returns-clause-inferred : goal.returns-clause-inferred
+returns-clause-inferred c = infers_mp c.requires.logic c.in-Some.ensures.legal c.in-Some.ensures.formula (returns-clause-outcome c)

@@ -9,6 +9,7 @@ use Rattle.hol_bool.specs.Sequents.{Shows}
 use Rattle.hol_bool.proofs.CutLemmas.{shows-itself}
 use Rattle.hol_bool.proofs.RuleAnswers.{answered}
 use Rattle.hol_bool.proofs.ConjunctionAnswers.{mp-equation-fits, stated-roomy}
+use Rattle.hol_bool.proofs.InferredRules.{infers_undisch}
 use Rattle.hol_bool.proofs.implication_rules.undisch.Goals as goal
 
 pub returns-clause-outcome : goal.returns-clause-outcome
@@ -27,3 +28,6 @@ returns-clause-outcome c =
     (mp-equation-fits room (image a) (image b) (subst (λ (t : Nameless). room ≡ true → IsSized 1000 5000 t) (ap image parts.is) (roomy (image premise.conclusion) (inl refl)))
     (stated-roomy room (terms_of_theorem premise) wanted (image b) roomy)))
     c.implied.ensures.names
+
+pub returns-clause-inferred : goal.returns-clause-inferred
+returns-clause-inferred c = infers_undisch c.requires.logic c.in-Some.ensures.legal c.in-Some.ensures.formula (returns-clause-outcome c)

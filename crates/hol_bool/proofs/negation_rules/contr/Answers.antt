@@ -7,6 +7,7 @@ use Rattle.hol_bool.specs.Prelude.{p}
 use Rattle.hol_bool.proofs.CutLemmas.{shows-itself}
 use Rattle.hol_bool.proofs.FormulaLemmas.{false-is}
 use Rattle.hol_bool.proofs.RuleAnswers.{answered, leads-p, roomy-fits}
+use Rattle.hol_bool.proofs.InferredRules.{infers_contr}
 use Rattle.hol_bool.proofs.negation_rules.contr.Goals as goal
 
 pub returns-clause-outcome : goal.returns-clause-outcome
@@ -25,3 +26,6 @@ returns-clause-outcome c =
     (roomy-fits room (image premise.conclusion) (roomy (image premise.conclusion) (inr (inl refl)))) (roomy-fits room (image a) (roomy (image a) (inl refl))))
     (shows-itself premise))
     c.by_theorem.ensures.names
+
+pub returns-clause-inferred : goal.returns-clause-inferred
+returns-clause-inferred c = infers_contr c.requires.logic c.conclusion_of-conclusion.ensures.legal c.ty-type.ensures c.conclusion_of-conclusion.ensures.formula (returns-clause-outcome c)

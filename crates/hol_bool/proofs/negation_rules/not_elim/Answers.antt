@@ -12,6 +12,7 @@ use Rattle.hol_bool.specs.Sequents.{DerivesIf}
 use Rattle.hol_bool.proofs.CutLemmas.{shows-itself}
 use Rattle.hol_bool.proofs.RoomLemmas.{connected-is, connected-past}
 use Rattle.hol_bool.proofs.RuleAnswers.{answered-one, leads-p, roomy-fits}
+use Rattle.hol_bool.proofs.InferredRules.{infers_not_elim}
 use Rattle.hol_bool.proofs.negation_rules.not_elim.Goals as goal
 
 pub returns-in-Err-connect-clause-outcome : goal.returns-in-Err-connect-clause-outcome
@@ -22,6 +23,9 @@ returns-in-Err-connect-clause-outcome c =
     (ap (λ (o : Option NamedTerm). given o BadShape (λ part. stated (images premise) (implication part false_term))) (sym c.in-Some.ensures.found))
     (λ room whole part. connected-past c.in-Err-connect.fault implies_name a false_term a c.in-Ok.falsity c.in-Some.ensures.part.formula.typed refl refl c.in-Ok.ensures.ok c.in-Err-connect.ensures room
     (roomy-fits room (image (implication a false_term)) part)) tt
+
+pub returns-in-Err-connect-clause-inferred : goal.returns-in-Err-connect-clause-inferred
+returns-in-Err-connect-clause-inferred c = infers_not_elim c.requires.logic c.in-Some.ensures.legal c.in-Some.ensures.formula (returns-in-Err-connect-clause-outcome c)
 
 pub returns-clause-outcome : goal.returns-clause-outcome
 returns-clause-outcome c =
@@ -39,3 +43,6 @@ returns-clause-outcome c =
     (leads-p theory 23 (negation p) (implication p false_term) a terms refl refl negated.formula (c.deref.ensures.value ∙ c.in-Ok-for_p.ensures.ok) room (image premise.conclusion) (image (implication a false_term)) (ap image negated.is) refl
     (roomy-fits room (image premise.conclusion) whole) (roomy-fits room (image (implication a false_term)) part)))
     (subst (λ (s : NamedTerm). IfOk c.by_theorem.result (λ made. made.theorem.conclusion ≡ s)) stated_is c.by_theorem.ensures.names)
+
+pub returns-clause-inferred : goal.returns-clause-inferred
+returns-clause-inferred c = infers_not_elim c.requires.logic c.in-Some.ensures.legal c.in-Some.ensures.formula (returns-clause-outcome c)

@@ -12,6 +12,7 @@ use Rattle.hol_bool.proofs.CutLemmas.{shows-itself}
 use Rattle.hol_bool.proofs.RoomLemmas.{negation-is}
 use Rattle.hol_bool.proofs.FormulaLemmas.{false-is}
 use Rattle.hol_bool.proofs.RuleAnswers.{answered-one, leads-p, roomy-fits}
+use Rattle.hol_bool.proofs.InferredRules.{infers_not_intro}
 use Rattle.hol_bool.proofs.negation_rules.not_intro.Goals as goal
 
 pub returns-in-Err-clause-outcome : goal.returns-in-Err-clause-outcome
@@ -24,6 +25,9 @@ returns-in-Err-clause-outcome c =
     (ap (λ (o : Option (NamedTerm × NamedTerm)). given o BadShape (λ sides. unless (is_false sides.1) BadShape (stated (images premise) (negation sides.0)))) (sym c.in-Some.ensures.sides)
     ∙ ap (λ test. unless test BadShape (stated (images premise) (negation a))) false_right)
     (λ room whole part. c.in-Err.ensures room c.in-Some.ensures.parts.left_formula.typed (roomy-fits room (image (negation a)) part)) tt
+
+pub returns-in-Err-clause-inferred : goal.returns-in-Err-clause-inferred
+returns-in-Err-clause-inferred c = infers_not_intro c.requires.logic c.in-Some.ensures.legal c.in-Some.ensures.formula (returns-in-Err-clause-outcome c)
 
 pub returns-clause-outcome : goal.returns-clause-outcome
 returns-clause-outcome c =
@@ -46,3 +50,6 @@ returns-clause-outcome c =
     (leads-p journal.theory 22 (implication p false_term) (negation p) a terms refl refl parts.left_formula (c.deref.ensures.value ∙ c.in-Ok-for_p.ensures.ok) room (image premise.conclusion) (image (negation a)) premise_is refl
     (roomy-fits room (image premise.conclusion) whole) (roomy-fits room (image (negation a)) part)))
     (subst (λ (s : NamedTerm). IfOk c.by_theorem.result (λ made. made.theorem.conclusion ≡ s)) stated_is c.by_theorem.ensures.names)
+
+pub returns-clause-inferred : goal.returns-clause-inferred
+returns-clause-inferred c = infers_not_intro c.requires.logic c.in-Some.ensures.legal c.in-Some.ensures.formula (returns-clause-outcome c)

@@ -10,6 +10,7 @@ use Rattle.hol_bool.specs.Prelude.{p}
 use Rattle.hol_bool.proofs.CutLemmas.{shows-itself}
 use Rattle.hol_bool.proofs.FormulaLemmas.{sides_as, truth-equation}
 use Rattle.hol_bool.proofs.RuleAnswers.{answered-one, leads-p, roomy-fits}
+use Rattle.hol_bool.proofs.InferredRules.{infers_eqt_elim}
 use Rattle.hol_bool.proofs.truth_rules.eqt_elim.Goals as goal
 
 pub returns-clause-outcome : goal.returns-clause-outcome
@@ -30,3 +31,6 @@ returns-clause-outcome c =
     (roomy-fits room (image premise.conclusion) whole) (roomy-fits room (image a) part))
     (shows-itself premise))
     c.by_theorem.ensures.names
+
+pub returns-clause-inferred : goal.returns-clause-inferred
+returns-clause-inferred c = infers_eqt_elim c.requires.logic c.conclusion_of-conclusion.ensures.legal c.conclusion_of-conclusion.ensures.formula (returns-clause-outcome c)

@@ -12,6 +12,7 @@ use Rattle.hol_bool.proofs.CutLemmas.{shows-itself}
 use Rattle.hol_bool.proofs.RoomLemmas.{equation-is, equation-past}
 use Rattle.hol_bool.proofs.RuleAnswers.{answered-one, leads-p, roomy-fits}
 use Rattle.hol_bool.proofs.TruthAnswers.{truth-fits}
+use Rattle.hol_bool.proofs.InferredRules.{infers_eqt_intro}
 use Rattle.hol_bool.proofs.truth_rules.eqt_intro.Goals as goal
 
 pub returns-in-Err-equivalence-clause-outcome : goal.returns-in-Err-equivalence-clause-outcome
@@ -23,6 +24,9 @@ returns-in-Err-equivalence-clause-outcome c =
     answered-one (Err fault) premise (equation a true_term) (eqt_intro_outcome premise) refl
     (λ room whole part. equation-past fault a true_term c.conclusion_of-conclusion.result.now c.in-Ok.truth typed refl c.conclusion_of-conclusion.ensures.value c.in-Ok.ensures.ok c.in-Err-equivalence.ensures room (truth-fits room (image a) whole))
     tt
+
+pub returns-in-Err-equivalence-clause-inferred : goal.returns-in-Err-equivalence-clause-inferred
+returns-in-Err-equivalence-clause-inferred c = infers_eqt_intro c.conclusion_of-conclusion.ensures.formula (returns-in-Err-equivalence-clause-outcome c)
 
 pub returns-clause-outcome : goal.returns-clause-outcome
 returns-clause-outcome c =
@@ -41,3 +45,6 @@ returns-clause-outcome c =
     (leads-p theory 9 p (equation p true_term) a c.deref.result.now refl refl formula (c.deref.ensures.value ∙ c.in-Ok-for_p.ensures.ok ∙ ap (λ (t : NamedTerm). (t, p) ∷ []) concludes) room (image a) (image (equation a true_term)) refl image_is
     (roomy-fits room (image a) whole) (roomy-fits room (image (equation a true_term)) part)))
     (subst (λ (s : NamedTerm). IfOk c.by_theorem.result (λ made. made.theorem.conclusion ≡ s)) stated_is c.by_theorem.ensures.names)
+
+pub returns-clause-inferred : goal.returns-clause-inferred
+returns-clause-inferred c = infers_eqt_intro c.conclusion_of-conclusion.ensures.formula (returns-clause-outcome c)

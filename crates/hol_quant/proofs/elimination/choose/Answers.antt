@@ -11,6 +11,7 @@ use Rattle.hol_bool.proofs.LogicLemmas.{logical-type}
 use Rattle.hol_bool.proofs.RuleAnswers.{memory-stated}
 use Rattle.hol_quant.proofs.ChooseLemmas.{others-free}
 use Rattle.hol_quant.proofs.ChooseAnswers.{choose-parts, quantified-type, choose-mismatch, choose-start, body-typed, others, others-are, tested-are, choose-free, choose-fresh, choose-answers}
+use Rattle.hol_quant.proofs.InferredQuantifiers.{infers_choose}
 use Rattle.hol_quant.proofs.elimination.choose.Goals as goal
 
 pub returns-then-not-eq-clause-outcome : goal.returns-then-not-eq-clause-outcome
@@ -32,6 +33,9 @@ returns-then-not-eq-clause-outcome c =
     let type_is = quantified-type theory first.conclusion function binder body quantified c.ty.result.now c.ty.ensures in
     choose-mismatch theory term first second function binder body name ty (image term ∷ terms_of_theorem first ++ terms_of_theorem second) dest quantified
     (ap (λ t. type_eq t ty) type_is ∙ sym c.eq.ensures.value ∙ c.if-not-eq.true)
+
+pub returns-then-not-eq-clause-inferred : goal.returns-then-not-eq-clause-inferred
+returns-then-not-eq-clause-inferred c = infers_choose c.requires.logic c.conclusion_of-formula.ensures.legal c.conclusion_of-formula.ensures.formula (returns-then-not-eq-clause-outcome c)
 
 pub returns-in-Err-clause-outcome : goal.returns-in-Err-clause-outcome
 returns-in-Err-clause-outcome c =
@@ -55,6 +59,9 @@ returns-in-Err-clause-outcome c =
     let typed = body-typed theory term first second function binder body name ty chosen in
     memory-stated c.in-Err.fault (image term ∷ terms_of_theorem first ++ terms_of_theorem second) (choose_outcome theory term first second)
     (c.in-Err.ensures.err at.name at.other at.ty typed at.binder_is at.argument_is)
+
+pub returns-in-Err-clause-inferred : goal.returns-in-Err-clause-inferred
+returns-in-Err-clause-inferred c = infers_choose c.requires.logic c.conclusion_of-formula.ensures.legal c.conclusion_of-formula.ensures.formula (returns-in-Err-clause-outcome c)
 
 pub returns-then-is_free-clause-outcome : goal.returns-then-is_free-clause-outcome
 returns-then-is_free-clause-outcome c =
@@ -82,6 +89,9 @@ returns-then-is_free-clause-outcome c =
     choose-free theory term first second function binder body name ty chosen
     (tested-are theory term first second function binder body name ty chosen true (is_free name ty second.conclusion) (is_free_in_some name ty (others theory term first second function binder body name ty chosen)) (first_is ∙ c.if-is_free.true) refl refl)
 
+pub returns-then-is_free-clause-inferred : goal.returns-then-is_free-clause-inferred
+returns-then-is_free-clause-inferred c = infers_choose c.requires.logic c.conclusion_of-formula.ensures.legal c.conclusion_of-formula.ensures.formula (returns-then-is_free-clause-outcome c)
+
 pub returns-then-is_free-2-clause-outcome : goal.returns-then-is_free-2-clause-outcome
 returns-then-is_free-2-clause-outcome c =
     let journal = c.args.recorder.now in
@@ -108,6 +118,9 @@ returns-then-is_free-2-clause-outcome c =
     let second_is = ap (is_free name ty) (sym (c.concl.ensures.value ∙ ap (λ (t : Theorem). t.conclusion) c.thm-theorem.ensures)) ∙ sym c.is_free-2.ensures in
     choose-free theory term first second function binder body name ty chosen
     (tested-are theory term first second function binder body name ty chosen false true (is_free_in_some name ty (others theory term first second function binder body name ty chosen)) (first_is ∙ c.if-is_free.false) (second_is ∙ c.if-is_free-2.true) refl)
+
+pub returns-then-is_free-2-clause-inferred : goal.returns-then-is_free-2-clause-inferred
+returns-then-is_free-2-clause-inferred c = infers_choose c.requires.logic c.conclusion_of-formula.ensures.legal c.conclusion_of-formula.ensures.formula (returns-then-is_free-2-clause-outcome c)
 
 pub returns-then-is_free_in_others-clause-outcome : goal.returns-then-is_free_in_others-clause-outcome
 returns-then-is_free_in_others-clause-outcome c =
@@ -139,6 +152,9 @@ returns-then-is_free_in_others-clause-outcome c =
     ∙ ap (list_any (λ h. not (same_term (image h) (image witness)) && is_free name ty h)) (sym hypotheses_are) ∙ sym c.is_free_in_others.ensures in
     choose-free theory term first second function binder body name ty chosen
     (tested-are theory term first second function binder body name ty chosen false false true (first_is ∙ c.if-is_free.false) (second_is ∙ c.if-is_free-2.false) (third_is ∙ c.if-is_free_in_others.true))
+
+pub returns-then-is_free_in_others-clause-inferred : goal.returns-then-is_free_in_others-clause-inferred
+returns-then-is_free_in_others-clause-inferred c = infers_choose c.requires.logic c.conclusion_of-formula.ensures.legal c.conclusion_of-formula.ensures.formula (returns-then-is_free_in_others-clause-outcome c)
 
 pub eliminated-requires-clause-at : goal.eliminated-requires-clause-at
 eliminated-requires-clause-at c =
@@ -191,3 +207,6 @@ returns-clause-outcome c =
     let fresh = tested-are theory term first second function binder body name ty chosen false false false (first_is ∙ c.if-is_free.false) (second_is ∙ c.if-is_free-2.false) (third_is ∙ c.if-is_free_in_others.false) in
     choose-answers theory term first second function binder body name ty chosen c.eliminated.result fresh
     (c.eliminated.ensures.derives at chosen.formula_image (choose-fresh theory term first second function binder body name ty chosen fresh)) c.eliminated.ensures.names
+
+pub returns-clause-inferred : goal.returns-clause-inferred
+returns-clause-inferred c = infers_choose c.requires.logic c.conclusion_of-formula.ensures.legal c.conclusion_of-formula.ensures.formula (returns-clause-outcome c)

@@ -3,10 +3,14 @@ use Rattle.hol_model.specs.Logic.{forall_name, quantifier}
 use Rattle.hol_model.specs.Theory.{type_a}
 use Rattle.hol_bool.proofs.LogicLemmas.{logical-type}
 use Rattle.hol_quant.proofs.PreludeParts.{forall-shows}
+use Rattle.hol_quant.proofs.InferredQuantifiers.{infers_spec}
 use Rattle.hol_quant.proofs.specialization.spec.Goals as goal
 
 pub specialized-requires-clause-shows : goal.specialized-requires-clause-shows
 specialized-requires-clause-shows c = forall-shows c.theorem_of-lemma.result.now.theorem c.theorem_of-lemma.ensures.theorem
 
 pub specialized-requires-clause-generic : goal.specialized-requires-clause-generic
-specialized-requires-clause-generic c = logical-type c.args.recorder.now c.args.logic.now c.requires.logic c.theory_is_legal.ensures forall_name (quantifier type_a) refl
+specialized-requires-clause-generic c = logical-type c.args.recorder.now c.args.logic.now c.requires.logic c.conclusion_of-conclusion.ensures.legal forall_name (quantifier type_a) refl
+
+pub returns-clause-inferred : goal.returns-clause-inferred
+returns-clause-inferred c = infers_spec c.requires.logic c.conclusion_of-conclusion.ensures.legal c.ty-type.ensures c.conclusion_of-conclusion.ensures.formula c.specialized.ensures.outcome

@@ -20,17 +20,16 @@ use Rattle.hol_model.specs.Inference.{unchanged, require, is_known_term, given, 
 use Rattle.hol_model.proofs.Images.{image-equation, image-abstraction}
 use Rattle.hol_model.proofs.Tests.{same_term-Decides, same_variable-self}
 use Rattle.hol_kernel.proofs.RuleLemmas.{IsEquation, sides}
-use Rattle.hol_quant.specs.DrawnRules.{IsStated, IsDrawn, IsPremise, Draws}
-use Rattle.hol_quant.proofs.DrawnTerms.{walked, walked_known, one_premise, two_premises, same_set}
+use Rattle.hol_bool.proofs.DrawnTerms.{IsStated, StatesDrawn, IsPremise, Draws, walked, walked_known, one_premise, two_premises, same_set}
 
 -- a rule whose hypotheses are those of one premise
 pub drawn-of_one : (theorem : Theorem) (conclusion : NamedTerm) (found : Nameless) → image conclusion ≡ found
-    → IsDrawn (stated (images theorem) conclusion) (given (conclude (all ∷ []) found) (λ inference. drawn inference (images theorem ∷ [])))
+    → StatesDrawn (stated (images theorem) conclusion) (given (conclude (all ∷ []) found) (λ inference. drawn inference (images theorem ∷ [])))
 drawn-of_one theorem conclusion found same = record { hypotheses = same_set (sym (one_premise (images theorem))); conclusion = same }
 
 -- a rule whose hypotheses are those of two premises
 pub drawn-of_two : (first second : Theorem) (conclusion : NamedTerm) (found : Nameless) → image conclusion ≡ found
-    → IsDrawn (stated (images first ++ images second) conclusion) (given (conclude (all ∷ all ∷ []) found) (λ inference. drawn inference (images first ∷ images second ∷ [])))
+    → StatesDrawn (stated (images first ++ images second) conclusion) (given (conclude (all ∷ all ∷ []) found) (λ inference. drawn inference (images first ∷ images second ∷ [])))
 drawn-of_two first second conclusion found same = record { hypotheses = same_set (sym (two_premises (images first) (images second))); conclusion = same }
 
 -- a constant of another name is another constant
@@ -73,7 +72,7 @@ pub drawn-sym : (theory : Theory) → IsLegal theory → (a : Theorem) → IsPre
 drawn-sym theory legal a premise = go (dest_equation a.conclusion) refl
   where
     go : (found : Option (NamedTerm × NamedTerm)) → dest_equation a.conclusion ≡ found
-        → IsDrawn (stated_given found NotEquation (λ sides. stated (images a) (equation sides.1 sides.0))) (given (given (nameless.dest_equation (image a.conclusion)) (λ e. conclude (all ∷ []) (nameless_equation e.ty e.right e.left))) (λ inference. drawn inference (images a ∷ [])))
+        → StatesDrawn (stated_given found NotEquation (λ sides. stated (images a) (equation sides.1 sides.0))) (given (given (nameless.dest_equation (image a.conclusion)) (λ e. conclude (all ∷ []) (nameless_equation e.ty e.right e.left))) (λ inference. drawn inference (images a ∷ [])))
     go None is = rw (no-equation a.conclusion is) tt
     go (Some (left, right)) is =
         let e = sides theory legal a.conclusion left right premise.known is in
@@ -125,7 +124,7 @@ pub drawn-beta_conv : (theory : Theory) (t : NamedTerm) (ty : HolType) → type_
 drawn-beta_conv theory (combination (abstraction name s body) argument) ty typed =
     let redex : NamedTerm = combination (abstraction name s body) argument in
     let filled : Nameless = nameless_equation (nameless_type [] (image redex)) (image redex) (fill (image argument) (close name s (image body))) in
-    subst (λ (b : Nameless). IsDrawn (refused (first_unknown theory redex) (stated_up_to_names [] filled))
+    subst (λ (b : Nameless). StatesDrawn (refused (first_unknown theory redex) (stated_up_to_names [] filled))
     (given (require (is_known_term theory (image redex)) (conclude [] (nameless_equation (nameless_type [] (image redex)) (image redex) (fill (image argument) b)))) (λ inference. drawn inference [])))
     (sym (body-image name s body))
     (walked_known theory redex ty typed (stated_up_to_names [] filled) (record { passing = []; supposed = []; conclusion = filled }) (λ inference. drawn inference [])

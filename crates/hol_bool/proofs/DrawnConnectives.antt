@@ -26,14 +26,13 @@ use Rattle.hol_bool.specs.HasLogic.{HasLogic}
 use Rattle.hol_bool.specs.Formulas.{IsFormula, AreSides, IsNegated}
 use Rattle.hol_bool.specs.declared.stored.Bool.{Bool as Stored}
 use Rattle.hol_bool.proofs.LogicLemmas.{logical-type, connected-parts, negated-part, constant-is}
-use Rattle.hol_quant.specs.DrawnRules.{IsDrawn, IsPremise, Draws}
-use Rattle.hol_quant.proofs.DrawnTerms.{walked, not-constant, one_premise, two_premises, unchanged_all, same_set}
-use Rattle.hol_quant.proofs.DrawnEquality.{other-name, drawn-of_one, drawn-of_two}
+use Rattle.hol_bool.proofs.DrawnTerms.{StatesDrawn, IsPremise, Draws, walked, not-constant, one_premise, two_premises, unchanged_all, same_set}
+use Rattle.hol_bool.proofs.DrawnEquality.{other-name, drawn-of_one, drawn-of_two}
 
 -- ---- parts
 
 -- the image of a term without the connective has none
-not-applied : (name : List ℕ) (s : HolType) (term : NamedTerm) → named.dest_connected name term ≡ None → nameless.dest_binary name s (image term) ≡ None
+pub not-applied : (name : List ℕ) (s : HolType) (term : NamedTerm) → named.dest_connected name term ≡ None → nameless.dest_binary name s (image term) ≡ None
 not-applied name s (combination (combination (constant other ty) left) right) none = go (bytes_eq other name) refl none
   where
     go : (test : Bool) → bytes_eq other name ≡ test → if◌then◌else◌ {A = Option (NamedTerm × NamedTerm)} test (Some (left, right)) None ≡ None
@@ -51,7 +50,7 @@ not-applied name s (constant other ty) none = refl
 not-applied name s (abstraction other ty body) none = refl
 
 -- an equation is taken apart as a connective is
-equation-connected : (term : NamedTerm) → dest_equation term ≡ named.dest_connected equality_name term
+pub equation-connected : (term : NamedTerm) → dest_equation term ≡ named.dest_connected equality_name term
 equation-connected (combination (combination (constant other ty) left) right) = refl
 equation-connected (combination (combination (variable other ty) left) right) = refl
 equation-connected (combination (combination (combination f x) left) right) = refl
@@ -133,7 +132,7 @@ module _ (journal : Journal) (logic : Stored) (has : HasLogic journal logic) (le
     | apart dest shown ↦ rw (dest, shown) tt
   ]
     where
-      go : (left right : NamedTerm) (test : Bool) → IsDrawn (unless test NotAlpha (stated (images a ++ images b) right))
+      go : (left right : NamedTerm) (test : Bool) → StatesDrawn (unless test NotAlpha (stated (images a ++ images b) right))
           (given (require test (conclude (all ∷ all ∷ []) (image right))) (λ inference. drawn inference (images a ∷ images b ∷ [])))
       go left right true = drawn-of_two a b right (image right) refl
       go left right false = tt
@@ -147,7 +146,7 @@ module _ (journal : Journal) (logic : Stored) (has : HasLogic journal logic) (le
       passes : (p q : Nameless) → (images a ++ without p (images b) ++ without q (images c)) ≡ (map unchanged (images a) ++ (map unchanged (without p (images b)) ++ (map unchanged (without q (images c)) ++ [])))
       passes p q = append_assoc (images a) (without p (images b)) (without q (images c)) ∙ (λ i. sym (unchanged_all (images a)) i ++ sym (two_premises (without p (images b)) (without q (images c))) i)
 
-      go : (left right : NamedTerm) (test : Bool) → IsDrawn (unless test NotAlpha (stated (images a ++ without (image left) (images b) ++ without (image right) (images c)) b.conclusion))
+      go : (left right : NamedTerm) (test : Bool) → StatesDrawn (unless test NotAlpha (stated (images a ++ without (image left) (images b) ++ without (image right) (images c)) b.conclusion))
           (given (require test (conclude (all ∷ all_but (image left) ∷ all_but (image right) ∷ []) (image b.conclusion))) (λ inference. drawn inference (images a ∷ images b ∷ images c ∷ [])))
       go left right true = record { hypotheses = same_set (passes (image left) (image right)); conclusion = refl }
       go left right false = tt
@@ -156,7 +155,7 @@ module _ (journal : Journal) (logic : Stored) (has : HasLogic journal logic) (le
   drawn-not_elim a premise = go (named.dest_negation a.conclusion) refl
     where
       go : (found : Option NamedTerm) → named.dest_negation a.conclusion ≡ found
-          → IsDrawn (stated_given found BadShape (λ p. stated (images a) (named.implication p named.false_term)))
+          → StatesDrawn (stated_given found BadShape (λ p. stated (images a) (named.implication p named.false_term)))
           (given (given (nameless.dest_negation (image a.conclusion)) (λ p. conclude (all ∷ []) (nameless_formulas.implication p nameless_formulas.false_term))) (λ inference. drawn inference (images a ∷ [])))
       go None is = rw (not-negation a.conclusion is) tt
       go (Some p) is =
@@ -180,7 +179,7 @@ module _ (journal : Journal) (logic : Stored) (has : HasLogic journal logic) (le
     | apart dest shown ↦ rw (dest, shown) tt
   ]
     where
-      go : (left : NamedTerm) (test : Bool) → IsDrawn (unless test BadShape (stated (images a) (named.negation left)))
+      go : (left : NamedTerm) (test : Bool) → StatesDrawn (unless test BadShape (stated (images a) (named.negation left)))
           (given (require test (conclude (all ∷ []) (nameless.negation (image left)))) (λ inference. drawn inference (images a ∷ [])))
       go left true = drawn-of_one a (named.negation left) (nameless.negation (image left)) refl
       go left false = tt
@@ -188,7 +187,7 @@ module _ (journal : Journal) (logic : Stored) (has : HasLogic journal logic) (le
   pub drawn-contr : (p : NamedTerm) (ty : HolType) (a : Theorem) → type_of p ≡ Some ty → IsPremise journal.theory a → Draws journal.theory (rule_contr p) (a ∷ []) (contr_outcome journal.theory p a)
   drawn-contr p ty a typed premise = rw (same-constant false_name refl a.conclusion bool_type premise.known) (go (named.is_false a.conclusion))
     where
-      go : (test : Bool) → IsDrawn (unless test BadShape (unless (is_formula p) NotBool (refused (first_unknown journal.theory p) (stated (images a) p))))
+      go : (test : Bool) → StatesDrawn (unless test BadShape (unless (is_formula p) NotBool (refused (first_unknown journal.theory p) (stated (images a) p))))
           (given (require (test && is_known_formula journal.theory (image p)) (conclude (all ∷ []) (image p))) (λ inference. drawn inference (images a ∷ [])))
       go true =
           walked journal.theory p ty bool_type typed NotBool (stated (images a) p) (record { passing = all ∷ []; supposed = []; conclusion = image p }) (λ inference. drawn inference (images a ∷ []))
@@ -200,7 +199,7 @@ module _ (journal : Journal) (logic : Stored) (has : HasLogic journal logic) (le
     where
       at_type : (left right : NamedTerm) (s : HolType) (test : Bool) → same_variable equality_name (equality_type bool_type) equality_name (equality_type s) ≡ test → (truth : Bool) → named.is_true right ≡ truth
           → same_term (image right) nameless_formulas.true_term ≡ truth → IsKnown journal.theory (image right) s
-          → IsDrawn (unless truth BadShape (stated (images a) left))
+          → StatesDrawn (unless truth BadShape (stated (images a) left))
           (given (given (if◌then◌else◌ {A = Option (Nameless × Nameless)} test (Some (image left, image right)) None) (λ sides. require (same_term sides.1 nameless_formulas.true_term) (conclude (all ∷ []) sides.0))) (λ inference. drawn inference (images a ∷ [])))
       at_type left right s true tested true is shown known = rw shown (drawn-of_one a left (image left) refl)
       at_type left right s true tested false is shown known = rw shown tt
@@ -213,7 +212,7 @@ module _ (journal : Journal) (logic : Stored) (has : HasLogic journal logic) (le
           cc
 
       go : (found : Option (NamedTerm × NamedTerm)) → dest_equation a.conclusion ≡ found
-          → IsDrawn (stated_given found BadShape (λ sides. unless (named.is_true sides.1) BadShape (stated (images a) sides.0)))
+          → StatesDrawn (stated_given found BadShape (λ sides. unless (named.is_true sides.1) BadShape (stated (images a) sides.0)))
           (given (given (nameless.dest_equivalence (image a.conclusion)) (λ sides. require (same_term sides.1 nameless_formulas.true_term) (conclude (all ∷ []) sides.0))) (λ inference. drawn inference (images a ∷ [])))
       go None is = rw (not-applied equality_name (equality_type bool_type) a.conclusion (sym (equation-connected a.conclusion) ∙ is)) tt
       go (Some (left, right)) is =

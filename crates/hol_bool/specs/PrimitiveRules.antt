@@ -1,0 +1,37 @@
+-- The primitive rules and the axioms, as the kernel answers them, by the table of rules.
+use Rattle.std.specs.Prelude.{◌≡◌, List, [], ◌∷◌, Some, Result, Ok}
+use Rattle.hol_model.specs.declared.fault.Fault.{Fault}
+use Rattle.hol_model.specs.HolType.{HolType}
+use Rattle.hol_model.specs.NamedTerm.{NamedTerm, type_of}
+use Rattle.hol_model.specs.Theory.{Theory, IsLegal}
+use Rattle.hol_model.specs.Theorem.{Theorem}
+use Rattle.hol_model.specs.Outcome.{Answers, AnswersSuch}
+use Rattle.hol_model.specs.Rules.{refl_outcome, assume_outcome, beta_outcome, trans_outcome, eq_mp_outcome, mk_comb_outcome, abs_outcome, deduct_antisym_outcome}
+use Rattle.hol_model.specs.InferenceRules.{InferenceRule, rule_refl, rule_trans, rule_mk_comb, rule_abs, rule_beta, rule_assume, rule_eq_mp, rule_deduct_antisym, rule_inst, rule_inst_type, rule_eta_axiom, rule_select_axiom}
+use Rattle.hol_model.specs.Instantiation.{inst_refusal, IsInst, inst_type_refusal, IsInstType}
+use Rattle.hol_bool.specs.Formulas.{IsFormula}
+use Rattle.hol_bool.specs.Derivations.{axiom_theorem}
+use Rattle.hol_bool.specs.Inferred.{Infers}
+use Rattle.hol_bool.specs.declared.derivation.Axiom.TheVariants as axioms
+
+-- a call that answers the rule's outcome answers what is drawn
+abbrev pub OutcomeInfers : Theory → InferenceRule → List Theorem → Result Theorem Fault → Type 0
+OutcomeInfers theory rule premises outcome = (result : Result Theorem Fault) → Answers result outcome → Infers theory rule premises result
+
+-- each rule, over terms that have a type and premises that the theory knows
+pub record OutcomesInfer (theory : Theory) : Type 0 where
+  pub refl : (t : NamedTerm) (ty : HolType) → type_of t ≡ Some ty → OutcomeInfers theory (rule_refl t) [] (refl_outcome theory t)
+  pub assume : (p : NamedTerm) (ty : HolType) → type_of p ≡ Some ty → OutcomeInfers theory (rule_assume p) [] (assume_outcome theory p)
+  pub beta : (t : NamedTerm) (ty : HolType) → type_of t ≡ Some ty → OutcomeInfers theory (rule_beta t) [] (beta_outcome theory t)
+  pub trans : (a b : Theorem) → IsFormula theory a.conclusion → IsFormula theory b.conclusion → OutcomeInfers theory rule_trans (a ∷ b ∷ []) (trans_outcome theory a b)
+  pub eq_mp : (a b : Theorem) → IsFormula theory a.conclusion → IsFormula theory b.conclusion → OutcomeInfers theory rule_eq_mp (a ∷ b ∷ []) (eq_mp_outcome theory a b)
+  pub mk_comb : (a b : Theorem) → IsFormula theory a.conclusion → IsFormula theory b.conclusion → OutcomeInfers theory rule_mk_comb (a ∷ b ∷ []) (mk_comb_outcome theory a b)
+  pub abs : (x : NamedTerm) (a : Theorem) → IsFormula theory a.conclusion → OutcomeInfers theory (rule_abs x) (a ∷ []) (abs_outcome theory x a)
+  pub deduct_antisym : (a b : Theorem) → IsFormula theory a.conclusion → OutcomeInfers theory rule_deduct_antisym (a ∷ b ∷ []) (deduct_antisym_outcome theory a b)
+  pub inst : (theta : List (NamedTerm × NamedTerm)) (a : Theorem) (result : Result Theorem Fault) → AnswersSuch result (inst_refusal theory theta a) (IsInst theory theta a) → Infers theory (rule_inst theta) (a ∷ []) result
+  pub inst_type : (theta : List (HolType × HolType)) (a : Theorem) (result : Result Theorem Fault) → AnswersSuch result (inst_type_refusal theory theta a) (IsInstType theory theta a) → Infers theory (rule_inst_type theta) (a ∷ []) result
+  pub eta : OutcomeInfers theory rule_eta_axiom [] (Ok (axiom_theorem axioms.Eta theory))
+  pub select : OutcomeInfers theory rule_select_axiom [] (Ok (axiom_theorem axioms.Select theory))
+
+abbrev pub PrimitiveRulesInfer : Type 0
+PrimitiveRulesInfer = (theory : Theory) → IsLegal theory → OutcomesInfer theory
