@@ -9,9 +9,9 @@ use Rattle.hol_model.specs.Derivable.{IsSameSet}
 use Rattle.hol_model.specs.Theorem.{Theorem}
 use Rattle.hol_journal.specs.Journal.{Journal, Recorded}
 use Rattle.hol_bool.specs.Axioms.{IsAxiom}
-use Rattle.hol_bool.specs.Prelude.{prelude_theorems, shown}
-use Rattle.hol_bool.specs.Sequents.{Shows, DerivesIf, Continues}
-use Rattle.hol_bool.proofs.CutLemmas.{shows-itself}
+use Rattle.hol_prelude.specs.Prelude.{prelude_theorems, shown}
+use Rattle.hol_equal.specs.Sequents.{Shows, DerivesIf, Continues}
+use Rattle.hol_equal.proofs.CutLemmas.{shows-itself}
 
 -- the theorem of the number
 pub axiom-is : (number : ℕ) (conclusion : NamedTerm) (theorem : Theorem) → IsAxiom number conclusion → slice_get prelude_theorems number ≡ Some theorem → shown [] conclusion ≡ theorem

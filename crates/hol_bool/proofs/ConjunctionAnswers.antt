@@ -12,10 +12,11 @@ use Rattle.hol_model.specs.NamedLogic.{conjunction, implication}
 use Rattle.hol_model.specs.DerivedRules.{terms_of_theorem}
 use Rattle.hol_model.proofs.Images.{image-equation}
 use Rattle.hol_model.proofs.Membership.{of_append, IsMember-append_left, IsMember-append_right}
-use Rattle.hol_bool.specs.Prelude.{p, q}
-use Rattle.hol_bool.specs.Formulas.{IsFormula}
-use Rattle.hol_bool.specs.Room.{IsSized, FitsIf, LeadsTo, at_p_q}
-use Rattle.hol_bool.proofs.Sizes.{sized-more, sized-equation}
+use Rattle.hol_prelude.specs.Prelude.{p, q}
+use Rattle.hol_equal.specs.Formulas.{IsFormula}
+use Rattle.hol_equal.specs.Room.{IsSized, FitsIf}
+use Rattle.hol_bool.specs.PreludeInstances.{LeadsTo, at_p_q}
+use Rattle.hol_equal.proofs.Sizes.{sized-more, sized-equation}
 use Rattle.hol_bool.proofs.RoomLemmas.{fits-argument, fits-left}
 use Rattle.hol_bool.proofs.RuleAnswers.{Roomy, leads-p_q, sized-connected, sized-fits}
 

@@ -15,14 +15,15 @@ use Rattle.hol_model.specs.DerivedRules.{Stated, AnswersStated, images, stated, 
 use Rattle.hol_model.proofs.Tests.{first_of_both, second_of_both}
 use Rattle.hol_model.proofs.Membership.{of_append, IsMember-append_left, IsMember-append_right}
 use Rattle.hol_journal.specs.Journal.{Journal, Recorded, theorem_in}
-use Rattle.hol_bool.specs.Prelude.{p, q, r}
-use Rattle.hol_bool.specs.Sequents.{DerivesIf}
-use Rattle.hol_bool.specs.HasLogic.{HasLogic}
-use Rattle.hol_bool.specs.Formulas.{IsFormula, IsPassed}
-use Rattle.hol_bool.specs.Room.{IsSized, FitsIf, MakesIf, LeadsTo, at_p_q, at_p_q_r}
+use Rattle.hol_prelude.specs.Prelude.{p, q, r}
+use Rattle.hol_equal.specs.Sequents.{DerivesIf}
+use Rattle.hol_prelude.specs.HasLogic.{HasLogic}
+use Rattle.hol_equal.specs.Formulas.{IsFormula, IsPassed}
+use Rattle.hol_equal.specs.Room.{IsSized, FitsIf, MakesIf}
 use Rattle.hol_bool.specs.Disjunctions.{LeavesRoomIf, other_case, both_cases}
-use Rattle.hol_bool.specs.declared.stored.Bool.{Bool as Stored}
-use Rattle.hol_bool.proofs.Sizes.{sized-more, sized-equation}
+use Rattle.hol_prelude.specs.declared.stored.Bool.{Bool as Stored}
+use Rattle.hol_bool.specs.PreludeInstances.{LeadsTo, at_p_q, at_p_q_r}
+use Rattle.hol_equal.proofs.Sizes.{sized-more, sized-equation}
 use Rattle.hol_bool.proofs.LogicLemmas.{logical-type}
 use Rattle.hol_bool.proofs.FormulaLemmas.{connected-formula}
 use Rattle.hol_bool.proofs.RoomLemmas.{connected-typed}

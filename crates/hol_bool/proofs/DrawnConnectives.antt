@@ -22,12 +22,12 @@ use Rattle.hol_model.proofs.Images.{image-type}
 use Rattle.hol_model.proofs.Known.{equation-sides}
 use Rattle.hol_kernel.proofs.RuleLemmas.{sides}
 use Rattle.hol_journal.specs.Journal.{Journal}
-use Rattle.hol_bool.specs.HasLogic.{HasLogic}
-use Rattle.hol_bool.specs.Formulas.{IsFormula, AreSides, IsNegated}
-use Rattle.hol_bool.specs.declared.stored.Bool.{Bool as Stored}
+use Rattle.hol_prelude.specs.HasLogic.{HasLogic}
+use Rattle.hol_equal.specs.Formulas.{IsFormula, AreSides, IsNegated}
+use Rattle.hol_prelude.specs.declared.stored.Bool.{Bool as Stored}
 use Rattle.hol_bool.proofs.LogicLemmas.{logical-type, connected-parts, negated-part, constant-is}
-use Rattle.hol_bool.proofs.DrawnTerms.{StatesDrawn, IsPremise, Draws, walked, not-constant, one_premise, two_premises, unchanged_all, same_set}
-use Rattle.hol_bool.proofs.DrawnEquality.{other-name, drawn-of_one, drawn-of_two}
+use Rattle.hol_equal.proofs.DrawnTerms.{StatesDrawn, IsPremise, Draws, walked, not-constant, one_premise, two_premises, unchanged_all, same_set}
+use Rattle.hol_equal.proofs.DrawnEquality.{other-name, drawn-of_one, drawn-of_two}
 
 -- ---- parts
 

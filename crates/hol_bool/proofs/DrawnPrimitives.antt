@@ -29,15 +29,15 @@ use Rattle.hol_model.proofs.Images.{image-equation, image-abstraction, image-typ
 use Rattle.hol_kernel.proofs.HypothesesLemmas.{with_hypotheses-same_set, image-without_hypothesis}
 use Rattle.hol_kernel.proofs.RuleLemmas.{sides}
 use Rattle.hol_journal.specs.Steps.{sequent_of_theorem}
-use Rattle.hol_bool.specs.Sequents.{Shows}
-use Rattle.hol_bool.specs.Inferred.{IsDrawn, Infers}
+use Rattle.hol_equal.specs.Sequents.{Shows}
+use Rattle.hol_equal.specs.Inferred.{IsDrawn, Infers}
 use Rattle.hol_model.proofs.Checks.{knows_nameless-Decides}
-use Rattle.hol_bool.specs.Derivations.{axiom_theorem}
-use Rattle.hol_bool.specs.declared.derivation.Axiom.TheVariants as axioms
-use Rattle.hol_bool.proofs.CutLemmas.{shows-itself}
-use Rattle.hol_bool.proofs.StepLemmas.{changed-shows}
-use Rattle.hol_bool.proofs.DrawnTerms.{IsPremise, knows-image, walked_by, walked_known_by, one_premise, two_premises, same_set}
-use Rattle.hol_bool.proofs.DrawnEquality.{no-equation, equation-drawn}
+use Rattle.hol_derivations.specs.Derivations.{axiom_theorem}
+use Rattle.hol_derivations.specs.declared.derivation.Axiom.TheVariants as axioms
+use Rattle.hol_equal.proofs.CutLemmas.{shows-itself}
+use Rattle.hol_equal.proofs.StepLemmas.{changed-shows}
+use Rattle.hol_equal.proofs.DrawnTerms.{IsPremise, knows-image, walked_by, walked_known_by, one_premise, two_premises, same_set}
+use Rattle.hol_equal.proofs.DrawnEquality.{no-equation, equation-drawn}
 use Rattle.hol_bool.proofs.DrawnConnectives.{not-applied, equation-connected}
 
 abbrev Gives : Result Theorem Fault → Option Sequent → Type 0

@@ -13,19 +13,14 @@ use Rattle.hol_model.specs.Theorem.{Theorem, IsTheorem}
 use Rattle.hol_model.specs.Rules.{dest_equation, is_formula, assume_outcome}
 use Rattle.hol_model.proofs.HolTypeEq.{type_eq-Decides}
 use Rattle.hol_kernel.proofs.RuleLemmas.{known_term}
-use Rattle.hol_journal.specs.Journal.{Journal, Recorded, IsMade}
-use Rattle.hol_journal.proofs.Showing.{formula_of, sides_of}
-use Rattle.hol_bool.specs.HasLogic.{HasLogic}
-use Rattle.hol_bool.specs.Formulas.{IsFormula, AreSides, IsNegated, IsPassed}
-use Rattle.hol_bool.specs.declared.stored.Bool.{Bool as Stored}
-use Rattle.hol_bool.proofs.CutLemmas.{assumed, conclusion-known}
+use Rattle.hol_journal.specs.Journal.{Journal}
+use Rattle.hol_journal.proofs.Showing.{sides_of}
+use Rattle.hol_prelude.specs.HasLogic.{HasLogic}
+use Rattle.hol_equal.specs.Formulas.{IsFormula, AreSides, IsNegated, IsPassed}
+use Rattle.hol_prelude.specs.declared.stored.Bool.{Bool as Stored}
+use Rattle.hol_equal.proofs.CutLemmas.{assumed}
 use Rattle.hol_bool.proofs.RoomLemmas.{connected-typed}
 use Rattle.hol_bool.proofs.LogicLemmas.{logical-type, connected-parts, negated-part, constant-is}
-
-pub conclusion-formula : (journal : Journal) → IsLegal journal.theory → (made : Recorded) → IsMade journal made → (theorem : Theorem) → theorem ≡ made.theorem → IsTheorem theorem → IsFormula journal.theory made.theorem.conclusion
-conclusion-formula journal legal made is_made theorem same is =
-    let is_theorem = subst (λ (t : Theorem). IsTheorem t) same is in
-    record { typed = formula_of made.theorem is_theorem; known = conclusion-known journal legal made is_made is_theorem }
 
 abbrev pub sides_in : {S : Type 0} → (S → NamedTerm) → (S → NamedTerm) → Option S → Option (NamedTerm × NamedTerm)
 sides_in left right found = option_map (λ s. (left s, right s)) found

@@ -10,11 +10,12 @@ use Rattle.hol_model.specs.Logic as nameless
 use Rattle.hol_model.specs.Logic.{binary, and_name, implies_name}
 use Rattle.hol_model.specs.NamedLogic.{conjunction, implication}
 use Rattle.hol_model.proofs.Tests.{both, same_term-Decides}
-use Rattle.hol_bool.specs.Prelude.{p, q}
-use Rattle.hol_bool.specs.Formulas.{IsFormula}
-use Rattle.hol_bool.specs.Room.{IsSized, FitsIf, LeadsTo, at_p_q}
-use Rattle.hol_bool.proofs.Sizes.{sized-equation}
-use Rattle.hol_bool.proofs.LemmaLemmas.{without-itself}
+use Rattle.hol_prelude.specs.Prelude.{p, q}
+use Rattle.hol_equal.specs.Formulas.{IsFormula}
+use Rattle.hol_equal.specs.Room.{IsSized, FitsIf}
+use Rattle.hol_bool.specs.PreludeInstances.{LeadsTo, at_p_q}
+use Rattle.hol_equal.proofs.Sizes.{sized-equation}
+use Rattle.hol_equal.proofs.LemmaLemmas.{without-itself}
 use Rattle.hol_bool.proofs.RoomLemmas.{fits-argument, fits-left}
 use Rattle.hol_bool.proofs.ConjunctionAnswers.{conj_equation}
 use Rattle.hol_bool.proofs.RuleAnswers.{leads-p_q, sized-connected, sized-fits}

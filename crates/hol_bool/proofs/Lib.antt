@@ -1,13 +1,3 @@
-pub mod StepLemmas
-pub mod Sizes
-pub mod CutLemmas
-pub mod SymLemmas
-pub mod LemmaLemmas
-pub mod DerivationSize
-pub mod DerivationLemmas
-pub mod PreludeLemmas
-pub mod BetaLemmas
-pub mod ConversionLemmas
 pub mod LogicLemmas
 pub mod RoomLemmas
 pub mod PreludeSteps
@@ -18,8 +8,6 @@ pub mod ConjunctionAnswers
 pub mod ImplicationAnswers
 pub mod DisjunctionAnswers
 pub mod AxiomLemmas
-pub mod DrawnTerms
-pub mod DrawnEquality
 pub mod DrawnConnectives
 pub mod InferredRules
 pub mod DrawnPrimitives

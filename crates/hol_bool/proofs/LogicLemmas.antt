@@ -1,9 +1,8 @@
 -- What a recorder with the prelude has: its theorems, the types of the logical constants, and the parts of formulas.
-use Rattle.std.proofs.Common.{◌≡◌, ◌<◌, ℕ, List, [], ◌∷◌, ◌++◌, length, Bool, true, false, refl, sym, ◌∙◌, ap, subst, Option, Some, None, if◌then◌else◌}
+use Rattle.std.proofs.Common.{◌≡◌, ℕ, List, [], ◌∷◌, ◌++◌, Bool, true, false, refl, sym, ◌∙◌, ap, subst, Option, Some, None, if◌then◌else◌}
 use Rattle.std.specs.Prelude.{slice_get}
 use Rattle.std.specs.Option.{option_map}
 use Rattle.std.specs.Str.{bytes_eq}
-use Rattle.std.proofs.lemmas.List.{length-map}
 use Rattle.std.proofs.lemmas.Option.{slice_get-map}
 use Rattle.std.proofs.lemmas.Slice.Eq.{bytes_eq-Decides}
 use Rattle.hol_model.specs.HolType.{HolType, bool_type, instantiate_type}
@@ -16,27 +15,11 @@ use Rattle.hol_model.specs.NamedLogic.{false_term, is_constant_named, dest_conne
 use Rattle.hol_model.proofs.Later.{head_is_new, rest_is_legal, generic_type-later}
 use Rattle.hol_model.proofs.Images.{image-type}
 use Rattle.hol_journal.specs.Journal.{Journal, Recorded}
-use Rattle.hol_journal.proofs.GrowthLemmas.{journals-grow}
-use Rattle.hol_bool.specs.declared.stored.Bool.{Bool as Stored}
-use Rattle.hol_bool.specs.Derivations.{theorems}
-use Rattle.hol_bool.specs.Prelude.{prelude_theorems, shown, p}
-use Rattle.hol_bool.specs.HasLogic.{HasLogic, LogicStays}
-use Rattle.hol_bool.specs.Formulas.{IsFormula, AreSides, IsNegated}
-
-pub logic-stays : LogicStays
-logic-stays old new logic grown has = record {
-  theorems_are = has.theorems_are;
-  made = record { each = λ number made there. journals-grow.stays old new made grown (has.made.each number made there) };
-}
-
--- the theorem of a number
-
-pub stored-within : (all : List Recorded) (number : ℕ) → theorems all ≡ prelude_theorems → number < length prelude_theorems → number < length all
-stored-within all number are within = let same : length all ≡ length prelude_theorems = sym (length-map all (λ made. made.theorem)) ∙ ap length are in subst (λ n. number < n) (sym same) within
-
-pub stored-is : (all : List Recorded) (number : ℕ) (made : Recorded) → theorems all ≡ prelude_theorems → slice_get all number ≡ Some made → slice_get prelude_theorems number ≡ Some made.theorem
-stored-is all number made are there =
-    ap (λ (l : List Theorem). slice_get l number) (sym are) ∙ slice_get-map (λ made. made.theorem) all number ∙ ap (option_map (λ (m : Recorded). m.theorem)) there
+use Rattle.hol_prelude.specs.declared.stored.Bool.{Bool as Stored}
+use Rattle.hol_derivations.specs.Derivations.{theorems}
+use Rattle.hol_prelude.specs.Prelude.{prelude_theorems, shown, p}
+use Rattle.hol_prelude.specs.HasLogic.{HasLogic}
+use Rattle.hol_equal.specs.Formulas.{IsFormula, AreSides, IsNegated}
 
 -- the theory
 

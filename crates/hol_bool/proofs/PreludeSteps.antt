@@ -14,15 +14,16 @@ use Rattle.hol_model.specs.KnownTerm.{knows_types, knows_constants, has_instance
 use Rattle.hol_model.specs.Instantiation.{instantiate_all, replacements_refusal}
 use Rattle.hol_model.proofs.NamedTests.{is_known-Decides}
 use Rattle.hol_journal.specs.Journal.{Journal, Recorded}
-use Rattle.hol_bool.specs.Prelude.{prelude_theorems, shown}
-use Rattle.hol_bool.specs.Sequents.{Shows, Continues, instance_of}
-use Rattle.hol_bool.specs.HasLogic.{HasLogic}
-use Rattle.hol_bool.specs.Formulas.{IsFormula}
-use Rattle.hol_bool.specs.Room.{FitsIf, LeadsTo, Says, at_p, at_p_q, at_p_q_r}
-use Rattle.hol_bool.specs.declared.stored.Bool.{Bool as Stored}
-use Rattle.hol_bool.proofs.Sizes.{sized-equation, sized-within}
+use Rattle.hol_prelude.specs.Prelude.{prelude_theorems, shown}
+use Rattle.hol_equal.specs.Sequents.{Shows, Continues, instance_of}
+use Rattle.hol_prelude.specs.HasLogic.{HasLogic}
+use Rattle.hol_equal.specs.Formulas.{IsFormula}
+use Rattle.hol_equal.specs.Room.{FitsIf}
+use Rattle.hol_prelude.specs.declared.stored.Bool.{Bool as Stored}
+use Rattle.hol_bool.specs.PreludeInstances.{LeadsTo, Says, at_p, at_p_q, at_p_q_r}
+use Rattle.hol_equal.proofs.Sizes.{sized-equation, sized-within}
 use Rattle.hol_bool.proofs.RoomLemmas.{fits-within}
-use Rattle.hol_bool.proofs.LogicLemmas.{logic-stays}
+use Rattle.hol_prelude.proofs.StoredLemmas.{logic-stays}
 
 -- the prelude stays
 pub still_logical : (old new : Journal) (result : Result Recorded Fault) (logic : Stored) → Continues old new result → HasLogic old logic → HasLogic new logic

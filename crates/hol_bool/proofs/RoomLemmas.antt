@@ -13,10 +13,10 @@ use Rattle.hol_model.specs.Constructors.{combination_outcome}
 use Rattle.hol_model.proofs.Images.{image-equation}
 use Rattle.hol_model.proofs.Tests.{first_of_both, second_of_both}
 use Rattle.hol_kernel.proofs.LimitLemmas.{applied}
-use Rattle.hol_bool.specs.Sequents.{IsPast}
-use Rattle.hol_bool.specs.Room.{FitsIf, MakesIf}
-use Rattle.hol_bool.proofs.Sizes.{sized-within, past-room}
-use Rattle.hol_bool.proofs.BetaLemmas.{applied-past}
+use Rattle.hol_equal.specs.Sequents.{IsPast}
+use Rattle.hol_equal.specs.Room.{FitsIf, MakesIf}
+use Rattle.hol_equal.proofs.Sizes.{sized-within, past-room}
+use Rattle.hol_equal.proofs.BetaLemmas.{applied-past}
 
 pub fits-within : (room : Bool) (term : Nameless) → FitsIf room term → room ≡ true → nameless_within_limits term ≡ true
 fits-within room term fits is = sized-within 1900 900000 term (fits is) (omega arith) (omega arith)

@@ -14,13 +14,14 @@ use Rattle.hol_model.specs.Logic.{binary}
 use Rattle.hol_model.specs.Instantiation.{instantiate_all}
 use Rattle.hol_model.specs.DerivedRules.{Stated, AnswersStated, named, stated, images, terms_of_theorem, is_roomy}
 use Rattle.hol_journal.specs.Journal.{Recorded, theorem_in}
-use Rattle.hol_bool.specs.Prelude.{prelude_theorems, shown}
-use Rattle.hol_bool.specs.Sequents.{DerivesIf, instance_of}
-use Rattle.hol_bool.specs.Formulas.{IsFormula}
-use Rattle.hol_bool.specs.Room.{IsSized, FitsIf, LeadsTo, Says, at_p, at_p_q, at_p_q_r}
-use Rattle.hol_bool.proofs.StepLemmas.{member_passes}
-use Rattle.hol_bool.proofs.Sizes.{leaves_room, sized-more, sized-app}
-use Rattle.hol_bool.proofs.CutLemmas.{answers-stated}
+use Rattle.hol_prelude.specs.Prelude.{prelude_theorems, shown}
+use Rattle.hol_equal.specs.Sequents.{DerivesIf, instance_of}
+use Rattle.hol_equal.specs.Formulas.{IsFormula}
+use Rattle.hol_equal.specs.Room.{IsSized, FitsIf}
+use Rattle.hol_bool.specs.PreludeInstances.{LeadsTo, Says, at_p, at_p_q, at_p_q_r}
+use Rattle.hol_equal.proofs.StepLemmas.{member_passes}
+use Rattle.hol_equal.proofs.Sizes.{leaves_room, sized-more, sized-app}
+use Rattle.hol_equal.proofs.CutLemmas.{answers-stated}
 use Rattle.hol_bool.proofs.PreludeSteps.{p-passes, p_q-passes, p_q_r-passes}
 
 -- no memory is an answer of each rule

@@ -4,8 +4,8 @@ use Rattle.hol_model.specs.HolType.{bool_type}
 use Rattle.hol_model.specs.NamedLogic.{true_term}
 use Rattle.hol_model.specs.Nameless.{Nameless, image}
 use Rattle.hol_model.specs.Derivable.{nameless_equation}
-use Rattle.hol_bool.specs.Room.{IsSized, FitsIf}
-use Rattle.hol_bool.proofs.Sizes.{sized-equation}
+use Rattle.hol_equal.specs.Room.{IsSized, FitsIf}
+use Rattle.hol_equal.proofs.Sizes.{sized-equation}
 use Rattle.hol_bool.proofs.RuleAnswers.{sized-fits}
 
 sized-truth : IsSized 1000 1 (image true_term)

@@ -9,7 +9,7 @@ use Rattle.hol_model.specs.Logic.{predicate}
 use Rattle.hol_model.specs.Derivable.{nameless_equation}
 use Rattle.hol_model.specs.NamedAxioms.{eta_conclusion, select_hypothesis, select_conclusion}
 use Rattle.hol_model.specs.NamedLogic.{implication, forall_term}
-use Rattle.hol_bool.specs.Prelude.{prelude_theorems, shown}
+use Rattle.hol_prelude.specs.Prelude.{prelude_theorems, shown}
 
 -- ETA_AX: !t. (\x. t x) = t
 abbrev pub eta_axiom : NamedTerm

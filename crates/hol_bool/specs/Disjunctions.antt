@@ -3,7 +3,7 @@ use Rattle.std.specs.Prelude.{◌≡◌, true}
 use Rattle.hol_model.specs.NamedTerm.{NamedTerm}
 use Rattle.hol_model.specs.Nameless.{Nameless}
 use Rattle.hol_model.specs.NamedLogic.{implication}
-use Rattle.hol_bool.specs.Room.{Room, IsSized}
+use Rattle.hol_equal.specs.Room.{Room, IsSized}
 
 -- (q ==> r) ==> r
 abbrev pub other_case : NamedTerm → NamedTerm → NamedTerm

@@ -1,14 +1,4 @@
-pub mod Sequents
-pub mod HasLogic
-pub mod Room
-pub mod Formulas
-pub mod Sketches
-pub mod Derivations
-pub mod Makings
-pub mod Prelude
-pub mod Laws
-pub mod Conversions
+pub mod PreludeInstances
 pub mod Disjunctions
 pub mod Axioms
-pub mod Inferred
 pub mod PrimitiveRules

@@ -9,10 +9,10 @@ use Rattle.hol_model.specs.Outcome.{Answers, AnswersSuch}
 use Rattle.hol_model.specs.Rules.{refl_outcome, assume_outcome, beta_outcome, trans_outcome, eq_mp_outcome, mk_comb_outcome, abs_outcome, deduct_antisym_outcome}
 use Rattle.hol_model.specs.InferenceRules.{InferenceRule, rule_refl, rule_trans, rule_mk_comb, rule_abs, rule_beta, rule_assume, rule_eq_mp, rule_deduct_antisym, rule_inst, rule_inst_type, rule_eta_axiom, rule_select_axiom}
 use Rattle.hol_model.specs.Instantiation.{inst_refusal, IsInst, inst_type_refusal, IsInstType}
-use Rattle.hol_bool.specs.Formulas.{IsFormula}
-use Rattle.hol_bool.specs.Derivations.{axiom_theorem}
-use Rattle.hol_bool.specs.Inferred.{Infers}
-use Rattle.hol_bool.specs.declared.derivation.Axiom.TheVariants as axioms
+use Rattle.hol_equal.specs.Formulas.{IsFormula}
+use Rattle.hol_derivations.specs.Derivations.{axiom_theorem}
+use Rattle.hol_equal.specs.Inferred.{Infers}
+use Rattle.hol_derivations.specs.declared.derivation.Axiom.TheVariants as axioms
 
 -- a call that answers the rule's outcome answers what is drawn
 abbrev pub OutcomeInfers : Theory → InferenceRule → List Theorem → Result Theorem Fault → Type 0

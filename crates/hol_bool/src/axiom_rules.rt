@@ -3,16 +3,15 @@ ghost use Rattle.std.specs.Prelude.{◌≡◌, ◌<◌, [], length, IfOk, IfErr}
 ghost use Rattle.hol_model.specs.declared.fault.Fault.TheVariants.{Memory};
 ghost use Rattle.hol_model.specs.NamedTerm.{NamedTerm};
 ghost use Rattle.hol_bool.specs.Axioms.{IsAxiom, eta_axiom, select_axiom};
-ghost use Rattle.hol_bool.specs.HasLogic.{HasLogic};
-ghost use Rattle.hol_bool.specs.Prelude.{prelude_theorems};
-ghost use Rattle.hol_bool.specs.Sequents.{Continues};
+ghost use Rattle.hol_prelude.specs.HasLogic.{HasLogic};
+ghost use Rattle.hol_prelude.specs.Prelude.{prelude_theorems};
+ghost use Rattle.hol_equal.specs.Sequents.{Continues};
 
-use crate::equality::named;
-use crate::numbers::{ETA_AX, SELECT_AX};
-use crate::steps::conclusion_of;
-use crate::stored::{Bool, theorem_of};
+use hol_equal::{conclusion_of, named};
 use hol_journal::{Rec, Recorder};
 use hol_model::Fault;
+use hol_prelude::numbers::{ETA_AX, SELECT_AX};
+use hol_prelude::{Bool, theorem_of};
 use std::alloc::Global;
 
 // The theorem of this number, which has no hypotheses.

@@ -8,18 +8,18 @@ ghost use Rattle.hol_model.specs.Derivable.{nameless_equation};
 ghost use Rattle.hol_model.specs.DerivedRules.{AnswersStated, terms_of_theorem, conj_outcome, conjunct1_outcome, conjunct2_outcome};
 ghost use Rattle.hol_model.specs.InferenceRules.{rule_conj, rule_conjunct1, rule_conjunct2};
 ghost use Rattle.hol_journal.specs.Journal.{IsMade, theorem_in};
-ghost use Rattle.hol_bool.specs.HasLogic.{HasLogic};
-ghost use Rattle.hol_bool.specs.Room.{Room, FitsIf};
-ghost use Rattle.hol_bool.specs.Sequents.{Shows, DerivesIf, Continues};
-ghost use Rattle.hol_bool.specs.Inferred.{Infers};
+ghost use Rattle.hol_prelude.specs.HasLogic.{HasLogic};
+ghost use Rattle.hol_equal.specs.Room.{Room, FitsIf};
+ghost use Rattle.hol_equal.specs.Sequents.{Shows, DerivesIf, Continues};
+ghost use Rattle.hol_equal.specs.Inferred.{Infers};
 
 use crate::formula_terms::{connect, equivalence, for_p_q};
-use crate::numbers::{CONJ, CONJUNCT1, CONJUNCT2};
 use crate::prelude_rules::{by_theorem, sides_of};
-use crate::steps::{self, conclusion_of};
-use crate::stored::Bool;
+use hol_equal::steps::{self, conclusion_of};
 use hol_journal::{Rec, Recorder};
 use hol_model::Fault;
+use hol_prelude::Bool;
+use hol_prelude::numbers::{CONJ, CONJUNCT1, CONJUNCT2};
 use std::alloc::Global;
 
 /// CONJUNCT1: from `p /\ q`, `p`, in six steps. Refused where the conclusion is no conjunction.
@@ -81,7 +81,7 @@ pub fn conjunct2(
 }
 
 // CONJ, with the room that it needs.
-#[tactic(auto, using(crate::proofs::StepLemmas::still_made, crate::proofs::StepLemmas::now_made))]
+#[tactic(auto, using(hol_equal::proofs::StepLemmas::still_made, hol_equal::proofs::StepLemmas::now_made))]
 pub(crate) fn joined(
     recorder: &mut Recorder,
     alloc: Global,

@@ -9,22 +9,22 @@ ghost use Rattle.hol_model.specs.Derivable.{without, nameless_equation};
 ghost use Rattle.hol_model.specs.DerivedRules.{AnswersStated, terms_of_theorem, disj1_outcome, disj2_outcome, disj_cases_outcome};
 ghost use Rattle.hol_model.specs.InferenceRules.{rule_disj1, rule_disj2, rule_disj_cases};
 ghost use Rattle.hol_journal.specs.Journal.{IsMade, theorem_in};
-ghost use Rattle.hol_bool.specs.HasLogic.{HasLogic};
-ghost use Rattle.hol_bool.specs.Formulas.{IsFormula};
-ghost use Rattle.hol_bool.specs.Room.{Room, FitsIf, MakesIf};
+ghost use Rattle.hol_prelude.specs.HasLogic.{HasLogic};
+ghost use Rattle.hol_equal.specs.Formulas.{IsFormula};
+ghost use Rattle.hol_equal.specs.Room.{Room, FitsIf, MakesIf};
 ghost use Rattle.hol_bool.specs.Disjunctions.{LeavesRoomIf, other_case, both_cases};
-ghost use Rattle.hol_bool.specs.Sequents.{Shows, DerivesIf, Continues};
-ghost use Rattle.hol_bool.specs.Inferred.{Infers};
+ghost use Rattle.hol_equal.specs.Sequents.{Shows, DerivesIf, Continues};
+ghost use Rattle.hol_equal.specs.Inferred.{Infers};
 
 use crate::formula_terms::{Sides, connect, for_p_q, for_p_q_r};
 use crate::implication_rules::{discharged, implied};
-use crate::numbers::{DISJ_CASES, DISJ1, DISJ2};
 use crate::prelude_rules::{by_theorem, pass_formula, sides_of};
-use crate::steps::conclusion_of;
-use crate::stored::Bool;
 use hol_alpha::aconv;
+use hol_equal::conclusion_of;
 use hol_journal::{Rec, Recorder};
 use hol_model::Fault;
+use hol_prelude::Bool;
+use hol_prelude::numbers::{DISJ_CASES, DISJ1, DISJ2};
 use hol_terms::Term;
 use std::alloc::Global;
 
@@ -140,7 +140,7 @@ fn eliminated(
 }
 
 // From `(p ==> r) ==> s` and `r`, the `s` that is handed in, without the hypothesis `p` of the second.
-#[tactic(auto, using(crate::proofs::StepLemmas::still_made, crate::proofs::StepLemmas::now_made, crate::proofs::PreludeSteps::still_logical, crate::proofs::PreludeSteps::still_formula))]
+#[tactic(auto, using(hol_equal::proofs::StepLemmas::still_made, hol_equal::proofs::StepLemmas::now_made, crate::proofs::PreludeSteps::still_logical, crate::proofs::PreludeSteps::still_formula))]
 fn with_case(
     recorder: &mut Recorder,
     alloc: Global,
@@ -167,7 +167,7 @@ fn with_case(
 }
 
 // DISJ_CASES, with the room that it needs: from `p \/ q`, `r` and `r`, the `r` of the first case.
-#[tactic(auto, using(crate::proofs::StepLemmas::still_made, crate::proofs::StepLemmas::now_made, crate::proofs::PreludeSteps::still_logical, crate::proofs::PreludeSteps::still_formula))]
+#[tactic(auto, using(hol_equal::proofs::StepLemmas::still_made, hol_equal::proofs::StepLemmas::now_made, crate::proofs::PreludeSteps::still_logical, crate::proofs::PreludeSteps::still_formula))]
 fn by_cases(
     recorder: &mut Recorder,
     alloc: Global,

@@ -8,7 +8,8 @@ ghost use Rattle.hol_model.specs.Nameless.{image};
 ghost use Rattle.hol_model.specs.Name.{is_identifier, is_constant_name};
 ghost use Rattle.hol_model.specs.Logic.{not_name, unary, binary};
 ghost use Rattle.hol_model.specs.NamedLogic.{true_term, false_term, connected, negation, dest_connected, dest_negation, is_constant_named};
-ghost use Rattle.hol_bool.specs.Room.{Room, FitsIf, MakesIf, at_p, at_p_q, at_p_q_r};
+ghost use Rattle.hol_equal.specs.Room.{Room, FitsIf, MakesIf};
+ghost use Rattle.hol_bool.specs.PreludeInstances.{at_p, at_p_q, at_p_q_r};
 
 use hol_model::Fault;
 use hol_terms::{Parts, Term, mk_eq};

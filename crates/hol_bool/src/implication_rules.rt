@@ -9,26 +9,26 @@ ghost use Rattle.hol_model.specs.Derivable.{without, nameless_equation};
 ghost use Rattle.hol_model.specs.DerivedRules.{AnswersStated, terms_of_theorem, mp_outcome, disch_outcome, undisch_outcome};
 ghost use Rattle.hol_model.specs.InferenceRules.{rule_disch, rule_undisch, rule_mp};
 ghost use Rattle.hol_journal.specs.Journal.{IsMade, theorem_in};
-ghost use Rattle.hol_bool.specs.HasLogic.{HasLogic};
-ghost use Rattle.hol_bool.specs.Formulas.{IsFormula, AreSides};
-ghost use Rattle.hol_bool.specs.Room.{Room, FitsIf};
-ghost use Rattle.hol_bool.specs.Sequents.{Shows, DerivesIf, Continues};
-ghost use Rattle.hol_bool.specs.Inferred.{Infers};
+ghost use Rattle.hol_prelude.specs.HasLogic.{HasLogic};
+ghost use Rattle.hol_equal.specs.Formulas.{IsFormula, AreSides};
+ghost use Rattle.hol_equal.specs.Room.{Room, FitsIf};
+ghost use Rattle.hol_equal.specs.Sequents.{Shows, DerivesIf, Continues};
+ghost use Rattle.hol_equal.specs.Inferred.{Infers};
 
 use crate::conjunction_rules::joined;
 use crate::formula_terms::{connect, equivalence, for_p_q};
-use crate::numbers::{CONJUNCT1, DISCH, MP};
 use crate::prelude_rules::{by_theorem, pass_formula, sides_of};
-use crate::steps::{self, conclusion_of};
-use crate::stored::Bool;
 use hol_alpha::aconv;
+use hol_equal::steps::{self, conclusion_of};
 use hol_journal::{Rec, Recorder};
 use hol_model::Fault;
+use hol_prelude::Bool;
+use hol_prelude::numbers::{CONJUNCT1, DISCH, MP};
 use hol_terms::Term;
 use std::alloc::Global;
 
 /// MP, with the room that it needs: from `p ==> q` and `p`, the `q` that is handed in.
-#[tactic(auto, using(crate::proofs::StepLemmas::still_made, crate::proofs::StepLemmas::now_made))]
+#[tactic(auto, using(hol_equal::proofs::StepLemmas::still_made, hol_equal::proofs::StepLemmas::now_made))]
 pub fn implied(
     recorder: &mut Recorder,
     alloc: Global,
@@ -89,7 +89,7 @@ pub fn mp(
 }
 
 // From `p /\ q`, as a hypothesis, `p`.
-#[tactic(auto, using(crate::proofs::StepLemmas::still_made, crate::proofs::StepLemmas::now_made, crate::proofs::PreludeSteps::still_logical, crate::proofs::PreludeSteps::still_formula))]
+#[tactic(auto, using(hol_equal::proofs::StepLemmas::still_made, hol_equal::proofs::StepLemmas::now_made, crate::proofs::PreludeSteps::still_logical, crate::proofs::PreludeSteps::still_formula))]
 fn first_of_both(
     recorder: &mut Recorder,
     alloc: Global,
@@ -117,7 +117,7 @@ fn first_of_both(
 }
 
 // From `q`, `p /\ q <=> p` without the hypothesis `p`.
-#[tactic(auto, using(crate::proofs::StepLemmas::still_made, crate::proofs::StepLemmas::now_made, crate::proofs::PreludeSteps::still_logical, crate::proofs::PreludeSteps::still_formula))]
+#[tactic(auto, using(hol_equal::proofs::StepLemmas::still_made, hol_equal::proofs::StepLemmas::now_made, crate::proofs::PreludeSteps::still_logical, crate::proofs::PreludeSteps::still_formula))]
 fn absorbed(
     recorder: &mut Recorder,
     alloc: Global,
@@ -150,7 +150,7 @@ fn absorbed(
 
 /// DISCH, with the room that it needs: from `q`, `p ==> q` without the hypothesis `p`, for a formula `p` that the theory
 /// knows.
-#[tactic(auto, using(crate::proofs::StepLemmas::still_made, crate::proofs::StepLemmas::now_made, crate::proofs::PreludeSteps::still_logical, crate::proofs::PreludeSteps::still_formula))]
+#[tactic(auto, using(hol_equal::proofs::StepLemmas::still_made, hol_equal::proofs::StepLemmas::now_made, crate::proofs::PreludeSteps::still_logical, crate::proofs::PreludeSteps::still_formula))]
 pub fn discharged(
     recorder: &mut Recorder,
     alloc: Global,
@@ -206,7 +206,7 @@ pub fn disch(
 }
 
 /// UNDISCH: from `p ==> q`, `q` with the hypothesis `p`, in eight steps. Refused where the conclusion is no implication.
-#[tactic(auto, using(crate::proofs::InferredRules::infers_undisch, crate::proofs::StepLemmas::still_made, crate::proofs::StepLemmas::now_made, crate::proofs::PreludeSteps::still_logical, crate::proofs::PreludeSteps::still_formula))]
+#[tactic(auto, using(crate::proofs::InferredRules::infers_undisch, hol_equal::proofs::StepLemmas::still_made, hol_equal::proofs::StepLemmas::now_made, crate::proofs::PreludeSteps::still_logical, crate::proofs::PreludeSteps::still_formula))]
 pub fn undisch(
     recorder: &mut Recorder,
     alloc: Global,

@@ -3,15 +3,15 @@ ghost use Rattle.std.specs.Prelude.{[], ◌∷◌};
 ghost use Rattle.hol_model.specs.Nameless.{image};
 ghost use Rattle.hol_model.specs.DerivedRules.{AnswersStated, excluded_middle_outcome};
 ghost use Rattle.hol_journal.specs.Journal.{theorem_in};
-ghost use Rattle.hol_bool.specs.HasLogic.{HasLogic};
-ghost use Rattle.hol_bool.specs.Sequents.{Continues};
+ghost use Rattle.hol_prelude.specs.HasLogic.{HasLogic};
+ghost use Rattle.hol_equal.specs.Sequents.{Continues};
 
 use crate::formula_terms::{connect, for_p, negate};
-use crate::numbers::EXCLUDED_MIDDLE;
 use crate::prelude_rules::{instance_of_theorem, pass_formula};
-use crate::stored::Bool;
 use hol_journal::{Rec, Recorder};
 use hol_model::Fault;
+use hol_prelude::Bool;
+use hol_prelude::numbers::EXCLUDED_MIDDLE;
 use hol_terms::Term;
 use std::alloc::Global;
 

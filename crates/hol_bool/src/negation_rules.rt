@@ -4,17 +4,17 @@ ghost use Rattle.hol_model.specs.Nameless.{image};
 ghost use Rattle.hol_model.specs.DerivedRules.{AnswersStated, terms_of_theorem, not_intro_outcome, not_elim_outcome, contr_outcome};
 ghost use Rattle.hol_model.specs.InferenceRules.{rule_contr, rule_not_intro, rule_not_elim};
 ghost use Rattle.hol_journal.specs.Journal.{IsMade, theorem_in};
-ghost use Rattle.hol_bool.specs.HasLogic.{HasLogic};
-ghost use Rattle.hol_bool.specs.Sequents.{Continues};
-ghost use Rattle.hol_bool.specs.Inferred.{Infers};
+ghost use Rattle.hol_prelude.specs.HasLogic.{HasLogic};
+ghost use Rattle.hol_equal.specs.Sequents.{Continues};
+ghost use Rattle.hol_equal.specs.Inferred.{Infers};
 
 use crate::formula_terms::{connect, falsity, for_p, is_named, negate};
-use crate::numbers::{CONTR, NOT_ELIM, NOT_INTRO};
 use crate::prelude_rules::{by_theorem, negated_of, pass_formula, sides_of};
-use crate::steps::conclusion_of;
-use crate::stored::Bool;
+use hol_equal::conclusion_of;
 use hol_journal::{Rec, Recorder};
 use hol_model::Fault;
+use hol_prelude::Bool;
+use hol_prelude::numbers::{CONTR, NOT_ELIM, NOT_INTRO};
 use hol_terms::Term;
 use std::alloc::Global;
 

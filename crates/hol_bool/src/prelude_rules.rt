@@ -6,19 +6,18 @@ ghost use Rattle.hol_model.specs.Logic.{logical_definitions, binary};
 ghost use Rattle.hol_model.specs.NamedLogic.{dest_connected, dest_negation};
 ghost use Rattle.hol_model.specs.Nameless.{Nameless, image};
 ghost use Rattle.hol_journal.specs.Journal.{IsMade};
-ghost use Rattle.hol_bool.specs.Prelude.{prelude_theorems};
-ghost use Rattle.hol_bool.specs.HasLogic.{HasLogic};
-ghost use Rattle.hol_bool.specs.Formulas.{IsFormula, AreSides, IsNegated, IsPassed, IsRefused};
-ghost use Rattle.hol_bool.specs.Room.{Room, LeadsTo, Says};
-ghost use Rattle.hol_bool.specs.Sequents.{Shows, DerivesIf, Continues};
+ghost use Rattle.hol_prelude.specs.Prelude.{prelude_theorems};
+ghost use Rattle.hol_prelude.specs.HasLogic.{HasLogic};
+ghost use Rattle.hol_equal.specs.Formulas.{IsFormula, AreSides, IsNegated, IsPassed, IsRefused};
+ghost use Rattle.hol_equal.specs.Room.{Room};
+ghost use Rattle.hol_equal.specs.Sequents.{Shows, DerivesIf, Continues};
+ghost use Rattle.hol_bool.specs.PreludeInstances.{LeadsTo, Says};
 
-use crate::equality::named;
 use crate::formula_terms::{Sides, connected_sides, negated_part};
-use crate::lemma::{by_lemma, instance};
-use crate::steps::conclusion_of;
-use crate::stored::{Bool, theorem_of};
+use hol_equal::{by_lemma, conclusion_of, instance, named};
 use hol_journal::{Rec, Recorder};
 use hol_model::Fault;
+use hol_prelude::{Bool, theorem_of};
 use hol_terms::Term;
 use std::alloc::Global;
 

@@ -3,18 +3,18 @@ ghost use Rattle.std.specs.Prelude.{[], ◌∷◌};
 ghost use Rattle.hol_model.specs.DerivedRules.{AnswersStated, terms_of_theorem, eqt_intro_outcome, eqt_elim_outcome};
 ghost use Rattle.hol_model.specs.InferenceRules.{rule_eqt_intro, rule_eqt_elim};
 ghost use Rattle.hol_journal.specs.Journal.{IsMade, theorem_in};
-ghost use Rattle.hol_bool.specs.HasLogic.{HasLogic};
-ghost use Rattle.hol_bool.specs.Sequents.{Continues};
-ghost use Rattle.hol_bool.specs.Inferred.{Infers};
+ghost use Rattle.hol_prelude.specs.HasLogic.{HasLogic};
+ghost use Rattle.hol_equal.specs.Sequents.{Continues};
+ghost use Rattle.hol_equal.specs.Inferred.{Infers};
 
-use crate::equality::equation_parts;
 use crate::formula_terms::{equivalence, for_p, is_named, truth};
-use crate::numbers::{EQT_ELIM, EQT_INTRO};
 use crate::prelude_rules::by_theorem;
-use crate::steps::conclusion_of;
-use crate::stored::Bool;
+use hol_equal::conclusion_of;
+use hol_equal::equality::equation_parts;
 use hol_journal::{Rec, Recorder};
 use hol_model::Fault;
+use hol_prelude::Bool;
+use hol_prelude::numbers::{EQT_ELIM, EQT_INTRO};
 use std::alloc::Global;
 
 /// EQT_INTRO: from `p`, `p <=> T`, in six steps.

@@ -8,9 +8,9 @@ use Rattle.hol_model.specs.Texts.{type_bytes}
 use Rattle.hol_model.specs.Goals.{Sequent}
 use Rattle.hol_model.specs.LogClaims.{nameless_bytes, listed_nameless}
 use Rattle.hol_model.specs.LogState.{LogClaim, no_sequent}
-use Rattle.hol_check.specs.Terms.{TermTable, term_at}
-use Rattle.hol_check.specs.declared.state.Contents.{Contents}
-use Rattle.hol_check.specs.State.{state_of}
+use Rattle.hol_shared.specs.Terms.{TermTable, term_at}
+use Rattle.hol_steps.specs.declared.state.Contents.{Contents}
+use Rattle.hol_steps.specs.State.{state_of}
 
 -- a parenthesis, where it is wanted
 abbrev pub opening : Bool → List ℕ → List ℕ

@@ -8,9 +8,9 @@ ghost use Rattle.hol_logtext.specs.LineReading.{read_text};
 ghost use Rattle.hol_check.specs.Reading.{IsUnread};
 ghost use Rattle.hol_check.specs.LogAnswers.{IsTakenText, IsEnded, IsRefusedAt, IsUnderway, IsAcceptedLog, TellsRefusal, IsRefusal};
 
-use crate::log::Log;
 use crate::reading::Reading;
-use crate::take::take;
+use hol_judge::log::Log;
+use hol_judge::take::take;
 use hol_logtext::{Line, Version, read_line};
 use hol_model::{Cause, Fault, Source, TEXT_BYTES_LIMIT};
 use std::alloc::Global;

@@ -3,11 +3,11 @@ ghost use Rattle.std.specs.Prelude.{◌≡◌, ◌<◌, ◌∷◌, ◌++◌, fal
 ghost use Rattle.std.specs.List.{All};
 ghost use Rattle.hol_model.specs.LogClaims.{nameless_bytes, further_nameless, listed_nameless};
 ghost use Rattle.hol_logtext.specs.Writing.{Appends};
-ghost use Rattle.hol_check.specs.Terms.{name_at, type_at, term_at};
+ghost use Rattle.hol_shared.specs.Terms.{name_at, type_at, term_at};
 ghost use Rattle.hol_check.specs.PrintedClaims.{opening, closing, type_text, terms_at};
 
-use crate::terms::{TermShape, Terms};
-use crate::types::TypeShape;
+use hol_shared::terms::{TermShape, Terms};
+use hol_shared::types::TypeShape;
 use itoa::Buffer;
 use std::alloc::AllocError;
 

@@ -23,11 +23,11 @@ use Rattle.hol_model.proofs.Known.{IsKnown-type}
 use Rattle.hol_model.proofs.Membership.{of_append, IsMember-append_left, IsMember-append_right}
 use Rattle.hol_model.proofs.Tests.{same_term-Decides, same_variable-self}
 use Rattle.hol_journal.specs.Journal.{Recorded, theorem_in}
-use Rattle.hol_bool.specs.Conversions.{closed}
-use Rattle.hol_bool.specs.Formulas.{IsFormula}
-use Rattle.hol_bool.specs.Sequents.{Shows, DerivesIf}
-use Rattle.hol_bool.proofs.StepLemmas.{of_without, not_without, in_without}
-use Rattle.hol_bool.proofs.CutLemmas.{answers-stated, shows-set}
+use Rattle.hol_equal.specs.Conversions.{closed}
+use Rattle.hol_equal.specs.Formulas.{IsFormula}
+use Rattle.hol_equal.specs.Sequents.{Shows, DerivesIf}
+use Rattle.hol_equal.proofs.StepLemmas.{of_without, not_without, in_without}
+use Rattle.hol_equal.proofs.CutLemmas.{answers-stated, shows-set}
 use Rattle.hol_quant.specs.Universals.{MayGeneralize}
 use Rattle.hol_quant.specs.Witnesses.{IsAtVariable, existential, redex, witnessed, leave_room}
 use Rattle.hol_quant.proofs.PartLemmas.{IsQuantified, quantified-at}

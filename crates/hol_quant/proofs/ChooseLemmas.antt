@@ -20,12 +20,12 @@ use Rattle.hol_model.proofs.Images.{image-abstraction, occurs_free-image}
 use Rattle.hol_model.proofs.Known.{app-known}
 use Rattle.hol_model.proofs.Tests.{first_of_both, second_of_both, both, same_variable-self}
 use Rattle.hol_subst.proofs.Closing.{close_at-fresh}
-use Rattle.hol_bool.specs.Conversions.{closed, conversion_fits}
-use Rattle.hol_bool.specs.Formulas.{IsFormula}
-use Rattle.hol_bool.specs.Room.{IsSized, FitsIf}
-use Rattle.hol_bool.proofs.StepLemmas.{application, no_unknown}
+use Rattle.hol_equal.specs.Conversions.{closed, conversion_fits}
+use Rattle.hol_equal.specs.Formulas.{IsFormula}
+use Rattle.hol_equal.specs.Room.{IsSized, FitsIf}
+use Rattle.hol_equal.proofs.StepLemmas.{application, no_unknown}
 use Rattle.hol_bool.proofs.RuleAnswers.{sized-connected}
-use Rattle.hol_bool.proofs.Sizes.{leaves_room, sized-app, sized-equation, sized-more, sized-within}
+use Rattle.hol_equal.proofs.Sizes.{leaves_room, sized-app, sized-equation, sized-more, sized-within}
 use Rattle.hol_quant.specs.PredicateLemmas.{over_predicate, eliminated, at_type, at_formula, formula_lemma_fits}
 use Rattle.hol_quant.specs.Universals.{for_all, FitsForAll}
 use Rattle.hol_quant.specs.Witnesses.{IsAtVariable, existential, redex, witnessed, suffices, eliminates, leave_room}

@@ -30,12 +30,12 @@ use Rattle.hol_model.proofs.NamedTests.{is_known-Decides}
 use Rattle.hol_model.proofs.TypeTests.{knows_type-Decides}
 use Rattle.hol_model.proofs.Images.{image-abstraction}
 use Rattle.hol_journal.specs.Journal.{Journal}
-use Rattle.hol_bool.specs.HasLogic.{HasLogic}
-use Rattle.hol_bool.specs.declared.stored.Bool.{Bool as Stored}
+use Rattle.hol_prelude.specs.HasLogic.{HasLogic}
+use Rattle.hol_prelude.specs.declared.stored.Bool.{Bool as Stored}
 use Rattle.hol_bool.proofs.LogicLemmas.{logical-type}
 use Rattle.hol_quant.proofs.PartLemmas.{IsTyped, typed-at}
-use Rattle.hol_bool.proofs.DrawnTerms.{StatesDrawn, IsPremise, Draws, knows-image, walked, one_premise, two_premises, same_set}
-use Rattle.hol_bool.proofs.DrawnEquality.{other-name, body-image, drawn-of_one}
+use Rattle.hol_equal.proofs.DrawnTerms.{StatesDrawn, IsPremise, Draws, knows-image, walked, one_premise, two_premises, same_set}
+use Rattle.hol_equal.proofs.DrawnEquality.{other-name, body-image, drawn-of_one}
 
 -- ---- parts
 

@@ -28,14 +28,14 @@ use Rattle.hol_model.proofs.WithinLimits.{within_limits-image}
 use Rattle.hol_subst.specs.Outcomes.{vsubst_refusal, pairs_refusal}
 use Rattle.hol_kernel.proofs.RuleLemmas.{known_term}
 use Rattle.hol_journal.specs.Journal.{Recorded, theorem_in}
-use Rattle.hol_bool.specs.Sequents.{Shows, DerivesIf, IsPast}
-use Rattle.hol_bool.specs.Conversions.{closed, conversion, conversion_fits}
-use Rattle.hol_bool.specs.Room.{FitsIf}
-use Rattle.hol_bool.proofs.BetaLemmas.{put-redex, applied-past}
+use Rattle.hol_equal.specs.Sequents.{Shows, DerivesIf, IsPast}
+use Rattle.hol_equal.specs.Conversions.{closed, conversion, conversion_fits}
+use Rattle.hol_equal.specs.Room.{FitsIf}
+use Rattle.hol_equal.proofs.BetaLemmas.{put-redex, applied-past}
 use Rattle.hol_bool.proofs.RoomLemmas.{fits-within}
-use Rattle.hol_bool.proofs.StepLemmas.{application, no_unknown}
-use Rattle.hol_bool.proofs.CutLemmas.{answers-stated, formulas-within}
-use Rattle.hol_bool.proofs.Sizes.{IsSized, leaves_room, sized-app, sized-equation, sized-more, sized-within, past-room}
+use Rattle.hol_equal.proofs.StepLemmas.{application, no_unknown}
+use Rattle.hol_equal.proofs.CutLemmas.{answers-stated, formulas-within}
+use Rattle.hol_equal.proofs.Sizes.{IsSized, leaves_room, sized-app, sized-equation, sized-more, sized-within, past-room}
 use Rattle.hol_quant.specs.PredicateLemmas.{applied, over_predicate, at_type, at_predicate, lemma_fits}
 use Rattle.hol_quant.specs.QuantifiedParts.{IsWitnessed, witnessed_terms}
 use Rattle.hol_quant.proofs.PartLemmas.{HasParts, has-parts, quantified-at}

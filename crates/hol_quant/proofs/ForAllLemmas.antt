@@ -20,11 +20,11 @@ use Rattle.hol_model.specs.Theorem.{Theorem}
 use Rattle.hol_model.proofs.HolTypeEq.{type_eq-self}
 use Rattle.hol_model.proofs.Images.{image-abstraction}
 use Rattle.hol_model.proofs.Known.{close-known}
-use Rattle.hol_bool.specs.Conversions.{closed}
-use Rattle.hol_bool.specs.Room.{IsSized, FitsIf}
-use Rattle.hol_bool.specs.Sequents.{IsPast}
+use Rattle.hol_equal.specs.Conversions.{closed}
+use Rattle.hol_equal.specs.Room.{IsSized, FitsIf}
+use Rattle.hol_equal.specs.Sequents.{IsPast}
 use Rattle.hol_bool.proofs.RoomLemmas.{fits-argument}
-use Rattle.hol_bool.proofs.Sizes.{past-room, sized-app, sized-equation, sized-more, sized-within}
+use Rattle.hol_equal.proofs.Sizes.{past-room, sized-app, sized-equation, sized-more, sized-within}
 use Rattle.hol_quant.specs.PredicateLemmas.{is_always, over_predicate, at_type, at_predicate, lemma_fits}
 use Rattle.hol_quant.specs.Universals.{for_all, MayGeneralize, FitsForAll}
 use Rattle.hol_quant.proofs.RoomLemmas.{body-sized, instance-within, free-sized, const-sized}

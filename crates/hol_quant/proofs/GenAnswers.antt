@@ -24,10 +24,10 @@ use Rattle.hol_model.proofs.Membership.{IsMember-append_right}
 use Rattle.hol_model.proofs.Tests.{first_of_both, second_of_both, first_of_neither, second_of_neither}
 use Rattle.hol_journal.specs.Journal.{Journal, Recorded, IsMade, theorem_in}
 use Rattle.hol_journal.proofs.Showing.{formula_of}
-use Rattle.hol_bool.specs.Sequents.{DerivesIf, IsPast}
-use Rattle.hol_bool.specs.Conversions.{closed}
-use Rattle.hol_bool.proofs.CutLemmas.{answers-stated, conclusion-known, formulas-within}
-use Rattle.hol_bool.proofs.Sizes.{IsSized, leaves_room, sized-more, sized-within, past-room}
+use Rattle.hol_equal.specs.Sequents.{DerivesIf, IsPast}
+use Rattle.hol_equal.specs.Conversions.{closed}
+use Rattle.hol_equal.proofs.CutLemmas.{answers-stated, conclusion-known, formulas-within}
+use Rattle.hol_equal.proofs.Sizes.{IsSized, leaves_room, sized-more, sized-within, past-room}
 use Rattle.hol_quant.specs.Universals.{for_all, MayGeneralize, FitsForAll}
 use Rattle.hol_quant.proofs.RoomLemmas.{PredicateRoom, predicate-room}
 use Rattle.hol_quant.proofs.ForAllLemmas as abstractions

@@ -18,11 +18,11 @@ use Rattle.hol_model.specs.KnownTerm.{knows_types, knows_constants, has_instance
 use Rattle.hol_model.specs.Instantiation.{replacements_refusal}
 use Rattle.hol_model.proofs.NamedTests.{is_known-Decides}
 use Rattle.hol_model.proofs.Outcomes.{passed_value}
-use Rattle.hol_bool.specs.Sequents.{IsPast}
-use Rattle.hol_bool.proofs.BetaLemmas.{applied-past}
-use Rattle.hol_bool.proofs.StepLemmas.{application}
-use Rattle.hol_bool.specs.Room.{IsSized, FitsIf}
-use Rattle.hol_bool.proofs.Sizes.{sized-equation, sized-more, sized-within}
+use Rattle.hol_equal.specs.Sequents.{IsPast}
+use Rattle.hol_equal.proofs.BetaLemmas.{applied-past}
+use Rattle.hol_equal.proofs.StepLemmas.{application}
+use Rattle.hol_equal.specs.Room.{IsSized, FitsIf}
+use Rattle.hol_equal.proofs.Sizes.{sized-equation, sized-more, sized-within}
 
 -- p <=> T
 

@@ -9,11 +9,11 @@ use Rattle.hol_model.specs.Theorem.{Theorem}
 use Rattle.hol_model.specs.DerivedRules.{AnswersStated, terms_of_theorem, spec_outcome, gen_outcome, exists_outcome, choose_outcome}
 use Rattle.hol_model.specs.InferenceRules.{rule_spec, rule_gen, rule_exists, rule_choose}
 use Rattle.hol_journal.specs.Journal.{Journal}
-use Rattle.hol_bool.specs.HasLogic.{HasLogic}
-use Rattle.hol_bool.specs.Inferred.{Infers}
-use Rattle.hol_bool.specs.declared.stored.Bool.{Bool as Stored}
-use Rattle.hol_bool.proofs.DrawnTerms.{IsPremise}
-use Rattle.hol_bool.proofs.InferredRules.{infers}
+use Rattle.hol_prelude.specs.HasLogic.{HasLogic}
+use Rattle.hol_equal.specs.Inferred.{Infers}
+use Rattle.hol_prelude.specs.declared.stored.Bool.{Bool as Stored}
+use Rattle.hol_equal.proofs.DrawnTerms.{IsPremise}
+use Rattle.hol_equal.proofs.InferredEquality.{infers}
 use Rattle.hol_quant.proofs.DrawnQuantifiers.{drawn-spec, drawn-gen, drawn-exists, drawn-choose}
 
 pub infers_spec : {journal : Journal} {logic : Stored} {t : NamedTerm} {ty : HolType} {a : Theorem} {result : Result Theorem Fault} → HasLogic journal logic → IsLegal journal.theory → type_of t ≡ Some ty → IsPremise journal.theory a

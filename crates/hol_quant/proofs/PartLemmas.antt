@@ -11,7 +11,7 @@ use Rattle.hol_model.specs.Logic.{predicate, quantifier}
 use Rattle.hol_model.specs.Theory.{Theory, IsKnown, generic_type, type_a}
 use Rattle.hol_model.proofs.Images.{image-type, image-abstraction}
 use Rattle.hol_model.proofs.Measures.{some_type}
-use Rattle.hol_bool.specs.Conversions.{closed}
+use Rattle.hol_equal.specs.Conversions.{closed}
 pub use Rattle.hol_quant.specs.QuantifiedParts.{IsQuantified}
 
 -- the type of the quantifier, and of the body

@@ -8,9 +8,9 @@ use Rattle.hol_model.specs.NamedLogic.{true_term, implication, forall_term}
 use Rattle.hol_model.specs.Theory.{type_a}
 use Rattle.hol_model.specs.Derivable.{nameless_equation}
 use Rattle.hol_model.specs.Logic.{forall_name, exists_name}
-use Rattle.hol_bool.specs.Sequents.{Shows}
-use Rattle.hol_bool.specs.Prelude.{prelude_theorems, shown, p, q, P, x, P_x, always, forall_P, exists_P}
-use Rattle.hol_bool.proofs.CutLemmas.{shows-itself}
+use Rattle.hol_equal.specs.Sequents.{Shows}
+use Rattle.hol_prelude.specs.Prelude.{prelude_theorems, shown, p, q, P, x, P_x, always, forall_P, exists_P}
+use Rattle.hol_equal.proofs.CutLemmas.{shows-itself}
 use Rattle.hol_quant.specs.PredicateLemmas.{applied, over_predicate, is_always, eliminated}
 use Rattle.hol_quant.proofs.GenLemmas.{proposition, truth}
 

@@ -16,8 +16,8 @@ use Rattle.hol_model.proofs.Tests.{first_of_both, second_of_both, both}
 use Rattle.hol_model.proofs.Images.{image-typed, image-abstraction}
 use Rattle.hol_model.proofs.Measures.{height-image, nodes-image, past_limits-image, past_limits-abstraction}
 use Rattle.hol_model.proofs.WithinLimits.{within_limits-image}
-use Rattle.hol_bool.specs.Conversions.{closed, trivial, conversion, conversion_fits}
-use Rattle.hol_bool.proofs.Sizes.{IsSized, leaves_room, sized-app, sized-equation, sized-more, sized-within}
+use Rattle.hol_equal.specs.Conversions.{closed, trivial, conversion, conversion_fits}
+use Rattle.hol_equal.proofs.Sizes.{IsSized, leaves_room, sized-app, sized-equation, sized-more, sized-within}
 use Rattle.hol_quant.specs.PredicateLemmas.{at_type, at_predicate, lemma_fits}
 
 pub free-sized : (name : List ℕ) (ty : HolType) → type_nodes ty ≤ 1900 → IsSized 1 1 (free name ty)

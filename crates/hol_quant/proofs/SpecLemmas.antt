@@ -23,11 +23,11 @@ use Rattle.hol_model.proofs.Membership.{IsMember-append_right}
 use Rattle.hol_model.proofs.Tests.{first_of_both, second_of_both}
 use Rattle.hol_kernel.proofs.RuleLemmas.{known_term}
 use Rattle.hol_journal.specs.Journal.{Journal, Recorded, IsMade, theorem_in}
-use Rattle.hol_bool.specs.Sequents.{DerivesIf, IsPast}
-use Rattle.hol_bool.specs.Conversions.{closed, conversion_fits}
-use Rattle.hol_bool.proofs.StepLemmas.{refl-derives}
-use Rattle.hol_bool.proofs.CutLemmas.{answers-stated, conclusion-known}
-use Rattle.hol_bool.proofs.Sizes.{IsSized, leaves_room, sized-app, sized-equation, sized-more, sized-within}
+use Rattle.hol_equal.specs.Sequents.{DerivesIf, IsPast}
+use Rattle.hol_equal.specs.Conversions.{closed, conversion_fits}
+use Rattle.hol_equal.proofs.StepLemmas.{refl-derives}
+use Rattle.hol_equal.proofs.CutLemmas.{answers-stated, conclusion-known}
+use Rattle.hol_equal.proofs.Sizes.{IsSized, leaves_room, sized-app, sized-equation, sized-more, sized-within}
 use Rattle.hol_quant.specs.PredicateLemmas.{applied, over_predicate, at_type, at_predicate, lemma_fits}
 use Rattle.hol_quant.proofs.PartLemmas.{IsQuantified, quantified-at}
 use Rattle.hol_quant.proofs.RoomLemmas.{PredicateRoom, predicate-room, conversion-within, lemma-within, free-sized, const-sized}

@@ -15,8 +15,8 @@ use Rattle.hol_model.proofs.HolTypeEq.{type_eq-self}
 use Rattle.hol_model.proofs.Images.{image-typed}
 use Rattle.hol_model.proofs.Tests.{same_variable-type}
 use Rattle.hol_subst.specs.Outcomes.{vsubst_refusal}
-use Rattle.hol_bool.specs.Room.{IsSized}
-use Rattle.hol_bool.proofs.BetaLemmas.{one_pair}
+use Rattle.hol_equal.specs.Room.{IsSized}
+use Rattle.hol_equal.proofs.BetaLemmas.{one_pair}
 use Rattle.hol_quant.specs.Witnesses.{witnessed}
 
 -- a variable of its type stands for each variable

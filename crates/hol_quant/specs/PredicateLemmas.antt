@@ -9,7 +9,7 @@ use Rattle.hol_model.specs.Instantiation.{instantiate_all}
 use Rattle.hol_model.specs.Logic.{true_term, predicate, quantifier, implication, forall_term}
 use Rattle.hol_model.specs.Theory.{type_a}
 use Rattle.hol_model.specs.Derivable.{nameless_equation}
-use Rattle.hol_bool.specs.Sequents.{instance_of}
+use Rattle.hol_equal.specs.Sequents.{instance_of}
 
 -- a term of the lemma with the type for `A`
 abbrev pub at_type : HolType → Nameless → Nameless

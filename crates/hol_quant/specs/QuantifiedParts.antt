@@ -7,7 +7,7 @@ use Rattle.hol_model.specs.Nameless.{Nameless, const, app, image}
 use Rattle.hol_model.specs.Logic.{exists_name, predicate, quantifier}
 use Rattle.hol_model.specs.Substitution.{close, fill}
 use Rattle.hol_model.specs.Theory.{Theory, IsKnown}
-use Rattle.hol_bool.specs.Conversions.{closed}
+use Rattle.hol_equal.specs.Conversions.{closed}
 
 -- a known formula with a quantifier over an abstraction
 pub record IsQuantified (theory : Theory) (quantifier_name : List ℕ) (formula function binder body : NamedTerm) : Type 0 where

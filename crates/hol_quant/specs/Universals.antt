@@ -9,7 +9,7 @@ use Rattle.hol_model.specs.Logic.{forall_term}
 use Rattle.hol_model.specs.Derivable.{NotFreeInAny}
 use Rattle.hol_model.specs.Theorem.{Theorem}
 use Rattle.hol_model.specs.DerivedRules.{images, ROOMY_TYPE_NODES}
-use Rattle.hol_bool.specs.Room.{Room, FitsIf}
+use Rattle.hol_equal.specs.Room.{Room, FitsIf}
 
 -- !x. p
 abbrev pub for_all : List ℕ → HolType → NamedTerm → Nameless

@@ -8,7 +8,7 @@ use Rattle.hol_model.specs.Substitution.{close, fill}
 use Rattle.hol_model.specs.Theory.{Theory, IsKnown, IsKnownType}
 use Rattle.hol_model.specs.Logic.{exists_name, predicate, quantifier, implication, forall_term}
 use Rattle.hol_model.specs.DerivedRules.{is_roomy}
-use Rattle.hol_bool.specs.Conversions.{closed}
+use Rattle.hol_equal.specs.Conversions.{closed}
 
 -- an abstraction of a formula, its variable and another variable of the type, all of them known
 pub record IsAtVariable (theory : Theory) (function binder argument : NamedTerm) : Type 0 where

@@ -11,20 +11,20 @@ ghost use Rattle.hol_model.specs.Derivable.{NotFreeInAny, without};
 ghost use Rattle.hol_model.specs.DerivedRules.{AnswersStated, images, is_roomy, terms_of_theorem, choose_outcome};
 ghost use Rattle.hol_model.specs.InferenceRules.{rule_choose};
 ghost use Rattle.hol_journal.specs.Journal.{IsMade, theorem_in};
-ghost use Rattle.hol_bool.specs.HasLogic.{HasLogic};
-ghost use Rattle.hol_bool.specs.Sequents.{DerivesIf, Continues};
-ghost use Rattle.hol_bool.specs.Inferred.{Infers};
+ghost use Rattle.hol_prelude.specs.HasLogic.{HasLogic};
+ghost use Rattle.hol_equal.specs.Sequents.{DerivesIf, Continues};
+ghost use Rattle.hol_equal.specs.Inferred.{Infers};
 ghost use Rattle.hol_quant.specs.Witnesses.{IsAtVariable, existential, redex, witnessed, leave_room};
 
 use crate::generalization::generalized_up_to_names;
 use crate::instances::by_formula_lemma;
 use crate::parts::quantified_parts;
 use hol_alpha::aconv;
-use hol_bool::{
-    Bool, assume, conclusion_of, converted, cut, discharged, eq_mp, implied, numbers, theorem_of,
-};
+use hol_bool::{discharged, implied};
+use hol_equal::{assume, conclusion_of, converted, cut, eq_mp};
 use hol_journal::{Rec, Recorder};
 use hol_model::Fault;
+use hol_prelude::{Bool, numbers, theorem_of};
 use hol_subst::vsubst;
 use hol_terms::{Term, is_free};
 use hol_types::Ty;
@@ -55,7 +55,7 @@ fn is_free_in_others(hypotheses: &[Term], witness: &Term, name: &str, ty: &Ty) -
 }
 
 // From `(\x. p) v`, as a hypothesis, `p[v/x]`.
-#[tactic(auto, using(hol_bool::proofs::StepLemmas::still_made, hol_bool::proofs::StepLemmas::now_made))]
+#[tactic(auto, using(hol_equal::proofs::StepLemmas::still_made, hol_equal::proofs::StepLemmas::now_made))]
 fn from_redex(
     recorder: &mut Recorder,
     alloc: Global,
@@ -79,7 +79,7 @@ fn from_redex(
 }
 
 // From `q`, `(\x. p) v ==> q` without the hypothesis `p[v/x]`.
-#[tactic(auto, using(hol_bool::proofs::StepLemmas::still_made, hol_bool::proofs::StepLemmas::now_made, hol_bool::proofs::PreludeSteps::still_logical))]
+#[tactic(auto, using(hol_equal::proofs::StepLemmas::still_made, hol_equal::proofs::StepLemmas::now_made, hol_bool::proofs::PreludeSteps::still_logical))]
 fn implied_by_redex(
     recorder: &mut Recorder,
     alloc: Global,
@@ -111,7 +111,7 @@ fn implied_by_redex(
 }
 
 // CHOOSE, of parts that pass its tests.
-#[tactic(auto, using(hol_bool::proofs::StepLemmas::still_made, hol_bool::proofs::StepLemmas::now_made, hol_bool::proofs::PreludeSteps::still_logical, hol_bool::proofs::PreludeSteps::still_formula))]
+#[tactic(auto, using(hol_equal::proofs::StepLemmas::still_made, hol_equal::proofs::StepLemmas::now_made, hol_bool::proofs::PreludeSteps::still_logical, hol_bool::proofs::PreludeSteps::still_formula))]
 fn eliminated(
     recorder: &mut Recorder,
     alloc: Global,
@@ -152,7 +152,7 @@ fn eliminated(
 /// CHOOSE: from `?x. p` and `q`, `q` without the hypothesis `p[v/x]`, by the lemma `(?) P |- (!x. P x ==> q) ==> q`,
 /// in 48 steps. Refused where the term is no variable, then where the first conclusion is no `?x. p`, then where the
 /// variable's type is not that of `x`, and then where it is free in `?x. p`, in `q` or in another hypothesis of `q`.
-#[tactic(auto, using(crate::proofs::InferredQuantifiers::infers_choose, hol_bool::proofs::StepLemmas::still_made, hol_bool::proofs::StepLemmas::now_made))]
+#[tactic(auto, using(crate::proofs::InferredQuantifiers::infers_choose, hol_equal::proofs::StepLemmas::still_made, hol_equal::proofs::StepLemmas::now_made))]
 pub fn choose(
     recorder: &mut Recorder,
     alloc: Global,

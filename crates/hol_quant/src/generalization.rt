@@ -12,17 +12,18 @@ ghost use Rattle.hol_model.specs.Rules.{is_free_in_hypotheses};
 ghost use Rattle.hol_model.specs.DerivedRules.{AnswersStated, images, terms_of_theorem, gen_outcome};
 ghost use Rattle.hol_model.specs.InferenceRules.{rule_gen};
 ghost use Rattle.hol_journal.specs.Journal.{IsMade, theorem_in};
-ghost use Rattle.hol_bool.specs.HasLogic.{HasLogic};
-ghost use Rattle.hol_bool.specs.Room.{Room, FitsIf};
-ghost use Rattle.hol_bool.specs.Sequents.{Shows, DerivesIf, IsPast, Continues};
-ghost use Rattle.hol_bool.specs.Inferred.{Infers};
+ghost use Rattle.hol_prelude.specs.HasLogic.{HasLogic};
+ghost use Rattle.hol_equal.specs.Room.{Room, FitsIf};
+ghost use Rattle.hol_equal.specs.Sequents.{Shows, DerivesIf, IsPast, Continues};
+ghost use Rattle.hol_equal.specs.Inferred.{Infers};
 ghost use Rattle.hol_quant.specs.PredicateLemmas.{is_always, over_predicate};
 ghost use Rattle.hol_quant.specs.Universals.{for_all, MayGeneralize, FitsForAll};
 
 use crate::instances::by_predicate_lemma;
-use hol_bool::{Bool, abs, by_lemma, conclusion_of, named, numbers, theorem_of};
+use hol_equal::{abs, by_lemma, conclusion_of, named};
 use hol_journal::{Rec, Recorder};
 use hol_model::Fault;
+use hol_prelude::{Bool, numbers, theorem_of};
 use hol_terms::{Term, is_free};
 use hol_types::Ty;
 use std::alloc::Global;
@@ -90,7 +91,7 @@ fn is_free_in_some(hypotheses: &[Term], name: &str, ty: &Ty) -> bool
 }
 
 // From `p` and the term `\x. p`, `!x. p` up to the names of bound variables, with the room that it needs.
-#[tactic(auto, using(hol_bool::proofs::StepLemmas::still_made, hol_bool::proofs::StepLemmas::now_made))]
+#[tactic(auto, using(hol_equal::proofs::StepLemmas::still_made, hol_equal::proofs::StepLemmas::now_made))]
 fn over_all(
     recorder: &mut Recorder,
     alloc: Global,

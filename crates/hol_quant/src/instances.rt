@@ -7,11 +7,11 @@ ghost use Rattle.hol_model.specs.NamedTerm.{variable, type_of};
 ghost use Rattle.hol_model.specs.Nameless.{Nameless, image};
 ghost use Rattle.hol_model.specs.Theory.{IsKnown, type_a};
 ghost use Rattle.hol_journal.specs.Journal.{IsMade};
-ghost use Rattle.hol_bool.specs.Formulas.{IsFormula};
-ghost use Rattle.hol_bool.specs.Sequents.{Shows, DerivesIf, Continues};
+ghost use Rattle.hol_equal.specs.Formulas.{IsFormula};
+ghost use Rattle.hol_equal.specs.Sequents.{Shows, DerivesIf, Continues};
 ghost use Rattle.hol_quant.specs.PredicateLemmas.{at_predicate, lemma_fits, at_formula, formula_lemma_fits};
 
-use hol_bool::by_lemma;
+use hol_equal::by_lemma;
 use hol_journal::{Rec, Recorder};
 use hol_model::Fault;
 use hol_terms::Term;

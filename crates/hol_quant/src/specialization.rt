@@ -6,16 +6,17 @@ ghost use Rattle.hol_model.specs.Theory.{generic_type, type_a};
 ghost use Rattle.hol_model.specs.DerivedRules.{AnswersStated, terms_of_theorem, spec_outcome};
 ghost use Rattle.hol_model.specs.InferenceRules.{rule_spec};
 ghost use Rattle.hol_journal.specs.Journal.{IsMade, theorem_in};
-ghost use Rattle.hol_bool.specs.HasLogic.{HasLogic};
-ghost use Rattle.hol_bool.specs.Sequents.{Shows, Continues};
-ghost use Rattle.hol_bool.specs.Inferred.{Infers};
+ghost use Rattle.hol_prelude.specs.HasLogic.{HasLogic};
+ghost use Rattle.hol_equal.specs.Sequents.{Shows, Continues};
+ghost use Rattle.hol_equal.specs.Inferred.{Infers};
 ghost use Rattle.hol_quant.specs.PredicateLemmas.{applied, over_predicate};
 
 use crate::instances::by_predicate_lemma;
 use crate::parts::quantified_parts;
-use hol_bool::{Bool, conclusion_of, converted, eq_mp, numbers, theorem_of};
+use hol_equal::{conclusion_of, converted, eq_mp};
 use hol_journal::{Rec, Recorder};
 use hol_model::Fault;
+use hol_prelude::{Bool, numbers, theorem_of};
 use hol_terms::Term;
 use std::alloc::Global;
 

@@ -6,9 +6,9 @@ use Rattle.hol_model.specs.Theorem.{Theorem}
 use Rattle.hol_model.specs.Sessions.{State, with_theorem, with_theorems}
 use Rattle.hol_model.specs.declared.fault.Fault.{Fault}
 use Rattle.hol_journal.specs.Journal.{Recorded}
-use Rattle.hol_bool.specs.Prelude.{prelude_theorems}
+use Rattle.hol_prelude.specs.Prelude.{prelude_theorems}
 use Rattle.hol_script.specs.declared.beginning.StoredTheorem.{StoredTheorem}
-use Rattle.hol_script.specs.Views.{Match}
+use Rattle.hol_command.specs.Views.{Match}
 use Rattle.hol_script.proofs.ReplacementLemmas.{item-at}
 use Rattle.hol_script.specs.Beginning.{IsStoredTheorem, StoresNumbered}
 

@@ -36,7 +36,7 @@ use Rattle.hol_script.specs.declared.session.Session.{Session}
 use Rattle.hol_script.specs.declared.session.Printed.TheVariants.{Line}
 use Rattle.hol_journal.specs.Journal.{Journal, IsMade}
 use Rattle.hol_journal.specs.Growth.{IsGrown, JournalsGrow}
-use Rattle.hol_bool.specs.HasLogic.{HasLogic, LogicStays}
+use Rattle.hol_prelude.specs.HasLogic.{HasLogic, LogicStays}
 use Rattle.hol_script.specs.SessionState.{state_of, theorem_of, IsSession}
 use Rattle.hol_script.specs.Growth.{IsRefused, LeavesNone, MakesEquation, Defines, KeepsSession}
 use Rattle.hol_script.specs.Answers.{IsLineOf, Turns}

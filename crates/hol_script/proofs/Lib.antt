@@ -1,6 +1,3 @@
-pub mod CutLemmas
-pub mod ReadingLemmas
-pub mod PairLemmas
 pub mod RuleLemmas
 pub mod BeginningLemmas
 pub mod RecordingLemmas

@@ -18,7 +18,7 @@ use Rattle.hol_model.specs.Sessions.{term_rule_outcome}
 use Rattle.hol_journal.specs.Journal.{Journal, Recorded, IsMade, IsRecorded, theorem_in}
 use Rattle.hol_journal.specs.Steps.{Step}
 use Rattle.hol_journal.specs.Growth.{IsGrown, JournalsGrow}
-use Rattle.hol_bool.specs.HasLogic.{HasLogic, LogicStays}
+use Rattle.hol_prelude.specs.HasLogic.{HasLogic, LogicStays}
 use Rattle.hol_syntax.specs.declared.scope.Scope.{Scope as ScopeHere}
 use Rattle.hol_syntax.specs.Scope.{scope_of}
 use Rattle.hol_script.specs.declared.session.Session.{Session}

@@ -14,7 +14,7 @@ use Rattle.hol_model.specs.Commands.{by_inst, by_inst_type}
 use Rattle.hol_model.specs.Theorem.{Theorem}
 use Rattle.hol_model.specs.Sessions.{State, scope_in, replacement, type_replacement, each, with_stored, IsAnswerFor}
 use Rattle.hol_script.specs.Answers.{AnswersRule}
-use Rattle.hol_script.specs.Views.{Match}
+use Rattle.hol_command.specs.Views.{Match}
 
 -- ---- one pair after another
 

@@ -11,15 +11,15 @@ use Rattle.hol_model.specs.Theorem.{Theorem}
 use Rattle.hol_model.specs.Sessions.{State, scope_in, proves, accepts, refused, Allows, finds_no_memory, is_no_command, thm_is_refused, thm_stores, is_theorem_name, IsRuleAnswer, with_theorem, IsProved}
 use Rattle.hol_model.specs.TypeGrammar.{TypeTree, type_steps}
 use Rattle.hol_model.specs.TermGrammar.{TermTree}
-use Rattle.hol_syntax.specs.declared.type_reader.TypeStep.{TypeStep}
-use Rattle.hol_syntax.specs.declared.steps.TermStep.{TermStep}
+use Rattle.hol_grammar.specs.declared.type_reader.TypeStep.{TypeStep}
+use Rattle.hol_grammar.specs.declared.steps.TermStep.{TermStep}
 use Rattle.hol_syntax.specs.Scope.{scope_of}
-use Rattle.hol_syntax.specs.Steps.{flat_steps_of}
-use Rattle.hol_syntax.specs.TermSteps.{term_steps, flat_steps}
-use Rattle.hol_syntax.specs.Views.{steps_of}
-use Rattle.hol_script.specs.declared.command.Rule.{Rule}
-use Rattle.hol_script.specs.declared.command.Command.TheVariants.{Thm, Show, Var, Def, NewType, NewConst}
-use Rattle.hol_script.specs.Views.{IsRule, IsCommand}
+use Rattle.hol_grammar.specs.Steps.{flat_steps_of}
+use Rattle.hol_grammar.specs.TermSteps.{term_steps, flat_steps}
+use Rattle.hol_grammar.specs.Views.{steps_of}
+use Rattle.hol_command.specs.declared.command.Rule.{Rule}
+use Rattle.hol_command.specs.declared.command.Command.TheVariants.{Thm, Show, Var, Def, NewType, NewConst}
+use Rattle.hol_command.specs.Views.{IsRule, IsCommand}
 use Rattle.hol_script.specs.declared.session.Session.{Session}
 use Rattle.hol_script.specs.declared.lines.TheoremLine.{TheoremLine}
 use Rattle.hol_script.specs.declared.session.Printed.{Printed}

@@ -6,9 +6,9 @@ use Rattle.hol_model.specs.KnownTerm.{is_declared}
 use Rattle.hol_model.specs.Theorem.{Theorem}
 use Rattle.hol_model.specs.Reading.{Scope}
 use Rattle.hol_model.specs.Sessions.{State, with_theorem}
-use Rattle.hol_bool.specs.Prelude.{prelude_theorems}
+use Rattle.hol_prelude.specs.Prelude.{prelude_theorems}
 use Rattle.hol_script.specs.declared.beginning.StoredTheorem.{StoredTheorem}
-use Rattle.hol_script.specs.Views.{Match}
+use Rattle.hol_command.specs.Views.{Match}
 
 -- the scope knows the constants and the types of the theory, and no variables
 pub record IsScopeOf (scope : Scope) (theory : Theory) : Type 0 where

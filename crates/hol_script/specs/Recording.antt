@@ -3,7 +3,7 @@ use Rattle.std.specs.Prelude.{◌≡◌, Result}
 use Rattle.hol_model.specs.declared.fault.Fault.{Fault}
 use Rattle.hol_journal.specs.Steps.{Step}
 use Rattle.hol_journal.specs.Journal.{Journal, Recorded, IsRecorded}
-use Rattle.hol_bool.specs.Sequents.{Continues}
+use Rattle.hol_equal.specs.Sequents.{Continues}
 use Rattle.hol_script.specs.declared.session.Session.{Session}
 
 -- the theorem was recorded as one more entry

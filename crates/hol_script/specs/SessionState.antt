@@ -7,7 +7,7 @@ use Rattle.hol_model.specs.KnownTerm.{is_declared}
 use Rattle.hol_model.specs.Theorem.{Theorem}
 use Rattle.hol_model.specs.Sessions.{State}
 use Rattle.hol_journal.specs.Journal.{Journal, Recorded, IsMade}
-use Rattle.hol_bool.specs.HasLogic.{HasLogic}
+use Rattle.hol_prelude.specs.HasLogic.{HasLogic}
 use Rattle.hol_syntax.specs.Scope.{scope_of}
 use Rattle.hol_script.specs.declared.session.Session.{Session}
 

@@ -5,16 +5,18 @@ ghost use Rattle.hol_model.specs.DerivedRules.{AnswersStated, terms_of_theorem};
 ghost use Rattle.hol_model.specs.Outcome.{Answers};
 ghost use Rattle.hol_model.specs.Sessions.{term_rule_outcome, pair_rule_outcome, premise_outcome, premises_outcome, term_premise_outcome};
 ghost use Rattle.hol_journal.specs.Journal.{IsMade, theorem_in};
-ghost use Rattle.hol_bool.specs.HasLogic.{HasLogic};
-ghost use Rattle.hol_bool.specs.Sequents.{Continues};
+ghost use Rattle.hol_prelude.specs.HasLogic.{HasLogic};
+ghost use Rattle.hol_equal.specs.Sequents.{Continues};
 ghost use Rattle.hol_script.specs.Recording.{Records};
 
 use hol_bool::{
-    Bool, add_assum, conj, conjunct1, conjunct2, contr, disch, disj1, disj2, eqt_elim, eqt_intro,
-    mp, not_elim, not_intro, prove_hyp, sym, undisch,
+    conj, conjunct1, conjunct2, contr, disch, disj1, disj2, eqt_elim, eqt_intro, mp, not_elim,
+    not_intro, undisch,
 };
+use hol_equal::{add_assum, prove_hyp, sym};
 use hol_journal::{Rec, Recorder};
 use hol_model::{Fault, PairRule, PremiseRule, PremisesRule, TermPremiseRule, TermRule};
+use hol_prelude::Bool;
 use hol_quant::{generalize, spec};
 use hol_terms::Term;
 use std::alloc::Global;

@@ -1,21 +1,15 @@
-// Runs proof scripts.
+//! Proof scripts: sessions, runs and their logs.
 #![tactic(auto, using(hol_model::proofs::Refusals::refusals))]
 
 mod beginning;
-mod command;
-mod cut;
 mod derivation;
-mod derived;
 mod execute;
 mod laws;
 mod lines;
-mod pairs;
 mod progress;
-mod quotes;
 mod runner;
 mod session;
 mod theorems;
-mod tokens;
 
 pub use laws::printed_theorems_stay;
 pub use progress::Summary;

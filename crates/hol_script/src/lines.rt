@@ -8,7 +8,8 @@ ghost use Rattle.hol_script.specs.Growth.{LeavesNone, MakesEquation, MakesLine};
 
 use hol_kernel::Thm;
 use hol_model::Fault;
-use hol_syntax::{Scope, text_of_sequent};
+use hol_print::text_of_sequent;
+use hol_syntax::Scope;
 use hol_terms::{Term, mk_eq};
 use std::alloc::Global;
 

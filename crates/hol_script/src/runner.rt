@@ -12,10 +12,10 @@ ghost use Rattle.hol_script.specs.Runs.{counts_of, names_of, Ends};
 ghost use Rattle.hol_script.specs.RunLogs.{claims_stored, WritesLog, WritesFront, IsLongLog, CompletesLog, StopsInLog, HasLongLog, IsWhole};
 ghost use Rattle.hol_script.specs.SessionState.{state_of, IsSession};
 
-use crate::cut::{cut, is_blank_text, leading_line_feeds, line_feeds};
 use crate::progress::{Progress, Summary};
 use crate::session::Printed;
 use hol_bytes::{read_all, write_all, write_pieces};
+use hol_command::cut::{cut, is_blank_text, leading_line_feeds, line_feeds};
 use hol_model::{Fault, Sink, Source, TEXT_BYTES_LIMIT};
 use itoa::Buffer;
 use std::alloc::Global;

@@ -140,17 +140,3 @@ impl Scope {
         self.types.remove(name);
     }
 }
-
-#[cfg(test)]
-pub mod fixture {
-    use super::*;
-
-    // A scope without names.
-    pub fn empty(alloc: Global) -> Scope {
-        Scope {
-            constants: HashMap::new(alloc),
-            variables: HashMap::new(alloc),
-            types: HashSet::new(alloc),
-        }
-    }
-}

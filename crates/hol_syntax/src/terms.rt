@@ -4,10 +4,8 @@ ghost use Rattle.hol_model.specs.Texts.{ReadsTerm, RefusesTerm, TermsAreUnambigu
 ghost use Rattle.hol_syntax.specs.Scope.{scope_of};
 
 use crate::evaluate::term_of_steps;
-use crate::lexer::tokens_in;
 use crate::scope::Scope;
-use crate::term_reader::parse_term;
-use crate::type_reader::ReadError;
+use hol_grammar::{ReadError, parse_term, tokens_in};
 use hol_model::Fault;
 use hol_terms::Term;
 use std::alloc::Global;

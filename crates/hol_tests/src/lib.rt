@@ -1,34 +1,16 @@
-//! Tests of the public calls of all crates: what no contract says. They stand here, beside none of the functions, since a
-//! crate with tests of its own is proved twice.
+//! Tests of scripts and logs: what no contract says. They stand here, beside none of the functions, since a crate with
+//! tests of its own is proved twice.
 #![tactic(auto)]
 
 #[cfg(test)]
-mod definition_tests;
-#[cfg(test)]
 mod derived_script_tests;
-#[cfg(test)]
-mod kernel_tests;
 #[cfg(test)]
 mod log_tests;
 #[cfg(test)]
-mod prelude_tests;
-#[cfg(test)]
-mod proof_trees;
-#[cfg(test)]
-mod recorder_tests;
-#[cfg(test)]
 mod replacement_tests;
-#[cfg(test)]
-mod rule_tests;
 #[cfg(test)]
 mod run_log_tests;
 #[cfg(test)]
 mod script_tests;
 #[cfg(test)]
-mod shadowing_tests;
-#[cfg(test)]
 mod sinks;
-#[cfg(test)]
-mod substitution_tests;
-#[cfg(test)]
-mod walk_tests;

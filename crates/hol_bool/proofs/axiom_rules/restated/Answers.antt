@@ -5,7 +5,7 @@ use Rattle.hol_model.specs.Nameless.{image}
 use Rattle.hol_model.specs.Theorem.{Theorem}
 use Rattle.hol_model.specs.Measures.{nameless_within_limits}
 use Rattle.hol_model.specs.Derivable.{nameless_equation}
-use Rattle.hol_bool.specs.Sequents.{Shows, DerivesIf}
+use Rattle.hol_equal.specs.Sequents.{Shows, DerivesIf}
 use Rattle.hol_bool.proofs.AxiomLemmas.{axiom-is, axiom-shown, restated-ok, restated-err}
 use Rattle.hol_bool.proofs.axiom_rules.restated.Goals as goal
 

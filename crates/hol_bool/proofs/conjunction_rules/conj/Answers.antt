@@ -2,7 +2,7 @@ use Rattle.std.proofs.Common.{◌∷◌, ◌++◌, refl}
 use Rattle.hol_model.specs.Nameless.{image}
 use Rattle.hol_model.specs.NamedLogic.{conjunction}
 use Rattle.hol_model.specs.DerivedRules.{images, terms_of_theorem, conj_outcome}
-use Rattle.hol_bool.proofs.CutLemmas.{shows-itself}
+use Rattle.hol_equal.proofs.CutLemmas.{shows-itself}
 use Rattle.hol_bool.proofs.RuleAnswers.{answered}
 use Rattle.hol_bool.proofs.ConjunctionAnswers.{conj-equation-fits, first-roomy, second-roomy}
 use Rattle.hol_bool.proofs.InferredRules.{infers_conj}

@@ -5,8 +5,8 @@ use Rattle.hol_model.specs.Nameless.{image}
 use Rattle.hol_model.specs.NamedLogic.{conjunction}
 use Rattle.hol_model.specs.Outcome.{given}
 use Rattle.hol_model.specs.DerivedRules.{stated, images, conjunct2_outcome}
-use Rattle.hol_bool.specs.Prelude.{p, q}
-use Rattle.hol_bool.proofs.CutLemmas.{shows-itself}
+use Rattle.hol_prelude.specs.Prelude.{p, q}
+use Rattle.hol_equal.proofs.CutLemmas.{shows-itself}
 use Rattle.hol_bool.proofs.RuleAnswers.{answered-one, leads-p_q, roomy-fits}
 use Rattle.hol_bool.proofs.InferredRules.{infers_conjunct2}
 use Rattle.hol_bool.proofs.conjunction_rules.conjunct2.Goals as goal

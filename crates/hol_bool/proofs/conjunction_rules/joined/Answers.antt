@@ -6,10 +6,10 @@ use Rattle.hol_model.specs.Logic as nameless
 use Rattle.hol_model.specs.Logic.{and_name}
 use Rattle.hol_model.specs.NamedLogic.{conjunction}
 use Rattle.hol_model.proofs.Images.{image-equation}
-use Rattle.hol_bool.specs.Prelude.{p, q}
-use Rattle.hol_bool.specs.Room.{LeadsTo, at_p_q}
-use Rattle.hol_bool.specs.Sequents.{Shows, DerivesIf}
-use Rattle.hol_bool.proofs.CutLemmas.{right-names, given-derives}
+use Rattle.hol_prelude.specs.Prelude.{p, q}
+use Rattle.hol_equal.specs.Sequents.{Shows, DerivesIf}
+use Rattle.hol_bool.specs.PreludeInstances.{LeadsTo, at_p_q}
+use Rattle.hol_equal.proofs.CutLemmas.{right-names, given-derives}
 use Rattle.hol_bool.proofs.RoomLemmas.{equation-is, equation-past, connected-is, connected-past, connected-typed}
 use Rattle.hol_bool.proofs.ConjunctionAnswers.{conj_equation, conj-fits-at, conj-both-fits, conj-leads}
 use Rattle.hol_bool.proofs.conjunction_rules.joined.Goals as goal

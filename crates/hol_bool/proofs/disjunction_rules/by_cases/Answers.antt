@@ -3,9 +3,9 @@ use Rattle.hol_model.specs.Nameless.{Nameless, image}
 use Rattle.hol_model.specs.NamedTerm.{NamedTerm}
 use Rattle.hol_model.specs.Derivable.{without}
 use Rattle.hol_model.specs.Logic as nameless
-use Rattle.hol_bool.specs.Room.{FitsIf}
-use Rattle.hol_bool.specs.Sequents.{Shows, DerivesIf}
-use Rattle.hol_bool.specs.Formulas.{IsFormula}
+use Rattle.hol_equal.specs.Room.{FitsIf}
+use Rattle.hol_equal.specs.Sequents.{Shows, DerivesIf}
+use Rattle.hol_equal.specs.Formulas.{IsFormula}
 use Rattle.hol_bool.specs.Disjunctions.{LeavesRoomIf}
 use Rattle.hol_bool.proofs.ConjunctionAnswers.{mp_equation}
 use Rattle.hol_bool.proofs.ImplicationAnswers.{disch-fits}

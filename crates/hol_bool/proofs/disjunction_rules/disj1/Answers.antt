@@ -4,9 +4,9 @@ use Rattle.hol_model.specs.Nameless.{image}
 use Rattle.hol_model.specs.Logic.{or_name}
 use Rattle.hol_model.specs.NamedLogic.{disjunction}
 use Rattle.hol_model.specs.DerivedRules.{images}
-use Rattle.hol_bool.specs.Room.{LeadsTo, at_p_q}
-use Rattle.hol_bool.specs.Sequents.{DerivesIf}
-use Rattle.hol_bool.proofs.CutLemmas.{shows-itself}
+use Rattle.hol_equal.specs.Sequents.{DerivesIf}
+use Rattle.hol_bool.specs.PreludeInstances.{LeadsTo, at_p_q}
+use Rattle.hol_equal.proofs.CutLemmas.{shows-itself}
 use Rattle.hol_bool.proofs.RoomLemmas.{connected-is, connected-past}
 use Rattle.hol_bool.proofs.RuleAnswers.{roomy-fits}
 use Rattle.hol_bool.proofs.DisjunctionAnswers.{disj1-answered, disj1-leads}

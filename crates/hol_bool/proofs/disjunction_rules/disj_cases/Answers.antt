@@ -9,9 +9,9 @@ use Rattle.hol_model.specs.Outcome.{given, unless}
 use Rattle.hol_model.specs.Theorem.{are_alpha_equivalent}
 use Rattle.hol_model.specs.DerivedRules.{images, stated, terms_of_theorem, disj_cases_outcome}
 use Rattle.hol_model.proofs.Tests.{same_term-Decides}
-use Rattle.hol_bool.specs.Sequents.{Shows}
+use Rattle.hol_equal.specs.Sequents.{Shows}
 use Rattle.hol_bool.specs.Disjunctions.{LeavesRoomIf}
-use Rattle.hol_bool.proofs.CutLemmas.{shows-itself}
+use Rattle.hol_equal.proofs.CutLemmas.{shows-itself}
 use Rattle.hol_bool.proofs.RuleAnswers.{answered}
 use Rattle.hol_bool.proofs.ConjunctionAnswers.{stated-roomy}
 use Rattle.hol_bool.proofs.DisjunctionAnswers.{left-leaves, right-leaves, cases-set}

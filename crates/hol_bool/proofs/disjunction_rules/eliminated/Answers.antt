@@ -3,9 +3,9 @@ use Rattle.hol_model.specs.Nameless.{const, image}
 use Rattle.hol_model.specs.NamedTerm.{NamedTerm}
 use Rattle.hol_model.specs.Logic.{binary, implies_name}
 use Rattle.hol_model.specs.NamedLogic.{disjunction, implication}
-use Rattle.hol_bool.specs.Room.{LeadsTo, at_p_q_r}
-use Rattle.hol_bool.specs.Sequents.{DerivesIf}
+use Rattle.hol_equal.specs.Sequents.{DerivesIf}
 use Rattle.hol_bool.specs.Disjunctions.{other_case, both_cases}
+use Rattle.hol_bool.specs.PreludeInstances.{LeadsTo, at_p_q_r}
 use Rattle.hol_bool.proofs.RoomLemmas.{connected-is, connected-past, connected-typed, fits-left}
 use Rattle.hol_bool.proofs.DisjunctionAnswers.{other-typed, cases-leads}
 use Rattle.hol_bool.proofs.disjunction_rules.eliminated.Goals as goal

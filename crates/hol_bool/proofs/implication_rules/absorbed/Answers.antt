@@ -4,11 +4,11 @@ use Rattle.hol_model.specs.Nameless.{Nameless, image}
 use Rattle.hol_model.specs.Measures.{nameless_within_limits}
 use Rattle.hol_model.specs.Derivable.{without, nameless_equation}
 use Rattle.hol_model.specs.Logic as nameless
-use Rattle.hol_bool.specs.Room.{FitsIf}
-use Rattle.hol_bool.specs.Sequents.{Shows}
-use Rattle.hol_bool.proofs.StepLemmas.{still_made}
-use Rattle.hol_bool.proofs.CutLemmas.{derives-where}
-use Rattle.hol_bool.proofs.LemmaLemmas.{derives-same}
+use Rattle.hol_equal.specs.Room.{FitsIf}
+use Rattle.hol_equal.specs.Sequents.{Shows}
+use Rattle.hol_equal.proofs.StepLemmas.{still_made}
+use Rattle.hol_equal.proofs.CutLemmas.{derives-where}
+use Rattle.hol_equal.proofs.LemmaLemmas.{derives-same}
 use Rattle.hol_bool.proofs.RoomLemmas.{fits-within}
 use Rattle.hol_bool.proofs.ImplicationAnswers.{disch-both-fits, disch-conj-fits, disch-absorbed-fits, absorbed-set}
 use Rattle.hol_bool.proofs.implication_rules.absorbed.Goals as goal

@@ -3,7 +3,7 @@ use Rattle.hol_model.specs.Nameless.{image}
 use Rattle.hol_model.specs.Derivable.{without}
 use Rattle.hol_model.specs.NamedLogic.{implication}
 use Rattle.hol_model.specs.DerivedRules.{images, stated, terms_of_theorem, disch_outcome}
-use Rattle.hol_bool.proofs.CutLemmas.{shows-itself}
+use Rattle.hol_equal.proofs.CutLemmas.{shows-itself}
 use Rattle.hol_bool.proofs.RuleAnswers.{answered}
 use Rattle.hol_bool.proofs.ImplicationAnswers.{disch-fits}
 use Rattle.hol_bool.proofs.InferredRules.{infers_disch}

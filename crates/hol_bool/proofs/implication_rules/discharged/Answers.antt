@@ -7,8 +7,9 @@ use Rattle.hol_model.specs.Derivable.{without, nameless_equation}
 use Rattle.hol_model.specs.Logic as nameless
 use Rattle.hol_model.specs.Logic.{implies_name}
 use Rattle.hol_model.specs.NamedLogic.{implication}
-use Rattle.hol_bool.specs.Room.{FitsIf, LeadsTo, at_p_q}
-use Rattle.hol_bool.specs.Sequents.{Shows, DerivesIf}
+use Rattle.hol_equal.specs.Room.{FitsIf}
+use Rattle.hol_equal.specs.Sequents.{Shows, DerivesIf}
+use Rattle.hol_bool.specs.PreludeInstances.{LeadsTo, at_p_q}
 use Rattle.hol_bool.proofs.RoomLemmas.{connected-is, connected-past}
 use Rattle.hol_bool.proofs.ImplicationAnswers.{disch_equation, disch-implication-fits, disch-leads}
 use Rattle.hol_bool.proofs.implication_rules.discharged.Goals as goal

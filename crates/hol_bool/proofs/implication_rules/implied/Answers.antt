@@ -5,9 +5,10 @@ use Rattle.hol_model.specs.Nameless.{Nameless, image}
 use Rattle.hol_model.specs.Derivable.{nameless_equation}
 use Rattle.hol_model.specs.Logic as nameless
 use Rattle.hol_model.proofs.Images.{image-equation}
-use Rattle.hol_bool.specs.Room.{FitsIf, LeadsTo, at_p_q}
-use Rattle.hol_bool.specs.Sequents.{Shows, DerivesIf}
-use Rattle.hol_bool.proofs.CutLemmas.{right-names, given-derives}
+use Rattle.hol_equal.specs.Room.{FitsIf}
+use Rattle.hol_equal.specs.Sequents.{Shows, DerivesIf}
+use Rattle.hol_bool.specs.PreludeInstances.{LeadsTo, at_p_q}
+use Rattle.hol_equal.proofs.CutLemmas.{right-names, given-derives}
 use Rattle.hol_bool.proofs.RoomLemmas.{equation-is, equation-past}
 use Rattle.hol_bool.proofs.ConjunctionAnswers.{mp_equation, mp-leads}
 use Rattle.hol_bool.proofs.implication_rules.implied.Goals as goal

@@ -4,9 +4,9 @@ use Rattle.hol_model.specs.NamedTerm.{NamedTerm}
 use Rattle.hol_model.specs.Nameless.{Nameless, image}
 use Rattle.hol_model.specs.Outcome.{given}
 use Rattle.hol_model.specs.DerivedRules.{images, stated, terms_of_theorem, undisch_outcome}
-use Rattle.hol_bool.specs.Room.{IsSized}
-use Rattle.hol_bool.specs.Sequents.{Shows}
-use Rattle.hol_bool.proofs.CutLemmas.{shows-itself}
+use Rattle.hol_equal.specs.Room.{IsSized}
+use Rattle.hol_equal.specs.Sequents.{Shows}
+use Rattle.hol_equal.proofs.CutLemmas.{shows-itself}
 use Rattle.hol_bool.proofs.RuleAnswers.{answered}
 use Rattle.hol_bool.proofs.ConjunctionAnswers.{mp-equation-fits, stated-roomy}
 use Rattle.hol_bool.proofs.InferredRules.{infers_undisch}

@@ -4,9 +4,9 @@ use Rattle.hol_model.specs.Nameless.{const, app, image}
 use Rattle.hol_model.specs.Logic.{or_name, binary}
 use Rattle.hol_model.specs.NamedLogic.{disjunction, negation}
 use Rattle.hol_model.specs.DerivedRules.{stated, excluded_middle_outcome}
-use Rattle.hol_bool.specs.Prelude.{middle}
-use Rattle.hol_bool.specs.Room.{Says}
-use Rattle.hol_bool.specs.Sequents.{DerivesIf}
+use Rattle.hol_prelude.specs.Prelude.{middle}
+use Rattle.hol_equal.specs.Sequents.{DerivesIf}
+use Rattle.hol_bool.specs.PreludeInstances.{Says}
 use Rattle.hol_bool.proofs.RoomLemmas.{negation-is, negation-typed, connected-is, connected-past, fits-argument}
 use Rattle.hol_bool.proofs.RuleAnswers.{answered, says-p, roomy-fits}
 use Rattle.hol_bool.proofs.middle_rules.excluded_middle.Goals as goal

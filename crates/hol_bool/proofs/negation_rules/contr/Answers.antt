@@ -3,8 +3,8 @@ use Rattle.hol_model.specs.NamedTerm.{NamedTerm}
 use Rattle.hol_model.specs.Nameless.{image}
 use Rattle.hol_model.specs.NamedLogic.{false_term, is_false}
 use Rattle.hol_model.specs.DerivedRules.{images, stated, terms_of_theorem, contr_outcome}
-use Rattle.hol_bool.specs.Prelude.{p}
-use Rattle.hol_bool.proofs.CutLemmas.{shows-itself}
+use Rattle.hol_prelude.specs.Prelude.{p}
+use Rattle.hol_equal.proofs.CutLemmas.{shows-itself}
 use Rattle.hol_bool.proofs.FormulaLemmas.{false-is}
 use Rattle.hol_bool.proofs.RuleAnswers.{answered, leads-p, roomy-fits}
 use Rattle.hol_bool.proofs.InferredRules.{infers_contr}

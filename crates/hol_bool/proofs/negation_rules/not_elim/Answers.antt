@@ -6,10 +6,10 @@ use Rattle.hol_model.specs.Logic.{implies_name}
 use Rattle.hol_model.specs.NamedLogic.{false_term, implication, negation}
 use Rattle.hol_model.specs.Outcome.{given}
 use Rattle.hol_model.specs.DerivedRules.{images, stated, not_elim_outcome}
-use Rattle.hol_bool.specs.Prelude.{p}
-use Rattle.hol_bool.specs.Room.{LeadsTo}
-use Rattle.hol_bool.specs.Sequents.{DerivesIf}
-use Rattle.hol_bool.proofs.CutLemmas.{shows-itself}
+use Rattle.hol_prelude.specs.Prelude.{p}
+use Rattle.hol_equal.specs.Sequents.{DerivesIf}
+use Rattle.hol_bool.specs.PreludeInstances.{LeadsTo}
+use Rattle.hol_equal.proofs.CutLemmas.{shows-itself}
 use Rattle.hol_bool.proofs.RoomLemmas.{connected-is, connected-past}
 use Rattle.hol_bool.proofs.RuleAnswers.{answered-one, leads-p, roomy-fits}
 use Rattle.hol_bool.proofs.InferredRules.{infers_not_elim}

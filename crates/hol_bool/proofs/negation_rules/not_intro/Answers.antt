@@ -5,10 +5,10 @@ use Rattle.hol_model.specs.Nameless.{image}
 use Rattle.hol_model.specs.NamedLogic.{false_term, is_false, implication, negation}
 use Rattle.hol_model.specs.Outcome.{given, unless}
 use Rattle.hol_model.specs.DerivedRules.{images, stated, not_intro_outcome}
-use Rattle.hol_bool.specs.Prelude.{p}
-use Rattle.hol_bool.specs.Room.{LeadsTo}
-use Rattle.hol_bool.specs.Sequents.{DerivesIf}
-use Rattle.hol_bool.proofs.CutLemmas.{shows-itself}
+use Rattle.hol_prelude.specs.Prelude.{p}
+use Rattle.hol_equal.specs.Sequents.{DerivesIf}
+use Rattle.hol_bool.specs.PreludeInstances.{LeadsTo}
+use Rattle.hol_equal.proofs.CutLemmas.{shows-itself}
 use Rattle.hol_bool.proofs.RoomLemmas.{negation-is}
 use Rattle.hol_bool.proofs.FormulaLemmas.{false-is}
 use Rattle.hol_bool.proofs.RuleAnswers.{answered-one, leads-p, roomy-fits}

@@ -5,9 +5,9 @@ use Rattle.hol_model.specs.Nameless.{Nameless, image}
 use Rattle.hol_model.specs.Measures.{nameless_within_limits}
 use Rattle.hol_model.specs.Derivable.{nameless_equation}
 use Rattle.hol_model.specs.Instantiation.{instantiate_all}
-use Rattle.hol_bool.specs.Sequents.{Shows, instance_of}
-use Rattle.hol_bool.proofs.Sizes.{past-room}
-use Rattle.hol_bool.proofs.CutLemmas.{derives-where}
+use Rattle.hol_equal.specs.Sequents.{Shows, instance_of}
+use Rattle.hol_equal.proofs.Sizes.{past-room}
+use Rattle.hol_equal.proofs.CutLemmas.{derives-where}
 use Rattle.hol_bool.proofs.PreludeSteps.{says-shows, says-fits, equation-fits}
 use Rattle.hol_bool.proofs.prelude_rules.instance_of_theorem.Goals as goal
 

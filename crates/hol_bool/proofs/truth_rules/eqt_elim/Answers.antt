@@ -6,8 +6,8 @@ use Rattle.hol_model.specs.NamedLogic.{true_term, is_true}
 use Rattle.hol_model.specs.Outcome.{given, unless}
 use Rattle.hol_model.specs.Rules.{dest_equation}
 use Rattle.hol_model.specs.DerivedRules.{images, stated, eqt_elim_outcome}
-use Rattle.hol_bool.specs.Prelude.{p}
-use Rattle.hol_bool.proofs.CutLemmas.{shows-itself}
+use Rattle.hol_prelude.specs.Prelude.{p}
+use Rattle.hol_equal.proofs.CutLemmas.{shows-itself}
 use Rattle.hol_bool.proofs.FormulaLemmas.{sides_as, truth-equation}
 use Rattle.hol_bool.proofs.RuleAnswers.{answered-one, leads-p, roomy-fits}
 use Rattle.hol_bool.proofs.InferredRules.{infers_eqt_elim}

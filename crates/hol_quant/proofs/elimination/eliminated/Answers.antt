@@ -7,13 +7,13 @@ use Rattle.hol_model.specs.Logic as nameless
 use Rattle.hol_model.specs.Logic.{exists_name, predicate}
 use Rattle.hol_model.specs.Derivable.{without, nameless_equation}
 use Rattle.hol_model.specs.DerivedRules.{images}
-use Rattle.hol_bool.specs.Conversions.{closed}
-use Rattle.hol_bool.specs.Formulas.{IsFormula}
-use Rattle.hol_bool.specs.Room.{FitsIf}
-use Rattle.hol_bool.specs.Sequents.{Shows, DerivesIf}
-use Rattle.hol_bool.proofs.CutLemmas.{shows-itself}
+use Rattle.hol_equal.specs.Conversions.{closed}
+use Rattle.hol_equal.specs.Formulas.{IsFormula}
+use Rattle.hol_equal.specs.Room.{FitsIf}
+use Rattle.hol_equal.specs.Sequents.{Shows, DerivesIf}
+use Rattle.hol_equal.proofs.CutLemmas.{shows-itself}
 use Rattle.hol_bool.proofs.PreludeSteps.{still_logical}
-use Rattle.hol_bool.proofs.Sizes.{past-room}
+use Rattle.hol_equal.proofs.Sizes.{past-room}
 use Rattle.hol_quant.specs.PredicateLemmas.{over_predicate, eliminated, at_formula, formula_lemma_fits}
 use Rattle.hol_quant.specs.Universals.{MayGeneralize}
 use Rattle.hol_quant.specs.Witnesses.{suffices}

@@ -4,10 +4,10 @@ use Rattle.hol_model.specs.NamedTerm.{NamedTerm}
 use Rattle.hol_model.specs.Nameless.{Nameless, image}
 use Rattle.hol_model.specs.Theory.{Theory, IsKnown}
 use Rattle.hol_model.specs.DerivedRules.{is_roomy}
-use Rattle.hol_bool.specs.Conversions.{conversion_fits}
-use Rattle.hol_bool.specs.Sequents.{Shows}
-use Rattle.hol_bool.proofs.CutLemmas.{given-derives}
-use Rattle.hol_bool.proofs.Sizes.{past-room}
+use Rattle.hol_equal.specs.Conversions.{conversion_fits}
+use Rattle.hol_equal.specs.Sequents.{Shows}
+use Rattle.hol_equal.proofs.CutLemmas.{given-derives}
+use Rattle.hol_equal.proofs.Sizes.{past-room}
 use Rattle.hol_quant.proofs.ChooseLemmas.{formula, applied, witness, argument-typed, applied_image, applied-formula, none-unknown, conversion-fits}
 use Rattle.hol_quant.proofs.elimination.from_redex.Goals as goal
 

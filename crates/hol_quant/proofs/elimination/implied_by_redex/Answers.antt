@@ -8,13 +8,13 @@ use Rattle.hol_model.specs.Logic as nameless
 use Rattle.hol_model.specs.Derivable.{without, nameless_equation}
 use Rattle.hol_model.specs.DerivedRules.{images, is_roomy}
 use Rattle.hol_kernel.proofs.LimitLemmas as limits
-use Rattle.hol_bool.specs.Formulas.{IsFormula}
-use Rattle.hol_bool.specs.Room.{FitsIf}
-use Rattle.hol_bool.specs.Sequents.{Shows, DerivesIf}
-use Rattle.hol_bool.proofs.BetaLemmas.{applied-past}
-use Rattle.hol_bool.proofs.CutLemmas.{shows-itself}
+use Rattle.hol_equal.specs.Formulas.{IsFormula}
+use Rattle.hol_equal.specs.Room.{FitsIf}
+use Rattle.hol_equal.specs.Sequents.{Shows, DerivesIf}
+use Rattle.hol_equal.proofs.BetaLemmas.{applied-past}
+use Rattle.hol_equal.proofs.CutLemmas.{shows-itself}
 use Rattle.hol_bool.proofs.ImplicationAnswers.{disch_equation, disch-fits}
-use Rattle.hol_bool.proofs.Sizes.{past-room}
+use Rattle.hol_equal.proofs.Sizes.{past-room}
 use Rattle.hol_quant.proofs.ChooseLemmas.{formula, applied, witness, applied_image, applied-formula, room, first-roomy, second-sized, applied-sized, applied-within, cut-within}
 use Rattle.hol_quant.proofs.elimination.implied_by_redex.Goals as goal
 

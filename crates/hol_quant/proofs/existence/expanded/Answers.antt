@@ -8,8 +8,8 @@ use Rattle.hol_model.specs.Derivable.{nameless_equation}
 use Rattle.hol_model.specs.DerivedRules.{images, is_roomy}
 use Rattle.hol_journal.proofs.GrowthLemmas.{journals-grow}
 use Rattle.hol_kernel.proofs.LimitLemmas.{applied}
-use Rattle.hol_bool.specs.Room.{FitsIf}
-use Rattle.hol_bool.specs.Sequents.{Shows, DerivesIf}
+use Rattle.hol_equal.specs.Room.{FitsIf}
+use Rattle.hol_equal.specs.Sequents.{Shows, DerivesIf}
 use Rattle.hol_quant.proofs.GenLemmas.{truth}
 use Rattle.hol_quant.proofs.PreludeParts.{truth-shows, back-shows}
 use Rattle.hol_quant.proofs.ExistsLemmas.{roomy-fits, small, redex, redex_passes, redex_known, redex_image, redex-fits, redex-past, conversion-past, instance-past, truth-past, conversion-at}

@@ -8,8 +8,8 @@ use Rattle.hol_model.specs.Measures.{nameless_within_limits}
 use Rattle.hol_model.specs.Derivable.{nameless_equation}
 use Rattle.hol_model.specs.Instantiation.{instantiate_all, replacements_refusal}
 use Rattle.hol_model.proofs.Images.{image-type}
-use Rattle.hol_bool.specs.Sequents.{Shows, DerivesIf, instance_of}
-use Rattle.hol_bool.proofs.CutLemmas.{derives-where}
+use Rattle.hol_equal.specs.Sequents.{Shows, DerivesIf, instance_of}
+use Rattle.hol_equal.proofs.CutLemmas.{derives-where}
 use Rattle.hol_quant.proofs.GenLemmas.{truth, proposition, formula-passes}
 use Rattle.hol_quant.proofs.ExistsLemmas.{back-fits}
 use Rattle.hol_quant.proofs.existence.from_truth.Goals as goal

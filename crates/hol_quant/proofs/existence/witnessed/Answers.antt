@@ -8,9 +8,9 @@ use Rattle.hol_model.specs.Theory.{Theory, IsKnown}
 use Rattle.hol_model.specs.Derivable.{nameless_equation}
 use Rattle.hol_model.specs.DerivedRules.{images, is_roomy}
 use Rattle.hol_journal.proofs.GrowthLemmas.{journals-grow}
-use Rattle.hol_bool.specs.Sequents.{Shows}
-use Rattle.hol_bool.proofs.Sizes.{past-room}
-use Rattle.hol_bool.proofs.CutLemmas.{derives-where}
+use Rattle.hol_equal.specs.Sequents.{Shows}
+use Rattle.hol_equal.proofs.Sizes.{past-room}
+use Rattle.hol_equal.proofs.CutLemmas.{derives-where}
 use Rattle.hol_quant.specs.PredicateLemmas.{applied, over_predicate, lemma_fits}
 use Rattle.hol_quant.proofs.PreludeParts.{witness-shows}
 use Rattle.hol_quant.proofs.ExistsLemmas.{small, predicate_known, redex-at, formula-at, exists-lemma-within, exists-names-within}

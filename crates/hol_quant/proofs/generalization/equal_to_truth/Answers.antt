@@ -10,8 +10,8 @@ use Rattle.hol_model.specs.Theorem.{Theorem}
 use Rattle.hol_model.specs.Instantiation.{instantiate_all, replacements_refusal}
 use Rattle.hol_model.specs.DerivedRules.{images}
 use Rattle.hol_journal.proofs.Showing.{formula_of}
-use Rattle.hol_bool.specs.Sequents.{Shows, DerivesIf, instance_of}
-use Rattle.hol_bool.proofs.CutLemmas.{conclusion-known, shows-itself, derives-where}
+use Rattle.hol_equal.specs.Sequents.{Shows, DerivesIf, instance_of}
+use Rattle.hol_equal.proofs.CutLemmas.{conclusion-known, shows-itself, derives-where}
 use Rattle.hol_quant.proofs.GenLemmas.{truth, proposition, formula-passes, truth-fits}
 use Rattle.hol_quant.proofs.generalization.equal_to_truth.Goals as goal
 

@@ -12,8 +12,8 @@ use Rattle.hol_model.specs.Outcome.{Answers}
 use Rattle.hol_model.specs.Derivable.{nameless_equation}
 use Rattle.hol_model.specs.Rules.{is_free_in_hypotheses, abstraction_outcome}
 use Rattle.hol_model.specs.DerivedRules.{images, is_roomy, terms_of_theorem}
-use Rattle.hol_bool.specs.Sequents.{Shows, DerivesIf, IsPast}
-use Rattle.hol_bool.proofs.CutLemmas.{derives-where}
+use Rattle.hol_equal.specs.Sequents.{Shows, DerivesIf, IsPast}
+use Rattle.hol_equal.proofs.CutLemmas.{derives-where}
 use Rattle.hol_quant.proofs.GenAnswers.{gen-free, gen-start, function, formula, formula_image, small, function_typed, gen-answers, gen-past, gen-fits, may-generalize, abstraction-past, abstraction-made, formula-within, names-within}
 use Rattle.hol_quant.proofs.generalization.generalized.Goals as goal
 

@@ -6,9 +6,9 @@ use Rattle.hol_model.specs.Nameless.{Nameless, image}
 use Rattle.hol_model.specs.Measures.{nameless_within_limits}
 use Rattle.hol_model.specs.Theory.{Theory, IsKnown, IsKnownType}
 use Rattle.hol_model.specs.DerivedRules.{images}
-use Rattle.hol_bool.specs.Sequents.{Shows, DerivesIf}
-use Rattle.hol_bool.proofs.CutLemmas.{derives-where}
-use Rattle.hol_bool.proofs.Sizes.{past-room}
+use Rattle.hol_equal.specs.Sequents.{Shows, DerivesIf}
+use Rattle.hol_equal.proofs.CutLemmas.{derives-where}
+use Rattle.hol_equal.proofs.Sizes.{past-room}
 use Rattle.hol_quant.specs.PredicateLemmas.{is_always, over_predicate, at_predicate, lemma_fits}
 use Rattle.hol_quant.specs.Universals.{for_all}
 use Rattle.hol_quant.proofs.GenLemmas.{truth}

@@ -11,7 +11,7 @@ use Rattle.hol_model.specs.Derivable.{nameless_equation}
 use Rattle.hol_model.specs.Instantiation.{instantiate_all, replacements_refusal, type_replacements_refusal}
 use Rattle.hol_model.proofs.Images.{image-type}
 use Rattle.hol_model.proofs.Known.{IsKnown-type}
-use Rattle.hol_bool.specs.Sequents.{Shows, DerivesIf, instance_of}
+use Rattle.hol_equal.specs.Sequents.{Shows, DerivesIf, instance_of}
 use Rattle.hol_quant.proofs.InstanceLemmas.{type-passes, two-pass}
 use Rattle.hol_quant.proofs.instances.by_predicate_lemma.Goals as goal
 

@@ -1,10 +1,10 @@
 use Rattle.std.proofs.Common.{List, Some, refl, sym, subst, ap, ◌∙◌}
 use Rattle.hol_model.specs.declared.fault.Fault.TheVariants.{Memory}
 use Rattle.hol_model.specs.Lexing.{Lexes}
-use Rattle.hol_syntax.specs.Steps.{flat_steps_of}
-use Rattle.hol_syntax.specs.Views.{tokens_of, steps_of}
+use Rattle.hol_grammar.specs.Steps.{flat_steps_of}
+use Rattle.hol_grammar.specs.Views.{tokens_of, steps_of}
 use Rattle.hol_script.specs.SessionState.{state_of}
-use Rattle.hol_script.proofs.ReadingLemmas.{tokens-lexed}
+use Rattle.hol_command.proofs.ReadingLemmas.{tokens-lexed}
 use Rattle.hol_script.proofs.SessionLemmas.{forgets, unlexed, unread_command, thm_turns, show_turns, var_turns, def_turns, newtype_turns, newconst_turns}
 use Rattle.hol_script.proofs.execute.execute.Goals as goal
 

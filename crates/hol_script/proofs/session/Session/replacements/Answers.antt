@@ -1,8 +1,8 @@
 use Rattle.std.proofs.Common.{◌≡◌, ◌+◌, ◌∷◌, List, drop, sym, subst, ◌∙◌, ap}
 use Rattle.hol_model.specs.Sessions.{scope_in, replacement}
 use Rattle.hol_script.specs.SessionState.{state_of}
-use Rattle.hol_script.specs.declared.pairs.TermPair.{TermPair}
-use Rattle.hol_script.specs.Views.{IsTermPair}
+use Rattle.hol_command.specs.declared.pairs.TermPair.{TermPair}
+use Rattle.hol_command.specs.Views.{IsTermPair}
 use Rattle.hol_script.proofs.ReplacementLemmas.{IsReadTo, read-further, item-at}
 use Rattle.hol_script.proofs.session.Session.replacements.Goals as goal
 

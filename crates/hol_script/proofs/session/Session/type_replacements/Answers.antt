@@ -1,8 +1,8 @@
 use Rattle.std.proofs.Common.{◌≡◌, ◌+◌, ◌∷◌, List, drop, sym, subst, ◌∙◌, ap}
 use Rattle.hol_model.specs.Sessions.{scope_in, type_replacement}
 use Rattle.hol_script.specs.SessionState.{state_of}
-use Rattle.hol_script.specs.declared.pairs.TypePair.{TypePair}
-use Rattle.hol_script.specs.Views.{IsTypePair}
+use Rattle.hol_command.specs.declared.pairs.TypePair.{TypePair}
+use Rattle.hol_command.specs.Views.{IsTypePair}
 use Rattle.hol_script.proofs.ReplacementLemmas.{IsReadTo, read-further, item-at}
 use Rattle.hol_script.proofs.session.Session.type_replacements.Goals as goal
 

@@ -1,5 +1,0 @@
-use Rattle.hol_bool.proofs.FormulaLemmas.{conclusion-formula}
-use Rattle.hol_bool.proofs.steps.conclusion_of.Goals as goal
-
-pub returns-clause-formula : goal.returns-clause-formula
-returns-clause-formula c = conclusion-formula c.args.recorder.now c.theory_is_legal.ensures c.args.premise.now c.requires c.thm.result.now c.thm.ensures c.concl.ensures.theorem

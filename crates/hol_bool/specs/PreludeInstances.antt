@@ -1,0 +1,42 @@
+-- Theorems of the prelude at formulas for their variables p, q and r.
+use Rattle.std.specs.Prelude.{◌≡◌, ℕ, List, [], ◌∷◌, true, Some, None, slice_get}
+use Rattle.std.specs.List.{list_all}
+use Rattle.hol_model.specs.NamedTerm.{NamedTerm}
+use Rattle.hol_model.specs.Nameless.{Nameless, image}
+use Rattle.hol_model.specs.Measures.{nameless_within_limits}
+use Rattle.hol_model.specs.Theory.{Theory}
+use Rattle.hol_model.specs.Instantiation.{instantiate_all, replacements_refusal}
+use Rattle.hol_prelude.specs.Prelude.{prelude_theorems, shown, p, q, r}
+use Rattle.hol_equal.specs.Sequents.{instance_of}
+use Rattle.hol_equal.specs.Room.{Room, FitsIf}
+
+abbrev pub at_p : NamedTerm → List (NamedTerm × NamedTerm)
+at_p a = (a, p) ∷ []
+
+abbrev pub at_p_q : NamedTerm → NamedTerm → List (NamedTerm × NamedTerm)
+at_p_q a b = (a, p) ∷ (b, q) ∷ []
+
+abbrev pub at_p_q_r : NamedTerm → NamedTerm → NamedTerm → List (NamedTerm × NamedTerm)
+at_p_q_r a b c = (a, p) ∷ (b, q) ∷ (c, r) ∷ []
+
+-- at these terms, the theorem of this number of the prelude leads from one term to the other, and where there is room
+-- both fit
+pub record LeadsTo (theory : Theory) (number : ℕ) (terms : List (NamedTerm × NamedTerm)) (room : Room) (premise conclusion : Nameless) : Type 0 where
+  pub hypothesis : NamedTerm
+  pub stated : NamedTerm
+  pub theorem_is : slice_get prelude_theorems number ≡ Some (shown (hypothesis ∷ []) stated)
+  pub is_small : list_all nameless_within_limits (instantiate_all [] (image stated) ∷ instantiate_all [] (image hypothesis) ∷ []) ≡ true
+  pub may_replace : replacements_refusal theory terms ≡ None
+  pub premise_is : premise ≡ instance_of [] terms (image hypothesis)
+  pub conclusion_is : conclusion ≡ instance_of [] terms (image stated)
+  pub premise_fits : FitsIf room premise
+  pub conclusion_fits : FitsIf room conclusion
+
+-- at these terms, the theorem of this number of the prelude says this, which fits where there is room
+pub record Says (theory : Theory) (number : ℕ) (terms : List (NamedTerm × NamedTerm)) (room : Room) (conclusion : Nameless) : Type 0 where
+  pub stated : NamedTerm
+  pub theorem_is : slice_get prelude_theorems number ≡ Some (shown [] stated)
+  pub is_small : nameless_within_limits (instantiate_all [] (image stated)) ≡ true
+  pub may_replace : replacements_refusal theory terms ≡ None
+  pub conclusion_is : conclusion ≡ instance_of [] terms (image stated)
+  pub conclusion_fits : FitsIf room conclusion

@@ -1,0 +1,4 @@
+pub mod Pairs
+pub mod TypeChange
+pub mod Change
+pub mod Forming

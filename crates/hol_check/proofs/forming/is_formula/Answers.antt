@@ -1,5 +1,0 @@
-use Rattle.hol_check.proofs.ChangeLemmas.{IsGrown-trans}
-use Rattle.hol_check.proofs.forming.is_formula.Goals as goal
-
-pub returns-in-Ok-boolean-clause-grows : goal.returns-in-Ok-boolean-clause-grows
-returns-in-Ok-boolean-clause-grows c = IsGrown-trans c.args.terms.now c.type_of.new.terms c.boolean.new.self c.type_of.ensures.grows c.boolean.ensures.grows

@@ -1,0 +1,13 @@
+use Rattle.std.proofs.Common.{refl}
+use Rattle.hol_model.specs.Commands.{newconst_command}
+use Rattle.hol_grammar.specs.Views.{tokens_of}
+use Rattle.hol_command.proofs.ReadingLemmas.{newconst-refused}
+use Rattle.hol_command.proofs.command.parse_newconst.Goals as goal
+
+pub returns-in-Ok : goal.returns-in-Ok
+returns-in-Ok c =
+    let read = c.in-Ok.ensures in
+    (newconst_command c.args.name.now read.0, read.1, refl, refl, read.2, (refl, read.3))
+
+pub returns-in-Err : goal.returns-in-Err
+returns-in-Err c = newconst-refused c.in-Err.error c.args.name.now (tokens_of c.args.tokens.now) c.in-Err.ensures

@@ -1,0 +1,216 @@
+-- What the readers of commands answer.
+use Rattle.std.specs.Prelude.{◌≡◌, ◌≢◌, ℕ, List, [], ◌∷◌, Bool, true, false, Option, None, Some, Result, Ok, Err, codes, if◌then◌else◌}
+use Rattle.std.specs.Option.{option_map}
+use Rattle.std.specs.Str.{bytes_eq}
+use Rattle.std.proofs.Common.{Vec, Bor, Global}
+use Rattle.hol_model.specs.declared.symbol.Symbol.{Symbol}
+use Rattle.hol_model.specs.declared.symbol.Symbol.TheVariants.{Backquote, Colon, Equal}
+use Rattle.hol_model.specs.declared.rule.TermRule.TheVariants.{Refl, Beta, Assume}
+use Rattle.hol_model.specs.declared.rule.PairRule.TheVariants.{Trans, MkComb, EqMp, DeductAntisym}
+use Rattle.hol_model.specs.declared.rule.Axiom.TheVariants.{Eta, Select}
+use Rattle.hol_model.specs.declared.rule.PremiseRule.TheVariants.{Sym, EqtIntro, EqtElim, Conjunct1, Conjunct2, Undisch, NotIntro, NotElim}
+use Rattle.hol_model.specs.declared.rule.PremisesRule.TheVariants.{ProveHyp, Conj, Mp}
+use Rattle.hol_model.specs.declared.rule.TermPremiseRule.TheVariants.{AddAssum, Disch, Spec, Gen, Disj1, Disj2, Contr}
+use Rattle.hol_model.specs.declared.rule.DerivedKind.{DerivedKind}
+use Rattle.hol_model.specs.declared.rule.DerivedKind.TheVariants.{BetaConv, Premise, Premises, TermPremise, DisjCases, Exists, Choose}
+use Rattle.hol_model.specs.declared.rule.RuleKind.{RuleKind}
+use Rattle.hol_model.specs.declared.rule.RuleKind.TheVariants.{Term, Pair, Abs, Inst, InstType, Axiom as OfAxiom, Derived}
+use Rattle.hol_model.specs.Token.{Token, Name, Mark}
+use Rattle.hol_model.specs.Lexing.{IsToken}
+use Rattle.hol_model.specs.TypeGrammar.{TypeTree, type_tokens, type_steps}
+use Rattle.hol_model.specs.TermGrammar.{TermTree, IsWithin}
+use Rattle.hol_model.specs.Commands.{DerivedTree, derived_kind_of, derived_tokens, IsDerivedTree, RuleTree, CommandTree, thm_command, show_command, var_command, def_command, newtype_command, newconst_command, kind_of, quoted, quote_tokens, argument_tokens, rule_tokens, IsQuotable, IsRuleTree, IsCommandTree, IsReadCommand}
+use Rattle.hol_grammar.specs.declared.token.Token.{Token as TokenHere}
+use Rattle.hol_grammar.specs.declared.type_reader.ReadError.{ReadError}
+use Rattle.hol_grammar.specs.declared.type_reader.ReadError.TheVariants.{Memory, Syntax}
+use Rattle.hol_grammar.specs.declared.type_reader.TypeStep.{TypeStep}
+use Rattle.hol_grammar.specs.declared.steps.TermStep.{TermStep}
+use Rattle.hol_grammar.specs.Views.{tokens_of, steps_of}
+use Rattle.hol_grammar.specs.Steps.{flat_steps_of}
+use Rattle.hol_grammar.specs.TermSteps.{term_steps, flat_steps}
+use Rattle.hol_command.specs.declared.derived.Derived.{Derived as OfDerived}
+use Rattle.hol_command.specs.declared.command.Rule.{Rule}
+use Rattle.hol_command.specs.declared.command.Command.{Command}
+use Rattle.hol_command.specs.declared.command.CommandKind.{CommandKind}
+use Rattle.hol_command.specs.declared.command.CommandKind.TheVariants.{Thm, Show, Var, Def, NewType, NewConst}
+use Rattle.hol_command.specs.Views.{IsDerived, IsRule, IsCommand}
+
+-- each of them is a token
+abbrev pub AreTokens : List Token → Type 0
+AreTokens [] = Unit {0}
+AreTokens (token ∷ tokens) = IsToken token × AreTokens tokens
+
+abbrev pub TakesName : Option (Bor (List ℕ) × Bor (List TokenHere)) → List Token → Type 0
+TakesName None tokens = (name : List ℕ) (rest : List Token) → tokens ≢ Name name ∷ rest
+TakesName (Some x) tokens = tokens ≡ Name x.0.now ∷ tokens_of x.1.now
+
+abbrev pub TakesOnlyName : Option (Bor (List ℕ)) → List Token → Type 0
+TakesOnlyName None tokens = (name : List ℕ) → tokens ≢ Name name ∷ []
+TakesOnlyName (Some x) tokens = tokens ≡ Name x.now ∷ []
+
+abbrev pub TakesOnlyTwoNames : Option (Bor (List ℕ) × Bor (List ℕ)) → List Token → Type 0
+TakesOnlyTwoNames None tokens = (first second : List ℕ) → tokens ≢ Name first ∷ Name second ∷ []
+TakesOnlyTwoNames (Some x) tokens = tokens ≡ Name x.0.now ∷ Name x.1.now ∷ []
+
+abbrev pub TakesMark : Option (Bor (List TokenHere)) → Symbol → List Token → Type 0
+TakesMark None symbol tokens = (rest : List Token) → tokens ≢ Mark symbol ∷ rest
+TakesMark (Some x) symbol tokens = tokens ≡ Mark symbol ∷ tokens_of x.now
+
+-- a backquote
+abbrev pub is_quote_symbol : Symbol → Bool
+is_quote_symbol Backquote = true
+is_quote_symbol _ = false
+
+abbrev pub is_quote : Token → Bool
+is_quote (Mark symbol) = is_quote_symbol symbol
+is_quote _ = false
+
+-- no backquote is among them
+abbrev pub HasNoQuote : List Token → Type 0
+HasNoQuote [] = Unit {0}
+HasNoQuote (token ∷ tokens) = (is_quote token ≡ false) × HasNoQuote tokens
+
+abbrev pub TakesQuote : Option (Bor (List TokenHere) × Bor (List TokenHere)) → List Token → Type 0
+TakesQuote None tokens = (inner rest : List Token) → tokens ≢ quoted inner rest
+TakesQuote (Some x) tokens = (tokens ≡ quoted (tokens_of x.0.now) (tokens_of x.1.now)) × HasNoQuote (tokens_of x.0.now)
+
+abbrev pub ParsesQuote : Result (Vec TermStep Global × Bor (List TokenHere)) ReadError → List Token → Type 0
+ParsesQuote (Ok x) tokens =
+    (tree : TermTree) × IsQuotable tree × (tokens ≡ quote_tokens tree (tokens_of x.1.now)) × (flat_steps_of x.0.items ≡ flat_steps (term_steps tree))
+ParsesQuote (Err Memory) tokens = Unit {0}
+ParsesQuote (Err Syntax) tokens = (tree : TermTree) (rest : List Token) → IsQuotable tree → tokens ≢ quote_tokens tree rest
+
+-- a quoted term and nothing else
+abbrev pub ParsesOnlyQuote : Result (Vec TermStep Global) ReadError → List Token → Type 0
+ParsesOnlyQuote (Ok steps) tokens =
+    (tree : TermTree) × IsQuotable tree × (tokens ≡ quote_tokens tree []) × (flat_steps_of steps.items ≡ flat_steps (term_steps tree))
+ParsesOnlyQuote (Err Memory) tokens = Unit {0}
+ParsesOnlyQuote (Err Syntax) tokens = (tree : TermTree) → IsQuotable tree → tokens ≢ quote_tokens tree []
+
+-- a quoted term, a name and nothing else
+abbrev pub ParsesQuoteAndName : Result (Vec TermStep Global × Bor (List ℕ)) ReadError → List Token → Type 0
+ParsesQuoteAndName (Ok x) tokens =
+    (tree : TermTree) × IsQuotable tree × (tokens ≡ quote_tokens tree (Name x.1.now ∷ [])) × (flat_steps_of x.0.items ≡ flat_steps (term_steps tree))
+ParsesQuoteAndName (Err Memory) tokens = Unit {0}
+ParsesQuoteAndName (Err Syntax) tokens = (tree : TermTree) (name : List ℕ) → IsQuotable tree → tokens ≢ quote_tokens tree (Name name ∷ [])
+
+-- the kind of derived rule that a word names
+abbrev pub derived_kind_of_word : List ℕ → Option DerivedKind
+derived_kind_of_word word =
+    if bytes_eq word (codes "BETA_CONV") then Some BetaConv else
+    (if bytes_eq word (codes "SYM") then Some (Premise Sym) else
+    (if bytes_eq word (codes "EQT_INTRO") then Some (Premise EqtIntro) else
+    (if bytes_eq word (codes "EQT_ELIM") then Some (Premise EqtElim) else
+    (if bytes_eq word (codes "CONJUNCT1") then Some (Premise Conjunct1) else
+    (if bytes_eq word (codes "CONJUNCT2") then Some (Premise Conjunct2) else
+    (if bytes_eq word (codes "UNDISCH") then Some (Premise Undisch) else
+    (if bytes_eq word (codes "NOT_INTRO") then Some (Premise NotIntro) else
+    (if bytes_eq word (codes "NOT_ELIM") then Some (Premise NotElim) else
+    (if bytes_eq word (codes "PROVE_HYP") then Some (Premises ProveHyp) else
+    (if bytes_eq word (codes "CONJ") then Some (Premises Conj) else
+    (if bytes_eq word (codes "MP") then Some (Premises Mp) else
+    (if bytes_eq word (codes "ADD_ASSUM") then Some (TermPremise AddAssum) else
+    (if bytes_eq word (codes "DISCH") then Some (TermPremise Disch) else
+    (if bytes_eq word (codes "SPEC") then Some (TermPremise Spec) else
+    (if bytes_eq word (codes "GEN") then Some (TermPremise Gen) else
+    (if bytes_eq word (codes "DISJ1") then Some (TermPremise Disj1) else
+    (if bytes_eq word (codes "DISJ2") then Some (TermPremise Disj2) else
+    (if bytes_eq word (codes "CONTR") then Some (TermPremise Contr) else
+    (if bytes_eq word (codes "DISJ_CASES") then Some DisjCases else
+    (if bytes_eq word (codes "EXISTS") then Some Exists else
+    (if bytes_eq word (codes "CHOOSE") then Some Choose else None)))))))))))))))))))))
+
+-- the kind of rule that a word names
+abbrev pub rule_kind_of : List ℕ → Option RuleKind
+rule_kind_of word =
+    if bytes_eq word (codes "REFL") then Some (Term Refl) else
+    (if bytes_eq word (codes "BETA") then Some (Term Beta) else
+    (if bytes_eq word (codes "ASSUME") then Some (Term Assume) else
+    (if bytes_eq word (codes "TRANS") then Some (Pair Trans) else
+    (if bytes_eq word (codes "MK_COMB") then Some (Pair MkComb) else
+    (if bytes_eq word (codes "EQ_MP") then Some (Pair EqMp) else
+    (if bytes_eq word (codes "DEDUCT_ANTISYM_RULE") then Some (Pair DeductAntisym) else
+    (if bytes_eq word (codes "ABS") then Some Abs else
+    (if bytes_eq word (codes "INST") then Some Inst else
+    (if bytes_eq word (codes "INST_TYPE") then Some InstType else
+    (if bytes_eq word (codes "ETA") then Some (OfAxiom Eta) else
+    (if bytes_eq word (codes "SELECT") then Some (OfAxiom Select) else option_map Derived (derived_kind_of_word word))))))))))))
+
+abbrev pub ParsesDerived : Result OfDerived ReadError → DerivedKind → List Token → Type 0
+ParsesDerived (Ok derived) kind tokens =
+    (tree : DerivedTree) × IsDerivedTree tree × (derived_kind_of tree ≡ kind) × (tokens ≡ derived_tokens tree) × IsDerived derived tree
+ParsesDerived (Err Memory) kind tokens = Unit {0}
+ParsesDerived (Err Syntax) kind tokens = (tree : DerivedTree) → IsDerivedTree tree → derived_kind_of tree ≡ kind → tokens ≢ derived_tokens tree
+
+abbrev pub ParsesArguments : Result Rule ReadError → RuleKind → List Token → Type 0
+ParsesArguments (Ok rule) kind tokens =
+    (tree : RuleTree) × IsRuleTree tree × (kind_of tree ≡ kind) × (tokens ≡ argument_tokens tree) × IsRule rule tree
+ParsesArguments (Err Memory) kind tokens = Unit {0}
+ParsesArguments (Err Syntax) kind tokens = (tree : RuleTree) → IsRuleTree tree → kind_of tree ≡ kind → tokens ≢ argument_tokens tree
+
+abbrev pub ParsesRule : Result Rule ReadError → List Token → Type 0
+ParsesRule (Ok rule) tokens = (tree : RuleTree) × IsRuleTree tree × (tokens ≡ rule_tokens tree) × IsRule rule tree
+ParsesRule (Err Memory) tokens = Unit {0}
+ParsesRule (Err Syntax) tokens = (tree : RuleTree) → IsRuleTree tree → tokens ≢ rule_tokens tree
+
+-- a colon, and then a type that is not nested too deep
+abbrev pub ParsesTyping : Result (Vec TypeStep Global) ReadError → List Token → Type 0
+ParsesTyping (Ok steps) tokens = (tree : TypeTree) × IsWithin tree × (tokens ≡ Mark Colon ∷ type_tokens tree []) × (steps_of steps.items ≡ type_steps tree)
+ParsesTyping (Err Memory) tokens = Unit {0}
+ParsesTyping (Err Syntax) tokens = (tree : TypeTree) → IsWithin tree → tokens ≢ Mark Colon ∷ type_tokens tree []
+
+-- the kind of a command
+abbrev pub kind_of_command : CommandTree → CommandKind
+kind_of_command (thm_command name rule) = Thm
+kind_of_command (show_command name) = Show
+kind_of_command (var_command name tree) = Var
+kind_of_command (def_command name tree) = Def
+kind_of_command (newtype_command name) = NewType
+kind_of_command (newconst_command name tree) = NewConst
+
+abbrev pub command_word : CommandKind → List ℕ
+command_word Thm = codes "thm"
+command_word Show = codes "show"
+command_word Var = codes "var"
+command_word Def = codes "def"
+command_word NewType = codes "newtype"
+command_word NewConst = codes "newconst"
+
+-- the kind of command that a word names
+abbrev pub command_kind_of : List ℕ → Option CommandKind
+command_kind_of word =
+    if bytes_eq word (codes "thm") then Some Thm else
+    (if bytes_eq word (codes "show") then Some Show else
+    (if bytes_eq word (codes "var") then Some Var else
+    (if bytes_eq word (codes "def") then Some Def else
+    (if bytes_eq word (codes "newtype") then Some NewType else
+    (if bytes_eq word (codes "newconst") then Some NewConst else None)))))
+
+-- the name that a command gives or shows
+abbrev pub name_in_command : CommandTree → List ℕ
+name_in_command (thm_command name rule) = name
+name_in_command (show_command name) = name
+name_in_command (var_command name tree) = name
+name_in_command (def_command name tree) = name
+name_in_command (newtype_command name) = name
+name_in_command (newconst_command name tree) = name
+
+-- what follows the name
+abbrev pub body_tokens : CommandTree → List Token
+body_tokens (thm_command name rule) = Mark Equal ∷ rule_tokens rule
+body_tokens (show_command name) = []
+body_tokens (var_command name tree) = Mark Colon ∷ type_tokens tree []
+body_tokens (def_command name tree) = Mark Equal ∷ quote_tokens tree []
+body_tokens (newtype_command name) = []
+body_tokens (newconst_command name tree) = Mark Colon ∷ type_tokens tree []
+
+abbrev pub ParsesBody : Result Command ReadError → CommandKind → List ℕ → List Token → Type 0
+ParsesBody (Ok command) kind name tokens =
+    (tree : CommandTree) × IsCommandTree tree × (kind_of_command tree ≡ kind) × (name_in_command tree ≡ name) × (tokens ≡ body_tokens tree) × IsCommand command tree
+ParsesBody (Err Memory) kind name tokens = Unit {0}
+ParsesBody (Err Syntax) kind name tokens = (tree : CommandTree) → IsCommandTree tree → kind_of_command tree ≡ kind → tokens ≢ body_tokens tree
+
+abbrev pub ParsesCommand : Result Command ReadError → List Token → Type 0
+ParsesCommand (Ok command) tokens = (tree : CommandTree) × IsReadCommand tokens tree × IsCommand command tree
+ParsesCommand (Err Memory) tokens = Unit {0}
+ParsesCommand (Err Syntax) tokens = (tree : CommandTree) → ¬ (IsReadCommand tokens tree)

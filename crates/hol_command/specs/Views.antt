@@ -1,0 +1,69 @@
+-- The commands of the code as those of the grammar.
+use Rattle.std.specs.Prelude.{◌≡◌, ℕ, true, List, [], ◌∷◌}
+use Rattle.hol_model.specs.Name.{is_type_variable_name}
+use Rattle.hol_model.specs.Commands.{DerivedTree, by_conversion, by_premise, by_premises, by_term_and_premise, by_cases, by_witness, by_choice, RuleTree, by_term, by_pair, by_abs, by_inst, by_inst_type, by_axiom, by_derived, CommandTree, thm_command, show_command, var_command, def_command, newtype_command, newconst_command}
+use Rattle.hol_model.specs.TypeGrammar.{TypeTree, type_steps}
+use Rattle.hol_model.specs.TermGrammar.{TermTree}
+use Rattle.hol_grammar.specs.TermSteps.{term_steps, flat_steps}
+use Rattle.hol_grammar.specs.Views.{steps_of}
+use Rattle.hol_grammar.specs.Steps.{flat_steps_of}
+use Rattle.hol_command.specs.declared.command.Rule.{Rule}
+use Rattle.hol_command.specs.declared.command.Rule.TheVariants.{OfTerm, OfTheorems, Abs, Inst, InstType, OfAxiom, Derived as OfDerived}
+use Rattle.hol_command.specs.declared.derived.Derived.{Derived}
+use Rattle.hol_command.specs.declared.derived.Derived.TheVariants.{OfTerm as OfConversion, OfPremise, OfPremises, OfTermAndPremise, Cases, Witness, Choice}
+use Rattle.hol_command.specs.declared.pairs.TermPair.{TermPair}
+use Rattle.hol_command.specs.declared.pairs.TypePair.{TypePair}
+use Rattle.hol_command.specs.declared.command.Command.{Command}
+use Rattle.hol_command.specs.declared.command.Command.TheVariants.{Thm, Show, Var, Def, NewType, NewConst}
+
+-- the relation holds of the items of two lists, one by one
+abbrev pub Match : {A B : Type 0} → (A → B → Type 0) → List A → List B → Type 0
+Match fact [] [] = Unit {0}
+Match fact (x ∷ xs) (y ∷ ys) = fact x y × Match fact xs ys
+Match fact _ _ = ⊥
+
+-- the pair has the terms of the trees by their steps
+abbrev pub IsTermPair : TermPair → TermTree × TermTree → Type 0
+IsTermPair pair trees = (flat_steps_of pair.new.items ≡ flat_steps (term_steps trees.0)) × (flat_steps_of pair.old.items ≡ flat_steps (term_steps trees.1))
+
+abbrev pub AreTermPairs : List TermPair → List (TermTree × TermTree) → Type 0
+AreTermPairs pairs trees = Match IsTermPair pairs trees
+
+-- the pair has the type of the tree by its steps, and the type variable
+abbrev pub IsTypePair : TypePair → TypeTree × List ℕ → Type 0
+IsTypePair pair parts = (steps_of pair.new.items ≡ type_steps parts.0) × (pair.old.now ≡ parts.1) × (is_type_variable_name parts.1 ≡ true)
+
+abbrev pub AreTypePairs : List TypePair → List (TypeTree × List ℕ) → Type 0
+AreTypePairs pairs trees = Match IsTypePair pairs trees
+
+-- the derived rule has the arguments of the tree, its terms by their steps
+abbrev pub IsDerived : Derived → DerivedTree → Type 0
+IsDerived (OfConversion steps) (by_conversion tree) = flat_steps_of steps.items ≡ flat_steps (term_steps tree)
+IsDerived (OfPremise rule a) (by_premise other b) = (rule ≡ other) × (a.now ≡ b)
+IsDerived (OfPremises rule a b) (by_premises other c d) = (rule ≡ other) × (a.now ≡ c) × (b.now ≡ d)
+IsDerived (OfTermAndPremise rule steps a) (by_term_and_premise other tree b) = (rule ≡ other) × (flat_steps_of steps.items ≡ flat_steps (term_steps tree)) × (a.now ≡ b)
+IsDerived (Cases a b c) (by_cases d e f) = (a.now ≡ d) × (b.now ≡ e) × (c.now ≡ f)
+IsDerived (Witness formula witness a) (by_witness tree other b) =
+    (flat_steps_of formula.items ≡ flat_steps (term_steps tree)) × (flat_steps_of witness.items ≡ flat_steps (term_steps other)) × (a.now ≡ b)
+IsDerived (Choice steps a b) (by_choice tree c d) = (flat_steps_of steps.items ≡ flat_steps (term_steps tree)) × (a.now ≡ c) × (b.now ≡ d)
+IsDerived _ _ = ⊥
+
+-- the rule has the arguments of the tree, its terms by their steps
+abbrev pub IsRule : Rule → RuleTree → Type 0
+IsRule (OfTerm rule steps) (by_term other tree) = (rule ≡ other) × (flat_steps_of steps.items ≡ flat_steps (term_steps tree))
+IsRule (OfTheorems rule a b) (by_pair other c d) = (rule ≡ other) × (a.now ≡ c) × (b.now ≡ d)
+IsRule (Abs steps a) (by_abs tree b) = (flat_steps_of steps.items ≡ flat_steps (term_steps tree)) × (a.now ≡ b)
+IsRule (Inst pairs a) (by_inst others b) = AreTermPairs pairs.items others × (a.now ≡ b)
+IsRule (InstType pairs a) (by_inst_type others b) = AreTypePairs pairs.items others × (a.now ≡ b)
+IsRule (OfAxiom rule) (by_axiom other) = rule ≡ other
+IsRule (OfDerived derived) (by_derived tree) = IsDerived derived tree
+IsRule _ _ = ⊥
+
+abbrev pub IsCommand : Command → CommandTree → Type 0
+IsCommand (Thm name rule) (thm_command other tree) = (name.now ≡ other) × IsRule rule tree
+IsCommand (Show name) (show_command other) = name.now ≡ other
+IsCommand (Var name steps) (var_command other tree) = (name.now ≡ other) × (steps_of steps.items ≡ type_steps tree)
+IsCommand (Def name steps) (def_command other tree) = (name.now ≡ other) × (flat_steps_of steps.items ≡ flat_steps (term_steps tree))
+IsCommand (NewType name) (newtype_command other) = name.now ≡ other
+IsCommand (NewConst name steps) (newconst_command other tree) = (name.now ≡ other) × (steps_of steps.items ≡ type_steps tree)
+IsCommand _ _ = ⊥

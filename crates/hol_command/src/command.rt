@@ -1,0 +1,347 @@
+// Commands, read from the tokens of a text.
+ghost use Rattle.std.specs.Prelude.{◌≡◌};
+ghost use Rattle.hol_grammar.specs.Views.{tokens_of};
+ghost use Rattle.hol_command.specs.Reading.{AreTokens, rule_kind_of, command_kind_of, ParsesTyping, ParsesArguments, ParsesRule, ParsesBody, ParsesCommand};
+ghost use Rattle.hol_command.specs.Pairs.{ParsesPairs};
+
+use crate::derived::{Derived, derived_kind, parse_derived};
+use crate::pairs::{
+    QuotedPair, TermPair, TypePair, parse_term_pairs, parse_type_pairs, take_pairs,
+};
+use crate::quotes::{parse_only_quote, parse_quote_and_name};
+use crate::tokens::{only_name, only_two_names, take_mark, take_name};
+use hol_grammar::{ReadError, TermStep, Token, TypeStep};
+use hol_model::{Axiom, DerivedKind, PairRule, RuleKind, Symbol, TermRule};
+use hol_syntax::parse_type;
+use std::alloc::Global;
+
+/// A rule with its arguments: terms and types by their steps, theorems and type variables by their names.
+#[derive(Drop)]
+pub enum Rule<'a> {
+    OfTerm(TermRule, Vec<TermStep<'a>>),
+    OfTheorems(PairRule, &'a str, &'a str),
+    Abs(Vec<TermStep<'a>>, &'a str),
+    Inst(Vec<TermPair<'a>>, &'a str),
+    InstType(Vec<TypePair<'a>>, &'a str),
+    OfAxiom(Axiom),
+    Derived(Derived<'a>),
+}
+
+/// A command with its arguments: terms and types by their steps.
+#[derive(Drop)]
+pub enum Command<'a> {
+    Thm(&'a str, Rule<'a>),
+    Show(&'a str),
+    Var(&'a str, Vec<TypeStep<'a>>),
+    Def(&'a str, Vec<TermStep<'a>>),
+    NewType(&'a str),
+    NewConst(&'a str, Vec<TypeStep<'a>>),
+}
+
+// A command without its arguments.
+#[derive(Clone, Copy, Debug, Drop)]
+enum CommandKind {
+    Thm,
+    Show,
+    Var,
+    Def,
+    NewType,
+    NewConst,
+}
+
+// The kind of rule that a word names.
+fn rule_kind(word: &str) -> Option<RuleKind>
+    ensures { result ≡ rule_kind_of word.now }
+{
+    if word == "REFL" {
+        Some(RuleKind::Term(TermRule::Refl))
+    } else if word == "BETA" {
+        Some(RuleKind::Term(TermRule::Beta))
+    } else if word == "ASSUME" {
+        Some(RuleKind::Term(TermRule::Assume))
+    } else if word == "TRANS" {
+        Some(RuleKind::Pair(PairRule::Trans))
+    } else if word == "MK_COMB" {
+        Some(RuleKind::Pair(PairRule::MkComb))
+    } else if word == "EQ_MP" {
+        Some(RuleKind::Pair(PairRule::EqMp))
+    } else if word == "DEDUCT_ANTISYM_RULE" {
+        Some(RuleKind::Pair(PairRule::DeductAntisym))
+    } else if word == "ABS" {
+        Some(RuleKind::Abs)
+    } else if word == "INST" {
+        Some(RuleKind::Inst)
+    } else if word == "INST_TYPE" {
+        Some(RuleKind::InstType)
+    } else if word == "ETA" {
+        Some(RuleKind::Axiom(Axiom::Eta))
+    } else if word == "SELECT" {
+        Some(RuleKind::Axiom(Axiom::Select))
+    } else {
+        match derived_kind(word) {
+            Some(kind) => Some(RuleKind::Derived(kind)),
+            None => None,
+        }
+    }
+}
+
+// A quoted term and nothing else.
+fn parse_term_rule<'a>(
+    alloc: Global,
+    rule: TermRule,
+    tokens: &'a [Token<'a>],
+) -> Result<Rule<'a>, ReadError>
+    ensures { ParsesArguments result (RuleKind.Term rule) (tokens_of tokens.now) }
+{
+    match parse_only_quote(alloc, tokens) {
+        Ok(steps) => Ok(Rule::OfTerm(rule, steps)),
+        Err(error) => Err(error),
+    }
+}
+
+// The names of two theorems and nothing else.
+fn parse_pair_rule<'a>(rule: PairRule, tokens: &'a [Token<'a>]) -> Result<Rule<'a>, ReadError>
+    requires { AreTokens (tokens_of tokens.now) }
+    ensures { ParsesArguments result (RuleKind.Pair rule) (tokens_of tokens.now) }
+{
+    match only_two_names(tokens) {
+        Some((first, second)) => Ok(Rule::OfTheorems(rule, first, second)),
+        None => Err(ReadError::Syntax),
+    }
+}
+
+// A quoted variable, the name of a theorem and nothing else.
+fn parse_abs<'a>(alloc: Global, tokens: &'a [Token<'a>]) -> Result<Rule<'a>, ReadError>
+    requires { AreTokens (tokens_of tokens.now) }
+    ensures { ParsesArguments result RuleKind.Abs (tokens_of tokens.now) }
+{
+    match parse_quote_and_name(alloc, tokens) {
+        Ok((steps, name)) => Ok(Rule::Abs(steps, name)),
+        Err(error) => Err(error),
+    }
+}
+
+// A list of pairs in brackets and the name of a theorem, and nothing else.
+fn parse_pairs<'a>(
+    alloc: Global,
+    tokens: &'a [Token<'a>],
+) -> Result<(Vec<QuotedPair<'a>>, &'a str), ReadError>
+    requires { AreTokens (tokens_of tokens.now) }
+    ensures { ParsesPairs result (tokens_of tokens.now) }
+{
+    let (pairs, rest) = match take_pairs(alloc, tokens) {
+        Ok(taken) => taken,
+        Err(error) => return Err(error),
+    };
+    match only_name(rest) {
+        Some(name) => Ok((pairs, name)),
+        None => Err(ReadError::Syntax),
+    }
+}
+
+// Pairs of quoted terms and the name of a theorem.
+fn parse_inst<'a>(alloc: Global, tokens: &'a [Token<'a>]) -> Result<Rule<'a>, ReadError>
+    requires { AreTokens (tokens_of tokens.now) }
+    ensures { ParsesArguments result RuleKind.Inst (tokens_of tokens.now) }
+{
+    let (pairs, name) = match parse_pairs(alloc, tokens) {
+        Ok(parsed) => parsed,
+        Err(error) => return Err(error),
+    };
+    match parse_term_pairs(alloc, &pairs) {
+        Ok(pairs) => Ok(Rule::Inst(pairs, name)),
+        Err(error) => Err(error),
+    }
+}
+
+// Pairs of a quoted type and a quoted type variable, and the name of a theorem.
+fn parse_inst_type<'a>(alloc: Global, tokens: &'a [Token<'a>]) -> Result<Rule<'a>, ReadError>
+    requires { AreTokens (tokens_of tokens.now) }
+    ensures { ParsesArguments result RuleKind.InstType (tokens_of tokens.now) }
+{
+    let (pairs, name) = match parse_pairs(alloc, tokens) {
+        Ok(parsed) => parsed,
+        Err(error) => return Err(error),
+    };
+    match parse_type_pairs(alloc, &pairs) {
+        Ok(pairs) => Ok(Rule::InstType(pairs, name)),
+        Err(error) => Err(error),
+    }
+}
+
+fn parse_axiom<'a>(named: Axiom, tokens: &'a [Token<'a>]) -> Result<Rule<'a>, ReadError>
+    ensures { ParsesArguments result (RuleKind.Axiom named) (tokens_of tokens.now) }
+{
+    if !tokens.is_empty() {
+        return Err(ReadError::Syntax);
+    }
+    Ok(Rule::OfAxiom(named))
+}
+
+fn parse_derived_rule<'a>(
+    alloc: Global,
+    kind: DerivedKind,
+    tokens: &'a [Token<'a>],
+) -> Result<Rule<'a>, ReadError>
+    requires { AreTokens (tokens_of tokens.now) }
+    ensures { ParsesArguments result (RuleKind.Derived kind) (tokens_of tokens.now) }
+{
+    match parse_derived(alloc, kind, tokens) {
+        Ok(derived) => Ok(Rule::Derived(derived)),
+        Err(error) => Err(error),
+    }
+}
+
+// A rule with its arguments.
+fn parse_rule<'a>(alloc: Global, tokens: &'a [Token<'a>]) -> Result<Rule<'a>, ReadError>
+    requires { AreTokens (tokens_of tokens.now) }
+    ensures { ParsesRule result (tokens_of tokens.now) }
+{
+    let Some((word, arguments)) = take_name(tokens) else {
+        return Err(ReadError::Syntax);
+    };
+    let Some(kind) = rule_kind(word) else {
+        return Err(ReadError::Syntax);
+    };
+    match kind {
+        RuleKind::Term(rule) => parse_term_rule(alloc, rule, arguments),
+        RuleKind::Pair(rule) => parse_pair_rule(rule, arguments),
+        RuleKind::Abs => parse_abs(alloc, arguments),
+        RuleKind::Inst => parse_inst(alloc, arguments),
+        RuleKind::InstType => parse_inst_type(alloc, arguments),
+        RuleKind::Axiom(axiom) => parse_axiom(axiom, arguments),
+        RuleKind::Derived(kind) => parse_derived_rule(alloc, kind, arguments),
+    }
+}
+
+// The type behind a colon and nothing else.
+fn parse_typing<'a>(alloc: Global, tokens: &'a [Token<'a>]) -> Result<Vec<TypeStep<'a>>, ReadError>
+    ensures { ParsesTyping result (tokens_of tokens.now) }
+{
+    match take_mark(tokens, Symbol::Colon) {
+        Some(ty) => parse_type(alloc, ty),
+        None => Err(ReadError::Syntax),
+    }
+}
+
+fn parse_thm<'a>(
+    alloc: Global,
+    name: &'a str,
+    tokens: &'a [Token<'a>],
+) -> Result<Command<'a>, ReadError>
+    requires { AreTokens (tokens_of tokens.now) }
+    ensures { ParsesBody result CommandKind.Thm name.now (tokens_of tokens.now) }
+{
+    let Some(rule) = take_mark(tokens, Symbol::Equal) else {
+        return Err(ReadError::Syntax);
+    };
+    match parse_rule(alloc, rule) {
+        Ok(rule) => Ok(Command::Thm(name, rule)),
+        Err(error) => Err(error),
+    }
+}
+
+fn parse_show<'a>(name: &'a str, tokens: &'a [Token<'a>]) -> Result<Command<'a>, ReadError>
+    ensures { ParsesBody result CommandKind.Show name.now (tokens_of tokens.now) }
+{
+    if !tokens.is_empty() {
+        return Err(ReadError::Syntax);
+    }
+    Ok(Command::Show(name))
+}
+
+fn parse_var<'a>(
+    alloc: Global,
+    name: &'a str,
+    tokens: &'a [Token<'a>],
+) -> Result<Command<'a>, ReadError>
+    ensures { ParsesBody result CommandKind.Var name.now (tokens_of tokens.now) }
+{
+    match parse_typing(alloc, tokens) {
+        Ok(ty) => Ok(Command::Var(name, ty)),
+        Err(error) => Err(error),
+    }
+}
+
+fn parse_def<'a>(
+    alloc: Global,
+    name: &'a str,
+    tokens: &'a [Token<'a>],
+) -> Result<Command<'a>, ReadError>
+    ensures { ParsesBody result CommandKind.Def name.now (tokens_of tokens.now) }
+{
+    let Some(quote) = take_mark(tokens, Symbol::Equal) else {
+        return Err(ReadError::Syntax);
+    };
+    match parse_only_quote(alloc, quote) {
+        Ok(steps) => Ok(Command::Def(name, steps)),
+        Err(error) => Err(error),
+    }
+}
+
+fn parse_newtype<'a>(name: &'a str, tokens: &'a [Token<'a>]) -> Result<Command<'a>, ReadError>
+    ensures { ParsesBody result CommandKind.NewType name.now (tokens_of tokens.now) }
+{
+    if !tokens.is_empty() {
+        return Err(ReadError::Syntax);
+    }
+    Ok(Command::NewType(name))
+}
+
+fn parse_newconst<'a>(
+    alloc: Global,
+    name: &'a str,
+    tokens: &'a [Token<'a>],
+) -> Result<Command<'a>, ReadError>
+    ensures { ParsesBody result CommandKind.NewConst name.now (tokens_of tokens.now) }
+{
+    match parse_typing(alloc, tokens) {
+        Ok(ty) => Ok(Command::NewConst(name, ty)),
+        Err(error) => Err(error),
+    }
+}
+
+// The kind of command that a word names.
+fn command_kind(word: &str) -> Option<CommandKind>
+    ensures { result ≡ command_kind_of word.now }
+{
+    if word == "thm" {
+        Some(CommandKind::Thm)
+    } else if word == "show" {
+        Some(CommandKind::Show)
+    } else if word == "var" {
+        Some(CommandKind::Var)
+    } else if word == "def" {
+        Some(CommandKind::Def)
+    } else if word == "newtype" {
+        Some(CommandKind::NewType)
+    } else if word == "newconst" {
+        Some(CommandKind::NewConst)
+    } else {
+        None
+    }
+}
+
+/// The command that the tokens are.
+pub fn parse_command<'a>(alloc: Global, tokens: &'a [Token<'a>]) -> Result<Command<'a>, ReadError>
+    requires { AreTokens (tokens_of tokens.now) }
+    ensures { ParsesCommand result (tokens_of tokens.now) }
+{
+    let Some((word, rest)) = take_name(tokens) else {
+        return Err(ReadError::Syntax);
+    };
+    let Some((name, body)) = take_name(rest) else {
+        return Err(ReadError::Syntax);
+    };
+    let Some(kind) = command_kind(word) else {
+        return Err(ReadError::Syntax);
+    };
+    match kind {
+        CommandKind::Thm => parse_thm(alloc, name, body),
+        CommandKind::Show => parse_show(name, body),
+        CommandKind::Var => parse_var(alloc, name, body),
+        CommandKind::Def => parse_def(alloc, name, body),
+        CommandKind::NewType => parse_newtype(name, body),
+        CommandKind::NewConst => parse_newconst(alloc, name, body),
+    }
+}

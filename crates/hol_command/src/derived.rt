@@ -1,0 +1,186 @@
+// Derived rules, read from the tokens of a command.
+ghost use Rattle.std.specs.Prelude.{◌≡◌};
+ghost use Rattle.hol_grammar.specs.Views.{tokens_of};
+ghost use Rattle.hol_command.specs.Reading.{AreTokens, derived_kind_of_word, ParsesDerived};
+
+use crate::quotes::{parse_only_quote, parse_quote, parse_quote_and_name};
+use crate::tokens::{only_name, only_two_names, take_name};
+use hol_grammar::{ReadError, TermStep, Token};
+use hol_model::{DerivedKind, PremiseRule, PremisesRule, TermPremiseRule};
+use std::alloc::Global;
+
+/// A derived rule with its arguments: terms by their steps, theorems by their names.
+#[derive(Drop)]
+pub enum Derived<'a> {
+    OfTerm(Vec<TermStep<'a>>),
+    OfPremise(PremiseRule, &'a str),
+    OfPremises(PremisesRule, &'a str, &'a str),
+    OfTermAndPremise(TermPremiseRule, Vec<TermStep<'a>>, &'a str),
+    Cases(&'a str, &'a str, &'a str),
+    Witness(Vec<TermStep<'a>>, Vec<TermStep<'a>>, &'a str),
+    Choice(Vec<TermStep<'a>>, &'a str, &'a str),
+}
+
+/// The kind of derived rule that a word names.
+pub fn derived_kind(word: &str) -> Option<DerivedKind>
+    ensures { result ≡ derived_kind_of_word word.now }
+{
+    if word == "BETA_CONV" {
+        Some(DerivedKind::BetaConv)
+    } else if word == "SYM" {
+        Some(DerivedKind::Premise(PremiseRule::Sym))
+    } else if word == "EQT_INTRO" {
+        Some(DerivedKind::Premise(PremiseRule::EqtIntro))
+    } else if word == "EQT_ELIM" {
+        Some(DerivedKind::Premise(PremiseRule::EqtElim))
+    } else if word == "CONJUNCT1" {
+        Some(DerivedKind::Premise(PremiseRule::Conjunct1))
+    } else if word == "CONJUNCT2" {
+        Some(DerivedKind::Premise(PremiseRule::Conjunct2))
+    } else if word == "UNDISCH" {
+        Some(DerivedKind::Premise(PremiseRule::Undisch))
+    } else if word == "NOT_INTRO" {
+        Some(DerivedKind::Premise(PremiseRule::NotIntro))
+    } else if word == "NOT_ELIM" {
+        Some(DerivedKind::Premise(PremiseRule::NotElim))
+    } else if word == "PROVE_HYP" {
+        Some(DerivedKind::Premises(PremisesRule::ProveHyp))
+    } else if word == "CONJ" {
+        Some(DerivedKind::Premises(PremisesRule::Conj))
+    } else if word == "MP" {
+        Some(DerivedKind::Premises(PremisesRule::Mp))
+    } else if word == "ADD_ASSUM" {
+        Some(DerivedKind::TermPremise(TermPremiseRule::AddAssum))
+    } else if word == "DISCH" {
+        Some(DerivedKind::TermPremise(TermPremiseRule::Disch))
+    } else if word == "SPEC" {
+        Some(DerivedKind::TermPremise(TermPremiseRule::Spec))
+    } else if word == "GEN" {
+        Some(DerivedKind::TermPremise(TermPremiseRule::Gen))
+    } else if word == "DISJ1" {
+        Some(DerivedKind::TermPremise(TermPremiseRule::Disj1))
+    } else if word == "DISJ2" {
+        Some(DerivedKind::TermPremise(TermPremiseRule::Disj2))
+    } else if word == "CONTR" {
+        Some(DerivedKind::TermPremise(TermPremiseRule::Contr))
+    } else if word == "DISJ_CASES" {
+        Some(DerivedKind::DisjCases)
+    } else if word == "EXISTS" {
+        Some(DerivedKind::Exists)
+    } else if word == "CHOOSE" {
+        Some(DerivedKind::Choose)
+    } else {
+        None
+    }
+}
+
+// A quoted term and nothing else.
+fn parse_conversion<'a>(alloc: Global, tokens: &'a [Token<'a>]) -> Result<Derived<'a>, ReadError>
+    ensures { ParsesDerived result DerivedKind.BetaConv (tokens_of tokens.now) }
+{
+    match parse_only_quote(alloc, tokens) {
+        Ok(steps) => Ok(Derived::OfTerm(steps)),
+        Err(error) => Err(error),
+    }
+}
+
+// The name of a theorem and nothing else.
+fn parse_premise<'a>(rule: PremiseRule, tokens: &'a [Token<'a>]) -> Result<Derived<'a>, ReadError>
+    requires { AreTokens (tokens_of tokens.now) }
+    ensures { ParsesDerived result (DerivedKind.Premise rule) (tokens_of tokens.now) }
+{
+    match only_name(tokens) {
+        Some(name) => Ok(Derived::OfPremise(rule, name)),
+        None => Err(ReadError::Syntax),
+    }
+}
+
+// The names of two theorems and nothing else.
+fn parse_premises<'a>(rule: PremisesRule, tokens: &'a [Token<'a>]) -> Result<Derived<'a>, ReadError>
+    requires { AreTokens (tokens_of tokens.now) }
+    ensures { ParsesDerived result (DerivedKind.Premises rule) (tokens_of tokens.now) }
+{
+    match only_two_names(tokens) {
+        Some((first, second)) => Ok(Derived::OfPremises(rule, first, second)),
+        None => Err(ReadError::Syntax),
+    }
+}
+
+// A quoted term, the name of a theorem and nothing else.
+fn parse_term_and_premise<'a>(
+    alloc: Global,
+    rule: TermPremiseRule,
+    tokens: &'a [Token<'a>],
+) -> Result<Derived<'a>, ReadError>
+    requires { AreTokens (tokens_of tokens.now) }
+    ensures { ParsesDerived result (DerivedKind.TermPremise rule) (tokens_of tokens.now) }
+{
+    match parse_quote_and_name(alloc, tokens) {
+        Ok((steps, name)) => Ok(Derived::OfTermAndPremise(rule, steps, name)),
+        Err(error) => Err(error),
+    }
+}
+
+// The names of three theorems and nothing else.
+fn parse_cases<'a>(tokens: &'a [Token<'a>]) -> Result<Derived<'a>, ReadError>
+    requires { AreTokens (tokens_of tokens.now) }
+    ensures { ParsesDerived result DerivedKind.DisjCases (tokens_of tokens.now) }
+{
+    let Some((theorem, rest)) = take_name(tokens) else {
+        return Err(ReadError::Syntax);
+    };
+    match only_two_names(rest) {
+        Some((first, second)) => Ok(Derived::Cases(theorem, first, second)),
+        None => Err(ReadError::Syntax),
+    }
+}
+
+// A quoted formula, a quoted witness, the name of a theorem and nothing else.
+fn parse_witness<'a>(alloc: Global, tokens: &'a [Token<'a>]) -> Result<Derived<'a>, ReadError>
+    requires { AreTokens (tokens_of tokens.now) }
+    ensures { ParsesDerived result DerivedKind.Exists (tokens_of tokens.now) }
+{
+    let (formula, rest) = match parse_quote(alloc, tokens) {
+        Ok(parsed) => parsed,
+        Err(error) => return Err(error),
+    };
+    match parse_quote_and_name(alloc, rest) {
+        Ok((witness, name)) => Ok(Derived::Witness(formula, witness, name)),
+        Err(error) => Err(error),
+    }
+}
+
+// A quoted variable, the names of two theorems and nothing else.
+fn parse_choice<'a>(alloc: Global, tokens: &'a [Token<'a>]) -> Result<Derived<'a>, ReadError>
+    requires { AreTokens (tokens_of tokens.now) }
+    ensures { ParsesDerived result DerivedKind.Choose (tokens_of tokens.now) }
+{
+    let (variable, rest) = match parse_quote(alloc, tokens) {
+        Ok(parsed) => parsed,
+        Err(error) => return Err(error),
+    };
+    match only_two_names(rest) {
+        Some((first, second)) => Ok(Derived::Choice(variable, first, second)),
+        None => Err(ReadError::Syntax),
+    }
+}
+
+/// The arguments of a derived rule.
+pub fn parse_derived<'a>(
+    alloc: Global,
+    kind: DerivedKind,
+    tokens: &'a [Token<'a>],
+) -> Result<Derived<'a>, ReadError>
+    requires { AreTokens (tokens_of tokens.now) }
+    ensures { ParsesDerived result kind (tokens_of tokens.now) }
+{
+    match kind {
+        DerivedKind::BetaConv => parse_conversion(alloc, tokens),
+        DerivedKind::Premise(rule) => parse_premise(rule, tokens),
+        DerivedKind::Premises(rule) => parse_premises(rule, tokens),
+        DerivedKind::TermPremise(rule) => parse_term_and_premise(alloc, rule, tokens),
+        DerivedKind::DisjCases => parse_cases(tokens),
+        DerivedKind::Exists => parse_witness(alloc, tokens),
+        DerivedKind::Choose => parse_choice(alloc, tokens),
+    }
+}

@@ -1,0 +1,54 @@
+// Quoted terms, read from the front of tokens.
+ghost use Rattle.hol_grammar.specs.Views.{tokens_of};
+ghost use Rattle.hol_command.specs.Reading.{AreTokens, ParsesQuote, ParsesOnlyQuote, ParsesQuoteAndName};
+
+use crate::tokens::{only_name, take_quote};
+use hol_grammar::{ReadError, TermStep, Token, parse_term};
+use std::alloc::Global;
+
+/// The term between two backquotes at the front, and what follows them.
+pub fn parse_quote<'a>(
+    alloc: Global,
+    tokens: &'a [Token<'a>],
+) -> Result<(Vec<TermStep<'a>>, &'a [Token<'a>]), ReadError>
+    ensures { ParsesQuote result (tokens_of tokens.now) }
+{
+    let Some((inner, rest)) = take_quote(tokens) else {
+        return Err(ReadError::Syntax);
+    };
+    match parse_term(alloc, inner) {
+        Ok(steps) => Ok((steps, rest)),
+        Err(error) => Err(error),
+    }
+}
+
+/// A quoted term and nothing else.
+pub fn parse_only_quote<'a>(
+    alloc: Global,
+    tokens: &'a [Token<'a>],
+) -> Result<Vec<TermStep<'a>>, ReadError>
+    ensures { ParsesOnlyQuote result (tokens_of tokens.now) }
+{
+    match parse_quote(alloc, tokens) {
+        Ok((steps, [])) => Ok(steps),
+        Ok(_) => Err(ReadError::Syntax),
+        Err(error) => Err(error),
+    }
+}
+
+/// A quoted term, a name and nothing else.
+pub fn parse_quote_and_name<'a>(
+    alloc: Global,
+    tokens: &'a [Token<'a>],
+) -> Result<(Vec<TermStep<'a>>, &'a str), ReadError>
+    requires { AreTokens (tokens_of tokens.now) }
+    ensures { ParsesQuoteAndName result (tokens_of tokens.now) }
+{
+    match parse_quote(alloc, tokens) {
+        Ok((steps, rest)) => match only_name(rest) {
+            Some(name) => Ok((steps, name)),
+            None => Err(ReadError::Syntax),
+        },
+        Err(error) => Err(error),
+    }
+}

@@ -1,0 +1,2 @@
+pub mod DerivationSize
+pub mod DerivationLemmas

@@ -1,0 +1,97 @@
+-- What the derivations that stand as data in the code give.
+use Rattle.std.specs.Prelude.{◌≡◌, ℕ, List, [], ◌∷◌, map, Some, Result, Ok, IfOk, slice_get, length, nat_eq}
+use Rattle.hol_model.specs.declared.fault.Fault.{Fault}
+use Rattle.hol_model.specs.declared.fault.Fault.TheVariants.{BadShape, NotEquation, NotAlpha}
+use Rattle.hol_model.specs.declared.rule.TermRule.{TermRule}
+use Rattle.hol_model.specs.declared.rule.TermRule.TheVariants as term_rule
+use Rattle.hol_model.specs.declared.rule.PairRule.{PairRule}
+use Rattle.hol_model.specs.declared.rule.PairRule.TheVariants as pair_rule
+use Rattle.hol_model.specs.NamedTerm.{NamedTerm}
+use Rattle.hol_model.specs.Nameless.{Nameless, image, same_term}
+use Rattle.hol_model.specs.Outcome.{given, unless, refused}
+use Rattle.hol_model.specs.Theory.{Theory}
+use Rattle.hol_model.specs.Theorem.{Theorem}
+use Rattle.hol_model.specs.Rules.{refl_outcome, assume_outcome, beta_outcome, trans_outcome, eq_mp_outcome, mk_comb_outcome, deduct_antisym_outcome, abs_outcome, dest_equation}
+use Rattle.hol_model.specs.Substitution.{put_all}
+use Rattle.hol_model.specs.Instantiation.{inst_refusal, inst_type_refusal, instantiate_all}
+use Rattle.hol_journal.specs.Journal.{Journal, Recorded, IsMade}
+use Rattle.hol_journal.specs.Growth.{IsGrown}
+use Rattle.hol_derivations.specs.Sketches.{followed, type_outcome, term_outcome}
+use Rattle.hol_derivations.specs.declared.sketch.TypeSketch.{TypeSketch}
+use Rattle.hol_derivations.specs.declared.sketch.TermSketch.{TermSketch}
+use Rattle.hol_model.specs.NamedAxioms.{eta_conclusion, select_hypothesis, select_conclusion}
+use Rattle.hol_derivations.specs.declared.derivation.Axiom.TheVariants as axioms
+use Rattle.hol_derivations.specs.declared.derivation.Axiom.{Axiom}
+use Rattle.hol_derivations.specs.declared.derivation.Derivation as derivations
+use Rattle.hol_derivations.specs.declared.derivation.Derivation.{Derivation}
+
+-- the journal has grown, the theory is the same, and the recorder made what the call answers
+pub record GoesOn (old new : Journal) (result : Result Recorded Fault) : Type 0 where
+  pub grown : IsGrown old new
+  pub theory : new.theory ≡ old.theory
+  pub made : IfOk result (IsMade new)
+
+-- the recorder made each theorem of the list
+pub record AreMade (journal : Journal) (all : List Recorded) : Type 0 where
+  pub each : (number : ℕ) (made : Recorded) → slice_get all number ≡ Some made → IsMade journal made
+
+abbrev pub theorems : List Recorded → List Theorem
+theorems all = map (λ made. made.theorem) all
+
+abbrev pub axiom_theorem : Axiom → Theory → Theorem
+axiom_theorem axioms.Eta theory = record { theory = theory; hypotheses = []; conclusion = eta_conclusion }
+axiom_theorem axioms.Select theory = record { theory = theory; hypotheses = select_hypothesis ∷ []; conclusion = select_conclusion }
+
+abbrev pub term_rule_outcome : TermRule → Theory → NamedTerm → Result Theorem Fault
+term_rule_outcome term_rule.Refl theory term = refl_outcome theory term
+term_rule_outcome term_rule.Beta theory term = beta_outcome theory term
+term_rule_outcome term_rule.Assume theory term = assume_outcome theory term
+
+abbrev pub pair_rule_outcome : PairRule → Theory → Theorem → Theorem → Result Theorem Fault
+pair_rule_outcome pair_rule.Trans theory first second = trans_outcome theory first second
+pair_rule_outcome pair_rule.MkComb theory first second = mk_comb_outcome theory first second
+pair_rule_outcome pair_rule.EqMp theory first second = eq_mp_outcome theory first second
+pair_rule_outcome pair_rule.DeductAntisym theory first second = deduct_antisym_outcome theory first second
+
+-- EQ_MP of REFL of the conclusion, and a theorem without hypotheses of this image
+abbrev pub renamed : Theory → Nameless → NamedTerm → Result Theorem Fault
+renamed theory instance conclusion =
+    followed (refl_outcome theory conclusion) (λ reflexive.
+    given (dest_equation reflexive.conclusion) NotEquation (λ sides.
+    unless (same_term (image sides.0) instance) NotAlpha
+    (Ok (record { theory = theory; hypotheses = reflexive.hypotheses; conclusion = sides.1 }))))
+
+abbrev pub inst_of : Theory → TermSketch → TermSketch → Theorem → TermSketch → Result Theorem Fault
+inst_of theory new old theorem conclusion =
+    followed (term_outcome new) (λ new.
+    followed (term_outcome old) (λ old.
+    followed (term_outcome conclusion) (λ conclusion.
+    unless (nat_eq (length theorem.hypotheses) 0) BadShape
+    (refused (inst_refusal theory ((new, old) ∷ []) theorem)
+    (renamed theory (put_all ((new, old) ∷ []) (image theorem.conclusion)) conclusion)))))
+
+abbrev pub inst_type_of : Theory → TypeSketch → TypeSketch → Theorem → TermSketch → Result Theorem Fault
+inst_type_of theory new old theorem conclusion =
+    followed (type_outcome new) (λ new.
+    followed (type_outcome old) (λ old.
+    followed (term_outcome conclusion) (λ conclusion.
+    unless (nat_eq (length theorem.hypotheses) 0) BadShape
+    (refused (inst_type_refusal theory ((new, old) ∷ []) theorem)
+    (renamed theory (instantiate_all ((new, old) ∷ []) (image theorem.conclusion)) conclusion)))))
+
+-- what the derivation gives over a theory, from earlier theorems
+abbrev pub derived_outcome : Theory → List Theorem → Derivation → Result Theorem Fault
+derived_outcome theory earlier (derivations.Earlier number) = given (slice_get earlier number) BadShape (λ theorem. Ok theorem)
+derived_outcome theory earlier (derivations.Axiom rule) = Ok (axiom_theorem rule theory)
+derived_outcome theory earlier (derivations.Term rule term) = followed (term_outcome term.now) (λ term. term_rule_outcome rule theory term)
+derived_outcome theory earlier (derivations.Pair' rule p first q second) =
+    followed (derived_outcome theory earlier first) (λ first.
+    followed (derived_outcome theory earlier second) (λ second.
+    pair_rule_outcome rule theory first second))
+derived_outcome theory earlier (derivations.Abs' variable p theorem) =
+    followed (derived_outcome theory earlier theorem) (λ theorem.
+    followed (term_outcome variable.now) (λ variable. abs_outcome theory variable theorem))
+derived_outcome theory earlier (derivations.Inst' new old p theorem conclusion) =
+    followed (derived_outcome theory earlier theorem) (λ theorem. inst_of theory new.now old.now theorem conclusion.now)
+derived_outcome theory earlier (derivations.InstType' new old p theorem conclusion) =
+    followed (derived_outcome theory earlier theorem) (λ theorem. inst_type_of theory new.now old.now theorem conclusion.now)

@@ -1,0 +1,3 @@
+pub mod Sketches
+pub mod Derivations
+pub mod Makings

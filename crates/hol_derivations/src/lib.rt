@@ -1,0 +1,10 @@
+//! Derivations as data, what makes their theorems by a recorder, and those of the first connectives.
+#![tactic(auto)]
+
+pub mod conjunction;
+pub mod derivation;
+pub mod formulas;
+pub mod logic;
+pub mod making;
+pub mod sketch;
+pub mod truth;

@@ -1,0 +1,413 @@
+// The definitions of the logical constants (HOL Light's `bool.ml`), and derivations from them, as data.
+use crate::conjunction::{REFL_P_AND_Q, REFL_Q};
+use crate::derivation::Derivation;
+use crate::formulas::{
+    A, ALWAYS, BOOL, F, FALSE_BODY, FORALL, FORALL_BODY, FORALL_BOOL, IDENTITY, IMP_BODY, IMP_P,
+    IS_ALWAYS, NOT, NOT_BODY, P, P_ABSORBS_Q, P_IMP, P_IMP_F, PRED, PRED_X, Q, T, UNARY, X,
+};
+use crate::sketch::TermSketch;
+use crate::truth::{ASSUME_P, EARLIER_TRUTH, REFL_EQ_BOOL, REFL_P};
+use hol_model::{PairRule, TermRule};
+
+// |- p ==> q <=> (p /\ q <=> p): IMP_DEF at p and q
+pub(crate) const IMP_DEF: Derivation<'static> = Derivation::Earlier(2);
+
+const IMP_BODY_P: TermSketch<'static> = TermSketch::Combination(&IMP_BODY, &P);
+
+const IMP_P_Q: TermSketch<'static> = TermSketch::Combination(&IMP_P, &Q);
+
+const IMP_AT_P: Derivation<'static> = Derivation::Pair(PairRule::MkComb, &IMP_DEF, &REFL_P);
+
+const BETA_IMP_P: Derivation<'static> = Derivation::Term(TermRule::Beta, &IMP_BODY_P);
+
+const IMP_P_IS: Derivation<'static> = Derivation::Pair(PairRule::Trans, &IMP_AT_P, &BETA_IMP_P);
+
+const IMP_AT_P_Q: Derivation<'static> = Derivation::Pair(PairRule::MkComb, &IMP_P_IS, &REFL_Q);
+
+const BETA_IMP_P_Q: Derivation<'static> = Derivation::Term(TermRule::Beta, &IMP_P_Q);
+
+pub const IMP_UNFOLDED: Derivation<'static> = Derivation::Pair(
+    PairRule::Trans,
+    &IMP_AT_P_Q,
+    &BETA_IMP_P_Q,
+);
+
+// p /\ q <=> p |- p ==> q
+pub const P_IMP_Q_IS: Derivation<'static> = Derivation::Earlier(15);
+
+const P_IMP_Q: TermSketch<'static> = TermSketch::Combination(&P_IMP, &Q);
+
+pub const REFL_P_IMP_Q: Derivation<'static> = Derivation::Term(TermRule::Refl, &P_IMP_Q);
+
+const P_IMP_Q_IS_EQUATES: Derivation<'static> = Derivation::Pair(
+    PairRule::MkComb,
+    &REFL_EQ_BOOL,
+    &P_IMP_Q_IS,
+);
+
+const P_IMP_Q_IS_SIDES: Derivation<'static> = Derivation::Pair(
+    PairRule::MkComb,
+    &P_IMP_Q_IS_EQUATES,
+    &REFL_P_IMP_Q,
+);
+
+const SYM_P_IMP_Q_IS: Derivation<'static> = Derivation::Pair(
+    PairRule::EqMp,
+    &P_IMP_Q_IS_SIDES,
+    &REFL_P_IMP_Q,
+);
+
+const ASSUME_ABSORBS: Derivation<'static> = Derivation::Term(TermRule::Assume, &P_ABSORBS_Q);
+
+pub const DISCH: Derivation<'static> = Derivation::Pair(
+    PairRule::EqMp,
+    &SYM_P_IMP_Q_IS,
+    &ASSUME_ABSORBS,
+);
+
+// p, p ==> q |- q
+const ASSUME_P_IMP_Q: Derivation<'static> = Derivation::Term(TermRule::Assume, &P_IMP_Q);
+
+const ABSORBS: Derivation<'static> = Derivation::Pair(PairRule::EqMp, &P_IMP_Q_IS, &ASSUME_P_IMP_Q);
+
+const ABSORBS_EQUATES: Derivation<'static> = Derivation::Pair(
+    PairRule::MkComb,
+    &REFL_EQ_BOOL,
+    &ABSORBS,
+);
+
+const ABSORBS_SIDES: Derivation<'static> = Derivation::Pair(
+    PairRule::MkComb,
+    &ABSORBS_EQUATES,
+    &REFL_P_AND_Q,
+);
+
+const SYM_ABSORBS: Derivation<'static> = Derivation::Pair(
+    PairRule::EqMp,
+    &ABSORBS_SIDES,
+    &REFL_P_AND_Q,
+);
+
+const BOTH: Derivation<'static> = Derivation::Pair(PairRule::EqMp, &SYM_ABSORBS, &ASSUME_P);
+
+const P_AND_Q_SECOND: Derivation<'static> = Derivation::Earlier(14);
+
+const BOTH_IS_Q: Derivation<'static> = Derivation::Pair(
+    PairRule::DeductAntisym,
+    &BOTH,
+    &P_AND_Q_SECOND,
+);
+
+pub const MP: Derivation<'static> = Derivation::Pair(PairRule::EqMp, &BOTH_IS_Q, &BOTH);
+
+// p |- q <=> p /\ q
+const BOTH_FROM_PARTS: Derivation<'static> = Derivation::Earlier(12);
+
+pub const CONJ_EQUATION: Derivation<'static> = Derivation::Pair(
+    PairRule::DeductAntisym,
+    &P_AND_Q_SECOND,
+    &BOTH_FROM_PARTS,
+);
+
+// p |- p ==> q <=> q
+const BOTH_IS_P: Derivation<'static> = Derivation::Pair(
+    PairRule::DeductAntisym,
+    &BOTH_FROM_PARTS,
+    &ASSUME_P,
+);
+
+const FOLLOWS: Derivation<'static> = Derivation::Pair(PairRule::EqMp, &SYM_P_IMP_Q_IS, &BOTH_IS_P);
+
+const Q_FROM_P: Derivation<'static> = Derivation::Earlier(17);
+
+pub const MP_EQUATION: Derivation<'static> = Derivation::Pair(
+    PairRule::DeductAntisym,
+    &FOLLOWS,
+    &Q_FROM_P,
+);
+
+// |- (!) P <=> P = (\x. T): FORALL_DEF at P
+pub(crate) const FORALL_DEF: Derivation<'static> = Derivation::Earlier(3);
+
+pub const REFL_PRED: Derivation<'static> = Derivation::Term(TermRule::Refl, &PRED);
+
+const FORALL_BODY_PRED: TermSketch<'static> = TermSketch::Combination(&FORALL_BODY, &PRED);
+
+const FORALL_AT_PRED: Derivation<'static> = Derivation::Pair(
+    PairRule::MkComb,
+    &FORALL_DEF,
+    &REFL_PRED,
+);
+
+const BETA_FORALL_PRED: Derivation<'static> = Derivation::Term(TermRule::Beta, &FORALL_BODY_PRED);
+
+pub const FORALL_UNFOLDED: Derivation<'static> = Derivation::Pair(
+    PairRule::Trans,
+    &FORALL_AT_PRED,
+    &BETA_FORALL_PRED,
+);
+
+// P = (\x. T) |- (!) P
+pub const FORALL_PRED_IS: Derivation<'static> = Derivation::Earlier(18);
+
+const FORALL_PRED: TermSketch<'static> = TermSketch::Combination(&FORALL, &PRED);
+
+const REFL_FORALL_PRED: Derivation<'static> = Derivation::Term(TermRule::Refl, &FORALL_PRED);
+
+const FORALL_PRED_IS_EQUATES: Derivation<'static> = Derivation::Pair(
+    PairRule::MkComb,
+    &REFL_EQ_BOOL,
+    &FORALL_PRED_IS,
+);
+
+const FORALL_PRED_IS_SIDES: Derivation<'static> = Derivation::Pair(
+    PairRule::MkComb,
+    &FORALL_PRED_IS_EQUATES,
+    &REFL_FORALL_PRED,
+);
+
+pub const SYM_FORALL_PRED_IS: Derivation<'static> = Derivation::Pair(
+    PairRule::EqMp,
+    &FORALL_PRED_IS_SIDES,
+    &REFL_FORALL_PRED,
+);
+
+const ASSUME_ALWAYS: Derivation<'static> = Derivation::Term(TermRule::Assume, &IS_ALWAYS);
+
+pub const GEN: Derivation<'static> = Derivation::Pair(
+    PairRule::EqMp,
+    &SYM_FORALL_PRED_IS,
+    &ASSUME_ALWAYS,
+);
+
+// (!) P |- P x
+const ASSUME_FORALL: Derivation<'static> = Derivation::Term(TermRule::Assume, &FORALL_PRED);
+
+const PRED_ALWAYS: Derivation<'static> = Derivation::Pair(
+    PairRule::EqMp,
+    &FORALL_PRED_IS,
+    &ASSUME_FORALL,
+);
+
+pub const REFL_X: Derivation<'static> = Derivation::Term(TermRule::Refl, &X);
+
+const PRED_AT_X: Derivation<'static> = Derivation::Pair(PairRule::MkComb, &PRED_ALWAYS, &REFL_X);
+
+pub const ALWAYS_X: TermSketch<'static> = TermSketch::Combination(&ALWAYS, &X);
+
+pub const BETA_ALWAYS: Derivation<'static> = Derivation::Term(TermRule::Beta, &ALWAYS_X);
+
+const PRED_X_TRUE: Derivation<'static> = Derivation::Pair(
+    PairRule::Trans,
+    &PRED_AT_X,
+    &BETA_ALWAYS,
+);
+
+pub const REFL_PRED_X: Derivation<'static> = Derivation::Term(TermRule::Refl, &PRED_X);
+
+const PRED_X_TRUE_EQUATES: Derivation<'static> = Derivation::Pair(
+    PairRule::MkComb,
+    &REFL_EQ_BOOL,
+    &PRED_X_TRUE,
+);
+
+const PRED_X_TRUE_SIDES: Derivation<'static> = Derivation::Pair(
+    PairRule::MkComb,
+    &PRED_X_TRUE_EQUATES,
+    &REFL_PRED_X,
+);
+
+const SYM_PRED_X_TRUE: Derivation<'static> = Derivation::Pair(
+    PairRule::EqMp,
+    &PRED_X_TRUE_SIDES,
+    &REFL_PRED_X,
+);
+
+pub const SPEC: Derivation<'static> = Derivation::Pair(
+    PairRule::EqMp,
+    &SYM_PRED_X_TRUE,
+    &EARLIER_TRUTH,
+);
+
+// |- ~p <=> p ==> F: NOT_DEF at p
+pub(crate) const NOT_DEF: Derivation<'static> = Derivation::Earlier(7);
+
+const NOT_BODY_P: TermSketch<'static> = TermSketch::Combination(&NOT_BODY, &P);
+
+const NOT_AT_P: Derivation<'static> = Derivation::Pair(PairRule::MkComb, &NOT_DEF, &REFL_P);
+
+const BETA_NOT_P: Derivation<'static> = Derivation::Term(TermRule::Beta, &NOT_BODY_P);
+
+pub const NOT_UNFOLDED: Derivation<'static> = Derivation::Pair(
+    PairRule::Trans,
+    &NOT_AT_P,
+    &BETA_NOT_P,
+);
+
+// p ==> F |- ~p
+const NOT_P_IS: Derivation<'static> = Derivation::Earlier(21);
+
+pub const NOT_P: TermSketch<'static> = TermSketch::Combination(&NOT, &P);
+
+pub const REFL_NOT_P: Derivation<'static> = Derivation::Term(TermRule::Refl, &NOT_P);
+
+const NOT_P_IS_EQUATES: Derivation<'static> = Derivation::Pair(
+    PairRule::MkComb,
+    &REFL_EQ_BOOL,
+    &NOT_P_IS,
+);
+
+const NOT_P_IS_SIDES: Derivation<'static> = Derivation::Pair(
+    PairRule::MkComb,
+    &NOT_P_IS_EQUATES,
+    &REFL_NOT_P,
+);
+
+pub const SYM_NOT_P_IS: Derivation<'static> = Derivation::Pair(
+    PairRule::EqMp,
+    &NOT_P_IS_SIDES,
+    &REFL_NOT_P,
+);
+
+const ASSUME_P_IMP_F: Derivation<'static> = Derivation::Term(TermRule::Assume, &P_IMP_F);
+
+pub const NOT_INTRO: Derivation<'static> = Derivation::Pair(
+    PairRule::EqMp,
+    &SYM_NOT_P_IS,
+    &ASSUME_P_IMP_F,
+);
+
+// ~p |- p ==> F
+const ASSUME_NOT_P: Derivation<'static> = Derivation::Term(TermRule::Assume, &NOT_P);
+
+pub const NOT_ELIM: Derivation<'static> = Derivation::Pair(
+    PairRule::EqMp,
+    &NOT_P_IS,
+    &ASSUME_NOT_P,
+);
+
+// F |- p: F_DEF, and FORALL_DEF for formulas
+pub(crate) const F_DEF: Derivation<'static> = Derivation::Earlier(6);
+
+pub const FORMULA_PRED: TermSketch<'static> = TermSketch::Variable("P", &UNARY);
+
+pub const FORMULA: TermSketch<'static> = TermSketch::Formula("x");
+
+pub const FORMULA_ALWAYS: TermSketch<'static> = TermSketch::Abstraction(&FORMULA, &T);
+
+pub const FORMULA_IS_ALWAYS: TermSketch<'static> = TermSketch::Equation(
+    &FORMULA_PRED,
+    &FORMULA_ALWAYS,
+);
+
+pub const FORALL_FORMULA: TermSketch<'static> = TermSketch::Combination(
+    &FORALL_BOOL,
+    &FORMULA_PRED,
+);
+
+const FORALL_FORMULA_MEANS: TermSketch<'static> = TermSketch::Equation(
+    &FORALL_FORMULA,
+    &FORMULA_IS_ALWAYS,
+);
+
+pub const FORALL_FORMULA_IS: Derivation<'static> = Derivation::InstType(
+    &BOOL,
+    &A,
+    &FORALL_PRED_IS,
+    &FORALL_FORMULA_MEANS,
+);
+
+const P_ALWAYS: TermSketch<'static> = TermSketch::Abstraction(&P, &T);
+
+const IDENTITY_IS_ALWAYS: TermSketch<'static> = TermSketch::Equation(&IDENTITY, &P_ALWAYS);
+
+const FALSE_MEANS: TermSketch<'static> = TermSketch::Equation(&FALSE_BODY, &IDENTITY_IS_ALWAYS);
+
+const FALSE_IS: Derivation<'static> = Derivation::Inst(
+    &IDENTITY,
+    &FORMULA_PRED,
+    &FORALL_FORMULA_IS,
+    &FALSE_MEANS,
+);
+
+pub const ASSUME_F: Derivation<'static> = Derivation::Term(TermRule::Assume, &F);
+
+const EACH_HOLDS: Derivation<'static> = Derivation::Pair(PairRule::EqMp, &F_DEF, &ASSUME_F);
+
+const IDENTITY_ALWAYS: Derivation<'static> = Derivation::Pair(
+    PairRule::EqMp,
+    &FALSE_IS,
+    &EACH_HOLDS,
+);
+
+const IDENTITY_AT_P: Derivation<'static> = Derivation::Pair(
+    PairRule::MkComb,
+    &IDENTITY_ALWAYS,
+    &REFL_P,
+);
+
+const IDENTITY_P: TermSketch<'static> = TermSketch::Combination(&IDENTITY, &P);
+
+const P_ALWAYS_P: TermSketch<'static> = TermSketch::Combination(&P_ALWAYS, &P);
+
+const BETA_IDENTITY: Derivation<'static> = Derivation::Term(TermRule::Beta, &IDENTITY_P);
+
+const BETA_P_ALWAYS: Derivation<'static> = Derivation::Term(TermRule::Beta, &P_ALWAYS_P);
+
+const REFL_IDENTITY_P: Derivation<'static> = Derivation::Term(TermRule::Refl, &IDENTITY_P);
+
+const REFL_P_ALWAYS_P: Derivation<'static> = Derivation::Term(TermRule::Refl, &P_ALWAYS_P);
+
+const BETA_P_ALWAYS_EQUATES: Derivation<'static> = Derivation::Pair(
+    PairRule::MkComb,
+    &REFL_EQ_BOOL,
+    &BETA_P_ALWAYS,
+);
+
+const BETA_P_ALWAYS_SIDES: Derivation<'static> = Derivation::Pair(
+    PairRule::MkComb,
+    &BETA_P_ALWAYS_EQUATES,
+    &REFL_P_ALWAYS_P,
+);
+
+const SYM_BETA_P_ALWAYS: Derivation<'static> = Derivation::Pair(
+    PairRule::EqMp,
+    &BETA_P_ALWAYS_SIDES,
+    &REFL_P_ALWAYS_P,
+);
+
+const ALWAYS_HOLDS: Derivation<'static> = Derivation::Pair(
+    PairRule::EqMp,
+    &SYM_BETA_P_ALWAYS,
+    &EARLIER_TRUTH,
+);
+
+const IDENTITY_AT_P_EQUATES: Derivation<'static> = Derivation::Pair(
+    PairRule::MkComb,
+    &REFL_EQ_BOOL,
+    &IDENTITY_AT_P,
+);
+
+const IDENTITY_AT_P_SIDES: Derivation<'static> = Derivation::Pair(
+    PairRule::MkComb,
+    &IDENTITY_AT_P_EQUATES,
+    &REFL_IDENTITY_P,
+);
+
+const SYM_IDENTITY_AT_P: Derivation<'static> = Derivation::Pair(
+    PairRule::EqMp,
+    &IDENTITY_AT_P_SIDES,
+    &REFL_IDENTITY_P,
+);
+
+const IDENTITY_HOLDS: Derivation<'static> = Derivation::Pair(
+    PairRule::EqMp,
+    &SYM_IDENTITY_AT_P,
+    &ALWAYS_HOLDS,
+);
+
+pub const CONTR: Derivation<'static> = Derivation::Pair(
+    PairRule::EqMp,
+    &BETA_IDENTITY,
+    &IDENTITY_HOLDS,
+);

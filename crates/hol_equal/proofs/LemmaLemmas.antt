@@ -1,0 +1,61 @@
+-- Instances of lemmas, and what is past the limits on the way.
+use Rattle.std.proofs.Common.{◌≡◌, List, [], ◌∷◌, ◌++◌, map, Bool, true, false, ◌&&◌, refl, ◌∙◌, ap, subst, Result, append-nil}
+use Rattle.std.specs.List.{list_all}
+use Rattle.hol_model.specs.declared.fault.Fault.{Fault}
+use Rattle.hol_model.specs.Nameless.{Nameless}
+use Rattle.hol_model.specs.Derivable.{without}
+use Rattle.hol_model.proofs.Tests.{first_of_both, second_of_both, same_term-Decides}
+use Rattle.hol_journal.specs.Journal.{Recorded}
+use Rattle.hol_equal.specs.Sequents.{DerivesIf}
+
+map-twice : (f g : Nameless → Nameless) (h : List Nameless) → map g (map f h) ≡ map (λ t. g (f t)) h
+map-twice f g [] = refl
+map-twice f g (t ∷ h) = ap (λ l. g (f t) ∷ l) (map-twice f g h)
+
+pub derives-map : (fits : Bool) (result : Result Recorded Fault) (f g : Nameless → Nameless) (h : List Nameless) (c : Nameless) → DerivesIf fits result (map g (map f h)) c → DerivesIf fits result (map (λ t. g (f t)) h) c
+derives-map fits result f g h c derives = subst (λ (l : List Nameless). DerivesIf fits result l c) (map-twice f g h) derives
+
+-- all of the first list, and all of the second
+pub front_passes : (test : Nameless → Bool) (xs ys : List Nameless) → list_all test (xs ++ ys) ≡ true → list_all test xs ≡ true
+front_passes test [] ys all = refl
+front_passes test (x ∷ xs) ys all =
+    both_of (test x) (list_all test xs) (first_of_both (test x) (list_all test (xs ++ ys)) all) (front_passes test xs ys (second_of_both (test x) (list_all test (xs ++ ys)) all))
+  where
+    both_of : (p q : Bool) → p ≡ true → q ≡ true → (p && q) ≡ true
+    both_of true true one two = refl
+    both_of true false one two = cc
+    both_of false q one two = cc
+
+pub back_passes : (test : Nameless → Bool) (xs ys : List Nameless) → list_all test (xs ++ ys) ≡ true → list_all test ys ≡ true
+back_passes test [] ys all = all
+back_passes test (x ∷ xs) ys all = back_passes test xs ys (second_of_both (test x) (list_all test (xs ++ ys)) all)
+
+-- the second list, as it stands after two changes
+pub later_passes : (test : Nameless → Bool) (f g : Nameless → Nameless) (xs h : List Nameless) → list_all test (xs ++ map (λ t. g (f t)) h) ≡ true → list_all test (map g (map f h)) ≡ true
+later_passes test f g xs h all = ap (list_all test) (map-twice f g h) ∙ back_passes test xs (map (λ t. g (f t)) h) all
+
+-- a term without itself
+pub without-itself : (h : List Nameless) (p : Nameless) → h ++ without p (p ∷ []) ≡ h
+without-itself h p = ap (λ l. h ++ l) none ∙ append-nil h
+  where
+    none : without p (p ∷ []) ≡ []
+    none = rw ((same_term-Decides p p).1 refl) refl
+
+pub derives-same : (fits : Bool) (result : Result Recorded Fault) (h k : List Nameless) (c : Nameless) → h ≡ k → DerivesIf fits result h c → DerivesIf fits result k c
+derives-same fits result h k c same derives = subst (λ (l : List Nameless). DerivesIf fits result l c) same derives
+
+-- the fifth of five tests, and the first four
+pub fifth : (a b c d e : Bool) → (a && (b && (c && (d && (e && true))))) ≡ true → e ≡ true
+fifth true true true true true all = refl
+fifth true true true true false all = cc
+fifth true true true false e all = cc
+fifth true true false d e all = cc
+fifth true false c d e all = cc
+fifth false b c d e all = cc
+
+pub first_four : (a b c d e : Bool) → (a && (b && (c && (d && (e && true))))) ≡ true → (a && (b && (c && (d && true)))) ≡ true
+first_four true true true true e all = refl
+first_four true true true false e all = cc
+first_four true true false d e all = cc
+first_four true false c d e all = cc
+first_four false b c d e all = cc

@@ -1,0 +1,10 @@
+pub mod StepLemmas
+pub mod Sizes
+pub mod CutLemmas
+pub mod SymLemmas
+pub mod LemmaLemmas
+pub mod BetaLemmas
+pub mod ConversionLemmas
+pub mod DrawnTerms
+pub mod DrawnEquality
+pub mod InferredEquality

@@ -1,0 +1,5 @@
+pub mod Sequents
+pub mod Room
+pub mod Formulas
+pub mod Conversions
+pub mod Inferred

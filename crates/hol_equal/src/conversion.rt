@@ -1,0 +1,44 @@
+// Beta conversion of redexes whose parts are known.
+ghost use Rattle.std.specs.Prelude.{◌≡◌, ◌∷◌, ℕ, List, [], Some, None};
+ghost use Rattle.hol_model.specs.HolType.{HolType};
+ghost use Rattle.hol_model.specs.NamedTerm.{NamedTerm, variable, combination, abstraction, type_of};
+ghost use Rattle.hol_model.specs.Rules.{first_unknown};
+ghost use Rattle.hol_equal.specs.Sequents.{DerivesIf, Continues};
+ghost use Rattle.hol_equal.specs.Conversions.{conversion, conversion_fits};
+
+use crate::steps;
+use hol_journal::{Rec, Recorder};
+use hol_model::Fault;
+use hol_terms::Term;
+use std::alloc::Global;
+
+/// For an abstraction `\x. b`, its variable and a term `a`, all of them known, the theorem `(\x. b) a = b[a/x]`, in two
+/// steps.
+pub fn converted(
+    recorder: &mut Recorder,
+    alloc: Global,
+    function: &Term,
+    binder: &Term,
+    argument: &Term,
+) -> Result<Rec, Fault>
+    ensures continues { Continues recorder.old recorder.new result }
+    ensures derives { (name : List ℕ) (ty codomain : HolType) (body : NamedTerm) → function.now ≡ abstraction name ty body → binder.now ≡ variable name ty → type_of body ≡ Some codomain → type_of argument.now ≡ Some ty → first_unknown recorder.old.theory (combination (abstraction name ty body) argument.now) ≡ None → DerivesIf (conversion_fits name ty codomain body argument.now) result [] (conversion name ty codomain body argument.now) }
+{
+    let trivial = match Term::mk_comb(alloc, function, binder) {
+        Ok(trivial) => trivial,
+        Err(fault) => return Err(fault),
+    };
+    let equation = match steps::beta(recorder, alloc, &trivial) {
+        Ok(equation) => equation,
+        Err(fault) => return Err(fault),
+    };
+    let new = match argument.copy(alloc) {
+        Ok(new) => new,
+        Err(fault) => return Err(fault),
+    };
+    let old = match binder.copy(alloc) {
+        Ok(old) => old,
+        Err(fault) => return Err(fault),
+    };
+    steps::inst(recorder, alloc, &[(new, old)], &equation)
+}

@@ -1,0 +1,243 @@
+// Derived rules without connectives.
+ghost use Rattle.std.specs.Prelude.{◌≡◌, List, [], ◌∷◌, ◌++◌, IfOk, IfSome, Some};
+ghost use Rattle.std.specs.List.{list_any};
+ghost use Rattle.std.specs.Option.{option_map, is_some};
+ghost use Rattle.hol_model.specs.NamedTerm.{combination, dest_abstraction};
+ghost use Rattle.hol_model.specs.NamedLogic.{dest_redex};
+ghost use Rattle.hol_model.specs.Rules.{dest_equation};
+ghost use Rattle.hol_model.specs.Nameless.{Nameless, image, same_term};
+ghost use Rattle.hol_model.specs.HolType.{bool_type};
+ghost use Rattle.hol_model.specs.Measures.{nameless_within_limits};
+ghost use Rattle.hol_model.specs.Derivable.{without, nameless_equation};
+ghost use Rattle.hol_model.specs.DerivedRules.{AnswersStated, terms_of_theorem, sym_outcome, add_assum_outcome, prove_hyp_outcome, beta_conv_outcome};
+ghost use Rattle.hol_model.specs.InferenceRules.{rule_sym, rule_add_assum, rule_prove_hyp, rule_beta_conv};
+ghost use Rattle.hol_journal.specs.Journal.{IsMade, theorem_in};
+ghost use Rattle.hol_equal.specs.Sequents.{Shows, DerivesIf, Continues};
+ghost use Rattle.hol_equal.specs.Inferred.{Infers};
+
+use crate::steps::{self, conclusion_of};
+use hol_alpha::aconv;
+use hol_journal::{Rec, Recorder};
+use hol_model::Fault;
+use hol_terms::{Parts, Term};
+use std::alloc::Global;
+
+// The parts of an equation, `=` among them.
+#[derive(Clone, Copy)]
+pub struct Equation<'a> {
+    pub(crate) relation: &'a Term,
+    pub left: &'a Term,
+    pub right: &'a Term,
+}
+
+// The parts of the term, where it is an equation.
+pub fn equation_parts(term: &Term) -> Option<Equation<'_>>
+    ensures sides { option_map (λ parts. (parts.left.now, parts.right.now)) result ≡ dest_equation term.now }
+    ensures whole { IfSome result (λ parts. term.now ≡ combination (combination parts.relation.now parts.left.now) parts.right.now) }
+{
+    match term.parts() {
+        Parts::Combination(applied, right) => match applied.parts() {
+            Parts::Combination(relation, left) => match relation.parts() {
+                Parts::Constant(name, _) => {
+                    if name == "=" {
+                        Some(Equation {
+                            relation,
+                            left,
+                            right,
+                        })
+                    } else {
+                        None
+                    }
+                }
+                _ => None,
+            },
+            _ => None,
+        },
+        _ => None,
+    }
+}
+
+// The parts of a redex: the abstraction, its variable and body, and the argument.
+#[derive(Clone, Copy)]
+struct Redex<'a> {
+    function: &'a Term,
+    binder: &'a Term,
+    body: &'a Term,
+    argument: &'a Term,
+}
+
+// The parts of the term, where it is an abstraction that is applied.
+fn redex_parts(term: &Term) -> Option<Redex<'_>>
+    ensures whole { IfSome result (λ redex. term.now ≡ combination redex.function.now redex.argument.now) }
+    ensures abstraction { IfSome result (λ redex. dest_abstraction redex.function.now ≡ Some (redex.binder.now, redex.body.now)) }
+    ensures found { is_some result ≡ is_some (dest_redex term.now) }
+{
+    match term.parts() {
+        Parts::Combination(function, argument) => match function.dest_abs() {
+            Some((binder, body)) => Some(Redex {
+                function,
+                binder,
+                body,
+                argument,
+            }),
+            None => None,
+        },
+        _ => None,
+    }
+}
+
+/// SYM: from `a = b`, `b = a`, in five steps of the kernel's rules. Refused where the conclusion is no equation.
+#[tactic(auto, using(crate::proofs::InferredEquality::infers_sym))]
+pub fn sym(recorder: &mut Recorder, alloc: Global, premise: &Rec) -> Result<Rec, Fault>
+    requires { IsMade recorder.old premise.now }
+    ensures continues { Continues recorder.old recorder.new result }
+    ensures outcome { AnswersStated (theorem_in result) (terms_of_theorem premise.now.theorem) (sym_outcome premise.now.theorem) }
+    ensures inferred { Infers recorder.old.theory rule_sym (premise.now.theorem ∷ []) (theorem_in result) }
+{
+    let Some(parts) = equation_parts(conclusion_of(recorder, premise)) else {
+        return Err(Fault::NotEquation);
+    };
+    let same = match steps::refl(recorder, alloc, parts.relation) {
+        Ok(same) => same,
+        Err(fault) => return Err(fault),
+    };
+    let applied = match steps::mk_comb(recorder, alloc, &same, premise) {
+        Ok(applied) => applied,
+        Err(fault) => return Err(fault),
+    };
+    let reflexive = match steps::refl(recorder, alloc, parts.left) {
+        Ok(reflexive) => reflexive,
+        Err(fault) => return Err(fault),
+    };
+    let congruence = match steps::mk_comb(recorder, alloc, &applied, &reflexive) {
+        Ok(congruence) => congruence,
+        Err(fault) => return Err(fault),
+    };
+    steps::eq_mp(recorder, alloc, &congruence, &reflexive)
+}
+
+/// The theorem with this conclusion, which differs from its own in the names of bound variables alone, in two steps.
+pub fn named(
+    recorder: &mut Recorder,
+    alloc: Global,
+    term: &Term,
+    premise: &Rec,
+) -> Result<Rec, Fault>
+    requires { IsMade recorder.old premise.now }
+    ensures continues { Continues recorder.old recorder.new result }
+    ensures names { IfOk result (λ made. made.theorem.conclusion ≡ term.now) }
+    ensures derives { (h : List Nameless) → Shows premise.now.theorem h (image term.now) → DerivesIf (nameless_within_limits (nameless_equation bool_type (image term.now) (image term.now))) result h (image term.now) }
+{
+    let _premise = recorder.thm(premise).concl();
+    let _type = term.ty();
+    recorder.theory_is_legal();
+    let reflexive = match steps::refl(recorder, alloc, term) {
+        Ok(reflexive) => reflexive,
+        Err(fault) => return Err(fault),
+    };
+    steps::eq_mp(recorder, alloc, &reflexive, premise)
+}
+
+/// From `p` and `q`, `q`, with the hypotheses of the first, and those of the second but `p`, in two steps.
+pub fn cut(recorder: &mut Recorder, alloc: Global, first: &Rec, second: &Rec) -> Result<Rec, Fault>
+    requires first { IsMade recorder.old first.now }
+    requires second { IsMade recorder.old second.now }
+    ensures continues { Continues recorder.old recorder.new result }
+    ensures names { IfOk result (λ made. made.theorem.conclusion ≡ second.now.theorem.conclusion) }
+    ensures derives { (h k : List Nameless) (p q : Nameless) → Shows first.now.theorem h p → Shows second.now.theorem k q → DerivesIf (nameless_within_limits (nameless_equation bool_type p q)) result (h ++ without p k) q }
+{
+    let _first = recorder.thm(first).concl();
+    let _second = recorder.thm(second).concl();
+    let equivalence = match steps::deduct_antisym(recorder, alloc, first, second) {
+        Ok(equivalence) => equivalence,
+        Err(fault) => return Err(fault),
+    };
+    steps::eq_mp(recorder, alloc, &equivalence, first)
+}
+
+/// ADD_ASSUM: from `q`, `q` with the hypothesis `p`, in three steps. Refused where `p` is not of type `bool`, and then
+/// where the theory does not know a type or a constant of it.
+#[tactic(auto, using(crate::proofs::InferredEquality::infers_add_assum))]
+pub fn add_assum(
+    recorder: &mut Recorder,
+    alloc: Global,
+    p: &Term,
+    premise: &Rec,
+) -> Result<Rec, Fault>
+    requires { IsMade recorder.old premise.now }
+    ensures continues { Continues recorder.old recorder.new result }
+    ensures outcome { AnswersStated (theorem_in result) (image p.now ∷ terms_of_theorem premise.now.theorem) (add_assum_outcome recorder.old.theory p.now premise.now.theorem) }
+    ensures inferred { Infers recorder.old.theory (rule_add_assum p.now) (premise.now.theorem ∷ []) (theorem_in result) }
+{
+    let _type = p.ty();
+    let assumed = match steps::assume(recorder, alloc, p) {
+        Ok(assumed) => assumed,
+        Err(fault) => return Err(fault),
+    };
+    cut(recorder, alloc, &assumed, premise)
+}
+
+/// PROVE_HYP: from `p` and `q`, `q` without the hypothesis `p`, and with the hypotheses of the first where `p` is one of
+/// the second's, in two steps.
+#[tactic(auto, using(crate::proofs::InferredEquality::infers_prove_hyp))]
+pub fn prove_hyp(
+    recorder: &mut Recorder,
+    alloc: Global,
+    first: &Rec,
+    second: &Rec,
+) -> Result<Rec, Fault>
+    requires first { IsMade recorder.old first.now }
+    requires second { IsMade recorder.old second.now }
+    ensures continues { Continues recorder.old recorder.new result }
+    ensures outcome { AnswersStated (theorem_in result) (terms_of_theorem first.now.theorem ++ terms_of_theorem second.now.theorem) (prove_hyp_outcome first.now.theorem second.now.theorem) }
+    ensures inferred { Infers recorder.old.theory rule_prove_hyp (first.now.theorem ∷ second.now.theorem ∷ []) (theorem_in result) }
+{
+    let p = recorder.thm(first).concl();
+    let theorem = recorder.thm(second);
+    if is_alpha_among(p, theorem.hyps()) {
+        return cut(recorder, alloc, first, second);
+    }
+    cut(recorder, alloc, second, second)
+}
+
+// Whether the term is one of a list, up to the names of bound variables.
+fn is_alpha_among(term: &Term, terms: &[Term]) -> bool
+    ensures { result ≡ list_any (λ other. same_term (image term.now) (image other)) terms.now }
+{
+    terms.iter().any(|other| aconv(term, other))
+}
+
+/// BETA_CONV: for `(\x. b) a` the theorem `(\x. b) a = b[a/x]`, in two steps. Refused where the term is no abstraction
+/// that is applied, and then where the theory does not know a type or a constant of it.
+#[tactic(auto, using(crate::proofs::InferredEquality::infers_beta_conv))]
+pub fn beta_conv(recorder: &mut Recorder, alloc: Global, term: &Term) -> Result<Rec, Fault>
+    ensures continues { Continues recorder.old recorder.new result }
+    ensures outcome { AnswersStated (theorem_in result) (image term.now ∷ []) (beta_conv_outcome recorder.old.theory term.now) }
+    ensures inferred { Infers recorder.old.theory (rule_beta_conv term.now) [] (theorem_in result) }
+{
+    let _type = term.ty();
+    let Some(redex) = redex_parts(term) else {
+        return Err(Fault::BadShape);
+    };
+    match recorder.theory().refl(alloc, term) {
+        Ok(_walked) => {}
+        Err(fault) => return Err(fault),
+    }
+    let trivial = match Term::mk_comb(alloc, redex.function, redex.binder) {
+        Ok(trivial) => trivial,
+        Err(fault) => return Err(fault),
+    };
+    let converted = match steps::beta(recorder, alloc, &trivial) {
+        Ok(converted) => converted,
+        Err(fault) => return Err(fault),
+    };
+    let argument = match redex.argument.copy(alloc) {
+        Ok(argument) => argument,
+        Err(fault) => return Err(fault),
+    };
+    let binder = match redex.binder.copy(alloc) {
+        Ok(binder) => binder,
+        Err(fault) => return Err(fault),
+    };
+    steps::inst(recorder, alloc, &[(argument, binder)], &converted)
+}

@@ -1,0 +1,61 @@
+// Rules by an instance of a lemma, which is proved once.
+ghost use Rattle.std.specs.Prelude.{◌≡◌, List, [], ◌∷◌, ◌++◌, map, None};
+ghost use Rattle.std.specs.List.{list_all};
+ghost use Rattle.hol_model.specs.HolType.{bool_type};
+ghost use Rattle.hol_model.specs.Nameless.{Nameless};
+ghost use Rattle.hol_model.specs.Measures.{nameless_within_limits};
+ghost use Rattle.hol_model.specs.Substitution.{put_all};
+ghost use Rattle.hol_model.specs.Instantiation.{instantiate_all, replacements_refusal, type_replacements_refusal};
+ghost use Rattle.hol_model.specs.Derivable.{nameless_equation};
+ghost use Rattle.hol_journal.specs.Journal.{IsMade};
+ghost use Rattle.hol_equal.specs.Sequents.{Shows, DerivesIf, Continues, instance_of};
+
+use crate::equality::cut;
+use crate::steps;
+use hol_journal::{Rec, Recorder};
+use hol_model::Fault;
+use hol_terms::Term;
+use hol_types::Ty;
+use std::alloc::Global;
+
+/// The instance of a lemma with these types for type variables, and then these terms for variables, in two steps.
+pub fn instance(
+    recorder: &mut Recorder,
+    alloc: Global,
+    types: &[(Ty, Ty)],
+    terms: &[(Term, Term)],
+    lemma: &Rec,
+) -> Result<Rec, Fault>
+    requires { IsMade recorder.old lemma.now }
+    ensures continues { Continues recorder.old recorder.new result }
+    ensures derives { type_replacements_refusal recorder.old.theory types.now ≡ None → replacements_refusal recorder.old.theory terms.now ≡ None → (h : List Nameless) (c : Nameless) → Shows lemma.now.theorem h c → DerivesIf (list_all nameless_within_limits (map (instantiate_all types.now) (c ∷ h) ++ map (instance_of types.now terms.now) (c ∷ h))) result (map (instance_of types.now terms.now) h) (instance_of types.now terms.now c) }
+{
+    let typed = match steps::inst_type(recorder, alloc, types, lemma) {
+        Ok(typed) => typed,
+        Err(fault) => return Err(fault),
+    };
+    steps::inst(recorder, alloc, terms, &typed)
+}
+
+/// From the lemma's hypothesis at an instance, its conclusion there, in four steps. A rule of two premises takes a
+/// lemma whose conclusion is an equation, `p |- q = r`, and uses it on the second premise by EQ_MP: to take away two
+/// hypotheses one after another would take the second from the hypotheses of the first premise too.
+pub fn by_lemma(
+    recorder: &mut Recorder,
+    alloc: Global,
+    types: &[(Ty, Ty)],
+    terms: &[(Term, Term)],
+    lemma: &Rec,
+    premise: &Rec,
+) -> Result<Rec, Fault>
+    requires lemma { IsMade recorder.old lemma.now }
+    requires premise { IsMade recorder.old premise.now }
+    ensures continues { Continues recorder.old recorder.new result }
+    ensures derives { type_replacements_refusal recorder.old.theory types.now ≡ None → replacements_refusal recorder.old.theory terms.now ≡ None → (h : List Nameless) (p c : Nameless) → Shows lemma.now.theorem (p ∷ []) c → Shows premise.now.theorem h (instance_of types.now terms.now p) → DerivesIf (list_all nameless_within_limits (instantiate_all types.now c ∷ instantiate_all types.now p ∷ instance_of types.now terms.now c ∷ instance_of types.now terms.now p ∷ nameless_equation bool_type (instance_of types.now terms.now p) (instance_of types.now terms.now c) ∷ [])) result h (instance_of types.now terms.now c) }
+{
+    let stated = match instance(recorder, alloc, types, terms, lemma) {
+        Ok(stated) => stated,
+        Err(fault) => return Err(fault),
+    };
+    cut(recorder, alloc, premise, &stated)
+}

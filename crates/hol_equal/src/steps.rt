@@ -1,0 +1,173 @@
+// The kernel's rules by image: what each derives from theorems that show sequents.
+ghost use Rattle.std.specs.Prelude.{◌≡◌, List, ℕ, [], ◌∷◌, ◌++◌, map, Some, None, IfOk};
+ghost use Rattle.hol_model.specs.HolType.{HolType, bool_type, function_type};
+ghost use Rattle.hol_model.specs.NamedTerm.{NamedTerm, variable, combination, abstraction, equation, type_of};
+ghost use Rattle.hol_model.specs.Nameless.{Nameless, free, app, lam, image};
+ghost use Rattle.hol_model.specs.Substitution.{close, put_all};
+ghost use Rattle.hol_model.specs.Instantiation.{instantiate_all, replacements_refusal, type_replacements_refusal};
+ghost use Rattle.hol_model.specs.Rules.{dest_equation, assume_outcome};
+ghost use Rattle.hol_model.specs.Outcome.{Answers};
+ghost use Rattle.hol_model.specs.Theory.{IsKnown, IsKnownType, IsLegal};
+ghost use Rattle.hol_model.specs.Theorem.{IsTheorem};
+ghost use Rattle.hol_model.specs.Derivable.{NotFreeInAny, without, nameless_equation};
+ghost use Rattle.hol_journal.specs.Journal.{IsMade, theorem_in};
+ghost use Rattle.hol_equal.specs.Formulas.{IsFormula};
+ghost use Rattle.hol_equal.specs.Sequents.{Shows, Derives, DerivesInstance, Gives, Continues};
+
+use hol_journal::{Rec, Recorder};
+use hol_model::Fault;
+use hol_terms::Term;
+use hol_types::Ty;
+use std::alloc::Global;
+
+/// The conclusion of a theorem that this recorder made.
+pub fn conclusion_of<'a>(recorder: &Recorder, premise: &'a Rec) -> &'a Term
+    requires { IsMade recorder.now premise.now }
+    ensures value { result.now ≡ premise.now.theorem.conclusion }
+    ensures formula { IsFormula recorder.now.theory premise.now.theorem.conclusion }
+    ensures theorem { IsTheorem premise.now.theorem }
+    ensures legal { IsLegal recorder.now.theory }
+{
+    recorder.theory_is_legal();
+    recorder.thm(premise).concl()
+}
+
+// REFL, of a known term.
+pub(crate) fn refl(recorder: &mut Recorder, alloc: Global, term: &Term) -> Result<Rec, Fault>
+    ensures continues { Continues recorder.old recorder.new result }
+    ensures names { IfOk result (λ made. made.theorem.conclusion ≡ equation term.now term.now) }
+    ensures derives { (ty : HolType) → IsKnown recorder.old.theory (image term.now) ty → Derives result [] (nameless_equation ty (image term.now) (image term.now)) }
+{
+    recorder.refl(alloc, term)
+}
+
+/// ASSUME, of a known formula.
+pub fn assume(recorder: &mut Recorder, alloc: Global, term: &Term) -> Result<Rec, Fault>
+    ensures continues { Continues recorder.old recorder.new result }
+    ensures outcome { Answers (theorem_in result) (assume_outcome recorder.old.theory term.now) }
+    ensures gives { IsKnown recorder.old.theory (image term.now) bool_type → Gives result (image term.now ∷ []) (image term.now) }
+{
+    recorder.assume(alloc, term)
+}
+
+// BETA, of a known redex.
+pub(crate) fn beta(recorder: &mut Recorder, alloc: Global, term: &Term) -> Result<Rec, Fault>
+    ensures continues { Continues recorder.old recorder.new result }
+    ensures derives { (name : List ℕ) (domain codomain : HolType) (body : NamedTerm) → term.now ≡ combination (abstraction name domain body) (variable name domain) → type_of body ≡ Some codomain → IsKnown recorder.old.theory (image term.now) codomain → Derives result [] (nameless_equation codomain (app (lam domain (close name domain (image body))) (free name domain)) (image body)) }
+{
+    recorder.beta(alloc, term)
+}
+
+/// TRANS, of theorems that show sequents.
+pub fn trans(
+    recorder: &mut Recorder,
+    alloc: Global,
+    first: &Rec,
+    second: &Rec,
+) -> Result<Rec, Fault>
+    requires first { IsMade recorder.old first.now }
+    requires second { IsMade recorder.old second.now }
+    ensures continues { Continues recorder.old recorder.new result }
+    ensures derives { (h k : List Nameless) (ty : HolType) (l m r : Nameless) → Shows first.now.theorem h (nameless_equation ty l m) → Shows second.now.theorem k (nameless_equation ty m r) → Derives result (h ++ k) (nameless_equation ty l r) }
+{
+    let _first = recorder.thm(first).concl();
+    let _second = recorder.thm(second).concl();
+    recorder.trans(alloc, first, second)
+}
+
+/// EQ_MP, of theorems that show sequents.
+pub fn eq_mp(
+    recorder: &mut Recorder,
+    alloc: Global,
+    first: &Rec,
+    second: &Rec,
+) -> Result<Rec, Fault>
+    requires first { IsMade recorder.old first.now }
+    requires second { IsMade recorder.old second.now }
+    ensures continues { Continues recorder.old recorder.new result }
+    ensures names { IfOk result (λ made. (sides : NamedTerm × NamedTerm) → dest_equation first.now.theorem.conclusion ≡ Some sides → made.theorem.conclusion ≡ sides.1) }
+    ensures gives { (h k : List Nameless) (p q : Nameless) → Shows first.now.theorem h (nameless_equation bool_type p q) → Shows second.now.theorem k p → Gives result (h ++ k) q }
+{
+    let _first = recorder.thm(first).concl();
+    let _second = recorder.thm(second).concl();
+    recorder.eq_mp(alloc, first, second)
+}
+
+// MK_COMB.
+pub(crate) fn mk_comb(
+    recorder: &mut Recorder,
+    alloc: Global,
+    first: &Rec,
+    second: &Rec,
+) -> Result<Rec, Fault>
+    requires first { IsMade recorder.old first.now }
+    requires second { IsMade recorder.old second.now }
+    ensures continues { Continues recorder.old recorder.new result }
+    ensures names { IfOk result (λ made. (functions arguments : NamedTerm × NamedTerm) → dest_equation first.now.theorem.conclusion ≡ Some functions → dest_equation second.now.theorem.conclusion ≡ Some arguments → made.theorem.conclusion ≡ equation (combination functions.0 arguments.0) (combination functions.1 arguments.1)) }
+    ensures derives { (h k : List Nameless) (domain codomain : HolType) (f g x y : Nameless) → Shows first.now.theorem h (nameless_equation (function_type domain codomain) f g) → Shows second.now.theorem k (nameless_equation domain x y) → Derives result (h ++ k) (nameless_equation codomain (app f x) (app g y)) }
+{
+    let _first = recorder.thm(first).concl();
+    let _second = recorder.thm(second).concl();
+    recorder.mk_comb(alloc, first, second)
+}
+
+// DEDUCT_ANTISYM_RULE.
+pub fn deduct_antisym(
+    recorder: &mut Recorder,
+    alloc: Global,
+    first: &Rec,
+    second: &Rec,
+) -> Result<Rec, Fault>
+    requires first { IsMade recorder.old first.now }
+    requires second { IsMade recorder.old second.now }
+    ensures continues { Continues recorder.old recorder.new result }
+    ensures names { IfOk result (λ made. made.theorem.conclusion ≡ equation first.now.theorem.conclusion second.now.theorem.conclusion) }
+    ensures derives { (h k : List Nameless) (p q : Nameless) → Shows first.now.theorem h p → Shows second.now.theorem k q → Derives result (without q h ++ without p k) (nameless_equation bool_type p q) }
+{
+    let _first = recorder.thm(first).concl();
+    let _second = recorder.thm(second).concl();
+    recorder.deduct_antisym(alloc, first, second)
+}
+
+/// ABS of a theorem that shows a sequent, over a variable of a known type that is free in no hypothesis.
+pub fn abs(
+    recorder: &mut Recorder,
+    alloc: Global,
+    binder: &Term,
+    premise: &Rec,
+) -> Result<Rec, Fault>
+    requires { IsMade recorder.old premise.now }
+    ensures continues { Continues recorder.old recorder.new result }
+    ensures derives { (h : List Nameless) (name : List ℕ) (domain codomain : HolType) (s t : Nameless) → image binder.now ≡ free name domain → IsKnownType recorder.old.theory domain → NotFreeInAny name domain h → Shows premise.now.theorem h (nameless_equation codomain s t) → Derives result h (nameless_equation (function_type domain codomain) (lam domain (close name domain s)) (lam domain (close name domain t))) }
+{
+    let _premise = recorder.thm(premise).concl();
+    recorder.abs(alloc, binder, premise)
+}
+
+// INST, by known terms of the variables' types.
+pub(crate) fn inst(
+    recorder: &mut Recorder,
+    alloc: Global,
+    theta: &[(Term, Term)],
+    premise: &Rec,
+) -> Result<Rec, Fault>
+    requires { IsMade recorder.old premise.now }
+    ensures continues { Continues recorder.old recorder.new result }
+    ensures derives { replacements_refusal recorder.old.theory theta.now ≡ None → (h : List Nameless) (c : Nameless) → Shows premise.now.theorem h c → DerivesInstance result (map (put_all theta.now) h) (put_all theta.now c) }
+{
+    recorder.inst(alloc, theta, premise)
+}
+
+// INST_TYPE, by known types.
+pub(crate) fn inst_type(
+    recorder: &mut Recorder,
+    alloc: Global,
+    theta: &[(Ty, Ty)],
+    premise: &Rec,
+) -> Result<Rec, Fault>
+    requires { IsMade recorder.old premise.now }
+    ensures continues { Continues recorder.old recorder.new result }
+    ensures derives { type_replacements_refusal recorder.old.theory theta.now ≡ None → (h : List Nameless) (c : Nameless) → Shows premise.now.theorem h c → DerivesInstance result (map (instantiate_all theta.now) h) (instantiate_all theta.now c) }
+{
+    recorder.inst_type(alloc, theta, premise)
+}

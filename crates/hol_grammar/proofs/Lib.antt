@@ -1,0 +1,11 @@
+pub mod Identifiers
+pub mod Lexing
+pub mod Lists
+pub mod Pieces
+pub mod PieceReading
+pub mod TermReading
+pub mod TermReaderStates
+pub mod TermRuns
+pub mod TypeReading
+pub mod TypeReaderStates
+pub mod TypeRuns

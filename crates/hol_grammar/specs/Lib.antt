@@ -1,0 +1,12 @@
+pub mod Grammar
+pub mod Classes
+pub mod Lexer
+pub mod Pieces
+pub mod PieceStates
+pub mod Steps
+pub mod TermReader
+pub mod TermStates
+pub mod TermSteps
+pub mod TypeReader
+pub mod Views
+pub mod TypeStates

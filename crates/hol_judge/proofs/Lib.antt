@@ -1,0 +1,11 @@
+pub mod AdditionLemmas
+pub mod StartLemmas
+pub mod FaultLemmas
+pub mod TypeLineLemmas
+pub mod JudgedSteps
+pub mod TermLineLemmas
+pub mod EntryLineLemmas
+pub mod ClaimLineLemmas
+pub mod StepPairLemmas
+pub mod TakeLemmas
+pub mod JudgedDefinitions

@@ -1,0 +1,94 @@
+-- The pairs that a line names, one after another.
+use Rattle.std.proofs.Common.{◌≡◌, ℕ, ◌+◌, ◌<◌, ◌≤◌, ◌||◌, List, [], ◌∷◌, ◌++◌, map, length, drop, get_or, Bool, true, false, refl, sym, ◌∙◌, ap, subst, append_assoc, append-nil, arith}
+use Rattle.std.specs.List.{All, list_any}
+use Rattle.std.proofs.lemmas.List.{map_push, drop_all}
+use Rattle.std.proofs.lemmas.List.Elements.{All-push}
+use Rattle.hol_model.specs.HolType.{HolType}
+use Rattle.hol_model.specs.Nameless.{Nameless}
+use Rattle.hol_model.specs.LogState as given
+use Rattle.hol_model.specs.LogState.{LogState}
+use Rattle.hol_model.specs.LogFaults.{is_no_term, is_no_type}
+use Rattle.hol_shared.specs.Terms.{type_at, term_at}
+use Rattle.hol_steps.specs.Judged.{NamesTerm, NamesType}
+use Rattle.hol_steps.specs.StepPairs.{IsFittingPair, IsTypePair, NamesTermPairs, NamesTypePairs}
+use Rattle.hol_steps.proofs.InstanceLemmas.{drop-pair}
+use Rattle.hol_judge.proofs.JudgedSteps.{neither-true}
+
+-- what is named, as far as this place
+pub record ArePaired {Value : Type 0} (missing : ℕ × ℕ → Bool) (at here : ℕ × ℕ → Value) (P : ℕ × ℕ → Type 0) (lines : List (ℕ × ℕ)) (index : ℕ) (pairs : List (ℕ × ℕ)) : Type 0 where
+  pub there : list_any missing lines ≡ list_any missing (drop index lines)
+  pub named : map here pairs ++ map at (drop index lines) ≡ map at lines
+  pub fitting : All P pairs
+
+module _ {Value : Type 0} (missing : ℕ × ℕ → Bool) (at here : ℕ × ℕ → Value) (P : ℕ × ℕ → Type 0) (lines : List (ℕ × ℕ)) where
+  pub none-paired : (pairs : List (ℕ × ℕ)) → pairs ≡ [] → ArePaired missing at here P lines 0 pairs
+  none-paired pairs none = record {
+    there = refl;
+    named = ap (λ l. map here l ++ map at lines) none;
+    fitting = subst (All P) (sym none) (λ k d within. absurd (omega (arith, within)));
+  }
+
+  pub all-paired-there : (index : ℕ) (pairs : List (ℕ × ℕ)) → length lines ≤ index → ArePaired missing at here P lines index pairs → list_any missing lines ≡ false
+  all-paired-there index pairs past paired = paired.there ∙ ap (list_any missing) (drop_all index lines past)
+
+  pub all-paired-named : (index : ℕ) (pairs : List (ℕ × ℕ)) → length lines ≤ index → ArePaired missing at here P lines index pairs → map at lines ≡ map here pairs
+  all-paired-named index pairs past paired = sym (sym (append-nil (map here pairs)) ∙ (ap (λ l. map here pairs ++ map at l) (sym (drop_all index lines past)) ∙ paired.named))
+
+  module _ (index : ℕ) (d : ℕ × ℕ) (within : index < length lines) (pairs : List (ℕ × ℕ)) (paired : ArePaired missing at here P lines index pairs) where
+    line : ℕ × ℕ
+    line = get_or lines index d
+
+    either-here : (test rest : Bool) → test ≡ true → (test || rest) ≡ true
+    either-here test rest holds = cc
+
+    neither-here : (test rest : Bool) → test ≡ false → (test || rest) ≡ rest
+    neither-here test rest fails = cc
+
+    pub pair-missing : missing (get_or lines index d) ≡ true → list_any missing lines ≡ true
+    pair-missing is = paired.there ∙ (ap (list_any missing) (drop-pair lines index d within) ∙ either-here (missing (get_or lines index d)) (list_any missing (drop (index + 1) lines)) is)
+
+    pub one-paired : (pair : ℕ × ℕ) (now : List (ℕ × ℕ)) → missing (get_or lines index d) ≡ false → at (get_or lines index d) ≡ here pair → P pair → now ≡ pairs ++ pair ∷ [] → ArePaired missing at here P lines (index + 1) now
+    one-paired pair now is_there is fits pushed = record {
+      there = paired.there ∙ (ap (list_any missing) (drop-pair lines index d within) ∙ neither-here (missing (get_or lines index d)) (list_any missing (drop (index + 1) lines)) is_there);
+      named =
+          let pushes : map here now ≡ map here pairs ++ here pair ∷ [] = ap (map here) pushed ∙ map_push here pairs pair in
+          let rest : List Value = map at (drop (index + 1) lines) in
+          ap (λ l. l ++ rest) pushes
+          ∙ (append_assoc (map here pairs) (here pair ∷ []) rest
+          ∙ (ap (λ t. map here pairs ++ t ∷ rest) (sym is) ∙ (ap (λ l. map here pairs ++ map at l) (sym (drop-pair lines index d within)) ∙ paired.named)));
+      fitting = subst (All P) (sym pushed) (All-push P pairs pair paired.fitting fits);
+    }
+
+-- pairs of terms, and of types
+
+abbrev pub AreTermsPaired : LogState → List Nameless → List (ℕ × ℕ) → ℕ → List (ℕ × ℕ) → Type 0
+AreTermsPaired state terms =
+    ArePaired {Value = Nameless × Nameless} (λ pair. is_no_term state pair.0 || is_no_term state pair.1) (λ pair. (given.term_at state pair.0, given.term_at state pair.1)) (λ pair. (term_at terms pair.0, term_at terms pair.1)) (IsFittingPair terms)
+
+abbrev pub AreTypesPaired : LogState → List HolType → List (ℕ × ℕ) → ℕ → List (ℕ × ℕ) → Type 0
+AreTypesPaired state types =
+    ArePaired {Value = HolType × HolType} (λ pair. is_no_type state pair.0 || is_no_type state pair.1) (λ pair. (given.type_at state pair.0, given.type_at state pair.1)) (λ pair. (type_at types pair.0, type_at types pair.1)) (IsTypePair types)
+
+pub terms-paired : (state : LogState) (terms : List Nameless) (lines : List (ℕ × ℕ)) (index : ℕ) (pairs now : List (ℕ × ℕ)) (new old : ℕ) → index < length lines → AreTermsPaired state terms lines index pairs
+    → NamesTerm state (get_or lines index (0, 0)).0 terms new → NamesTerm state (get_or lines index (0, 0)).1 terms old → now ≡ pairs ++ (new, old) ∷ [] → AreTermsPaired state terms lines (index + 1) now
+terms-paired state terms lines index pairs now new old within paired one two pushed =
+    one-paired {Value = Nameless × Nameless} (λ pair. is_no_term state pair.0 || is_no_term state pair.1) (λ pair. (given.term_at state pair.0, given.term_at state pair.1)) (λ pair. (term_at terms pair.0, term_at terms pair.1)) (IsFittingPair terms) lines index (0, 0) within pairs paired (new, old) now (neither-true _ _ one.is_there two.is_there) (λ i. (one.named i, two.named i)) (record { new = one.fits; old = two.fits }) pushed
+
+pub types-paired : (state : LogState) (types : List HolType) (lines : List (ℕ × ℕ)) (index : ℕ) (pairs now : List (ℕ × ℕ)) (new old : ℕ) → index < length lines → AreTypesPaired state types lines index pairs
+    → NamesType state (get_or lines index (0, 0)).0 types new → NamesType state (get_or lines index (0, 0)).1 types old → now ≡ pairs ++ (new, old) ∷ [] → AreTypesPaired state types lines (index + 1) now
+types-paired state types lines index pairs now new old within paired one two pushed =
+    one-paired {Value = HolType × HolType} (λ pair. is_no_type state pair.0 || is_no_type state pair.1) (λ pair. (given.type_at state pair.0, given.type_at state pair.1)) (λ pair. (type_at types pair.0, type_at types pair.1)) (IsTypePair types) lines index (0, 0) within pairs paired (new, old) now (neither-true _ _ one.is_there two.is_there) (λ i. (one.named i, two.named i)) (record { new = one.within; old = two.within }) pushed
+
+pub all-terms-paired : (state : LogState) (terms : List Nameless) (lines : List (ℕ × ℕ)) (index : ℕ) (pairs : List (ℕ × ℕ)) → length lines ≤ index → AreTermsPaired state terms lines index pairs → NamesTermPairs state lines terms pairs
+all-terms-paired state terms lines index pairs past paired = record {
+  are_there = all-paired-there {Value = Nameless × Nameless} (λ pair. is_no_term state pair.0 || is_no_term state pair.1) (λ pair. (given.term_at state pair.0, given.term_at state pair.1)) (λ pair. (term_at terms pair.0, term_at terms pair.1)) (IsFittingPair terms) lines index pairs past paired;
+  named = all-paired-named {Value = Nameless × Nameless} (λ pair. is_no_term state pair.0 || is_no_term state pair.1) (λ pair. (given.term_at state pair.0, given.term_at state pair.1)) (λ pair. (term_at terms pair.0, term_at terms pair.1)) (IsFittingPair terms) lines index pairs past paired;
+  fitting = paired.fitting;
+}
+
+pub all-types-paired : (state : LogState) (types : List HolType) (lines : List (ℕ × ℕ)) (index : ℕ) (pairs : List (ℕ × ℕ)) → length lines ≤ index → AreTypesPaired state types lines index pairs → NamesTypePairs state lines types pairs
+all-types-paired state types lines index pairs past paired = record {
+  are_there = all-paired-there {Value = HolType × HolType} (λ pair. is_no_type state pair.0 || is_no_type state pair.1) (λ pair. (given.type_at state pair.0, given.type_at state pair.1)) (λ pair. (type_at types pair.0, type_at types pair.1)) (IsTypePair types) lines index pairs past paired;
+  named = all-paired-named {Value = HolType × HolType} (λ pair. is_no_type state pair.0 || is_no_type state pair.1) (λ pair. (given.type_at state pair.0, given.type_at state pair.1)) (λ pair. (type_at types pair.0, type_at types pair.1)) (IsTypePair types) lines index pairs past paired;
+  within = paired.fitting;
+}

@@ -1,0 +1,6 @@
+pub mod Added
+pub mod TermLines
+pub mod ClaimLines
+pub mod Taken
+pub mod LogCode
+pub mod Log

@@ -1,0 +1,2 @@
+pub mod PreludeLemmas
+pub mod StoredLemmas

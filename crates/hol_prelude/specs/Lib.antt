@@ -1,0 +1,3 @@
+pub mod HasLogic
+pub mod Prelude
+pub mod Laws

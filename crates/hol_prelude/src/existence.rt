@@ -1,0 +1,388 @@
+// The pieces of EXISTS and CHOOSE, as data.
+use hol_derivations::conjunction::{FIRST, REFL_FIRST, REFL_Q, REFL_TEST, TRUE_AT_FIRST};
+use hol_derivations::derivation::Derivation;
+use hol_derivations::formulas::{
+    ALWAYS, EACH_IMP_Q, EACH_IMP_Q_IMP, EACH_IMP_Q_IMP_Q, EXISTS_BODY, FORALL_Q_EACH, PRED, Q,
+    Q_EACH, QUANTIFIER, TEST, TESTED_TRUE, X, X_PRED_X_IMP_Q,
+};
+use hol_derivations::logic::{
+    ALWAYS_X, FORALL_FORMULA_IS, FORALL_PRED_IS, FORMULA, FORMULA_ALWAYS, FORMULA_PRED, REFL_PRED,
+    REFL_X,
+};
+use hol_derivations::sketch::TermSketch;
+use hol_derivations::truth::{EARLIER_TRUTH, REFL_EQ_BOOL};
+use hol_laws::choice::PRED_X_HOLDS;
+use hol_laws::disjunction::{EACH_FORMULA, FORMULA_ALWAYS_X, GENERALIZES_FORMULA, REFL_IMP};
+use hol_laws::laws::{DISCHARGE, EXISTS_PRED_IS, FIRST_OF_TESTS, FROM_TRUE, SPECIALIZES, U, V};
+use hol_model::{PairRule, TermRule};
+
+// |- (?) P <=> (!q. (!x. P x ==> q) ==> q): EXISTS_DEF at P
+const EXISTS_DEF: Derivation<'static> = Derivation::Earlier(4);
+
+const EXISTS_AT_PRED: Derivation<'static> = Derivation::Pair(
+    PairRule::MkComb,
+    &EXISTS_DEF,
+    &REFL_PRED,
+);
+
+const EXISTS_BODY_PRED: TermSketch<'static> = TermSketch::Combination(&EXISTS_BODY, &PRED);
+
+const BETA_EXISTS_BODY_PRED: Derivation<'static> = Derivation::Term(
+    TermRule::Beta,
+    &EXISTS_BODY_PRED,
+);
+
+pub(crate) const EXISTS_UNFOLDED: Derivation<'static> = Derivation::Pair(
+    PairRule::Trans,
+    &EXISTS_AT_PRED,
+    &BETA_EXISTS_BODY_PRED,
+);
+
+// P x |- (?) P
+const ASSUME_EACH_IMP_Q: Derivation<'static> = Derivation::Term(TermRule::Assume, &EACH_IMP_Q);
+
+const X_CASE_IS_ALWAYS: TermSketch<'static> = TermSketch::Equation(&X_PRED_X_IMP_Q, &ALWAYS);
+
+const X_CASE_UNFOLDS: TermSketch<'static> = TermSketch::Equation(&EACH_IMP_Q, &X_CASE_IS_ALWAYS);
+
+const X_CASE_UNFOLDED: Derivation<'static> = Derivation::Inst(
+    &X_PRED_X_IMP_Q,
+    &PRED,
+    &FORALL_PRED_IS,
+    &X_CASE_UNFOLDS,
+);
+
+const X_CASE_AT_X: TermSketch<'static> = TermSketch::Combination(&X_PRED_X_IMP_Q, &X);
+
+const X_CASE_AT_X_AGREES: TermSketch<'static> = TermSketch::Equation(&X_CASE_AT_X, &ALWAYS_X);
+
+const X_CASE_AT_X_MEANS: TermSketch<'static> = TermSketch::Equation(
+    &X_CASE_AT_X_AGREES,
+    &X_CASE_AT_X,
+);
+
+const X_CASE_EACH: Derivation<'static> = Derivation::Inst(
+    &X_PRED_X_IMP_Q,
+    &PRED,
+    &SPECIALIZES,
+    &X_CASE_AT_X_MEANS,
+);
+
+const X_CASE_ALWAYS: Derivation<'static> = Derivation::Pair(
+    PairRule::EqMp,
+    &X_CASE_UNFOLDED,
+    &ASSUME_EACH_IMP_Q,
+);
+
+const X_CASE_AT: Derivation<'static> = Derivation::Pair(PairRule::MkComb, &X_CASE_ALWAYS, &REFL_X);
+
+const X_CASE_APPLIED: Derivation<'static> = Derivation::Pair(
+    PairRule::EqMp,
+    &X_CASE_EACH,
+    &X_CASE_AT,
+);
+
+const BETA_X_CASE: Derivation<'static> = Derivation::Term(TermRule::Beta, &X_CASE_AT_X);
+
+const X_CASE: Derivation<'static> = Derivation::Pair(PairRule::EqMp, &BETA_X_CASE, &X_CASE_APPLIED);
+
+const Q_FROM_X_IMP: Derivation<'static> = Derivation::Pair(
+    PairRule::MkComb,
+    &REFL_IMP,
+    &PRED_X_HOLDS,
+);
+
+const Q_FROM_X_FOLLOWS: Derivation<'static> = Derivation::Pair(
+    PairRule::MkComb,
+    &Q_FROM_X_IMP,
+    &REFL_Q,
+);
+
+const Q_FROM_X_IS: Derivation<'static> = Derivation::Pair(
+    PairRule::Trans,
+    &Q_FROM_X_FOLLOWS,
+    &FROM_TRUE,
+);
+
+const Q_FROM_X: Derivation<'static> = Derivation::Pair(PairRule::EqMp, &Q_FROM_X_IS, &X_CASE);
+
+const X_CASE_FORALL_HOLDS: Derivation<'static> = Derivation::Pair(
+    PairRule::DeductAntisym,
+    &ASSUME_EACH_IMP_Q,
+    &EARLIER_TRUTH,
+);
+
+const X_CASES_TRUE: Derivation<'static> = Derivation::Pair(
+    PairRule::DeductAntisym,
+    &Q_FROM_X,
+    &EARLIER_TRUTH,
+);
+
+const TEST_X_CASE_FORALL_HOLDS: Derivation<'static> = Derivation::Pair(
+    PairRule::MkComb,
+    &REFL_TEST,
+    &X_CASE_FORALL_HOLDS,
+);
+
+const X_CASES_TEST_TRUE: Derivation<'static> = Derivation::Pair(
+    PairRule::MkComb,
+    &TEST_X_CASE_FORALL_HOLDS,
+    &X_CASES_TRUE,
+);
+
+const X_CASES_TESTS_TRUE: Derivation<'static> = Derivation::Abs(&TEST, &X_CASES_TEST_TRUE);
+
+const TEST_X_CASE_FORALL: TermSketch<'static> = TermSketch::Combination(&TEST, &EACH_IMP_Q);
+
+const X_CASES_TEST: TermSketch<'static> = TermSketch::Combination(&TEST_X_CASE_FORALL, &Q);
+
+const X_CASES_TESTED: TermSketch<'static> = TermSketch::Abstraction(&TEST, &X_CASES_TEST);
+
+const X_CASES_TESTS: TermSketch<'static> = TermSketch::Equation(&X_CASES_TESTED, &TESTED_TRUE);
+
+const ASSUME_X_CASES_TESTS: Derivation<'static> = Derivation::Term(
+    TermRule::Assume,
+    &X_CASES_TESTS,
+);
+
+const X_CASES_AT_FIRST_TRUE: Derivation<'static> = Derivation::Pair(
+    PairRule::MkComb,
+    &ASSUME_X_CASES_TESTS,
+    &REFL_FIRST,
+);
+
+const X_CASES_OPEN_TEST: TermSketch<'static> = TermSketch::Combination(&TEST_X_CASE_FORALL, &V);
+
+const X_CASES_OPEN_TESTED: TermSketch<'static> = TermSketch::Abstraction(&TEST, &X_CASES_OPEN_TEST);
+
+const X_CASES_OPEN_AT_FIRST: TermSketch<'static> = TermSketch::Combination(
+    &X_CASES_OPEN_TESTED,
+    &FIRST,
+);
+
+const X_CASES_OPEN_AGREE: TermSketch<'static> = TermSketch::Equation(
+    &X_CASES_OPEN_AT_FIRST,
+    &TRUE_AT_FIRST,
+);
+
+const X_CASES_OPEN_AGREE_IS: TermSketch<'static> = TermSketch::Equation(
+    &X_CASES_OPEN_AGREE,
+    &EACH_IMP_Q,
+);
+
+const X_CASES_OPEN_FIRST: Derivation<'static> = Derivation::Inst(
+    &EACH_IMP_Q,
+    &U,
+    &FIRST_OF_TESTS,
+    &X_CASES_OPEN_AGREE_IS,
+);
+
+const X_CASES_AT_FIRST: TermSketch<'static> = TermSketch::Combination(&X_CASES_TESTED, &FIRST);
+
+const X_CASES_AGREE: TermSketch<'static> = TermSketch::Equation(&X_CASES_AT_FIRST, &TRUE_AT_FIRST);
+
+const X_CASES_AGREE_IS: TermSketch<'static> = TermSketch::Equation(&X_CASES_AGREE, &EACH_IMP_Q);
+
+const X_CASES_FIRST: Derivation<'static> = Derivation::Inst(
+    &Q,
+    &V,
+    &X_CASES_OPEN_FIRST,
+    &X_CASES_AGREE_IS,
+);
+
+const X_CASES_PREMISE: Derivation<'static> = Derivation::Pair(
+    PairRule::EqMp,
+    &X_CASES_FIRST,
+    &X_CASES_AT_FIRST_TRUE,
+);
+
+const X_CASES_IS_PREMISE: Derivation<'static> = Derivation::Pair(
+    PairRule::DeductAntisym,
+    &X_CASES_TESTS_TRUE,
+    &X_CASES_PREMISE,
+);
+
+const X_CASES_OPEN_TESTS: TermSketch<'static> = TermSketch::Equation(
+    &X_CASES_OPEN_TESTED,
+    &TESTED_TRUE,
+);
+
+const X_CASES_OPEN_ABSORBS: TermSketch<'static> = TermSketch::Equation(
+    &X_CASES_OPEN_TESTS,
+    &EACH_IMP_Q,
+);
+
+const X_CASES_OPEN_IMP: TermSketch<'static> = TermSketch::Combination(&EACH_IMP_Q_IMP, &V);
+
+const X_CASES_OPEN_MEANS: TermSketch<'static> = TermSketch::Equation(
+    &X_CASES_OPEN_ABSORBS,
+    &X_CASES_OPEN_IMP,
+);
+
+const X_CASES_OPEN_DISCHARGE: Derivation<'static> = Derivation::Inst(
+    &EACH_IMP_Q,
+    &U,
+    &DISCHARGE,
+    &X_CASES_OPEN_MEANS,
+);
+
+const X_CASES_ABSORBS: TermSketch<'static> = TermSketch::Equation(&X_CASES_TESTS, &EACH_IMP_Q);
+
+const X_CASES_MEANS: TermSketch<'static> = TermSketch::Equation(
+    &X_CASES_ABSORBS,
+    &EACH_IMP_Q_IMP_Q,
+);
+
+const X_CASES_DISCHARGE: Derivation<'static> = Derivation::Inst(
+    &Q,
+    &V,
+    &X_CASES_OPEN_DISCHARGE,
+    &X_CASES_MEANS,
+);
+
+const X_CASES: Derivation<'static> = Derivation::Pair(
+    PairRule::EqMp,
+    &X_CASES_DISCHARGE,
+    &X_CASES_IS_PREMISE,
+);
+
+const EACH_CASE_IS_ALWAYS: TermSketch<'static> = TermSketch::Equation(&Q_EACH, &FORMULA_ALWAYS);
+
+const EACH_CASE_MEANS: TermSketch<'static> = TermSketch::Equation(
+    &EACH_CASE_IS_ALWAYS,
+    &FORALL_Q_EACH,
+);
+
+const EACH_CASE_ALWAYS: Derivation<'static> = Derivation::Inst(
+    &Q_EACH,
+    &FORMULA_PRED,
+    &GENERALIZES_FORMULA,
+    &EACH_CASE_MEANS,
+);
+
+const EACH_CASE_TRUE: Derivation<'static> = Derivation::Pair(
+    PairRule::DeductAntisym,
+    &X_CASES,
+    &EARLIER_TRUTH,
+);
+
+const EACH_CASE_EACH_TRUE: Derivation<'static> = Derivation::Abs(&Q, &EACH_CASE_TRUE);
+
+const EACH_CASE: Derivation<'static> = Derivation::Pair(
+    PairRule::EqMp,
+    &EACH_CASE_ALWAYS,
+    &EACH_CASE_EACH_TRUE,
+);
+
+const EXISTS: TermSketch<'static> = TermSketch::Constant("?", &QUANTIFIER);
+
+const EXISTS_PRED: TermSketch<'static> = TermSketch::Combination(&EXISTS, &PRED);
+
+const REFL_EXISTS_PRED: Derivation<'static> = Derivation::Term(TermRule::Refl, &EXISTS_PRED);
+
+const EXISTS_PRED_IS_EQUATES: Derivation<'static> = Derivation::Pair(
+    PairRule::MkComb,
+    &REFL_EQ_BOOL,
+    &EXISTS_PRED_IS,
+);
+
+const EXISTS_PRED_IS_SIDES: Derivation<'static> = Derivation::Pair(
+    PairRule::MkComb,
+    &EXISTS_PRED_IS_EQUATES,
+    &REFL_EXISTS_PRED,
+);
+
+const SYM_EXISTS_PRED_IS: Derivation<'static> = Derivation::Pair(
+    PairRule::EqMp,
+    &EXISTS_PRED_IS_SIDES,
+    &REFL_EXISTS_PRED,
+);
+
+pub(crate) const EXISTS_RULE: Derivation<'static> = Derivation::Pair(
+    PairRule::EqMp,
+    &SYM_EXISTS_PRED_IS,
+    &EACH_CASE,
+);
+
+// (?) P |- (!x. P x ==> q) ==> q
+const ASSUME_EXISTS_PRED: Derivation<'static> = Derivation::Term(TermRule::Assume, &EXISTS_PRED);
+
+const CASES_OF_Q: Derivation<'static> = Derivation::Pair(
+    PairRule::EqMp,
+    &EXISTS_PRED_IS,
+    &ASSUME_EXISTS_PRED,
+);
+
+const EACH_CASE_UNFOLDS: TermSketch<'static> = TermSketch::Equation(
+    &FORALL_Q_EACH,
+    &EACH_CASE_IS_ALWAYS,
+);
+
+const CHOOSE_UNFOLDED: Derivation<'static> = Derivation::Inst(
+    &Q_EACH,
+    &FORMULA_PRED,
+    &FORALL_FORMULA_IS,
+    &EACH_CASE_UNFOLDS,
+);
+
+const EACH_CASE_AT_X: TermSketch<'static> = TermSketch::Combination(&Q_EACH, &FORMULA);
+
+const EACH_CASE_AT_X_AGREES: TermSketch<'static> = TermSketch::Equation(
+    &EACH_CASE_AT_X,
+    &FORMULA_ALWAYS_X,
+);
+
+const EACH_CASE_AT_X_MEANS: TermSketch<'static> = TermSketch::Equation(
+    &EACH_CASE_AT_X_AGREES,
+    &EACH_CASE_AT_X,
+);
+
+const CHOOSE_EACH: Derivation<'static> = Derivation::Inst(
+    &Q_EACH,
+    &FORMULA_PRED,
+    &EACH_FORMULA,
+    &EACH_CASE_AT_X_MEANS,
+);
+
+const EACH_CASE_AT_SELF: TermSketch<'static> = TermSketch::Combination(&Q_EACH, &Q);
+
+const FORMULA_ALWAYS_Q: TermSketch<'static> = TermSketch::Combination(&FORMULA_ALWAYS, &Q);
+
+const EACH_CASE_AT_SELF_AGREES: TermSketch<'static> = TermSketch::Equation(
+    &EACH_CASE_AT_SELF,
+    &FORMULA_ALWAYS_Q,
+);
+
+const EACH_CASE_AT_SELF_MEANS: TermSketch<'static> = TermSketch::Equation(
+    &EACH_CASE_AT_SELF_AGREES,
+    &EACH_CASE_AT_SELF,
+);
+
+const CHOOSE_AT_EACH: Derivation<'static> = Derivation::Inst(
+    &Q,
+    &FORMULA,
+    &CHOOSE_EACH,
+    &EACH_CASE_AT_SELF_MEANS,
+);
+
+const CHOOSE_ALWAYS: Derivation<'static> = Derivation::Pair(
+    PairRule::EqMp,
+    &CHOOSE_UNFOLDED,
+    &CASES_OF_Q,
+);
+
+const CHOOSE_AT: Derivation<'static> = Derivation::Pair(PairRule::MkComb, &CHOOSE_ALWAYS, &REFL_Q);
+
+const CHOOSE_APPLIED: Derivation<'static> = Derivation::Pair(
+    PairRule::EqMp,
+    &CHOOSE_AT_EACH,
+    &CHOOSE_AT,
+);
+
+const BETA_CHOOSE: Derivation<'static> = Derivation::Term(TermRule::Beta, &EACH_CASE_AT_SELF);
+
+pub const CHOOSE: Derivation<'static> = Derivation::Pair(
+    PairRule::EqMp,
+    &BETA_CHOOSE,
+    &CHOOSE_APPLIED,
+);

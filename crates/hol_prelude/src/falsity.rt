@@ -1,0 +1,260 @@
+// Laws of falsity, of `p ==> p` and of `p \/ T`, as data.
+use hol_derivations::conjunction::{FIRST, REFL_FIRST, TRUE_AT_FIRST};
+use hol_derivations::derivation::Derivation;
+use hol_derivations::formulas::{
+    F, FORALL_BOOL, IMP, P, P_CASE, P_IMP, P_IMP_R, Q, R, T, TEST, TEST_P, TESTED_TRUE,
+};
+use hol_derivations::logic::{ASSUME_F, FORMULA_ALWAYS, FORMULA_PRED};
+use hol_derivations::sketch::TermSketch;
+use hol_derivations::truth::{ASSUME_P, EARLIER_TRUTH, EQT_INTRO, REFL_EQ_BOOL};
+use hol_laws::disjunction::{FROM_TRUE_R, GENERALIZES_FORMULA, P_OR, REFL_IMP, REFL_R, T_IMP_R};
+use hol_laws::laws::{
+    P_OR_Q_FROM, TEST_P_HOLDS, TRUE_FOLLOWS_OPEN_DISCHARGE, TRUE_FOLLOWS_OPEN_FIRST, V,
+};
+use hol_model::{PairRule, TermRule};
+
+// |- ((p <=> F) <=> p) <=> F
+const P_IS_F: TermSketch<'static> = TermSketch::Equation(&P, &F);
+
+const DENIES: TermSketch<'static> = TermSketch::Equation(&P_IS_F, &P);
+
+const ASSUME_DENIES: Derivation<'static> = Derivation::Term(TermRule::Assume, &DENIES);
+
+const DENIES_EQUATES: Derivation<'static> = Derivation::Pair(
+    PairRule::MkComb,
+    &REFL_EQ_BOOL,
+    &ASSUME_DENIES,
+);
+
+const REFL_P_IS_F: Derivation<'static> = Derivation::Term(TermRule::Refl, &P_IS_F);
+
+const DENIES_SIDES: Derivation<'static> = Derivation::Pair(
+    PairRule::MkComb,
+    &DENIES_EQUATES,
+    &REFL_P_IS_F,
+);
+
+const SYM_DENIES: Derivation<'static> = Derivation::Pair(
+    PairRule::EqMp,
+    &DENIES_SIDES,
+    &REFL_P_IS_F,
+);
+
+const P_IS_F_FROM_P: Derivation<'static> = Derivation::Pair(PairRule::EqMp, &SYM_DENIES, &ASSUME_P);
+
+const F_FROM_P: Derivation<'static> = Derivation::Pair(PairRule::EqMp, &P_IS_F_FROM_P, &ASSUME_P);
+
+pub(crate) const P_FROM_F: Derivation<'static> = Derivation::Earlier(24);
+
+const DENIES_P: Derivation<'static> = Derivation::Pair(
+    PairRule::DeductAntisym,
+    &P_FROM_F,
+    &F_FROM_P,
+);
+
+const DENIES_HOLDS_P: Derivation<'static> = Derivation::Pair(
+    PairRule::EqMp,
+    &ASSUME_DENIES,
+    &DENIES_P,
+);
+
+const F_FROM_DENIES: Derivation<'static> = Derivation::Pair(
+    PairRule::EqMp,
+    &DENIES_P,
+    &DENIES_HOLDS_P,
+);
+
+const P_IS_F_FROM_F: Derivation<'static> = Derivation::Pair(
+    PairRule::DeductAntisym,
+    &P_FROM_F,
+    &ASSUME_F,
+);
+
+const DENIES_FROM_F: Derivation<'static> = Derivation::Pair(
+    PairRule::DeductAntisym,
+    &P_IS_F_FROM_F,
+    &P_FROM_F,
+);
+
+pub(crate) const SELF_DENIAL: Derivation<'static> = Derivation::Pair(
+    PairRule::DeductAntisym,
+    &DENIES_FROM_F,
+    &F_FROM_DENIES,
+);
+
+// |- p ==> p
+const SELF_TEST_TRUE: Derivation<'static> = Derivation::Pair(
+    PairRule::MkComb,
+    &TEST_P_HOLDS,
+    &EQT_INTRO,
+);
+
+const SELF_TESTS_TRUE: Derivation<'static> = Derivation::Abs(&TEST, &SELF_TEST_TRUE);
+
+const SELF_TEST: TermSketch<'static> = TermSketch::Combination(&TEST_P, &P);
+
+const SELF_TESTED: TermSketch<'static> = TermSketch::Abstraction(&TEST, &SELF_TEST);
+
+const SELF_TESTS: TermSketch<'static> = TermSketch::Equation(&SELF_TESTED, &TESTED_TRUE);
+
+const ASSUME_SELF_TESTS: Derivation<'static> = Derivation::Term(TermRule::Assume, &SELF_TESTS);
+
+const SELF_AT_FIRST_TRUE: Derivation<'static> = Derivation::Pair(
+    PairRule::MkComb,
+    &ASSUME_SELF_TESTS,
+    &REFL_FIRST,
+);
+
+const SELF_AT_FIRST: TermSketch<'static> = TermSketch::Combination(&SELF_TESTED, &FIRST);
+
+const SELF_AGREE: TermSketch<'static> = TermSketch::Equation(&SELF_AT_FIRST, &TRUE_AT_FIRST);
+
+const SELF_AGREE_IS: TermSketch<'static> = TermSketch::Equation(&SELF_AGREE, &P);
+
+const SELF_FIRST: Derivation<'static> = Derivation::Inst(
+    &P,
+    &V,
+    &TRUE_FOLLOWS_OPEN_FIRST,
+    &SELF_AGREE_IS,
+);
+
+const SELF_PREMISE: Derivation<'static> = Derivation::Pair(
+    PairRule::EqMp,
+    &SELF_FIRST,
+    &SELF_AT_FIRST_TRUE,
+);
+
+const SELF_IS_PREMISE: Derivation<'static> = Derivation::Pair(
+    PairRule::DeductAntisym,
+    &SELF_TESTS_TRUE,
+    &SELF_PREMISE,
+);
+
+const SELF_ABSORBS: TermSketch<'static> = TermSketch::Equation(&SELF_TESTS, &P);
+
+const P_IMP_P: TermSketch<'static> = TermSketch::Combination(&P_IMP, &P);
+
+const SELF_MEANS: TermSketch<'static> = TermSketch::Equation(&SELF_ABSORBS, &P_IMP_P);
+
+const SELF_DISCHARGE: Derivation<'static> = Derivation::Inst(
+    &P,
+    &V,
+    &TRUE_FOLLOWS_OPEN_DISCHARGE,
+    &SELF_MEANS,
+);
+
+pub(crate) const P_IMPLIES_P: Derivation<'static> = Derivation::Pair(
+    PairRule::EqMp,
+    &SELF_DISCHARGE,
+    &SELF_IS_PREMISE,
+);
+
+// |- p \/ T <=> T
+pub(crate) const P_FOLLOWS_P: Derivation<'static> = Derivation::Earlier(39);
+
+const R_IMP: TermSketch<'static> = TermSketch::Combination(&IMP, &R);
+
+const R_IMP_R: TermSketch<'static> = TermSketch::Combination(&R_IMP, &R);
+
+const R_FOLLOWS_R: Derivation<'static> = Derivation::Inst(&R, &P, &P_FOLLOWS_P, &R_IMP_R);
+
+const R_FOLLOWS_R_TRUE: Derivation<'static> = Derivation::Pair(
+    PairRule::DeductAntisym,
+    &R_FOLLOWS_R,
+    &EARLIER_TRUTH,
+);
+
+const T_CASE_EQUATES: Derivation<'static> = Derivation::Pair(
+    PairRule::MkComb,
+    &REFL_IMP,
+    &FROM_TRUE_R,
+);
+
+const T_CASE_SIDES: Derivation<'static> = Derivation::Pair(
+    PairRule::MkComb,
+    &T_CASE_EQUATES,
+    &REFL_R,
+);
+
+const T_CASE_TRUE: Derivation<'static> = Derivation::Pair(
+    PairRule::Trans,
+    &T_CASE_SIDES,
+    &R_FOLLOWS_R_TRUE,
+);
+
+const REFL_P_CASE: Derivation<'static> = Derivation::Term(TermRule::Refl, &P_CASE);
+
+const T_CASES_FOLLOW: Derivation<'static> = Derivation::Pair(
+    PairRule::MkComb,
+    &REFL_P_CASE,
+    &T_CASE_TRUE,
+);
+
+const P_CASE_T: TermSketch<'static> = TermSketch::Combination(&P_CASE, &T);
+
+const P_CASE_T_IS_T: TermSketch<'static> = TermSketch::Equation(&P_CASE_T, &T);
+
+pub(crate) const TO_TRUE: Derivation<'static> = Derivation::Earlier(31);
+
+const P_CASE_TO_TRUE: Derivation<'static> = Derivation::Inst(
+    &P_IMP_R,
+    &P,
+    &TO_TRUE,
+    &P_CASE_T_IS_T,
+);
+
+const T_CASES_TRUE: Derivation<'static> = Derivation::Pair(
+    PairRule::Trans,
+    &T_CASES_FOLLOW,
+    &P_CASE_TO_TRUE,
+);
+
+const T_CASES_EACH_TRUE: Derivation<'static> = Derivation::Abs(&R, &T_CASES_TRUE);
+
+const T_CASE: TermSketch<'static> = TermSketch::Combination(&IMP, &T_IMP_R);
+
+const T_CASE_R: TermSketch<'static> = TermSketch::Combination(&T_CASE, &R);
+
+const T_CASES: TermSketch<'static> = TermSketch::Combination(&P_CASE, &T_CASE_R);
+
+const R_T_CASES: TermSketch<'static> = TermSketch::Abstraction(&R, &T_CASES);
+
+const T_CASES_IS_ALWAYS: TermSketch<'static> = TermSketch::Equation(&R_T_CASES, &FORMULA_ALWAYS);
+
+const FORALL_R_T_CASES: TermSketch<'static> = TermSketch::Combination(&FORALL_BOOL, &R_T_CASES);
+
+const T_CASES_MEANS: TermSketch<'static> = TermSketch::Equation(
+    &T_CASES_IS_ALWAYS,
+    &FORALL_R_T_CASES,
+);
+
+const T_CASES_ALWAYS: Derivation<'static> = Derivation::Inst(
+    &R_T_CASES,
+    &FORMULA_PRED,
+    &GENERALIZES_FORMULA,
+    &T_CASES_MEANS,
+);
+
+const T_CASES_HOLD: Derivation<'static> = Derivation::Pair(
+    PairRule::EqMp,
+    &T_CASES_ALWAYS,
+    &T_CASES_EACH_TRUE,
+);
+
+const P_OR_T: TermSketch<'static> = TermSketch::Combination(&P_OR, &T);
+
+const P_OR_T_FOLDS: TermSketch<'static> = TermSketch::Equation(&FORALL_R_T_CASES, &P_OR_T);
+
+const P_OR_T_FROM: Derivation<'static> = Derivation::Inst(&T, &Q, &P_OR_Q_FROM, &P_OR_T_FOLDS);
+
+const P_OR_T_HOLDS: Derivation<'static> = Derivation::Pair(
+    PairRule::EqMp,
+    &P_OR_T_FROM,
+    &T_CASES_HOLD,
+);
+
+pub(crate) const P_OR_TRUE_EQUATION: Derivation<'static> = Derivation::Pair(
+    PairRule::DeductAntisym,
+    &P_OR_T_HOLDS,
+    &EARLIER_TRUTH,
+);

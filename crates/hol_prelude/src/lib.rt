@@ -1,0 +1,12 @@
+//! The theorems that stand before a script begins, made by a recorder.
+#![tactic(auto)]
+
+mod existence;
+mod falsity;
+mod middle;
+pub mod numbers;
+mod stages;
+mod stored;
+mod tables;
+
+pub use stored::{Bool, logic_stays, prelude, theorem_of};

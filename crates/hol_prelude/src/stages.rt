@@ -1,0 +1,139 @@
+// The theorems of the prelude and the laws among them, table by table.
+ghost use Rattle.std.specs.Prelude.{◌≡◌, [], ◌++◌, IfOk, IfErr};
+ghost use Rattle.hol_model.specs.declared.fault.Fault.TheVariants.{Memory};
+ghost use Rattle.hol_journal.specs.Growth.{IsGrown};
+ghost use Rattle.hol_derivations.specs.Derivations.{AreMade};
+ghost use Rattle.hol_derivations.specs.Makings.{HasMade};
+ghost use Rattle.hol_prelude.specs.Prelude.{first_theorems, disjunction_theorems, case_theorems, existence_theorems, axiom_theorems, middle_theorems};
+ghost use Rattle.hol_prelude.specs.Laws.{laws, falsity_laws, decider_laws};
+
+use crate::tables::{
+    AXIOMS, CASES, DECIDER_LAWS, DISJUNCTION, EXISTENCE, FALSITY_LAWS, FIRST_THEOREMS, LAWS, MIDDLE,
+};
+use hol_derivations::making::{make_first, make_table};
+use hol_journal::{Rec, Recorder};
+use hol_model::Fault;
+use std::alloc::Global;
+
+// The definitions, TRUTH and the theorems of the first connectives.
+fn first(recorder: &mut Recorder, alloc: Global) -> Result<Vec<Rec>, Fault>
+    requires new { recorder.old.theory ≡ [] }
+    ensures ok { IfOk result (λ all. HasMade recorder.new.theory all.items (first_theorems)) }
+    ensures made { IfOk result (λ all. AreMade recorder.new all.items) }
+    ensures err { IfErr result (λ fault. fault ≡ Memory) }
+    ensures grown { IsGrown recorder.old recorder.new }
+{
+    make_first(recorder, alloc, &FIRST_THEOREMS)
+}
+
+// The theorems, and the laws that the later tables cite.
+fn with_laws(recorder: &mut Recorder, alloc: Global) -> Result<Vec<Rec>, Fault>
+    requires new { recorder.old.theory ≡ [] }
+    ensures ok { IfOk result (λ all. HasMade recorder.new.theory all.items (first_theorems ++ laws)) }
+    ensures made { IfOk result (λ all. AreMade recorder.new all.items) }
+    ensures err { IfErr result (λ fault. fault ≡ Memory) }
+    ensures grown { IsGrown recorder.old recorder.new }
+{
+    match first(recorder, alloc) {
+        Ok(earlier) => make_table(recorder, alloc, earlier, &LAWS),
+        Err(fault) => Err(fault),
+    }
+}
+
+// The theorems, and the laws of falsity.
+fn with_falsity(recorder: &mut Recorder, alloc: Global) -> Result<Vec<Rec>, Fault>
+    requires new { recorder.old.theory ≡ [] }
+    ensures ok { IfOk result (λ all. HasMade recorder.new.theory all.items (first_theorems ++ laws ++ falsity_laws)) }
+    ensures made { IfOk result (λ all. AreMade recorder.new all.items) }
+    ensures err { IfErr result (λ fault. fault ≡ Memory) }
+    ensures grown { IsGrown recorder.old recorder.new }
+{
+    match with_laws(recorder, alloc) {
+        Ok(earlier) => make_table(recorder, alloc, earlier, &FALSITY_LAWS),
+        Err(fault) => Err(fault),
+    }
+}
+
+// The theorems, and the laws of the formula that is chosen for `p \/ ~p`.
+fn with_decider(recorder: &mut Recorder, alloc: Global) -> Result<Vec<Rec>, Fault>
+    requires new { recorder.old.theory ≡ [] }
+    ensures ok { IfOk result (λ all. HasMade recorder.new.theory all.items (first_theorems ++ laws ++ falsity_laws ++ decider_laws)) }
+    ensures made { IfOk result (λ all. AreMade recorder.new all.items) }
+    ensures err { IfErr result (λ fault. fault ≡ Memory) }
+    ensures grown { IsGrown recorder.old recorder.new }
+{
+    match with_falsity(recorder, alloc) {
+        Ok(earlier) => make_table(recorder, alloc, earlier, &DECIDER_LAWS),
+        Err(fault) => Err(fault),
+    }
+}
+
+// The theorems, and DISJ1.
+fn with_disjunction(recorder: &mut Recorder, alloc: Global) -> Result<Vec<Rec>, Fault>
+    requires new { recorder.old.theory ≡ [] }
+    ensures ok { IfOk result (λ all. HasMade recorder.new.theory all.items (first_theorems ++ laws ++ falsity_laws ++ decider_laws ++ disjunction_theorems)) }
+    ensures made { IfOk result (λ all. AreMade recorder.new all.items) }
+    ensures err { IfErr result (λ fault. fault ≡ Memory) }
+    ensures grown { IsGrown recorder.old recorder.new }
+{
+    match with_decider(recorder, alloc) {
+        Ok(earlier) => make_table(recorder, alloc, earlier, &DISJUNCTION),
+        Err(fault) => Err(fault),
+    }
+}
+
+// The theorems, and DISJ2 and DISJ_CASES.
+fn with_cases(recorder: &mut Recorder, alloc: Global) -> Result<Vec<Rec>, Fault>
+    requires new { recorder.old.theory ≡ [] }
+    ensures ok { IfOk result (λ all. HasMade recorder.new.theory all.items (first_theorems ++ laws ++ falsity_laws ++ decider_laws ++ disjunction_theorems ++ case_theorems)) }
+    ensures made { IfOk result (λ all. AreMade recorder.new all.items) }
+    ensures err { IfErr result (λ fault. fault ≡ Memory) }
+    ensures grown { IsGrown recorder.old recorder.new }
+{
+    match with_disjunction(recorder, alloc) {
+        Ok(earlier) => make_table(recorder, alloc, earlier, &CASES),
+        Err(fault) => Err(fault),
+    }
+}
+
+// The theorems, and EXISTS.
+fn with_existence(recorder: &mut Recorder, alloc: Global) -> Result<Vec<Rec>, Fault>
+    requires new { recorder.old.theory ≡ [] }
+    ensures ok { IfOk result (λ all. HasMade recorder.new.theory all.items (first_theorems ++ laws ++ falsity_laws ++ decider_laws ++ disjunction_theorems ++ case_theorems ++ existence_theorems)) }
+    ensures made { IfOk result (λ all. AreMade recorder.new all.items) }
+    ensures err { IfErr result (λ fault. fault ≡ Memory) }
+    ensures grown { IsGrown recorder.old recorder.new }
+{
+    match with_cases(recorder, alloc) {
+        Ok(earlier) => make_table(recorder, alloc, earlier, &EXISTENCE),
+        Err(fault) => Err(fault),
+    }
+}
+
+// The theorems, and CHOOSE, ETA_AX and SELECT_AX.
+fn with_axioms(recorder: &mut Recorder, alloc: Global) -> Result<Vec<Rec>, Fault>
+    requires new { recorder.old.theory ≡ [] }
+    ensures ok { IfOk result (λ all. HasMade recorder.new.theory all.items (first_theorems ++ laws ++ falsity_laws ++ decider_laws ++ disjunction_theorems ++ case_theorems ++ existence_theorems ++ axiom_theorems)) }
+    ensures made { IfOk result (λ all. AreMade recorder.new all.items) }
+    ensures err { IfErr result (λ fault. fault ≡ Memory) }
+    ensures grown { IsGrown recorder.old recorder.new }
+{
+    match with_existence(recorder, alloc) {
+        Ok(earlier) => make_table(recorder, alloc, earlier, &AXIOMS),
+        Err(fault) => Err(fault),
+    }
+}
+
+/// All theorems, the laws among them.
+pub(crate) fn with_middle(recorder: &mut Recorder, alloc: Global) -> Result<Vec<Rec>, Fault>
+    requires new { recorder.old.theory ≡ [] }
+    ensures ok { IfOk result (λ all. HasMade recorder.new.theory all.items (first_theorems ++ laws ++ falsity_laws ++ decider_laws ++ disjunction_theorems ++ case_theorems ++ existence_theorems ++ axiom_theorems ++ middle_theorems)) }
+    ensures made { IfOk result (λ all. AreMade recorder.new all.items) }
+    ensures err { IfErr result (λ fault. fault ≡ Memory) }
+    ensures grown { IsGrown recorder.old recorder.new }
+{
+    match with_axioms(recorder, alloc) {
+        Ok(earlier) => make_table(recorder, alloc, earlier, &MIDDLE),
+        Err(fault) => Err(fault),
+    }
+}

@@ -1,0 +1,229 @@
+-- What the parts of the printer put at the end of a text is the text of the tree.
+use Rattle.std.proofs.Common.{OnOk, Result, Ok, Err, inl, inr, ◌⊎◌, ◌≤◌, ◌<◌, suc, ltb, arith, append_assoc, ◌≡◌, ℕ, Bool, true, false, not, List, [], ◌∷◌, ◌++◌, Option, None, Some, refl, sym, ap, ◌∙◌, subst, if◌then◌else◌, codes, nat_le, is_none, ◌&&◌, ◌||◌}
+use Rattle.std.specs.Option.{option_map_or}
+use Rattle.std.specs.Str.{bytes_eq}
+use Rattle.std.proofs.lemmas.Slice.Eq.{bytes_eq-Decides}
+use Rattle.std.proofs.lemmas.List.{append-nil}
+use Rattle.std.proofs.lemmas.Bool.Decides.{leb_tells}
+use Rattle.hol_model.specs.declared.fault.Fault.{Fault}
+use Rattle.hol_model.specs.Name.{is_identifier, is_symbol, is_constant_name}
+use Rattle.hol_model.specs.HolType.{HolType, type_eq}
+use Rattle.hol_model.specs.TermGrammar.{Atom, Infix, Bare, Variable, Constant, TermTree, Leaf, Apply, Not, Join, Bind, Enclosed, infix_level, infix_symbol, Binder, binder_symbol, level}
+use Rattle.hol_model.specs.Token.{Token, Name, Mark, token_text, symbol_text}
+use Rattle.hol_model.specs.declared.symbol.Symbol.TheVariants.{Implies, And, Or, Equal, Exclamation, Question, At, Tilde}
+use Rattle.hol_model.specs.Reading.{Scope, Bindings, bound_type, is_closed_type}
+use Rattle.hol_model.specs.Printing.{type_tree, enclose, variable_tree, name_token, typed_constant, bare_tree, constant_tree}
+use Rattle.hol_model.specs.Texts.{type_bytes, term_bytes}
+use Rattle.hol_print.specs.Output.{Appends, opening, closing}
+use Rattle.hol_print.specs.Shape.{is_bound_at, is_bare_constant}
+
+pub joined : {a b c : List ℕ} {f g : List ℕ → List ℕ} → Appends a b f → Appends b c g → Appends a c (λ rest. f (g rest))
+joined {f} {g} h k = record { appended = λ rest. k.appended rest ∙ h.appended (g rest) }
+
+-- what is put at the end of no text
+pub from_nothing : (old new : List ℕ) (f : List ℕ → List ℕ) → old ≡ [] → Appends old new f → new ≡ f []
+from_nothing old new f e h = sym (append-nil new) ∙ h.appended [] ∙ ap (λ o. o ++ f []) e
+
+both_true : (a b : Bool) → a && b ≡ true → (a ≡ true) × (b ≡ true)
+both_true true true e = (refl, refl)
+both_true true false e = absurd (let bad : false ≡ true = e in cc)
+both_true false b e = absurd (let bad : false ≡ true = e in cc)
+
+-- a tree in parentheses, where its level is below
+pub enclosing : (n : ℕ) (b : Bool) (tree : TermTree) (o1 o2 o3 o4 : List ℕ) → not b ≡ nat_le n (level tree)
+    → Appends o1 o2 (opening b) → Appends o2 o3 (term_bytes tree) → Appends o3 o4 (closing b) → Appends o1 o4 (term_bytes (enclose n tree))
+enclosing n true tree o1 o2 o3 o4 e h k l =
+    subst (λ b. Appends o1 o4 (term_bytes (if b then tree else Enclosed tree))) e (joined h (joined k l))
+enclosing n false tree o1 o2 o3 o4 e h k l =
+    subst (λ b. Appends o1 o4 (term_bytes (if b then tree else Enclosed tree))) e (joined h (joined k l))
+
+bound_variable : (o : Option HolType) (name : List ℕ) (ty : HolType) → option_map_or (λ bound. type_eq bound ty) o false ≡ true
+    → Leaf (Bare name) ≡ variable_tree o name ty
+bound_variable None name ty e = absurd (let bad : false ≡ true = e in cc)
+bound_variable (Some bound) name ty e = sym (ap (λ b. if b then Leaf (Bare name) else Leaf (Variable name (type_tree ty))) e)
+
+other_variable : (o : Option HolType) (name : List ℕ) (ty : HolType) → option_map_or (λ bound. type_eq bound ty) o false ≡ false
+    → Leaf (Variable name (type_tree ty)) ≡ variable_tree o name ty
+other_variable None name ty e = refl
+other_variable (Some bound) name ty e = sym (ap (λ b. if b then Leaf (Bare name) else Leaf (Variable name (type_tree ty))) e)
+
+pub bare_variable_printed : (bindings : Bindings) (name : List ℕ) (ty : HolType) (old new : List ℕ) → is_bound_at bindings name ty ≡ true
+    → Appends old new (λ rest. name ++ rest) → Appends old new (term_bytes (variable_tree (bound_type bindings name) name ty))
+bare_variable_printed bindings name ty old new e h = subst (λ t. Appends old new (term_bytes t)) (bound_variable (bound_type bindings name) name ty e) h
+
+pub typed_variable_printed : (bindings : Bindings) (name : List ℕ) (ty : HolType) (old new : List ℕ) → is_bound_at bindings name ty ≡ false
+    → Appends old new (λ rest. 40 ∷ (name ++ 58 ∷ type_bytes (type_tree ty) (41 ∷ rest))) → Appends old new (term_bytes (variable_tree (bound_type bindings name) name ty))
+typed_variable_printed bindings name ty old new e h = subst (λ t. Appends old new (term_bytes t)) (other_variable (bound_type bindings name) name ty e) h
+
+-- one of the symbols, or a later one
+named_or : (name : List ℕ) (b : Bool) (text : List ℕ) (t u : Token) (more : Bool) → bytes_eq name text ≡ b → token_text t ≡ text
+    → b || more ≡ true → (more ≡ true → token_text u ≡ name) → token_text (if b then t else u) ≡ name
+named_or name true text t u more e s h later = s ∙ sym ((bytes_eq-Decides name text).0 e)
+named_or name false text t u more e s h later = later h
+
+symbol_named : (name : List ℕ) → is_symbol name ≡ true → token_text (if bytes_eq name (codes "=") then Mark Equal else
+    (if bytes_eq name (codes "@") then Mark At else
+    (if bytes_eq name (codes "/\\") then Mark And else
+    (if bytes_eq name (codes "\\/") then Mark Or else
+    (if bytes_eq name (codes "==>") then Mark Implies else
+    (if bytes_eq name (codes "~") then Mark Tilde else
+    (if bytes_eq name (codes "!") then Mark Exclamation else Mark Question))))))) ≡ name
+symbol_named name h =
+    named_or name _ (codes "=") (Mark Equal) _ _ refl refl h (λ h.
+    named_or name _ (codes "@") (Mark At) _ _ refl refl h (λ h.
+    named_or name _ (codes "/\\") (Mark And) _ _ refl refl h (λ h.
+    named_or name _ (codes "\\/") (Mark Or) _ _ refl refl h (λ h.
+    named_or name _ (codes "==>") (Mark Implies) _ _ refl refl h (λ h.
+    named_or name _ (codes "~") (Mark Tilde) _ _ refl refl h (λ h.
+    named_or name _ (codes "!") (Mark Exclamation) (Mark Question) _ refl refl h (λ h.
+    last (bytes_eq name (codes "?")) refl h)))))))
+  where
+    last : (b : Bool) → bytes_eq name (codes "?") ≡ b → b || false ≡ true → token_text (Mark Question) ≡ name
+    last true e h = sym ((bytes_eq-Decides name (codes "?")).0 e)
+    last false e h = absurd (let bad : false ≡ true = h in cc)
+
+identifier_or : (b : Bool) (name : List ℕ) (other : Token) (more : Bool) → b || more ≡ true → (more ≡ true → token_text other ≡ name)
+    → token_text (if b then Name name else other) ≡ name
+identifier_or true name other more h later = refl
+identifier_or false name other more h later = later h
+
+-- the token that names a constant is spelled as its name
+pub token_named : (name : List ℕ) → is_constant_name name ≡ true → token_text (name_token name) ≡ name
+token_named name h = identifier_or (is_identifier name) name _ (is_symbol name) h (symbol_named name)
+
+pick_bare : (b : Bool) (x y : TermTree) → b ≡ true → x ≡ (if b then x else y)
+pick_bare true x y e = refl
+pick_bare false x y e = absurd (let bad : false ≡ true = e in cc)
+
+bare_constant : (scope : Scope) (bindings : Bindings) (name : List ℕ) (ty : HolType) → is_bare_constant scope bindings name ≡ true
+    → Leaf (Bare name) ≡ constant_tree scope bindings name ty
+bare_constant scope bindings name ty e = go (is_identifier name) (scope.generic_type name) (bound_type bindings name) e
+  where
+    go : (i : Bool) (generic bound : Option HolType) → i && option_map_or is_closed_type generic false && is_none bound ≡ true
+        → Leaf (Bare name) ≡ (if i then bare_tree generic bound name ty else typed_constant name ty)
+    go true None None e = absurd (let bad : false ≡ true = e in cc)
+    go true None (Some b) e = absurd (let bad : false ≡ true = e in cc)
+    go true (Some generic) None e = pick_bare (is_closed_type generic) (Leaf (Bare name)) (typed_constant name ty) (both_true (is_closed_type generic) true e).0
+    go true (Some generic) (Some b) e = absurd (let bad : false ≡ true = (both_true (is_closed_type generic) false e).1 in cc)
+    go false generic bound e = absurd (let bad : false ≡ true = e in cc)
+
+other_constant : (scope : Scope) (bindings : Bindings) (name : List ℕ) (ty : HolType) → is_bare_constant scope bindings name ≡ false
+    → typed_constant name ty ≡ constant_tree scope bindings name ty
+other_constant scope bindings name ty e = go (is_identifier name) (scope.generic_type name) (bound_type bindings name) e
+  where
+    pick : (b : Bool) → b && true ≡ false → typed_constant name ty ≡ (if b then Leaf (Bare name) else typed_constant name ty)
+    pick true e = absurd (let bad : true ≡ false = e in cc)
+    pick false e = refl
+
+    go : (i : Bool) (generic bound : Option HolType) → i && option_map_or is_closed_type generic false && is_none bound ≡ false
+        → typed_constant name ty ≡ (if i then bare_tree generic bound name ty else typed_constant name ty)
+    go true None None e = refl
+    go true None (Some b) e = refl
+    go true (Some generic) None e = pick (is_closed_type generic) e
+    go true (Some generic) (Some b) e = refl
+    go false generic bound e = refl
+
+pub bare_constant_printed : (scope : Scope) (bindings : Bindings) (name : List ℕ) (ty : HolType) (old new : List ℕ) → is_bare_constant scope bindings name ≡ true
+    → Appends old new (λ rest. name ++ rest) → Appends old new (term_bytes (constant_tree scope bindings name ty))
+bare_constant_printed scope bindings name ty old new e h = subst (λ t. Appends old new (term_bytes t)) (bare_constant scope bindings name ty e) h
+
+pub typed_constant_printed : (scope : Scope) (bindings : Bindings) (name : List ℕ) (ty : HolType) (old new : List ℕ) → is_bare_constant scope bindings name ≡ false
+    → is_constant_name name ≡ true → Appends old new (λ rest. 91 ∷ (name ++ 58 ∷ type_bytes (type_tree ty) (93 ∷ rest)))
+    → Appends old new (term_bytes (constant_tree scope bindings name ty))
+typed_constant_printed scope bindings name ty old new e n h =
+    subst (λ t. Appends old new (term_bytes t)) (other_constant scope bindings name ty e)
+    (subst (λ n. Appends old new (λ rest. 91 ∷ (n ++ 58 ∷ type_bytes (type_tree ty) (93 ∷ rest)))) (sym (token_named name n)) h)
+
+-- an answer that holds where another does
+pub on_ok : {P Q : Type 0} (result : Result (Unit {0}) Fault) → OnOk result P → (P → Q) → OnOk result Q
+on_ok (Ok x) h f = f h
+on_ok (Err fault) h f = tt
+
+not_below : (n m : ℕ) → not (ltb m n) ≡ nat_le n m
+not_below n m = go (ltb m n) (leb_tells (suc m) n) (nat_le n m) (leb_tells n m) refl refl
+  where
+    go : (b : Bool) → ((b ≡ true) × (suc m ≤ n)) ⊎ ((b ≡ false) × (n < suc m)) → (d : Bool) → ((d ≡ true) × (n ≤ m)) ⊎ ((d ≡ false) × (m < n))
+        → ltb m n ≡ b → nat_le n m ≡ d → not b ≡ d
+    go true h true k e f = elim k [
+      | inl x ↦ absurd (elim h [ inl y ↦ absurd (omega (arith, x.1, y.1)) | inr y ↦ absurd (let bad : true ≡ false = y.0 in cc) ])
+      | inr x ↦ absurd (let bad : true ≡ false = x.0 in cc)
+    ]
+    go true h false k e f = refl
+    go false h true k e f = refl
+    go false h false k e f = elim k [
+      | inl x ↦ absurd (let bad : false ≡ true = x.0 in cc)
+      | inr x ↦ elim h [ inl y ↦ absurd (let bad : false ≡ true = y.0 in cc) | inr y ↦ absurd (omega (arith, x.1, y.1)) ]
+    ]
+
+-- a whole term, by the tree of its form
+printed_form : (n m : ℕ) (tree whole : TermTree) (o1 o2 o3 o4 : List ℕ) → m ≡ level tree → tree ≡ whole
+    → Appends o1 o2 (opening (ltb m n)) → Appends o2 o3 (term_bytes tree) → Appends o3 o4 (closing (ltb m n)) → Appends o1 o4 (term_bytes (enclose n whole))
+printed_form n m tree whole o1 o2 o3 o4 l e h k c =
+    subst (λ w. Appends o1 o4 (term_bytes (enclose n w))) e (enclosing n (ltb m n) tree o1 o2 o3 o4 (not_below n m ∙ ap (nat_le n) l) h k c)
+
+-- every tree stands where no level is asked for
+pub enclose_none : (tree : TermTree) → enclose 0 tree ≡ tree
+enclose_none tree = ap (λ b. if b then tree else Enclosed tree) (go (nat_le 0 (level tree)) (leb_tells 0 (level tree)))
+  where
+    go : (b : Bool) → ((b ≡ true) × (0 ≤ level tree)) ⊎ ((b ≡ false) × (level tree < 0)) → b ≡ true
+    go true h = refl
+    go false h = elim h [ inl x ↦ x.0 | inr x ↦ absurd (omega (arith, x.1)) ]
+
+leaf_level : (b : Bool) (x y : Atom) → 20 ≡ level (if b then Leaf x else Leaf y)
+leaf_level true x y = refl
+leaf_level false x y = refl
+
+variable_level : (o : Option HolType) (name : List ℕ) (ty : HolType) → 20 ≡ level (variable_tree o name ty)
+variable_level None name ty = refl
+variable_level (Some bound) name ty = leaf_level (type_eq bound ty) (Bare name) (Variable name (type_tree ty))
+
+bare_level : (generic bound : Option HolType) (name : List ℕ) (ty : HolType) → 20 ≡ level (bare_tree generic bound name ty)
+bare_level (Some generic) None name ty = leaf_level (is_closed_type generic) (Bare name) (Constant (name_token name) (type_tree ty))
+bare_level _ _ name ty = refl
+
+constant_level : (scope : Scope) (bindings : Bindings) (name : List ℕ) (ty : HolType) → 20 ≡ level (constant_tree scope bindings name ty)
+constant_level scope bindings name ty = go (is_identifier name)
+  where
+    go : (b : Bool) → 20 ≡ level (if b then bare_tree (scope.generic_type name) (bound_type bindings name) name ty else typed_constant name ty)
+    go true = bare_level (scope.generic_type name) (bound_type bindings name) name ty
+    go false = refl
+
+pub variable_printed : (n m : ℕ) (bindings : Bindings) (name : List ℕ) (ty : HolType) (whole : TermTree) (o1 o2 o3 o4 : List ℕ) → m ≡ 20
+    → variable_tree (bound_type bindings name) name ty ≡ whole → Appends o1 o2 (opening (ltb m n))
+    → Appends o2 o3 (term_bytes (variable_tree (bound_type bindings name) name ty)) → Appends o3 o4 (closing (ltb m n)) → Appends o1 o4 (term_bytes (enclose n whole))
+variable_printed n m bindings name ty whole o1 o2 o3 o4 l e h k c =
+    printed_form n m (variable_tree (bound_type bindings name) name ty) whole o1 o2 o3 o4 (l ∙ variable_level (bound_type bindings name) name ty) e h k c
+
+pub constant_printed : (n m : ℕ) (scope : Scope) (bindings : Bindings) (name : List ℕ) (ty : HolType) (whole : TermTree) (o1 o2 o3 o4 : List ℕ) → m ≡ 20
+    → constant_tree scope bindings name ty ≡ whole → Appends o1 o2 (opening (ltb m n))
+    → Appends o2 o3 (term_bytes (constant_tree scope bindings name ty)) → Appends o3 o4 (closing (ltb m n)) → Appends o1 o4 (term_bytes (enclose n whole))
+constant_printed n m scope bindings name ty whole o1 o2 o3 o4 l e h k c =
+    printed_form n m (constant_tree scope bindings name ty) whole o1 o2 o3 o4 (l ∙ constant_level scope bindings name ty) e h k c
+
+pub application_printed : (n m : ℕ) (f a whole : TermTree) (o1 o2 o3 o4 o5 o6 : List ℕ) → m ≡ 16 → Apply f a ≡ whole → Appends o1 o2 (opening (ltb m n))
+    → Appends o2 o3 (term_bytes f) → Appends o3 o4 (λ rest. 32 ∷ rest) → Appends o4 o5 (term_bytes a) → Appends o5 o6 (closing (ltb m n))
+    → Appends o1 o6 (term_bytes (enclose n whole))
+application_printed n m f a whole o1 o2 o3 o4 o5 o6 l e h p q r c = printed_form n m (Apply f a) whole o1 o2 o5 o6 l e h (joined p (joined q r)) c
+
+pub negation_printed : (n m : ℕ) (operand whole : TermTree) (o1 o2 o3 o4 o5 : List ℕ) → m ≡ 14 → Not operand ≡ whole → Appends o1 o2 (opening (ltb m n))
+    → Appends o2 o3 (λ rest. 126 ∷ rest) → Appends o3 o4 (term_bytes operand) → Appends o4 o5 (closing (ltb m n))
+    → Appends o1 o5 (term_bytes (enclose n whole))
+negation_printed n m operand whole o1 o2 o3 o4 o5 l e h p q c = printed_form n m (Not operand) whole o1 o2 o4 o5 l e h (joined p q) c
+
+pub infix_printed : (n m : ℕ) (operation : Infix) (text : List ℕ) (left right whole : TermTree) (o1 o2 o3 o4 o5 o6 : List ℕ) → m ≡ infix_level operation
+    → text ≡ 32 ∷ symbol_text (infix_symbol operation) ++ 32 ∷ [] → Join operation left right ≡ whole → Appends o1 o2 (opening (ltb m n))
+    → Appends o2 o3 (term_bytes left) → Appends o3 o4 (λ rest. text ++ rest) → Appends o4 o5 (term_bytes right) → Appends o5 o6 (closing (ltb m n))
+    → Appends o1 o6 (term_bytes (enclose n whole))
+infix_printed n m operation text left right whole o1 o2 o3 o4 o5 o6 l t e h p q r c =
+    printed_form n m (Join operation left right) whole o1 o2 o5 o6 l e h (joined p (joined spaced r)) c
+  where
+    spaced : Appends o3 o4 (λ rest. 32 ∷ (symbol_text (infix_symbol operation) ++ 32 ∷ rest))
+    spaced = record { appended = λ rest. q.appended rest ∙ ap (λ x. o3 ++ (x ++ rest)) t ∙ ap (λ x. o3 ++ 32 ∷ x) (append_assoc (symbol_text (infix_symbol operation)) (32 ∷ []) rest) }
+
+pub binder_printed : (n m : ℕ) (binder : Binder) (text name : List ℕ) (ty : HolType) (body whole : TermTree) (o1 o2 o3 o4 o5 : List ℕ) → m ≡ 0
+    → text ≡ symbol_text (binder_symbol binder) → Bind binder name (type_tree ty) body ≡ whole → Appends o1 o2 (opening (ltb m n))
+    → Appends o2 o3 (λ rest. text ++ (name ++ 58 ∷ type_bytes (type_tree ty) (46 ∷ 32 ∷ rest))) → Appends o3 o4 (term_bytes body) → Appends o4 o5 (closing (ltb m n))
+    → Appends o1 o5 (term_bytes (enclose n whole))
+binder_printed n m binder text name ty body whole o1 o2 o3 o4 o5 l t e h p q c =
+    printed_form n m (Bind binder name (type_tree ty) body) whole o1 o2 o4 o5 l e h
+    (joined (subst (λ x. Appends o2 o3 (λ rest. x ++ (name ++ 58 ∷ type_bytes (type_tree ty) (46 ∷ 32 ∷ rest)))) t p) q) c

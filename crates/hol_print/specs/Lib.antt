@@ -1,0 +1,4 @@
+pub mod Output
+pub mod PrintedType
+pub mod Shape
+pub mod Innermost

@@ -1,0 +1,74 @@
+-- What is looked up before a term is printed: the binders round it, and the form that it is printed in.
+use Rattle.std.specs.Prelude.{◌≡◌, ℕ, ◌+◌, ◌<◌, List, ◌∷◌, Bool, true, false, ◌&&◌, Option, Some, None, is_none}
+use Rattle.std.specs.Option.{option_map_or}
+use Rattle.hol_model.specs.Name.{is_identifier, is_constant_name}
+use Rattle.hol_model.specs.HolType.{HolType, bool_type, function_type, type_eq}
+use Rattle.hol_model.specs.TermGrammar as grammar
+use Rattle.hol_model.specs.TermGrammar.{TermTree, infix_level}
+use Rattle.hol_model.specs.Reading.{Scope, Bindings, bound_type, is_closed_type}
+use Rattle.hol_model.specs.Printing as printing
+use Rattle.hol_model.specs.Printing.{type_tree, term_tree, variable_tree, constant_tree, apply_tree, enclose}
+use Rattle.hol_terms.specs.Term.{weight}
+use Rattle.hol_grammar.specs.Grammar.{infix_here, binder_here}
+use Rattle.hol_print.specs.declared.shape.Prefix.{Prefix}
+use Rattle.hol_print.specs.declared.shape.Prefix.TheVariants.{Negation, Quantifier, Nothing}
+use Rattle.hol_print.specs.declared.shape.Shape.{Shape}
+use Rattle.hol_print.specs.declared.shape.Shape.TheVariants.{Variable, Constant, Apply, Not, Join, Bind}
+
+-- the innermost binder of the name has the type
+abbrev pub is_bound_at : Bindings → List ℕ → HolType → Bool
+is_bound_at bindings name ty = option_map_or (λ bound. type_eq bound ty) (bound_type bindings name) false
+
+-- the constant's name alone says which constant it is
+abbrev pub is_bare_constant : Scope → Bindings → List ℕ → Bool
+is_bare_constant scope bindings name =
+    is_identifier name && option_map_or is_closed_type (scope.generic_type name) false && is_none (bound_type bindings name)
+
+-- the types of the operands of a relation
+abbrev pub dest_relation : HolType → Option (HolType × HolType)
+dest_relation (function_type a (function_type b bool_type)) = Some (a, b)
+dest_relation _ = None
+
+-- the type on which the predicates are that an operator takes, and the type of its answers
+abbrev pub dest_operator : HolType → Option (HolType × HolType)
+dest_operator (function_type (function_type a bool_type) b) = Some (a, b)
+dest_operator _ = None
+
+abbrev pub prefix_here : Prefix → printing.Prefix
+prefix_here Negation = printing.NotPrefix
+prefix_here (Quantifier binder) = printing.BinderPrefix (binder_here binder)
+prefix_here Nothing = printing.NoPrefix
+
+-- the tree of a term of this form
+abbrev pub shape_tree : Scope → Bindings → Shape → TermTree
+shape_tree scope bindings (Variable name ty) = variable_tree (bound_type bindings name.now) name.now ty.now
+shape_tree scope bindings (Constant name ty) = constant_tree scope bindings name.now ty.now
+shape_tree scope bindings (Apply function argument) = apply_tree (term_tree scope bindings function.now) (term_tree scope bindings argument.now)
+shape_tree scope bindings (Not operand) = grammar.Not (enclose 14 (term_tree scope bindings operand.now))
+shape_tree scope bindings (Join infix' left right) =
+    grammar.Join (infix_here infix') (enclose (infix_level (infix_here infix') + 1) (term_tree scope bindings left.now))
+    (enclose (infix_level (infix_here infix')) (term_tree scope bindings right.now))
+shape_tree scope bindings (Bind binder name ty body) =
+    grammar.Bind (binder_here binder) name.now (type_tree ty.now) (term_tree scope ((name.now, ty.now) ∷ bindings) body.now)
+
+abbrev pub shape_level : Shape → ℕ
+shape_level (Variable name ty) = 20
+shape_level (Constant name ty) = 20
+shape_level (Apply function argument) = 16
+shape_level (Not operand) = 14
+shape_level (Join infix' left right) = infix_level (infix_here infix')
+shape_level (Bind binder name ty body) = 0
+
+-- a constant has a constant's name
+abbrev pub IsNamed : Shape → Type 0
+IsNamed (Constant name ty) = is_constant_name name.now ≡ true
+IsNamed _ = Unit {0}
+
+-- the terms in it are parts of a term of this weight
+abbrev pub HasPartsBelow : Shape → ℕ → Type 0
+HasPartsBelow (Variable name ty) n = Unit {0}
+HasPartsBelow (Constant name ty) n = Unit {0}
+HasPartsBelow (Apply function argument) n = (weight function.now < n) × (weight argument.now < n)
+HasPartsBelow (Not operand) n = weight operand.now < n
+HasPartsBelow (Join infix' left right) n = (weight left.now < n) × (weight right.now < n)
+HasPartsBelow (Bind binder name ty body) n = weight body.now < n

@@ -1,0 +1,82 @@
+// Bytes at the end of a text.
+ghost use Rattle.std.specs.Prelude.{◌≡◌, ◌∷◌, ◌++◌, OnOk, IfErr};
+ghost use Rattle.std.specs.String.{string_bytes};
+ghost use Rattle.hol_model.specs.declared.fault.Fault.TheVariants.{Memory};
+ghost use Rattle.hol_model.specs.Printing.{type_tree};
+ghost use Rattle.hol_model.specs.Texts.{type_bytes};
+ghost use Rattle.hol_print.specs.Output.{Appends, opening, closing};
+ghost use Rattle.hol_print.specs.PrintedType.{placed};
+
+use hol_model::Fault;
+use hol_types::{Ty, TypeParts};
+
+/// Puts a text at the end.
+pub fn append(out: &mut String, text: &str) -> Result<(), Fault>
+    ensures ok { OnOk result (Appends (string_bytes out.old) (string_bytes out.new) (λ rest. text.now ++ rest)) }
+    ensures err { IfErr result (λ fault. fault ≡ Memory) }
+{
+    out.push_str(text)?;
+    Ok(())
+}
+
+/// Opens a parenthesis, where it is wanted.
+pub fn open(out: &mut String, wanted: bool) -> Result<(), Fault>
+    ensures ok { OnOk result (Appends (string_bytes out.old) (string_bytes out.new) (opening wanted)) }
+    ensures err { IfErr result (λ fault. fault ≡ Memory) }
+{
+    if wanted {
+        append(out, "(")
+    } else {
+        append(out, "")
+    }
+}
+
+/// Closes a parenthesis, where it is wanted.
+pub fn close(out: &mut String, wanted: bool) -> Result<(), Fault>
+    ensures ok { OnOk result (Appends (string_bytes out.old) (string_bytes out.new) (closing wanted)) }
+    ensures err { IfErr result (λ fault. fault ≡ Memory) }
+{
+    if wanted {
+        append(out, ")")
+    } else {
+        append(out, "")
+    }
+}
+
+/// Prints a type; on the left of an arrow a function type is in parentheses.
+pub fn print_type(ty: &Ty, on_left: bool, out: &mut String) -> Result<(), Fault>
+    ensures ok { OnOk result (Appends (string_bytes out.old) (string_bytes out.new) (type_bytes (placed on_left (type_tree ty.now)))) }
+    ensures err { IfErr result (λ fault. fault ≡ Memory) }
+{
+    match ty.parts() {
+        TypeParts::Variable(name) => append(out, name),
+        TypeParts::Bool => append(out, "bool"),
+        TypeParts::Function(domain, codomain) => {
+            open(out, on_left)?;
+            print_type(domain, true, out)?;
+            append(out, "->")?;
+            print_type(codomain, false, out)?;
+            close(out, on_left)
+        }
+        TypeParts::Declared(name) => append(out, name),
+    }
+}
+
+/// Prints a name with its type, between two texts.
+pub fn print_typed(
+    before: &str,
+    name: &str,
+    ty: &Ty,
+    after: &str,
+    out: &mut String,
+) -> Result<(), Fault>
+    ensures ok { OnOk result (Appends (string_bytes out.old) (string_bytes out.new)
+        (λ rest. before.now ++ (name.now ++ 58 ∷ type_bytes (type_tree ty.now) (after.now ++ rest)))) }
+    ensures err { IfErr result (λ fault. fault ≡ Memory) }
+{
+    append(out, before)?;
+    append(out, name)?;
+    append(out, ":")?;
+    print_type(ty, false, out)?;
+    append(out, after)
+}

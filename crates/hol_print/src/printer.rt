@@ -1,0 +1,213 @@
+// The texts of types, terms and sequents.
+ghost use Rattle.std.specs.Prelude.{◌≡◌, [], IfOk, OnOk, IfErr, IsTrue};
+ghost use Rattle.std.specs.String.{string_bytes};
+ghost use Rattle.hol_model.specs.declared.fault.Fault.TheVariants.{Memory};
+ghost use Rattle.hol_model.specs.Name.{is_constant_name};
+ghost use Rattle.hol_model.specs.Printing.{enclose, variable_tree, constant_tree, term_tree};
+ghost use Rattle.hol_model.specs.Reading as reading;
+ghost use Rattle.hol_model.specs.Reading.{Bindings, bound_type};
+ghost use Rattle.hol_model.specs.SequentGrammar.{ReadsSequent};
+ghost use Rattle.hol_model.specs.SequentTexts.{IsReadableFormula, AreReadableFormulas};
+ghost use Rattle.hol_model.specs.Texts.{term_bytes, further_bytes, listed_bytes, IsNamedType, IsKnownTerm, ReadsType, ReadsTerm};
+ghost use Rattle.hol_model.specs.Texts as texts;
+ghost use Rattle.hol_print.specs.Output.{Appends};
+ghost use Rattle.hol_syntax.specs.Scope.{scope_of};
+ghost use Rattle.hol_print.specs.Innermost.{IsInnermost};
+
+use crate::innermost::Innermost;
+use crate::output::{append, close, open, print_type, print_typed};
+use crate::shape::{
+    Shape, binder_text, infix_level, infix_text, is_bare_constant, is_bound, level, shape_of,
+};
+use hol_model::Fault;
+use hol_syntax::Scope;
+use hol_terms::Term;
+use hol_types::Ty;
+use std::alloc::Global;
+
+// Prints a variable: its bare name where the innermost binder of that name is its own, else its type too.
+fn print_variable(binders: &Innermost, name: &str, ty: &Ty, out: &mut String) -> Result<(), Fault>
+    ensures ok { (bindings : Bindings) → IsInnermost binders.now bindings → OnOk result (Appends (string_bytes out.old) (string_bytes out.new)
+        (term_bytes (variable_tree (bound_type bindings name.now) name.now ty.now))) }
+    ensures err { IfErr result (λ fault. fault ≡ Memory) }
+{
+    if is_bound(binders, name, ty) {
+        append(out, name)
+    } else {
+        print_typed("(", name, ty, ")", out)
+    }
+}
+
+// Prints a constant: its bare name where that says which constant it is, else its type too.
+fn print_constant(
+    scope: &Scope,
+    binders: &Innermost,
+    name: &str,
+    ty: &Ty,
+    out: &mut String,
+) -> Result<(), Fault>
+    requires { IsTrue (is_constant_name name.now) }
+    ensures ok { (bindings : Bindings) → IsInnermost binders.now bindings → OnOk result (Appends (string_bytes out.old) (string_bytes out.new)
+        (term_bytes (constant_tree (scope_of scope.now) bindings name.now ty.now))) }
+    ensures err { IfErr result (λ fault. fault ≡ Memory) }
+{
+    if is_bare_constant(scope, binders, name) {
+        append(out, name)
+    } else {
+        print_typed("[", name, ty, "]", out)
+    }
+}
+
+// Prints a term that stands under binders, in parentheses where its form is below the level.
+fn print_term(
+    term: &Term,
+    alloc: Global,
+    scope: &Scope,
+    min_level: u8,
+    binders: &mut Innermost,
+    out: &mut String,
+) -> Result<(), Fault>
+    ensures ok { (bindings : Bindings) → IsInnermost binders.old bindings → OnOk result (Appends (string_bytes out.old) (string_bytes out.new)
+        (term_bytes (enclose min_level (term_tree (scope_of scope.now) bindings term.now)))) }
+    ensures kept { (bindings : Bindings) → IsInnermost binders.old bindings → OnOk result (IsInnermost binders.new bindings) }
+    ensures err { IfErr result (λ fault. fault ≡ Memory) }
+{
+    let shape = shape_of(term);
+    let enclosed = level(shape) < min_level;
+    open(out, enclosed)?;
+    match shape {
+        Shape::Variable(name, ty) => {
+            print_variable(binders, name, ty, out)?;
+            close(out, enclosed)
+        }
+        Shape::Constant(name, ty) => {
+            print_constant(scope, binders, name, ty, out)?;
+            close(out, enclosed)
+        }
+        Shape::Apply(function, argument) => {
+            print_term(function, alloc, scope, 16, binders, out)?;
+            append(out, " ")?;
+            print_term(argument, alloc, scope, 20, binders, out)?;
+            close(out, enclosed)
+        }
+        Shape::Not(operand) => {
+            append(out, "~")?;
+            print_term(operand, alloc, scope, 14, binders, out)?;
+            close(out, enclosed)
+        }
+        Shape::Join(operation, left, right) => {
+            print_term(left, alloc, scope, infix_level(operation) + 1, binders, out)?;
+            append(out, infix_text(operation))?;
+            print_term(right, alloc, scope, infix_level(operation), binders, out)?;
+            close(out, enclosed)
+        }
+        Shape::Bind(binder, name, ty, body) => {
+            print_typed(binder_text(binder), name, ty, ". ", out)?;
+            let hidden = binders.enter(alloc, name, ty)?;
+            print_term(body, alloc, scope, 0, binders, out)?;
+            binders.leave(alloc, name, hidden)?;
+            close(out, enclosed)
+        }
+    }
+}
+
+// Prints a term that stands under no binder.
+fn print_whole(alloc: Global, scope: &Scope, term: &Term, out: &mut String) -> Result<(), Fault>
+    ensures ok { OnOk result (Appends (string_bytes out.old) (string_bytes out.new) (term_bytes (term_tree (scope_of scope.now) [] term.now))) }
+    ensures err { IfErr result (λ fault. fault ≡ Memory) }
+{
+    let mut binders = Innermost::new(alloc);
+    print_term(term, alloc, scope, 0, &mut binders, out)
+}
+
+// Prints each term behind a comma.
+fn print_further(
+    alloc: Global,
+    scope: &Scope,
+    terms: &[Term],
+    out: &mut String,
+) -> Result<(), Fault>
+    ensures ok { OnOk result (Appends (string_bytes out.old) (string_bytes out.new) (further_bytes (scope_of scope.now) terms.now)) }
+    ensures err { IfErr result (λ fault. fault ≡ Memory) }
+{
+    for term in terms {
+        append(out, ", ")?;
+        print_whole(alloc, scope, term, out)?;
+    }
+    Ok(())
+}
+
+// Prints the terms with commas between them and a space behind, if there are any.
+fn print_listed(alloc: Global, scope: &Scope, terms: &[Term], out: &mut String) -> Result<(), Fault>
+    ensures ok { OnOk result (Appends (string_bytes out.old) (string_bytes out.new) (listed_bytes (scope_of scope.now) terms.now)) }
+    ensures err { IfErr result (λ fault. fault ≡ Memory) }
+{
+    match terms {
+        [] => Ok(()),
+        [first, rest @ ..] => {
+            print_whole(alloc, scope, first, out)?;
+            print_further(alloc, scope, rest, out)?;
+            append(out, " ")
+        }
+    }
+}
+
+/// The text of a type.
+pub fn text_of_type(alloc: Global, ty: &Ty) -> Result<String, Fault>
+    ensures ok { IfOk result (λ text. string_bytes text ≡ texts.text_of_type ty.now) }
+    ensures reads_back { IfOk result (λ text. (scope : reading.Scope) → IsNamedType scope ty.now → ReadsType scope (string_bytes text) ty.now) }
+    ensures err { IfErr result (λ fault. fault ≡ Memory) }
+{
+    let _within_limit = ty.nodes();
+    let mut out = String::new(alloc);
+    print_type(ty, false, &mut out)?;
+    Ok(out)
+}
+
+/// The text of a term.
+pub fn text_of_term(alloc: Global, scope: &Scope, term: &Term) -> Result<String, Fault>
+    ensures ok { IfOk result (λ text. string_bytes text ≡ texts.text_of_term (scope_of scope.now) term.now) }
+    ensures reads_back { IfOk result (λ text. IsKnownTerm (scope_of scope.now) term.now → ReadsTerm (scope_of scope.now) (string_bytes text) term.now) }
+    ensures err { IfErr result (λ fault. fault ≡ Memory) }
+{
+    term.well_formed();
+    let mut out = String::new(alloc);
+    print_whole(alloc, scope, term, &mut out)?;
+    Ok(out)
+}
+
+/// The text of a sequent.
+pub fn text_of_sequent(
+    alloc: Global,
+    scope: &Scope,
+    hyps: &[Term],
+    concl: &Term,
+) -> Result<String, Fault>
+    ensures ok { IfOk result (λ text. string_bytes text ≡ texts.text_of_sequent (scope_of scope.now) hyps.now concl.now) }
+    ensures reads_back { IfOk result (λ text. AreReadableFormulas (scope_of scope.now) hyps.now → IsReadableFormula (scope_of scope.now) concl.now
+        → ReadsSequent (scope_of scope.now) (string_bytes text) (hyps.now, concl.now)) }
+    ensures err { IfErr result (λ fault. fault ≡ Memory) }
+{
+    let mut out = String::new(alloc);
+    print_listed(alloc, scope, hyps, &mut out)?;
+    append(&mut out, "|- ")?;
+    print_whole(alloc, scope, concl, &mut out)?;
+    Ok(out)
+}
+
+/// The text of a goal.
+pub fn text_of_goal(
+    alloc: Global,
+    scope: &Scope,
+    assumptions: &[Term],
+    concl: &Term,
+) -> Result<String, Fault>
+    ensures ok { IfOk result (λ text. string_bytes text ≡ texts.text_of_goal (scope_of scope.now) assumptions.now concl.now) }
+    ensures err { IfErr result (λ fault. fault ≡ Memory) }
+{
+    let mut out = String::new(alloc);
+    print_listed(alloc, scope, assumptions, &mut out)?;
+    append(&mut out, "?- ")?;
+    print_whole(alloc, scope, concl, &mut out)?;
+    Ok(out)
+}

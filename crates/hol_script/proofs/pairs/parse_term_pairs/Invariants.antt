@@ -1,7 +1,0 @@
-use Rattle.std.proofs.Common.{Ok, map, take}
-use Rattle.hol_script.specs.Pairs.{parts_of, ParsesTermPairs}
-use Rattle.hol_script.proofs.pairs.parse_term_pairs.Given as goal
-
--- the pairs so far are parsed
-abbrev pub invariant-loop-pair : goal.invariant-loop-pair
-invariant-loop-pair l = ParsesTermPairs (Ok l.parsed) (map parts_of (take l.pair-index l.pairs))

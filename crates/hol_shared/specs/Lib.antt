@@ -1,0 +1,14 @@
+pub mod Growth
+pub mod Names
+pub mod Table
+pub mod Types
+pub mod TypeTable
+pub mod Terms
+pub mod Entries
+pub mod Loose
+pub mod Typed
+pub mod TermTable
+pub mod Numbers
+pub mod Occurs
+pub mod Reflection
+pub mod Typing

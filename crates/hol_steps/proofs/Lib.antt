@@ -1,0 +1,9 @@
+pub mod KnownLemmas
+pub mod KnownGrowth
+pub mod StateLemmas
+pub mod HypothesesLemmas
+pub mod OrderLemmas
+pub mod StepLemmas
+pub mod AxiomLemmas
+pub mod InstanceLemmas
+pub mod DefinitionLemmas
