@@ -3,10 +3,10 @@ use Rattle.std.proofs.Common.{◌≡◌, List, [], ◌∷◌, map, Bool, true, r
 use Rattle.std.specs.Prelude.{ℕ, slice_get}
 use Rattle.hol_model.specs.declared.fault.Fault.{Fault}
 use Rattle.hol_model.specs.declared.fault.Fault.TheVariants.{Memory}
-use Rattle.hol_model.specs.NamedTerm.{NamedTerm}
-use Rattle.hol_model.specs.Nameless.{image}
-use Rattle.hol_model.specs.Derivable.{IsSameSet}
-use Rattle.hol_model.specs.Theorem.{Theorem}
+use Rattle.hol_model.specs.Terms.NamedTerm.{NamedTerm}
+use Rattle.hol_model.specs.Terms.Nameless.{image}
+use Rattle.hol_model.specs.Logic.Derivable.{IsSameSet}
+use Rattle.hol_model.specs.Kernel.Theorem.{Theorem}
 use Rattle.hol_journal.specs.Journal.{Journal, Recorded}
 use Rattle.hol_bool.specs.Axioms.{IsAxiom}
 use Rattle.hol_prelude.specs.Prelude.{prelude_theorems, shown}

@@ -1,17 +1,17 @@
 -- CONJ and MP: the equation that a theorem of the prelude gives, what has to fit, and the answers.
 use Rattle.std.proofs.Common.{◌≡◌, List, ◌∷◌, ◌++◌, Bool, true, refl, sym, ◌∙◌, ap, subst, inl, inr, arith}
-use Rattle.hol_model.specs.HolType.{bool_type}
-use Rattle.hol_model.specs.NamedTerm.{NamedTerm, equation}
-use Rattle.hol_model.specs.Nameless.{Nameless, const, app, image}
-use Rattle.hol_model.specs.Theory.{Theory, equality_name, equality_type}
-use Rattle.hol_model.specs.Derivable.{IsSameSet, nameless_equation}
-use Rattle.hol_model.specs.Theorem.{Theorem}
-use Rattle.hol_model.specs.Logic as nameless
-use Rattle.hol_model.specs.Logic.{binary, and_name, implies_name}
-use Rattle.hol_model.specs.NamedLogic.{conjunction, implication}
-use Rattle.hol_model.specs.DerivedRules.{terms_of_theorem}
-use Rattle.hol_model.proofs.Images.{image-equation}
-use Rattle.hol_model.proofs.Membership.{of_append, IsMember-append_left, IsMember-append_right}
+use Rattle.hol_model.specs.Terms.HolType.{bool_type}
+use Rattle.hol_model.specs.Terms.NamedTerm.{NamedTerm, equation}
+use Rattle.hol_model.specs.Terms.Nameless.{Nameless, const, app, image}
+use Rattle.hol_model.specs.Logic.Theory.{Theory, equality_name, equality_type}
+use Rattle.hol_model.specs.Logic.Derivable.{IsSameSet, nameless_equation}
+use Rattle.hol_model.specs.Kernel.Theorem.{Theorem}
+use Rattle.hol_model.specs.Logic.Logic as nameless
+use Rattle.hol_model.specs.Logic.Logic.{binary, and_name, implies_name}
+use Rattle.hol_model.specs.Logic.NamedLogic.{conjunction, implication}
+use Rattle.hol_model.specs.Derived.DerivedRules.{terms_of_theorem}
+use Rattle.hol_model.proofs.Terms.Images.{image-equation}
+use Rattle.hol_model.proofs.Terms.Membership.{of_append, IsMember-append_left, IsMember-append_right}
 use Rattle.hol_prelude.specs.Prelude.{p, q}
 use Rattle.hol_equal.specs.Formulas.{IsFormula}
 use Rattle.hol_equal.specs.Room.{IsSized, FitsIf}

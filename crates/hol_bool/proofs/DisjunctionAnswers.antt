@@ -1,19 +1,19 @@
 -- DISJ1, DISJ2 and DISJ_CASES: what has to fit, the steps, and the answers.
 use Rattle.std.proofs.Common.{◌≡◌, ℕ, List, [], ◌∷◌, ◌++◌, Bool, false, refl, sym, subst, inl, inr, Some, Result, Ok, IfOk, arith}
 use Rattle.hol_model.specs.declared.fault.Fault.{Fault}
-use Rattle.hol_model.specs.HolType.{bool_type}
-use Rattle.hol_model.specs.NamedTerm.{NamedTerm, type_of}
-use Rattle.hol_model.specs.Nameless.{Nameless, const, app, image}
-use Rattle.hol_model.specs.Measures.{nameless_types_fit}
-use Rattle.hol_model.specs.Theory.{Theory, IsLegal}
-use Rattle.hol_model.specs.Derivable.{IsSameSet, nameless_equation}
-use Rattle.hol_model.specs.Theorem.{Theorem}
-use Rattle.hol_model.specs.Logic as nameless
-use Rattle.hol_model.specs.Logic.{binary, implies_name, or_name}
-use Rattle.hol_model.specs.NamedLogic.{disjunction, implication}
-use Rattle.hol_model.specs.DerivedRules.{Stated, AnswersStated, images, stated, terms_of_theorem, disj1_outcome, disj2_outcome}
+use Rattle.hol_model.specs.Terms.HolType.{bool_type}
+use Rattle.hol_model.specs.Terms.NamedTerm.{NamedTerm, type_of}
+use Rattle.hol_model.specs.Terms.Nameless.{Nameless, const, app, image}
+use Rattle.hol_model.specs.Terms.Measures.{nameless_types_fit}
+use Rattle.hol_model.specs.Logic.Theory.{Theory, IsLegal}
+use Rattle.hol_model.specs.Logic.Derivable.{IsSameSet, nameless_equation}
+use Rattle.hol_model.specs.Kernel.Theorem.{Theorem}
+use Rattle.hol_model.specs.Logic.Logic as nameless
+use Rattle.hol_model.specs.Logic.Logic.{binary, implies_name, or_name}
+use Rattle.hol_model.specs.Logic.NamedLogic.{disjunction, implication}
+use Rattle.hol_model.specs.Derived.DerivedRules.{Stated, AnswersStated, images, stated, terms_of_theorem, disj1_outcome, disj2_outcome}
 use Rattle.hol_model.proofs.Tests.{first_of_both, second_of_both}
-use Rattle.hol_model.proofs.Membership.{of_append, IsMember-append_left, IsMember-append_right}
+use Rattle.hol_model.proofs.Terms.Membership.{of_append, IsMember-append_left, IsMember-append_right}
 use Rattle.hol_journal.specs.Journal.{Journal, Recorded, theorem_in}
 use Rattle.hol_prelude.specs.Prelude.{p, q, r}
 use Rattle.hol_equal.specs.Sequents.{DerivesIf}

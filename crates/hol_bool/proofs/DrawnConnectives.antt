@@ -2,24 +2,24 @@
 use Rattle.std.proofs.Common.{◌≡◌, ℕ, List, [], ◌∷◌, ◌++◌, map, Bool, true, false, ◌&&◌, if◌then◌else◌, refl, sym, ◌∙◌, ap, subst, Option, Some, None, append_assoc}
 use Rattle.std.specs.Str.{bytes_eq}
 use Rattle.hol_model.specs.declared.fault.Fault.TheVariants.{BadShape, NotBool, NotAlpha}
-use Rattle.hol_model.specs.HolType.{HolType, bool_type}
-use Rattle.hol_model.specs.NamedTerm.{NamedTerm, variable, constant, combination, abstraction, type_of, same_variable}
-use Rattle.hol_model.specs.Nameless.{Nameless, const, app, image, same_term}
-use Rattle.hol_model.specs.Logic.{logical_definitions, true_name, and_name, or_name, implies_name, false_name, not_name, unary, binary}
-use Rattle.hol_model.specs.Theory.{Theory, IsLegal, IsKnown, generic_type, equality_name, equality_type}
-use Rattle.hol_model.specs.Theorem.{Theorem}
-use Rattle.hol_model.specs.Derivable.{without}
-use Rattle.hol_model.specs.Outcome.{unless, given as stated_given, refused}
-use Rattle.hol_model.specs.Rules.{dest_equation, first_unknown, is_formula}
-use Rattle.hol_model.specs.DerivedRules.{images, stated, conjunct1_outcome, conjunct2_outcome, disch_outcome, undisch_outcome, mp_outcome, disj1_outcome, disj2_outcome, disj_cases_outcome, contr_outcome, not_intro_outcome, not_elim_outcome, eqt_elim_outcome}
-use Rattle.hol_model.specs.InferenceRules.{rule_conjunct1, rule_conjunct2, rule_disch, rule_undisch, rule_mp, rule_disj1, rule_disj2, rule_disj_cases, rule_contr, rule_not_intro, rule_not_elim, rule_eqt_elim}
-use Rattle.hol_model.specs.NamedLogic as named
-use Rattle.hol_model.specs.NamelessLogic as nameless
-use Rattle.hol_model.specs.Logic as nameless_formulas
-use Rattle.hol_model.specs.Inference.{given, require, conclude, all, all_but, drawn, unchanged, is_known_formula}
+use Rattle.hol_model.specs.Terms.HolType.{HolType, bool_type}
+use Rattle.hol_model.specs.Terms.NamedTerm.{NamedTerm, variable, constant, combination, abstraction, type_of, same_variable}
+use Rattle.hol_model.specs.Terms.Nameless.{Nameless, const, app, image, same_term}
+use Rattle.hol_model.specs.Logic.Logic.{logical_definitions, true_name, and_name, or_name, implies_name, false_name, not_name, unary, binary}
+use Rattle.hol_model.specs.Logic.Theory.{Theory, IsLegal, IsKnown, generic_type, equality_name, equality_type}
+use Rattle.hol_model.specs.Kernel.Theorem.{Theorem}
+use Rattle.hol_model.specs.Logic.Derivable.{without}
+use Rattle.hol_model.specs.Kernel.Outcome.{unless, given as stated_given, refused}
+use Rattle.hol_model.specs.Kernel.Rules.{dest_equation, first_unknown, is_formula}
+use Rattle.hol_model.specs.Derived.DerivedRules.{images, stated, conjunct1_outcome, conjunct2_outcome, disch_outcome, undisch_outcome, mp_outcome, disj1_outcome, disj2_outcome, disj_cases_outcome, contr_outcome, not_intro_outcome, not_elim_outcome, eqt_elim_outcome}
+use Rattle.hol_model.specs.Derived.InferenceRules.{rule_conjunct1, rule_conjunct2, rule_disch, rule_undisch, rule_mp, rule_disj1, rule_disj2, rule_disj_cases, rule_contr, rule_not_intro, rule_not_elim, rule_eqt_elim}
+use Rattle.hol_model.specs.Logic.NamedLogic as named
+use Rattle.hol_model.specs.Logic.NamelessLogic as nameless
+use Rattle.hol_model.specs.Logic.Logic as nameless_formulas
+use Rattle.hol_model.specs.Derived.Inference.{given, require, conclude, all, all_but, drawn, unchanged, is_known_formula}
 use Rattle.hol_model.proofs.Tests.{same_variable-self, same_term-Decides}
-use Rattle.hol_model.proofs.Images.{image-type}
-use Rattle.hol_model.proofs.Known.{equation-sides}
+use Rattle.hol_model.proofs.Terms.Images.{image-type}
+use Rattle.hol_model.proofs.Logic.Known.{equation-sides}
 use Rattle.hol_kernel.proofs.RuleLemmas.{sides}
 use Rattle.hol_journal.specs.Journal.{Journal}
 use Rattle.hol_prelude.specs.HasLogic.{HasLogic}

@@ -4,34 +4,34 @@ use Rattle.std.specs.Option.{option_map, is_some}
 use Rattle.std.specs.List.{list_all}
 use Rattle.hol_model.specs.declared.fault.Fault.{Fault}
 use Rattle.hol_model.specs.declared.fault.Fault.TheVariants.{Memory, TooLarge, NotEquation, NotAlpha, NotBool, NotVariable, NotTrivialBeta, TypeMismatch, UnknownType, UnknownConst, NotInstance, FreeInHypothesis}
-use Rattle.hol_model.specs.HolType.{HolType, type_variable, bool_type, function_type, declared_type, type_eq, dest_function_type, replaces_type_variables}
-use Rattle.hol_model.specs.NamedTerm.{NamedTerm, variable, constant, combination, abstraction, type_of, equation, is_within_limits, same_variable, is_free, is_variable}
-use Rattle.hol_model.specs.Nameless.{Nameless, app, lam, image, same_term, nameless_type, HasType}
+use Rattle.hol_model.specs.Terms.HolType.{HolType, type_variable, bool_type, function_type, declared_type, type_eq, dest_function_type, replaces_type_variables}
+use Rattle.hol_model.specs.Terms.NamedTerm.{NamedTerm, variable, constant, combination, abstraction, type_of, equation, is_within_limits, same_variable, is_free, is_variable}
+use Rattle.hol_model.specs.Terms.Nameless.{Nameless, app, lam, image, same_term, nameless_type, HasType}
 use Rattle.std.proofs.lemmas.List.{append-nil}
-use Rattle.hol_model.specs.Substitution.{close, put_all, same_type, keeps_types, replaces_variables}
-use Rattle.hol_model.specs.Checks.{knows_nameless}
-use Rattle.hol_model.specs.Instantiation.{IsChanged, or_too_large, all_fit, replacements_refusal, inst_refusal, IsInst, instantiate_all, type_replacements_refusal, inst_type_refusal, IsInstType}
-use Rattle.hol_model.specs.Theory.{Theory, IsLegal, equality_name, equality_type}
-use Rattle.hol_model.specs.KnownTerm.{knows_type, knows_types, knows_constants, has_instances, is_known}
-use Rattle.hol_model.specs.Theorem.{Theorem, with_hypotheses, without_hypothesis, are_alpha_equivalent}
-use Rattle.hol_model.specs.Derivable.{IsSameSet, nameless_equation, without}
-use Rattle.hol_model.specs.Goals.{Sequent}
-use Rattle.hol_model.specs.Outcome.{Answers, AnswersSuch, unless, given as outcome_given, refused}
-use Rattle.hol_model.specs.Rules.{first_unknown, dest_equation, dest_trivial_redex, concluded, is_free_in_hypotheses, refl_outcome, assume_outcome, beta_outcome, trans_outcome, eq_mp_outcome, mk_comb_outcome, abs_outcome, deduct_antisym_outcome}
-use Rattle.hol_model.specs.DerivedRules.{images}
-use Rattle.hol_model.specs.InferenceRules.{InferenceRule, rule_refl, rule_trans, rule_mk_comb, rule_abs, rule_beta, rule_assume, rule_eq_mp, rule_deduct_antisym, rule_inst, rule_inst_type, rule_eta_axiom, rule_select_axiom}
-use Rattle.hol_model.specs.NamelessLogic as nameless
-use Rattle.hol_model.specs.Inference.{given, require, conclude, all, all_changed, may_replace, may_replace_types, all_without_variable, is_free_in_none, unchanged, is_known_term, drawn, rule_sequent}
-use Rattle.hol_model.proofs.HolTypeEq.{type_eq-Decides}
+use Rattle.hol_model.specs.Terms.Substitution.{close, put_all, same_type, keeps_types, replaces_variables}
+use Rattle.hol_model.specs.Logic.Checks.{knows_nameless}
+use Rattle.hol_model.specs.Kernel.Instantiation.{IsChanged, or_too_large, all_fit, replacements_refusal, inst_refusal, IsInst, instantiate_all, type_replacements_refusal, inst_type_refusal, IsInstType}
+use Rattle.hol_model.specs.Logic.Theory.{Theory, IsLegal, equality_name, equality_type}
+use Rattle.hol_model.specs.Logic.KnownTerm.{knows_type, knows_types, knows_constants, has_instances, is_known}
+use Rattle.hol_model.specs.Kernel.Theorem.{Theorem, with_hypotheses, without_hypothesis, are_alpha_equivalent}
+use Rattle.hol_model.specs.Logic.Derivable.{IsSameSet, nameless_equation, without}
+use Rattle.hol_model.specs.Goals.Goals.{Sequent}
+use Rattle.hol_model.specs.Kernel.Outcome.{Answers, AnswersSuch, unless, given as outcome_given, refused}
+use Rattle.hol_model.specs.Kernel.Rules.{first_unknown, dest_equation, dest_trivial_redex, concluded, is_free_in_hypotheses, refl_outcome, assume_outcome, beta_outcome, trans_outcome, eq_mp_outcome, mk_comb_outcome, abs_outcome, deduct_antisym_outcome}
+use Rattle.hol_model.specs.Derived.DerivedRules.{images}
+use Rattle.hol_model.specs.Derived.InferenceRules.{InferenceRule, rule_refl, rule_trans, rule_mk_comb, rule_abs, rule_beta, rule_assume, rule_eq_mp, rule_deduct_antisym, rule_inst, rule_inst_type, rule_eta_axiom, rule_select_axiom}
+use Rattle.hol_model.specs.Logic.NamelessLogic as nameless
+use Rattle.hol_model.specs.Derived.Inference.{given, require, conclude, all, all_changed, may_replace, may_replace_types, all_without_variable, is_free_in_none, unchanged, is_known_term, drawn, rule_sequent}
+use Rattle.hol_model.proofs.Terms.HolTypeEq.{type_eq-Decides}
 use Rattle.hol_model.proofs.Tests.{same_term-Decides}
-use Rattle.hol_model.proofs.Typing.{nameless_type-is}
-use Rattle.hol_model.proofs.Images.{image-equation, image-abstraction, image-typed, image-type, occurs_free-image}
+use Rattle.hol_model.proofs.Terms.Typing.{nameless_type-is}
+use Rattle.hol_model.proofs.Terms.Images.{image-equation, image-abstraction, image-typed, image-type, occurs_free-image}
 use Rattle.hol_kernel.proofs.HypothesesLemmas.{with_hypotheses-same_set, image-without_hypothesis}
 use Rattle.hol_kernel.proofs.RuleLemmas.{sides}
 use Rattle.hol_journal.specs.Steps.{sequent_of_theorem}
 use Rattle.hol_equal.specs.Sequents.{Shows}
 use Rattle.hol_equal.specs.Inferred.{IsDrawn, Infers}
-use Rattle.hol_model.proofs.Checks.{knows_nameless-Decides}
+use Rattle.hol_model.proofs.Logic.Checks.{knows_nameless-Decides}
 use Rattle.hol_derivations.specs.Derivations.{axiom_theorem}
 use Rattle.hol_derivations.specs.declared.derivation.Axiom.TheVariants as axioms
 use Rattle.hol_equal.proofs.CutLemmas.{shows-itself}

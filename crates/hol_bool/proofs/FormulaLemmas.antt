@@ -1,17 +1,17 @@
 -- Formulas of a recorder's theory: conclusions, their parts, and terms that come in.
 use Rattle.std.proofs.Common.{◌≡◌, ℕ, List, true, false, refl, sym, ◌∙◌, ap, subst, Option, Some, None, Ok, IfSome}
 use Rattle.std.specs.Option.{option_map, option_map_or}
-use Rattle.hol_model.specs.HolType.{HolType, type_variable, bool_type, type_eq}
-use Rattle.hol_model.specs.NamedTerm.{NamedTerm, type_of}
-use Rattle.hol_model.specs.Nameless.{Nameless, const, app, image}
-use Rattle.hol_model.specs.Derivable.{nameless_equation}
-use Rattle.hol_model.proofs.Known.{equation-sides, app-known}
-use Rattle.hol_model.specs.Theory.{Theory, IsLegal, IsKnown, generic_type}
-use Rattle.hol_model.specs.Logic.{logical_definitions, true_name, false_name, not_name, unary, binary}
-use Rattle.hol_model.specs.NamedLogic.{true_term, false_term, is_true, is_false, connected, dest_connected, dest_negation}
-use Rattle.hol_model.specs.Theorem.{Theorem, IsTheorem}
-use Rattle.hol_model.specs.Rules.{dest_equation, is_formula, assume_outcome}
-use Rattle.hol_model.proofs.HolTypeEq.{type_eq-Decides}
+use Rattle.hol_model.specs.Terms.HolType.{HolType, type_variable, bool_type, type_eq}
+use Rattle.hol_model.specs.Terms.NamedTerm.{NamedTerm, type_of}
+use Rattle.hol_model.specs.Terms.Nameless.{Nameless, const, app, image}
+use Rattle.hol_model.specs.Logic.Derivable.{nameless_equation}
+use Rattle.hol_model.proofs.Logic.Known.{equation-sides, app-known}
+use Rattle.hol_model.specs.Logic.Theory.{Theory, IsLegal, IsKnown, generic_type}
+use Rattle.hol_model.specs.Logic.Logic.{logical_definitions, true_name, false_name, not_name, unary, binary}
+use Rattle.hol_model.specs.Logic.NamedLogic.{true_term, false_term, is_true, is_false, connected, dest_connected, dest_negation}
+use Rattle.hol_model.specs.Kernel.Theorem.{Theorem, IsTheorem}
+use Rattle.hol_model.specs.Kernel.Rules.{dest_equation, is_formula, assume_outcome}
+use Rattle.hol_model.proofs.Terms.HolTypeEq.{type_eq-Decides}
 use Rattle.hol_kernel.proofs.RuleLemmas.{known_term}
 use Rattle.hol_journal.specs.Journal.{Journal}
 use Rattle.hol_journal.proofs.Showing.{sides_of}

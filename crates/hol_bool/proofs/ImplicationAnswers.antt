@@ -1,14 +1,14 @@
 -- DISCH and UNDISCH: what has to fit, and the steps.
 use Rattle.std.proofs.Common.{◌≡◌, List, [], ◌∷◌, ◌++◌, Bool, true, refl, ◌∙◌, ap, subst, arith}
-use Rattle.hol_model.specs.HolType.{bool_type}
-use Rattle.hol_model.specs.NamedTerm.{NamedTerm, equation}
-use Rattle.hol_model.specs.Nameless.{Nameless, const, app, image}
-use Rattle.hol_model.specs.Measures.{nameless_types_fit}
-use Rattle.hol_model.specs.Theory.{Theory, equality_name, equality_type}
-use Rattle.hol_model.specs.Derivable.{without, nameless_equation}
-use Rattle.hol_model.specs.Logic as nameless
-use Rattle.hol_model.specs.Logic.{binary, and_name, implies_name}
-use Rattle.hol_model.specs.NamedLogic.{conjunction, implication}
+use Rattle.hol_model.specs.Terms.HolType.{bool_type}
+use Rattle.hol_model.specs.Terms.NamedTerm.{NamedTerm, equation}
+use Rattle.hol_model.specs.Terms.Nameless.{Nameless, const, app, image}
+use Rattle.hol_model.specs.Terms.Measures.{nameless_types_fit}
+use Rattle.hol_model.specs.Logic.Theory.{Theory, equality_name, equality_type}
+use Rattle.hol_model.specs.Logic.Derivable.{without, nameless_equation}
+use Rattle.hol_model.specs.Logic.Logic as nameless
+use Rattle.hol_model.specs.Logic.Logic.{binary, and_name, implies_name}
+use Rattle.hol_model.specs.Logic.NamedLogic.{conjunction, implication}
 use Rattle.hol_model.proofs.Tests.{both, same_term-Decides}
 use Rattle.hol_prelude.specs.Prelude.{p, q}
 use Rattle.hol_equal.specs.Formulas.{IsFormula}

@@ -1,13 +1,13 @@
 -- A call that answers what a rule's outcome states answers what the table of rules draws.
 use Rattle.std.proofs.Common.{◌≡◌, [], ◌∷◌, ◌++◌, Some, Result}
 use Rattle.hol_model.specs.declared.fault.Fault.{Fault}
-use Rattle.hol_model.specs.HolType.{HolType}
-use Rattle.hol_model.specs.NamedTerm.{NamedTerm, type_of}
-use Rattle.hol_model.specs.Nameless.{image}
-use Rattle.hol_model.specs.Theory.{Theory, IsLegal}
-use Rattle.hol_model.specs.Theorem.{Theorem}
-use Rattle.hol_model.specs.DerivedRules.{AnswersStated, terms_of_theorem, eqt_intro_outcome, conj_outcome, eqt_elim_outcome, conjunct1_outcome, conjunct2_outcome, disch_outcome, undisch_outcome, mp_outcome, disj1_outcome, disj2_outcome, disj_cases_outcome, contr_outcome, not_intro_outcome, not_elim_outcome}
-use Rattle.hol_model.specs.InferenceRules.{rule_eqt_intro, rule_conj, rule_eqt_elim, rule_conjunct1, rule_conjunct2, rule_disch, rule_undisch, rule_mp, rule_disj1, rule_disj2, rule_disj_cases, rule_contr, rule_not_intro, rule_not_elim}
+use Rattle.hol_model.specs.Terms.HolType.{HolType}
+use Rattle.hol_model.specs.Terms.NamedTerm.{NamedTerm, type_of}
+use Rattle.hol_model.specs.Terms.Nameless.{image}
+use Rattle.hol_model.specs.Logic.Theory.{Theory, IsLegal}
+use Rattle.hol_model.specs.Kernel.Theorem.{Theorem}
+use Rattle.hol_model.specs.Derived.DerivedRules.{AnswersStated, terms_of_theorem, eqt_intro_outcome, conj_outcome, eqt_elim_outcome, conjunct1_outcome, conjunct2_outcome, disch_outcome, undisch_outcome, mp_outcome, disj1_outcome, disj2_outcome, disj_cases_outcome, contr_outcome, not_intro_outcome, not_elim_outcome}
+use Rattle.hol_model.specs.Derived.InferenceRules.{rule_eqt_intro, rule_conj, rule_eqt_elim, rule_conjunct1, rule_conjunct2, rule_disch, rule_undisch, rule_mp, rule_disj1, rule_disj2, rule_disj_cases, rule_contr, rule_not_intro, rule_not_elim}
 use Rattle.hol_journal.specs.Journal.{Journal}
 use Rattle.hol_prelude.specs.HasLogic.{HasLogic}
 use Rattle.hol_equal.specs.Inferred.{Infers}

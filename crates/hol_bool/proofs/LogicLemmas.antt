@@ -5,15 +5,15 @@ use Rattle.std.specs.Option.{option_map}
 use Rattle.std.specs.Str.{bytes_eq}
 use Rattle.std.proofs.lemmas.Option.{slice_get-map}
 use Rattle.std.proofs.lemmas.Slice.Eq.{bytes_eq-Decides}
-use Rattle.hol_model.specs.HolType.{HolType, bool_type, instantiate_type}
-use Rattle.hol_model.specs.NamedTerm.{NamedTerm, variable, constant, combination, abstraction}
-use Rattle.hol_model.specs.Nameless.{const, app, HasType, image}
-use Rattle.hol_model.specs.Theory.{Theory, IsLegal, IsEarlier, IsKnown, IsKnownConstant, generic_type}
-use Rattle.hol_model.specs.Theorem.{Theorem}
-use Rattle.hol_model.specs.Logic.{logical_definitions, not_name, unary, binary}
-use Rattle.hol_model.specs.NamedLogic.{false_term, is_constant_named, dest_connected, dest_negation}
-use Rattle.hol_model.proofs.Later.{head_is_new, rest_is_legal, generic_type-later}
-use Rattle.hol_model.proofs.Images.{image-type}
+use Rattle.hol_model.specs.Terms.HolType.{HolType, bool_type, instantiate_type}
+use Rattle.hol_model.specs.Terms.NamedTerm.{NamedTerm, variable, constant, combination, abstraction}
+use Rattle.hol_model.specs.Terms.Nameless.{const, app, HasType, image}
+use Rattle.hol_model.specs.Logic.Theory.{Theory, IsLegal, IsEarlier, IsKnown, IsKnownConstant, generic_type}
+use Rattle.hol_model.specs.Kernel.Theorem.{Theorem}
+use Rattle.hol_model.specs.Logic.Logic.{logical_definitions, not_name, unary, binary}
+use Rattle.hol_model.specs.Logic.NamedLogic.{false_term, is_constant_named, dest_connected, dest_negation}
+use Rattle.hol_model.proofs.Logic.Later.{head_is_new, rest_is_legal, generic_type-later}
+use Rattle.hol_model.proofs.Terms.Images.{image-type}
 use Rattle.hol_journal.specs.Journal.{Journal, Recorded}
 use Rattle.hol_prelude.specs.declared.stored.Bool.{Bool as Stored}
 use Rattle.hol_derivations.specs.Derivations.{theorems}

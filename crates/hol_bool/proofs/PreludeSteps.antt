@@ -3,16 +3,16 @@ use Rattle.std.proofs.Common.{◌≡◌, ℕ, List, [], ◌∷◌, Bool, true, f
 use Rattle.std.specs.Prelude.{slice_get}
 use Rattle.std.specs.List.{list_all}
 use Rattle.hol_model.specs.declared.fault.Fault.{Fault}
-use Rattle.hol_model.specs.HolType.{bool_type}
-use Rattle.hol_model.specs.NamedTerm.{NamedTerm}
-use Rattle.hol_model.specs.Nameless.{Nameless, image}
-use Rattle.hol_model.specs.Measures.{nameless_within_limits}
-use Rattle.hol_model.specs.Theory.{Theory}
-use Rattle.hol_model.specs.Derivable.{nameless_equation}
-use Rattle.hol_model.specs.Theorem.{Theorem}
-use Rattle.hol_model.specs.KnownTerm.{knows_types, knows_constants, has_instances}
-use Rattle.hol_model.specs.Instantiation.{instantiate_all, replacements_refusal}
-use Rattle.hol_model.proofs.NamedTests.{is_known-Decides}
+use Rattle.hol_model.specs.Terms.HolType.{bool_type}
+use Rattle.hol_model.specs.Terms.NamedTerm.{NamedTerm}
+use Rattle.hol_model.specs.Terms.Nameless.{Nameless, image}
+use Rattle.hol_model.specs.Terms.Measures.{nameless_within_limits}
+use Rattle.hol_model.specs.Logic.Theory.{Theory}
+use Rattle.hol_model.specs.Logic.Derivable.{nameless_equation}
+use Rattle.hol_model.specs.Kernel.Theorem.{Theorem}
+use Rattle.hol_model.specs.Logic.KnownTerm.{knows_types, knows_constants, has_instances}
+use Rattle.hol_model.specs.Kernel.Instantiation.{instantiate_all, replacements_refusal}
+use Rattle.hol_model.proofs.Terms.NamedTests.{is_known-Decides}
 use Rattle.hol_journal.specs.Journal.{Journal, Recorded}
 use Rattle.hol_prelude.specs.Prelude.{prelude_theorems, shown}
 use Rattle.hol_equal.specs.Sequents.{Shows, Continues, instance_of}

@@ -1,16 +1,16 @@
 -- Formulas that are made where there is room.
 use Rattle.std.proofs.Common.{◌≡◌, ℕ, List, [], Bool, true, false, refl, sym, subst, Some, Result, Ok, Err, arith}
 use Rattle.hol_model.specs.declared.fault.Fault.{Fault}
-use Rattle.hol_model.specs.HolType.{HolType, bool_type}
-use Rattle.hol_model.specs.NamedTerm.{NamedTerm, constant, combination, equation, type_of}
-use Rattle.hol_model.specs.Nameless.{Nameless, app, image}
-use Rattle.hol_model.specs.Measures.{nameless_types_fit, nameless_within_limits}
-use Rattle.hol_model.specs.Logic.{binary, unary}
-use Rattle.hol_model.specs.NamedLogic.{connected, negation}
-use Rattle.hol_model.specs.Derivable.{nameless_equation}
-use Rattle.hol_model.specs.Outcome.{Answers}
-use Rattle.hol_model.specs.Constructors.{combination_outcome}
-use Rattle.hol_model.proofs.Images.{image-equation}
+use Rattle.hol_model.specs.Terms.HolType.{HolType, bool_type}
+use Rattle.hol_model.specs.Terms.NamedTerm.{NamedTerm, constant, combination, equation, type_of}
+use Rattle.hol_model.specs.Terms.Nameless.{Nameless, app, image}
+use Rattle.hol_model.specs.Terms.Measures.{nameless_types_fit, nameless_within_limits}
+use Rattle.hol_model.specs.Logic.Logic.{binary, unary}
+use Rattle.hol_model.specs.Logic.NamedLogic.{connected, negation}
+use Rattle.hol_model.specs.Logic.Derivable.{nameless_equation}
+use Rattle.hol_model.specs.Kernel.Outcome.{Answers}
+use Rattle.hol_model.specs.Kernel.Constructors.{combination_outcome}
+use Rattle.hol_model.proofs.Terms.Images.{image-equation}
 use Rattle.hol_model.proofs.Tests.{first_of_both, second_of_both}
 use Rattle.hol_kernel.proofs.LimitLemmas.{applied}
 use Rattle.hol_equal.specs.Sequents.{IsPast}

@@ -4,15 +4,15 @@ use Rattle.std.specs.Prelude.{slice_get}
 use Rattle.std.specs.List.{list_all}
 use Rattle.hol_model.specs.declared.fault.Fault.{Fault}
 use Rattle.hol_model.specs.declared.fault.Fault.TheVariants.{Memory}
-use Rattle.hol_model.specs.NamedTerm.{NamedTerm}
-use Rattle.hol_model.specs.Nameless.{Nameless, const, app, image}
-use Rattle.hol_model.specs.Measures.{nameless_within_limits}
-use Rattle.hol_model.specs.Theory.{Theory}
-use Rattle.hol_model.specs.Derivable.{IsMember, IsSameSet}
-use Rattle.hol_model.specs.Theorem.{Theorem}
-use Rattle.hol_model.specs.Logic.{binary}
-use Rattle.hol_model.specs.Instantiation.{instantiate_all}
-use Rattle.hol_model.specs.DerivedRules.{Stated, AnswersStated, named, stated, images, terms_of_theorem, is_roomy}
+use Rattle.hol_model.specs.Terms.NamedTerm.{NamedTerm}
+use Rattle.hol_model.specs.Terms.Nameless.{Nameless, const, app, image}
+use Rattle.hol_model.specs.Terms.Measures.{nameless_within_limits}
+use Rattle.hol_model.specs.Logic.Theory.{Theory}
+use Rattle.hol_model.specs.Logic.Derivable.{IsMember, IsSameSet}
+use Rattle.hol_model.specs.Kernel.Theorem.{Theorem}
+use Rattle.hol_model.specs.Logic.Logic.{binary}
+use Rattle.hol_model.specs.Kernel.Instantiation.{instantiate_all}
+use Rattle.hol_model.specs.Derived.DerivedRules.{Stated, AnswersStated, named, stated, images, terms_of_theorem, is_roomy}
 use Rattle.hol_journal.specs.Journal.{Recorded, theorem_in}
 use Rattle.hol_prelude.specs.Prelude.{prelude_theorems, shown}
 use Rattle.hol_equal.specs.Sequents.{DerivesIf, instance_of}

@@ -1,9 +1,9 @@
 -- EQT_INTRO and EQT_ELIM: what is made of a conclusion, and its parts.
 use Rattle.std.proofs.Common.{◌≡◌, Bool, true, refl, arith}
-use Rattle.hol_model.specs.HolType.{bool_type}
-use Rattle.hol_model.specs.NamedLogic.{true_term}
-use Rattle.hol_model.specs.Nameless.{Nameless, image}
-use Rattle.hol_model.specs.Derivable.{nameless_equation}
+use Rattle.hol_model.specs.Terms.HolType.{bool_type}
+use Rattle.hol_model.specs.Logic.NamedLogic.{true_term}
+use Rattle.hol_model.specs.Terms.Nameless.{Nameless, image}
+use Rattle.hol_model.specs.Logic.Derivable.{nameless_equation}
 use Rattle.hol_equal.specs.Room.{IsSized, FitsIf}
 use Rattle.hol_equal.proofs.Sizes.{sized-equation}
 use Rattle.hol_bool.proofs.RuleAnswers.{sized-fits}

@@ -1,14 +1,14 @@
 -- The axioms as theorems of the prelude.
 use Rattle.std.specs.Prelude.{◌≡◌, ℕ, [], true, Some, codes, slice_get}
-use Rattle.hol_model.specs.HolType.{bool_type, function_type}
-use Rattle.hol_model.specs.NamedTerm.{NamedTerm}
-use Rattle.hol_model.specs.Nameless.{image}
-use Rattle.hol_model.specs.Measures.{nameless_within_limits}
-use Rattle.hol_model.specs.Theory.{type_a, type_b}
-use Rattle.hol_model.specs.Logic.{predicate}
-use Rattle.hol_model.specs.Derivable.{nameless_equation}
-use Rattle.hol_model.specs.NamedAxioms.{eta_conclusion, select_hypothesis, select_conclusion}
-use Rattle.hol_model.specs.NamedLogic.{implication, forall_term}
+use Rattle.hol_model.specs.Terms.HolType.{bool_type, function_type}
+use Rattle.hol_model.specs.Terms.NamedTerm.{NamedTerm}
+use Rattle.hol_model.specs.Terms.Nameless.{image}
+use Rattle.hol_model.specs.Terms.Measures.{nameless_within_limits}
+use Rattle.hol_model.specs.Logic.Theory.{type_a, type_b}
+use Rattle.hol_model.specs.Logic.Logic.{predicate}
+use Rattle.hol_model.specs.Logic.Derivable.{nameless_equation}
+use Rattle.hol_model.specs.Kernel.NamedAxioms.{eta_conclusion, select_hypothesis, select_conclusion}
+use Rattle.hol_model.specs.Logic.NamedLogic.{implication, forall_term}
 use Rattle.hol_prelude.specs.Prelude.{prelude_theorems, shown}
 
 -- ETA_AX: !t. (\x. t x) = t

@@ -1,8 +1,8 @@
 -- What is made of a disjunction on the way to its cases, and the room for it.
 use Rattle.std.specs.Prelude.{◌≡◌, true}
-use Rattle.hol_model.specs.NamedTerm.{NamedTerm}
-use Rattle.hol_model.specs.Nameless.{Nameless}
-use Rattle.hol_model.specs.NamedLogic.{implication}
+use Rattle.hol_model.specs.Terms.NamedTerm.{NamedTerm}
+use Rattle.hol_model.specs.Terms.Nameless.{Nameless}
+use Rattle.hol_model.specs.Logic.NamedLogic.{implication}
 use Rattle.hol_equal.specs.Room.{Room, IsSized}
 
 -- (q ==> r) ==> r

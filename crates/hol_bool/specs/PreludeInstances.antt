@@ -1,11 +1,11 @@
 -- Theorems of the prelude at formulas for their variables p, q and r.
 use Rattle.std.specs.Prelude.{◌≡◌, ℕ, List, [], ◌∷◌, true, Some, None, slice_get}
 use Rattle.std.specs.List.{list_all}
-use Rattle.hol_model.specs.NamedTerm.{NamedTerm}
-use Rattle.hol_model.specs.Nameless.{Nameless, image}
-use Rattle.hol_model.specs.Measures.{nameless_within_limits}
-use Rattle.hol_model.specs.Theory.{Theory}
-use Rattle.hol_model.specs.Instantiation.{instantiate_all, replacements_refusal}
+use Rattle.hol_model.specs.Terms.NamedTerm.{NamedTerm}
+use Rattle.hol_model.specs.Terms.Nameless.{Nameless, image}
+use Rattle.hol_model.specs.Terms.Measures.{nameless_within_limits}
+use Rattle.hol_model.specs.Logic.Theory.{Theory}
+use Rattle.hol_model.specs.Kernel.Instantiation.{instantiate_all, replacements_refusal}
 use Rattle.hol_prelude.specs.Prelude.{prelude_theorems, shown, p, q, r}
 use Rattle.hol_equal.specs.Sequents.{instance_of}
 use Rattle.hol_equal.specs.Room.{Room, FitsIf}

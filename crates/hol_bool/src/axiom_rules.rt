@@ -1,7 +1,7 @@
 // Theorems of the prelude again, on the theory that the recorder has now.
 ghost use Rattle.std.specs.Prelude.{◌≡◌, ◌<◌, [], length, IfOk, IfErr};
 ghost use Rattle.hol_model.specs.declared.fault.Fault.TheVariants.{Memory};
-ghost use Rattle.hol_model.specs.NamedTerm.{NamedTerm};
+ghost use Rattle.hol_model.specs.Terms.NamedTerm.{NamedTerm};
 ghost use Rattle.hol_bool.specs.Axioms.{IsAxiom, eta_axiom, select_axiom};
 ghost use Rattle.hol_prelude.specs.HasLogic.{HasLogic};
 ghost use Rattle.hol_prelude.specs.Prelude.{prelude_theorems};

@@ -1,12 +1,12 @@
 // Rules of conjunction.
 ghost use Rattle.std.specs.Prelude.{◌≡◌, ◌++◌, List, IfOk, [], ◌∷◌};
-ghost use Rattle.hol_model.specs.HolType.{bool_type};
-ghost use Rattle.hol_model.specs.Nameless.{Nameless};
-ghost use Rattle.hol_model.specs.Logic as nameless;
-ghost use Rattle.hol_model.specs.NamedLogic.{conjunction};
-ghost use Rattle.hol_model.specs.Derivable.{nameless_equation};
-ghost use Rattle.hol_model.specs.DerivedRules.{AnswersStated, terms_of_theorem, conj_outcome, conjunct1_outcome, conjunct2_outcome};
-ghost use Rattle.hol_model.specs.InferenceRules.{rule_conj, rule_conjunct1, rule_conjunct2};
+ghost use Rattle.hol_model.specs.Terms.HolType.{bool_type};
+ghost use Rattle.hol_model.specs.Terms.Nameless.{Nameless};
+ghost use Rattle.hol_model.specs.Logic.Logic as nameless;
+ghost use Rattle.hol_model.specs.Logic.NamedLogic.{conjunction};
+ghost use Rattle.hol_model.specs.Logic.Derivable.{nameless_equation};
+ghost use Rattle.hol_model.specs.Derived.DerivedRules.{AnswersStated, terms_of_theorem, conj_outcome, conjunct1_outcome, conjunct2_outcome};
+ghost use Rattle.hol_model.specs.Derived.InferenceRules.{rule_conj, rule_conjunct1, rule_conjunct2};
 ghost use Rattle.hol_journal.specs.Journal.{IsMade, theorem_in};
 ghost use Rattle.hol_prelude.specs.HasLogic.{HasLogic};
 ghost use Rattle.hol_equal.specs.Room.{Room, FitsIf};

@@ -1,13 +1,13 @@
 // Rules of disjunction.
 ghost use Rattle.std.specs.Prelude.{◌≡◌, ◌++◌, ◌∷◌, List, IfOk, Some, []};
-ghost use Rattle.hol_model.specs.HolType.{bool_type};
-ghost use Rattle.hol_model.specs.NamedTerm.{type_of};
-ghost use Rattle.hol_model.specs.Nameless.{Nameless, image};
-ghost use Rattle.hol_model.specs.Logic as nameless;
-ghost use Rattle.hol_model.specs.NamedLogic.{disjunction};
-ghost use Rattle.hol_model.specs.Derivable.{without, nameless_equation};
-ghost use Rattle.hol_model.specs.DerivedRules.{AnswersStated, terms_of_theorem, disj1_outcome, disj2_outcome, disj_cases_outcome};
-ghost use Rattle.hol_model.specs.InferenceRules.{rule_disj1, rule_disj2, rule_disj_cases};
+ghost use Rattle.hol_model.specs.Terms.HolType.{bool_type};
+ghost use Rattle.hol_model.specs.Terms.NamedTerm.{type_of};
+ghost use Rattle.hol_model.specs.Terms.Nameless.{Nameless, image};
+ghost use Rattle.hol_model.specs.Logic.Logic as nameless;
+ghost use Rattle.hol_model.specs.Logic.NamedLogic.{disjunction};
+ghost use Rattle.hol_model.specs.Logic.Derivable.{without, nameless_equation};
+ghost use Rattle.hol_model.specs.Derived.DerivedRules.{AnswersStated, terms_of_theorem, disj1_outcome, disj2_outcome, disj_cases_outcome};
+ghost use Rattle.hol_model.specs.Derived.InferenceRules.{rule_disj1, rule_disj2, rule_disj_cases};
 ghost use Rattle.hol_journal.specs.Journal.{IsMade, theorem_in};
 ghost use Rattle.hol_prelude.specs.HasLogic.{HasLogic};
 ghost use Rattle.hol_equal.specs.Formulas.{IsFormula};

@@ -2,12 +2,12 @@
 ghost use Rattle.std.specs.Prelude.{◌≡◌, ℕ, List, [], ◌∷◌, true, IfOk, IfErr, Some, codes};
 ghost use Rattle.std.specs.Option.{option_map};
 ghost use Rattle.hol_model.specs.declared.fault.Fault.TheVariants.{Memory};
-ghost use Rattle.hol_model.specs.HolType.{bool_type};
-ghost use Rattle.hol_model.specs.NamedTerm.{variable, constant, equation, type_of};
-ghost use Rattle.hol_model.specs.Nameless.{image};
-ghost use Rattle.hol_model.specs.Name.{is_identifier, is_constant_name};
-ghost use Rattle.hol_model.specs.Logic.{not_name, unary, binary};
-ghost use Rattle.hol_model.specs.NamedLogic.{true_term, false_term, connected, negation, dest_connected, dest_negation, is_constant_named};
+ghost use Rattle.hol_model.specs.Terms.HolType.{bool_type};
+ghost use Rattle.hol_model.specs.Terms.NamedTerm.{variable, constant, equation, type_of};
+ghost use Rattle.hol_model.specs.Terms.Nameless.{image};
+ghost use Rattle.hol_model.specs.Terms.Name.{is_identifier, is_constant_name};
+ghost use Rattle.hol_model.specs.Logic.Logic.{not_name, unary, binary};
+ghost use Rattle.hol_model.specs.Logic.NamedLogic.{true_term, false_term, connected, negation, dest_connected, dest_negation, is_constant_named};
 ghost use Rattle.hol_equal.specs.Room.{Room, FitsIf, MakesIf};
 ghost use Rattle.hol_bool.specs.PreludeInstances.{at_p, at_p_q, at_p_q_r};
 

@@ -1,13 +1,13 @@
 // Rules of implication.
 ghost use Rattle.std.specs.Prelude.{◌≡◌, ◌++◌, List, [], ◌∷◌, IfOk};
-ghost use Rattle.hol_model.specs.HolType.{bool_type};
-ghost use Rattle.hol_model.specs.Nameless.{Nameless, image};
-ghost use Rattle.hol_model.specs.Logic as nameless;
-ghost use Rattle.hol_model.specs.NamedLogic.{implication};
-ghost use Rattle.hol_model.specs.Logic.{and_name};
-ghost use Rattle.hol_model.specs.Derivable.{without, nameless_equation};
-ghost use Rattle.hol_model.specs.DerivedRules.{AnswersStated, terms_of_theorem, mp_outcome, disch_outcome, undisch_outcome};
-ghost use Rattle.hol_model.specs.InferenceRules.{rule_disch, rule_undisch, rule_mp};
+ghost use Rattle.hol_model.specs.Terms.HolType.{bool_type};
+ghost use Rattle.hol_model.specs.Terms.Nameless.{Nameless, image};
+ghost use Rattle.hol_model.specs.Logic.Logic as nameless;
+ghost use Rattle.hol_model.specs.Logic.NamedLogic.{implication};
+ghost use Rattle.hol_model.specs.Logic.Logic.{and_name};
+ghost use Rattle.hol_model.specs.Logic.Derivable.{without, nameless_equation};
+ghost use Rattle.hol_model.specs.Derived.DerivedRules.{AnswersStated, terms_of_theorem, mp_outcome, disch_outcome, undisch_outcome};
+ghost use Rattle.hol_model.specs.Derived.InferenceRules.{rule_disch, rule_undisch, rule_mp};
 ghost use Rattle.hol_journal.specs.Journal.{IsMade, theorem_in};
 ghost use Rattle.hol_prelude.specs.HasLogic.{HasLogic};
 ghost use Rattle.hol_equal.specs.Formulas.{IsFormula, AreSides};

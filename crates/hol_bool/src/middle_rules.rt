@@ -1,7 +1,7 @@
 // The rule of excluded middle.
 ghost use Rattle.std.specs.Prelude.{[], ◌∷◌};
-ghost use Rattle.hol_model.specs.Nameless.{image};
-ghost use Rattle.hol_model.specs.DerivedRules.{AnswersStated, excluded_middle_outcome};
+ghost use Rattle.hol_model.specs.Terms.Nameless.{image};
+ghost use Rattle.hol_model.specs.Derived.DerivedRules.{AnswersStated, excluded_middle_outcome};
 ghost use Rattle.hol_journal.specs.Journal.{theorem_in};
 ghost use Rattle.hol_prelude.specs.HasLogic.{HasLogic};
 ghost use Rattle.hol_equal.specs.Sequents.{Continues};

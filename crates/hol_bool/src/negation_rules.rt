@@ -1,8 +1,8 @@
 // Rules of negation and falsity.
 ghost use Rattle.std.specs.Prelude.{◌∷◌, []};
-ghost use Rattle.hol_model.specs.Nameless.{image};
-ghost use Rattle.hol_model.specs.DerivedRules.{AnswersStated, terms_of_theorem, not_intro_outcome, not_elim_outcome, contr_outcome};
-ghost use Rattle.hol_model.specs.InferenceRules.{rule_contr, rule_not_intro, rule_not_elim};
+ghost use Rattle.hol_model.specs.Terms.Nameless.{image};
+ghost use Rattle.hol_model.specs.Derived.DerivedRules.{AnswersStated, terms_of_theorem, not_intro_outcome, not_elim_outcome, contr_outcome};
+ghost use Rattle.hol_model.specs.Derived.InferenceRules.{rule_contr, rule_not_intro, rule_not_elim};
 ghost use Rattle.hol_journal.specs.Journal.{IsMade, theorem_in};
 ghost use Rattle.hol_prelude.specs.HasLogic.{HasLogic};
 ghost use Rattle.hol_equal.specs.Sequents.{Continues};

@@ -1,10 +1,10 @@
 // Steps by the theorems of the prelude.
 ghost use Rattle.std.specs.Prelude.{◌≡◌, ◌<◌, List, [], IfOk, IfErr, OnOk, IfSome, Some, length};
 ghost use Rattle.std.specs.Option.{option_map};
-ghost use Rattle.hol_model.specs.Theory.{IsLegal, generic_type};
-ghost use Rattle.hol_model.specs.Logic.{logical_definitions, binary};
-ghost use Rattle.hol_model.specs.NamedLogic.{dest_connected, dest_negation};
-ghost use Rattle.hol_model.specs.Nameless.{Nameless, image};
+ghost use Rattle.hol_model.specs.Logic.Theory.{IsLegal, generic_type};
+ghost use Rattle.hol_model.specs.Logic.Logic.{logical_definitions, binary};
+ghost use Rattle.hol_model.specs.Logic.NamedLogic.{dest_connected, dest_negation};
+ghost use Rattle.hol_model.specs.Terms.Nameless.{Nameless, image};
 ghost use Rattle.hol_journal.specs.Journal.{IsMade};
 ghost use Rattle.hol_prelude.specs.Prelude.{prelude_theorems};
 ghost use Rattle.hol_prelude.specs.HasLogic.{HasLogic};

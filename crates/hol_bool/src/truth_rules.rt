@@ -1,7 +1,7 @@
 // Rules of truth.
 ghost use Rattle.std.specs.Prelude.{[], ◌∷◌};
-ghost use Rattle.hol_model.specs.DerivedRules.{AnswersStated, terms_of_theorem, eqt_intro_outcome, eqt_elim_outcome};
-ghost use Rattle.hol_model.specs.InferenceRules.{rule_eqt_intro, rule_eqt_elim};
+ghost use Rattle.hol_model.specs.Derived.DerivedRules.{AnswersStated, terms_of_theorem, eqt_intro_outcome, eqt_elim_outcome};
+ghost use Rattle.hol_model.specs.Derived.InferenceRules.{rule_eqt_intro, rule_eqt_elim};
 ghost use Rattle.hol_journal.specs.Journal.{IsMade, theorem_in};
 ghost use Rattle.hol_prelude.specs.HasLogic.{HasLogic};
 ghost use Rattle.hol_equal.specs.Sequents.{Continues};

@@ -1,7 +1,7 @@
 -- Lemmas on what sources give and sinks take.
 use Rattle.std.proofs.Common.{◌≡◌, ℕ, List, [], ◌++◌, take, drop, OnErr, Option, None, Some, Ok, Err, Result, refl, sym, ap, ◌∙◌, append-nil, append_assoc, take-append-drop, subst}
 use Rattle.std.specs.Io.KnownBytes.{Consumes, Appends, IsAtEnd, Keeps}
-use Rattle.hol_model.specs.Sessions.{Tells}
+use Rattle.hol_model.specs.Scripts.Sessions.{Tells}
 use Rattle.hol_bytes.specs.Bytes.{AppendsFront}
 
 pub Consumes-none : (a : Option (List ℕ)) → Consumes a a []

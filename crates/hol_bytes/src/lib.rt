@@ -1,5 +1,5 @@
 //! Whole inputs and whole pieces of output over the devices.
-#![tactic(auto, using(hol_model::proofs::Refusals::refusals))]
+#![tactic(auto, using(hol_model::proofs::Kernel::Refusals::refusals))]
 
 mod bytes;
 

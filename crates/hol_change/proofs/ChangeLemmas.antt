@@ -4,12 +4,12 @@ use Rattle.std.specs.Prelude.{slice_get}
 use Rattle.std.proofs.lemmas.Option.{slice_get-get_or, get_or_from_slice_get}
 use Rattle.hol_model.specs.declared.fault.Fault.{Fault}
 use Rattle.hol_model.specs.declared.fault.Fault.TheVariants.{Memory, TooLarge}
-use Rattle.hol_model.specs.HolType.{HolType, TypeInstance, bool_type}
-use Rattle.hol_model.specs.Nameless.{Nameless, free, const, bound, app, lam}
-use Rattle.hol_model.specs.Checks.{has_no_free}
-use Rattle.hol_model.specs.Substitution.{close_at, fill_at, put, instantiate, TermInstance}
-use Rattle.hol_model.specs.LogSequents.{term_instance_of}
-use Rattle.hol_model.proofs.Conditions.{first_of_both, second_of_both}
+use Rattle.hol_model.specs.Terms.HolType.{HolType, TypeInstance, bool_type}
+use Rattle.hol_model.specs.Terms.Nameless.{Nameless, free, const, bound, app, lam}
+use Rattle.hol_model.specs.Logic.Checks.{has_no_free}
+use Rattle.hol_model.specs.Terms.Substitution.{close_at, fill_at, put, instantiate, TermInstance}
+use Rattle.hol_model.specs.Logs.LogSequents.{term_instance_of}
+use Rattle.hol_model.proofs.Logic.Conditions.{first_of_both, second_of_both}
 use Rattle.hol_shared.specs.Terms.{TermTable, type_at, term_at, IsGrown, IsTooLarge}
 use Rattle.hol_shared.specs.Entries.{IsEntry, HasOnlyAdded}
 use Rattle.hol_change.specs.Change.{PartChange, changed, closing, filling, putting, instantiating, IsMeant, spares, counts, IsPastLimits, IsChangedPart, IsPartMemo, IsTypeHeld, IsHeld, AnswersLeaf, Answers, AnswersTypeOf}

@@ -3,19 +3,19 @@ use Rattle.std.proofs.Common.{◌≡◌, ◌⊎◌, ℕ, ◌<◌, List, length, 
 use Rattle.std.specs.Prelude.{slice_get}
 use Rattle.hol_model.specs.declared.fault.Fault.{Fault}
 use Rattle.hol_model.specs.declared.fault.Fault.TheVariants.{Memory, TooLarge}
-use Rattle.hol_model.specs.HolType.{HolType}
-use Rattle.hol_model.specs.Nameless.{Nameless, free, lam, const, app}
-use Rattle.hol_model.specs.Measures.{nameless_within_limits}
-use Rattle.hol_model.specs.Substitution.{close}
-use Rattle.hol_model.specs.LogState.{term_type}
-use Rattle.hol_model.specs.LogSequents.{abstraction_over, equation_of}
-use Rattle.hol_model.specs.Theory.{equality_name, equality_type}
+use Rattle.hol_model.specs.Terms.HolType.{HolType}
+use Rattle.hol_model.specs.Terms.Nameless.{Nameless, free, lam, const, app}
+use Rattle.hol_model.specs.Terms.Measures.{nameless_within_limits}
+use Rattle.hol_model.specs.Terms.Substitution.{close}
+use Rattle.hol_model.specs.Logs.LogState.{term_type}
+use Rattle.hol_model.specs.Logs.LogSequents.{abstraction_over, equation_of}
+use Rattle.hol_model.specs.Logic.Theory.{equality_name, equality_type}
 use Rattle.hol_shared.specs.Terms.{TermTable, type_at, term_at, IsGrown, IsTooLarge}
 use Rattle.hol_change.specs.Change.{IsPastLimits, IsAnswered, IsMade}
 use Rattle.hol_change.specs.Forming.{IsFormed}
 use Rattle.hol_change.proofs.LimitLemmas.{past-limits}
 use Rattle.hol_shared.proofs.GrowthLemmas.{type-grown, term-there}
-use Rattle.hol_model.proofs.Measures.{past_limits-argument}
+use Rattle.hol_model.proofs.Terms.Measures.{past_limits-argument}
 
 past-body : (ty : HolType) (body : Nameless) → IsPastLimits body → nameless_within_limits (lam ty body) ≡ false
 past-body ty body (inl (inl high)) = past-limits (lam ty body) (inl (inl (omega arith)))

@@ -5,10 +5,10 @@ use Rattle.std.proofs.lemmas.Option.{slice_get-get_or, get_or_from_slice_get}
 use Rattle.hol_model.specs.declared.fault.Fault.{Fault}
 use Rattle.hol_model.specs.declared.fault.Fault.TheVariants.{Memory, TooLarge}
 use Rattle.hol_model.specs.declared.limits.TheConstants.{TYPE_NODES_LIMIT}
-use Rattle.hol_model.specs.HolType.{HolType, type_nodes, bool_type}
-use Rattle.hol_model.specs.NamedTerm.{same_variable}
-use Rattle.hol_model.specs.Nameless.{Nameless, free, const, bound, same_term}
-use Rattle.hol_model.specs.LogSequents.{term_instance_of}
+use Rattle.hol_model.specs.Terms.HolType.{HolType, type_nodes, bool_type}
+use Rattle.hol_model.specs.Terms.NamedTerm.{same_variable}
+use Rattle.hol_model.specs.Terms.Nameless.{Nameless, free, const, bound, same_term}
+use Rattle.hol_model.specs.Logs.LogSequents.{term_instance_of}
 use Rattle.hol_model.proofs.Tests.{same_variable-self, same_name, same_variable-type, same_term-Decides}
 use Rattle.hol_shared.specs.Table.{HaveOneNumber}
 use Rattle.hol_shared.specs.Terms.{TermTable, name_at, type_at, term_at, IsGrown}

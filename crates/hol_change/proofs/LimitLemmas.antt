@@ -2,11 +2,11 @@
 use Rattle.std.proofs.Common.{◌≡◌, ℕ, ◌<◌, List, [], ◌∷◌, Bool, true, false, ◌&&◌, refl, inl, inr, Result, Ok, Err, nat_le, arith}
 use Rattle.hol_model.specs.declared.fault.Fault.{Fault}
 use Rattle.hol_model.specs.declared.limits.TheConstants.{TERM_HEIGHT_LIMIT, TERM_NODES_LIMIT}
-use Rattle.hol_model.specs.HolType.{HolType, function_type}
-use Rattle.hol_model.specs.NamedTerm.{type_fits}
-use Rattle.hol_model.specs.Nameless.{Nameless, free, const, bound, app, lam, nameless_type}
-use Rattle.hol_model.specs.Measures.{nameless_height, nameless_nodes, nameless_types_fit, nameless_within_limits}
-use Rattle.hol_model.proofs.Measures.{past_limit-type}
+use Rattle.hol_model.specs.Terms.HolType.{HolType, function_type}
+use Rattle.hol_model.specs.Terms.NamedTerm.{type_fits}
+use Rattle.hol_model.specs.Terms.Nameless.{Nameless, free, const, bound, app, lam, nameless_type}
+use Rattle.hol_model.specs.Terms.Measures.{nameless_height, nameless_nodes, nameless_types_fit, nameless_within_limits}
+use Rattle.hol_model.proofs.Terms.Measures.{past_limit-type}
 use Rattle.hol_change.specs.Change.{WritesLargeType, IsPastLimits, IsAnswered, IsMade}
 
 first-fails : (p q : Bool) → p ≡ false → (p && q) ≡ false

@@ -3,12 +3,12 @@ use Rattle.std.specs.Prelude.{◌≡◌, ◌⊎◌, ℕ, suc, ◌<◌, List, Boo
 use Rattle.hol_model.specs.declared.fault.Fault.{Fault}
 use Rattle.hol_model.specs.declared.fault.Fault.TheVariants.{Memory, TooLarge}
 use Rattle.hol_model.specs.declared.limits.TheConstants.{TYPE_NODES_LIMIT}
-use Rattle.hol_model.specs.HolType.{HolType, TypeInstance, type_nodes, instantiate_type, type_instance_of}
-use Rattle.hol_model.specs.NamedTerm.{same_variable}
-use Rattle.hol_model.specs.Nameless.{Nameless, free, const, bound, app, lam}
-use Rattle.hol_model.specs.Measures.{nameless_within_limits}
-use Rattle.hol_model.specs.Substitution.{TermInstance}
-use Rattle.hol_model.specs.LogSequents.{term_instance_of}
+use Rattle.hol_model.specs.Terms.HolType.{HolType, TypeInstance, type_nodes, instantiate_type, type_instance_of}
+use Rattle.hol_model.specs.Terms.NamedTerm.{same_variable}
+use Rattle.hol_model.specs.Terms.Nameless.{Nameless, free, const, bound, app, lam}
+use Rattle.hol_model.specs.Terms.Measures.{nameless_within_limits}
+use Rattle.hol_model.specs.Terms.Substitution.{TermInstance}
+use Rattle.hol_model.specs.Logs.LogSequents.{term_instance_of}
 use Rattle.hol_shared.specs.Terms.{TermTable, term_at, IsTooLarge}
 use Rattle.hol_shared.specs.Entries.{IsEntry}
 use Rattle.hol_change.specs.Pairs.{ArePairs}

@@ -3,10 +3,10 @@ use Rattle.std.specs.Prelude.{◌≡◌, ◌⊎◌, ◌<◌, ℕ, List, Bool, tr
 use Rattle.hol_model.specs.declared.fault.Fault.{Fault}
 use Rattle.hol_model.specs.declared.fault.Fault.TheVariants.{Memory, TooLarge}
 use Rattle.hol_model.specs.declared.limits.TheConstants.{TYPE_NODES_LIMIT}
-use Rattle.hol_model.specs.HolType.{HolType, bool_type, domain_of, type_nodes}
-use Rattle.hol_model.specs.Nameless.{Nameless, free, const}
-use Rattle.hol_model.specs.Measures.{nameless_within_limits}
-use Rattle.hol_model.specs.Substitution.{occurs_free}
+use Rattle.hol_model.specs.Terms.HolType.{HolType, bool_type, domain_of, type_nodes}
+use Rattle.hol_model.specs.Terms.Nameless.{Nameless, free, const}
+use Rattle.hol_model.specs.Terms.Measures.{nameless_within_limits}
+use Rattle.hol_model.specs.Terms.Substitution.{occurs_free}
 use Rattle.hol_shared.specs.Terms.{term_at}
 
 -- the first term is a variable that is not free in the second

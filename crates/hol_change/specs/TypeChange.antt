@@ -3,7 +3,7 @@ use Rattle.std.specs.Prelude.{◌≡◌, ◌⊎◌, ℕ, ◌<◌, List, Some, Re
 use Rattle.hol_model.specs.declared.fault.Fault.{Fault}
 use Rattle.hol_model.specs.declared.fault.Fault.TheVariants.{Memory, TooLarge}
 use Rattle.hol_model.specs.declared.limits.TheConstants.{TYPE_NODES_LIMIT}
-use Rattle.hol_model.specs.HolType.{HolType, type_nodes, instantiate_type, type_instance_of}
+use Rattle.hol_model.specs.Terms.HolType.{HolType, type_nodes, instantiate_type, type_instance_of}
 use Rattle.hol_shared.specs.Terms.{type_at}
 use Rattle.hol_shared.specs.Entries.{IsEntry}
 use Rattle.hol_change.specs.Pairs.{ArePairs}

@@ -1,10 +1,10 @@
 // Changes of terms: each part is worked out once for each number of binders around it that is counted.
 ghost use Rattle.std.specs.Prelude.{◌≡◌, ◌+◌, ◌<◌, ◌≤◌, ℕ, List, Some, slice_get, length};
-ghost use Rattle.hol_model.specs.HolType.{HolType, type_instance_of};
-ghost use Rattle.hol_model.specs.Measures.{nameless_height};
-ghost use Rattle.hol_model.specs.Nameless.{Nameless, free};
-ghost use Rattle.hol_model.specs.Substitution as substitution;
-ghost use Rattle.hol_model.specs.LogSequents.{term_instance_of};
+ghost use Rattle.hol_model.specs.Terms.HolType.{HolType, type_instance_of};
+ghost use Rattle.hol_model.specs.Terms.Measures.{nameless_height};
+ghost use Rattle.hol_model.specs.Terms.Nameless.{Nameless, free};
+ghost use Rattle.hol_model.specs.Terms.Substitution as substitution;
+ghost use Rattle.hol_model.specs.Logs.LogSequents.{term_instance_of};
 ghost use Rattle.hol_model.specs.declared.limits.TheConstants.{TERM_HEIGHT_LIMIT};
 ghost use Rattle.hol_shared.specs.Terms.{term_at, IsGrown};
 ghost use Rattle.hol_change.specs.Pairs.{ArePairs};

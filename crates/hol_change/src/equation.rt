@@ -1,10 +1,10 @@
 // Forms of terms: variables, equations and abstractions that are applied.
 ghost use Rattle.std.specs.Prelude.{◌≡◌, ◌<◌, true, Some, slice_get, length, IfOk, IfErr};
 ghost use Rattle.hol_model.specs.declared.fault.Fault.TheVariants.{Memory};
-ghost use Rattle.hol_model.specs.LogSequents as sequents;
-ghost use Rattle.hol_model.specs.LogFaults as faults;
+ghost use Rattle.hol_model.specs.Logs.LogSequents as sequents;
+ghost use Rattle.hol_model.specs.Logs.LogFaults as faults;
 ghost use Rattle.std.specs.Str.{bytes_eq};
-ghost use Rattle.hol_model.specs.Theory.{equality_name};
+ghost use Rattle.hol_model.specs.Logic.Theory.{equality_name};
 ghost use Rattle.hol_shared.specs.Terms.{name_at, type_at, term_at, IsGrown};
 ghost use Rattle.hol_change.specs.Change.{IsVariable};
 ghost use Rattle.hol_change.specs.Forming.{is_absent_variable};

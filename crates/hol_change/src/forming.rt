@@ -1,14 +1,14 @@
 // Terms that the steps of a log make of others.
 ghost use Rattle.std.specs.Prelude.{◌≡◌, ◌⊎◌, ◌<◌, ℕ, List, Some, slice_get, length, IfOk, IfErr};
 ghost use Rattle.hol_model.specs.declared.fault.Fault.TheVariants.{Memory, TooLarge};
-ghost use Rattle.hol_model.specs.HolType.{HolType, bool_type, domain_of, type_eq};
-ghost use Rattle.hol_model.specs.Nameless.{Nameless, free, const, app, lam};
-ghost use Rattle.hol_model.specs.Substitution as substitution;
-ghost use Rattle.hol_model.specs.Theory as theory;
-ghost use Rattle.hol_model.specs.Derivable.{nameless_equation};
-ghost use Rattle.hol_model.specs.LogState.{term_type};
-ghost use Rattle.hol_model.specs.LogSequents as sequents;
-ghost use Rattle.hol_model.specs.LogFaults as faults;
+ghost use Rattle.hol_model.specs.Terms.HolType.{HolType, bool_type, domain_of, type_eq};
+ghost use Rattle.hol_model.specs.Terms.Nameless.{Nameless, free, const, app, lam};
+ghost use Rattle.hol_model.specs.Terms.Substitution as substitution;
+ghost use Rattle.hol_model.specs.Logic.Theory as theory;
+ghost use Rattle.hol_model.specs.Logic.Derivable.{nameless_equation};
+ghost use Rattle.hol_model.specs.Logs.LogState.{term_type};
+ghost use Rattle.hol_model.specs.Logs.LogSequents as sequents;
+ghost use Rattle.hol_model.specs.Logs.LogFaults as faults;
 ghost use Rattle.hol_shared.specs.Terms.{name_at, type_at, term_at, IsGrown};
 ghost use Rattle.hol_change.specs.Change.{IsVariable, IsMade};
 ghost use Rattle.hol_change.specs.Forming.{IsFormed, IsMadeType, argument_type, IsFitting};

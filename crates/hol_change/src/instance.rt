@@ -1,6 +1,6 @@
 // Instances of types.
 ghost use Rattle.std.specs.Prelude.{◌≡◌, ◌<◌, List, length};
-ghost use Rattle.hol_model.specs.HolType.{HolType};
+ghost use Rattle.hol_model.specs.Terms.HolType.{HolType};
 ghost use Rattle.hol_shared.specs.Terms.{type_at, IsGrown};
 ghost use Rattle.hol_change.specs.Pairs.{ArePairs};
 ghost use Rattle.hol_change.specs.TypeChange.{IsTypeMemo, AnswersType, type_change, IsInstanceWork};

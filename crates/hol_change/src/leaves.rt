@@ -1,6 +1,6 @@
 // What changes at the leaves of a term, and in the types that are written in it.
 ghost use Rattle.std.specs.Prelude.{◌≡◌, ◌+◌, ◌<◌, Some, slice_get, length, if◌then◌else◌};
-ghost use Rattle.hol_model.specs.Nameless.{free, const, bound};
+ghost use Rattle.hol_model.specs.Terms.Nameless.{free, const, bound};
 ghost use Rattle.hol_model.specs.declared.limits.TheConstants.{TERM_HEIGHT_LIMIT};
 ghost use Rattle.hol_shared.specs.Terms.{name_at, type_at, term_at, IsGrown};
 ghost use Rattle.hol_change.specs.Change.{PartChange, changed, IsMeant, IsTypeHeld, IsTypeWork, AnswersLeaf, AnswersTypeOf};

@@ -1,8 +1,8 @@
 -- The claims of an accepted log are derivable, and hold.
 use Rattle.std.proofs.Common.{◌≡◌, ℕ, List, Option, sym, subst}
 use Rattle.std.specs.List.{All}
-use Rattle.hol_model.specs.LogState.{LogState, LogClaim}
-use Rattle.hol_model.specs.LogLaws.{IsDerivableClaim, AcceptedLogsAreSound}
+use Rattle.hol_model.specs.Logs.LogState.{LogState, LogClaim}
+use Rattle.hol_model.specs.Logs.LogLaws.{IsDerivableClaim, AcceptedLogsAreSound}
 use Rattle.hol_logtext.specs.LogBytes.{log_text}
 use Rattle.hol_sound.specs.LogClaims.{ClaimHolds, AcceptedClaimsHold}
 use Rattle.hol_check.specs.LogAnswers.{IsAcceptedLog}

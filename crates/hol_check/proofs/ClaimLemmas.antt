@@ -3,8 +3,8 @@ use Rattle.std.proofs.Common.{◌≡◌, ◌<◌, ℕ, length, sym, ap, ◌∙�
 use Rattle.std.specs.List.{slice_index_or}
 use Rattle.std.proofs.lemmas.List.{get_or-map}
 use Rattle.std.proofs.lemmas.List.Elements.{All-get_or}
-use Rattle.hol_model.specs.LogState.{no_sequent}
-use Rattle.hol_model.specs.Goals.{Sequent}
+use Rattle.hol_model.specs.Logs.LogState.{no_sequent}
+use Rattle.hol_model.specs.Goals.Goals.{Sequent}
 use Rattle.hol_shared.specs.Terms.{TermTable, name_at}
 use Rattle.hol_steps.specs.State.{sequent_in, claim_in, IsClaim, IsContents}
 use Rattle.hol_check.specs.PrintedClaims.{claims_in, no_claim}

@@ -1,11 +1,11 @@
 -- An accepted log begins with a header.
 use Rattle.std.proofs.Common.{◌≡◌, ℕ, List, [], ◌∷◌, ◌++◌, Option, Some, None, Ok, Bool, true, false, ◌==◌, refl, sym, ap, ◌∙◌}
 use Rattle.std.proofs.lemmas.Bool.{eqb-true}
-use Rattle.hol_model.specs.LogLine.{LogVersion}
-use Rattle.hol_model.specs.LogLine.LogVersion.{first_version, second_version}
-use Rattle.hol_model.specs.LogLine.LogLine.{header_line, type_variable_line, bool_line, function_type_line, declared_type_line, variable_line, constant_line, combination_line, abstraction_line, new_type_line, new_constant_line, theorem_line, claim_line, end_line}
-use Rattle.hol_model.specs.LogState.{LogState}
-use Rattle.hol_model.specs.LogText.{ReadLine, LogText, no_line, dest_header, log_outcome}
+use Rattle.hol_model.specs.Logs.LogLine.{LogVersion}
+use Rattle.hol_model.specs.Logs.LogLine.LogVersion.{first_version, second_version}
+use Rattle.hol_model.specs.Logs.LogLine.LogLine.{header_line, type_variable_line, bool_line, function_type_line, declared_type_line, variable_line, constant_line, combination_line, abstraction_line, new_type_line, new_constant_line, theorem_line, claim_line, end_line}
+use Rattle.hol_model.specs.Logs.LogState.{LogState}
+use Rattle.hol_model.specs.Logs.LogText.{ReadLine, LogText, no_line, dest_header, log_outcome}
 use Rattle.hol_logtext.specs.Fields.{line_feed, has_line_feed}
 use Rattle.hol_logtext.specs.Laws.{ReadingIsExact}
 use Rattle.hol_logtext.specs.LineReading.{read_text}

@@ -5,9 +5,9 @@ use Rattle.std.specs.Io.KnownBytes.{Consumes}
 use Rattle.std.proofs.KnownBytes.{Consumes-nil}
 use Rattle.hol_model.specs.declared.fault.Cause.{Cause}
 use Rattle.hol_model.specs.declared.fault.Cause.TheVariants.{Header, Cut}
-use Rattle.hol_model.specs.LogLine.{LogVersion}
-use Rattle.hol_model.specs.LogState.{LogState, first_state}
-use Rattle.hol_model.specs.LogText.{ReadLine, LogText, LogOutcome, from_line, at_last, no_line, dest_header, log_outcome}
+use Rattle.hol_model.specs.Logs.LogLine.{LogVersion}
+use Rattle.hol_model.specs.Logs.LogState.{LogState, first_state}
+use Rattle.hol_model.specs.Logs.LogText.{ReadLine, LogText, LogOutcome, from_line, at_last, no_line, dest_header, log_outcome}
 use Rattle.hol_logtext.specs.Fields.{line_feed, has_line_feed}
 use Rattle.hol_logtext.specs.LineReading.{read_text}
 use Rattle.hol_logtext.specs.LogBytes.{log_text, last_part, with_line}

@@ -2,19 +2,19 @@
 use Rattle.std.proofs.Common.{◌≡◌, ℕ, ◌+◌, List, [], ◌∷◌, ◌++◌, Option, Some, None, Ok, Bool, true, false, if◌then◌else◌, refl, sym, ap, ◌∙◌, subst, drop, length, ◌≤◌}
 use Rattle.hol_model.specs.declared.fault.Cause.{Cause}
 use Rattle.hol_model.specs.declared.fault.Cause.TheVariants.{Shape}
-use Rattle.hol_model.specs.LogLine.{LogVersion, LogRule, LogLine}
-use Rattle.hol_model.specs.LogLine.LogVersion.{first_version, second_version}
-use Rattle.hol_model.specs.LogLine.LogRule.{refl_step, trans_step, mk_comb_step, abs_step, beta_step, assume_step, eq_mp_step, deduct_step, inst_step, inst_type_step, eta_step, select_step, definition_step}
-use Rattle.hol_model.specs.LogLine.LogLine.{header_line, type_variable_line, bool_line, function_type_line, declared_type_line, variable_line, constant_line, combination_line, abstraction_line, new_type_line, new_constant_line, theorem_line, claim_line, end_line}
-use Rattle.hol_model.specs.LogState.{LogState, LogClaim, first_state}
-use Rattle.hol_model.specs.LogSequents.{after_line}
-use Rattle.hol_model.specs.LogFaults.{first_cause, is_first_version}
-use Rattle.hol_model.specs.LogText.{ReadLine, LogOutcome, from_line, at_last, at_end, unless_refused, log_outcome}
+use Rattle.hol_model.specs.Logs.LogLine.{LogVersion, LogRule, LogLine}
+use Rattle.hol_model.specs.Logs.LogLine.LogVersion.{first_version, second_version}
+use Rattle.hol_model.specs.Logs.LogLine.LogRule.{refl_step, trans_step, mk_comb_step, abs_step, beta_step, assume_step, eq_mp_step, deduct_step, inst_step, inst_type_step, eta_step, select_step, definition_step}
+use Rattle.hol_model.specs.Logs.LogLine.LogLine.{header_line, type_variable_line, bool_line, function_type_line, declared_type_line, variable_line, constant_line, combination_line, abstraction_line, new_type_line, new_constant_line, theorem_line, claim_line, end_line}
+use Rattle.hol_model.specs.Logs.LogState.{LogState, LogClaim, first_state}
+use Rattle.hol_model.specs.Logs.LogSequents.{after_line}
+use Rattle.hol_model.specs.Logs.LogFaults.{first_cause, is_first_version}
+use Rattle.hol_model.specs.Logs.LogText.{ReadLine, LogOutcome, from_line, at_last, at_end, unless_refused, log_outcome}
 use Rattle.hol_logtext.specs.LineText.{line_text, line_bytes}
 use Rattle.hol_logtext.specs.LogBytes.{log_text}
 use Rattle.hol_check.specs.LogAnswers.{log_answer, answer_from}
 use Rattle.hol_model.specs.declared.limits.TheConstants.{TEXT_BYTES_LIMIT}
-use Rattle.hol_model.specs.Sessions.{Tells}
+use Rattle.hol_model.specs.Scripts.Sessions.{Tells}
 use Rattle.hol_check.specs.Checking.{HasClaims}
 use Rattle.hol_check.specs.Migration.{in_second, IsMigrated, IsMigration, MigrationKeepsClaims}
 use Rattle.hol_logtext.proofs.LogLemmas.{log_text_line}

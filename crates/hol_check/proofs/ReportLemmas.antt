@@ -4,7 +4,7 @@ use Rattle.std.specs.List.{slice_index_or}
 use Rattle.std.proofs.lemmas.List.{take_more}
 use Rattle.std.specs.Io.KnownBytes.{Appends}
 use Rattle.std.proofs.KnownBytes.{Appends-trans}
-use Rattle.hol_model.specs.LogState.{LogClaim}
+use Rattle.hol_model.specs.Logs.LogState.{LogClaim}
 use Rattle.hol_check.specs.Report.{claim_line, claim_lines}
 
 lines_append : (first second : List LogClaim) → claim_lines (first ++ second) ≡ claim_lines first ++ claim_lines second

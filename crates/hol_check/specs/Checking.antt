@@ -1,8 +1,8 @@
 -- What the claims of an accepted log say.
 use Rattle.std.specs.Prelude.{◌≡◌, ℕ, List, Option, Ok}
 use Rattle.std.specs.List.{All}
-use Rattle.hol_model.specs.LogState.{LogState, LogClaim}
-use Rattle.hol_model.specs.LogLaws.{IsDerivableClaim}
+use Rattle.hol_model.specs.Logs.LogState.{LogState, LogClaim}
+use Rattle.hol_model.specs.Logs.LogLaws.{IsDerivableClaim}
 use Rattle.hol_sound.specs.LogClaims.{ClaimHolds}
 use Rattle.hol_check.specs.Reading.{IsRead}
 use Rattle.hol_check.specs.LogAnswers.{log_answer}

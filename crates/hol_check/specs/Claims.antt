@@ -1,7 +1,7 @@
 -- What a claim of a log stands for.
 use Rattle.std.specs.Prelude.{◌<◌, ℕ, length}
 use Rattle.std.specs.List.{slice_index_or}
-use Rattle.hol_model.specs.LogState.{LogClaim}
+use Rattle.hol_model.specs.Logs.LogState.{LogClaim}
 use Rattle.hol_check.specs.PrintedClaims.{no_claim}
 use Rattle.hol_shared.specs.Terms.{TermTable, name_at}
 use Rattle.hol_steps.specs.State.{sequent_in}

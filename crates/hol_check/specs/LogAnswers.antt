@@ -4,8 +4,8 @@ use Rattle.hol_model.specs.declared.fault.Fault.{Fault}
 use Rattle.hol_model.specs.declared.fault.Fault.TheVariants.{Memory, ReadFault, TooLong, LogFault}
 use Rattle.hol_model.specs.declared.fault.Cause.{Cause}
 use Rattle.hol_model.specs.declared.fault.Cause.TheVariants.{Shape}
-use Rattle.hol_model.specs.LogState.{LogState}
-use Rattle.hol_model.specs.LogText.{ReadLine, LogOutcome, from_line, at_last, log_outcome}
+use Rattle.hol_model.specs.Logs.LogState.{LogState}
+use Rattle.hol_model.specs.Logs.LogText.{ReadLine, LogOutcome, from_line, at_last, log_outcome}
 use Rattle.hol_logtext.specs.LogBytes.{log_text, last_part}
 use Rattle.hol_judge.specs.Taken.{IsTaken}
 use Rattle.hol_check.specs.Reading.{Unread, IsUnread, IsRead}

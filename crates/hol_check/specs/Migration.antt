@@ -3,10 +3,10 @@ use Rattle.std.specs.Prelude.{◌≡◌, ℕ, List, ◌++◌, Option, Some, Ok}
 use Rattle.std.specs.Io.KnownBytes.{Appends}
 use Rattle.hol_model.specs.declared.fault.Fault.{Fault}
 use Rattle.hol_model.specs.declared.fault.Fault.TheVariants.{Memory, WriteFault, LogFault}
-use Rattle.hol_model.specs.LogLine.{LogVersion}
-use Rattle.hol_model.specs.LogLine.LogVersion.{second_version}
-use Rattle.hol_model.specs.LogLine.LogLine.{header_line}
-use Rattle.hol_model.specs.LogState.{LogState, LogClaim}
+use Rattle.hol_model.specs.Logs.LogLine.{LogVersion}
+use Rattle.hol_model.specs.Logs.LogLine.LogVersion.{second_version}
+use Rattle.hol_model.specs.Logs.LogLine.LogLine.{header_line}
+use Rattle.hol_model.specs.Logs.LogState.{LogState, LogClaim}
 use Rattle.hol_logtext.specs.LineText.{line_bytes}
 use Rattle.hol_check.specs.Reading.{IsRead}
 use Rattle.hol_bytes.specs.Bytes.{AppendsFront}

@@ -1,13 +1,13 @@
 -- The parts of a claim's text.
 use Rattle.std.specs.Prelude.{ℕ, List, [], ◌∷◌, ◌++◌, Bool, true, false, map}
-use Rattle.hol_model.specs.TypeGrammar.{TypeTree}
-use Rattle.hol_model.specs.HolType.{HolType}
-use Rattle.hol_model.specs.Nameless.{Nameless}
-use Rattle.hol_model.specs.Printing.{as_atom, type_tree}
-use Rattle.hol_model.specs.Texts.{type_bytes}
-use Rattle.hol_model.specs.Goals.{Sequent}
-use Rattle.hol_model.specs.LogClaims.{nameless_bytes, listed_nameless}
-use Rattle.hol_model.specs.LogState.{LogClaim, no_sequent}
+use Rattle.hol_model.specs.Texts.TypeGrammar.{TypeTree}
+use Rattle.hol_model.specs.Terms.HolType.{HolType}
+use Rattle.hol_model.specs.Terms.Nameless.{Nameless}
+use Rattle.hol_model.specs.Texts.Printing.{as_atom, type_tree}
+use Rattle.hol_model.specs.Texts.Texts.{type_bytes}
+use Rattle.hol_model.specs.Goals.Goals.{Sequent}
+use Rattle.hol_model.specs.Logs.LogClaims.{nameless_bytes, listed_nameless}
+use Rattle.hol_model.specs.Logs.LogState.{LogClaim, no_sequent}
 use Rattle.hol_shared.specs.Terms.{TermTable, term_at}
 use Rattle.hol_steps.specs.declared.state.Contents.{Contents}
 use Rattle.hol_steps.specs.State.{state_of}

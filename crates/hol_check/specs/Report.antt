@@ -1,7 +1,7 @@
 -- The lines that a program prints for claims.
 use Rattle.std.specs.Prelude.{ℕ, List, [], ◌∷◌, ◌++◌}
-use Rattle.hol_model.specs.LogState.{LogClaim}
-use Rattle.hol_model.specs.LogClaims.{claim_text}
+use Rattle.hol_model.specs.Logs.LogState.{LogClaim}
+use Rattle.hol_model.specs.Logs.LogClaims.{claim_text}
 
 abbrev pub claim_line : LogClaim → List ℕ
 claim_line claim = claim_text claim ++ 10 ∷ []

@@ -1,7 +1,7 @@
 -- What a caller sees of the types and terms of claims.
 use Rattle.std.specs.Prelude.{◌<◌, length}
-use Rattle.hol_model.specs.HolType.{HolType, type_variable, bool_type, function_type, declared_type}
-use Rattle.hol_model.specs.Nameless.{Nameless, free, const, bound, app, lam}
+use Rattle.hol_model.specs.Terms.HolType.{HolType, type_variable, bool_type, function_type, declared_type}
+use Rattle.hol_model.specs.Terms.Nameless.{Nameless, free, const, bound, app, lam}
 use Rattle.hol_shared.specs.Terms.{type_at, term_at}
 use Rattle.hol_check.specs.declared.view.TypeView.TheInside as types
 use Rattle.hol_check.specs.declared.view.TermView.TheInside as terms

@@ -2,7 +2,7 @@
 ghost use Rattle.std.specs.Prelude.{◌≡◌, ◌<◌, slice_get, length, IfOk, OnOk, IfErr};
 ghost use Rattle.std.specs.List.{slice_index_or};
 ghost use Rattle.hol_model.specs.declared.fault.Fault.TheVariants.{Memory};
-ghost use Rattle.hol_model.specs.LogClaims.{claim_text};
+ghost use Rattle.hol_model.specs.Logs.LogClaims.{claim_text};
 ghost use Rattle.hol_logtext.specs.Writing.{Appends};
 ghost use Rattle.hol_steps.specs.State.{IsContents, IsFittingTheorem, sequent_in};
 ghost use Rattle.hol_check.specs.PrintedClaims.{sequent_bytes, claim_bytes, claims_in, no_claim};
@@ -26,7 +26,7 @@ pub struct Claim {
 }
 
 impl Model for Claim {
-    ghost use Rattle.hol_model.specs.LogState.{LogClaim};
+    ghost use Rattle.hol_model.specs.Logs.LogState.{LogClaim};
     ghost use Rattle.hol_judge.specs.LogCode.{claim_code};
 
     ghost Value = { LogClaim };

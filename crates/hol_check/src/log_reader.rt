@@ -1,7 +1,7 @@
 // A whole log judged line by line.
 ghost use Rattle.std.specs.Prelude.{◌≡◌, ◌≤◌, ◌<◌, ◌+◌, ⊤, ℕ, List, [], Option, true, false, length, IfOk, OnOk, IfErr, IfSome, IsErrOf, MatchBool};
 ghost use Rattle.hol_model.specs.declared.fault.Fault.TheVariants.{Memory, ReadFault, TooLong};
-ghost use Rattle.hol_model.specs.LogText.{dest_header};
+ghost use Rattle.hol_model.specs.Logs.LogText.{dest_header};
 ghost use Rattle.std.specs.Option.{option_map};
 ghost use Rattle.hol_logtext.specs.Lines.{version_of};
 ghost use Rattle.hol_logtext.specs.LineReading.{read_text};

@@ -1,7 +1,7 @@
 // The texts of types and terms without bound names.
 ghost use Rattle.std.specs.Prelude.{◌≡◌, ◌<◌, ◌∷◌, ◌++◌, false, length, OnOk};
 ghost use Rattle.std.specs.List.{All};
-ghost use Rattle.hol_model.specs.LogClaims.{nameless_bytes, further_nameless, listed_nameless};
+ghost use Rattle.hol_model.specs.Logs.LogClaims.{nameless_bytes, further_nameless, listed_nameless};
 ghost use Rattle.hol_logtext.specs.Writing.{Appends};
 ghost use Rattle.hol_shared.specs.Terms.{name_at, type_at, term_at};
 ghost use Rattle.hol_check.specs.PrintedClaims.{opening, closing, type_text, terms_at};

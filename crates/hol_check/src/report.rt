@@ -1,7 +1,7 @@
 // The claims of a log on a sink.
 ghost use Rattle.std.specs.Prelude.{◌≡◌, ◌∷◌, [], ◌++◌, true, false, OnOk, IfErr, IsErrOf, Contains};
 ghost use Rattle.std.specs.Io.KnownBytes.{Appends};
-ghost use Rattle.hol_model.specs.LogClaims.{claim_text};
+ghost use Rattle.hol_model.specs.Logs.LogClaims.{claim_text};
 ghost use Rattle.hol_model.specs.declared.fault.Fault.TheVariants.{Memory, WriteFault};
 ghost use Rattle.hol_check.specs.Report.{claim_line, claim_lines};
 

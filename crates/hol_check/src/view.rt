@@ -15,8 +15,8 @@ pub struct TypeView<'a> {
 }
 
 impl<'a> Model for TypeView<'a> {
-    ghost use Rattle.hol_model.specs.HolType.{HolType};
-    ghost use Rattle.hol_model.specs.HolTypeCode.{type_code};
+    ghost use Rattle.hol_model.specs.Terms.HolType.{HolType};
+    ghost use Rattle.hol_model.specs.Terms.HolTypeCode.{type_code};
 
     ghost Value = { HolType };
 
@@ -72,8 +72,8 @@ pub struct TermView<'a> {
 }
 
 impl<'a> Model for TermView<'a> {
-    ghost use Rattle.hol_model.specs.Nameless.{Nameless};
-    ghost use Rattle.hol_model.specs.NamelessCode.{nameless_code};
+    ghost use Rattle.hol_model.specs.Terms.Nameless.{Nameless};
+    ghost use Rattle.hol_model.specs.Terms.NamelessCode.{nameless_code};
 
     ghost Value = { Nameless };
 

@@ -6,7 +6,7 @@ use Rattle.std.specs.Str.{bytes_eq}
 use Rattle.std.proofs.lemmas.Slice.Eq.{bytes_eq-Decides}
 use Rattle.std.proofs.lemmas.List.{take_all, length-drop}
 use borrow.Author.Count.{below_more}
-use Rattle.hol_model.specs.Name.{is_capital, is_small, continues_name, all_continue, is_identifier}
+use Rattle.hol_model.specs.Terms.Name.{is_capital, is_small, continues_name, all_continue, is_identifier}
 use Rattle.hol_model.specs.declared.symbol.Symbol.{Symbol}
 use Rattle.hol_model.specs.declared.symbol.Symbol.TheVariants.{Backquote, Colon, Equal}
 use Rattle.hol_model.specs.declared.rule.TermRule.TheVariants.{Refl, Beta, Assume}
@@ -19,12 +19,12 @@ use Rattle.hol_model.specs.declared.rule.DerivedKind.{DerivedKind}
 use Rattle.hol_model.specs.declared.rule.DerivedKind.TheVariants.{BetaConv, Premise, Premises, TermPremise, DisjCases, Exists as ExistsRule, Choose}
 use Rattle.hol_model.specs.declared.rule.RuleKind.{RuleKind}
 use Rattle.hol_model.specs.declared.rule.RuleKind.TheVariants.{Term, Pair, Abs, Inst, InstType, Axiom as OfAxiom, Derived}
-use Rattle.hol_model.specs.Token.{Token, Name, Number, Mark}
-use Rattle.hol_model.specs.Lexing.{Lexes, IsToken, IsIdentifier, Every, is_name_byte}
-use Rattle.hol_model.specs.TypeGrammar.{TypeTree, Named, Enclosed, Function, type_tokens}
-use Rattle.hol_model.specs.TermGrammar.{Bare, Variable, Constant, TermTree, Leaf, Apply, Not, Join, Bind, IsConstantName, IsTermTree, Infix, IffInfix, ImpliesInfix, OrInfix, AndInfix, EqualInfix, Binder, Lambda, ForAll, Exists, Choice, Lexeme, InfixPiece, BinderPiece, pieces, all_tokens, IsReadTerm}
-use Rattle.hol_model.specs.TermGrammar.{Enclosed as EnclosedTerm}
-use Rattle.hol_model.specs.Commands.{DerivedTree, by_conversion, by_premise, by_premises, by_term_and_premise, by_cases, by_witness, by_choice, derived_kind_of, derived_word, derived_tokens, IsDerivedTree, RuleTree, CommandTree, thm_command, show_command, var_command, def_command, newtype_command, newconst_command, kind_of, rule_word, quoted, quote_tokens, argument_tokens, rule_tokens, command_tokens, IsQuotable, IsCommandTree, IsReadCommand}
+use Rattle.hol_model.specs.Texts.Token.{Token, Name, Number, Mark}
+use Rattle.hol_model.specs.Texts.Lexing.{Lexes, IsToken, IsIdentifier, Every, is_name_byte}
+use Rattle.hol_model.specs.Texts.TypeGrammar.{TypeTree, Named, Enclosed, Function, type_tokens}
+use Rattle.hol_model.specs.Texts.TermGrammar.{Bare, Variable, Constant, TermTree, Leaf, Apply, Not, Join, Bind, IsConstantName, IsTermTree, Infix, IffInfix, ImpliesInfix, OrInfix, AndInfix, EqualInfix, Binder, Lambda, ForAll, Exists, Choice, Lexeme, InfixPiece, BinderPiece, pieces, all_tokens, IsReadTerm}
+use Rattle.hol_model.specs.Texts.TermGrammar.{Enclosed as EnclosedTerm}
+use Rattle.hol_model.specs.Scripts.Commands.{DerivedTree, by_conversion, by_premise, by_premises, by_term_and_premise, by_cases, by_witness, by_choice, derived_kind_of, derived_word, derived_tokens, IsDerivedTree, RuleTree, CommandTree, thm_command, show_command, var_command, def_command, newtype_command, newconst_command, kind_of, rule_word, quoted, quote_tokens, argument_tokens, rule_tokens, command_tokens, IsQuotable, IsCommandTree, IsReadCommand}
 use Rattle.hol_model.proofs.Tests.{both}
 use Rattle.hol_grammar.specs.declared.token.Token.{Token as TokenHere}
 use Rattle.hol_grammar.specs.declared.token.Token.TheVariants.{Name as NameHere}

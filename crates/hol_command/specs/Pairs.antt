@@ -2,12 +2,12 @@
 use Rattle.std.specs.Prelude.{◌≡◌, ◌≢◌, ℕ, ◌≤◌, true, List, [], ◌∷◌, map, length, drop, Option, None, Some, Result, Ok, Err}
 use Rattle.std.proofs.Common.{Vec, Bor, Global}
 use Rattle.hol_model.specs.declared.symbol.Symbol.{Symbol}
-use Rattle.hol_model.specs.Name.{is_type_variable_name}
-use Rattle.hol_model.specs.Token.{Token, Name, Mark}
-use Rattle.hol_model.specs.TypeGrammar.{TypeTree}
-use Rattle.hol_model.specs.TermGrammar.{TermTree, IsWithin}
-use Rattle.hol_model.specs.Commands.{pair_tokens, list_tokens, term_pair, type_pair, IsQuotable, ArePairs}
-use Rattle.hol_model.specs.Commands as grammar
+use Rattle.hol_model.specs.Terms.Name.{is_type_variable_name}
+use Rattle.hol_model.specs.Texts.Token.{Token, Name, Mark}
+use Rattle.hol_model.specs.Texts.TypeGrammar.{TypeTree}
+use Rattle.hol_model.specs.Texts.TermGrammar.{TermTree, IsWithin}
+use Rattle.hol_model.specs.Scripts.Commands.{pair_tokens, list_tokens, term_pair, type_pair, IsQuotable, ArePairs}
+use Rattle.hol_model.specs.Scripts.Commands as grammar
 use Rattle.hol_grammar.specs.declared.token.Token.{Token as TokenHere}
 use Rattle.hol_grammar.specs.declared.type_reader.ReadError.{ReadError}
 use Rattle.hol_grammar.specs.declared.type_reader.ReadError.TheVariants.{Memory, Syntax}

@@ -15,11 +15,11 @@ use Rattle.hol_model.specs.declared.rule.DerivedKind.{DerivedKind}
 use Rattle.hol_model.specs.declared.rule.DerivedKind.TheVariants.{BetaConv, Premise, Premises, TermPremise, DisjCases, Exists, Choose}
 use Rattle.hol_model.specs.declared.rule.RuleKind.{RuleKind}
 use Rattle.hol_model.specs.declared.rule.RuleKind.TheVariants.{Term, Pair, Abs, Inst, InstType, Axiom as OfAxiom, Derived}
-use Rattle.hol_model.specs.Token.{Token, Name, Mark}
-use Rattle.hol_model.specs.Lexing.{IsToken}
-use Rattle.hol_model.specs.TypeGrammar.{TypeTree, type_tokens, type_steps}
-use Rattle.hol_model.specs.TermGrammar.{TermTree, IsWithin}
-use Rattle.hol_model.specs.Commands.{DerivedTree, derived_kind_of, derived_tokens, IsDerivedTree, RuleTree, CommandTree, thm_command, show_command, var_command, def_command, newtype_command, newconst_command, kind_of, quoted, quote_tokens, argument_tokens, rule_tokens, IsQuotable, IsRuleTree, IsCommandTree, IsReadCommand}
+use Rattle.hol_model.specs.Texts.Token.{Token, Name, Mark}
+use Rattle.hol_model.specs.Texts.Lexing.{IsToken}
+use Rattle.hol_model.specs.Texts.TypeGrammar.{TypeTree, type_tokens, type_steps}
+use Rattle.hol_model.specs.Texts.TermGrammar.{TermTree, IsWithin}
+use Rattle.hol_model.specs.Scripts.Commands.{DerivedTree, derived_kind_of, derived_tokens, IsDerivedTree, RuleTree, CommandTree, thm_command, show_command, var_command, def_command, newtype_command, newconst_command, kind_of, quoted, quote_tokens, argument_tokens, rule_tokens, IsQuotable, IsRuleTree, IsCommandTree, IsReadCommand}
 use Rattle.hol_grammar.specs.declared.token.Token.{Token as TokenHere}
 use Rattle.hol_grammar.specs.declared.type_reader.ReadError.{ReadError}
 use Rattle.hol_grammar.specs.declared.type_reader.ReadError.TheVariants.{Memory, Syntax}

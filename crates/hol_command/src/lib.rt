@@ -1,5 +1,5 @@
 //! From tokens to the commands of a script, and where a script is cut into commands.
-#![tactic(auto, using(hol_model::proofs::Refusals::refusals))]
+#![tactic(auto, using(hol_model::proofs::Kernel::Refusals::refusals))]
 
 pub mod command;
 pub mod cut;

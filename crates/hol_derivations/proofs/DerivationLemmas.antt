@@ -2,14 +2,14 @@
 use Rattle.std.proofs.Common.{◌≡◌, ◌≤◌, ◌⊎◌, ℕ, zero, suc, length, nat_eq, List, [], ◌∷◌, ◌++◌, map, Bool, true, refl, sym, ◌∙◌, ap, subst, inl, inr, Option, Some, None, Result, Ok, Err, IfOk, OnErr, append-nil}
 use Rattle.hol_model.specs.declared.fault.Fault.{Fault}
 use Rattle.hol_model.specs.declared.fault.Fault.TheVariants.{BadShape, NotBool, NotEquation, NotAlpha, TypeMismatch, NotVariable, UnknownType, FreeInHypothesis, NotTrivialBeta}
-use Rattle.hol_model.specs.HolType.{HolType}
-use Rattle.hol_model.specs.NamedTerm.{NamedTerm, dest_variable, combination, abstraction, equation}
-use Rattle.hol_model.specs.Theory.{Theory}
-use Rattle.hol_model.specs.Theorem.{Theorem, are_alpha_equivalent, with_hypotheses, without_hypothesis}
-use Rattle.hol_model.specs.Outcome.{Answers, AnswersSuch, unless, given, refused}
-use Rattle.hol_model.specs.Rules.{first_unknown, is_formula, dest_equation, dest_trivial_redex, concluded, refl_outcome, assume_outcome, trans_outcome, eq_mp_outcome, mk_comb_outcome, abs_outcome, deduct_antisym_outcome, beta_outcome}
-use Rattle.hol_model.specs.Instantiation.{IsChanged, inst_refusal, inst_type_refusal, instantiate_all, IsInst, IsInstType}
-use Rattle.hol_model.proofs.Earlier.{earlier-same}
+use Rattle.hol_model.specs.Terms.HolType.{HolType}
+use Rattle.hol_model.specs.Terms.NamedTerm.{NamedTerm, dest_variable, combination, abstraction, equation}
+use Rattle.hol_model.specs.Logic.Theory.{Theory}
+use Rattle.hol_model.specs.Kernel.Theorem.{Theorem, are_alpha_equivalent, with_hypotheses, without_hypothesis}
+use Rattle.hol_model.specs.Kernel.Outcome.{Answers, AnswersSuch, unless, given, refused}
+use Rattle.hol_model.specs.Kernel.Rules.{first_unknown, is_formula, dest_equation, dest_trivial_redex, concluded, refl_outcome, assume_outcome, trans_outcome, eq_mp_outcome, mk_comb_outcome, abs_outcome, deduct_antisym_outcome, beta_outcome}
+use Rattle.hol_model.specs.Kernel.Instantiation.{IsChanged, inst_refusal, inst_type_refusal, instantiate_all, IsInst, IsInstType}
+use Rattle.hol_model.proofs.Logic.Earlier.{earlier-same}
 use Rattle.hol_journal.specs.Steps.{Step}
 use Rattle.hol_journal.specs.Journal.{Journal, Recorded, IsMade, IsRecorded, theorem_in}
 use Rattle.hol_journal.specs.Growth.{IsGrown}
@@ -21,8 +21,8 @@ use Rattle.std.specs.Result.{IsErr}
 use Rattle.std.proofs.lemmas.List.{nil_from_length}
 use Rattle.std.proofs.lemmas.Bool.{eqb-true}
 use Rattle.std.proofs.lemmas.Option.{slice_get-map, slice_get_past}
-use Rattle.hol_model.specs.Nameless.{Nameless, image, same_term}
-use Rattle.hol_model.specs.Substitution.{put_all}
+use Rattle.hol_model.specs.Terms.Nameless.{Nameless, image, same_term}
+use Rattle.hol_model.specs.Terms.Substitution.{put_all}
 use Rattle.hol_journal.proofs.Showing.{answered}
 use Rattle.hol_derivations.specs.declared.sketch.TypeSketch.{TypeSketch}
 use Rattle.hol_derivations.specs.declared.sketch.TermSketch.{TermSketch}

@@ -6,20 +6,20 @@ use Rattle.hol_model.specs.declared.rule.TermRule.{TermRule}
 use Rattle.hol_model.specs.declared.rule.TermRule.TheVariants as term_rule
 use Rattle.hol_model.specs.declared.rule.PairRule.{PairRule}
 use Rattle.hol_model.specs.declared.rule.PairRule.TheVariants as pair_rule
-use Rattle.hol_model.specs.NamedTerm.{NamedTerm}
-use Rattle.hol_model.specs.Nameless.{Nameless, image, same_term}
-use Rattle.hol_model.specs.Outcome.{given, unless, refused}
-use Rattle.hol_model.specs.Theory.{Theory}
-use Rattle.hol_model.specs.Theorem.{Theorem}
-use Rattle.hol_model.specs.Rules.{refl_outcome, assume_outcome, beta_outcome, trans_outcome, eq_mp_outcome, mk_comb_outcome, deduct_antisym_outcome, abs_outcome, dest_equation}
-use Rattle.hol_model.specs.Substitution.{put_all}
-use Rattle.hol_model.specs.Instantiation.{inst_refusal, inst_type_refusal, instantiate_all}
+use Rattle.hol_model.specs.Terms.NamedTerm.{NamedTerm}
+use Rattle.hol_model.specs.Terms.Nameless.{Nameless, image, same_term}
+use Rattle.hol_model.specs.Kernel.Outcome.{given, unless, refused}
+use Rattle.hol_model.specs.Logic.Theory.{Theory}
+use Rattle.hol_model.specs.Kernel.Theorem.{Theorem}
+use Rattle.hol_model.specs.Kernel.Rules.{refl_outcome, assume_outcome, beta_outcome, trans_outcome, eq_mp_outcome, mk_comb_outcome, deduct_antisym_outcome, abs_outcome, dest_equation}
+use Rattle.hol_model.specs.Terms.Substitution.{put_all}
+use Rattle.hol_model.specs.Kernel.Instantiation.{inst_refusal, inst_type_refusal, instantiate_all}
 use Rattle.hol_journal.specs.Journal.{Journal, Recorded, IsMade}
 use Rattle.hol_journal.specs.Growth.{IsGrown}
 use Rattle.hol_derivations.specs.Sketches.{followed, type_outcome, term_outcome}
 use Rattle.hol_derivations.specs.declared.sketch.TypeSketch.{TypeSketch}
 use Rattle.hol_derivations.specs.declared.sketch.TermSketch.{TermSketch}
-use Rattle.hol_model.specs.NamedAxioms.{eta_conclusion, select_hypothesis, select_conclusion}
+use Rattle.hol_model.specs.Kernel.NamedAxioms.{eta_conclusion, select_hypothesis, select_conclusion}
 use Rattle.hol_derivations.specs.declared.derivation.Axiom.TheVariants as axioms
 use Rattle.hol_derivations.specs.declared.derivation.Axiom.{Axiom}
 use Rattle.hol_derivations.specs.declared.derivation.Derivation as derivations

@@ -3,11 +3,11 @@ use Rattle.std.specs.Prelude.{◌≡◌, List, [], ◌∷◌, ◌++◌, Result, 
 use Rattle.std.specs.declared.vec.Vec.{Vec}
 use Rattle.std.specs.declared.alloc.Global.{Global}
 use Rattle.hol_model.specs.declared.fault.Fault.{Fault}
-use Rattle.hol_model.specs.Outcome.{Answers}
-use Rattle.hol_model.specs.Theory.{Theory}
-use Rattle.hol_model.specs.Logic.{logical_definitions}
-use Rattle.hol_model.specs.Theorem.{Theorem}
-use Rattle.hol_model.specs.Rules.{define_outcome}
+use Rattle.hol_model.specs.Kernel.Outcome.{Answers}
+use Rattle.hol_model.specs.Logic.Theory.{Theory}
+use Rattle.hol_model.specs.Logic.Logic.{logical_definitions}
+use Rattle.hol_model.specs.Kernel.Theorem.{Theorem}
+use Rattle.hol_model.specs.Kernel.Rules.{define_outcome}
 use Rattle.hol_journal.specs.Journal.{Recorded}
 use Rattle.hol_derivations.specs.Sketches.{followed, term_outcome}
 use Rattle.hol_derivations.specs.Derivations.{theorems, derived_outcome}

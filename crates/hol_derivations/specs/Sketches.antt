@@ -1,10 +1,10 @@
 -- What the types and terms that stand as data in the code are.
 use Rattle.std.specs.Prelude.{Result, Ok, Err}
 use Rattle.hol_model.specs.declared.fault.Fault.{Fault}
-use Rattle.hol_model.specs.HolType.{HolType, bool_type}
-use Rattle.hol_model.specs.NamedTerm.{NamedTerm}
-use Rattle.hol_model.specs.Constructors.{type_variable_outcome, function_type_outcome, variable_outcome, constant_outcome, combination_outcome, equation_outcome}
-use Rattle.hol_model.specs.Rules.{abstraction_outcome}
+use Rattle.hol_model.specs.Terms.HolType.{HolType, bool_type}
+use Rattle.hol_model.specs.Terms.NamedTerm.{NamedTerm}
+use Rattle.hol_model.specs.Kernel.Constructors.{type_variable_outcome, function_type_outcome, variable_outcome, constant_outcome, combination_outcome, equation_outcome}
+use Rattle.hol_model.specs.Kernel.Rules.{abstraction_outcome}
 use Rattle.hol_derivations.specs.declared.sketch.TypeSketch as types
 use Rattle.hol_derivations.specs.declared.sketch.TypeSketch.{TypeSketch}
 use Rattle.hol_derivations.specs.declared.sketch.TermSketch as terms

@@ -1,8 +1,8 @@
 // Derivations by the kernel's rules, as data.
 ghost use Rattle.std.specs.Prelude.{◌≡◌, Ok, slice_get};
 ghost use Rattle.hol_model.specs.declared.fault.Fault.TheVariants.{BadShape};
-ghost use Rattle.hol_model.specs.Outcome.{Answers, given};
-ghost use Rattle.hol_model.specs.Rules.{refl_outcome, eq_mp_outcome, abs_outcome};
+ghost use Rattle.hol_model.specs.Kernel.Outcome.{Answers, given};
+ghost use Rattle.hol_model.specs.Kernel.Rules.{refl_outcome, eq_mp_outcome, abs_outcome};
 ghost use Rattle.hol_journal.specs.Journal.{IsMade, theorem_in};
 ghost use Rattle.hol_derivations.specs.Sketches.{followed, term_outcome};
 ghost use Rattle.hol_derivations.specs.Derivations.{axiom_theorem, term_rule_outcome, pair_rule_outcome, inst_of, inst_type_of, derived_outcome, theorems, GoesOn, AreMade};

@@ -1,6 +1,6 @@
 // Lists of definitions and derivations, made one after another.
 ghost use Rattle.std.specs.Prelude.{◌≡◌, IfOk, []};
-ghost use Rattle.hol_model.specs.Outcome.{Answers};
+ghost use Rattle.hol_model.specs.Kernel.Outcome.{Answers};
 ghost use Rattle.hol_journal.specs.Journal.{IsMade, theorem_in};
 ghost use Rattle.hol_journal.specs.Growth.{IsGrown};
 ghost use Rattle.hol_derivations.specs.Derivations.{theorems, AreMade};

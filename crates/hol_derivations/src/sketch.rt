@@ -1,5 +1,5 @@
 // Types and terms as data.
-ghost use Rattle.hol_model.specs.Outcome.{Answers};
+ghost use Rattle.hol_model.specs.Kernel.Outcome.{Answers};
 ghost use Rattle.hol_derivations.specs.Sketches.{type_outcome, term_outcome};
 
 use hol_model::Fault;

@@ -6,27 +6,27 @@ use Rattle.hol_model.specs.declared.fault.Fault.{Fault}
 use Rattle.hol_model.specs.declared.fault.Fault.TheVariants.{Memory, TooLarge}
 use Rattle.hol_model.specs.declared.limits.TheConstants.{TERM_NODES_LIMIT, TERM_HEIGHT_LIMIT, TYPE_NODES_LIMIT}
 use Rattle.std.proofs.lemmas.Bool.{leb-true, le-leb}
-use Rattle.hol_model.specs.HolType.{HolType, function_type, type_nodes}
-use Rattle.hol_model.specs.NamedTerm.{NamedTerm, variable, constant, combination, abstraction, same_variable, type_of, dest_abstraction, equation, is_within_limits, nodes, height}
-use Rattle.hol_model.specs.Nameless.{Nameless, free, const, bound, app, lam, HasType, image, nameless_type}
-use Rattle.hol_model.specs.Measures.{nameless_height, nameless_nodes, nameless_types_fit, nameless_within_limits}
-use Rattle.hol_model.specs.Substitution.{close_at, close, fill, put, put_all, only, replacement}
-use Rattle.hol_model.specs.Theory.{Theory, IsKnown}
-use Rattle.hol_model.specs.Derivable.{nameless_equation}
-use Rattle.hol_model.specs.Theorem.{Theorem}
-use Rattle.hol_model.specs.Outcome.{Answers, unless, refused}
-use Rattle.hol_model.specs.Constructors.{combination_outcome}
-use Rattle.hol_model.specs.Rules.{first_unknown, concluded, refl_outcome}
-use Rattle.hol_model.specs.DerivedRules.{Stated, AnswersStated, up_to_names, terms_of_stated, is_roomy, is_roomy_type, has_roomy_types, beta_conv_outcome}
+use Rattle.hol_model.specs.Terms.HolType.{HolType, function_type, type_nodes}
+use Rattle.hol_model.specs.Terms.NamedTerm.{NamedTerm, variable, constant, combination, abstraction, same_variable, type_of, dest_abstraction, equation, is_within_limits, nodes, height}
+use Rattle.hol_model.specs.Terms.Nameless.{Nameless, free, const, bound, app, lam, HasType, image, nameless_type}
+use Rattle.hol_model.specs.Terms.Measures.{nameless_height, nameless_nodes, nameless_types_fit, nameless_within_limits}
+use Rattle.hol_model.specs.Terms.Substitution.{close_at, close, fill, put, put_all, only, replacement}
+use Rattle.hol_model.specs.Logic.Theory.{Theory, IsKnown}
+use Rattle.hol_model.specs.Logic.Derivable.{nameless_equation}
+use Rattle.hol_model.specs.Kernel.Theorem.{Theorem}
+use Rattle.hol_model.specs.Kernel.Outcome.{Answers, unless, refused}
+use Rattle.hol_model.specs.Kernel.Constructors.{combination_outcome}
+use Rattle.hol_model.specs.Kernel.Rules.{first_unknown, concluded, refl_outcome}
+use Rattle.hol_model.specs.Derived.DerivedRules.{Stated, AnswersStated, up_to_names, terms_of_stated, is_roomy, is_roomy_type, has_roomy_types, beta_conv_outcome}
 use Rattle.hol_model.proofs.Tests.{first_of_both, second_of_both, both, same_variable-self}
-use Rattle.hol_model.proofs.Filling.{fill_at-close_at}
-use Rattle.hol_model.proofs.Typing.{nameless_type-is}
-use Rattle.hol_model.proofs.Images.{image-typed, image-abstraction, application-typed}
-use Rattle.hol_model.proofs.Measures.{nodes-image, height-image, past_limits-image, past_limits-abstraction, some_type}
-use Rattle.hol_model.proofs.HolTypeEq.{type_eq-self}
-use Rattle.hol_model.proofs.NamedTests.{is_known-Decides}
-use Rattle.hol_model.specs.KnownTerm.{is_known, knows_types, knows_constants, has_instances}
-use Rattle.hol_model.specs.Instantiation.{replacements_refusal}
+use Rattle.hol_model.proofs.Terms.Filling.{fill_at-close_at}
+use Rattle.hol_model.proofs.Terms.Typing.{nameless_type-is}
+use Rattle.hol_model.proofs.Terms.Images.{image-typed, image-abstraction, application-typed}
+use Rattle.hol_model.proofs.Terms.Measures.{nodes-image, height-image, past_limits-image, past_limits-abstraction, some_type}
+use Rattle.hol_model.proofs.Terms.HolTypeEq.{type_eq-self}
+use Rattle.hol_model.proofs.Terms.NamedTests.{is_known-Decides}
+use Rattle.hol_model.specs.Logic.KnownTerm.{is_known, knows_types, knows_constants, has_instances}
+use Rattle.hol_model.specs.Kernel.Instantiation.{replacements_refusal}
 use Rattle.hol_kernel.proofs.RuleLemmas.{known_term}
 use Rattle.hol_journal.specs.Journal.{Recorded, theorem_in}
 use Rattle.hol_equal.specs.Sequents.{DerivesInstance, IsPast}

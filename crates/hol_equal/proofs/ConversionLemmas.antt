@@ -1,16 +1,16 @@
 -- A redex of known parts: what is past the limits on the way to its conversion, and the conversion itself.
 use Rattle.std.proofs.Common.{◌≡◌, ℕ, List, [], ◌∷◌, Bool, true, false, ◌&&◌, refl, subst, Some, Result, Err}
 use Rattle.hol_model.specs.declared.fault.Fault.{Fault}
-use Rattle.hol_model.specs.HolType.{HolType}
-use Rattle.hol_model.specs.NamedTerm.{NamedTerm, variable, abstraction, type_of}
-use Rattle.hol_model.specs.Nameless.{Nameless, free, app, image}
-use Rattle.hol_model.specs.Measures.{nameless_within_limits}
-use Rattle.hol_model.specs.Substitution.{put_all}
-use Rattle.hol_model.specs.Derivable.{nameless_equation}
-use Rattle.hol_model.specs.Outcome.{Answers}
-use Rattle.hol_model.specs.Constructors.{combination_outcome}
-use Rattle.hol_model.specs.Theory.{Theory}
-use Rattle.hol_model.proofs.Images.{image-abstraction}
+use Rattle.hol_model.specs.Terms.HolType.{HolType}
+use Rattle.hol_model.specs.Terms.NamedTerm.{NamedTerm, variable, abstraction, type_of}
+use Rattle.hol_model.specs.Terms.Nameless.{Nameless, free, app, image}
+use Rattle.hol_model.specs.Terms.Measures.{nameless_within_limits}
+use Rattle.hol_model.specs.Terms.Substitution.{put_all}
+use Rattle.hol_model.specs.Logic.Derivable.{nameless_equation}
+use Rattle.hol_model.specs.Kernel.Outcome.{Answers}
+use Rattle.hol_model.specs.Kernel.Constructors.{combination_outcome}
+use Rattle.hol_model.specs.Logic.Theory.{Theory}
+use Rattle.hol_model.proofs.Terms.Images.{image-abstraction}
 use Rattle.hol_journal.specs.Journal.{Recorded}
 use Rattle.hol_equal.specs.Sequents.{DerivesIf, DerivesInstance, IsPast}
 use Rattle.hol_equal.specs.Conversions.{trivial, conversion, conversion_fits}

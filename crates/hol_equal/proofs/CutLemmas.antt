@@ -3,19 +3,19 @@ use Rattle.std.proofs.Common.{◌≡◌, ◌⊎◌, List, [], ◌∷◌, ◌++�
 use Rattle.std.specs.List.{list_all, list_any}
 use Rattle.hol_model.specs.declared.fault.Fault.{Fault}
 use Rattle.hol_model.specs.declared.fault.Fault.TheVariants.{NotBool}
-use Rattle.hol_model.specs.HolType.{HolType, bool_type}
-use Rattle.hol_model.specs.NamedTerm.{NamedTerm, equation, type_of}
-use Rattle.hol_model.specs.Nameless.{Nameless, image, same_term}
-use Rattle.hol_model.specs.Measures.{nameless_within_limits}
-use Rattle.hol_model.specs.Theory.{Theory, IsLegal, IsKnown}
-use Rattle.hol_model.specs.Derivable.{IsMember, IsSameSet, without, nameless_equation}
-use Rattle.hol_model.specs.Theorem.{Theorem, IsTheorem}
-use Rattle.hol_model.specs.Outcome.{Answers, unless, refused}
-use Rattle.hol_model.specs.Rules.{first_unknown, is_formula, dest_equation, assume_outcome}
-use Rattle.hol_model.specs.DerivedRules.{Stated, IsConclusion, AnswersStated, named, images, terms_of_theorem, terms_of_stated, is_roomy, is_among, add_assum_outcome, prove_hyp_outcome}
+use Rattle.hol_model.specs.Terms.HolType.{HolType, bool_type}
+use Rattle.hol_model.specs.Terms.NamedTerm.{NamedTerm, equation, type_of}
+use Rattle.hol_model.specs.Terms.Nameless.{Nameless, image, same_term}
+use Rattle.hol_model.specs.Terms.Measures.{nameless_within_limits}
+use Rattle.hol_model.specs.Logic.Theory.{Theory, IsLegal, IsKnown}
+use Rattle.hol_model.specs.Logic.Derivable.{IsMember, IsSameSet, without, nameless_equation}
+use Rattle.hol_model.specs.Kernel.Theorem.{Theorem, IsTheorem}
+use Rattle.hol_model.specs.Kernel.Outcome.{Answers, unless, refused}
+use Rattle.hol_model.specs.Kernel.Rules.{first_unknown, is_formula, dest_equation, assume_outcome}
+use Rattle.hol_model.specs.Derived.DerivedRules.{Stated, IsConclusion, AnswersStated, named, images, terms_of_theorem, terms_of_stated, is_roomy, is_among, add_assum_outcome, prove_hyp_outcome}
 use Rattle.hol_model.proofs.Tests.{first_of_both, second_of_both, both, same_term-Decides}
-use Rattle.hol_model.proofs.Membership.{of_append, IsMember-append_left, IsMember-append_right}
-use Rattle.hol_model.proofs.Known.{Derivable-known}
+use Rattle.hol_model.proofs.Terms.Membership.{of_append, IsMember-append_left, IsMember-append_right}
+use Rattle.hol_model.proofs.Logic.Known.{Derivable-known}
 use Rattle.hol_kernel.proofs.RuleLemmas.{standing}
 use Rattle.hol_journal.specs.Journal.{Journal, Recorded, IsMade, theorem_in}
 use Rattle.hol_journal.proofs.Showing.{refused-is, unless-is, ok_is, formula_of}

@@ -3,21 +3,21 @@ use Rattle.std.proofs.Common.{◌≡◌, ℕ, List, [], ◌∷◌, ◌++◌, map
 use Rattle.std.specs.Str.{bytes_eq}
 use Rattle.std.proofs.lemmas.Slice.Eq.{bytes_eq-Decides}
 use Rattle.hol_model.specs.declared.fault.Fault.TheVariants.{NotEquation, NotBool}
-use Rattle.hol_model.specs.HolType.{HolType, bool_type, type_eq, domain_of}
-use Rattle.hol_model.specs.NamedTerm.{NamedTerm, variable, constant, combination, abstraction, type_of, equation, same_variable}
-use Rattle.hol_model.specs.Nameless.{Nameless, const, app, lam, image, image_under, same_term, nameless_type}
-use Rattle.hol_model.specs.Substitution.{close, fill}
-use Rattle.hol_model.specs.Theory.{Theory, IsLegal, equality_name, equality_type}
-use Rattle.hol_model.specs.Theorem.{Theorem}
-use Rattle.hol_model.specs.Derivable.{without, nameless_equation}
-use Rattle.hol_model.specs.Outcome.{given as stated_given, refused}
-use Rattle.hol_model.specs.Rules.{dest_equation, first_unknown}
-use Rattle.hol_model.specs.DerivedRules.{Conclusion, images, is_among, stated, stated_up_to_names, beta_conv_outcome, sym_outcome, add_assum_outcome, prove_hyp_outcome, eqt_intro_outcome, conj_outcome}
-use Rattle.hol_model.specs.InferenceRules.{rule_sym, rule_beta_conv, rule_add_assum, rule_prove_hyp, rule_eqt_intro, rule_conj}
-use Rattle.hol_model.specs.NamedLogic as named
-use Rattle.hol_model.specs.NamelessLogic as nameless
-use Rattle.hol_model.specs.Inference.{unchanged, require, is_known_term, given, conclude, all, drawn}
-use Rattle.hol_model.proofs.Images.{image-equation, image-abstraction}
+use Rattle.hol_model.specs.Terms.HolType.{HolType, bool_type, type_eq, domain_of}
+use Rattle.hol_model.specs.Terms.NamedTerm.{NamedTerm, variable, constant, combination, abstraction, type_of, equation, same_variable}
+use Rattle.hol_model.specs.Terms.Nameless.{Nameless, const, app, lam, image, image_under, same_term, nameless_type}
+use Rattle.hol_model.specs.Terms.Substitution.{close, fill}
+use Rattle.hol_model.specs.Logic.Theory.{Theory, IsLegal, equality_name, equality_type}
+use Rattle.hol_model.specs.Kernel.Theorem.{Theorem}
+use Rattle.hol_model.specs.Logic.Derivable.{without, nameless_equation}
+use Rattle.hol_model.specs.Kernel.Outcome.{given as stated_given, refused}
+use Rattle.hol_model.specs.Kernel.Rules.{dest_equation, first_unknown}
+use Rattle.hol_model.specs.Derived.DerivedRules.{Conclusion, images, is_among, stated, stated_up_to_names, beta_conv_outcome, sym_outcome, add_assum_outcome, prove_hyp_outcome, eqt_intro_outcome, conj_outcome}
+use Rattle.hol_model.specs.Derived.InferenceRules.{rule_sym, rule_beta_conv, rule_add_assum, rule_prove_hyp, rule_eqt_intro, rule_conj}
+use Rattle.hol_model.specs.Logic.NamedLogic as named
+use Rattle.hol_model.specs.Logic.NamelessLogic as nameless
+use Rattle.hol_model.specs.Derived.Inference.{unchanged, require, is_known_term, given, conclude, all, drawn}
+use Rattle.hol_model.proofs.Terms.Images.{image-equation, image-abstraction}
 use Rattle.hol_model.proofs.Tests.{same_term-Decides, same_variable-self}
 use Rattle.hol_kernel.proofs.RuleLemmas.{IsEquation, sides}
 use Rattle.hol_equal.proofs.DrawnTerms.{IsStated, StatesDrawn, IsPremise, Draws, walked, walked_known, one_premise, two_premises, same_set}

@@ -7,27 +7,27 @@ use Rattle.std.proofs.lemmas.Slice.Eq.{bytes_eq-Decides}
 use Rattle.std.proofs.lemmas.List.{append-nil}
 use Rattle.hol_model.specs.declared.fault.Fault.{Fault}
 use Rattle.hol_model.specs.declared.fault.Fault.TheVariants.{UnknownType, UnknownConst, NotInstance}
-use Rattle.hol_model.specs.HolType.{HolType, type_eq}
-use Rattle.hol_model.specs.NamedTerm.{NamedTerm, variable, constant, combination, abstraction, type_of}
-use Rattle.hol_model.specs.Nameless.{Nameless, const, image, same_term, nameless_type}
-use Rattle.hol_model.specs.Theory.{Theory}
-use Rattle.hol_model.specs.KnownTerm.{knows_types, knows_constants, has_instances, is_known}
-use Rattle.hol_model.specs.Checks.{knows_nameless}
-use Rattle.hol_model.specs.Goals.{Sequent}
-use Rattle.hol_model.specs.Derivable.{IsSameSet}
-use Rattle.hol_model.specs.Outcome.{unless, refused}
-use Rattle.hol_model.specs.Rules.{first_unknown}
-use Rattle.hol_model.specs.DerivedRules.{Stated, conclusion_image, is_of_type}
-use Rattle.hol_model.proofs.HolTypeEq.{type_eq-Decides, type_eq-self}
-use Rattle.hol_model.specs.NamedLogic.{is_constant_named}
+use Rattle.hol_model.specs.Terms.HolType.{HolType, type_eq}
+use Rattle.hol_model.specs.Terms.NamedTerm.{NamedTerm, variable, constant, combination, abstraction, type_of}
+use Rattle.hol_model.specs.Terms.Nameless.{Nameless, const, image, same_term, nameless_type}
+use Rattle.hol_model.specs.Logic.Theory.{Theory}
+use Rattle.hol_model.specs.Logic.KnownTerm.{knows_types, knows_constants, has_instances, is_known}
+use Rattle.hol_model.specs.Logic.Checks.{knows_nameless}
+use Rattle.hol_model.specs.Goals.Goals.{Sequent}
+use Rattle.hol_model.specs.Logic.Derivable.{IsSameSet}
+use Rattle.hol_model.specs.Kernel.Outcome.{unless, refused}
+use Rattle.hol_model.specs.Kernel.Rules.{first_unknown}
+use Rattle.hol_model.specs.Derived.DerivedRules.{Stated, conclusion_image, is_of_type}
+use Rattle.hol_model.proofs.Terms.HolTypeEq.{type_eq-Decides, type_eq-self}
+use Rattle.hol_model.specs.Logic.NamedLogic.{is_constant_named}
 use Rattle.hol_model.proofs.Tests.{same_answer, same_term-Decides}
-use Rattle.hol_model.proofs.Typing.{nameless_type-is}
-use Rattle.hol_model.proofs.Images.{image-type, image-typed}
-use Rattle.hol_model.proofs.NamedTests.{is_known-Decides}
-use Rattle.hol_model.proofs.Checks.{knows_nameless-Decides}
-use Rattle.hol_model.specs.Inference.{Inference, given, require, unchanged, rule_sequent}
-use Rattle.hol_model.specs.Theorem.{Theorem}
-use Rattle.hol_model.specs.InferenceRules.{InferenceRule}
+use Rattle.hol_model.proofs.Terms.Typing.{nameless_type-is}
+use Rattle.hol_model.proofs.Terms.Images.{image-type, image-typed}
+use Rattle.hol_model.proofs.Terms.NamedTests.{is_known-Decides}
+use Rattle.hol_model.proofs.Logic.Checks.{knows_nameless-Decides}
+use Rattle.hol_model.specs.Derived.Inference.{Inference, given, require, unchanged, rule_sequent}
+use Rattle.hol_model.specs.Kernel.Theorem.{Theorem}
+use Rattle.hol_model.specs.Derived.InferenceRules.{InferenceRule}
 use Rattle.hol_journal.specs.Steps.{sequent_of_theorem}
 use Rattle.hol_equal.specs.Formulas.{IsFormula}
 

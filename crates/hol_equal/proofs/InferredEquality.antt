@@ -1,15 +1,15 @@
 -- A call that answers what a rule's outcome states answers what the table of rules draws: the rules of equality.
 use Rattle.std.proofs.Common.{◌≡◌, List, [], ◌∷◌, ◌++◌, map, ◌∙◌, ap, inl, inr, Option, Some, None, Result, Ok, Err}
 use Rattle.hol_model.specs.declared.fault.Fault.{Fault}
-use Rattle.hol_model.specs.HolType.{HolType}
-use Rattle.hol_model.specs.NamedTerm.{NamedTerm, type_of}
-use Rattle.hol_model.specs.Nameless.{Nameless, image}
-use Rattle.hol_model.specs.Theory.{Theory, IsLegal}
-use Rattle.hol_model.specs.Theorem.{Theorem}
-use Rattle.hol_model.specs.Goals.{Sequent}
-use Rattle.hol_model.specs.DerivedRules.{Stated, Conclusion, named, up_to_names, IsConclusion, conclusion_image, AnswersStated, terms_of_theorem, sym_outcome, add_assum_outcome, prove_hyp_outcome, beta_conv_outcome}
-use Rattle.hol_model.specs.InferenceRules.{InferenceRule, rule_sym, rule_add_assum, rule_prove_hyp, rule_beta_conv}
-use Rattle.hol_model.specs.Inference.{rule_sequent}
+use Rattle.hol_model.specs.Terms.HolType.{HolType}
+use Rattle.hol_model.specs.Terms.NamedTerm.{NamedTerm, type_of}
+use Rattle.hol_model.specs.Terms.Nameless.{Nameless, image}
+use Rattle.hol_model.specs.Logic.Theory.{Theory, IsLegal}
+use Rattle.hol_model.specs.Kernel.Theorem.{Theorem}
+use Rattle.hol_model.specs.Goals.Goals.{Sequent}
+use Rattle.hol_model.specs.Derived.DerivedRules.{Stated, Conclusion, named, up_to_names, IsConclusion, conclusion_image, AnswersStated, terms_of_theorem, sym_outcome, add_assum_outcome, prove_hyp_outcome, beta_conv_outcome}
+use Rattle.hol_model.specs.Derived.InferenceRules.{InferenceRule, rule_sym, rule_add_assum, rule_prove_hyp, rule_beta_conv}
+use Rattle.hol_model.specs.Derived.Inference.{rule_sequent}
 use Rattle.hol_journal.specs.Steps.{sequent_of_theorem}
 use Rattle.hol_equal.specs.Inferred.{IsDrawn, Infers}
 use Rattle.hol_equal.proofs.DrawnTerms.{StatesDrawn, IsPremise, Draws}

@@ -2,8 +2,8 @@
 use Rattle.std.proofs.Common.{◌≡◌, List, [], ◌∷◌, ◌++◌, map, Bool, true, false, ◌&&◌, refl, ◌∙◌, ap, subst, Result, append-nil}
 use Rattle.std.specs.List.{list_all}
 use Rattle.hol_model.specs.declared.fault.Fault.{Fault}
-use Rattle.hol_model.specs.Nameless.{Nameless}
-use Rattle.hol_model.specs.Derivable.{without}
+use Rattle.hol_model.specs.Terms.Nameless.{Nameless}
+use Rattle.hol_model.specs.Logic.Derivable.{without}
 use Rattle.hol_model.proofs.Tests.{first_of_both, second_of_both, same_term-Decides}
 use Rattle.hol_journal.specs.Journal.{Recorded}
 use Rattle.hol_equal.specs.Sequents.{DerivesIf}

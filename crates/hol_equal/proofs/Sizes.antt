@@ -3,13 +3,13 @@ use Rattle.std.proofs.Common.{◌≡◌, ℕ, ◌+◌, ◌≤◌, List, [], ◌�
 use Rattle.std.proofs.lemmas.Bool.{leb-true, le-leb}
 use Rattle.hol_model.specs.declared.fault.Fault.{Fault}
 use Rattle.hol_model.specs.declared.limits.TheConstants.{TERM_NODES_LIMIT, TERM_HEIGHT_LIMIT, TYPE_NODES_LIMIT}
-use Rattle.hol_model.specs.HolType.{HolType, function_type, type_nodes}
-use Rattle.hol_model.specs.NamedTerm.{type_fits}
-use Rattle.hol_model.specs.Nameless.{Nameless, free, const, bound, app, lam, nameless_type}
-use Rattle.hol_model.specs.Measures.{nameless_height, nameless_nodes, nameless_types_fit, nameless_within_limits}
-use Rattle.hol_model.specs.Theory.{equality_name, equality_type}
-use Rattle.hol_model.specs.Derivable.{nameless_equation}
-use Rattle.hol_model.specs.DerivedRules.{is_roomy, is_roomy_type, has_roomy_types, ROOMY_HEIGHT, ROOMY_NODES, ROOMY_TYPE_NODES}
+use Rattle.hol_model.specs.Terms.HolType.{HolType, function_type, type_nodes}
+use Rattle.hol_model.specs.Terms.NamedTerm.{type_fits}
+use Rattle.hol_model.specs.Terms.Nameless.{Nameless, free, const, bound, app, lam, nameless_type}
+use Rattle.hol_model.specs.Terms.Measures.{nameless_height, nameless_nodes, nameless_types_fit, nameless_within_limits}
+use Rattle.hol_model.specs.Logic.Theory.{equality_name, equality_type}
+use Rattle.hol_model.specs.Logic.Derivable.{nameless_equation}
+use Rattle.hol_model.specs.Derived.DerivedRules.{is_roomy, is_roomy_type, has_roomy_types, ROOMY_HEIGHT, ROOMY_NODES, ROOMY_TYPE_NODES}
 use Rattle.hol_model.proofs.Tests.{first_of_both, second_of_both, both}
 use Rattle.hol_equal.specs.Sequents.{IsPast}
 pub use Rattle.hol_equal.specs.Room.{IsSized}

@@ -5,27 +5,27 @@ use Rattle.std.specs.List.{list_all}
 use Rattle.std.proofs.lemmas.Slice.Eq.{bytes_eq-Decides}
 use Rattle.hol_model.specs.declared.fault.Fault.{Fault}
 use Rattle.hol_model.specs.declared.fault.Fault.TheVariants.{TooLarge, NotAlpha, TypeMismatch}
-use Rattle.hol_model.specs.HolType.{HolType, bool_type, function_type}
-use Rattle.hol_model.specs.NamedTerm.{NamedTerm, variable, constant, combination, abstraction, type_of, dest_variable, is_free, equation, is_within_limits}
-use Rattle.hol_model.specs.Nameless.{Nameless, free, app, lam, HasType, image, same_term}
-use Rattle.hol_model.specs.Measures.{nameless_within_limits}
-use Rattle.hol_model.specs.Theory.{Theory, IsKnown, IsKnownType, equality_name}
-use Rattle.hol_model.specs.Derivable.{IsMember, IsSameSet, without, nameless_equation, NotFreeInAny}
-use Rattle.hol_model.specs.Theorem.{Theorem, IsTheorem, are_alpha_equivalent, with_hypotheses, without_hypothesis}
-use Rattle.hol_model.specs.Outcome.{Answers, AnswersSuch, unless, given, refused}
-use Rattle.hol_model.specs.Instantiation.{IsChanged, all_fit, or_too_large}
-use Rattle.hol_model.specs.Rules.{first_unknown, is_formula, dest_equation, dest_trivial_redex, is_free_in_hypotheses, concluded, refl_outcome, assume_outcome, trans_outcome, eq_mp_outcome, mk_comb_outcome, abs_outcome, deduct_antisym_outcome, beta_outcome}
-use Rattle.hol_model.specs.KnownTerm.{knows_types, knows_constants, has_instances}
-use Rattle.hol_model.specs.Substitution.{close}
-use Rattle.hol_model.proofs.NamedTests.{is_known-Decides}
-use Rattle.hol_model.proofs.TypeTests.{knows_type-Decides}
-use Rattle.hol_model.proofs.HolTypeEq.{type_eq-self}
-use Rattle.hol_model.proofs.Known as known
-use Rattle.hol_model.proofs.Earlier.{earlier-same}
+use Rattle.hol_model.specs.Terms.HolType.{HolType, bool_type, function_type}
+use Rattle.hol_model.specs.Terms.NamedTerm.{NamedTerm, variable, constant, combination, abstraction, type_of, dest_variable, is_free, equation, is_within_limits}
+use Rattle.hol_model.specs.Terms.Nameless.{Nameless, free, app, lam, HasType, image, same_term}
+use Rattle.hol_model.specs.Terms.Measures.{nameless_within_limits}
+use Rattle.hol_model.specs.Logic.Theory.{Theory, IsKnown, IsKnownType, equality_name}
+use Rattle.hol_model.specs.Logic.Derivable.{IsMember, IsSameSet, without, nameless_equation, NotFreeInAny}
+use Rattle.hol_model.specs.Kernel.Theorem.{Theorem, IsTheorem, are_alpha_equivalent, with_hypotheses, without_hypothesis}
+use Rattle.hol_model.specs.Kernel.Outcome.{Answers, AnswersSuch, unless, given, refused}
+use Rattle.hol_model.specs.Kernel.Instantiation.{IsChanged, all_fit, or_too_large}
+use Rattle.hol_model.specs.Kernel.Rules.{first_unknown, is_formula, dest_equation, dest_trivial_redex, is_free_in_hypotheses, concluded, refl_outcome, assume_outcome, trans_outcome, eq_mp_outcome, mk_comb_outcome, abs_outcome, deduct_antisym_outcome, beta_outcome}
+use Rattle.hol_model.specs.Logic.KnownTerm.{knows_types, knows_constants, has_instances}
+use Rattle.hol_model.specs.Terms.Substitution.{close}
+use Rattle.hol_model.proofs.Terms.NamedTests.{is_known-Decides}
+use Rattle.hol_model.proofs.Terms.TypeTests.{knows_type-Decides}
+use Rattle.hol_model.proofs.Terms.HolTypeEq.{type_eq-self}
+use Rattle.hol_model.proofs.Logic.Known as known
+use Rattle.hol_model.proofs.Logic.Earlier.{earlier-same}
 use Rattle.hol_model.proofs.Tests.{first_of_both, second_of_both, both, same_term-Decides, same_variable-self}
-use Rattle.hol_model.proofs.Images.{image-typed, image-type, image-equation, image-abstraction, occurs_free-image}
-use Rattle.hol_model.proofs.Measures.{past_limits-image}
-use Rattle.hol_model.proofs.Membership.{of_append, of_map, IsMember-map, IsMember-append_left, IsMember-append_right}
+use Rattle.hol_model.proofs.Terms.Images.{image-typed, image-type, image-equation, image-abstraction, occurs_free-image}
+use Rattle.hol_model.proofs.Terms.Measures.{past_limits-image}
+use Rattle.hol_model.proofs.Terms.Membership.{of_append, of_map, IsMember-map, IsMember-append_left, IsMember-append_right}
 use Rattle.hol_kernel.proofs.HypothesesLemmas.{with_hypotheses-same_set, image-without_hypothesis}
 use Rattle.hol_kernel.proofs.RuleLemmas.{mk_comb-concluded, abs-concluded}
 use Rattle.hol_journal.specs.Steps.{Step}

@@ -2,17 +2,17 @@
 use Rattle.std.proofs.Common.{◌≡◌, List, [], ◌∷◌, ◌++◌, Bool, true, refl, sym, ◌∙◌, ap, subst, inr, Some, None, Result, Ok, Err, IfOk, arith, append-nil}
 use Rattle.std.specs.List.{list_all}
 use Rattle.hol_model.specs.declared.fault.Fault.{Fault}
-use Rattle.hol_model.specs.HolType.{HolType, bool_type, function_type}
-use Rattle.hol_model.specs.NamedTerm.{NamedTerm, variable, constant, combination, abstraction, equation, equality, type_of}
-use Rattle.hol_model.specs.Nameless.{Nameless, const, app, image}
-use Rattle.hol_model.specs.Measures.{nameless_within_limits}
-use Rattle.hol_model.specs.Theory.{Theory, IsLegal, IsKnown, equality_name, equality_type}
-use Rattle.hol_model.specs.Derivable.{IsSameSet, nameless_equation}
-use Rattle.hol_model.specs.Theorem.{Theorem, IsTheorem}
-use Rattle.hol_model.specs.Rules.{dest_equation}
-use Rattle.hol_model.specs.DerivedRules.{Stated, AnswersStated, named, images, terms_of_theorem, terms_of_stated, is_roomy, sym_outcome}
+use Rattle.hol_model.specs.Terms.HolType.{HolType, bool_type, function_type}
+use Rattle.hol_model.specs.Terms.NamedTerm.{NamedTerm, variable, constant, combination, abstraction, equation, equality, type_of}
+use Rattle.hol_model.specs.Terms.Nameless.{Nameless, const, app, image}
+use Rattle.hol_model.specs.Terms.Measures.{nameless_within_limits}
+use Rattle.hol_model.specs.Logic.Theory.{Theory, IsLegal, IsKnown, equality_name, equality_type}
+use Rattle.hol_model.specs.Logic.Derivable.{IsSameSet, nameless_equation}
+use Rattle.hol_model.specs.Kernel.Theorem.{Theorem, IsTheorem}
+use Rattle.hol_model.specs.Kernel.Rules.{dest_equation}
+use Rattle.hol_model.specs.Derived.DerivedRules.{Stated, AnswersStated, named, images, terms_of_theorem, terms_of_stated, is_roomy, sym_outcome}
 use Rattle.hol_model.proofs.Tests.{first_of_both}
-use Rattle.hol_model.proofs.Known.{equation-sides, equality-known, IsKnown-type}
+use Rattle.hol_model.proofs.Logic.Known.{equation-sides, equality-known, IsKnown-type}
 use Rattle.hol_journal.specs.Journal.{Journal, Recorded, IsMade, theorem_in}
 use Rattle.hol_journal.proofs.Showing.{sides_of}
 use Rattle.hol_equal.specs.Sequents.{Shows, Gives, IsPast}

@@ -1,12 +1,12 @@
 -- What beta conversion makes of an abstraction and an argument.
 use Rattle.std.specs.Prelude.{ℕ, List, [], ◌∷◌, Bool}
 use Rattle.std.specs.List.{list_all}
-use Rattle.hol_model.specs.HolType.{HolType}
-use Rattle.hol_model.specs.NamedTerm.{NamedTerm}
-use Rattle.hol_model.specs.Nameless.{Nameless, free, app, lam, image}
-use Rattle.hol_model.specs.Measures.{nameless_within_limits}
-use Rattle.hol_model.specs.Substitution.{close, fill}
-use Rattle.hol_model.specs.Derivable.{nameless_equation}
+use Rattle.hol_model.specs.Terms.HolType.{HolType}
+use Rattle.hol_model.specs.Terms.NamedTerm.{NamedTerm}
+use Rattle.hol_model.specs.Terms.Nameless.{Nameless, free, app, lam, image}
+use Rattle.hol_model.specs.Terms.Measures.{nameless_within_limits}
+use Rattle.hol_model.specs.Terms.Substitution.{close, fill}
+use Rattle.hol_model.specs.Logic.Derivable.{nameless_equation}
 
 -- \x. b
 abbrev pub closed : List ℕ → HolType → NamedTerm → Nameless

@@ -2,14 +2,14 @@
 use Rattle.std.specs.Prelude.{◌≡◌, ◌⊎◌, ℕ, List, true, Some, None, Result, Err}
 use Rattle.hol_model.specs.declared.fault.Fault.{Fault}
 use Rattle.hol_model.specs.declared.fault.Fault.TheVariants.{Memory, NotBool}
-use Rattle.hol_model.specs.HolType.{bool_type}
-use Rattle.hol_model.specs.NamedTerm.{NamedTerm, type_of}
-use Rattle.hol_model.specs.Nameless.{image}
-use Rattle.hol_model.specs.Theory.{Theory, IsKnown}
-use Rattle.hol_model.specs.NamedLogic.{connected, negation}
-use Rattle.hol_model.specs.Outcome.{unless, refused}
-use Rattle.hol_model.specs.Rules.{is_formula, first_unknown}
-use Rattle.hol_model.specs.DerivedRules.{Stated}
+use Rattle.hol_model.specs.Terms.HolType.{bool_type}
+use Rattle.hol_model.specs.Terms.NamedTerm.{NamedTerm, type_of}
+use Rattle.hol_model.specs.Terms.Nameless.{image}
+use Rattle.hol_model.specs.Logic.Theory.{Theory, IsKnown}
+use Rattle.hol_model.specs.Logic.NamedLogic.{connected, negation}
+use Rattle.hol_model.specs.Kernel.Outcome.{unless, refused}
+use Rattle.hol_model.specs.Kernel.Rules.{is_formula, first_unknown}
+use Rattle.hol_model.specs.Derived.DerivedRules.{Stated}
 
 -- the theory knows the term, which is of type `bool`
 pub record IsFormula (theory : Theory) (term : NamedTerm) : Type 0 where

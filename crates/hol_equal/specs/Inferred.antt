@@ -2,11 +2,11 @@
 use Rattle.std.specs.Prelude.{◌≡◌, ◌⊎◌, List, map, Option, Some, None, Result, Ok, Err}
 use Rattle.hol_model.specs.declared.fault.Fault.{Fault}
 use Rattle.hol_model.specs.declared.fault.Fault.TheVariants.{Memory, TooLarge}
-use Rattle.hol_model.specs.Theory.{Theory}
-use Rattle.hol_model.specs.Theorem.{Theorem}
-use Rattle.hol_model.specs.Goals.{Sequent}
-use Rattle.hol_model.specs.InferenceRules.{InferenceRule}
-use Rattle.hol_model.specs.Inference.{rule_sequent}
+use Rattle.hol_model.specs.Logic.Theory.{Theory}
+use Rattle.hol_model.specs.Kernel.Theorem.{Theorem}
+use Rattle.hol_model.specs.Goals.Goals.{Sequent}
+use Rattle.hol_model.specs.Derived.InferenceRules.{InferenceRule}
+use Rattle.hol_model.specs.Derived.Inference.{rule_sequent}
 use Rattle.hol_journal.specs.Steps.{sequent_of_theorem}
 use Rattle.hol_equal.specs.Sequents.{Shows}
 

@@ -1,9 +1,9 @@
 -- Room for the terms that are made on the way to a stated sequent.
 use Rattle.std.specs.Prelude.{◌≡◌, ◌≤◌, ℕ, [], Bool, true, Result, Ok, Err}
 use Rattle.hol_model.specs.declared.fault.Fault.{Fault}
-use Rattle.hol_model.specs.NamedTerm.{NamedTerm}
-use Rattle.hol_model.specs.Nameless.{Nameless}
-use Rattle.hol_model.specs.Measures.{nameless_height, nameless_nodes, nameless_types_fit}
+use Rattle.hol_model.specs.Terms.NamedTerm.{NamedTerm}
+use Rattle.hol_model.specs.Terms.Nameless.{Nameless}
+use Rattle.hol_model.specs.Terms.Measures.{nameless_height, nameless_nodes, nameless_types_fit}
 use Rattle.hol_equal.specs.Sequents.{IsPast}
 
 -- whether there is room

@@ -3,14 +3,14 @@ use Rattle.std.specs.Prelude.{◌≡◌, ◌⊎◌, List, ◌∷◌, map, Bool, 
 use Rattle.std.specs.List.{list_all}
 use Rattle.hol_model.specs.declared.fault.Fault.{Fault}
 use Rattle.hol_model.specs.declared.fault.Fault.TheVariants.{Memory, TooLarge}
-use Rattle.hol_model.specs.HolType.{HolType}
-use Rattle.hol_model.specs.NamedTerm.{NamedTerm}
-use Rattle.hol_model.specs.Nameless.{Nameless, image}
-use Rattle.hol_model.specs.Substitution.{put_all}
-use Rattle.hol_model.specs.Instantiation.{instantiate_all}
-use Rattle.hol_model.specs.Measures.{nameless_within_limits}
-use Rattle.hol_model.specs.Derivable.{IsSameSet}
-use Rattle.hol_model.specs.Theorem.{Theorem}
+use Rattle.hol_model.specs.Terms.HolType.{HolType}
+use Rattle.hol_model.specs.Terms.NamedTerm.{NamedTerm}
+use Rattle.hol_model.specs.Terms.Nameless.{Nameless, image}
+use Rattle.hol_model.specs.Terms.Substitution.{put_all}
+use Rattle.hol_model.specs.Kernel.Instantiation.{instantiate_all}
+use Rattle.hol_model.specs.Terms.Measures.{nameless_within_limits}
+use Rattle.hol_model.specs.Logic.Derivable.{IsSameSet}
+use Rattle.hol_model.specs.Kernel.Theorem.{Theorem}
 use Rattle.hol_journal.specs.Journal.{Journal, Recorded, IsMade}
 use Rattle.hol_journal.specs.Growth.{IsGrown}
 

@@ -1,8 +1,8 @@
 // Beta conversion of redexes whose parts are known.
 ghost use Rattle.std.specs.Prelude.{◌≡◌, ◌∷◌, ℕ, List, [], Some, None};
-ghost use Rattle.hol_model.specs.HolType.{HolType};
-ghost use Rattle.hol_model.specs.NamedTerm.{NamedTerm, variable, combination, abstraction, type_of};
-ghost use Rattle.hol_model.specs.Rules.{first_unknown};
+ghost use Rattle.hol_model.specs.Terms.HolType.{HolType};
+ghost use Rattle.hol_model.specs.Terms.NamedTerm.{NamedTerm, variable, combination, abstraction, type_of};
+ghost use Rattle.hol_model.specs.Kernel.Rules.{first_unknown};
 ghost use Rattle.hol_equal.specs.Sequents.{DerivesIf, Continues};
 ghost use Rattle.hol_equal.specs.Conversions.{conversion, conversion_fits};
 

@@ -1,12 +1,12 @@
 // Rules by an instance of a lemma, which is proved once.
 ghost use Rattle.std.specs.Prelude.{◌≡◌, List, [], ◌∷◌, ◌++◌, map, None};
 ghost use Rattle.std.specs.List.{list_all};
-ghost use Rattle.hol_model.specs.HolType.{bool_type};
-ghost use Rattle.hol_model.specs.Nameless.{Nameless};
-ghost use Rattle.hol_model.specs.Measures.{nameless_within_limits};
-ghost use Rattle.hol_model.specs.Substitution.{put_all};
-ghost use Rattle.hol_model.specs.Instantiation.{instantiate_all, replacements_refusal, type_replacements_refusal};
-ghost use Rattle.hol_model.specs.Derivable.{nameless_equation};
+ghost use Rattle.hol_model.specs.Terms.HolType.{bool_type};
+ghost use Rattle.hol_model.specs.Terms.Nameless.{Nameless};
+ghost use Rattle.hol_model.specs.Terms.Measures.{nameless_within_limits};
+ghost use Rattle.hol_model.specs.Terms.Substitution.{put_all};
+ghost use Rattle.hol_model.specs.Kernel.Instantiation.{instantiate_all, replacements_refusal, type_replacements_refusal};
+ghost use Rattle.hol_model.specs.Logic.Derivable.{nameless_equation};
 ghost use Rattle.hol_journal.specs.Journal.{IsMade};
 ghost use Rattle.hol_equal.specs.Sequents.{Shows, DerivesIf, Continues, instance_of};
 

@@ -1,15 +1,15 @@
 // The kernel's rules by image: what each derives from theorems that show sequents.
 ghost use Rattle.std.specs.Prelude.{◌≡◌, List, ℕ, [], ◌∷◌, ◌++◌, map, Some, None, IfOk};
-ghost use Rattle.hol_model.specs.HolType.{HolType, bool_type, function_type};
-ghost use Rattle.hol_model.specs.NamedTerm.{NamedTerm, variable, combination, abstraction, equation, type_of};
-ghost use Rattle.hol_model.specs.Nameless.{Nameless, free, app, lam, image};
-ghost use Rattle.hol_model.specs.Substitution.{close, put_all};
-ghost use Rattle.hol_model.specs.Instantiation.{instantiate_all, replacements_refusal, type_replacements_refusal};
-ghost use Rattle.hol_model.specs.Rules.{dest_equation, assume_outcome};
-ghost use Rattle.hol_model.specs.Outcome.{Answers};
-ghost use Rattle.hol_model.specs.Theory.{IsKnown, IsKnownType, IsLegal};
-ghost use Rattle.hol_model.specs.Theorem.{IsTheorem};
-ghost use Rattle.hol_model.specs.Derivable.{NotFreeInAny, without, nameless_equation};
+ghost use Rattle.hol_model.specs.Terms.HolType.{HolType, bool_type, function_type};
+ghost use Rattle.hol_model.specs.Terms.NamedTerm.{NamedTerm, variable, combination, abstraction, equation, type_of};
+ghost use Rattle.hol_model.specs.Terms.Nameless.{Nameless, free, app, lam, image};
+ghost use Rattle.hol_model.specs.Terms.Substitution.{close, put_all};
+ghost use Rattle.hol_model.specs.Kernel.Instantiation.{instantiate_all, replacements_refusal, type_replacements_refusal};
+ghost use Rattle.hol_model.specs.Kernel.Rules.{dest_equation, assume_outcome};
+ghost use Rattle.hol_model.specs.Kernel.Outcome.{Answers};
+ghost use Rattle.hol_model.specs.Logic.Theory.{IsKnown, IsKnownType, IsLegal};
+ghost use Rattle.hol_model.specs.Kernel.Theorem.{IsTheorem};
+ghost use Rattle.hol_model.specs.Logic.Derivable.{NotFreeInAny, without, nameless_equation};
 ghost use Rattle.hol_journal.specs.Journal.{IsMade, theorem_in};
 ghost use Rattle.hol_equal.specs.Formulas.{IsFormula};
 ghost use Rattle.hol_equal.specs.Sequents.{Shows, Derives, DerivesInstance, Gives, Continues};

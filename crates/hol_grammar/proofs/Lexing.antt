@@ -6,8 +6,8 @@ use Rattle.std.proofs.lemmas.Bool.{eqb-true, eq-eqb, leb-true, le-leb, lt-leb}
 use Rattle.std.proofs.lemmas.Bool.Decides.{nat_tests}
 use Rattle.hol_model.specs.declared.symbol.Symbol.{Symbol}
 use Rattle.hol_model.specs.declared.symbol.Symbol.TheVariants.{Iff, Implies, Or, Equal, Backslash}
-use Rattle.hol_model.specs.Token.{Token, Name, Number, Mark, symbol_text, token_text}
-use Rattle.hol_model.specs.Lexing.{is_letter, is_digit, is_name_byte, Every, StartsWithout, IsToken, IsLongest, Begins, Lexes, is_blank, digits_value, numeral_value}
+use Rattle.hol_model.specs.Texts.Token.{Token, Name, Number, Mark, symbol_text, token_text}
+use Rattle.hol_model.specs.Texts.Lexing.{is_letter, is_digit, is_name_byte, Every, StartsWithout, IsToken, IsLongest, Begins, Lexes, is_blank, digits_value, numeral_value}
 use Rattle.hol_grammar.specs.Lexer.{symbols, when, strip, or_else, symbol_at, if_else, front, back, numeral_at, is_within_limit, number_at, token_at}
 
 front_back : (p : ℕ → Bool) (bytes : List ℕ) → bytes ≡ front p bytes ++ back p bytes

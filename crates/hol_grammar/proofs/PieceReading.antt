@@ -2,8 +2,8 @@
 use Rattle.std.proofs.Common.{◌≡◌, ℕ, suc, ◌-◌, ◌<◌, List, [], length, take, drop, get_or, Bool, Option, None, Some, refl, sym, ap, ◌∙◌}
 use Rattle.std.proofs.Math.Seq.{take-length}
 use Rattle.std.proofs.lemmas.List.{length-drop, drop-map}
-use Rattle.hol_model.specs.TypeGrammar.{TypeTree}
-use Rattle.hol_model.specs.Token.{Token as TokenModel}
+use Rattle.hol_model.specs.Texts.TypeGrammar.{TypeTree}
+use Rattle.hol_model.specs.Texts.Token.{Token as TokenModel}
 use Rattle.hol_grammar.specs.declared.token.Token.{Token}
 use Rattle.hol_grammar.specs.TypeReader.{run}
 use Rattle.hol_grammar.specs.Pieces.{Ending, EndsVariable, EndsConstant, EndsBinder, ending, ended_by, type_until, when}

@@ -2,9 +2,9 @@
 use Rattle.std.proofs.Common.{◌≡◌, ◌≢◌, ℕ, List, [], ◌∷◌, Bool, true, false, Option, None, Some, refl, sym, ap, ◌∙◌, subst, unwrap_or}
 use Rattle.hol_model.specs.declared.symbol.Symbol.{Symbol}
 use Rattle.hol_model.specs.declared.symbol.Symbol.TheVariants.{Iff, Implies, And, Or, Equal, Backslash, Exclamation, Question, At, Tilde, OpenParenthesis, CloseParenthesis, OpenBracket, CloseBracket, Colon, Dot}
-use Rattle.hol_model.specs.Token.{Token, Name, Number, Mark}
-use Rattle.hol_model.specs.TypeGrammar.{TypeTree, IsRead, type_tokens}
-use Rattle.hol_model.specs.TermGrammar.{IffInfix, ImpliesInfix, OrInfix, AndInfix, EqualInfix, Binder, Lambda, ForAll, Exists, Choice, Bare, Variable, Constant, IsWithin, IsConstantName, Lexeme, AtomPiece, OpenPiece, ClosePiece, NotPiece, InfixPiece, BinderPiece, piece_tokens, all_tokens, pieces, binder_symbol, TermTree, Leaf, Enclosed, Apply, Not, Join, Bind, IsTermTree, IsReadTerm}
+use Rattle.hol_model.specs.Texts.Token.{Token, Name, Number, Mark}
+use Rattle.hol_model.specs.Texts.TypeGrammar.{TypeTree, IsRead, type_tokens}
+use Rattle.hol_model.specs.Texts.TermGrammar.{IffInfix, ImpliesInfix, OrInfix, AndInfix, EqualInfix, Binder, Lambda, ForAll, Exists, Choice, Bare, Variable, Constant, IsWithin, IsConstantName, Lexeme, AtomPiece, OpenPiece, ClosePiece, NotPiece, InfixPiece, BinderPiece, piece_tokens, all_tokens, pieces, binder_symbol, TermTree, Leaf, Enclosed, Apply, Not, Join, Bind, IsTermTree, IsReadTerm}
 use Rattle.hol_grammar.specs.TypeReader.{run, role, Continues}
 use Rattle.hol_grammar.specs.TermReader.{Pending, Turn, Goes, Fails, turn}
 use Rattle.hol_grammar.specs.TermReader.{run as run_pieces}

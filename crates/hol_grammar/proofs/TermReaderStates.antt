@@ -2,7 +2,7 @@
 use Rattle.std.proofs.Common.{◌≡◌, ℕ, suc, ◌<◌, ◌≤◌, List, [], ◌∷◌, ◌++◌, length, map, Bool, true, false, nat_lt, Option, None, Some, is_some, Result, Ok, Err, refl, sym, ap, ◌∙◌, subst, arith, append_assoc}
 use Rattle.std.proofs.lemmas.Bool.{lt-ltb, le-ltb, le-leb, lt-leb}
 use Rattle.std.proofs.lemmas.List.{append-nil, map-append, length-map}
-use Rattle.hol_model.specs.TermGrammar.{TermTree, Enclosed, Apply, infix_level, Lexeme, AtomPiece, OpenPiece, ClosePiece, NotPiece, InfixPiece, BinderPiece}
+use Rattle.hol_model.specs.Texts.TermGrammar.{TermTree, Enclosed, Apply, infix_level, Lexeme, AtomPiece, OpenPiece, ClosePiece, NotPiece, InfixPiece, BinderPiece}
 use Rattle.hol_grammar.specs.declared.term_reader.Waiting.{Waiting}
 use Rattle.hol_grammar.specs.declared.term_reader.Waiting.TheVariants.{Not, Right, Body}
 use Rattle.hol_grammar.specs.declared.term_reader.Open.{Open}

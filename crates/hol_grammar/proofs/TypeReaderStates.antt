@@ -2,8 +2,8 @@
 use Rattle.std.proofs.Common.{◌≡◌, ◌≢◌, Bool, true, false, List, [], ◌∷◌, ◌++◌, Option, None, Some, refl, sym, ap, ◌∙◌, subst, append_assoc, ℕ, Bor, suc, ◌<◌, ◌≤◌, length, nat_lt, Result, Ok, Err, arith}
 use Rattle.std.proofs.lemmas.Bool.{lt-ltb, le-ltb}
 use Rattle.std.proofs.lemmas.List.{map-append}
-use Rattle.hol_model.specs.TypeGrammar.{TypeTree, Named, Enclosed, Function, type_steps}
-use Rattle.hol_model.specs.TypeGrammar as grammar
+use Rattle.hol_model.specs.Texts.TypeGrammar.{TypeTree, Named, Enclosed, Function, type_steps}
+use Rattle.hol_model.specs.Texts.TypeGrammar as grammar
 use Rattle.hol_grammar.specs.declared.type_reader.Open.{Open}
 use Rattle.hol_grammar.specs.declared.type_reader.Open.TheVariants.{Parenthesis as ParenthesisFrame, Arrow as ArrowFrame}
 use Rattle.hol_grammar.specs.declared.type_reader.TypeReader.{TypeReader}

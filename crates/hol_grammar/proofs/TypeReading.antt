@@ -2,8 +2,8 @@
 use Rattle.std.proofs.Common.{◌≡◌, ◌≢◌, ◌+◌, ◌<◌, ◌≤◌, List, [], ◌∷◌, length, Bool, true, false, nat_lt, Option, None, Some, refl, sym, ap, ◌∙◌, subst, arith}
 use Rattle.std.proofs.lemmas.Bool.{lt-ltb, ltb-true}
 use Rattle.hol_model.specs.declared.symbol.Symbol.TheVariants.{Arrow, OpenParenthesis, CloseParenthesis}
-use Rattle.hol_model.specs.Token.{Token, Name, Number, Mark}
-use Rattle.hol_model.specs.TypeGrammar.{TypeTree, Named, Enclosed, Function, IsAtom, IsTypeTree, type_tokens, type_depth, IsRead}
+use Rattle.hol_model.specs.Texts.Token.{Token, Name, Number, Mark}
+use Rattle.hol_model.specs.Texts.TypeGrammar.{TypeTree, Named, Enclosed, Function, IsAtom, IsTypeTree, type_tokens, type_depth, IsRead}
 use Rattle.hol_grammar.specs.TypeReader.{Role, IsName, Opens, Closes, Continues, Stops, role, Pending, Parenthesis, LeftOf, close, Turn, Goes, Ends, Fails, if_room, open_one, closed, finished, turn, run}
 
 -- what stays open, and the atom behind it, once the tokens of a tree are taken

@@ -1,8 +1,8 @@
 -- A turn of the reader is a turn of the machine's run.
 use Rattle.std.proofs.Common.{◌≡◌, ℕ, suc, ◌<◌, Bool, true, false, List, [], ◌∷◌, length, drop, get_or, Option, None, Some, Ok, Err, sym, ap, ◌∙◌, drop-cons}
 use Rattle.std.proofs.lemmas.List.{drop-map}
-use Rattle.hol_model.specs.TypeGrammar.{TypeTree, type_steps}
-use Rattle.hol_model.specs.Token.{Token as TokenModel}
+use Rattle.hol_model.specs.Texts.TypeGrammar.{TypeTree, type_steps}
+use Rattle.hol_model.specs.Texts.Token.{Token as TokenModel}
 use Rattle.hol_grammar.specs.declared.token.Token.{Token}
 use Rattle.hol_grammar.specs.declared.type_reader.TypeReader.{TypeReader}
 use Rattle.hol_grammar.specs.declared.type_reader.ReadError.{ReadError}

@@ -1,8 +1,8 @@
 -- What the parts of the lexer answer.
 use Rattle.std.specs.Prelude.{◌≡◌, ℕ, Bool, List, Option, None, Some, Result, Ok, Err}
 use Rattle.hol_model.specs.declared.symbol.Symbol.{Symbol}
-use Rattle.hol_model.specs.Token.{Token as TokenModel, Mark}
-use Rattle.hol_model.specs.Lexing.{is_letter, is_digit, is_name_byte, is_blank}
+use Rattle.hol_model.specs.Texts.Token.{Token as TokenModel, Mark}
+use Rattle.hol_model.specs.Texts.Lexing.{is_letter, is_digit, is_name_byte, is_blank}
 use Rattle.hol_grammar.specs.declared.lexer.Class.{Class}
 use Rattle.hol_grammar.specs.declared.lexer.Class.TheVariants.{Letter, Digit, NameByte, Blank}
 use Rattle.hol_grammar.specs.declared.token.Token.{Token}

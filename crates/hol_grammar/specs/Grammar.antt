@@ -1,5 +1,5 @@
 -- The infixes and the binders of the code as those of the grammar.
-use Rattle.hol_model.specs.TermGrammar.{Infix, IffInfix, ImpliesInfix, OrInfix, AndInfix, EqualInfix, Binder, Lambda, ForAll, Exists, Choice}
+use Rattle.hol_model.specs.Texts.TermGrammar.{Infix, IffInfix, ImpliesInfix, OrInfix, AndInfix, EqualInfix, Binder, Lambda, ForAll, Exists, Choice}
 use Rattle.hol_grammar.specs.declared.grammar.Infix.{Infix as InfixHere}
 use Rattle.hol_grammar.specs.declared.grammar.Infix.TheVariants.{Iff, Implies, Or, And, Equal}
 use Rattle.hol_grammar.specs.declared.grammar.Binder.{Binder as BinderHere}

@@ -1,9 +1,9 @@
 -- What the reader of pieces answers.
 use Rattle.std.specs.Prelude.{◌≡◌, List, [], ◌∷◌, Bool, true, false, Option, None, Some, Result, Ok, Err}
 use Rattle.std.proofs.Common.{Vec, Global, Bor}
-use Rattle.hol_model.specs.Token.{Token as TokenModel}
-use Rattle.hol_model.specs.TypeGrammar.{TypeTree, type_steps}
-use Rattle.hol_model.specs.TermGrammar.{Lexeme, AtomPiece, OpenPiece, ClosePiece, NotPiece, InfixPiece, BinderPiece}
+use Rattle.hol_model.specs.Texts.Token.{Token as TokenModel}
+use Rattle.hol_model.specs.Texts.TypeGrammar.{TypeTree, type_steps}
+use Rattle.hol_model.specs.Texts.TermGrammar.{Lexeme, AtomPiece, OpenPiece, ClosePiece, NotPiece, InfixPiece, BinderPiece}
 use Rattle.hol_grammar.specs.declared.token.Token.{Token}
 use Rattle.hol_grammar.specs.declared.type_reader.TypeStep.{TypeStep}
 use Rattle.hol_grammar.specs.declared.type_reader.ReadError.{ReadError}

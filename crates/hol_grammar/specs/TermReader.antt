@@ -1,8 +1,8 @@
 -- How a term is read: a machine over pieces with a stack of what is open.
 use Rattle.std.specs.Prelude.{ℕ, ◌+◌, List, [], ◌∷◌, length, Bool, true, false, nat_lt, nat_le, nat_eq, Option, None, Some}
 use Rattle.hol_model.specs.declared.limits.TheConstants.{TERM_NESTING_LIMIT}
-use Rattle.hol_model.specs.TypeGrammar.{TypeTree}
-use Rattle.hol_model.specs.TermGrammar.{Infix, Binder, TermTree, Leaf, Enclosed, Apply, Not, Join, Bind, infix_level, Lexeme, AtomPiece, OpenPiece, ClosePiece, NotPiece, InfixPiece, BinderPiece}
+use Rattle.hol_model.specs.Texts.TypeGrammar.{TypeTree}
+use Rattle.hol_model.specs.Texts.TermGrammar.{Infix, Binder, TermTree, Leaf, Enclosed, Apply, Not, Join, Bind, infix_level, Lexeme, AtomPiece, OpenPiece, ClosePiece, NotPiece, InfixPiece, BinderPiece}
 
 -- What waits for a term on its right.
 pub data Frame : Type 0 where

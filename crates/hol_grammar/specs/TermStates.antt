@@ -3,8 +3,8 @@ use Rattle.std.specs.Prelude.{◌≡◌, ◌⊎◌, false, List, [], ◌∷◌, 
 use Rattle.std.specs.declared.vec.Vec.{Vec}
 use Rattle.std.specs.declared.alloc.Global.{Global}
 use Rattle.hol_model.specs.declared.limits.TheConstants.{TERM_NESTING_LIMIT}
-use Rattle.hol_model.specs.Token.{Token}
-use Rattle.hol_model.specs.TermGrammar.{Infix, Binder, TermTree, infix_level, Lexeme, IsReadTerm}
+use Rattle.hol_model.specs.Texts.Token.{Token}
+use Rattle.hol_model.specs.Texts.TermGrammar.{Infix, Binder, TermTree, infix_level, Lexeme, IsReadTerm}
 use Rattle.hol_grammar.specs.declared.term_reader.Waiting.{Waiting}
 use Rattle.hol_grammar.specs.declared.term_reader.Waiting.TheVariants.{Not, Right, Body}
 use Rattle.hol_grammar.specs.declared.term_reader.Open.{Open}

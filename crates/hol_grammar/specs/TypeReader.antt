@@ -3,8 +3,8 @@ use Rattle.std.specs.Prelude.{ℕ, List, [], ◌∷◌, length, Bool, true, fals
 use Rattle.hol_model.specs.declared.limits.TheConstants.{TYPE_NESTING_LIMIT}
 use Rattle.hol_model.specs.declared.symbol.Symbol.{Symbol}
 use Rattle.hol_model.specs.declared.symbol.Symbol.TheVariants.{Arrow, OpenParenthesis, CloseParenthesis}
-use Rattle.hol_model.specs.Token.{Token, Name, Number, Mark}
-use Rattle.hol_model.specs.TypeGrammar.{TypeTree, Named, Enclosed, Function}
+use Rattle.hol_model.specs.Texts.Token.{Token, Name, Number, Mark}
+use Rattle.hol_model.specs.Texts.TypeGrammar.{TypeTree, Named, Enclosed, Function}
 
 -- What a token is to a type.
 pub data Role : Type 0 where

@@ -1,9 +1,9 @@
 -- What the reader of types keeps.
 use Rattle.std.specs.Prelude.{◌≡◌, Bool, true, false, List, [], ◌∷◌, ◌++◌, Option, None, Some, Result, Ok, Err, is_some, ℕ, ◌<◌, ◌≤◌, length, drop}
 use Rattle.hol_model.specs.declared.limits.TheConstants.{TYPE_NESTING_LIMIT}
-use Rattle.hol_model.specs.Token.{Token}
-use Rattle.hol_model.specs.TypeGrammar.{TypeTree, type_steps, IsRead}
-use Rattle.hol_model.specs.TypeGrammar as grammar
+use Rattle.hol_model.specs.Texts.Token.{Token}
+use Rattle.hol_model.specs.Texts.TypeGrammar.{TypeTree, type_steps, IsRead}
+use Rattle.hol_model.specs.Texts.TypeGrammar as grammar
 use Rattle.hol_grammar.specs.declared.type_reader.Open.{Open as Frame}
 use Rattle.hol_grammar.specs.declared.type_reader.Open.TheVariants.{Parenthesis as ParenthesisFrame, Arrow as ArrowFrame}
 use Rattle.hol_grammar.specs.declared.type_reader.TypeReader.{TypeReader}

@@ -6,8 +6,8 @@ use Rattle.hol_grammar.specs.declared.type_reader.TypeStep.{TypeStep}
 use Rattle.hol_grammar.specs.declared.type_reader.TypeStep.TheVariants.{TakeName, MakeFunction}
 use Rattle.hol_grammar.specs.declared.type_reader.Role.{Role as RoleHere}
 use Rattle.hol_grammar.specs.declared.type_reader.Role.TheVariants.{Name as PartName, Opens as PartOpens, Closes as PartCloses, Continues as PartContinues, Stops as PartStops}
-use Rattle.hol_model.specs.Token.{Token as TokenModel, Name as NameModel, Number as NumberModel, Mark as MarkModel}
-use Rattle.hol_model.specs.TypeGrammar.{TypeStep as StepModel, TakeName as TakeNameModel, MakeFunction as MakeFunctionModel}
+use Rattle.hol_model.specs.Texts.Token.{Token as TokenModel, Name as NameModel, Number as NumberModel, Mark as MarkModel}
+use Rattle.hol_model.specs.Texts.TypeGrammar.{TypeStep as StepModel, TakeName as TakeNameModel, MakeFunction as MakeFunctionModel}
 use Rattle.hol_grammar.specs.TypeReader.{Role, IsName, Opens, Closes, Continues, Stops}
 
 abbrev pub token_of : Token → TokenModel

@@ -1,8 +1,8 @@
 // The lexer: the tokens of a text, in order.
 ghost use Rattle.std.specs.Prelude.{◌≡◌, ◌++◌, List, [], ℕ, Option, None, Some, MatchOption, IfOk, Bool};
-ghost use Rattle.hol_model.specs.Token.{Mark, symbol_text};
-ghost use Rattle.hol_model.specs.Token as model;
-ghost use Rattle.hol_model.specs.Lexing.{is_letter, is_digit, is_name_byte, is_blank, Lexes};
+ghost use Rattle.hol_model.specs.Texts.Token.{Mark, symbol_text};
+ghost use Rattle.hol_model.specs.Texts.Token as model;
+ghost use Rattle.hol_model.specs.Texts.Lexing.{is_letter, is_digit, is_name_byte, is_blank, Lexes};
 ghost use Rattle.hol_grammar.specs.Lexer.{symbols, strip, front, back, symbol_at, number_at, token_at, is_within_limit};
 ghost use Rattle.hol_grammar.specs.Views.{token_of, tokens_of};
 ghost use Rattle.hol_grammar.specs.Classes.{test_of, IsStripped, IsFound, IsFoundToken, IsLexed};

@@ -1,8 +1,8 @@
 // The piece at the front of the tokens.
 ghost use Rattle.std.specs.Prelude.{◌≡◌, [], None, MatchOption, IsTrue, IsFalse};
-ghost use Rattle.hol_model.specs.Token.{token_text};
+ghost use Rattle.hol_model.specs.Texts.Token.{token_text};
 ghost use Rattle.hol_grammar.specs.Grammar.{binder_here};
-ghost use Rattle.hol_model.specs.TermGrammar.{AtomPiece, Variable};
+ghost use Rattle.hol_model.specs.Texts.TermGrammar.{AtomPiece, Variable};
 ghost use Rattle.hol_grammar.specs.TypeReader.{run};
 ghost use Rattle.hol_grammar.specs.Pieces.{type_until, made, EndsVariable, piece_at, typed, binder_piece, bracket_piece, parenthesis_piece, is_colon, names_constant, ending, symbol_start, started};
 ghost use Rattle.hol_grammar.specs.PieceStates.{IsFirst, IsTyped, IsTaken, ending_here, ends_with};

@@ -1,8 +1,8 @@
 // The parser of terms: its open places are in a vector, and its answer is a list of steps.
 ghost use Rattle.std.specs.Prelude.{◌≡◌, ℕ, List, [], ◌+◌, Option, Some, None, OnOk};
-ghost use Rattle.hol_model.specs.TermGrammar.{TermTree, Lexeme, infix_level};
-ghost use Rattle.hol_model.specs.TermGrammar as terms;
-ghost use Rattle.hol_model.specs.TypeGrammar.{TypeTree};
+ghost use Rattle.hol_model.specs.Texts.TermGrammar.{TermTree, Lexeme, infix_level};
+ghost use Rattle.hol_model.specs.Texts.TermGrammar as terms;
+ghost use Rattle.hol_model.specs.Texts.TypeGrammar.{TypeTree};
 ghost use Rattle.hol_grammar.specs.TermReader.{Pending, close, closed, joined, turn, run};
 ghost use Rattle.hol_grammar.specs.TermSteps.{flat_step, TakeAtom, EnterBinder};
 ghost use Rattle.hol_grammar.specs.Grammar.{infix_here, binder_here};

@@ -1,7 +1,7 @@
 // The reader of types: its open places are in a vector, and its answer is a list of steps.
 ghost use Rattle.std.specs.Prelude.{◌≡◌, ◌≢◌, List, [], ◌∷◌, ◌++◌, Option, Some, None, OnOk, MatchBool};
 ghost use Rattle.hol_grammar.specs.declared.type_reader.Open.{Open};
-ghost use Rattle.hol_model.specs.TypeGrammar.{TypeTree};
+ghost use Rattle.hol_model.specs.Texts.TypeGrammar.{TypeTree};
 ghost use Rattle.hol_grammar.specs.TypeReader.{Pending, close, closed, finished, turn, role, open_one, LeftOf, Parenthesis};
 ghost use Rattle.hol_grammar.specs.Views.{token_of, tokens_of, role_of};
 ghost use Rattle.hol_grammar.specs.TypeStates.{IsState, Takes, IsOpened, Reads};

@@ -1,28 +1,28 @@
 -- The lines of the axioms and of definitions are accepted, and give the image of what the kernel answers.
 use Rattle.std.proofs.Common.{◌≡◌, ◌≤◌, ◌<◌, ◌+◌, ℕ, List, [], ◌∷◌, length, true, false, ◌&&◌, not, refl, sym, ◌∙◌, ap, inl, Some, None, Ok, arith, nat_le}
-use Rattle.hol_model.specs.Nameless.{const, image}
-use Rattle.hol_model.specs.Theory.{Theory, Entry, definition, IsLegal}
-use Rattle.hol_model.specs.Theorem.{Theorem}
-use Rattle.hol_model.specs.LogState.{term_type}
+use Rattle.hol_model.specs.Terms.Nameless.{const, image}
+use Rattle.hol_model.specs.Logic.Theory.{Theory, Entry, definition, IsLegal}
+use Rattle.hol_model.specs.Kernel.Theorem.{Theorem}
+use Rattle.hol_model.specs.Logs.LogState.{term_type}
 use Rattle.hol_journal.specs.Steps.{JournalEntry, sequent_of_theorem}
 use Rattle.hol_journal.specs.Lines.{Gives}
 use Rattle.hol_journal.specs.Limits.{FitsLog}
 use Rattle.std.proofs.lemmas.Bool.{leb-false, le-leb}
 use Rattle.hol_model.specs.declared.fault.Fault.TheVariants.{BadName, NotClosed, TypeVarsNotReflected, AlreadyDefined, TooLarge}
 use Rattle.hol_model.specs.declared.limits.TheConstants.{DEFINITIONS_LIMIT}
-use Rattle.hol_model.specs.HolType.{HolType}
-use Rattle.hol_model.specs.Name.{is_constant_name}
-use Rattle.hol_model.specs.NamedTerm.{NamedTerm, constant, type_of, equation}
-use Rattle.hol_model.specs.NamedAxioms.{eta_conclusion, select_hypothesis, select_conclusion}
-use Rattle.hol_model.specs.Legality.{is_closed, reflects, is_new_name, own_type}
-use Rattle.hol_model.specs.Checks.{has_no_free, reflects_nameless}
-use Rattle.hol_model.specs.Outcome.{unless, refused}
-use Rattle.hol_model.specs.Rules.{first_unknown, is_full, with_definition, concluded, define_outcome}
-use Rattle.hol_model.specs.LogSequents.{supposing, equation_of}
+use Rattle.hol_model.specs.Terms.HolType.{HolType}
+use Rattle.hol_model.specs.Terms.Name.{is_constant_name}
+use Rattle.hol_model.specs.Terms.NamedTerm.{NamedTerm, constant, type_of, equation}
+use Rattle.hol_model.specs.Kernel.NamedAxioms.{eta_conclusion, select_hypothesis, select_conclusion}
+use Rattle.hol_model.specs.Logic.Legality.{is_closed, reflects, is_new_name, own_type}
+use Rattle.hol_model.specs.Logic.Checks.{has_no_free, reflects_nameless}
+use Rattle.hol_model.specs.Kernel.Outcome.{unless, refused}
+use Rattle.hol_model.specs.Kernel.Rules.{first_unknown, is_full, with_definition, concluded, define_outcome}
+use Rattle.hol_model.specs.Logs.LogSequents.{supposing, equation_of}
 use Rattle.hol_model.proofs.Tests.{both}
-use Rattle.hol_model.proofs.LogTests.{not_true}
-use Rattle.hol_model.proofs.Checks.{has_no_free-Decides, reflects_nameless-Decides}
-use Rattle.hol_model.proofs.LegalEntries.{closed-HasNoFree, reflects-image}
+use Rattle.hol_model.proofs.Logs.LogTests.{not_true}
+use Rattle.hol_model.proofs.Logic.Checks.{has_no_free-Decides, reflects_nameless-Decides}
+use Rattle.hol_model.proofs.Logic.LegalEntries.{closed-HasNoFree, reflects-image}
 use Rattle.hol_kernel.proofs.DefinitionLemmas.{own_type-is, definition-legal}
 use Rattle.hol_journal.specs.Steps.{by_eta, by_select, by_definition}
 use Rattle.hol_journal.proofs.SequentLemmas.{equation_of-images, term_type-image}

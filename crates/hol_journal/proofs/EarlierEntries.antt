@@ -5,17 +5,17 @@ use Rattle.std.specs.List.{flat_map}
 use Rattle.std.specs.Option.{is_some}
 use Rattle.std.proofs.lemmas.Bool.{leb-true}
 use Rattle.std.proofs.lemmas.Option.{slice_get_within}
-use Rattle.hol_model.specs.HolType.{HolType, type_variable, bool_type, function_type, declared_type}
-use Rattle.hol_model.specs.NamedTerm.{NamedTerm, variable, constant, combination, abstraction}
-use Rattle.hol_model.specs.Derivable.{IsMember}
-use Rattle.hol_model.specs.Theory.{Theory, Entry, definition, declaration_of_type, declaration_of_constant, generic_type, IsLegal}
-use Rattle.hol_model.specs.KnownTerm.{is_declared, knows_type, knows_types, knows_constants, has_instances}
-use Rattle.hol_model.specs.Legality.{is_new_name}
-use Rattle.hol_model.proofs.Membership.{of_append}
+use Rattle.hol_model.specs.Terms.HolType.{HolType, type_variable, bool_type, function_type, declared_type}
+use Rattle.hol_model.specs.Terms.NamedTerm.{NamedTerm, variable, constant, combination, abstraction}
+use Rattle.hol_model.specs.Logic.Derivable.{IsMember}
+use Rattle.hol_model.specs.Logic.Theory.{Theory, Entry, definition, declaration_of_type, declaration_of_constant, generic_type, IsLegal}
+use Rattle.hol_model.specs.Logic.KnownTerm.{is_declared, knows_type, knows_types, knows_constants, has_instances}
+use Rattle.hol_model.specs.Logic.Legality.{is_new_name}
+use Rattle.hol_model.proofs.Terms.Membership.{of_append}
 use Rattle.hol_model.proofs.Tests.{first_of_both, second_of_both}
-use Rattle.hol_model.proofs.TypeTests.{knows_type-Decides, is_new_name-Decides}
-use Rattle.hol_model.proofs.LogTests.{is_there}
-use Rattle.hol_model.proofs.Later.{head_is_new}
+use Rattle.hol_model.proofs.Terms.TypeTests.{knows_type-Decides, is_new_name-Decides}
+use Rattle.hol_model.proofs.Logs.LogTests.{is_there}
+use Rattle.hol_model.proofs.Logic.Later.{head_is_new}
 use Rattle.hol_journal.specs.Steps as steps
 use Rattle.hol_journal.specs.Steps.{Step, by_definition, JournalEntry, derived, declared_constant, terms_of, types_of, entries_of}
 use Rattle.hol_journal.specs.Journal.{Journal, added_by, grown_by, theory_of, IsJournal, IsEntryAfter, KnowsParts}

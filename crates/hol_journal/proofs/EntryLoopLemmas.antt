@@ -4,8 +4,8 @@ use Rattle.std.proofs.Common.{suc}
 use Rattle.std.proofs.lemmas.List.{length-take-le}
 use Rattle.std.specs.List.{list_any}
 use Rattle.std.proofs.lemmas.Bool.Decides.{nat_tests}
-use Rattle.hol_model.specs.Derivable.{IsMember}
-use Rattle.hol_model.proofs.Membership.{of_append}
+use Rattle.hol_model.specs.Logic.Derivable.{IsMember}
+use Rattle.hol_model.proofs.Terms.Membership.{of_append}
 use Rattle.hol_journal.specs.Steps.{JournalEntry, derived, declared_type, declared_constant, terms_of, types_of}
 use Rattle.hol_journal.specs.LogWriting.{Written, Claimed, write_claim, write_claims, write_each, write_entry, write_entries, write_types}
 use Rattle.hol_journal.specs.Writing.{StandBelow, write_marked}

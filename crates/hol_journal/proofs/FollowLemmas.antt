@@ -1,14 +1,14 @@
 -- Each call of the recorder adds an entry that follows.
 use Rattle.std.proofs.Common.{◌≡◌, ℕ, List, [], ◌∷◌, true, refl, sym, subst, inl, inr, Some, None, Ok}
 use Rattle.std.specs.List.{list_all}
-use Rattle.hol_model.specs.HolType.{HolType}
-use Rattle.hol_model.specs.NamedTerm.{NamedTerm, type_of, is_within_limits}
-use Rattle.hol_model.specs.NamedAxioms.{eta_conclusion, select_hypothesis, select_conclusion}
-use Rattle.hol_model.specs.Derivable.{IsMember}
-use Rattle.hol_model.specs.Goals.{Sequent}
-use Rattle.hol_model.specs.Theorem.{Theorem, IsTheorem}
-use Rattle.hol_model.specs.Rules.{refl_outcome, assume_outcome, trans_outcome, eq_mp_outcome, mk_comb_outcome, abs_outcome, beta_outcome, deduct_antisym_outcome, define_outcome}
-use Rattle.hol_model.specs.Instantiation.{IsInst, IsInstType, inst_refusal, inst_type_refusal}
+use Rattle.hol_model.specs.Terms.HolType.{HolType}
+use Rattle.hol_model.specs.Terms.NamedTerm.{NamedTerm, type_of, is_within_limits}
+use Rattle.hol_model.specs.Kernel.NamedAxioms.{eta_conclusion, select_hypothesis, select_conclusion}
+use Rattle.hol_model.specs.Logic.Derivable.{IsMember}
+use Rattle.hol_model.specs.Goals.Goals.{Sequent}
+use Rattle.hol_model.specs.Kernel.Theorem.{Theorem, IsTheorem}
+use Rattle.hol_model.specs.Kernel.Rules.{refl_outcome, assume_outcome, trans_outcome, eq_mp_outcome, mk_comb_outcome, abs_outcome, beta_outcome, deduct_antisym_outcome, define_outcome}
+use Rattle.hol_model.specs.Kernel.Instantiation.{IsInst, IsInstType, inst_refusal, inst_type_refusal}
 use Rattle.hol_journal.specs.Steps.{Step, by_refl, by_trans, by_mk_comb, by_abs, by_beta, by_assume, by_eq_mp, by_deduct, by_inst, by_inst_type, by_eta, by_select, by_definition, sequent_of_theorem}
 use Rattle.hol_journal.specs.Limits.{FitsLog, pair_fits, type_pair_fits}
 use Rattle.hol_journal.specs.Journal.{Journal, Recorded, HasTheorem, Follows, IsJournal, IsMade}

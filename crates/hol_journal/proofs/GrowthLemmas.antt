@@ -1,8 +1,8 @@
 -- Journals only grow.
 use Rattle.std.proofs.Common.{◌≡◌, List, [], ◌∷◌, ◌++◌, sym, ◌∙◌, ap, subst, append_assoc}
 use Rattle.std.specs.Prelude.{slice_get}
-use Rattle.hol_model.specs.Theory.{Theory, IsEarlier}
-use Rattle.hol_model.proofs.Earlier.{earlier-same, earlier-twice}
+use Rattle.hol_model.specs.Logic.Theory.{Theory, IsEarlier}
+use Rattle.hol_model.proofs.Logic.Earlier.{earlier-same, earlier-twice}
 use Rattle.hol_journal.specs.Steps.{derived, sequent_of_theorem}
 use Rattle.hol_journal.specs.Journal.{Journal}
 use Rattle.hol_journal.specs.Growth.{IsGrown, JournalsGrow}

@@ -1,25 +1,25 @@
 -- The lines of INST and INST_TYPE are accepted, and give the image of what the kernel answers.
 use Rattle.std.proofs.Common.{◌≡◌, ℕ, List, [], ◌∷◌, map, Bool, true, false, not, refl, sym, ◌∙◌, ap, inl, inr, if◌then◌else◌, Option, Some, None}
 use Rattle.hol_model.specs.declared.fault.Fault.{Fault}
-use Rattle.hol_model.specs.Nameless.{Nameless, free, image, same_term}
-use Rattle.hol_model.specs.Theory.{Theory}
-use Rattle.hol_model.specs.Derivable.{IsMember}
-use Rattle.hol_model.specs.Theorem.{Theorem}
-use Rattle.hol_model.specs.LogState.{LogState, set_of, term_type}
+use Rattle.hol_model.specs.Terms.Nameless.{Nameless, free, image, same_term}
+use Rattle.hol_model.specs.Logic.Theory.{Theory}
+use Rattle.hol_model.specs.Logic.Derivable.{IsMember}
+use Rattle.hol_model.specs.Kernel.Theorem.{Theorem}
+use Rattle.hol_model.specs.Logs.LogState.{LogState, set_of, term_type}
 use Rattle.hol_journal.specs.Steps.{JournalEntry, sequent_of_theorem}
 use Rattle.hol_journal.specs.Lines.{Numbering, Gives}
 use Rattle.hol_journal.specs.Limits.{FitsLog}
 use Rattle.std.specs.Prelude.{find}
 use Rattle.std.specs.List.{list_all}
 use Rattle.std.specs.Option.{option_map_or}
-use Rattle.hol_model.specs.HolType.{HolType, type_eq, type_instance_of, replaces_type_variables}
-use Rattle.hol_model.specs.NamedTerm.{NamedTerm, variable, constant, combination, abstraction, is_variable, same_variable, type_of}
-use Rattle.hol_model.specs.Substitution.{put, put_all, replacement, is_variable_named, replaces_variables, keeps_types, same_type, instantiate, TermInstance}
-use Rattle.hol_model.specs.Instantiation.{IsChanged, IsInst, IsInstType, inst_refusal, inst_type_refusal, instantiate_all, replacements_refusal, type_replacements_refusal, or_too_large, all_fit}
-use Rattle.hol_model.specs.LogState.{term_pairs_at, type_pairs_at}
-use Rattle.hol_model.specs.LogSequents.{supposing, term_instance_of, is_free_variable}
-use Rattle.hol_model.specs.LogFaults.{some_is_no_term, some_is_no_type, is_replacement}
-use Rattle.hol_model.proofs.HolTypeEq.{type_eq-Decides}
+use Rattle.hol_model.specs.Terms.HolType.{HolType, type_eq, type_instance_of, replaces_type_variables}
+use Rattle.hol_model.specs.Terms.NamedTerm.{NamedTerm, variable, constant, combination, abstraction, is_variable, same_variable, type_of}
+use Rattle.hol_model.specs.Terms.Substitution.{put, put_all, replacement, is_variable_named, replaces_variables, keeps_types, same_type, instantiate, TermInstance}
+use Rattle.hol_model.specs.Kernel.Instantiation.{IsChanged, IsInst, IsInstType, inst_refusal, inst_type_refusal, instantiate_all, replacements_refusal, type_replacements_refusal, or_too_large, all_fit}
+use Rattle.hol_model.specs.Logs.LogState.{term_pairs_at, type_pairs_at}
+use Rattle.hol_model.specs.Logs.LogSequents.{supposing, term_instance_of, is_free_variable}
+use Rattle.hol_model.specs.Logs.LogFaults.{some_is_no_term, some_is_no_type, is_replacement}
+use Rattle.hol_model.proofs.Terms.HolTypeEq.{type_eq-Decides}
 use Rattle.hol_model.proofs.Tests.{first_of_both, second_of_both, both, same_answer, same_name, same_variable-type, same_variable-self, same_term-Decides}
 use Rattle.hol_kernel.proofs.InstanceLemmas.{passes_inst, passes_inst_type}
 use Rattle.hol_journal.specs.Steps.{by_inst, by_inst_type, both_parts}

@@ -1,10 +1,10 @@
 -- One more entry keeps a journal.
 use Rattle.std.proofs.Common.{◌≡◌, ◌⊎◌, ℕ, List, [], ◌∷◌, ◌++◌, length, true, refl, sym, ◌∙◌, ap, subst, inl, inr, nat_le}
 use Rattle.hol_model.specs.declared.limits.TheConstants.{DEFINITIONS_LIMIT}
-use Rattle.hol_model.specs.Theory.{Theory, IsLegal}
-use Rattle.hol_model.specs.Theorem.{IsTheorem}
-use Rattle.hol_model.specs.Derivable.{IsMember}
-use Rattle.hol_model.specs.Goals.{Sequent}
+use Rattle.hol_model.specs.Logic.Theory.{Theory, IsLegal}
+use Rattle.hol_model.specs.Kernel.Theorem.{IsTheorem}
+use Rattle.hol_model.specs.Logic.Derivable.{IsMember}
+use Rattle.hol_model.specs.Goals.Goals.{Sequent}
 use Rattle.hol_journal.specs.Steps.{Step, JournalEntry, derived, derived_sequent, sequent_of_theorem}
 use Rattle.hol_journal.specs.Steps as steps
 use Rattle.hol_journal.specs.Lines.{Gives}

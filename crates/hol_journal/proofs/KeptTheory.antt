@@ -5,15 +5,15 @@ use Rattle.std.specs.Option.{is_some, option_map_or}
 use Rattle.std.specs.Str.{bytes_eq}
 use Rattle.std.proofs.lemmas.Slice.Eq.{bytes_eq-Decides}
 use Rattle.hol_model.specs.declared.limits.TheConstants.{DEFINITIONS_LIMIT}
-use Rattle.hol_model.specs.HolType.{HolType, type_variable, bool_type, function_type, declared_type, is_instance}
-use Rattle.hol_model.specs.NamedTerm.{NamedTerm, variable, constant, combination, abstraction}
-use Rattle.hol_model.specs.Derivable.{IsMember}
-use Rattle.hol_model.specs.Theory.{Theory, Entry, definition, declaration_of_type, declaration_of_constant, generic_type, IsLegal}
-use Rattle.hol_model.specs.KnownTerm.{is_declared, knows_type, knows_types, knows_constants, has_instances}
-use Rattle.hol_model.specs.Legality.{is_new_name}
-use Rattle.hol_model.proofs.Membership.{IsMember-append_left, IsMember-append_right}
+use Rattle.hol_model.specs.Terms.HolType.{HolType, type_variable, bool_type, function_type, declared_type, is_instance}
+use Rattle.hol_model.specs.Terms.NamedTerm.{NamedTerm, variable, constant, combination, abstraction}
+use Rattle.hol_model.specs.Logic.Derivable.{IsMember}
+use Rattle.hol_model.specs.Logic.Theory.{Theory, Entry, definition, declaration_of_type, declaration_of_constant, generic_type, IsLegal}
+use Rattle.hol_model.specs.Logic.KnownTerm.{is_declared, knows_type, knows_types, knows_constants, has_instances}
+use Rattle.hol_model.specs.Logic.Legality.{is_new_name}
+use Rattle.hol_model.proofs.Terms.Membership.{IsMember-append_left, IsMember-append_right}
 use Rattle.hol_model.proofs.Tests.{second_of_both}
-use Rattle.hol_model.proofs.Later.{rest_is_legal}
+use Rattle.hol_model.proofs.Logic.Later.{rest_is_legal}
 use Rattle.hol_journal.specs.Steps as steps
 use Rattle.hol_journal.specs.Steps.{Step, by_refl, by_trans, by_mk_comb, by_abs, by_beta, by_assume, by_eq_mp, by_deduct, by_inst, by_inst_type, by_eta, by_select, by_definition, JournalEntry, derived, declared_constant}
 use Rattle.hol_journal.specs.Journal.{added_by, grown_by, IsKnownWithin, IsKnownTypeWithin}

@@ -2,22 +2,22 @@
 use Rattle.std.proofs.Common.{◌≡◌, ℕ, List, [], ◌∷◌, true, not, refl, sym, ◌∙◌, ap, subst, inl, inr, Some, None, Ok}
 use Rattle.std.specs.List.{list_all}
 use Rattle.hol_model.specs.declared.fault.Fault.TheVariants.{NotBool, NotVariable, NotEquation, NotTrivialBeta, UnknownType, FreeInHypothesis}
-use Rattle.hol_model.specs.HolType.{HolType, is_type_variable, replaces_type_variables}
-use Rattle.hol_model.specs.NamedTerm.{NamedTerm, variable, constant, combination, abstraction, type_of, type_fits, is_within_limits, is_variable, dest_variable, equation}
-use Rattle.hol_model.specs.Nameless.{image}
-use Rattle.hol_model.specs.Derivable.{IsMember}
-use Rattle.hol_model.specs.Theory.{Theory}
-use Rattle.hol_model.specs.Theorem.{Theorem}
-use Rattle.hol_model.specs.KnownTerm.{knows_type, knows_types, has_instances, is_known}
-use Rattle.hol_model.specs.Substitution.{replaces_variables, keeps_types, same_type, put_all}
-use Rattle.hol_model.specs.Outcome.{unless, given, refused}
-use Rattle.hol_model.specs.Rules.{first_unknown, is_formula, concluded, dest_equation, dest_trivial_redex, is_free_in_hypotheses, refl_outcome, assume_outcome, beta_outcome, abs_outcome}
-use Rattle.hol_model.specs.Instantiation.{inst_refusal, inst_type_refusal, replacements_refusal, type_replacements_refusal, all_fit, instantiate_all}
+use Rattle.hol_model.specs.Terms.HolType.{HolType, is_type_variable, replaces_type_variables}
+use Rattle.hol_model.specs.Terms.NamedTerm.{NamedTerm, variable, constant, combination, abstraction, type_of, type_fits, is_within_limits, is_variable, dest_variable, equation}
+use Rattle.hol_model.specs.Terms.Nameless.{image}
+use Rattle.hol_model.specs.Logic.Derivable.{IsMember}
+use Rattle.hol_model.specs.Logic.Theory.{Theory}
+use Rattle.hol_model.specs.Kernel.Theorem.{Theorem}
+use Rattle.hol_model.specs.Logic.KnownTerm.{knows_type, knows_types, has_instances, is_known}
+use Rattle.hol_model.specs.Terms.Substitution.{replaces_variables, keeps_types, same_type, put_all}
+use Rattle.hol_model.specs.Kernel.Outcome.{unless, given, refused}
+use Rattle.hol_model.specs.Kernel.Rules.{first_unknown, is_formula, concluded, dest_equation, dest_trivial_redex, is_free_in_hypotheses, refl_outcome, assume_outcome, beta_outcome, abs_outcome}
+use Rattle.hol_model.specs.Kernel.Instantiation.{inst_refusal, inst_type_refusal, replacements_refusal, type_replacements_refusal, all_fit, instantiate_all}
 use Rattle.hol_model.proofs.Tests.{first_of_both, second_of_both}
-use Rattle.hol_model.proofs.TypeTests.{knows_type-Decides}
-use Rattle.hol_model.proofs.KnownTerms.{image-known}
-use Rattle.hol_model.proofs.NamedTests.{is_known-Decides}
-use Rattle.hol_model.proofs.Known.{IsKnown-type}
+use Rattle.hol_model.proofs.Terms.TypeTests.{knows_type-Decides}
+use Rattle.hol_model.proofs.Logic.KnownTerms.{image-known}
+use Rattle.hol_model.proofs.Terms.NamedTests.{is_known-Decides}
+use Rattle.hol_model.proofs.Logic.Known.{IsKnown-type}
 use Rattle.hol_kernel.proofs.RuleLemmas.{known_term}
 use Rattle.hol_kernel.proofs.InstanceLemmas.{passes_inst, passes_inst_type}
 use Rattle.hol_journal.specs.Steps.{Step, by_inst, by_inst_type, both_parts, terms_of, types_of}

@@ -6,24 +6,24 @@ use Rattle.std.proofs.lemmas.List.{length-map}
 use Rattle.std.proofs.lemmas.List.Folds.{list_all-append}
 use Rattle.std.proofs.lemmas.List.Elements.{All-get_or}
 use Rattle.std.proofs.lemmas.Bool.Decides.{Decides-eqb}
-use Rattle.hol_model.specs.HolType.{HolType, bool_type, type_variable, function_type, declared_type}
-use Rattle.hol_model.specs.NamedTerm.{NamedTerm, variable, constant, combination, abstraction}
-use Rattle.hol_model.specs.Nameless.{Nameless, image, same_term}
-use Rattle.hol_model.specs.Theory.{Theory, IsKnown}
-use Rattle.hol_model.specs.Theorem.{Theorem}
-use Rattle.hol_model.specs.Name.{is_identifier}
-use Rattle.hol_model.specs.Derivable.{IsMember}
-use Rattle.hol_model.specs.LogLine.{LogLine}
-use Rattle.hol_model.specs.LogLine.LogLine.{claim_line, end_line}
-use Rattle.hol_model.specs.LogState.{LogState, terms_at, set_of, same_terms, no_sequent}
-use Rattle.hol_model.specs.LogSequents.{after_line}
-use Rattle.hol_model.specs.LogFaults.{first_cause, is_no_term, has_number_fault, has_claim_fault}
-use Rattle.hol_model.specs.LogLaws.{IsDerivable, IsSoundState}
-use Rattle.hol_model.proofs.Membership.{IsMember-map}
+use Rattle.hol_model.specs.Terms.HolType.{HolType, bool_type, type_variable, function_type, declared_type}
+use Rattle.hol_model.specs.Terms.NamedTerm.{NamedTerm, variable, constant, combination, abstraction}
+use Rattle.hol_model.specs.Terms.Nameless.{Nameless, image, same_term}
+use Rattle.hol_model.specs.Logic.Theory.{Theory, IsKnown}
+use Rattle.hol_model.specs.Kernel.Theorem.{Theorem}
+use Rattle.hol_model.specs.Terms.Name.{is_identifier}
+use Rattle.hol_model.specs.Logic.Derivable.{IsMember}
+use Rattle.hol_model.specs.Logs.LogLine.{LogLine}
+use Rattle.hol_model.specs.Logs.LogLine.LogLine.{claim_line, end_line}
+use Rattle.hol_model.specs.Logs.LogState.{LogState, terms_at, set_of, same_terms, no_sequent}
+use Rattle.hol_model.specs.Logs.LogSequents.{after_line}
+use Rattle.hol_model.specs.Logs.LogFaults.{first_cause, is_no_term, has_number_fault, has_claim_fault}
+use Rattle.hol_model.specs.Logs.LogLaws.{IsDerivable, IsSoundState}
+use Rattle.hol_model.proofs.Terms.Membership.{IsMember-map}
 use Rattle.hol_model.proofs.Tests.{first_of_both, both, same_term-Decides}
-use Rattle.hol_model.proofs.LogTests.{is_there}
-use Rattle.hol_model.proofs.NamedTests.{is_known-Decides}
-use Rattle.hol_model.proofs.Known.{Derivable-known}
+use Rattle.hol_model.proofs.Logs.LogTests.{is_there}
+use Rattle.hol_model.proofs.Terms.NamedTests.{is_known-Decides}
+use Rattle.hol_model.proofs.Logic.Known.{Derivable-known}
 use Rattle.hol_journal.specs.Steps.{derived_sequent, sequent_at, sequent_of_theorem}
 use Rattle.hol_journal.specs.Lines.{NamesTerm, NamesTheorem}
 use Rattle.hol_journal.specs.Journal.{Journal, IsJournal, IsKnownWithin}

@@ -7,22 +7,22 @@ use Rattle.std.proofs.lemmas.List.{length_push}
 use Rattle.std.proofs.lemmas.Bool.Decides.{Decides-eqb}
 use Rattle.std.proofs.lemmas.Option.{slice_get_within, get_or_from_slice_get}
 use Rattle.hol_model.specs.declared.limits.TheConstants.{DEFINITIONS_LIMIT}
-use Rattle.hol_model.specs.HolType.{HolType}
-use Rattle.hol_model.specs.NamedTerm.{NamedTerm}
-use Rattle.hol_model.specs.Nameless.{image}
-use Rattle.hol_model.specs.Name.{is_constant_name, is_declared_type_name}
-use Rattle.hol_model.specs.Derivable.{IsMember}
-use Rattle.hol_model.specs.Goals.{Sequent}
-use Rattle.hol_model.specs.Theory.{Theory, Entry, definition, declaration_of_constant, IsLegal}
-use Rattle.hol_model.specs.Legality.{is_new_name, is_fixed, own_type}
-use Rattle.hol_model.specs.LogLine.LogVersion.{second_version}
-use Rattle.hol_model.specs.LogLine.LogLine.{theorem_line, new_type_line, new_constant_line}
-use Rattle.hol_model.specs.LogState.{LogState, first_state, term_type, no_sequent}
-use Rattle.hol_model.specs.LogSequents.{rule_entries, after_line}
-use Rattle.hol_model.specs.LogFaults.{is_first_version}
-use Rattle.hol_model.proofs.Membership.{IsMember-append_left, IsMember-append_right}
+use Rattle.hol_model.specs.Terms.HolType.{HolType}
+use Rattle.hol_model.specs.Terms.NamedTerm.{NamedTerm}
+use Rattle.hol_model.specs.Terms.Nameless.{image}
+use Rattle.hol_model.specs.Terms.Name.{is_constant_name, is_declared_type_name}
+use Rattle.hol_model.specs.Logic.Derivable.{IsMember}
+use Rattle.hol_model.specs.Goals.Goals.{Sequent}
+use Rattle.hol_model.specs.Logic.Theory.{Theory, Entry, definition, declaration_of_constant, IsLegal}
+use Rattle.hol_model.specs.Logic.Legality.{is_new_name, is_fixed, own_type}
+use Rattle.hol_model.specs.Logs.LogLine.LogVersion.{second_version}
+use Rattle.hol_model.specs.Logs.LogLine.LogLine.{theorem_line, new_type_line, new_constant_line}
+use Rattle.hol_model.specs.Logs.LogState.{LogState, first_state, term_type, no_sequent}
+use Rattle.hol_model.specs.Logs.LogSequents.{rule_entries, after_line}
+use Rattle.hol_model.specs.Logs.LogFaults.{is_first_version}
+use Rattle.hol_model.proofs.Terms.Membership.{IsMember-append_left, IsMember-append_right}
 use Rattle.hol_model.proofs.Tests.{both}
-use Rattle.hol_model.proofs.TypeTests.{knows_type-Decides, is_fixed-Decides, is_new_name-Decides}
+use Rattle.hol_model.proofs.Terms.TypeTests.{knows_type-Decides, is_fixed-Decides, is_new_name-Decides}
 use Rattle.hol_kernel.proofs.DefinitionLemmas.{own_type-is}
 use Rattle.hol_journal.specs.Steps as steps
 use Rattle.hol_journal.specs.Steps.{Step, by_refl, by_trans, by_mk_comb, by_abs, by_beta, by_assume, by_eq_mp, by_deduct, by_inst, by_inst_type, by_eta, by_select, by_definition, JournalEntry, derived, declared_constant, derived_sequent, sequent_at, terms_of, types_of, entries_of}

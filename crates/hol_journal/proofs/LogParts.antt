@@ -5,24 +5,24 @@ use Rattle.std.specs.List.{list_all}
 use Rattle.std.proofs.lemmas.Bool.{leb-true, le-leb, lt-leb}
 use Rattle.std.proofs.lemmas.Option.{slice_get_within, get_or_from_slice_get}
 use Rattle.hol_model.specs.declared.limits.TheConstants.{DEFINITIONS_LIMIT, TYPE_NODES_LIMIT, TERM_NODES_LIMIT, TERM_HEIGHT_LIMIT}
-use Rattle.hol_model.specs.Derivable.{IsMember}
-use Rattle.hol_model.specs.HolType.{HolType, type_variable, bool_type, function_type, declared_type, type_nodes}
-use Rattle.hol_model.specs.NamedTerm.{NamedTerm, variable, constant, combination, abstraction, type_of, type_fits, some_type_fits, types_fit, height, nodes}
-use Rattle.hol_model.specs.Nameless.{Nameless, bound, free, const, app, image}
-use Rattle.hol_model.specs.Measures.{nameless_within_limits}
-use Rattle.hol_model.specs.Theory.{Theory}
-use Rattle.hol_model.specs.KnownTerm.{knows_type, knows_types, knows_constants, has_instances}
-use Rattle.hol_model.specs.Checks.{knows_constant}
-use Rattle.hol_model.specs.LogLine.{LogLine}
-use Rattle.hol_model.specs.LogLine.LogLine.{type_variable_line, bool_line, function_type_line, declared_type_line, variable_line, constant_line, combination_line, abstraction_line}
-use Rattle.hol_model.specs.LogState.{LogState, term_type}
-use Rattle.hol_model.specs.LogSequents.{is_free_variable, abstraction_over, new_types, new_terms}
-use Rattle.hol_model.specs.LogFaults.{takes, is_first_version}
+use Rattle.hol_model.specs.Logic.Derivable.{IsMember}
+use Rattle.hol_model.specs.Terms.HolType.{HolType, type_variable, bool_type, function_type, declared_type, type_nodes}
+use Rattle.hol_model.specs.Terms.NamedTerm.{NamedTerm, variable, constant, combination, abstraction, type_of, type_fits, some_type_fits, types_fit, height, nodes}
+use Rattle.hol_model.specs.Terms.Nameless.{Nameless, bound, free, const, app, image}
+use Rattle.hol_model.specs.Terms.Measures.{nameless_within_limits}
+use Rattle.hol_model.specs.Logic.Theory.{Theory}
+use Rattle.hol_model.specs.Logic.KnownTerm.{knows_type, knows_types, knows_constants, has_instances}
+use Rattle.hol_model.specs.Logic.Checks.{knows_constant}
+use Rattle.hol_model.specs.Logs.LogLine.{LogLine}
+use Rattle.hol_model.specs.Logs.LogLine.LogLine.{type_variable_line, bool_line, function_type_line, declared_type_line, variable_line, constant_line, combination_line, abstraction_line}
+use Rattle.hol_model.specs.Logs.LogState.{LogState, term_type}
+use Rattle.hol_model.specs.Logs.LogSequents.{is_free_variable, abstraction_over, new_types, new_terms}
+use Rattle.hol_model.specs.Logs.LogFaults.{takes, is_first_version}
 use Rattle.hol_model.proofs.Tests.{first_of_both, second_of_both}
-use Rattle.hol_model.proofs.HolTypeEq.{type_eq-Decides}
-use Rattle.hol_model.proofs.Images.{application-typed, image-abstraction}
-use Rattle.hol_model.proofs.Measures.{some_type}
-use Rattle.hol_model.proofs.WithinLimits.{within_limits-image}
+use Rattle.hol_model.proofs.Terms.HolTypeEq.{type_eq-Decides}
+use Rattle.hol_model.proofs.Terms.Images.{application-typed, image-abstraction}
+use Rattle.hol_model.proofs.Terms.Measures.{some_type}
+use Rattle.hol_model.proofs.Terms.WithinLimits.{within_limits-image}
 use Rattle.hol_journal.specs.Journal.{IsKnownWithin, IsKnownTypeWithin}
 use Rattle.hol_journal.specs.LogWriting.{Written, same_line, is_among, place_of, type_line, type_number, term_line, term_number, with_type_line, with_term_line, write_type, write_variable, write_term, write_types, write_terms}
 use Rattle.hol_journal.specs.Lines.{NamesType, NamesTerm}

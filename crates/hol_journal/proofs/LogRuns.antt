@@ -5,19 +5,19 @@ use Rattle.std.specs.List.{list_all, slice_index_or}
 use Rattle.std.proofs.lemmas.List.Folds.{list_all-append}
 use Rattle.std.proofs.lemmas.Bool.{lt-leb}
 use Rattle.std.proofs.lemmas.List.{length_push, get_or_append_left}
-use Rattle.hol_model.specs.HolType.{HolType, bool_type, function_type}
-use Rattle.hol_model.specs.Nameless.{Nameless, bound}
-use Rattle.hol_model.specs.LogLine.{LogLine}
-use Rattle.hol_model.specs.LogLine.LogVersion.{second_version}
-use Rattle.hol_model.specs.LogLine.LogLine.{header_line, type_variable_line, bool_line, function_type_line, declared_type_line, variable_line, constant_line, combination_line, abstraction_line}
-use Rattle.hol_model.specs.LogState.{LogState, first_state, type_at, term_at}
-use Rattle.hol_model.specs.LogSequents.{abstraction_over, new_types, new_terms, new_theorems, new_entries, new_claims, ends, after_line}
-use Rattle.hol_model.specs.LogFaults.{first_cause, has_number_fault, is_no_type, is_no_term}
-use Rattle.hol_model.specs.LogText.{from_line, LogOutcome, log_outcome}
-use Rattle.hol_model.specs.LogLaws.{IsSoundState}
+use Rattle.hol_model.specs.Terms.HolType.{HolType, bool_type, function_type}
+use Rattle.hol_model.specs.Terms.Nameless.{Nameless, bound}
+use Rattle.hol_model.specs.Logs.LogLine.{LogLine}
+use Rattle.hol_model.specs.Logs.LogLine.LogVersion.{second_version}
+use Rattle.hol_model.specs.Logs.LogLine.LogLine.{header_line, type_variable_line, bool_line, function_type_line, declared_type_line, variable_line, constant_line, combination_line, abstraction_line}
+use Rattle.hol_model.specs.Logs.LogState.{LogState, first_state, type_at, term_at}
+use Rattle.hol_model.specs.Logs.LogSequents.{abstraction_over, new_types, new_terms, new_theorems, new_entries, new_claims, ends, after_line}
+use Rattle.hol_model.specs.Logs.LogFaults.{first_cause, has_number_fault, is_no_type, is_no_term}
+use Rattle.hol_model.specs.Logs.LogText.{from_line, LogOutcome, log_outcome}
+use Rattle.hol_model.specs.Logs.LogLaws.{IsSoundState}
 use Rattle.hol_model.proofs.Tests.{first_of_both, second_of_both, first_of_neither, second_of_neither}
-use Rattle.hol_model.proofs.LogTests.{is_there}
-use Rattle.hol_model.proofs.AcceptedLog.{IsFaultless, after_line-sound, first_state-sound}
+use Rattle.hol_model.proofs.Logs.LogTests.{is_there}
+use Rattle.hol_model.proofs.Logs.AcceptedLog.{IsFaultless, after_line-sound, first_state-sound}
 use Rattle.hol_journal.specs.LogAccepted.{has_name, log_of}
 use Rattle.hol_journal.specs.LogWriting.{Written, same_line, is_among, with_line, with_type_line, with_term_line}
 use Rattle.hol_journal.proofs.Showing.{neither}

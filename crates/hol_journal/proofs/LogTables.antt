@@ -7,8 +7,8 @@ use Rattle.std.proofs.lemmas.Bool.Decides.{Decides-eqb}
 use Rattle.std.proofs.lemmas.Slice.Eq.{bytes_eq-Decides}
 use Rattle.std.specs.Str.{bytes_eq}
 use Rattle.hol_model.proofs.Tests.{first_of_both, second_of_both, both}
-use Rattle.hol_model.specs.LogLine.{LogLine}
-use Rattle.hol_model.specs.LogLine.LogLine.{type_variable_line, bool_line, function_type_line, declared_type_line, variable_line, constant_line, combination_line, abstraction_line}
+use Rattle.hol_model.specs.Logs.LogLine.{LogLine}
+use Rattle.hol_model.specs.Logs.LogLine.LogLine.{type_variable_line, bool_line, function_type_line, declared_type_line, variable_line, constant_line, combination_line, abstraction_line}
 use Rattle.hol_journal.specs.LogWriting.{same_line, is_among, place_of}
 
 -- numbers and places

@@ -2,8 +2,8 @@
 use Rattle.std.proofs.Common.{◌≡◌, ℕ, List, map, ap, ◌∙◌, Result, Ok, Err, Vec, Global}
 use Rattle.std.specs.Prelude.{IfOk}
 use Rattle.hol_model.specs.declared.fault.Fault.{Fault}
-use Rattle.hol_model.specs.LogState.{LogState}
-use Rattle.hol_model.specs.LogText.{log_outcome}
+use Rattle.hol_model.specs.Logs.LogState.{LogState}
+use Rattle.hol_model.specs.Logs.LogText.{log_outcome}
 use Rattle.hol_logtext.specs.LogBytes.{log_text, text_of_lines}
 use Rattle.hol_logtext.specs.Lines.{line_of}
 use Rattle.hol_logtext.specs.declared.line.Line.{Line}

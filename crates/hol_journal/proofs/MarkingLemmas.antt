@@ -8,9 +8,9 @@ use Rattle.hol_journal.specs.declared.entry.Entry.{Entry}
 use Rattle.hol_journal.proofs.StepLineLemmas.{both_parts-push}
 use Rattle.std.specs.Str.{bytes_eq}
 use Rattle.std.proofs.lemmas.Slice.Eq.{bytes_eq-Decides}
-use Rattle.hol_model.specs.Derivable.{IsMember}
-use Rattle.hol_model.specs.Goals.{Sequent}
-use Rattle.hol_model.proofs.Membership.{of_append, IsMember-append_left, IsMember-append_right}
+use Rattle.hol_model.specs.Logic.Derivable.{IsMember}
+use Rattle.hol_model.specs.Goals.Goals.{Sequent}
+use Rattle.hol_model.proofs.Terms.Membership.{of_append, IsMember-append_left, IsMember-append_right}
 use Rattle.hol_model.proofs.Tests.{first_of_neither, second_of_neither}
 use Rattle.hol_journal.specs.Steps.{Step, JournalEntry, derived, declared_type, declared_constant, entries_of, both_parts}
 use Rattle.hol_journal.specs.Needed.{names_in, introduced_by, IsNeeded, by_claim, by_citation, by_name, StandOnEarlier, MarksNeeded}

@@ -1,9 +1,9 @@
 -- The pruned log.
 use Rattle.std.proofs.Common.{suc, [], ◌∷◌, ◌++◌, true, inl, inr, refl, ◌≡◌, ℕ, ◌<◌, List, length, Bool, Result, Ok, Err, IfOk, sym, ◌∙◌, ap, subst, arith}
 use Rattle.std.specs.Prelude.{slice_get}
-use Rattle.hol_model.specs.Derivable.{IsMember}
-use Rattle.hol_model.proofs.Membership.{of_map, of_append}
-use Rattle.hol_model.specs.LogLine.{LogLine}
+use Rattle.hol_model.specs.Logic.Derivable.{IsMember}
+use Rattle.hol_model.proofs.Terms.Membership.{of_map, of_append}
+use Rattle.hol_model.specs.Logs.LogLine.{LogLine}
 use Rattle.hol_journal.specs.Steps.{derived, sequent_of_theorem}
 use Rattle.hol_journal.specs.Journal.{Journal, IsJournal}
 use Rattle.hol_journal.specs.Needed.{StandOnEarlier, MarksNeeded}
@@ -13,9 +13,9 @@ use Rattle.hol_journal.specs.LogAccepted.{IsFormulaWithin, IsAccepted, LogsAreAc
 use Rattle.hol_journal.specs.Claims.{claim_of, claims_of}
 use Rattle.hol_journal.specs.declared.claim.Claim.{Claim}
 use Rattle.hol_kernel.specs.KnownFormula.{IsKnownFormula}
-use Rattle.hol_model.specs.Theorem.{Theorem, IsTheorem}
-use Rattle.hol_model.specs.Theory.{Theory}
-use Rattle.hol_model.specs.NamedTerm.{NamedTerm, is_within_limits}
+use Rattle.hol_model.specs.Kernel.Theorem.{Theorem, IsTheorem}
+use Rattle.hol_model.specs.Logic.Theory.{Theory}
+use Rattle.hol_model.specs.Terms.NamedTerm.{NamedTerm, is_within_limits}
 use Rattle.hol_model.proofs.Tests.{first_of_both, second_of_both}
 use Rattle.std.specs.List.{All, list_all}
 use Rattle.hol_journal.specs.Views.{entries_of}

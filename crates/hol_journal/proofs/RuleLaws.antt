@@ -1,28 +1,28 @@
 -- The line of each step is accepted, and gives the image of what the kernel answers.
 use Rattle.std.proofs.Common.{◌≡◌, ℕ, List, [], ◌∷◌, ◌++◌, map, Bool, true, false, ◌&&◌, ◌||◌, not, refl, sym, ◌∙◌, ap, subst, inl, inr, suc, if◌then◌else◌, Option, Some, None, Ok}
-use Rattle.hol_model.specs.HolType.{HolType, bool_type, function_type, type_eq}
-use Rattle.hol_model.specs.NamedTerm.{NamedTerm, variable, combination, abstraction, type_of, application_type, dest_variable, same_variable, equation}
-use Rattle.hol_model.specs.Nameless.{Nameless, free, const, bound, app, lam, image, same_term}
-use Rattle.hol_model.specs.Theory.{Theory}
-use Rattle.hol_model.specs.Derivable.{without}
-use Rattle.hol_model.specs.Theorem.{Theorem, are_alpha_equivalent, with_hypotheses, without_hypothesis}
+use Rattle.hol_model.specs.Terms.HolType.{HolType, bool_type, function_type, type_eq}
+use Rattle.hol_model.specs.Terms.NamedTerm.{NamedTerm, variable, combination, abstraction, type_of, application_type, dest_variable, same_variable, equation}
+use Rattle.hol_model.specs.Terms.Nameless.{Nameless, free, const, bound, app, lam, image, same_term}
+use Rattle.hol_model.specs.Logic.Theory.{Theory}
+use Rattle.hol_model.specs.Logic.Derivable.{without}
+use Rattle.hol_model.specs.Kernel.Theorem.{Theorem, are_alpha_equivalent, with_hypotheses, without_hypothesis}
 use Rattle.hol_model.specs.declared.fault.Fault.TheVariants.{NotBool, NotEquation, NotAlpha, TypeMismatch, NotVariable, UnknownType, FreeInHypothesis, NotTrivialBeta}
-use Rattle.hol_model.specs.Outcome.{unless, given, refused}
-use Rattle.hol_model.specs.Rules.{first_unknown, dest_equation, dest_trivial_redex, is_formula, is_free_in_hypotheses, concluded, refl_outcome, assume_outcome, trans_outcome, eq_mp_outcome, mk_comb_outcome, abs_outcome, beta_outcome, deduct_antisym_outcome}
-use Rattle.hol_model.specs.KnownTerm.{knows_type}
-use Rattle.hol_model.specs.Substitution.{close_at, close, occurs_free, put, only}
-use Rattle.hol_model.proofs.HolTypeEq.{type_eq-self}
+use Rattle.hol_model.specs.Kernel.Outcome.{unless, given, refused}
+use Rattle.hol_model.specs.Kernel.Rules.{first_unknown, dest_equation, dest_trivial_redex, is_formula, is_free_in_hypotheses, concluded, refl_outcome, assume_outcome, trans_outcome, eq_mp_outcome, mk_comb_outcome, abs_outcome, beta_outcome, deduct_antisym_outcome}
+use Rattle.hol_model.specs.Logic.KnownTerm.{knows_type}
+use Rattle.hol_model.specs.Terms.Substitution.{close_at, close, occurs_free, put, only}
+use Rattle.hol_model.proofs.Terms.HolTypeEq.{type_eq-self}
 use Rattle.hol_model.proofs.Tests.{same_name, same_variable-type}
-use Rattle.hol_model.proofs.LogTests.{not_true}
-use Rattle.hol_model.proofs.Filling.{fill_at-close_at}
-use Rattle.hol_model.proofs.Images.{image-typed, image-abstraction, occurs_free-image, application-typed}
+use Rattle.hol_model.proofs.Logs.LogTests.{not_true}
+use Rattle.hol_model.proofs.Terms.Filling.{fill_at-close_at}
+use Rattle.hol_model.proofs.Terms.Images.{image-typed, image-abstraction, occurs_free-image, application-typed}
 use Rattle.hol_kernel.proofs.RuleLemmas.{some_type}
 use Rattle.hol_kernel.proofs.HypothesesLemmas.{image-without_hypothesis}
 use Rattle.hol_kernel.proofs.OrderLemmas.{kept-ordered}
 use Rattle.std.specs.Option.{option_map, option_map_or, is_some}
-use Rattle.hol_model.specs.LogState.{set_of, term_type}
-use Rattle.hol_model.specs.LogSequents.{supposing, equation_of, is_equation, is_free_variable, left_side, right_side, side_type, redex_body, abstraction_over}
-use Rattle.hol_model.specs.LogFaults.{takes, is_free_in_any, is_trivial_redex}
+use Rattle.hol_model.specs.Logs.LogState.{set_of, term_type}
+use Rattle.hol_model.specs.Logs.LogSequents.{supposing, equation_of, is_equation, is_free_variable, left_side, right_side, side_type, redex_body, abstraction_over}
+use Rattle.hol_model.specs.Logs.LogFaults.{takes, is_free_in_any, is_trivial_redex}
 use Rattle.hol_journal.specs.Steps.{by_refl, by_assume, by_trans, by_eq_mp, by_mk_comb, by_abs, by_beta, by_deduct, JournalEntry, sequent_of_theorem}
 use Rattle.hol_journal.specs.Lines.{Gives}
 use Rattle.hol_journal.specs.Limits.{FitsLog}

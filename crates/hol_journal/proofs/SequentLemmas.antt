@@ -2,15 +2,15 @@
 use Rattle.std.proofs.Common.{◌≡◌, List, [], ◌∷◌, ◌++◌, map, refl, sym, ◌∙◌, ap, inl, Some, arith}
 use Rattle.std.specs.declared.cmp.Ordering.{Ordering}
 use Rattle.std.specs.declared.cmp.Ordering.TheVariants.{Less, Equal, Greater}
-use Rattle.hol_model.specs.HolType.{HolType}
-use Rattle.hol_model.specs.NamedTerm.{NamedTerm, type_of, equation}
-use Rattle.hol_model.specs.Nameless.{Nameless, image, nameless_cmp}
-use Rattle.hol_model.specs.Derivable.{nameless_equation}
-use Rattle.hol_model.specs.Theorem.{AreOrdered, by_order, with_hypothesis, with_hypotheses}
-use Rattle.hol_model.specs.LogState.{with_term, with_terms, set_of, term_type}
-use Rattle.hol_model.specs.LogSequents.{equation_of}
-use Rattle.hol_model.proofs.Typing.{nameless_type-is}
-use Rattle.hol_model.proofs.Images.{image-typed, image-equation}
+use Rattle.hol_model.specs.Terms.HolType.{HolType}
+use Rattle.hol_model.specs.Terms.NamedTerm.{NamedTerm, type_of, equation}
+use Rattle.hol_model.specs.Terms.Nameless.{Nameless, image, nameless_cmp}
+use Rattle.hol_model.specs.Logic.Derivable.{nameless_equation}
+use Rattle.hol_model.specs.Kernel.Theorem.{AreOrdered, by_order, with_hypothesis, with_hypotheses}
+use Rattle.hol_model.specs.Logs.LogState.{with_term, with_terms, set_of, term_type}
+use Rattle.hol_model.specs.Logs.LogSequents.{equation_of}
+use Rattle.hol_model.proofs.Terms.Typing.{nameless_type-is}
+use Rattle.hol_model.proofs.Terms.Images.{image-typed, image-equation}
 use Rattle.hol_kernel.proofs.OrderLemmas.{merged-last}
 
 image-with_hypothesis : (xs : List NamedTerm) (new : NamedTerm) → map image (with_hypothesis xs new) ≡ with_term (map image xs) (image new)

@@ -3,23 +3,23 @@ use Rattle.std.proofs.Common.{◌≡◌, ◌+◌, ℕ, List, [], length, Bool, t
 use Rattle.std.specs.Option.{is_some}
 use Rattle.hol_model.specs.declared.fault.Fault.{Fault}
 use Rattle.hol_model.specs.declared.limits.TheConstants.{DEFINITIONS_LIMIT}
-use Rattle.hol_model.specs.HolType.{bool_type}
-use Rattle.hol_model.specs.NamedTerm.{NamedTerm, type_of, is_within_limits}
-use Rattle.hol_model.specs.Nameless.{Nameless}
-use Rattle.hol_model.specs.Theory.{Theory}
-use Rattle.hol_model.specs.Theorem.{Theorem, IsTheorem}
+use Rattle.hol_model.specs.Terms.HolType.{bool_type}
+use Rattle.hol_model.specs.Terms.NamedTerm.{NamedTerm, type_of, is_within_limits}
+use Rattle.hol_model.specs.Terms.Nameless.{Nameless}
+use Rattle.hol_model.specs.Logic.Theory.{Theory}
+use Rattle.hol_model.specs.Kernel.Theorem.{Theorem, IsTheorem}
 use Rattle.hol_model.specs.declared.fault.Fault.TheVariants.{TooLarge}
-use Rattle.hol_model.specs.Outcome.{unless, given, refused}
-use Rattle.hol_model.specs.Rules.{dest_equation, concluded}
-use Rattle.hol_model.proofs.Outcomes.{passed_value}
+use Rattle.hol_model.specs.Kernel.Outcome.{unless, given, refused}
+use Rattle.hol_model.specs.Kernel.Rules.{dest_equation, concluded}
+use Rattle.hol_model.proofs.Kernel.Outcomes.{passed_value}
 use Rattle.hol_kernel.proofs.RuleLemmas.{IsEquation}
 use Rattle.hol_kernel.proofs.RuleLemmas as kernel
-use Rattle.hol_model.specs.Goals.{Sequent}
-use Rattle.hol_model.specs.LogLine.{LogRule}
-use Rattle.hol_model.specs.LogLine.LogLine.{theorem_line}
-use Rattle.hol_model.specs.LogState.{LogState}
-use Rattle.hol_model.specs.LogSequents.{sequent_of, rule_entries}
-use Rattle.hol_model.specs.LogFaults.{first_cause, rule_has_number_fault, rule_has_name_fault, rule_has_type_fault, rule_has_rule_fault, sequent_fits}
+use Rattle.hol_model.specs.Goals.Goals.{Sequent}
+use Rattle.hol_model.specs.Logs.LogLine.{LogRule}
+use Rattle.hol_model.specs.Logs.LogLine.LogLine.{theorem_line}
+use Rattle.hol_model.specs.Logs.LogState.{LogState}
+use Rattle.hol_model.specs.Logs.LogSequents.{sequent_of, rule_entries}
+use Rattle.hol_model.specs.Logs.LogFaults.{first_cause, rule_has_number_fault, rule_has_name_fault, rule_has_type_fault, rule_has_rule_fault, sequent_fits}
 use Rattle.hol_journal.specs.Steps.{Step, JournalEntry, sequent_of_theorem, sequent_at}
 use Rattle.hol_journal.specs.Lines.{Numbering, line_of, NamesParts, MayGoOn, Gives}
 use Rattle.hol_journal.specs.Limits.{FitsLog}

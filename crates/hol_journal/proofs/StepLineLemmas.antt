@@ -1,11 +1,11 @@
 -- The lines of entries and claims over written parts.
 use Rattle.std.proofs.Common.{◌≡◌, ℕ, ◌+◌, ◌<◌, List, [], ◌∷◌, ◌++◌, length, get_or, take, map, Result, Ok, Err, OnOk, refl, sym, ◌∙◌, ap, subst, append_assoc}
 use Rattle.std.proofs.lemmas.List.{take_more}
-use Rattle.hol_model.specs.HolType.{HolType}
-use Rattle.hol_model.specs.NamedTerm.{NamedTerm}
-use Rattle.hol_model.specs.LogLine.{LogRule, LogLine, inst_step, inst_type_step, definition_step}
-use Rattle.hol_model.specs.LogLine.LogLine.{claim_line, theorem_line, new_constant_line}
-use Rattle.hol_model.specs.Goals.{Sequent}
+use Rattle.hol_model.specs.Terms.HolType.{HolType}
+use Rattle.hol_model.specs.Terms.NamedTerm.{NamedTerm}
+use Rattle.hol_model.specs.Logs.LogLine.{LogRule, LogLine, inst_step, inst_type_step, definition_step}
+use Rattle.hol_model.specs.Logs.LogLine.LogLine.{claim_line, theorem_line, new_constant_line}
+use Rattle.hol_model.specs.Goals.Goals.{Sequent}
 use Rattle.hol_journal.specs.Steps.{Step, by_inst, by_inst_type, by_definition, JournalEntry, derived, declared_constant, both_parts, terms_of, types_of}
 use Rattle.hol_journal.specs.LogWriting.{Written, Claimed, with_line, write_claim, write_entry, write_types, number_of_type, number_of_term, number_of_entry}
 use Rattle.hol_journal.specs.Writing.{IsTypeWritten, IsTermWritten, AreTypesWritten, AreTermsWritten, IsStepWritten}

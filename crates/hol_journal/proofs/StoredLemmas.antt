@@ -2,19 +2,19 @@
 use Rattle.std.proofs.Common.{◌≡◌, ℕ, List, [], ◌∷◌, ◌++◌, length, true, not, refl, sym, ◌∙◌, ap, subst, Some, Ok, nat_le}
 use Rattle.hol_model.specs.declared.limits.TheConstants.{DEFINITIONS_LIMIT}
 use Rattle.hol_model.specs.declared.fault.Fault.TheVariants.{BadName, AlreadyDefined, TooLarge, UnknownType, TypeVarsNotReflected}
-use Rattle.hol_model.specs.HolType.{HolType}
-use Rattle.hol_model.specs.NamedTerm.{NamedTerm, constant, type_of, type_fits, is_within_limits, equation}
-use Rattle.hol_model.specs.Nameless.{image}
-use Rattle.hol_model.specs.Name.{is_constant_name, is_declared_type_name}
-use Rattle.hol_model.specs.Legality.{is_new_name, is_fixed, own_type}
-use Rattle.hol_model.specs.KnownTerm.{knows_type}
-use Rattle.hol_model.specs.Outcome.{unless}
-use Rattle.hol_model.specs.Theory as theories
-use Rattle.hol_model.specs.Theory.{Theory, IsLegal, declaration_of_type, declaration_of_constant}
+use Rattle.hol_model.specs.Terms.HolType.{HolType}
+use Rattle.hol_model.specs.Terms.NamedTerm.{NamedTerm, constant, type_of, type_fits, is_within_limits, equation}
+use Rattle.hol_model.specs.Terms.Nameless.{image}
+use Rattle.hol_model.specs.Terms.Name.{is_constant_name, is_declared_type_name}
+use Rattle.hol_model.specs.Logic.Legality.{is_new_name, is_fixed, own_type}
+use Rattle.hol_model.specs.Logic.KnownTerm.{knows_type}
+use Rattle.hol_model.specs.Kernel.Outcome.{unless}
+use Rattle.hol_model.specs.Logic.Theory as theories
+use Rattle.hol_model.specs.Logic.Theory.{Theory, IsLegal, declaration_of_type, declaration_of_constant}
 use Rattle.hol_kernel.proofs.DefinitionLemmas.{declared_type-legal, declared_constant-legal}
-use Rattle.hol_model.specs.Theorem.{Theorem}
-use Rattle.hol_model.specs.Goals.{Sequent}
-use Rattle.hol_model.specs.Rules.{is_full, define_outcome, new_type_outcome, new_const_outcome}
+use Rattle.hol_model.specs.Kernel.Theorem.{Theorem}
+use Rattle.hol_model.specs.Goals.Goals.{Sequent}
+use Rattle.hol_model.specs.Kernel.Rules.{is_full, define_outcome, new_type_outcome, new_const_outcome}
 use Rattle.hol_journal.specs.Steps.{by_definition, JournalEntry, derived, declared_type, declared_constant, sequent_of_theorem}
 use Rattle.hol_journal.specs.Limits.{FitsLog}
 use Rattle.hol_journal.specs.Journal.{Journal, added_by, Follows, IsJournal}

@@ -4,9 +4,9 @@ use Rattle.std.proofs.Common.{eqb, Result, Ok, Err, IfOk, Some, None, length, ar
 use Rattle.std.specs.Prelude.{position, nat_lt}
 use Rattle.std.proofs.lemmas.List.Sums.{prefix_len-le-length}
 use Rattle.std.proofs.lemmas.Bool.Decides.{nat_tests}
-use Rattle.hol_model.specs.HolType.{HolType, function_type}
-use Rattle.hol_model.specs.NamedTerm.{NamedTerm, variable, constant, combination, abstraction}
-use Rattle.hol_model.specs.LogLine.LogLine.{function_type_line, variable_line, constant_line, combination_line, abstraction_line}
+use Rattle.hol_model.specs.Terms.HolType.{HolType, function_type}
+use Rattle.hol_model.specs.Terms.NamedTerm.{NamedTerm, variable, constant, combination, abstraction}
+use Rattle.hol_model.specs.Logs.LogLine.LogLine.{function_type_line, variable_line, constant_line, combination_line, abstraction_line}
 use Rattle.hol_logtext.specs.declared.line.Line.{Line}
 use Rattle.hol_logtext.specs.Lines.{line_of}
 use Rattle.hol_model.specs.declared.fault.Fault.{Fault}
@@ -17,7 +17,7 @@ use Rattle.hol_model.proofs.Tests.{both}
 use Rattle.std.specs.List.{list_any, list_all, position_or_len}
 use Rattle.std.proofs.lemmas.List.Folds.{list_all-append}
 use Rattle.indexmap.specs.IndexSet.{insert_key}
-use Rattle.hol_model.specs.LogLine.{LogLine}
+use Rattle.hol_model.specs.Logs.LogLine.{LogLine}
 use Rattle.hol_journal.specs.LogAccepted.{has_name}
 use Rattle.hol_journal.specs.LogWriting.{Written, same_line, is_among, place_of}
 use Rattle.hol_journal.specs.Writing.{IsTypeLineWritten, IsTermLineWritten, IsTypeWritten, IsTermWritten}

@@ -4,10 +4,10 @@ use Rattle.std.specs.List.{list_any, position_or_len}
 use Rattle.std.specs.Str.{bytes_eq}
 use Rattle.std.proofs.lemmas.Slice.Eq.{bytes_eq-Decides}
 use Rattle.std.proofs.lemmas.Bool.{eq-eqb}
-use Rattle.hol_model.specs.HolType.{HolType, type_variable, bool_type, function_type, declared_type}
-use Rattle.hol_model.specs.NamedTerm.{NamedTerm, variable, constant, combination, abstraction}
-use Rattle.hol_model.specs.LogLine.{LogLine}
-use Rattle.hol_model.specs.LogLine.LogLine.{type_variable_line, bool_line, function_type_line, declared_type_line, variable_line, constant_line, combination_line, abstraction_line}
+use Rattle.hol_model.specs.Terms.HolType.{HolType, type_variable, bool_type, function_type, declared_type}
+use Rattle.hol_model.specs.Terms.NamedTerm.{NamedTerm, variable, constant, combination, abstraction}
+use Rattle.hol_model.specs.Logs.LogLine.{LogLine}
+use Rattle.hol_model.specs.Logs.LogLine.LogLine.{type_variable_line, bool_line, function_type_line, declared_type_line, variable_line, constant_line, combination_line, abstraction_line}
 use Rattle.hol_model.proofs.Tests.{both}
 use Rattle.hol_journal.specs.LogWriting.{Written, same_line, is_among, place_of, type_line, type_number, term_line, term_number, with_type_line, with_term_line, with_type, with_term, write_type, write_variable, write_term, write_each, number_of_type, number_of_term}
 use Rattle.hol_journal.specs.Writing.{IsWritten, AreWritten, IsTypeWritten, IsTermWritten, AreTypesWritten, AreTermsWritten, IsTypeLineWritten, IsTermLineWritten}

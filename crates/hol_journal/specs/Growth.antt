@@ -1,6 +1,6 @@
 -- Journals only grow, and what a recorder made stays its own.
 use Rattle.std.specs.Prelude.{◌≡◌, List, ◌++◌}
-use Rattle.hol_model.specs.Theory.{IsEarlier}
+use Rattle.hol_model.specs.Logic.Theory.{IsEarlier}
 use Rattle.hol_journal.specs.Steps.{Step, JournalEntry}
 use Rattle.hol_journal.specs.Journal.{Journal, Recorded, IsMade, IsRecorded}
 

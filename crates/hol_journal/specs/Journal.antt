@@ -2,15 +2,15 @@
 use Rattle.std.specs.Prelude.{◌≡◌, ℕ, List, [], ◌∷◌, ◌++◌, true, Some, Result, Ok, Err, length, slice_get, nat_le}
 use Rattle.hol_model.specs.declared.fault.Fault.{Fault}
 use Rattle.hol_model.specs.declared.limits.TheConstants.{DEFINITIONS_LIMIT}
-use Rattle.hol_model.specs.HolType.{HolType}
-use Rattle.hol_model.specs.NamedTerm.{NamedTerm, type_of, type_fits, is_within_limits}
-use Rattle.hol_model.specs.KnownTerm.{knows_type, is_known}
-use Rattle.hol_model.specs.Nameless.{image}
-use Rattle.hol_model.specs.Legality.{own_type}
-use Rattle.hol_model.specs.Theory.{Theory, definition, declaration_of_type, declaration_of_constant, IsEarlier, IsLegal}
-use Rattle.hol_model.specs.Theorem.{Theorem}
-use Rattle.hol_model.specs.Derivable.{IsMember}
-use Rattle.hol_model.specs.Goals.{Sequent}
+use Rattle.hol_model.specs.Terms.HolType.{HolType}
+use Rattle.hol_model.specs.Terms.NamedTerm.{NamedTerm, type_of, type_fits, is_within_limits}
+use Rattle.hol_model.specs.Logic.KnownTerm.{knows_type, is_known}
+use Rattle.hol_model.specs.Terms.Nameless.{image}
+use Rattle.hol_model.specs.Logic.Legality.{own_type}
+use Rattle.hol_model.specs.Logic.Theory.{Theory, definition, declaration_of_type, declaration_of_constant, IsEarlier, IsLegal}
+use Rattle.hol_model.specs.Kernel.Theorem.{Theorem}
+use Rattle.hol_model.specs.Logic.Derivable.{IsMember}
+use Rattle.hol_model.specs.Goals.Goals.{Sequent}
 use Rattle.hol_journal.specs.Steps.{Step, by_definition, JournalEntry, derived, declared_type, declared_constant, sequent_of_theorem, terms_of, types_of, entries_of}
 use Rattle.hol_journal.specs.Lines.{Gives}
 

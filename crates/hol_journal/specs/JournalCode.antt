@@ -3,16 +3,16 @@ use Rattle.std.specs.Prelude.{◌≡◌, ℕ, List, refl}
 use Rattle.std.specs.Coded.{Coded, code_by, coded_ℕ, coded_list, coded×}
 use Rattle.std.proofs.Common.{ap}
 use base.Stored.{Gv, gnil, gnum, gcons}
-use Rattle.hol_model.specs.HolType.{HolType}
-use Rattle.hol_model.specs.HolTypeCode.{type_code}
-use Rattle.hol_model.specs.NamedTerm.{NamedTerm}
-use Rattle.hol_model.specs.NamedTermCode.{term_code}
-use Rattle.hol_model.specs.Nameless.{Nameless}
-use Rattle.hol_model.specs.NamelessCode.{nameless_code, theory_code}
-use Rattle.hol_model.specs.Goals.{Sequent}
-use Rattle.hol_model.specs.Theorem.{Theorem}
-use Rattle.hol_model.specs.TheoremCode.{theorem_code}
-use Rattle.hol_model.specs.Theory.{Theory}
+use Rattle.hol_model.specs.Terms.HolType.{HolType}
+use Rattle.hol_model.specs.Terms.HolTypeCode.{type_code}
+use Rattle.hol_model.specs.Terms.NamedTerm.{NamedTerm}
+use Rattle.hol_model.specs.Terms.NamedTermCode.{term_code}
+use Rattle.hol_model.specs.Terms.Nameless.{Nameless}
+use Rattle.hol_model.specs.Terms.NamelessCode.{nameless_code, theory_code}
+use Rattle.hol_model.specs.Goals.Goals.{Sequent}
+use Rattle.hol_model.specs.Kernel.Theorem.{Theorem}
+use Rattle.hol_model.specs.Kernel.TheoremCode.{theorem_code}
+use Rattle.hol_model.specs.Logic.Theory.{Theory}
 use Rattle.hol_journal.specs.Steps.{Step, by_refl, by_trans, by_mk_comb, by_abs, by_beta, by_assume, by_eq_mp, by_deduct, by_inst, by_inst_type, by_eta, by_select, by_definition, JournalEntry, derived, declared_type, declared_constant}
 use Rattle.hol_journal.specs.Journal.{Journal, Recorded}
 

@@ -1,11 +1,11 @@
 -- Sequents and replacements within the limits.
 use Rattle.std.specs.Prelude.{◌≡◌, Bool, true, ◌&&◌}
-use Rattle.hol_model.specs.HolType.{HolType}
-use Rattle.hol_model.specs.NamedTerm.{NamedTerm, type_fits, is_within_limits}
-use Rattle.hol_model.specs.Nameless.{image}
-use Rattle.hol_model.specs.Measures.{nameless_within_limits}
-use Rattle.hol_model.specs.Theorem.{Theorem}
-use Rattle.hol_model.specs.LogFaults.{sequent_fits}
+use Rattle.hol_model.specs.Terms.HolType.{HolType}
+use Rattle.hol_model.specs.Terms.NamedTerm.{NamedTerm, type_fits, is_within_limits}
+use Rattle.hol_model.specs.Terms.Nameless.{image}
+use Rattle.hol_model.specs.Terms.Measures.{nameless_within_limits}
+use Rattle.hol_model.specs.Kernel.Theorem.{Theorem}
+use Rattle.hol_model.specs.Logs.LogFaults.{sequent_fits}
 use Rattle.hol_journal.specs.Steps.{sequent_of_theorem}
 
 -- the image of the term is within the limits

@@ -1,15 +1,15 @@
 -- The log of a journal in which what is needed is marked is accepted.
 use Rattle.std.specs.Prelude.{◌≡◌, List, Bool, true, Some, None, Ok, map}
 use Rattle.std.specs.List.{list_all}
-use Rattle.hol_model.specs.Name.{is_identifier, is_type_variable_name, is_declared_type_name, is_constant_name}
-use Rattle.hol_model.specs.HolType.{bool_type}
-use Rattle.hol_model.specs.NamedTerm.{NamedTerm, type_of, is_within_limits}
-use Rattle.hol_model.specs.Theorem.{IsTheorem}
-use Rattle.hol_model.specs.Derivable.{IsMember}
-use Rattle.hol_model.specs.LogLine.{LogLine}
-use Rattle.hol_model.specs.LogLine.LogLine.{type_variable_line, declared_type_line, variable_line, constant_line}
-use Rattle.hol_model.specs.LogState.{LogState, LogClaim}
-use Rattle.hol_model.specs.LogText.{LogText, log_outcome}
+use Rattle.hol_model.specs.Terms.Name.{is_identifier, is_type_variable_name, is_declared_type_name, is_constant_name}
+use Rattle.hol_model.specs.Terms.HolType.{bool_type}
+use Rattle.hol_model.specs.Terms.NamedTerm.{NamedTerm, type_of, is_within_limits}
+use Rattle.hol_model.specs.Kernel.Theorem.{IsTheorem}
+use Rattle.hol_model.specs.Logic.Derivable.{IsMember}
+use Rattle.hol_model.specs.Logs.LogLine.{LogLine}
+use Rattle.hol_model.specs.Logs.LogLine.LogLine.{type_variable_line, declared_type_line, variable_line, constant_line}
+use Rattle.hol_model.specs.Logs.LogState.{LogState, LogClaim}
+use Rattle.hol_model.specs.Logs.LogText.{LogText, log_outcome}
 use Rattle.hol_journal.specs.Steps.{sequent_of_theorem}
 use Rattle.hol_journal.specs.Journal.{Journal, IsJournal, IsMade}
 use Rattle.hol_journal.specs.Needed.{MarksNeeded}

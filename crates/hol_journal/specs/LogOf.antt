@@ -1,9 +1,9 @@
 -- The text of the pruned log of a journal.
 use Rattle.std.specs.Prelude.{◌≡◌, ◌<◌, ℕ, List, map, length, Ok}
 use Rattle.hol_model.specs.declared.limits.TheConstants.{TEXT_BYTES_LIMIT}
-use Rattle.hol_model.specs.LogLine.{LogLine}
-use Rattle.hol_model.specs.LogState.{LogState}
-use Rattle.hol_model.specs.LogText.{log_outcome}
+use Rattle.hol_model.specs.Logs.LogLine.{LogLine}
+use Rattle.hol_model.specs.Logs.LogState.{LogState}
+use Rattle.hol_model.specs.Logs.LogText.{log_outcome}
 use Rattle.hol_logtext.specs.LogBytes.{log_text, bytes_of_lines}
 use Rattle.hol_journal.specs.Journal.{Journal}
 use Rattle.hol_journal.specs.LogWriting.{Claimed}

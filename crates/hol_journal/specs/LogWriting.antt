@@ -3,12 +3,12 @@
 use Rattle.std.specs.Prelude.{ℕ, ◌+◌, List, [], ◌∷◌, ◌++◌, Bool, true, false, ◌&&◌, ◌==◌, if◌then◌else◌, length, map}
 use Rattle.std.specs.List.{list_any, position_or_len}
 use Rattle.std.specs.Str.{bytes_eq}
-use Rattle.hol_model.specs.HolType.{HolType, type_variable, bool_type, function_type, declared_type}
-use Rattle.hol_model.specs.NamedTerm.{NamedTerm, variable, constant, combination, abstraction}
-use Rattle.hol_model.specs.Theorem.{Theorem}
-use Rattle.hol_model.specs.LogLine.{LogLine}
-use Rattle.hol_model.specs.LogLine.LogVersion.{second_version}
-use Rattle.hol_model.specs.LogLine.LogLine.{header_line, type_variable_line, bool_line, function_type_line, declared_type_line, variable_line, constant_line, combination_line, abstraction_line, new_type_line, new_constant_line, theorem_line, claim_line, end_line}
+use Rattle.hol_model.specs.Terms.HolType.{HolType, type_variable, bool_type, function_type, declared_type}
+use Rattle.hol_model.specs.Terms.NamedTerm.{NamedTerm, variable, constant, combination, abstraction}
+use Rattle.hol_model.specs.Kernel.Theorem.{Theorem}
+use Rattle.hol_model.specs.Logs.LogLine.{LogLine}
+use Rattle.hol_model.specs.Logs.LogLine.LogVersion.{second_version}
+use Rattle.hol_model.specs.Logs.LogLine.LogLine.{header_line, type_variable_line, bool_line, function_type_line, declared_type_line, variable_line, constant_line, combination_line, abstraction_line, new_type_line, new_constant_line, theorem_line, claim_line, end_line}
 use Rattle.hol_journal.specs.Steps as steps
 use Rattle.hol_journal.specs.Steps.{Step, JournalEntry, derived, declared_constant, terms_of, types_of}
 use Rattle.hol_journal.specs.Lines.{Numbering, line_of}

@@ -3,8 +3,8 @@ use Rattle.std.specs.Prelude.{[], ◌≡◌, ◌<◌, ◌≤◌, ◌⊎◌, ◌|
 use Rattle.std.specs.List.{list_any, slice_index_or}
 use Rattle.std.specs.Str.{bytes_eq}
 use Rattle.std.proofs.Common.{Bor}
-use Rattle.hol_model.specs.Derivable.{IsMember}
-use Rattle.hol_model.specs.Goals.{Sequent}
+use Rattle.hol_model.specs.Logic.Derivable.{IsMember}
+use Rattle.hol_model.specs.Goals.Goals.{Sequent}
 use Rattle.hol_journal.specs.Steps.{Step, JournalEntry, derived, entries_of}
 use Rattle.hol_journal.specs.Needed.{names_in, introduced_by, IsNeeded}
 

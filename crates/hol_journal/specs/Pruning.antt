@@ -1,11 +1,11 @@
 -- The pruned log of a journal.
 use Rattle.std.specs.Prelude.{◌≡◌, ℕ, List, ◌∷◌, Bool, true, map}
 use Rattle.std.specs.List.{list_all}
-use Rattle.hol_model.specs.Derivable.{IsMember}
-use Rattle.hol_model.specs.LogLine.{LogLine}
-use Rattle.hol_model.specs.NamedTerm.{NamedTerm}
-use Rattle.hol_model.specs.Theorem.{Theorem, IsTheorem}
-use Rattle.hol_model.specs.Name.{is_identifier}
+use Rattle.hol_model.specs.Logic.Derivable.{IsMember}
+use Rattle.hol_model.specs.Logs.LogLine.{LogLine}
+use Rattle.hol_model.specs.Terms.NamedTerm.{NamedTerm}
+use Rattle.hol_model.specs.Kernel.Theorem.{Theorem, IsTheorem}
+use Rattle.hol_model.specs.Terms.Name.{is_identifier}
 use Rattle.hol_journal.specs.Journal.{Journal, IsMade}
 use Rattle.hol_journal.specs.Needed.{MarksNeeded}
 use Rattle.hol_journal.specs.LogWriting.{Claimed, log_lines}

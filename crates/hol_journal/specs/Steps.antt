@@ -1,11 +1,11 @@
 -- The entries of a journal: how each theorem of a recorder followed, and what was declared.
 use Rattle.std.specs.Prelude.{ℕ, List, [], ◌∷◌, map, Option, Some, slice_get}
-use Rattle.hol_model.specs.HolType.{HolType}
-use Rattle.hol_model.specs.NamedTerm.{NamedTerm}
-use Rattle.hol_model.specs.Nameless.{image}
-use Rattle.hol_model.specs.Goals.{Sequent}
-use Rattle.hol_model.specs.Theorem.{Theorem}
-use Rattle.hol_model.specs.LogState.{no_sequent}
+use Rattle.hol_model.specs.Terms.HolType.{HolType}
+use Rattle.hol_model.specs.Terms.NamedTerm.{NamedTerm}
+use Rattle.hol_model.specs.Terms.Nameless.{image}
+use Rattle.hol_model.specs.Goals.Goals.{Sequent}
+use Rattle.hol_model.specs.Kernel.Theorem.{Theorem}
+use Rattle.hol_model.specs.Logs.LogState.{no_sequent}
 
 -- How a theorem follows: by a rule of HOL Light's `fusion.ml` from the theorems of earlier entries, which are named by
 -- their numbers, or as an axiom or a definition.

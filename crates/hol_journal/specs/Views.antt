@@ -1,9 +1,9 @@
 -- What the entries that a recorder stores stand for.
 use Rattle.std.specs.Prelude.{List, [], map}
 use Rattle.std.specs.String.{string_bytes}
-use Rattle.hol_model.specs.NamedTerm.{constant, equation}
-use Rattle.hol_model.specs.Nameless.{image}
-use Rattle.hol_model.specs.Legality.{own_type}
+use Rattle.hol_model.specs.Terms.NamedTerm.{constant, equation}
+use Rattle.hol_model.specs.Terms.Nameless.{image}
+use Rattle.hol_model.specs.Logic.Legality.{own_type}
 use Rattle.hol_journal.specs.Steps as steps
 use Rattle.hol_journal.specs.Steps.{JournalEntry, derived, declared_type, declared_constant, sequent_of_theorem}
 use Rattle.hol_journal.specs.declared.entry.Rule.{Rule}

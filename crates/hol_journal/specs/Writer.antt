@@ -1,7 +1,7 @@
 -- What a writer has written.
 use Rattle.std.specs.Prelude.{map}
-use Rattle.hol_model.specs.LogLine.{LogLine}
-use Rattle.hol_model.specs.LogLine.LogLine.{type_variable_line, bool_line, function_type_line, declared_type_line, variable_line, constant_line, combination_line, abstraction_line}
+use Rattle.hol_model.specs.Logs.LogLine.{LogLine}
+use Rattle.hol_model.specs.Logs.LogLine.LogLine.{type_variable_line, bool_line, function_type_line, declared_type_line, variable_line, constant_line, combination_line, abstraction_line}
 use Rattle.hol_logtext.specs.Lines.{line_of}
 use Rattle.hol_journal.specs.LogWriting.{Written}
 use Rattle.hol_journal.specs.declared.writer.TypeLine.{TypeLine}

@@ -1,11 +1,11 @@
 -- What a call writes, and the numbers that it answers.
 use Rattle.std.specs.Prelude.{◌≡◌, ◌<◌, ℕ, List, Bool, true, false, map}
 use Rattle.std.specs.List.{list_all}
-use Rattle.hol_model.specs.HolType.{HolType}
-use Rattle.hol_model.specs.NamedTerm.{NamedTerm}
-use Rattle.hol_model.specs.LogLine.{LogRule, LogLine}
+use Rattle.hol_model.specs.Terms.HolType.{HolType}
+use Rattle.hol_model.specs.Terms.NamedTerm.{NamedTerm}
+use Rattle.hol_model.specs.Logs.LogLine.{LogRule, LogLine}
 use Rattle.hol_journal.specs.LogAccepted.{has_name}
-use Rattle.hol_model.specs.Derivable.{IsMember}
+use Rattle.hol_model.specs.Logic.Derivable.{IsMember}
 use Rattle.hol_journal.specs.Steps.{Step, JournalEntry}
 use Rattle.hol_journal.specs.Lines.{line_of}
 use Rattle.hol_journal.specs.LogWriting.{write_parts, write_entry, numbering, Written, place_of, with_type_line, with_term_line, write_each, write_type, write_term, number_of_type, number_of_term}

@@ -1,11 +1,11 @@
 // Theorems and replacements within the limits. Nothing is computed here: the clauses are laws, for callers' proofs.
 ghost use Rattle.std.specs.Prelude.{◌≡◌, true};
 ghost use Rattle.std.specs.List.{list_all};
-ghost use Rattle.hol_model.specs.Nameless.{image};
-ghost use Rattle.hol_model.specs.Measures.{nameless_within_limits};
-ghost use Rattle.hol_model.specs.NamedTerm.{type_fits};
+ghost use Rattle.hol_model.specs.Terms.Nameless.{image};
+ghost use Rattle.hol_model.specs.Terms.Measures.{nameless_within_limits};
+ghost use Rattle.hol_model.specs.Terms.NamedTerm.{type_fits};
 ghost use Rattle.hol_journal.specs.Limits.{fits_log, FitsLog, pair_fits, type_pair_fits};
-ghost use Rattle.hol_model.specs.NamedTerm.{is_within_limits};
+ghost use Rattle.hol_model.specs.Terms.NamedTerm.{is_within_limits};
 ghost use Rattle.hol_journal.specs.Pruning.{IsFitting};
 
 use hol_kernel::Thm;

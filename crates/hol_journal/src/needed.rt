@@ -1,7 +1,7 @@
 // Which entries of a journal the log of some theorems needs.
 ghost use Rattle.std.specs.Prelude.{◌≡◌, ◌<◌, ℕ, List, [], ◌∷◌, ◌++◌, length, slice_get, Some, IfOk, IfErr, OnOk};
 ghost use Rattle.std.specs.List.{flat_map};
-ghost use Rattle.hol_model.specs.Derivable.{IsMember};
+ghost use Rattle.hol_model.specs.Logic.Derivable.{IsMember};
 ghost use Rattle.hol_model.specs.declared.fault.Fault.TheVariants.{Memory};
 ghost use Rattle.hol_journal.specs.Steps as steps;
 ghost use Rattle.hol_journal.specs.Steps.{terms_of, types_of, both_parts};

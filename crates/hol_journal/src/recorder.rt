@@ -1,10 +1,10 @@
 // The recorder.
 ghost use Rattle.std.specs.Prelude.{◌≡◌, [], ◌∷◌, ◌++◌, length, IfOk, IfErr, OnErr, OnOk};
-ghost use Rattle.hol_model.specs.Instantiation as instance;
-ghost use Rattle.hol_model.specs.NamedAxioms as axioms;
-ghost use Rattle.hol_model.specs.Outcome.{Answers, AnswersSuch};
-ghost use Rattle.hol_model.specs.Theory.{IsLegal};
-ghost use Rattle.hol_model.specs.Rules as outcome;
+ghost use Rattle.hol_model.specs.Kernel.Instantiation as instance;
+ghost use Rattle.hol_model.specs.Kernel.NamedAxioms as axioms;
+ghost use Rattle.hol_model.specs.Kernel.Outcome.{Answers, AnswersSuch};
+ghost use Rattle.hol_model.specs.Logic.Theory.{IsLegal};
+ghost use Rattle.hol_model.specs.Kernel.Rules as outcome;
 ghost use Rattle.hol_kernel.specs.Leaving.{leaving};
 ghost use Rattle.hol_model.specs.declared.fault.Fault.TheVariants.{Memory};
 ghost use Rattle.hol_journal.specs.Steps as steps;

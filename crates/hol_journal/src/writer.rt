@@ -1,17 +1,17 @@
 // The lines of a log, as they are written.
 ghost use Rattle.std.specs.Prelude.{◌≡◌, ◌+◌, length, List, [], ◌∷◌, ◌++◌, nat_eq, map, IfOk, IfErr, OnOk, IsTrue, IsFalse};
 ghost use Rattle.std.specs.List.{list_any};
-ghost use Rattle.hol_model.specs.NamedTerm.{NamedTerm};
-ghost use Rattle.hol_model.specs.LogLine.LogLine.{header_line, theorem_line, end_line};
-ghost use Rattle.hol_model.specs.LogLine.LogVersion.{second_version};
+ghost use Rattle.hol_model.specs.Terms.NamedTerm.{NamedTerm};
+ghost use Rattle.hol_model.specs.Logs.LogLine.LogLine.{header_line, theorem_line, end_line};
+ghost use Rattle.hol_model.specs.Logs.LogLine.LogVersion.{second_version};
 ghost use Rattle.hol_model.specs.declared.fault.Fault.TheVariants.{Memory};
 ghost use Rattle.hol_logtext.specs.Lines.{line_of, rule_of};
 ghost use Rattle.hol_journal.specs.Steps.{both_parts};
 ghost use Rattle.hol_journal.specs.Views.{step_of, entry_of, entries_of};
 ghost use Rattle.hol_journal.specs.LogWriting as log;
 ghost use Rattle.hol_journal.specs.LogWriting.{Written, Claimed, nothing_written, number_of_entry, with_line};
-ghost use Rattle.hol_model.specs.NamedTerm.{variable};
-ghost use Rattle.hol_model.specs.Name.{is_identifier};
+ghost use Rattle.hol_model.specs.Terms.NamedTerm.{variable};
+ghost use Rattle.hol_model.specs.Terms.Name.{is_identifier};
 ghost use Rattle.hol_journal.specs.LogAccepted.{has_name};
 ghost use Rattle.hol_journal.specs.Writing.{KeepsNames, StandBelow, write_marked, AreTypesWritten, AreTermsWritten, IsStepWritten, IsTypeLineWritten, IsTermLineWritten, IsTypeWritten, IsTermWritten};
 ghost use Rattle.hol_journal.specs.Claims.{claims_of};

@@ -5,7 +5,7 @@ use Rattle.std.specs.List.{All, slice_index_or}
 use Rattle.std.proofs.lemmas.List.{length-map, map_push, reverse-append}
 use Rattle.std.proofs.lemmas.List.Elements.{All-push}
 use Rattle.hol_model.specs.declared.fault.Fault.{Fault}
-use Rattle.hol_model.specs.LogState.{no_sequent}
+use Rattle.hol_model.specs.Logs.LogState.{no_sequent}
 use Rattle.hol_logtext.specs.Lines.{version_of}
 use Rattle.hol_shared.specs.Terms.{TermTable, name_at, type_at, term_at}
 use Rattle.hol_steps.specs.Known.{Knows, GivesConstant}

@@ -6,15 +6,15 @@ use Rattle.std.specs.Str.{bytes_eq}
 use Rattle.std.proofs.lemmas.List.{map_push, drop_all, length-map}
 use Rattle.std.proofs.lemmas.List.Elements.{All-head, All-tail, All-push}
 use Rattle.std.proofs.lemmas.Option.{get_or_from_slice_get}
-use Rattle.hol_model.specs.Name.{is_identifier}
-use Rattle.hol_model.specs.Nameless.{Nameless, same_term}
-use Rattle.hol_model.specs.LogLine.{claim_line}
-use Rattle.hol_model.specs.LogState as given
-use Rattle.hol_model.specs.LogState.{LogState, LogClaim, same_terms, set_of, terms_at, no_sequent}
-use Rattle.hol_model.specs.LogSequents.{supposing}
-use Rattle.hol_model.specs.LogFaults.{is_no_term}
+use Rattle.hol_model.specs.Terms.Name.{is_identifier}
+use Rattle.hol_model.specs.Terms.Nameless.{Nameless, same_term}
+use Rattle.hol_model.specs.Logs.LogLine.{claim_line}
+use Rattle.hol_model.specs.Logs.LogState as given
+use Rattle.hol_model.specs.Logs.LogState.{LogState, LogClaim, same_terms, set_of, terms_at, no_sequent}
+use Rattle.hol_model.specs.Logs.LogSequents.{supposing}
+use Rattle.hol_model.specs.Logs.LogFaults.{is_no_term}
 use Rattle.hol_model.proofs.Tests.{same_term-Decides, first_of_both, second_of_both}
-use Rattle.hol_model.proofs.LogTests.{same_terms-is}
+use Rattle.hol_model.proofs.Logs.LogTests.{same_terms-is}
 use Rattle.hol_shared.specs.Table.{HaveOneNumber}
 use Rattle.hol_shared.specs.Terms.{TermTable, term_at, IsGrown}
 use Rattle.hol_steps.specs.Hypotheses.{terms_in}

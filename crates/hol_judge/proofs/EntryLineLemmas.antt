@@ -7,14 +7,14 @@ use Rattle.std.proofs.lemmas.Bool.{le-leb, leb-true}
 use Rattle.std.proofs.lemmas.Option.{get_or_from_slice_get}
 use Rattle.hol_model.specs.declared.fault.Cause.TheVariants.{Name, Rule, Large}
 use Rattle.hol_model.specs.declared.limits.TheConstants.{DEFINITIONS_LIMIT}
-use Rattle.hol_model.specs.Name.{is_declared_type_name, is_constant_name}
-use Rattle.hol_model.specs.HolType.{HolType}
-use Rattle.hol_model.specs.Theory.{Theory, generic_type, declaration_of_type, declaration_of_constant}
-use Rattle.hol_model.specs.KnownTerm.{is_declared}
-use Rattle.hol_model.specs.Legality.{is_fixed, is_new_name}
-use Rattle.hol_model.specs.LogLine.{new_type_line, new_constant_line}
-use Rattle.hol_model.specs.LogState as given
-use Rattle.hol_model.specs.LogFaults.{is_first_version}
+use Rattle.hol_model.specs.Terms.Name.{is_declared_type_name, is_constant_name}
+use Rattle.hol_model.specs.Terms.HolType.{HolType}
+use Rattle.hol_model.specs.Logic.Theory.{Theory, generic_type, declaration_of_type, declaration_of_constant}
+use Rattle.hol_model.specs.Logic.KnownTerm.{is_declared}
+use Rattle.hol_model.specs.Logic.Legality.{is_fixed, is_new_name}
+use Rattle.hol_model.specs.Logs.LogLine.{new_type_line, new_constant_line}
+use Rattle.hol_model.specs.Logs.LogState as given
+use Rattle.hol_model.specs.Logs.LogFaults.{is_first_version}
 use Rattle.hol_logtext.specs.Lines.{version_of}
 use Rattle.hol_shared.specs.Terms.{TermTable, name_at, type_at, IsGrown}
 use Rattle.hol_steps.specs.State.{entry_in, theory_in, state_of, IsContents}

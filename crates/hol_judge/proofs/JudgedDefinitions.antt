@@ -5,15 +5,15 @@ use Rattle.std.proofs.lemmas.Option.{get_or_from_slice_get}
 use Rattle.hol_model.specs.declared.limits.TheConstants.{DEFINITIONS_LIMIT}
 use Rattle.hol_model.specs.declared.fault.Cause.{Cause}
 use Rattle.hol_model.specs.declared.fault.Cause.TheVariants.{Number, Name, Rule, Large}
-use Rattle.hol_model.specs.Name.{is_constant_name}
-use Rattle.hol_model.specs.Measures.{nameless_within_limits}
-use Rattle.hol_model.specs.Theory.{generic_type, definition}
-use Rattle.hol_model.specs.Legality.{is_new_name}
-use Rattle.hol_model.specs.LogLine.LogLine.{theorem_line}
-use Rattle.hol_model.specs.LogLine.LogRule.{definition_step}
-use Rattle.hol_model.specs.LogState as given
-use Rattle.hol_model.specs.LogState.{LogState, term_type}
-use Rattle.hol_model.specs.LogFaults.{is_no_term, is_no_new_constant, sequent_fits, first_applying}
+use Rattle.hol_model.specs.Terms.Name.{is_constant_name}
+use Rattle.hol_model.specs.Terms.Measures.{nameless_within_limits}
+use Rattle.hol_model.specs.Logic.Theory.{generic_type, definition}
+use Rattle.hol_model.specs.Logic.Legality.{is_new_name}
+use Rattle.hol_model.specs.Logs.LogLine.LogLine.{theorem_line}
+use Rattle.hol_model.specs.Logs.LogLine.LogRule.{definition_step}
+use Rattle.hol_model.specs.Logs.LogState as given
+use Rattle.hol_model.specs.Logs.LogState.{LogState, term_type}
+use Rattle.hol_model.specs.Logs.LogFaults.{is_no_term, is_no_new_constant, sequent_fits, first_applying}
 use Rattle.hol_shared.specs.Terms.{TermTable, name_at, type_at, term_at, IsGrown}
 use Rattle.hol_steps.specs.State.{theory_in, state_of, IsContents}
 use Rattle.hol_steps.specs.Judged.{NamesTerm, first_fault, Judges}

@@ -4,18 +4,18 @@ use Rattle.std.specs.Prelude.{map}
 use Rattle.std.proofs.lemmas.List.{length-reverse, length-map}
 use Rattle.hol_model.specs.declared.limits.TheConstants.{DEFINITIONS_LIMIT}
 use Rattle.hol_model.specs.declared.fault.Cause.TheVariants.{Number, Name, Kind, Rule, Large}
-use Rattle.hol_model.specs.LogLine.{LogRule}
-use Rattle.hol_model.specs.LogLine.LogLine.{theorem_line}
-use Rattle.hol_model.specs.LogLine.LogRule.{refl_step, trans_step, mk_comb_step, abs_step, beta_step, assume_step, eq_mp_step, deduct_step, inst_step, inst_type_step, eta_step, select_step}
-use Rattle.hol_model.specs.Nameless.{Nameless}
-use Rattle.hol_model.specs.LogState.{LogState}
-use Rattle.hol_model.specs.LogSequents.{sequent_of, rule_entries}
-use Rattle.hol_model.specs.LogFaults.{rule_has_number_fault, rule_has_name_fault, rule_has_type_fault, rule_has_rule_fault, sequent_fits, first_applying}
+use Rattle.hol_model.specs.Logs.LogLine.{LogRule}
+use Rattle.hol_model.specs.Logs.LogLine.LogLine.{theorem_line}
+use Rattle.hol_model.specs.Logs.LogLine.LogRule.{refl_step, trans_step, mk_comb_step, abs_step, beta_step, assume_step, eq_mp_step, deduct_step, inst_step, inst_type_step, eta_step, select_step}
+use Rattle.hol_model.specs.Terms.Nameless.{Nameless}
+use Rattle.hol_model.specs.Logs.LogState.{LogState}
+use Rattle.hol_model.specs.Logs.LogSequents.{sequent_of, rule_entries}
+use Rattle.hol_model.specs.Logs.LogFaults.{rule_has_number_fault, rule_has_name_fault, rule_has_type_fault, rule_has_rule_fault, sequent_fits, first_applying}
 use Rattle.hol_shared.specs.Terms.{TermTable, term_at}
 use Rattle.hol_steps.specs.State.{sequent_in, state_of, entry_in}
 use Rattle.hol_steps.specs.Judged.{NamesTerm, NamesTheorem, first_fault, IsAccepted}
 use Rattle.hol_steps.specs.StepPairs.{term_pairs_in, type_pairs_in, NamesTermPairs, NamesTypePairs}
-use Rattle.hol_model.specs.HolType.{HolType}
+use Rattle.hol_model.specs.Terms.HolType.{HolType}
 use Rattle.hol_steps.specs.Steps as steps
 use Rattle.hol_steps.specs.Steps.{Step, IsStep, step_of, step_cause, IsTaken, Takes}
 use Rattle.hol_steps.specs.declared.state.Theorem.{Theorem}

@@ -9,8 +9,8 @@ use Rattle.indexmap.specs.IndexMap.{insert_entry}
 use Rattle.hol_model.specs.declared.fault.Fault.{Fault}
 use Rattle.hol_model.specs.declared.fault.Fault.TheVariants.{Memory, TooLarge}
 use Rattle.hol_model.specs.declared.limits.TheConstants.{TYPE_NODES_LIMIT}
-use Rattle.hol_model.specs.HolType.{HolType, bool_type, function_type, type_nodes}
-use Rattle.hol_model.specs.Theory.{generic_type, equality_name, choice_name, equality_type, choice_type, type_a}
+use Rattle.hol_model.specs.Terms.HolType.{HolType, bool_type, function_type, type_nodes}
+use Rattle.hol_model.specs.Logic.Theory.{generic_type, equality_name, choice_name, equality_type, choice_type, type_a}
 use Rattle.hol_shared.specs.Growth.{IsLonger}
 use Rattle.hol_shared.specs.Terms.{TermTable, name_at, type_at, IsGrown}
 use Rattle.hol_shared.specs.Entries.{IsEntry}

@@ -3,11 +3,11 @@ use Rattle.std.proofs.Common.{◌≡◌, ℕ, ◌+◌, ◌<◌, ◌≤◌, ◌||
 use Rattle.std.specs.List.{All, list_any}
 use Rattle.std.proofs.lemmas.List.{map_push, drop_all}
 use Rattle.std.proofs.lemmas.List.Elements.{All-push}
-use Rattle.hol_model.specs.HolType.{HolType}
-use Rattle.hol_model.specs.Nameless.{Nameless}
-use Rattle.hol_model.specs.LogState as given
-use Rattle.hol_model.specs.LogState.{LogState}
-use Rattle.hol_model.specs.LogFaults.{is_no_term, is_no_type}
+use Rattle.hol_model.specs.Terms.HolType.{HolType}
+use Rattle.hol_model.specs.Terms.Nameless.{Nameless}
+use Rattle.hol_model.specs.Logs.LogState as given
+use Rattle.hol_model.specs.Logs.LogState.{LogState}
+use Rattle.hol_model.specs.Logs.LogFaults.{is_no_term, is_no_type}
 use Rattle.hol_shared.specs.Terms.{type_at, term_at}
 use Rattle.hol_steps.specs.Judged.{NamesTerm, NamesType}
 use Rattle.hol_steps.specs.StepPairs.{IsFittingPair, IsTypePair, NamesTermPairs, NamesTypePairs}

@@ -4,9 +4,9 @@ use Rattle.std.specs.Prelude.{OnOk, OnErr}
 use Rattle.hol_model.specs.declared.fault.Fault.{Fault}
 use Rattle.hol_model.specs.declared.fault.Cause.{Cause}
 use Rattle.hol_model.specs.declared.fault.Cause.TheVariants.{Shape, Number, Name, Kind, Const, Rule, Claim, Large, End}
-use Rattle.hol_model.specs.LogLine.{LogLine}
-use Rattle.hol_model.specs.LogState.{LogState}
-use Rattle.hol_model.specs.LogFaults.{has_shape_fault, has_number_fault, has_name_fault, has_type_fault, has_constant_fault, has_rule_fault, has_claim_fault, has_size_fault, has_end_fault, first_applying, first_cause}
+use Rattle.hol_model.specs.Logs.LogLine.{LogLine}
+use Rattle.hol_model.specs.Logs.LogState.{LogState}
+use Rattle.hol_model.specs.Logs.LogFaults.{has_shape_fault, has_number_fault, has_name_fault, has_type_fault, has_constant_fault, has_rule_fault, has_claim_fault, has_size_fault, has_end_fault, first_applying, first_cause}
 use Rattle.hol_shared.specs.Terms.{TermTable, IsGrown}
 use Rattle.hol_steps.specs.State.{state_of, IsContents}
 use Rattle.hol_steps.specs.Judged.{CanBeAdded, IsAccepted, first_fault}

@@ -8,17 +8,17 @@ use Rattle.hol_model.specs.declared.fault.Fault.TheVariants.{Memory}
 use Rattle.hol_model.specs.declared.fault.Cause.{Cause}
 use Rattle.hol_model.specs.declared.fault.Cause.TheVariants.{Kind, Const, Large}
 use Rattle.hol_model.specs.declared.limits.TheConstants.{DEFINITIONS_LIMIT}
-use Rattle.hol_model.specs.Name.{is_identifier, is_constant_name}
-use Rattle.hol_model.specs.HolType.{HolType}
-use Rattle.hol_model.specs.NamedTerm.{type_fits}
-use Rattle.hol_model.specs.Nameless.{Nameless, free, const, bound, app, lam, nameless_type}
-use Rattle.hol_model.specs.Measures.{nameless_within_limits}
-use Rattle.hol_model.specs.Checks.{knows_constant}
-use Rattle.hol_model.specs.LogLine.{LogLine, variable_line, constant_line, combination_line, abstraction_line}
-use Rattle.hol_model.specs.LogState as given
-use Rattle.hol_model.specs.LogState.{LogState, type_of_term_at}
-use Rattle.hol_model.specs.LogSequents.{new_types, new_terms, new_theorems, new_entries, new_claims, ends, is_free_variable, abstraction_over}
-use Rattle.hol_model.specs.LogFaults.{has_shape_fault, has_number_fault, has_name_fault, has_type_fault, has_constant_fault, has_rule_fault, has_claim_fault, has_size_fault, takes, sequent_fits, is_no_type, is_no_term}
+use Rattle.hol_model.specs.Terms.Name.{is_identifier, is_constant_name}
+use Rattle.hol_model.specs.Terms.HolType.{HolType}
+use Rattle.hol_model.specs.Terms.NamedTerm.{type_fits}
+use Rattle.hol_model.specs.Terms.Nameless.{Nameless, free, const, bound, app, lam, nameless_type}
+use Rattle.hol_model.specs.Terms.Measures.{nameless_within_limits}
+use Rattle.hol_model.specs.Logic.Checks.{knows_constant}
+use Rattle.hol_model.specs.Logs.LogLine.{LogLine, variable_line, constant_line, combination_line, abstraction_line}
+use Rattle.hol_model.specs.Logs.LogState as given
+use Rattle.hol_model.specs.Logs.LogState.{LogState, type_of_term_at}
+use Rattle.hol_model.specs.Logs.LogSequents.{new_types, new_terms, new_theorems, new_entries, new_claims, ends, is_free_variable, abstraction_over}
+use Rattle.hol_model.specs.Logs.LogFaults.{has_shape_fault, has_number_fault, has_name_fault, has_type_fault, has_constant_fault, has_rule_fault, has_claim_fault, has_size_fault, takes, sequent_fits, is_no_type, is_no_term}
 use Rattle.hol_shared.specs.Terms.{TermTable, name_at, type_at, term_at, IsGrown}
 use Rattle.hol_change.specs.Change.{IsVariable, IsMade}
 use Rattle.hol_steps.specs.State.{theory_in, state_of, IsContents}

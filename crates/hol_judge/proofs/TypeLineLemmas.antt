@@ -4,13 +4,13 @@ use Rattle.std.specs.Prelude.{slice_get}
 use Rattle.std.proofs.lemmas.Option.{get_or_from_slice_get}
 use Rattle.hol_model.specs.declared.fault.Cause.TheVariants.{Kind}
 use Rattle.hol_model.specs.declared.limits.TheConstants.{TYPE_NODES_LIMIT}
-use Rattle.hol_model.specs.Name.{is_declared_type_name}
-use Rattle.hol_model.specs.HolType.{HolType, function_type, declared_type, type_nodes}
-use Rattle.hol_model.specs.NamedTerm.{type_fits}
-use Rattle.hol_model.specs.KnownTerm.{is_declared}
-use Rattle.hol_model.specs.LogLine.{function_type_line, declared_type_line}
-use Rattle.hol_model.specs.LogState as given
-use Rattle.hol_model.specs.LogFaults.{is_first_version}
+use Rattle.hol_model.specs.Terms.Name.{is_declared_type_name}
+use Rattle.hol_model.specs.Terms.HolType.{HolType, function_type, declared_type, type_nodes}
+use Rattle.hol_model.specs.Terms.NamedTerm.{type_fits}
+use Rattle.hol_model.specs.Logic.KnownTerm.{is_declared}
+use Rattle.hol_model.specs.Logs.LogLine.{function_type_line, declared_type_line}
+use Rattle.hol_model.specs.Logs.LogState as given
+use Rattle.hol_model.specs.Logs.LogFaults.{is_first_version}
 use Rattle.hol_logtext.specs.Lines.{version_of}
 use Rattle.hol_shared.specs.Terms.{TermTable, name_at, type_at, IsGrown}
 use Rattle.hol_steps.specs.State.{theory_in, state_of, IsContents}

@@ -1,6 +1,6 @@
 -- What a log has given, with what a line adds.
 use Rattle.std.specs.Prelude.{◌≡◌, ◌∷◌, ◌++◌, ◌||◌}
-use Rattle.hol_model.specs.LogState.{LogState}
+use Rattle.hol_model.specs.Logs.LogState.{LogState}
 use Rattle.hol_shared.specs.Terms.{TermTable}
 use Rattle.hol_steps.specs.State.{state_of, entry_in, theory_in, IsContents}
 use Rattle.hol_steps.specs.Judged.{added_types, added_terms, added_theorems, added_entries, added_claims, is_end}

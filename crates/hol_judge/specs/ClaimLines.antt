@@ -2,10 +2,10 @@
 use Rattle.std.specs.Prelude.{◌≡◌, ℕ, List, Bool, true, false, ◌&&◌, Option, None, Some}
 use Rattle.std.specs.List.{All, list_any}
 use Rattle.std.proofs.Common.{Vec, Global}
-use Rattle.hol_model.specs.Nameless.{Nameless, same_term}
-use Rattle.hol_model.specs.Goals.{Sequent}
-use Rattle.hol_model.specs.LogState.{LogState, same_terms, terms_at}
-use Rattle.hol_model.specs.LogFaults.{is_no_term}
+use Rattle.hol_model.specs.Terms.Nameless.{Nameless, same_term}
+use Rattle.hol_model.specs.Goals.Goals.{Sequent}
+use Rattle.hol_model.specs.Logs.LogState.{LogState, same_terms, terms_at}
+use Rattle.hol_model.specs.Logs.LogFaults.{is_no_term}
 use Rattle.hol_steps.specs.Hypotheses.{terms_in}
 use Rattle.hol_change.specs.Forming.{IsFitting}
 

@@ -1,5 +1,5 @@
 -- What the state of a log stands for.
-use Rattle.hol_model.specs.LogState.{LogState}
+use Rattle.hol_model.specs.Logs.LogState.{LogState}
 use Rattle.hol_steps.specs.State.{state_of, IsContents}
 use Rattle.hol_judge.specs.declared.log.Log.TheInside.{Inside}
 

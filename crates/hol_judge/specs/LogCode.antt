@@ -1,15 +1,15 @@
 -- How a proof tells states of logs apart: a state is stored as the tuple of its fields.
 use Rattle.std.specs.Prelude.{◌≡◌, ℕ, List, Bool, true, false, refl}
 use Rattle.std.specs.Coded.{Coded, code_by, coded×, coded_ℕ, coded_list, coded_bool}
-use Rattle.hol_model.specs.HolType.{HolType}
-use Rattle.hol_model.specs.HolTypeCode.{type_code}
-use Rattle.hol_model.specs.Nameless.{Nameless}
-use Rattle.hol_model.specs.NamelessCode.{nameless_code, theory_code}
-use Rattle.hol_model.specs.Theory.{Theory}
-use Rattle.hol_model.specs.Goals.{Sequent}
-use Rattle.hol_model.specs.LogLine.{LogVersion, first_version, second_version}
-use Rattle.hol_model.specs.LogState.{LogState, LogClaim}
-use Rattle.hol_model.specs.LogFaults.{is_first_version}
+use Rattle.hol_model.specs.Terms.HolType.{HolType}
+use Rattle.hol_model.specs.Terms.HolTypeCode.{type_code}
+use Rattle.hol_model.specs.Terms.Nameless.{Nameless}
+use Rattle.hol_model.specs.Terms.NamelessCode.{nameless_code, theory_code}
+use Rattle.hol_model.specs.Logic.Theory.{Theory}
+use Rattle.hol_model.specs.Goals.Goals.{Sequent}
+use Rattle.hol_model.specs.Logs.LogLine.{LogVersion, first_version, second_version}
+use Rattle.hol_model.specs.Logs.LogState.{LogState, LogClaim}
+use Rattle.hol_model.specs.Logs.LogFaults.{is_first_version}
 
 abbrev sequent_code : Coded Sequent
 sequent_code =

@@ -1,10 +1,10 @@
 -- What a log has given after a line.
 use Rattle.std.specs.Prelude.{◌≡◌, None, Some, Result, Ok, Err}
 use Rattle.hol_model.specs.declared.fault.Cause.{Cause}
-use Rattle.hol_model.specs.LogLine.{LogLine}
-use Rattle.hol_model.specs.LogState.{LogState}
-use Rattle.hol_model.specs.LogSequents.{after_line}
-use Rattle.hol_model.specs.LogFaults.{first_cause}
+use Rattle.hol_model.specs.Logs.LogLine.{LogLine}
+use Rattle.hol_model.specs.Logs.LogState.{LogState}
+use Rattle.hol_model.specs.Logs.LogSequents.{after_line}
+use Rattle.hol_model.specs.Logs.LogFaults.{first_cause}
 
 -- the line is accepted, and adds what it adds
 pub record IsTakenLine (state : LogState) (line : LogLine) (now : LogState) : Type 0 where

@@ -4,8 +4,8 @@ use Rattle.hol_model.specs.declared.fault.Fault.{Fault}
 use Rattle.hol_model.specs.declared.fault.Fault.TheVariants.{Memory}
 use Rattle.hol_model.specs.declared.fault.Cause.{Cause}
 use Rattle.hol_model.specs.declared.fault.Cause.TheVariants.{Large}
-use Rattle.hol_model.specs.Nameless.{Nameless}
-use Rattle.hol_model.specs.Measures.{nameless_within_limits}
+use Rattle.hol_model.specs.Terms.Nameless.{Nameless}
+use Rattle.hol_model.specs.Terms.Measures.{nameless_within_limits}
 use Rattle.hol_steps.specs.declared.state.Addition.{Addition}
 use Rattle.hol_steps.specs.declared.state.Addition.TheVariants.{TermNumber}
 

@@ -2,8 +2,8 @@
 ghost use Rattle.std.specs.Prelude.{◌≡◌, IfOk, IfErr};
 ghost use Rattle.std.specs.List.{All};
 ghost use Rattle.hol_model.specs.declared.fault.Fault.TheVariants.{Memory};
-ghost use Rattle.hol_model.specs.LogLine.{claim_line};
-ghost use Rattle.hol_model.specs.LogState.{same_terms};
+ghost use Rattle.hol_model.specs.Logs.LogLine.{claim_line};
+ghost use Rattle.hol_model.specs.Logs.LogState.{same_terms};
 ghost use Rattle.hol_steps.specs.Hypotheses.{terms_in};
 ghost use Rattle.hol_steps.specs.State.{sequent_in, state_of, IsContents, IsFittingTheorem};
 ghost use Rattle.hol_steps.specs.Judged.{Judges};

@@ -1,5 +1,5 @@
 // The lines of declared types and constants.
-ghost use Rattle.hol_model.specs.LogLine.{new_type_line, new_constant_line};
+ghost use Rattle.hol_model.specs.Logs.LogLine.{new_type_line, new_constant_line};
 ghost use Rattle.hol_steps.specs.State.{IsContents};
 ghost use Rattle.hol_steps.specs.Judged.{Judges};
 

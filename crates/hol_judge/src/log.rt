@@ -1,7 +1,7 @@
 // The state of a log that is read line by line.
 ghost use Rattle.std.specs.Prelude.{◌≡◌, length, IfOk, IfErr};
 ghost use Rattle.hol_model.specs.declared.fault.Fault.TheVariants.{Memory};
-ghost use Rattle.hol_model.specs.LogState.{first_state};
+ghost use Rattle.hol_model.specs.Logs.LogState.{first_state};
 ghost use Rattle.hol_logtext.specs.Lines.{version_of};
 ghost use Rattle.hol_steps.specs.State.{state_of, IsContents};
 
@@ -21,7 +21,7 @@ pub struct Log {
 }
 
 impl Model for Log {
-    ghost use Rattle.hol_model.specs.LogState.{LogState};
+    ghost use Rattle.hol_model.specs.Logs.LogState.{LogState};
     ghost use Rattle.hol_judge.specs.LogCode.{log_code};
 
     ghost Value = { LogState };

@@ -1,7 +1,7 @@
 // What is known before the first line.
 ghost use Rattle.std.specs.Prelude.{◌≡◌, [], Some, slice_get, IfOk, IfErr};
 ghost use Rattle.hol_model.specs.declared.fault.Fault.TheVariants.{Memory};
-ghost use Rattle.hol_model.specs.Theory.{equality_type, choice_type, type_a};
+ghost use Rattle.hol_model.specs.Logic.Theory.{equality_type, choice_type, type_a};
 ghost use Rattle.hol_shared.specs.Terms.{IsGrown};
 ghost use Rattle.hol_steps.specs.Known.{Knows};
 

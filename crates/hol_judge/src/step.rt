@@ -1,9 +1,9 @@
 // What a line with a theorem adds to a log, or why it is refused.
 ghost use Rattle.std.specs.Prelude.{◌≡◌, ◌≤◌, length};
 ghost use Rattle.hol_model.specs.declared.limits.TheConstants.{DEFINITIONS_LIMIT};
-ghost use Rattle.hol_model.specs.LogLine.{LogRule};
-ghost use Rattle.hol_model.specs.LogLine.LogLine.{theorem_line};
-ghost use Rattle.hol_model.specs.LogLine.LogRule.{refl_step, trans_step, mk_comb_step, abs_step, beta_step, assume_step, eq_mp_step, deduct_step, inst_step, inst_type_step, eta_step, select_step, definition_step};
+ghost use Rattle.hol_model.specs.Logs.LogLine.{LogRule};
+ghost use Rattle.hol_model.specs.Logs.LogLine.LogLine.{theorem_line};
+ghost use Rattle.hol_model.specs.Logs.LogLine.LogRule.{refl_step, trans_step, mk_comb_step, abs_step, beta_step, assume_step, eq_mp_step, deduct_step, inst_step, inst_type_step, eta_step, select_step, definition_step};
 ghost use Rattle.hol_logtext.specs.Lines.{rule_of};
 ghost use Rattle.hol_shared.specs.Terms.{TermTable, IsGrown};
 ghost use Rattle.hol_steps.specs.State.{state_of, IsContents};

@@ -1,7 +1,7 @@
 // One line after another.
 ghost use Rattle.std.specs.Prelude.{◌≡◌, IfOk, IfErr};
 ghost use Rattle.hol_model.specs.declared.fault.Fault.TheVariants.{Memory};
-ghost use Rattle.hol_model.specs.LogFaults.{has_end_fault};
+ghost use Rattle.hol_model.specs.Logs.LogFaults.{has_end_fault};
 ghost use Rattle.hol_logtext.specs.Lines.{line_of};
 ghost use Rattle.hol_shared.specs.Terms.{TermTable};
 ghost use Rattle.hol_steps.specs.State.{state_of};

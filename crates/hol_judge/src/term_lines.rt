@@ -1,7 +1,7 @@
 // The lines of terms.
 ghost use Rattle.std.specs.Prelude.{◌≡◌, ◌<◌, length, IfOk};
-ghost use Rattle.hol_model.specs.Nameless.{Nameless};
-ghost use Rattle.hol_model.specs.LogLine.{variable_line, constant_line, combination_line, abstraction_line};
+ghost use Rattle.hol_model.specs.Terms.Nameless.{Nameless};
+ghost use Rattle.hol_model.specs.Logs.LogLine.{variable_line, constant_line, combination_line, abstraction_line};
 ghost use Rattle.hol_shared.specs.Terms.{IsGrown};
 ghost use Rattle.hol_change.specs.Change.{IsMade};
 ghost use Rattle.hol_steps.specs.State.{IsContents};

@@ -1,5 +1,5 @@
 // The lines of types.
-ghost use Rattle.hol_model.specs.LogLine.{type_variable_line, bool_line, function_type_line, declared_type_line};
+ghost use Rattle.hol_model.specs.Logs.LogLine.{type_variable_line, bool_line, function_type_line, declared_type_line};
 ghost use Rattle.hol_steps.specs.State.{IsContents};
 ghost use Rattle.hol_steps.specs.Judged.{Judges};
 

@@ -1,20 +1,20 @@
 -- What passes the tests of definitions and declarations makes a legal theory, and the theorem of a definition.
 use Rattle.std.proofs.Common.{◌≡◌, ℕ, List, [], ◌∷◌, true, false, refl, sym, ◌∙◌, subst, inl, Some, None, Result, Ok, Err, OnOk, OnErr}
-use Rattle.hol_model.specs.HolType.{HolType}
-use Rattle.hol_model.specs.NamedTerm.{NamedTerm, constant, type_of, equation}
-use Rattle.hol_model.specs.Name.{is_constant_name, is_declared_type_name}
-use Rattle.hol_model.specs.Nameless.{image}
-use Rattle.hol_model.specs.Theory.{Theory, Entry, IsEarlier, IsLegal, IsLegalDefinition, IsLegalConstant, IsLegalType, definition, declaration_of_type, declaration_of_constant}
-use Rattle.hol_model.specs.KnownTerm.{knows_type}
-use Rattle.hol_model.specs.Legality.{is_closed, reflects, is_fixed, is_new_name, own_type}
-use Rattle.hol_model.specs.Derivable.Derivable.{definition_rule}
+use Rattle.hol_model.specs.Terms.HolType.{HolType}
+use Rattle.hol_model.specs.Terms.NamedTerm.{NamedTerm, constant, type_of, equation}
+use Rattle.hol_model.specs.Terms.Name.{is_constant_name, is_declared_type_name}
+use Rattle.hol_model.specs.Terms.Nameless.{image}
+use Rattle.hol_model.specs.Logic.Theory.{Theory, Entry, IsEarlier, IsLegal, IsLegalDefinition, IsLegalConstant, IsLegalType, definition, declaration_of_type, declaration_of_constant}
+use Rattle.hol_model.specs.Logic.KnownTerm.{knows_type}
+use Rattle.hol_model.specs.Logic.Legality.{is_closed, reflects, is_fixed, is_new_name, own_type}
+use Rattle.hol_model.specs.Logic.Derivable.Derivable.{definition_rule}
 use Rattle.hol_model.specs.declared.fault.Fault.{Fault}
-use Rattle.hol_model.proofs.Earlier.{earlier-same, earlier-more}
-use Rattle.hol_model.proofs.Images.{image-equation}
-use Rattle.hol_model.proofs.KnownTerms.{knows_type-IsKnownType}
-use Rattle.hol_model.proofs.LegalEntries.{closed-HasNoFree, reflects-image, fixed-has_none, new_name-IsNewName}
-use Rattle.hol_model.specs.Theorem.{IsTheorem}
-use Rattle.hol_model.specs.Rules.{first_unknown, is_full, concluded, define_outcome}
+use Rattle.hol_model.proofs.Logic.Earlier.{earlier-same, earlier-more}
+use Rattle.hol_model.proofs.Terms.Images.{image-equation}
+use Rattle.hol_model.proofs.Logic.KnownTerms.{knows_type-IsKnownType}
+use Rattle.hol_model.proofs.Logic.LegalEntries.{closed-HasNoFree, reflects-image, fixed-has_none, new_name-IsNewName}
+use Rattle.hol_model.specs.Kernel.Theorem.{IsTheorem}
+use Rattle.hol_model.specs.Kernel.Rules.{first_unknown, is_full, concluded, define_outcome}
 use Rattle.hol_kernel.proofs.RuleLemmas.{known_term}
 
 pub own_type-is : (term : NamedTerm) (ty : HolType) → type_of term ≡ Some ty → own_type term ≡ ty

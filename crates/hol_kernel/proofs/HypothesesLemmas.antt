@@ -6,11 +6,11 @@ use Rattle.std.specs.Prelude.{insert}
 use Rattle.std.specs.Option.{option_map, option_map_or}
 use Rattle.std.specs.declared.cmp.Ordering.{Ordering}
 use Rattle.std.specs.declared.cmp.Ordering.TheVariants.{Less, Equal, Greater}
-use Rattle.hol_model.specs.NamedTerm.{NamedTerm}
-use Rattle.hol_model.specs.Nameless.{Nameless, image, nameless_cmp, same_term}
-use Rattle.hol_model.specs.Derivable.{IsMember, IsSameSet, without}
-use Rattle.hol_model.proofs.Orders.{same_from_nameless_cmp}
-use Rattle.hol_model.specs.Theorem.{by_order, are_alpha_equivalent, with_hypothesis, with_hypotheses, without_hypothesis}
+use Rattle.hol_model.specs.Terms.NamedTerm.{NamedTerm}
+use Rattle.hol_model.specs.Terms.Nameless.{Nameless, image, nameless_cmp, same_term}
+use Rattle.hol_model.specs.Logic.Derivable.{IsMember, IsSameSet, without}
+use Rattle.hol_model.proofs.Terms.Orders.{same_from_nameless_cmp}
+use Rattle.hol_model.specs.Kernel.Theorem.{by_order, are_alpha_equivalent, with_hypothesis, with_hypotheses, without_hypothesis}
 use Rattle.hol_kernel.specs.Place.{place_of, shifted}
 
 -- the place

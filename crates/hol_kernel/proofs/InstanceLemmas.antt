@@ -2,21 +2,21 @@
 use Rattle.std.proofs.Common.{◌≡◌, ◌⊎◌, ℕ, zero, suc, ◌<◌, List, [], ◌∷◌, ◌++◌, length, get_or, arith, sym, ◌&&◌, map, Bool, true, false, not, Option, Some, None, refl, ◌∙◌, ap, inl, inr, if◌then◌else◌, find}
 use Rattle.std.specs.List.{list_all}
 use Rattle.std.specs.Option.{option_map_or}
-use Rattle.hol_model.specs.KnownTerm.{knows_type, knows_types, knows_constants, has_instances}
-use Rattle.hol_model.proofs.HolTypeEq.{type_eq-Decides}
+use Rattle.hol_model.specs.Logic.KnownTerm.{knows_type, knows_types, knows_constants, has_instances}
+use Rattle.hol_model.proofs.Terms.HolTypeEq.{type_eq-Decides}
 use Rattle.hol_model.proofs.Tests.{first_of_both, second_of_both, both, same_variable-type}
-use Rattle.hol_model.proofs.KnownTerms.{image-known, knows_type-IsKnownType}
-use Rattle.hol_model.specs.HolType.{HolType, type_variable, type_eq, replaces_type_variables, type_instance_of}
-use Rattle.hol_model.specs.Measures.{nameless_within_limits}
-use Rattle.hol_model.specs.NamedTerm.{NamedTerm, variable, constant, combination, abstraction, type_of}
-use Rattle.hol_model.specs.Nameless.{Nameless, free, image}
-use Rattle.hol_model.specs.Substitution.{replacement, is_variable_named, same_type, keeps_types, replaces_variables}
-use Rattle.hol_model.specs.Theory.{Theory, IsLegal, IsKnown, IsKnownType}
-use Rattle.hol_model.specs.Derivable.{Derivable, MayReplace}
-use Rattle.hol_model.specs.Derivable.Derivable.{same_hypotheses}
+use Rattle.hol_model.proofs.Logic.KnownTerms.{image-known, knows_type-IsKnownType}
+use Rattle.hol_model.specs.Terms.HolType.{HolType, type_variable, type_eq, replaces_type_variables, type_instance_of}
+use Rattle.hol_model.specs.Terms.Measures.{nameless_within_limits}
+use Rattle.hol_model.specs.Terms.NamedTerm.{NamedTerm, variable, constant, combination, abstraction, type_of}
+use Rattle.hol_model.specs.Terms.Nameless.{Nameless, free, image}
+use Rattle.hol_model.specs.Terms.Substitution.{replacement, is_variable_named, same_type, keeps_types, replaces_variables}
+use Rattle.hol_model.specs.Logic.Theory.{Theory, IsLegal, IsKnown, IsKnownType}
+use Rattle.hol_model.specs.Logic.Derivable.{Derivable, MayReplace}
+use Rattle.hol_model.specs.Logic.Derivable.Derivable.{same_hypotheses}
 use Rattle.hol_model.specs.declared.fault.Fault.{Fault}
-use Rattle.hol_model.specs.Instantiation.{all_fit, replacements_refusal, type_replacements_refusal}
-use Rattle.hol_model.specs.Theorem.{IsTheorem, with_hypotheses}
+use Rattle.hol_model.specs.Kernel.Instantiation.{all_fit, replacements_refusal, type_replacements_refusal}
+use Rattle.hol_model.specs.Kernel.Theorem.{IsTheorem, with_hypotheses}
 use Rattle.hol_kernel.proofs.HypothesesLemmas.{with_hypotheses-same_set}
 use Rattle.hol_kernel.proofs.OrderLemmas.{with_hypotheses-ordered}
 

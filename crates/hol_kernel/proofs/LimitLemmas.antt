@@ -4,16 +4,16 @@ use Rattle.std.specs.Prelude.{Result, nat_le}
 use Rattle.std.specs.Option.{option_map_or, is_some}
 use Rattle.std.proofs.lemmas.Bool.{leb-true, le-leb}
 use Rattle.hol_model.specs.declared.limits.TheConstants.{TERM_NODES_LIMIT, TERM_HEIGHT_LIMIT}
-use Rattle.hol_model.specs.HolType.{HolType, bool_type, function_type}
-use Rattle.hol_model.specs.NamedTerm.{NamedTerm, variable, combination, abstraction, dest_variable, application_type, type_of, equality, equation, height, nodes, types_fit, is_within_limits}
+use Rattle.hol_model.specs.Terms.HolType.{HolType, bool_type, function_type}
+use Rattle.hol_model.specs.Terms.NamedTerm.{NamedTerm, variable, combination, abstraction, dest_variable, application_type, type_of, equality, equation, height, nodes, types_fit, is_within_limits}
 use Rattle.hol_model.specs.declared.fault.Fault.{Fault}
 use Rattle.hol_model.specs.declared.fault.Fault.TheVariants.{TooLarge, TypeMismatch}
-use Rattle.hol_model.specs.Theory.{Theory}
-use Rattle.hol_model.specs.Outcome.{Answers, unless}
-use Rattle.hol_model.specs.Theorem.{Theorem, with_hypotheses}
-use Rattle.hol_model.specs.Rules.{dest_equation, limited, concluded, abstraction_outcome, mk_comb_outcome}
-use Rattle.hol_model.specs.Constructors.{equation_outcome}
-use Rattle.hol_model.proofs.HolTypeEq.{type_eq-self}
+use Rattle.hol_model.specs.Logic.Theory.{Theory}
+use Rattle.hol_model.specs.Kernel.Outcome.{Answers, unless}
+use Rattle.hol_model.specs.Kernel.Theorem.{Theorem, with_hypotheses}
+use Rattle.hol_model.specs.Kernel.Rules.{dest_equation, limited, concluded, abstraction_outcome, mk_comb_outcome}
+use Rattle.hol_model.specs.Kernel.Constructors.{equation_outcome}
+use Rattle.hol_model.proofs.Terms.HolTypeEq.{type_eq-self}
 use Rattle.hol_model.proofs.Tests.{first_of_both, second_of_both, both}
 
 below : (n m limit : ℕ) → n ≤ m → nat_le m limit ≡ true → nat_le n limit ≡ true

@@ -4,10 +4,10 @@ use Rattle.std.proofs.lemmas.List.{drop_all}
 use Rattle.std.specs.Ordering.{ordering_reverse}
 use Rattle.std.specs.declared.cmp.Ordering.{Ordering}
 use Rattle.std.specs.declared.cmp.Ordering.TheVariants.{Less, Equal, Greater}
-use Rattle.hol_model.specs.NamedTerm.{NamedTerm}
-use Rattle.hol_model.specs.Nameless.{Nameless, image, nameless_cmp}
-use Rattle.hol_model.specs.Theorem.{IsBefore, AreOrdered, by_order, with_hypothesis, with_hypotheses}
-use Rattle.hol_model.proofs.TotalOrders.{nameless_cmp-IsOrder}
+use Rattle.hol_model.specs.Terms.NamedTerm.{NamedTerm}
+use Rattle.hol_model.specs.Terms.Nameless.{Nameless, image, nameless_cmp}
+use Rattle.hol_model.specs.Kernel.Theorem.{IsBefore, AreOrdered, by_order, with_hypothesis, with_hypotheses}
+use Rattle.hol_model.proofs.Terms.TotalOrders.{nameless_cmp-IsOrder}
 use Rattle.hol_kernel.proofs.HypothesesLemmas.{drop-here}
 
 reversed : (s t : Nameless) (order : Ordering) → nameless_cmp s t ≡ order → nameless_cmp t s ≡ ordering_reverse order

@@ -4,25 +4,25 @@ use Rattle.std.specs.Option.{option_map, option_map_or}
 use Rattle.std.specs.Str.{bytes_eq}
 use Rattle.std.proofs.lemmas.Slice.Eq.{bytes_eq-Decides}
 use Rattle.hol_model.specs.declared.fault.Fault.{Fault}
-use Rattle.hol_model.specs.HolType.{HolType, bool_type, function_type, type_eq, instantiate_type}
-use Rattle.hol_model.specs.NamedTerm.{NamedTerm, variable, constant, combination, abstraction, type_of, application_type, same_variable, is_free, dest_variable, equation}
-use Rattle.hol_model.specs.Nameless.{free, const, app, lam, HasType, image}
-use Rattle.hol_model.specs.Substitution.{close, occurs_free}
-use Rattle.hol_model.specs.Theory.{Theory, IsLegal, IsEarlier, IsKnown, IsKnownType, equality_name, equality_type, type_a, generic_type}
-use Rattle.hol_model.specs.KnownTerm.{knows_type, knows_types, knows_constants, has_instances}
-use Rattle.hol_model.specs.Derivable.{Derivable, IsMember, NotFreeInAny, nameless_equation}
-use Rattle.hol_model.specs.Derivable.Derivable.{same_hypotheses, refl_rule, trans_rule, mk_comb_rule, abs_rule, beta_rule, assume_rule, eq_mp_rule, deduct_antisym_rule, eta_rule, select_rule}
-use Rattle.hol_model.proofs.HolTypeEq.{type_eq-Decides}
+use Rattle.hol_model.specs.Terms.HolType.{HolType, bool_type, function_type, type_eq, instantiate_type}
+use Rattle.hol_model.specs.Terms.NamedTerm.{NamedTerm, variable, constant, combination, abstraction, type_of, application_type, same_variable, is_free, dest_variable, equation}
+use Rattle.hol_model.specs.Terms.Nameless.{free, const, app, lam, HasType, image}
+use Rattle.hol_model.specs.Terms.Substitution.{close, occurs_free}
+use Rattle.hol_model.specs.Logic.Theory.{Theory, IsLegal, IsEarlier, IsKnown, IsKnownType, equality_name, equality_type, type_a, generic_type}
+use Rattle.hol_model.specs.Logic.KnownTerm.{knows_type, knows_types, knows_constants, has_instances}
+use Rattle.hol_model.specs.Logic.Derivable.{Derivable, IsMember, NotFreeInAny, nameless_equation}
+use Rattle.hol_model.specs.Logic.Derivable.Derivable.{same_hypotheses, refl_rule, trans_rule, mk_comb_rule, abs_rule, beta_rule, assume_rule, eq_mp_rule, deduct_antisym_rule, eta_rule, select_rule}
+use Rattle.hol_model.proofs.Terms.HolTypeEq.{type_eq-Decides}
 use Rattle.hol_model.proofs.Tests.{same_name, same_variable-type, first_of_both, second_of_both}
-use Rattle.hol_model.proofs.Later.{Derivable-earlier}
-use Rattle.hol_model.proofs.Typing.{one_type}
-use Rattle.hol_model.proofs.Known.{Derivable-known, generic_type-logical}
-use Rattle.hol_model.proofs.Images.{image-typed, image-type, image-equation, image-abstraction, occurs_free-image, application-typed}
-use Rattle.hol_model.proofs.KnownTerms.{image-known, knows_type-IsKnownType}
-use Rattle.hol_model.specs.NamedAxioms.{eta_conclusion, select_hypothesis, select_conclusion}
-use Rattle.hol_model.specs.Outcome.{Answers}
-use Rattle.hol_model.specs.Theorem.{Theorem, IsTheorem, are_alpha_equivalent, with_hypotheses, without_hypothesis}
-use Rattle.hol_model.specs.Rules.{first_unknown, dest_equation, dest_trivial_redex, is_formula, is_free_in_hypotheses, concluded, mk_comb_outcome, abs_outcome}
+use Rattle.hol_model.proofs.Logic.Later.{Derivable-earlier}
+use Rattle.hol_model.proofs.Terms.Typing.{one_type}
+use Rattle.hol_model.proofs.Logic.Known.{Derivable-known, generic_type-logical}
+use Rattle.hol_model.proofs.Terms.Images.{image-typed, image-type, image-equation, image-abstraction, occurs_free-image, application-typed}
+use Rattle.hol_model.proofs.Logic.KnownTerms.{image-known, knows_type-IsKnownType}
+use Rattle.hol_model.specs.Kernel.NamedAxioms.{eta_conclusion, select_hypothesis, select_conclusion}
+use Rattle.hol_model.specs.Kernel.Outcome.{Answers}
+use Rattle.hol_model.specs.Kernel.Theorem.{Theorem, IsTheorem, are_alpha_equivalent, with_hypotheses, without_hypothesis}
+use Rattle.hol_model.specs.Kernel.Rules.{first_unknown, dest_equation, dest_trivial_redex, is_formula, is_free_in_hypotheses, concluded, mk_comb_outcome, abs_outcome}
 use Rattle.hol_kernel.proofs.HypothesesLemmas.{with_hypotheses-same_set, image-without_hypothesis}
 use Rattle.hol_kernel.proofs.OrderLemmas.{with_hypotheses-ordered, kept-ordered}
 

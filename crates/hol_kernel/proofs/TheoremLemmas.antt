@@ -2,15 +2,15 @@
 use Rattle.std.proofs.Common.{List, [], ◌∷◌, map, refl, inl, inr}
 use Rattle.std.specs.List.{All}
 use Rattle.std.proofs.lemmas.List.Elements.{All-nil, All-cons}
-use Rattle.hol_model.specs.HolType.{bool_type}
-use Rattle.hol_model.specs.NamedTerm.{NamedTerm}
-use Rattle.hol_model.specs.Nameless.{image}
-use Rattle.hol_model.specs.Theory.{Theory, IsKnown}
-use Rattle.hol_model.specs.Derivable.{AreKnown}
-use Rattle.hol_model.specs.Theorem.{Theorem, IsTheorem}
-use Rattle.hol_model.proofs.Images.{image-type}
-use Rattle.hol_model.proofs.Known.{Derivable-known}
-use Rattle.hol_model.proofs.NamedTests.{is_known-Decides}
+use Rattle.hol_model.specs.Terms.HolType.{bool_type}
+use Rattle.hol_model.specs.Terms.NamedTerm.{NamedTerm}
+use Rattle.hol_model.specs.Terms.Nameless.{image}
+use Rattle.hol_model.specs.Logic.Theory.{Theory, IsKnown}
+use Rattle.hol_model.specs.Logic.Derivable.{AreKnown}
+use Rattle.hol_model.specs.Kernel.Theorem.{Theorem, IsTheorem}
+use Rattle.hol_model.proofs.Terms.Images.{image-type}
+use Rattle.hol_model.proofs.Logic.Known.{Derivable-known}
+use Rattle.hol_model.proofs.Terms.NamedTests.{is_known-Decides}
 use Rattle.hol_kernel.specs.KnownFormula.{IsKnownFormula}
 
 -- a formula whose image is known is known

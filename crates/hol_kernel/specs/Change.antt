@@ -1,9 +1,9 @@
 -- What instantiation changes in terms without bound names.
 use Rattle.std.specs.Prelude.{◌≡◌, true}
-use Rattle.hol_model.specs.HolType.{replaces_type_variables}
-use Rattle.hol_model.specs.Nameless.{Nameless}
-use Rattle.hol_model.specs.Substitution.{put_all, replaces_variables, keeps_types}
-use Rattle.hol_model.specs.Instantiation.{instantiate_all}
+use Rattle.hol_model.specs.Terms.HolType.{replaces_type_variables}
+use Rattle.hol_model.specs.Terms.Nameless.{Nameless}
+use Rattle.hol_model.specs.Terms.Substitution.{put_all, replaces_variables, keeps_types}
+use Rattle.hol_model.specs.Kernel.Instantiation.{instantiate_all}
 use Rattle.hol_kernel.specs.declared.instances.Change.{Change}
 use Rattle.hol_kernel.specs.declared.instances.Change.TheVariants.{Variables, Types}
 

@@ -1,9 +1,9 @@
 -- Formulas that a theory knows.
 use Rattle.std.specs.Prelude.{◌≡◌, true, Some}
-use Rattle.hol_model.specs.HolType.{bool_type}
-use Rattle.hol_model.specs.NamedTerm.{NamedTerm, type_of}
-use Rattle.hol_model.specs.Theory.{Theory}
-use Rattle.hol_model.specs.KnownTerm.{is_known}
+use Rattle.hol_model.specs.Terms.HolType.{bool_type}
+use Rattle.hol_model.specs.Terms.NamedTerm.{NamedTerm, type_of}
+use Rattle.hol_model.specs.Logic.Theory.{Theory}
+use Rattle.hol_model.specs.Logic.KnownTerm.{is_known}
 
 -- a term of type `bool` whose types and constants the theory knows
 pub record IsKnownFormula (theory : Theory) (term : NamedTerm) : Type 0 where

@@ -1,9 +1,9 @@
 -- Where a hypothesis belongs among ordered ones.
 use Rattle.std.specs.Prelude.{ℕ, suc, ◌+◌, List, [], ◌∷◌, Option, Some, None}
 use Rattle.std.specs.Option.{option_map}
-use Rattle.hol_model.specs.NamedTerm.{NamedTerm}
-use Rattle.hol_model.specs.Nameless.{image, nameless_cmp}
-use Rattle.hol_model.specs.Theorem.{by_order}
+use Rattle.hol_model.specs.Terms.NamedTerm.{NamedTerm}
+use Rattle.hol_model.specs.Terms.Nameless.{image, nameless_cmp}
+use Rattle.hol_model.specs.Kernel.Theorem.{by_order}
 
 -- the number of hypotheses before it, or `None` where one that is alpha-equivalent stands there
 abbrev pub place_of : List NamedTerm → NamedTerm → Option ℕ

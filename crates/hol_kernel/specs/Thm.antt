@@ -1,5 +1,5 @@
 -- What the fields of a theorem stand for.
-use Rattle.hol_model.specs.Theorem.{Theorem}
+use Rattle.hol_model.specs.Kernel.Theorem.{Theorem}
 use Rattle.hol_kernel.specs.declared.thm.Thm.TheInside.{Inside}
 
 abbrev pub viewed_theorem : Inside → Theorem

@@ -1,8 +1,8 @@
 // The two axioms (HOL Light's ETA_AX and SELECT_AX without their quantifiers).
 ghost use Rattle.std.specs.Prelude.{◌≡◌, [], ◌∷◌, IfOk, IfErr};
-ghost use Rattle.hol_model.specs.HolType.{function_type, bool_type};
-ghost use Rattle.hol_model.specs.Theory.{type_a, type_b};
-ghost use Rattle.hol_model.specs.NamedAxioms as axioms;
+ghost use Rattle.hol_model.specs.Terms.HolType.{function_type, bool_type};
+ghost use Rattle.hol_model.specs.Logic.Theory.{type_a, type_b};
+ghost use Rattle.hol_model.specs.Kernel.NamedAxioms as axioms;
 ghost use Rattle.hol_model.specs.declared.fault.Fault.TheVariants.{Memory};
 
 use crate::generic::choice;
@@ -14,7 +14,7 @@ use hol_types::Ty;
 use std::alloc::Global;
 
 impl Theory {
-    ghost use Rattle.hol_model.specs.Theorem.{Theorem};
+    ghost use Rattle.hol_model.specs.Kernel.Theorem.{Theorem};
 
     /// ETA: `|- (\x:A. t x) = t`.
     pub fn eta(&self, alloc: Global) -> Result<Thm, Fault>

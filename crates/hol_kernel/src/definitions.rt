@@ -1,9 +1,9 @@
 // Definitions and declarations (HOL Light's `new_basic_definition`, and constants and types without a definition).
 ghost use Rattle.std.specs.Prelude.{◌≡◌, IfOk, OnErr};
-ghost use Rattle.hol_model.specs.KnownTerm as spec;
-ghost use Rattle.hol_model.specs.Theory.{IsEarlier};
-ghost use Rattle.hol_model.specs.Rules as outcome;
-ghost use Rattle.hol_model.specs.Outcome.{Answers};
+ghost use Rattle.hol_model.specs.Logic.KnownTerm as spec;
+ghost use Rattle.hol_model.specs.Logic.Theory.{IsEarlier};
+ghost use Rattle.hol_model.specs.Kernel.Rules as outcome;
+ghost use Rattle.hol_model.specs.Kernel.Outcome.{Answers};
 ghost use Rattle.hol_kernel.specs.Leaving.{leaving};
 
 use crate::entries::StoredEntry;

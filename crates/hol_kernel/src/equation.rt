@@ -1,10 +1,10 @@
 // Equations, taken apart and made.
 ghost use Rattle.std.specs.Prelude.{◌≡◌, IsSome};
 ghost use Rattle.std.specs.Option.{option_map, is_some};
-ghost use Rattle.hol_model.specs.NamedTerm.{type_of};
-ghost use Rattle.hol_model.specs.NamedTerm as spec;
-ghost use Rattle.hol_model.specs.Rules as rules;
-ghost use Rattle.hol_model.specs.Outcome.{Answers, unless};
+ghost use Rattle.hol_model.specs.Terms.NamedTerm.{type_of};
+ghost use Rattle.hol_model.specs.Terms.NamedTerm as spec;
+ghost use Rattle.hol_model.specs.Kernel.Rules as rules;
+ghost use Rattle.hol_model.specs.Kernel.Outcome.{Answers, unless};
 ghost use Rattle.hol_model.specs.declared.fault.Fault.TheVariants.{TypeMismatch};
 
 use hol_model::Fault;

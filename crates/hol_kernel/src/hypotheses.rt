@@ -1,9 +1,9 @@
 // Hypotheses: in the order of their images, and no two of them alpha-equivalent.
 ghost use Rattle.std.specs.Prelude.{◌≡◌, ◌≤◌, ◌++◌, [], IfOk, IfErr, OnOk, IfSome, length};
-ghost use Rattle.hol_model.specs.Theorem.{AreOrdered};
-ghost use Rattle.hol_model.specs.Theorem as spec;
+ghost use Rattle.hol_model.specs.Kernel.Theorem.{AreOrdered};
+ghost use Rattle.hol_model.specs.Kernel.Theorem as spec;
 ghost use Rattle.hol_kernel.specs.Place as place;
-ghost use Rattle.hol_model.specs.Rules as rules;
+ghost use Rattle.hol_model.specs.Kernel.Rules as rules;
 ghost use Rattle.hol_model.specs.declared.fault.Fault.TheVariants.{Memory};
 
 use hol_alpha::{aconv, alpha_cmp};

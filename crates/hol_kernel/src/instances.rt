@@ -1,15 +1,15 @@
 // Instantiation of theorems.
 ghost use Rattle.std.specs.Prelude.{◌≡◌, ◌⊎◌, [], ◌∷◌, None, IfOk, IfErr, true, false, map};
 ghost use Rattle.std.specs.List.{list_all};
-ghost use Rattle.hol_model.specs.Nameless.{image};
-ghost use Rattle.hol_model.specs.Measures.{nameless_within_limits};
-ghost use Rattle.hol_model.specs.Derivable.{Derivable};
-ghost use Rattle.hol_model.specs.Substitution as substitution;
-ghost use Rattle.hol_model.specs.KnownTerm as known;
-ghost use Rattle.hol_model.specs.Theory.{IsEarlier, IsLegal};
-ghost use Rattle.hol_model.specs.Theorem.{IsTheorem};
-ghost use Rattle.hol_model.specs.Outcome.{AnswersSuch};
-ghost use Rattle.hol_model.specs.Instantiation as spec;
+ghost use Rattle.hol_model.specs.Terms.Nameless.{image};
+ghost use Rattle.hol_model.specs.Terms.Measures.{nameless_within_limits};
+ghost use Rattle.hol_model.specs.Logic.Derivable.{Derivable};
+ghost use Rattle.hol_model.specs.Terms.Substitution as substitution;
+ghost use Rattle.hol_model.specs.Logic.KnownTerm as known;
+ghost use Rattle.hol_model.specs.Logic.Theory.{IsEarlier, IsLegal};
+ghost use Rattle.hol_model.specs.Kernel.Theorem.{IsTheorem};
+ghost use Rattle.hol_model.specs.Kernel.Outcome.{AnswersSuch};
+ghost use Rattle.hol_model.specs.Kernel.Instantiation as spec;
 ghost use Rattle.hol_kernel.specs.Change.{change_of, MayChange};
 ghost use Rattle.hol_model.specs.declared.fault.Fault.TheVariants.{Memory, TooLarge};
 

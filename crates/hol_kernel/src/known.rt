@@ -1,7 +1,7 @@
 // Which types and terms a theory knows.
 ghost use Rattle.std.specs.Prelude.{◌≡◌};
-ghost use Rattle.hol_model.specs.KnownTerm as spec;
-ghost use Rattle.hol_model.specs.Rules as rules;
+ghost use Rattle.hol_model.specs.Logic.KnownTerm as spec;
+ghost use Rattle.hol_model.specs.Kernel.Rules as rules;
 
 use crate::theory::Theory;
 use hol_model::Fault;

@@ -1,12 +1,12 @@
 // The rules of the kernel (those of HOL Light's `fusion.ml`). A theorem handed in stands on this theory or an earlier
 // state of it.
 ghost use Rattle.std.specs.Prelude.{◌≡◌, [], ◌∷◌, Some, IfOk};
-ghost use Rattle.hol_model.specs.HolType.{HolType};
-ghost use Rattle.hol_model.specs.NamedTerm.{type_of, equation};
-ghost use Rattle.hol_model.specs.Theory.{IsEarlier};
-ghost use Rattle.hol_model.specs.Theorem.{IsTheorem};
-ghost use Rattle.hol_model.specs.Rules as outcome;
-ghost use Rattle.hol_model.specs.Outcome.{Answers};
+ghost use Rattle.hol_model.specs.Terms.HolType.{HolType};
+ghost use Rattle.hol_model.specs.Terms.NamedTerm.{type_of, equation};
+ghost use Rattle.hol_model.specs.Logic.Theory.{IsEarlier};
+ghost use Rattle.hol_model.specs.Kernel.Theorem.{IsTheorem};
+ghost use Rattle.hol_model.specs.Kernel.Rules as outcome;
+ghost use Rattle.hol_model.specs.Kernel.Outcome.{Answers};
 
 use crate::entries::Entries;
 use crate::equation::{

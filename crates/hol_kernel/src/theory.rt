@@ -1,10 +1,10 @@
 // Theories.
 ghost use Rattle.std.specs.Prelude.{◌≡◌, ◌+◌, ◌<◌, ◌||◌, ℕ, List, Some, IfOk, IfErr, OnOk, OnErr, [], length, if◌then◌else◌};
 ghost use Rattle.std.specs.Str.{bytes_eq};
-ghost use Rattle.hol_model.specs.Rules as rules;
+ghost use Rattle.hol_model.specs.Kernel.Rules as rules;
 ghost use Rattle.std.specs.Option.{option_map};
-ghost use Rattle.hol_model.specs.Theory.{generic_type};
-ghost use Rattle.hol_model.specs.KnownTerm as spec;
+ghost use Rattle.hol_model.specs.Logic.Theory.{generic_type};
+ghost use Rattle.hol_model.specs.Logic.KnownTerm as spec;
 ghost use Rattle.hol_model.specs.declared.fault.Fault.TheVariants.{Memory};
 
 use crate::entries::Entries;
@@ -28,8 +28,8 @@ pub struct Theory {
 
 impl Model for Theory {
     ghost use Rattle.std.specs.Prelude.{List};
-    ghost use Rattle.hol_model.specs.Theory.{Entry};
-    ghost use Rattle.hol_model.specs.NamelessCode.{theory_code};
+    ghost use Rattle.hol_model.specs.Logic.Theory.{Entry};
+    ghost use Rattle.hol_model.specs.Terms.NamelessCode.{theory_code};
 
     ghost Value = { List Entry };
 
@@ -43,7 +43,7 @@ impl Model for Theory {
 }
 
 impl Theory {
-    ghost use Rattle.hol_model.specs.Theory.{equality_name, choice_name, equality_type, choice_type, type_a, IsLegal};
+    ghost use Rattle.hol_model.specs.Logic.Theory.{equality_name, choice_name, equality_type, choice_type, type_a, IsLegal};
 
     /// The theory without definitions, of which `=` and `@` are the constants.
     pub fn new(alloc: Global) -> Result<Theory, Fault>

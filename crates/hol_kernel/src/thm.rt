@@ -27,8 +27,8 @@ struct TheoremNode {
 }
 
 impl Model for Thm {
-    ghost use Rattle.hol_model.specs.Theorem.{Theorem, IsTheorem};
-    ghost use Rattle.hol_model.specs.TheoremCode.{theorem_code};
+    ghost use Rattle.hol_model.specs.Kernel.Theorem.{Theorem, IsTheorem};
+    ghost use Rattle.hol_model.specs.Kernel.TheoremCode.{theorem_code};
 
     ghost Value = { Theorem };
 
@@ -42,10 +42,10 @@ impl Model for Thm {
 }
 
 impl Thm {
-    ghost use Rattle.hol_model.specs.Theorem.{Theorem, IsTheorem, AreOrdered};
-    ghost use Rattle.hol_model.specs.Derivable.{Derivable};
-    ghost use Rattle.hol_model.specs.Nameless.{image};
-    ghost use Rattle.hol_model.specs.Holds.{Holds};
+    ghost use Rattle.hol_model.specs.Kernel.Theorem.{Theorem, IsTheorem, AreOrdered};
+    ghost use Rattle.hol_model.specs.Logic.Derivable.{Derivable};
+    ghost use Rattle.hol_model.specs.Terms.Nameless.{image};
+    ghost use Rattle.hol_model.specs.Models.Holds.{Holds};
 
     /// A theorem, where it is shown to be one.
     pub(crate) fn new(

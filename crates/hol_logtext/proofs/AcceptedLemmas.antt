@@ -8,17 +8,17 @@ use Rattle.std.proofs.lemmas.Slice.Eq.{bytes_eq-Decides}
 use Rattle.std.proofs.lemmas.List.Elements.{All-cons, All-nil}
 use Rattle.hol_model.specs.declared.limits.TheConstants.{NUMBER_LIMIT}
 use Rattle.hol_model.specs.declared.fault.Cause.{Cause}
-use Rattle.hol_model.specs.Name.{is_capital, is_small, continues_name, all_continue, is_identifier, is_type_variable_name, is_declared_type_name, is_symbol, is_constant_name}
-use Rattle.hol_model.specs.Legality.{is_new_name}
-use Rattle.hol_model.specs.LogLine.{LogVersion, LogRule, LogLine}
-use Rattle.hol_model.specs.LogLine.LogRule.{refl_step, trans_step, mk_comb_step, abs_step, beta_step, assume_step, eq_mp_step, deduct_step, inst_step, inst_type_step, eta_step, select_step, definition_step}
-use Rattle.hol_model.specs.LogLine.LogLine.{header_line, type_variable_line, bool_line, function_type_line, declared_type_line, variable_line, constant_line, combination_line, abstraction_line, new_type_line, new_constant_line, theorem_line, claim_line, end_line}
-use Rattle.hol_model.specs.LogState.{LogState, first_state}
-use Rattle.hol_model.specs.LogSequents.{new_types, new_terms, new_theorems, new_claims, after_line}
-use Rattle.hol_model.specs.LogFaults.{is_no_type, is_no_term, is_no_theorem, some_is_no_term, some_is_no_type, rule_has_number_fault, rule_has_name_fault, first_cause}
-use Rattle.hol_model.specs.LogText.{LogOutcome, from_line, unless_refused, dest_header, after_header, log_outcome}
-use Rattle.hol_model.proofs.AcceptedLog.{IsFaultless, no_cause}
-use Rattle.hol_model.proofs.LogTests.{not_false, is_there}
+use Rattle.hol_model.specs.Terms.Name.{is_capital, is_small, continues_name, all_continue, is_identifier, is_type_variable_name, is_declared_type_name, is_symbol, is_constant_name}
+use Rattle.hol_model.specs.Logic.Legality.{is_new_name}
+use Rattle.hol_model.specs.Logs.LogLine.{LogVersion, LogRule, LogLine}
+use Rattle.hol_model.specs.Logs.LogLine.LogRule.{refl_step, trans_step, mk_comb_step, abs_step, beta_step, assume_step, eq_mp_step, deduct_step, inst_step, inst_type_step, eta_step, select_step, definition_step}
+use Rattle.hol_model.specs.Logs.LogLine.LogLine.{header_line, type_variable_line, bool_line, function_type_line, declared_type_line, variable_line, constant_line, combination_line, abstraction_line, new_type_line, new_constant_line, theorem_line, claim_line, end_line}
+use Rattle.hol_model.specs.Logs.LogState.{LogState, first_state}
+use Rattle.hol_model.specs.Logs.LogSequents.{new_types, new_terms, new_theorems, new_claims, after_line}
+use Rattle.hol_model.specs.Logs.LogFaults.{is_no_type, is_no_term, is_no_theorem, some_is_no_term, some_is_no_type, rule_has_number_fault, rule_has_name_fault, first_cause}
+use Rattle.hol_model.specs.Logs.LogText.{LogOutcome, from_line, unless_refused, dest_header, after_header, log_outcome}
+use Rattle.hol_model.proofs.Logs.AcceptedLog.{IsFaultless, no_cause}
+use Rattle.hol_model.proofs.Logs.LogTests.{not_false, is_there}
 use Rattle.hol_model.proofs.Tests.{first_of_both, second_of_both, first_of_neither, second_of_neither}
 use Rattle.hol_logtext.specs.Fields.{line_feed, is_name_byte, all_name_bytes, is_log_name}
 use Rattle.hol_logtext.specs.LineText.{IsLogName, IsLogNumber, AreLogNumbers, ArePairsOfNumbers, IsWritableRule, IsWritable, line_text, line_bytes}

@@ -10,7 +10,7 @@ use Rattle.std.proofs.lemmas.Str.Ascii.{IsAscii-nil, IsAscii-cons}
 use Rattle.std.proofs.lemmas.Str.Parse.{IsNumeralModel, numerals_by_fold}
 use Rattle.std.proofs.lemmas.Fmt.{parse-decimal, IsAscii-decimal, digits_decimal, digits_value-decimal}
 use Rattle.hol_model.specs.declared.limits.TheConstants.{NUMBER_LIMIT}
-use Rattle.hol_model.specs.Lexing.{digits_value, numeral_value}
+use Rattle.hol_model.specs.Texts.Lexing.{digits_value, numeral_value}
 use Rattle.hol_model.proofs.Tests.{first_of_both, second_of_both}
 use Rattle.hol_logtext.specs.Fields.{is_name_byte, all_name_bytes, is_log_name, number_of}
 

@@ -3,7 +3,7 @@ use Rattle.std.specs.Prelude.{◌≡◌, ℕ, List, [], ◌∷◌, ◌++◌, Boo
 use Rattle.std.specs.List.{list_all, list_any}
 use Rattle.std.specs.Str.{bytes_eq}
 use Rattle.hol_model.specs.declared.limits.TheConstants.{NUMBER_LIMIT}
-use Rattle.hol_model.specs.Lexing.{numeral_value}
+use Rattle.hol_model.specs.Texts.Lexing.{numeral_value}
 
 abbrev pub space : ℕ
 space = 32

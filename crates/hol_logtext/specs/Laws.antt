@@ -1,9 +1,9 @@
 -- What reading a line says of its text, and reading a log of its lines.
 use Rattle.std.specs.Prelude.{◌≡◌, ◌≤◌, ℕ, List, length, Some, Ok}
 use Rattle.hol_model.specs.declared.limits.TheConstants.{TEXT_BYTES_LIMIT}
-use Rattle.hol_model.specs.LogState.{LogState}
-use Rattle.hol_model.specs.LogText.{log_outcome}
-use Rattle.hol_model.specs.LogLine.{LogLine}
+use Rattle.hol_model.specs.Logs.LogState.{LogState}
+use Rattle.hol_model.specs.Logs.LogText.{log_outcome}
+use Rattle.hol_model.specs.Logs.LogLine.{LogLine}
 use Rattle.std.specs.List.{All}
 use Rattle.hol_logtext.specs.LineText.{IsTextOf, IsWritable}
 use Rattle.hol_logtext.specs.LineReading.{read_text}

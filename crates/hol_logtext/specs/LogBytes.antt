@@ -1,7 +1,7 @@
 -- The bytes of a whole proof log.
 use Rattle.std.specs.Prelude.{ℕ, List, [], ◌∷◌, ◌++◌, map, Option, Some, None}
-use Rattle.hol_model.specs.LogLine.{LogLine}
-use Rattle.hol_model.specs.LogText.{ReadLine, LogText}
+use Rattle.hol_model.specs.Logs.LogLine.{LogLine}
+use Rattle.hol_model.specs.Logs.LogText.{ReadLine, LogText}
 use Rattle.hol_logtext.specs.Fields.{split_on, line_feed}
 use Rattle.hol_logtext.specs.LineReading.{read_text}
 use Rattle.hol_logtext.specs.LineText.{line_bytes}

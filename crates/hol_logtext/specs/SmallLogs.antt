@@ -2,8 +2,8 @@
 use Rattle.std.specs.Prelude.{◌≡◌, ℕ, List, [], ◌∷◌, ◌++◌, Result, Ok, Err, codes, map}
 use Rattle.hol_model.specs.declared.fault.Cause.{Cause}
 use Rattle.hol_model.specs.declared.fault.Cause.TheVariants.{Header, Cut, Shape, Number, Name, Kind, Const, Rule, Claim, End}
-use Rattle.hol_model.specs.LogText.{LogOutcome, log_outcome}
-use Rattle.hol_model.specs.LogClaims.{claim_text}
+use Rattle.hol_model.specs.Logs.LogText.{LogOutcome, log_outcome}
+use Rattle.hol_model.specs.Logs.LogClaims.{claim_text}
 use Rattle.hol_logtext.specs.LogBytes.{log_text}
 
 abbrev pub printed : LogOutcome → Result (List (List ℕ)) (ℕ × Cause)

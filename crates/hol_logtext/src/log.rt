@@ -1,8 +1,8 @@
 // The text of a proof log.
 ghost use Rattle.std.specs.Prelude.{◌≡◌, ◌≤◌, ◌<◌, [], ◌∷◌, map, length, Ok, IfOk, IfErr, IsErrOf, Contains};
 ghost use Rattle.hol_model.specs.declared.fault.Fault.TheVariants.{Memory, TooLong};
-ghost use Rattle.hol_model.specs.LogState.{LogState};
-ghost use Rattle.hol_model.specs.LogText.{log_outcome};
+ghost use Rattle.hol_model.specs.Logs.LogState.{LogState};
+ghost use Rattle.hol_model.specs.Logs.LogText.{log_outcome};
 ghost use Rattle.hol_logtext.specs.LogBytes.{bytes_of_lines, log_text};
 ghost use Rattle.hol_logtext.specs.LogBytes as spec;
 ghost use Rattle.hol_logtext.specs.Lines.{line_of};

@@ -2,7 +2,7 @@
 ghost use Rattle.std.specs.Prelude.{◌≡◌, List, ℕ, IfOk};
 ghost use Rattle.std.specs.Option.{option_map};
 ghost use Rattle.hol_logtext.specs.LineReading as reading;
-ghost use Rattle.hol_model.specs.LogLine.LogLine.{theorem_line};
+ghost use Rattle.hol_model.specs.Logs.LogLine.LogLine.{theorem_line};
 ghost use Rattle.hol_logtext.specs.Lines.{fields_in, line_in, IsLineRead, IsExact};
 
 use crate::arguments::{

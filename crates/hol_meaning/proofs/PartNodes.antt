@@ -1,7 +1,7 @@
 -- A part of an instance has no more nodes than the instance.
 use Rattle.std.proofs.Common.{◌≡◌, ◌≤◌, ℕ, List, Bool, true, false, Option, Some, None, arith, if◌then◌else◌}
 use Rattle.std.specs.Str.{bytes_eq}
-use Rattle.hol_model.specs.HolType.{HolType, type_variable, bool_type, function_type, declared_type, type_nodes, part_at, first_answer}
+use Rattle.hol_model.specs.Terms.HolType.{HolType, type_variable, bool_type, function_type, declared_type, type_nodes, part_at, first_answer}
 
 pub part-nodes : (generic ty : HolType) (name : List ℕ) (part : HolType) → part_at generic ty name ≡ Some part → type_nodes part ≤ type_nodes ty
 part-nodes (type_variable other) ty name part e = go (bytes_eq other name) e

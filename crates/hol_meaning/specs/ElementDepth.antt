@@ -2,7 +2,7 @@
 use Rattle.std.specs.Prelude.{◌+◌, ◌≤◌, max, List, [], ◌∷◌}
 use Rattle.std.proofs.Common.{arith}
 use denote.Param.Weighed.{most}
-use Rattle.hol_model.specs.Values.{Value, values_of}
+use Rattle.hol_model.specs.Models.Values.{Value, values_of}
 use Rattle.hol_meaning.specs.ValueCode.{value_nodes, values_nodes}
 use Rattle.hol_meaning.specs.ElementNodes.{value_of_node}
 use Rattle.hol_meaning.specs.declared.element.ElementNode.{ElementNode}

@@ -1,5 +1,5 @@
 -- What a node of an element stands for.
-use Rattle.hol_model.specs.Values.{Value, number, table}
+use Rattle.hol_model.specs.Models.Values.{Value, number, table}
 use Rattle.hol_meaning.specs.declared.element.ElementNode.{ElementNode}
 use Rattle.hol_meaning.specs.declared.element.ElementNode.TheVariants.{Number, Table}
 

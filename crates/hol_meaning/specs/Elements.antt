@@ -1,5 +1,5 @@
 -- What the parts of an element stand for.
-use Rattle.hol_model.specs.Values.{Value, number, table}
+use Rattle.hol_model.specs.Models.Values.{Value, number, table}
 use Rattle.hol_meaning.specs.declared.element.ElementParts.{ElementParts}
 use Rattle.hol_meaning.specs.declared.element.ElementParts.TheVariants.{Number, Table}
 

@@ -1,6 +1,6 @@
 -- The binders and the arguments that stand in stack frames.
 use Rattle.std.specs.Prelude.{List, [], ◌∷◌}
-use Rattle.hol_model.specs.HolType.{HolType, codomain_of}
+use Rattle.hol_model.specs.Terms.HolType.{HolType, codomain_of}
 use Rattle.hol_meaning.specs.Trees.{hol_type}
 use Rattle.hol_meaning.specs.declared.types.BinderTypes.{BinderTypes, Outermost, Under'}
 use Rattle.hol_meaning.specs.declared.types.Arguments.{Arguments, None, OneMore'}

@@ -1,11 +1,11 @@
 -- The models that interpretations stand for.
 use Rattle.std.specs.Prelude.{ℕ, ◌+◌, List, [], ◌∷◌, if◌then◌else◌}
 use Rattle.std.specs.Str.{bytes_eq}
-use Rattle.hol_model.specs.HolType.{HolType, type_nodes}
-use Rattle.hol_model.specs.NamedTerm.{same_variable}
-use Rattle.hol_model.specs.Values.{Value, number}
-use Rattle.hol_model.specs.Tables.{first_of}
-use Rattle.hol_model.specs.Models.{Model, carrier_over, instance_model}
+use Rattle.hol_model.specs.Terms.HolType.{HolType, type_nodes}
+use Rattle.hol_model.specs.Terms.NamedTerm.{same_variable}
+use Rattle.hol_model.specs.Models.Values.{Value, number}
+use Rattle.hol_model.specs.Models.Tables.{first_of}
+use Rattle.hol_model.specs.Models.Models.{Model, carrier_over, instance_model}
 use Rattle.hol_meaning.specs.Trees.{hol_type}
 use Rattle.hol_meaning.specs.declared.interpretation.NamedCarrier.{NamedCarrier}
 use Rattle.hol_meaning.specs.declared.interpretation.VariableElement.{VariableElement}

@@ -1,7 +1,7 @@
 -- How many nodes the bodies of definitions have.
 use Rattle.std.specs.Prelude.{ℕ, ◌+◌, [], ◌∷◌}
-use Rattle.hol_model.specs.Measures.{nameless_nodes}
-use Rattle.hol_model.specs.Theory.{Theory, definition, declaration_of_type, declaration_of_constant}
+use Rattle.hol_model.specs.Terms.Measures.{nameless_nodes}
+use Rattle.hol_model.specs.Logic.Theory.{Theory, definition, declaration_of_type, declaration_of_constant}
 
 abbrev pub theory_nodes : Theory → ℕ
 theory_nodes [] = 0

@@ -1,8 +1,8 @@
 -- What the trees stand for.
 use Rattle.std.specs.Prelude.{List, [], ◌∷◌}
-use Rattle.hol_model.specs.HolType.{HolType, type_variable, bool_type, function_type, declared_type}
-use Rattle.hol_model.specs.Nameless.{Nameless, free, const, bound, app, lam}
-use Rattle.hol_model.specs.Theory.{Theory, Entry, definition, declaration_of_type, declaration_of_constant}
+use Rattle.hol_model.specs.Terms.HolType.{HolType, type_variable, bool_type, function_type, declared_type}
+use Rattle.hol_model.specs.Terms.Nameless.{Nameless, free, const, bound, app, lam}
+use Rattle.hol_model.specs.Logic.Theory.{Theory, Entry, definition, declaration_of_type, declaration_of_constant}
 use Rattle.hol_meaning.specs.declared.tree.TypeTree.{TypeTree, Variable, Bool, Function', Declared}
 use Rattle.hol_meaning.specs.declared.tree.TermTree.{TermTree, Free, Const, Bound, App', Lam'}
 use Rattle.hol_meaning.specs.declared.tree.EntryTree.{EntryTree}

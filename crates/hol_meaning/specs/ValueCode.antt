@@ -3,7 +3,7 @@ use Rattle.std.specs.Prelude.{◌≡◌, ℕ, ◌+◌}
 use Rattle.std.specs.Coded.{Coded}
 use Rattle.std.proofs.Common.{refl, ap}
 use base.Stored.{Gv, gnil, gnum, gcons}
-use Rattle.hol_model.specs.Values.{Value, number, rows, Values, no_values, one_more}
+use Rattle.hol_model.specs.Models.Values.{Value, number, rows, Values, no_values, one_more}
 
 abbrev mutual
   pub code_value : Value → Gv

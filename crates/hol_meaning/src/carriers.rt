@@ -1,9 +1,9 @@
 // The carriers of types.
 ghost use Rattle.std.specs.Prelude.{◌≡◌, ◌∷◌, [], map, IfOk};
 ghost use Rattle.std.specs.Option.{option_map};
-ghost use Rattle.hol_model.specs.HolType as types;
-ghost use Rattle.hol_model.specs.Models as models;
-ghost use Rattle.hol_model.specs.Values.{number, falsity, truth};
+ghost use Rattle.hol_model.specs.Terms.HolType as types;
+ghost use Rattle.hol_model.specs.Models.Models as models;
+ghost use Rattle.hol_model.specs.Models.Values.{number, falsity, truth};
 ghost use Rattle.hol_meaning.specs.Trees.{hol_type};
 ghost use Rattle.hol_meaning.specs.Interpretations.{model_of, carrier_named};
 

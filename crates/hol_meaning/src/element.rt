@@ -1,7 +1,7 @@
 // Numbers and tables, the values of finite models.
 ghost use Rattle.std.specs.Prelude.{◌≡◌, ◌++◌, IfOk};
-ghost use Rattle.hol_model.specs.Values.{number, table, values_of};
-ghost use Rattle.hol_model.specs.Values as values;
+ghost use Rattle.hol_model.specs.Models.Values.{number, table, values_of};
+ghost use Rattle.hol_model.specs.Models.Values as values;
 ghost use Rattle.hol_meaning.specs.Elements.{value_of_parts};
 
 use std::alloc::{AllocError, Global};
@@ -30,7 +30,7 @@ pub enum ElementParts<'a> {
 }
 
 impl Model for Element {
-    ghost use Rattle.hol_model.specs.Values as values;
+    ghost use Rattle.hol_model.specs.Models.Values as values;
     ghost use Rattle.hol_meaning.specs.ValueCode.{value_code, value_nodes};
 
     ghost Value = { values.Value };

@@ -1,7 +1,7 @@
 // The meaning of terms.
 ghost use Rattle.std.specs.Prelude.{◌≡◌, IfOk};
-ghost use Rattle.hol_model.specs.Models as models;
-ghost use Rattle.hol_model.specs.Tables as tables;
+ghost use Rattle.hol_model.specs.Models.Models as models;
+ghost use Rattle.hol_model.specs.Models.Tables as tables;
 ghost use Rattle.hol_meaning.specs.Trees.{hol_type, nameless, theory_of};
 ghost use Rattle.hol_meaning.specs.Interpretations.{model_of, variable_value, constant_value};
 ghost use Rattle.hol_meaning.specs.Frames.{types_of};

@@ -1,8 +1,8 @@
 // Sequents in a model.
 ghost use Rattle.std.specs.Prelude.{◌≡◌, ◌↔◌, IfOk, IsTrue};
-ghost use Rattle.hol_model.specs.Holds.{AllTrue};
-ghost use Rattle.hol_model.specs.Models as models;
-ghost use Rattle.hol_model.specs.Values.{truth};
+ghost use Rattle.hol_model.specs.Models.Holds.{AllTrue};
+ghost use Rattle.hol_model.specs.Models.Models as models;
+ghost use Rattle.hol_model.specs.Models.Values.{truth};
 ghost use Rattle.hol_meaning.specs.Trees.{nameless, nameless_terms, theory_of};
 ghost use Rattle.hol_meaning.specs.Interpretations.{model_of};
 ghost use Rattle.hol_meaning.specs.Sequents.{HoldsIn};

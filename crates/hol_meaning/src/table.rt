@@ -1,7 +1,7 @@
 // Tables of functions over lists of elements.
 ghost use Rattle.std.specs.Prelude.{◌≡◌, ◌++◌, ◌∷◌, map, IfOk};
-ghost use Rattle.hol_model.specs.Values.{table, values_of, same_value};
-ghost use Rattle.hol_model.specs.Tables as tables;
+ghost use Rattle.hol_model.specs.Models.Values.{table, values_of, same_value};
+ghost use Rattle.hol_model.specs.Models.Tables as tables;
 ghost use Rattle.hol_meaning.specs.Rows.{rows_of};
 
 use crate::element::{Element, ElementParts, copies, push_copies, same};

@@ -1,8 +1,8 @@
 // The types of terms.
 ghost use Rattle.std.specs.Prelude.{◌≡◌, IfOk};
-ghost use Rattle.hol_model.specs.HolType as types;
-ghost use Rattle.hol_model.specs.Models as models;
-ghost use Rattle.hol_model.specs.Nameless as terms;
+ghost use Rattle.hol_model.specs.Terms.HolType as types;
+ghost use Rattle.hol_model.specs.Models.Models as models;
+ghost use Rattle.hol_model.specs.Terms.Nameless as terms;
 ghost use Rattle.hol_meaning.specs.Trees.{hol_type, nameless};
 ghost use Rattle.hol_meaning.specs.Interpretations.{model_of};
 ghost use Rattle.hol_meaning.specs.Frames.{types_of, taken};

@@ -4,12 +4,12 @@ use Rattle.std.specs.Str.{bytes_eq}
 use Rattle.std.specs.Bool.{Decides}
 use Rattle.std.specs.Cmp.{Equal-is}
 use Rattle.std.proofs.lemmas.Slice.Eq.{bytes_eq-Decides}
-use Rattle.hol_model.specs.HolType.{HolType, type_eq}
-use Rattle.hol_model.specs.NamedTerm.{same_variable}
-use Rattle.hol_model.specs.Nameless.{Nameless, nameless_cmp, same_term}
-use Rattle.hol_model.proofs.HolTypeEq.{type_eq-Decides}
-pub use Rattle.hol_model.proofs.Conditions.{first_of_both, second_of_both}
-use Rattle.hol_model.proofs.Orders.{nameless_cmp-self, same_from_nameless_cmp}
+use Rattle.hol_model.specs.Terms.HolType.{HolType, type_eq}
+use Rattle.hol_model.specs.Terms.NamedTerm.{same_variable}
+use Rattle.hol_model.specs.Terms.Nameless.{Nameless, nameless_cmp, same_term}
+use Rattle.hol_model.proofs.Terms.HolTypeEq.{type_eq-Decides}
+pub use Rattle.hol_model.proofs.Logic.Conditions.{first_of_both, second_of_both}
+use Rattle.hol_model.proofs.Terms.Orders.{nameless_cmp-self, same_from_nameless_cmp}
 
 pub both : (p q : Bool) → p ≡ true → q ≡ true → (p && q) ≡ true
 both p q first second = cc

@@ -161,7 +161,7 @@ pub enum Fault {
 }
 
 impl Fault {
-    ghost use Rattle.hol_model.specs.Fault.{number_of, name_of};
+    ghost use Rattle.hol_model.specs.Kernel.Fault.{number_of, name_of};
 
     /// The number by which a program reports it.
     pub fn number(&self) -> u8

@@ -6,14 +6,14 @@ use Rattle.std.specs.declared.vec.Vec.{Vec}
 use Rattle.std.specs.declared.alloc.Global.{Global}
 use Rattle.hol_model.specs.declared.fault.Fault.{Fault}
 use Rattle.hol_model.specs.declared.fault.Fault.TheVariants.{Memory}
-use Rattle.hol_model.specs.Theory.{Theory}
-use Rattle.hol_model.specs.Theorem.{Theorem}
+use Rattle.hol_model.specs.Logic.Theory.{Theory}
+use Rattle.hol_model.specs.Kernel.Theorem.{Theorem}
 use Rattle.hol_journal.specs.Journal.{Journal, Recorded}
 use Rattle.hol_derivations.specs.Derivations.{theorems, AreMade}
 use Rattle.hol_derivations.specs.Makings.{Made, all_made, made_in, MakesAll, HasMade}
 use Rattle.hol_prelude.specs.Laws.{without_laws}
-use Rattle.hol_model.specs.Logic.{logical_definitions}
-use Rattle.hol_model.specs.Outcome.{Answers}
+use Rattle.hol_model.specs.Logic.Logic.{logical_definitions}
+use Rattle.hol_model.specs.Kernel.Outcome.{Answers}
 use Rattle.hol_prelude.specs.declared.tables.TheConstants.{FIRST_LAW, BEHIND_LAWS}
 use Rattle.hol_derivations.specs.declared.making.Making.{Making}
 

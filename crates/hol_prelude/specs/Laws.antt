@@ -1,11 +1,11 @@
 -- Laws that derivations of the prelude cite. They are made among its theorems, and then left out.
 use Rattle.std.specs.Prelude.{List, [], ◌∷◌, ◌++◌, codes, take, drop}
-use Rattle.hol_model.specs.HolType.{bool_type}
-use Rattle.hol_model.specs.NamedTerm.{NamedTerm, variable, constant, combination, equation}
-use Rattle.hol_model.specs.Theory.{choice_name, choice_type}
-use Rattle.hol_model.specs.Theorem.{Theorem}
-use Rattle.hol_model.specs.NamedAxioms.{select_hypothesis, select_conclusion}
-use Rattle.hol_model.specs.NamedLogic.{true_term, false_term, disjunction, implication}
+use Rattle.hol_model.specs.Terms.HolType.{bool_type}
+use Rattle.hol_model.specs.Terms.NamedTerm.{NamedTerm, variable, constant, combination, equation}
+use Rattle.hol_model.specs.Logic.Theory.{choice_name, choice_type}
+use Rattle.hol_model.specs.Kernel.Theorem.{Theorem}
+use Rattle.hol_model.specs.Kernel.NamedAxioms.{select_hypothesis, select_conclusion}
+use Rattle.hol_model.specs.Logic.NamedLogic.{true_term, false_term, disjunction, implication}
 use Rattle.hol_prelude.specs.declared.tables.TheConstants.{FIRST_LAW, BEHIND_LAWS}
 use Rattle.hol_prelude.specs.Prelude.{p, q, P, x, P_x, formula_abstraction, tested, tests, always, forall_P, exists_P, cases, witness_cases, middle, shown}
 

@@ -1,6 +1,6 @@
 // The theorems of the prelude.
 ghost use Rattle.std.specs.Prelude.{◌≡◌, ◌≤◌, ◌<◌, [], length, slice_get, Some, IfOk, IfErr};
-ghost use Rattle.hol_model.specs.Logic.{logical_definitions};
+ghost use Rattle.hol_model.specs.Logic.Logic.{logical_definitions};
 ghost use Rattle.hol_model.specs.declared.fault.Fault.TheVariants.{Memory};
 ghost use Rattle.hol_journal.specs.Growth.{IsGrown};
 ghost use Rattle.hol_journal.specs.Journal.{IsMade};

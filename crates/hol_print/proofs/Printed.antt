@@ -6,14 +6,14 @@ use Rattle.std.proofs.lemmas.Slice.Eq.{bytes_eq-Decides}
 use Rattle.std.proofs.lemmas.List.{append-nil}
 use Rattle.std.proofs.lemmas.Bool.Decides.{leb_tells}
 use Rattle.hol_model.specs.declared.fault.Fault.{Fault}
-use Rattle.hol_model.specs.Name.{is_identifier, is_symbol, is_constant_name}
-use Rattle.hol_model.specs.HolType.{HolType, type_eq}
-use Rattle.hol_model.specs.TermGrammar.{Atom, Infix, Bare, Variable, Constant, TermTree, Leaf, Apply, Not, Join, Bind, Enclosed, infix_level, infix_symbol, Binder, binder_symbol, level}
-use Rattle.hol_model.specs.Token.{Token, Name, Mark, token_text, symbol_text}
+use Rattle.hol_model.specs.Terms.Name.{is_identifier, is_symbol, is_constant_name}
+use Rattle.hol_model.specs.Terms.HolType.{HolType, type_eq}
+use Rattle.hol_model.specs.Texts.TermGrammar.{Atom, Infix, Bare, Variable, Constant, TermTree, Leaf, Apply, Not, Join, Bind, Enclosed, infix_level, infix_symbol, Binder, binder_symbol, level}
+use Rattle.hol_model.specs.Texts.Token.{Token, Name, Mark, token_text, symbol_text}
 use Rattle.hol_model.specs.declared.symbol.Symbol.TheVariants.{Implies, And, Or, Equal, Exclamation, Question, At, Tilde}
-use Rattle.hol_model.specs.Reading.{Scope, Bindings, bound_type, is_closed_type}
-use Rattle.hol_model.specs.Printing.{type_tree, enclose, variable_tree, name_token, typed_constant, bare_tree, constant_tree}
-use Rattle.hol_model.specs.Texts.{type_bytes, term_bytes}
+use Rattle.hol_model.specs.Texts.Reading.{Scope, Bindings, bound_type, is_closed_type}
+use Rattle.hol_model.specs.Texts.Printing.{type_tree, enclose, variable_tree, name_token, typed_constant, bare_tree, constant_tree}
+use Rattle.hol_model.specs.Texts.Texts.{type_bytes, term_bytes}
 use Rattle.hol_print.specs.Output.{Appends, opening, closing}
 use Rattle.hol_print.specs.Shape.{is_bound_at, is_bare_constant}
 

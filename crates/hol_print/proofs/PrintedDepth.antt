@@ -1,13 +1,13 @@
 -- How deep the trees are that types and terms are printed as.
 use Rattle.std.proofs.Common.{◌≡◌, ℕ, ◌+◌, ◌*◌, ◌≤◌, Bool, true, false, List, ◌∷◌, Option, None, Some, max, refl, arith, if◌then◌else◌, nat_le}
 use Rattle.std.proofs.lemmas.Bool.{leb-true}
-use Rattle.hol_model.specs.Name.{is_identifier}
-use Rattle.hol_model.specs.HolType.{HolType, type_variable, bool_type, function_type, declared_type, type_nodes, type_eq}
-use Rattle.hol_model.specs.NamedTerm.{NamedTerm, variable, constant, combination, abstraction, height, type_fits}
-use Rattle.hol_model.specs.TypeGrammar.{type_depth}
-use Rattle.hol_model.specs.TermGrammar.{Atom, Infix, Binder, Lambda, Bare, Variable, Constant, TermTree, Leaf, Enclosed, Bind, infix_level, level, term_depth}
-use Rattle.hol_model.specs.Reading.{Scope, Bindings, bound_type, is_closed_type}
-use Rattle.hol_model.specs.Printing.{as_atom, type_tree, enclose, variable_tree, name_token, typed_constant, bare_tree, constant_tree, infix_of, Prefix, NotPrefix, BinderPrefix, NoPrefix, prefix_of, apply_tree, binder_tree, prefix_tree, infix_tree, term_tree}
+use Rattle.hol_model.specs.Terms.Name.{is_identifier}
+use Rattle.hol_model.specs.Terms.HolType.{HolType, type_variable, bool_type, function_type, declared_type, type_nodes, type_eq}
+use Rattle.hol_model.specs.Terms.NamedTerm.{NamedTerm, variable, constant, combination, abstraction, height, type_fits}
+use Rattle.hol_model.specs.Texts.TypeGrammar.{type_depth}
+use Rattle.hol_model.specs.Texts.TermGrammar.{Atom, Infix, Binder, Lambda, Bare, Variable, Constant, TermTree, Leaf, Enclosed, Bind, infix_level, level, term_depth}
+use Rattle.hol_model.specs.Texts.Reading.{Scope, Bindings, bound_type, is_closed_type}
+use Rattle.hol_model.specs.Texts.Printing.{as_atom, type_tree, enclose, variable_tree, name_token, typed_constant, bare_tree, constant_tree, infix_of, Prefix, NotPrefix, BinderPrefix, NoPrefix, prefix_of, apply_tree, binder_tree, prefix_tree, infix_tree, term_tree}
 
 -- a type's tree opens an arrow or a parenthesis for every second node at most
 

@@ -5,11 +5,11 @@ use Rattle.std.proofs.lemmas.Bool.{leb-true, le-leb}
 use Rattle.std.proofs.lemmas.Bool.Decides.{nat_tests}
 use Rattle.hol_model.specs.declared.fault.Fault.{Fault}
 use Rattle.hol_model.specs.declared.fault.Fault.TheVariants.{TooLarge, TypeMismatch}
-use Rattle.hol_model.specs.Name.{is_identifier}
-use Rattle.hol_model.specs.HolType.{HolType, function_type, type_nodes}
-use Rattle.hol_model.specs.NamedTerm.{NamedTerm, variable, constant, combination, abstraction, height, application_type, type_of, type_fits, some_type_fits, types_fit, is_within_limits}
-use Rattle.hol_model.specs.Reading.{Scope, within_limits, known_constant, well_typed}
-use Rattle.hol_model.specs.Texts.{IsNamedType, IsReadableType, IsKnownTerm, IsReadableTerm}
+use Rattle.hol_model.specs.Terms.Name.{is_identifier}
+use Rattle.hol_model.specs.Terms.HolType.{HolType, function_type, type_nodes}
+use Rattle.hol_model.specs.Terms.NamedTerm.{NamedTerm, variable, constant, combination, abstraction, height, application_type, type_of, type_fits, some_type_fits, types_fit, is_within_limits}
+use Rattle.hol_model.specs.Texts.Reading.{Scope, within_limits, known_constant, well_typed}
+use Rattle.hol_model.specs.Texts.Texts.{IsNamedType, IsReadableType, IsKnownTerm, IsReadableTerm}
 
 pub both_true : (a b : Bool) → a && b ≡ true → (a ≡ true) × (b ≡ true)
 both_true true true e = (refl, refl)

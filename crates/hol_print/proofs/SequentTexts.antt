@@ -4,16 +4,16 @@ use Rattle.std.proofs.lemmas.List.{append-nil}
 use Rattle.hol_model.specs.declared.fault.Fault.TheVariants.{NotBool}
 use Rattle.hol_model.specs.declared.symbol.Symbol.TheVariants.{Comma, Turnstile, Colon, OpenParenthesis, CloseParenthesis, OpenBracket, CloseBracket, Dot}
 use Rattle.hol_model.specs.declared.symbol.Symbol.TheVariants.{Arrow as ArrowSymbol}
-use Rattle.hol_model.specs.NamedTerm.{NamedTerm}
-use Rattle.hol_model.specs.Token.{Token, Name, Mark}
-use Rattle.hol_model.specs.TypeGrammar.{TypeTree, Named, Enclosed, Function, type_tokens}
-use Rattle.hol_model.specs.TermGrammar.{Bare, Variable, Constant, Lexeme, AtomPiece, OpenPiece, ClosePiece, NotPiece, InfixPiece, BinderPiece, piece_tokens, pieces, all_tokens, binder_symbol}
-use Rattle.hol_model.specs.Lexing.{is_name_byte, StartsWithout, Lexes}
-use Rattle.hol_model.specs.Reading.{Scope, ◌>>=◌}
-use Rattle.hol_model.specs.Printing.{term_tree}
-use Rattle.hol_model.specs.Texts.{term_bytes, further_bytes, listed_bytes, text_of_term, IsReadableTerm}
-use Rattle.hol_model.specs.SequentGrammar.{with_commas, AreReadTerms, formula, formula_meaning, formulas_meaning}
-use Rattle.hol_model.specs.SequentTexts.{IsReadableFormula, AreReadableFormulas, SequentsReadBack}
+use Rattle.hol_model.specs.Terms.NamedTerm.{NamedTerm}
+use Rattle.hol_model.specs.Texts.Token.{Token, Name, Mark}
+use Rattle.hol_model.specs.Texts.TypeGrammar.{TypeTree, Named, Enclosed, Function, type_tokens}
+use Rattle.hol_model.specs.Texts.TermGrammar.{Bare, Variable, Constant, Lexeme, AtomPiece, OpenPiece, ClosePiece, NotPiece, InfixPiece, BinderPiece, piece_tokens, pieces, all_tokens, binder_symbol}
+use Rattle.hol_model.specs.Texts.Lexing.{is_name_byte, StartsWithout, Lexes}
+use Rattle.hol_model.specs.Texts.Reading.{Scope, ◌>>=◌}
+use Rattle.hol_model.specs.Texts.Printing.{term_tree}
+use Rattle.hol_model.specs.Texts.Texts.{term_bytes, further_bytes, listed_bytes, text_of_term, IsReadableTerm}
+use Rattle.hol_model.specs.Texts.SequentGrammar.{with_commas, AreReadTerms, formula, formula_meaning, formulas_meaning}
+use Rattle.hol_model.specs.Texts.SequentTexts.{IsReadableFormula, AreReadableFormulas, SequentsReadBack}
 use Rattle.hol_print.proofs.TextsReadBack.{token_then, space_then, tokens_then, term_lexes, printed_tree, printed_meaning}
 
 -- tokens behind those of a type and of a piece

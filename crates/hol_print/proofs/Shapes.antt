@@ -1,17 +1,17 @@
 -- The form of a term by its outermost parts.
 use Rattle.std.proofs.Common.{◌≡◌, ℕ, ◌+◌, Bool, true, false, List, Option, None, Some, refl, sym, ap, ◌∙◌, subst, if◌then◌else◌, codes, unwrap_or, Bor}
 use Rattle.std.specs.Str.{bytes_eq}
-use Rattle.hol_model.specs.Name.{is_identifier}
-use Rattle.hol_model.specs.HolType.{HolType, bool_type, function_type, type_eq}
-use Rattle.hol_model.specs.NamedTerm.{NamedTerm, variable, constant, combination, abstraction, dest_constant}
-use Rattle.hol_model.specs.TermGrammar.{Infix, Binder, Lambda, ForAll, Exists, Choice, TermTree, Leaf, Bare, Variable, Join, Bind, infix_level}
-use Rattle.hol_model.specs.Reading.{Scope, Bindings, bound_type, is_closed_type}
+use Rattle.hol_model.specs.Terms.Name.{is_identifier}
+use Rattle.hol_model.specs.Terms.HolType.{HolType, bool_type, function_type, type_eq}
+use Rattle.hol_model.specs.Terms.NamedTerm.{NamedTerm, variable, constant, combination, abstraction, dest_constant}
+use Rattle.hol_model.specs.Texts.TermGrammar.{Infix, Binder, Lambda, ForAll, Exists, Choice, TermTree, Leaf, Bare, Variable, Join, Bind, infix_level}
+use Rattle.hol_model.specs.Texts.Reading.{Scope, Bindings, bound_type, is_closed_type}
 use Rattle.hol_types.specs.declared.ty.Ty.{Ty}
 use Rattle.hol_terms.specs.declared.term.Term.{Term}
 use Rattle.hol_terms.specs.declared.term.Parts.{Parts}
 use Rattle.hol_terms.specs.declared.term.Parts.TheVariants.{Variable as VariableParts, Constant as ConstantParts, Combination as CombinationParts, Abstraction as AbstractionParts}
 use Rattle.hol_terms.specs.Parts.{term_of_parts}
-use Rattle.hol_model.specs.Printing.{type_tree, enclose, variable_tree, typed_constant, bare_tree, constant_tree, infix_of, Prefix, NotPrefix, BinderPrefix, NoPrefix, negation_prefix, quantifier_prefix, choice_prefix, prefix_of, apply_tree, binder_tree, prefix_tree, infix_tree, term_tree}
+use Rattle.hol_model.specs.Texts.Printing.{type_tree, enclose, variable_tree, typed_constant, bare_tree, constant_tree, infix_of, Prefix, NotPrefix, BinderPrefix, NoPrefix, negation_prefix, quantifier_prefix, choice_prefix, prefix_of, apply_tree, binder_tree, prefix_tree, infix_tree, term_tree}
 
 -- a tree that is no abstraction's
 abbrev pub IsNoLambda : TermTree → Type 0

@@ -6,19 +6,19 @@ use Rattle.std.proofs.lemmas.Slice.Eq.{bytes_eq-Decides}
 use Rattle.std.proofs.lemmas.Bool.Decides.{nat_tests}
 use Rattle.hol_model.specs.declared.fault.Fault.{Fault}
 use Rattle.hol_model.specs.declared.fault.Fault.TheVariants.{TooLarge, UnknownConst, NotInstance, TypeMismatch, BadName}
-use Rattle.hol_model.specs.Name.{is_small, all_continue, is_identifier, is_type_variable_name, is_declared_type_name, is_constant_name}
-use Rattle.hol_model.specs.HolType.{HolType, type_variable, bool_type, function_type, declared_type, type_eq, instantiate_type, TypeInstance, is_instance}
-use Rattle.hol_model.specs.NamedTerm.{NamedTerm, variable, constant, combination, abstraction, application_type, type_of, type_fits, is_within_limits, equality, equation}
-use Rattle.hol_model.specs.Theory.{equality_type, choice_type}
-use Rattle.hol_model.specs.Token.{token_text}
-use Rattle.hol_model.specs.TypeGrammar.{TypeTree, Named, Enclosed, Function}
-use Rattle.hol_model.specs.TermGrammar.{Infix, IffInfix, ImpliesInfix, OrInfix, AndInfix, EqualInfix, Binder, Lambda, ForAll, Exists, Choice, Bare, Variable, TermTree, Leaf, Bind, level, infix_level}
-use Rattle.hol_model.specs.TermGrammar.{Enclosed as EnclosedTerm}
-use Rattle.hol_model.specs.Reading.{Scope, Bindings, ◌>>=◌, and_then, type_identified, type_named, written_type, known_type, type_meaning, is_closed_type, bound_type, named_variable, named_binding, constant_at, known_constant, declared_variable, bare_constant, bare_identifier, bare_name, well_typed, connective, connective_at, truth_operation, quantifier_type, infix_term, negation, join, bind, meaning}
-use Rattle.hol_model.specs.Printing.{as_atom, type_tree, enclose, variable_tree, name_token, typed_constant, bare_tree, constant_tree, equality_infix, truth_infix, infix_of, Prefix, NotPrefix, BinderPrefix, NoPrefix, negation_prefix, quantifier_prefix, choice_prefix, prefix_of, apply_tree, binder_tree, prefix_tree, infix_tree, term_tree}
-use Rattle.hol_model.specs.Texts.{IsNamedType, IsReadableType}
-use Rattle.hol_model.proofs.HolTypeEq.{same_from_type_eq}
-use Rattle.hol_model.proofs.Instances.{is_instance-Decides}
+use Rattle.hol_model.specs.Terms.Name.{is_small, all_continue, is_identifier, is_type_variable_name, is_declared_type_name, is_constant_name}
+use Rattle.hol_model.specs.Terms.HolType.{HolType, type_variable, bool_type, function_type, declared_type, type_eq, instantiate_type, TypeInstance, is_instance}
+use Rattle.hol_model.specs.Terms.NamedTerm.{NamedTerm, variable, constant, combination, abstraction, application_type, type_of, type_fits, is_within_limits, equality, equation}
+use Rattle.hol_model.specs.Logic.Theory.{equality_type, choice_type}
+use Rattle.hol_model.specs.Texts.Token.{token_text}
+use Rattle.hol_model.specs.Texts.TypeGrammar.{TypeTree, Named, Enclosed, Function}
+use Rattle.hol_model.specs.Texts.TermGrammar.{Infix, IffInfix, ImpliesInfix, OrInfix, AndInfix, EqualInfix, Binder, Lambda, ForAll, Exists, Choice, Bare, Variable, TermTree, Leaf, Bind, level, infix_level}
+use Rattle.hol_model.specs.Texts.TermGrammar.{Enclosed as EnclosedTerm}
+use Rattle.hol_model.specs.Texts.Reading.{Scope, Bindings, ◌>>=◌, and_then, type_identified, type_named, written_type, known_type, type_meaning, is_closed_type, bound_type, named_variable, named_binding, constant_at, known_constant, declared_variable, bare_constant, bare_identifier, bare_name, well_typed, connective, connective_at, truth_operation, quantifier_type, infix_term, negation, join, bind, meaning}
+use Rattle.hol_model.specs.Texts.Printing.{as_atom, type_tree, enclose, variable_tree, name_token, typed_constant, bare_tree, constant_tree, equality_infix, truth_infix, infix_of, Prefix, NotPrefix, BinderPrefix, NoPrefix, negation_prefix, quantifier_prefix, choice_prefix, prefix_of, apply_tree, binder_tree, prefix_tree, infix_tree, term_tree}
+use Rattle.hol_model.specs.Texts.Texts.{IsNamedType, IsReadableType}
+use Rattle.hol_model.proofs.Terms.HolTypeEq.{same_from_type_eq}
+use Rattle.hol_model.proofs.Terms.Instances.{is_instance-Decides}
 use Rattle.hol_print.proofs.Printed.{token_named}
 use Rattle.hol_print.proofs.ReadableTerms.{both_true, is_typed, IsReadable}
 

@@ -3,8 +3,8 @@ use Rattle.std.specs.Prelude.{◌≡◌, ℕ, List, Option}
 use Rattle.std.specs.HashMap as map
 use Rattle.std.specs.Map.{update}
 use Rattle.std.specs.Str.{bytes_eq}
-use Rattle.hol_model.specs.HolType.{HolType}
-use Rattle.hol_model.specs.Reading.{Bindings, bound_type}
+use Rattle.hol_model.specs.Terms.HolType.{HolType}
+use Rattle.hol_model.specs.Texts.Reading.{Bindings, bound_type}
 use Rattle.hol_print.specs.declared.innermost.Innermost.{Innermost}
 
 -- the name stands for the type, and the others for what they did

@@ -1,13 +1,13 @@
 -- What is looked up before a term is printed: the binders round it, and the form that it is printed in.
 use Rattle.std.specs.Prelude.{◌≡◌, ℕ, ◌+◌, ◌<◌, List, ◌∷◌, Bool, true, false, ◌&&◌, Option, Some, None, is_none}
 use Rattle.std.specs.Option.{option_map_or}
-use Rattle.hol_model.specs.Name.{is_identifier, is_constant_name}
-use Rattle.hol_model.specs.HolType.{HolType, bool_type, function_type, type_eq}
-use Rattle.hol_model.specs.TermGrammar as grammar
-use Rattle.hol_model.specs.TermGrammar.{TermTree, infix_level}
-use Rattle.hol_model.specs.Reading.{Scope, Bindings, bound_type, is_closed_type}
-use Rattle.hol_model.specs.Printing as printing
-use Rattle.hol_model.specs.Printing.{type_tree, term_tree, variable_tree, constant_tree, apply_tree, enclose}
+use Rattle.hol_model.specs.Terms.Name.{is_identifier, is_constant_name}
+use Rattle.hol_model.specs.Terms.HolType.{HolType, bool_type, function_type, type_eq}
+use Rattle.hol_model.specs.Texts.TermGrammar as grammar
+use Rattle.hol_model.specs.Texts.TermGrammar.{TermTree, infix_level}
+use Rattle.hol_model.specs.Texts.Reading.{Scope, Bindings, bound_type, is_closed_type}
+use Rattle.hol_model.specs.Texts.Printing as printing
+use Rattle.hol_model.specs.Texts.Printing.{type_tree, term_tree, variable_tree, constant_tree, apply_tree, enclose}
 use Rattle.hol_terms.specs.Term.{weight}
 use Rattle.hol_grammar.specs.Grammar.{infix_here, binder_here}
 use Rattle.hol_print.specs.declared.shape.Prefix.{Prefix}

@@ -3,8 +3,8 @@ ghost use Rattle.std.specs.Prelude.{◌≡◌, [], ◌∷◌, Some, IfOk, IfErr,
 ghost use Rattle.std.specs.Option.{option_map};
 ghost use Rattle.std.specs.HashMap as map;
 ghost use Rattle.hol_model.specs.declared.fault.Fault.TheVariants.{Memory};
-ghost use Rattle.hol_model.specs.HolType.{HolType};
-ghost use Rattle.hol_model.specs.Reading.{Bindings, bound_type};
+ghost use Rattle.hol_model.specs.Terms.HolType.{HolType};
+ghost use Rattle.hol_model.specs.Texts.Reading.{Bindings, bound_type};
 ghost use Rattle.hol_print.specs.Innermost.{SetsBound, IsInnermost};
 
 use hol_model::Fault;

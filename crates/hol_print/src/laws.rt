@@ -1,6 +1,6 @@
 // Laws on texts. Each function does nothing: its clause is the law's statement, for callers' proofs.
-ghost use Rattle.hol_model.specs.Texts.{TypesReadBack, TermsReadBack};
-ghost use Rattle.hol_model.specs.SequentTexts.{SequentsReadBack};
+ghost use Rattle.hol_model.specs.Texts.Texts.{TypesReadBack, TermsReadBack};
+ghost use Rattle.hol_model.specs.Texts.SequentTexts.{SequentsReadBack};
 
 /// The text of a type reads back as the type.
 pub fn types_read_back()

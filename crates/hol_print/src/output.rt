@@ -2,8 +2,8 @@
 ghost use Rattle.std.specs.Prelude.{◌≡◌, ◌∷◌, ◌++◌, OnOk, IfErr};
 ghost use Rattle.std.specs.String.{string_bytes};
 ghost use Rattle.hol_model.specs.declared.fault.Fault.TheVariants.{Memory};
-ghost use Rattle.hol_model.specs.Printing.{type_tree};
-ghost use Rattle.hol_model.specs.Texts.{type_bytes};
+ghost use Rattle.hol_model.specs.Texts.Printing.{type_tree};
+ghost use Rattle.hol_model.specs.Texts.Texts.{type_bytes};
 ghost use Rattle.hol_print.specs.Output.{Appends, opening, closing};
 ghost use Rattle.hol_print.specs.PrintedType.{placed};
 

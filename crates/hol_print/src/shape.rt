@@ -1,14 +1,14 @@
 // The form that a term is printed in, by its outermost parts.
 ghost use Rattle.std.specs.Prelude.{◌≡◌, ◌+◌, ◌<◌, ◌∷◌, ◌++◌, []};
 ghost use Rattle.std.specs.Option.{option_map};
-ghost use Rattle.hol_model.specs.NamedTerm.{combination};
-ghost use Rattle.hol_model.specs.TermGrammar as grammar;
-ghost use Rattle.hol_model.specs.TermGrammar.{infix_symbol, binder_symbol};
-ghost use Rattle.hol_model.specs.Token.{symbol_text};
-ghost use Rattle.hol_model.specs.Printing as printing;
-ghost use Rattle.hol_model.specs.Printing.{term_tree};
-ghost use Rattle.hol_model.specs.Reading as reading;
-ghost use Rattle.hol_model.specs.Reading.{Bindings};
+ghost use Rattle.hol_model.specs.Terms.NamedTerm.{combination};
+ghost use Rattle.hol_model.specs.Texts.TermGrammar as grammar;
+ghost use Rattle.hol_model.specs.Texts.TermGrammar.{infix_symbol, binder_symbol};
+ghost use Rattle.hol_model.specs.Texts.Token.{symbol_text};
+ghost use Rattle.hol_model.specs.Texts.Printing as printing;
+ghost use Rattle.hol_model.specs.Texts.Printing.{term_tree};
+ghost use Rattle.hol_model.specs.Texts.Reading as reading;
+ghost use Rattle.hol_model.specs.Texts.Reading.{Bindings};
 ghost use Rattle.hol_terms.specs.Term.{weight};
 ghost use Rattle.hol_grammar.specs.Grammar.{infix_here, binder_here};
 ghost use Rattle.hol_syntax.specs.Scope.{scope_of};

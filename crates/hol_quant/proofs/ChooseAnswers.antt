@@ -3,24 +3,24 @@ use Rattle.std.proofs.Common.{◌≡◌, ℕ, List, [], ◌∷◌, ◌++◌, Boo
 use Rattle.std.specs.List.{list_all}
 use Rattle.hol_model.specs.declared.fault.Fault.{Fault}
 use Rattle.hol_model.specs.declared.fault.Fault.TheVariants.{TypeMismatch, FreeInHypothesis}
-use Rattle.hol_model.specs.HolType.{HolType, bool_type, type_eq}
-use Rattle.hol_model.specs.NamedTerm.{NamedTerm, variable, combination, type_of, is_free, dest_variable, dest_abstraction}
-use Rattle.hol_model.specs.NamedLogic.{is_constant_named}
-use Rattle.hol_model.specs.Nameless.{Nameless, HasType, image, same_term}
-use Rattle.hol_model.specs.Logic as nameless
-use Rattle.hol_model.specs.Logic.{exists_name, predicate, quantifier}
-use Rattle.hol_model.specs.Substitution.{occurs_free}
-use Rattle.hol_model.specs.Theory.{Theory, IsKnownType, generic_type, type_a}
-use Rattle.hol_model.specs.KnownTerm.{knows_type}
-use Rattle.hol_model.specs.Theorem.{Theorem}
-use Rattle.hol_model.specs.Derivable.{IsMember, IsSameSet, NotFreeInAny, without}
-use Rattle.hol_model.specs.Outcome.{unless}
-use Rattle.hol_model.specs.DerivedRules.{Stated, AnswersStated, named, stated, images, is_roomy, is_free_in_some, terms_of_theorem, choose_outcome}
-use Rattle.hol_model.proofs.HolTypeEq.{type_eq-self}
-use Rattle.hol_model.proofs.TypeTests.{knows_type-Decides}
-use Rattle.hol_model.proofs.Images.{image-type, image-typed, occurs_free-image}
-use Rattle.hol_model.proofs.Known.{IsKnown-type}
-use Rattle.hol_model.proofs.Membership.{of_append, IsMember-append_left, IsMember-append_right}
+use Rattle.hol_model.specs.Terms.HolType.{HolType, bool_type, type_eq}
+use Rattle.hol_model.specs.Terms.NamedTerm.{NamedTerm, variable, combination, type_of, is_free, dest_variable, dest_abstraction}
+use Rattle.hol_model.specs.Logic.NamedLogic.{is_constant_named}
+use Rattle.hol_model.specs.Terms.Nameless.{Nameless, HasType, image, same_term}
+use Rattle.hol_model.specs.Logic.Logic as nameless
+use Rattle.hol_model.specs.Logic.Logic.{exists_name, predicate, quantifier}
+use Rattle.hol_model.specs.Terms.Substitution.{occurs_free}
+use Rattle.hol_model.specs.Logic.Theory.{Theory, IsKnownType, generic_type, type_a}
+use Rattle.hol_model.specs.Logic.KnownTerm.{knows_type}
+use Rattle.hol_model.specs.Kernel.Theorem.{Theorem}
+use Rattle.hol_model.specs.Logic.Derivable.{IsMember, IsSameSet, NotFreeInAny, without}
+use Rattle.hol_model.specs.Kernel.Outcome.{unless}
+use Rattle.hol_model.specs.Derived.DerivedRules.{Stated, AnswersStated, named, stated, images, is_roomy, is_free_in_some, terms_of_theorem, choose_outcome}
+use Rattle.hol_model.proofs.Terms.HolTypeEq.{type_eq-self}
+use Rattle.hol_model.proofs.Terms.TypeTests.{knows_type-Decides}
+use Rattle.hol_model.proofs.Terms.Images.{image-type, image-typed, occurs_free-image}
+use Rattle.hol_model.proofs.Logic.Known.{IsKnown-type}
+use Rattle.hol_model.proofs.Terms.Membership.{of_append, IsMember-append_left, IsMember-append_right}
 use Rattle.hol_model.proofs.Tests.{same_term-Decides, same_variable-self}
 use Rattle.hol_journal.specs.Journal.{Recorded, theorem_in}
 use Rattle.hol_equal.specs.Conversions.{closed}

@@ -4,20 +4,20 @@ use Rattle.std.specs.Prelude.{codes}
 use Rattle.std.specs.List.{list_all, list_any}
 use Rattle.std.proofs.lemmas.Bool.{le-leb}
 use Rattle.hol_model.specs.declared.limits.TheConstants.{TYPE_NODES_LIMIT}
-use Rattle.hol_model.specs.HolType.{HolType, bool_type, type_nodes}
-use Rattle.hol_model.specs.NamedTerm.{NamedTerm, combination, abstraction, type_of, type_fits, is_free}
-use Rattle.hol_model.specs.Nameless.{Nameless, free, const, bound, app, image, same_term}
-use Rattle.hol_model.specs.Measures.{nameless_types_fit, nameless_within_limits}
-use Rattle.hol_model.specs.Logic as nameless
-use Rattle.hol_model.specs.Logic.{implies_name, forall_name, exists_name, binary, predicate, quantifier}
-use Rattle.hol_model.specs.Substitution.{close, occurs_free}
-use Rattle.hol_model.specs.Theory.{Theory, IsKnown}
-use Rattle.hol_model.specs.Derivable.{without, nameless_equation}
-use Rattle.hol_model.specs.Rules.{first_unknown}
-use Rattle.hol_model.specs.DerivedRules.{is_roomy, is_free_in_some}
-use Rattle.hol_model.proofs.HolTypeEq.{type_eq-self}
-use Rattle.hol_model.proofs.Images.{image-abstraction, occurs_free-image}
-use Rattle.hol_model.proofs.Known.{app-known}
+use Rattle.hol_model.specs.Terms.HolType.{HolType, bool_type, type_nodes}
+use Rattle.hol_model.specs.Terms.NamedTerm.{NamedTerm, combination, abstraction, type_of, type_fits, is_free}
+use Rattle.hol_model.specs.Terms.Nameless.{Nameless, free, const, bound, app, image, same_term}
+use Rattle.hol_model.specs.Terms.Measures.{nameless_types_fit, nameless_within_limits}
+use Rattle.hol_model.specs.Logic.Logic as nameless
+use Rattle.hol_model.specs.Logic.Logic.{implies_name, forall_name, exists_name, binary, predicate, quantifier}
+use Rattle.hol_model.specs.Terms.Substitution.{close, occurs_free}
+use Rattle.hol_model.specs.Logic.Theory.{Theory, IsKnown}
+use Rattle.hol_model.specs.Logic.Derivable.{without, nameless_equation}
+use Rattle.hol_model.specs.Kernel.Rules.{first_unknown}
+use Rattle.hol_model.specs.Derived.DerivedRules.{is_roomy, is_free_in_some}
+use Rattle.hol_model.proofs.Terms.HolTypeEq.{type_eq-self}
+use Rattle.hol_model.proofs.Terms.Images.{image-abstraction, occurs_free-image}
+use Rattle.hol_model.proofs.Logic.Known.{app-known}
 use Rattle.hol_model.proofs.Tests.{first_of_both, second_of_both, both, same_variable-self}
 use Rattle.hol_subst.proofs.Closing.{close_at-fresh}
 use Rattle.hol_equal.specs.Conversions.{closed, conversion_fits}

@@ -5,30 +5,30 @@ use Rattle.std.specs.Str.{bytes_eq}
 use Rattle.std.proofs.lemmas.Slice.Eq.{bytes_eq-Decides}
 use Rattle.hol_model.specs.declared.fault.Fault.{Fault}
 use Rattle.hol_model.specs.declared.fault.Fault.TheVariants.{BadShape, TypeMismatch, UnknownType, UnknownConst, NotInstance, FreeInHypothesis, NotAlpha}
-use Rattle.hol_model.specs.HolType.{HolType, bool_type, function_type, type_eq}
-use Rattle.hol_model.specs.NamedTerm.{NamedTerm, variable, constant, combination, abstraction, type_of}
-use Rattle.hol_model.specs.Nameless.{Nameless, free, const, app, lam, image, same_term}
-use Rattle.hol_model.specs.Logic.{logical_definitions, forall_name, exists_name, predicate, quantifier}
-use Rattle.hol_model.specs.Logic as nameless_formulas
-use Rattle.hol_model.specs.Substitution.{close, fill, occurs_free}
-use Rattle.hol_model.specs.Theory.{Theory, IsLegal, IsKnown, generic_type, type_a}
-use Rattle.hol_model.specs.Theorem.{Theorem}
-use Rattle.hol_model.specs.KnownTerm.{knows_type, knows_types, knows_constants, has_instances, is_known}
-use Rattle.hol_model.specs.Checks.{knows_nameless}
-use Rattle.hol_model.specs.Derivable.{without}
-use Rattle.hol_model.specs.Outcome.{unless, given as stated_given, refused}
-use Rattle.hol_model.specs.Rules.{first_unknown}
-use Rattle.hol_model.specs.NamedLogic.{Abstracted}
-use Rattle.hol_model.specs.NamedLogic as named
-use Rattle.hol_model.specs.NamelessLogic as nameless
-use Rattle.hol_model.specs.DerivedRules.{Stated, images, stated, stated_up_to_names, body_with, is_of_type, is_free_in_some, spec_outcome, gen_outcome, exists_outcome, choose_outcome}
-use Rattle.hol_model.specs.InferenceRules.{rule_spec, rule_gen, rule_exists, rule_choose}
-use Rattle.hol_model.specs.Inference.{given, require, conclude, all, all_without_variable, all_but_without_variable, is_free_in_none, is_known_formula, drawn, unchanged}
-use Rattle.hol_model.proofs.HolTypeEq.{type_eq-Decides}
+use Rattle.hol_model.specs.Terms.HolType.{HolType, bool_type, function_type, type_eq}
+use Rattle.hol_model.specs.Terms.NamedTerm.{NamedTerm, variable, constant, combination, abstraction, type_of}
+use Rattle.hol_model.specs.Terms.Nameless.{Nameless, free, const, app, lam, image, same_term}
+use Rattle.hol_model.specs.Logic.Logic.{logical_definitions, forall_name, exists_name, predicate, quantifier}
+use Rattle.hol_model.specs.Logic.Logic as nameless_formulas
+use Rattle.hol_model.specs.Terms.Substitution.{close, fill, occurs_free}
+use Rattle.hol_model.specs.Logic.Theory.{Theory, IsLegal, IsKnown, generic_type, type_a}
+use Rattle.hol_model.specs.Kernel.Theorem.{Theorem}
+use Rattle.hol_model.specs.Logic.KnownTerm.{knows_type, knows_types, knows_constants, has_instances, is_known}
+use Rattle.hol_model.specs.Logic.Checks.{knows_nameless}
+use Rattle.hol_model.specs.Logic.Derivable.{without}
+use Rattle.hol_model.specs.Kernel.Outcome.{unless, given as stated_given, refused}
+use Rattle.hol_model.specs.Kernel.Rules.{first_unknown}
+use Rattle.hol_model.specs.Logic.NamedLogic.{Abstracted}
+use Rattle.hol_model.specs.Logic.NamedLogic as named
+use Rattle.hol_model.specs.Logic.NamelessLogic as nameless
+use Rattle.hol_model.specs.Derived.DerivedRules.{Stated, images, stated, stated_up_to_names, body_with, is_of_type, is_free_in_some, spec_outcome, gen_outcome, exists_outcome, choose_outcome}
+use Rattle.hol_model.specs.Derived.InferenceRules.{rule_spec, rule_gen, rule_exists, rule_choose}
+use Rattle.hol_model.specs.Derived.Inference.{given, require, conclude, all, all_without_variable, all_but_without_variable, is_free_in_none, is_known_formula, drawn, unchanged}
+use Rattle.hol_model.proofs.Terms.HolTypeEq.{type_eq-Decides}
 use Rattle.hol_model.proofs.Tests.{same_variable-self}
-use Rattle.hol_model.proofs.NamedTests.{is_known-Decides}
-use Rattle.hol_model.proofs.TypeTests.{knows_type-Decides}
-use Rattle.hol_model.proofs.Images.{image-abstraction}
+use Rattle.hol_model.proofs.Terms.NamedTests.{is_known-Decides}
+use Rattle.hol_model.proofs.Terms.TypeTests.{knows_type-Decides}
+use Rattle.hol_model.proofs.Terms.Images.{image-abstraction}
 use Rattle.hol_journal.specs.Journal.{Journal}
 use Rattle.hol_prelude.specs.HasLogic.{HasLogic}
 use Rattle.hol_prelude.specs.declared.stored.Bool.{Bool as Stored}

@@ -5,26 +5,26 @@ use Rattle.std.specs.List.{list_all}
 use Rattle.std.specs.Option.{option_map_or}
 use Rattle.hol_model.specs.declared.fault.Fault.{Fault}
 use Rattle.hol_model.specs.declared.fault.Fault.TheVariants.{Memory, TooLarge, NotAlpha}
-use Rattle.hol_model.specs.HolType.{HolType, bool_type}
-use Rattle.hol_model.specs.NamedTerm.{NamedTerm, variable, combination, abstraction, type_of, dest_variable, dest_abstraction, is_within_limits}
-use Rattle.hol_model.specs.NamedLogic.{dest_exists, is_constant_named}
-use Rattle.hol_model.specs.Nameless.{Nameless, free, const, app, image, same_term}
-use Rattle.hol_model.specs.Measures.{nameless_within_limits}
-use Rattle.hol_model.specs.Logic.{exists_name, predicate, quantifier}
-use Rattle.hol_model.specs.Substitution.{close, fill, put_all}
-use Rattle.hol_model.specs.Instantiation.{or_too_large}
-use Rattle.hol_model.specs.Theory.{Theory, IsKnown, generic_type, type_a}
-use Rattle.hol_model.specs.Theorem.{Theorem}
-use Rattle.hol_model.specs.Derivable.{nameless_equation}
-use Rattle.hol_model.specs.Outcome.{Answers, unless, refused}
-use Rattle.hol_model.specs.Constructors.{combination_outcome}
-use Rattle.hol_model.specs.Rules.{first_unknown}
-use Rattle.hol_model.specs.DerivedRules.{Stated, AnswersStated, named, images, terms_of_theorem, is_roomy, exists_outcome}
-use Rattle.hol_model.proofs.HolTypeEq.{type_eq-self}
-use Rattle.hol_model.proofs.Images.{image-abstraction}
-use Rattle.hol_model.proofs.Known.{app-known}
+use Rattle.hol_model.specs.Terms.HolType.{HolType, bool_type}
+use Rattle.hol_model.specs.Terms.NamedTerm.{NamedTerm, variable, combination, abstraction, type_of, dest_variable, dest_abstraction, is_within_limits}
+use Rattle.hol_model.specs.Logic.NamedLogic.{dest_exists, is_constant_named}
+use Rattle.hol_model.specs.Terms.Nameless.{Nameless, free, const, app, image, same_term}
+use Rattle.hol_model.specs.Terms.Measures.{nameless_within_limits}
+use Rattle.hol_model.specs.Logic.Logic.{exists_name, predicate, quantifier}
+use Rattle.hol_model.specs.Terms.Substitution.{close, fill, put_all}
+use Rattle.hol_model.specs.Kernel.Instantiation.{or_too_large}
+use Rattle.hol_model.specs.Logic.Theory.{Theory, IsKnown, generic_type, type_a}
+use Rattle.hol_model.specs.Kernel.Theorem.{Theorem}
+use Rattle.hol_model.specs.Logic.Derivable.{nameless_equation}
+use Rattle.hol_model.specs.Kernel.Outcome.{Answers, unless, refused}
+use Rattle.hol_model.specs.Kernel.Constructors.{combination_outcome}
+use Rattle.hol_model.specs.Kernel.Rules.{first_unknown}
+use Rattle.hol_model.specs.Derived.DerivedRules.{Stated, AnswersStated, named, images, terms_of_theorem, is_roomy, exists_outcome}
+use Rattle.hol_model.proofs.Terms.HolTypeEq.{type_eq-self}
+use Rattle.hol_model.proofs.Terms.Images.{image-abstraction}
+use Rattle.hol_model.proofs.Logic.Known.{app-known}
 use Rattle.hol_model.proofs.Tests.{first_of_both, second_of_both, same_term-Decides}
-use Rattle.hol_model.proofs.WithinLimits.{within_limits-image}
+use Rattle.hol_model.proofs.Terms.WithinLimits.{within_limits-image}
 use Rattle.hol_subst.specs.Outcomes.{vsubst_refusal, pairs_refusal}
 use Rattle.hol_kernel.proofs.RuleLemmas.{known_term}
 use Rattle.hol_journal.specs.Journal.{Recorded, theorem_in}

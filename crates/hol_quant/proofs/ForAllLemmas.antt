@@ -3,23 +3,23 @@ use Rattle.std.proofs.Common.{◌≡◌, ℕ, List, Bool, true, false, refl, sym
 use Rattle.std.specs.Prelude.{codes}
 use Rattle.std.proofs.lemmas.Bool.{le-leb}
 use Rattle.hol_model.specs.declared.limits.TheConstants.{TYPE_NODES_LIMIT}
-use Rattle.hol_model.specs.HolType.{HolType, bool_type}
-use Rattle.hol_model.specs.NamedTerm.{NamedTerm, variable, abstraction, type_of, dest_variable, is_within_limits}
+use Rattle.hol_model.specs.Terms.HolType.{HolType, bool_type}
+use Rattle.hol_model.specs.Terms.NamedTerm.{NamedTerm, variable, abstraction, type_of, dest_variable, is_within_limits}
 use Rattle.hol_model.specs.declared.fault.Fault.{Fault}
 use Rattle.hol_model.specs.declared.fault.Fault.TheVariants.{TooLarge}
-use Rattle.hol_model.specs.Outcome.{Answers, unless}
-use Rattle.hol_model.specs.Rules.{limited, abstraction_outcome}
-use Rattle.hol_model.proofs.Measures.{past_limits-image}
+use Rattle.hol_model.specs.Kernel.Outcome.{Answers, unless}
+use Rattle.hol_model.specs.Kernel.Rules.{limited, abstraction_outcome}
+use Rattle.hol_model.proofs.Terms.Measures.{past_limits-image}
 use Rattle.hol_kernel.proofs.LimitLemmas.{limited-is, abstraction-limited}
-use Rattle.hol_model.specs.Nameless.{Nameless, free, const, app, lam, image}
-use Rattle.hol_model.specs.Measures.{nameless_within_limits}
-use Rattle.hol_model.specs.Logic.{forall_name, predicate, quantifier}
-use Rattle.hol_model.specs.Derivable.{nameless_equation}
-use Rattle.hol_model.specs.Theory.{Theory, IsKnown, IsKnownType}
-use Rattle.hol_model.specs.Theorem.{Theorem}
-use Rattle.hol_model.proofs.HolTypeEq.{type_eq-self}
-use Rattle.hol_model.proofs.Images.{image-abstraction}
-use Rattle.hol_model.proofs.Known.{close-known}
+use Rattle.hol_model.specs.Terms.Nameless.{Nameless, free, const, app, lam, image}
+use Rattle.hol_model.specs.Terms.Measures.{nameless_within_limits}
+use Rattle.hol_model.specs.Logic.Logic.{forall_name, predicate, quantifier}
+use Rattle.hol_model.specs.Logic.Derivable.{nameless_equation}
+use Rattle.hol_model.specs.Logic.Theory.{Theory, IsKnown, IsKnownType}
+use Rattle.hol_model.specs.Kernel.Theorem.{Theorem}
+use Rattle.hol_model.proofs.Terms.HolTypeEq.{type_eq-self}
+use Rattle.hol_model.proofs.Terms.Images.{image-abstraction}
+use Rattle.hol_model.proofs.Logic.Known.{close-known}
 use Rattle.hol_equal.specs.Conversions.{closed}
 use Rattle.hol_equal.specs.Room.{IsSized, FitsIf}
 use Rattle.hol_equal.specs.Sequents.{IsPast}

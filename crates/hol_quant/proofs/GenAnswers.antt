@@ -4,23 +4,23 @@ use Rattle.std.specs.List.{list_all}
 use Rattle.std.specs.Option.{option_map_or}
 use Rattle.hol_model.specs.declared.fault.Fault.{Fault}
 use Rattle.hol_model.specs.declared.fault.Fault.TheVariants.{FreeInHypothesis}
-use Rattle.hol_model.specs.HolType.{HolType, bool_type}
-use Rattle.hol_model.specs.NamedTerm.{NamedTerm, variable, constant, combination, abstraction, dest_variable, type_of, is_free}
-use Rattle.hol_model.specs.NamedLogic.{forall_term}
-use Rattle.hol_model.specs.Nameless.{Nameless, const, app, image}
-use Rattle.hol_model.specs.Measures.{nameless_within_limits}
-use Rattle.hol_model.specs.Logic.{forall_name, predicate, quantifier}
-use Rattle.hol_model.specs.Substitution.{occurs_free}
-use Rattle.hol_model.specs.Theory.{Theory, IsLegal, IsKnown, IsKnownType}
-use Rattle.hol_model.specs.KnownTerm.{knows_type, is_known}
-use Rattle.hol_model.specs.Theorem.{Theorem, IsTheorem}
-use Rattle.hol_model.specs.Derivable.{NotFreeInAny, nameless_equation}
-use Rattle.hol_model.specs.Outcome.{Answers}
-use Rattle.hol_model.specs.Rules.{is_free_in_hypotheses, abstraction_outcome}
-use Rattle.hol_model.specs.DerivedRules.{Stated, AnswersStated, named, images, terms_of_theorem, terms_of_stated, is_roomy, is_free_in_some, gen_outcome}
-use Rattle.hol_model.proofs.TypeTests.{knows_type-Decides}
-use Rattle.hol_model.proofs.Images.{image-abstraction, occurs_free-image}
-use Rattle.hol_model.proofs.Membership.{IsMember-append_right}
+use Rattle.hol_model.specs.Terms.HolType.{HolType, bool_type}
+use Rattle.hol_model.specs.Terms.NamedTerm.{NamedTerm, variable, constant, combination, abstraction, dest_variable, type_of, is_free}
+use Rattle.hol_model.specs.Logic.NamedLogic.{forall_term}
+use Rattle.hol_model.specs.Terms.Nameless.{Nameless, const, app, image}
+use Rattle.hol_model.specs.Terms.Measures.{nameless_within_limits}
+use Rattle.hol_model.specs.Logic.Logic.{forall_name, predicate, quantifier}
+use Rattle.hol_model.specs.Terms.Substitution.{occurs_free}
+use Rattle.hol_model.specs.Logic.Theory.{Theory, IsLegal, IsKnown, IsKnownType}
+use Rattle.hol_model.specs.Logic.KnownTerm.{knows_type, is_known}
+use Rattle.hol_model.specs.Kernel.Theorem.{Theorem, IsTheorem}
+use Rattle.hol_model.specs.Logic.Derivable.{NotFreeInAny, nameless_equation}
+use Rattle.hol_model.specs.Kernel.Outcome.{Answers}
+use Rattle.hol_model.specs.Kernel.Rules.{is_free_in_hypotheses, abstraction_outcome}
+use Rattle.hol_model.specs.Derived.DerivedRules.{Stated, AnswersStated, named, images, terms_of_theorem, terms_of_stated, is_roomy, is_free_in_some, gen_outcome}
+use Rattle.hol_model.proofs.Terms.TypeTests.{knows_type-Decides}
+use Rattle.hol_model.proofs.Terms.Images.{image-abstraction, occurs_free-image}
+use Rattle.hol_model.proofs.Terms.Membership.{IsMember-append_right}
 use Rattle.hol_model.proofs.Tests.{first_of_both, second_of_both, first_of_neither, second_of_neither}
 use Rattle.hol_journal.specs.Journal.{Journal, Recorded, IsMade, theorem_in}
 use Rattle.hol_journal.proofs.Showing.{formula_of}

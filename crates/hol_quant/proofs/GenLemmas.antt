@@ -4,20 +4,20 @@ use Rattle.std.specs.Prelude.{codes}
 use Rattle.std.specs.List.{list_all}
 use Rattle.hol_model.specs.declared.fault.Fault.{Fault}
 use Rattle.hol_model.specs.declared.fault.Fault.TheVariants.{BadName, TooLarge}
-use Rattle.hol_model.specs.HolType.{HolType, bool_type, function_type}
-use Rattle.hol_model.specs.NamedTerm.{NamedTerm, variable, constant, type_of, type_fits}
-use Rattle.hol_model.specs.NamedLogic.{true_term}
-use Rattle.hol_model.specs.Nameless.{Nameless, free, const, app, image}
-use Rattle.hol_model.specs.Measures.{nameless_within_limits}
-use Rattle.hol_model.specs.Logic.{forall_name, predicate, quantifier}
-use Rattle.hol_model.specs.Theory.{Theory, IsKnown}
-use Rattle.hol_model.specs.Derivable.{nameless_equation}
-use Rattle.hol_model.specs.Outcome.{Answers}
-use Rattle.hol_model.specs.Constructors.{constant_outcome, function_type_outcome, combination_outcome}
-use Rattle.hol_model.specs.KnownTerm.{knows_types, knows_constants, has_instances}
-use Rattle.hol_model.specs.Instantiation.{replacements_refusal}
-use Rattle.hol_model.proofs.NamedTests.{is_known-Decides}
-use Rattle.hol_model.proofs.Outcomes.{passed_value}
+use Rattle.hol_model.specs.Terms.HolType.{HolType, bool_type, function_type}
+use Rattle.hol_model.specs.Terms.NamedTerm.{NamedTerm, variable, constant, type_of, type_fits}
+use Rattle.hol_model.specs.Logic.NamedLogic.{true_term}
+use Rattle.hol_model.specs.Terms.Nameless.{Nameless, free, const, app, image}
+use Rattle.hol_model.specs.Terms.Measures.{nameless_within_limits}
+use Rattle.hol_model.specs.Logic.Logic.{forall_name, predicate, quantifier}
+use Rattle.hol_model.specs.Logic.Theory.{Theory, IsKnown}
+use Rattle.hol_model.specs.Logic.Derivable.{nameless_equation}
+use Rattle.hol_model.specs.Kernel.Outcome.{Answers}
+use Rattle.hol_model.specs.Kernel.Constructors.{constant_outcome, function_type_outcome, combination_outcome}
+use Rattle.hol_model.specs.Logic.KnownTerm.{knows_types, knows_constants, has_instances}
+use Rattle.hol_model.specs.Kernel.Instantiation.{replacements_refusal}
+use Rattle.hol_model.proofs.Terms.NamedTests.{is_known-Decides}
+use Rattle.hol_model.proofs.Kernel.Outcomes.{passed_value}
 use Rattle.hol_equal.specs.Sequents.{IsPast}
 use Rattle.hol_equal.proofs.BetaLemmas.{applied-past}
 use Rattle.hol_equal.proofs.StepLemmas.{application}

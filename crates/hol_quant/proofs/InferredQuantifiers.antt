@@ -1,13 +1,13 @@
 -- A rule of the quantifiers that answers what its outcome states answers what the table of rules draws.
 use Rattle.std.proofs.Common.{◌≡◌, [], ◌∷◌, ◌++◌, Some, Result}
 use Rattle.hol_model.specs.declared.fault.Fault.{Fault}
-use Rattle.hol_model.specs.HolType.{HolType}
-use Rattle.hol_model.specs.NamedTerm.{NamedTerm, type_of}
-use Rattle.hol_model.specs.Nameless.{image}
-use Rattle.hol_model.specs.Theory.{Theory, IsLegal}
-use Rattle.hol_model.specs.Theorem.{Theorem}
-use Rattle.hol_model.specs.DerivedRules.{AnswersStated, terms_of_theorem, spec_outcome, gen_outcome, exists_outcome, choose_outcome}
-use Rattle.hol_model.specs.InferenceRules.{rule_spec, rule_gen, rule_exists, rule_choose}
+use Rattle.hol_model.specs.Terms.HolType.{HolType}
+use Rattle.hol_model.specs.Terms.NamedTerm.{NamedTerm, type_of}
+use Rattle.hol_model.specs.Terms.Nameless.{image}
+use Rattle.hol_model.specs.Logic.Theory.{Theory, IsLegal}
+use Rattle.hol_model.specs.Kernel.Theorem.{Theorem}
+use Rattle.hol_model.specs.Derived.DerivedRules.{AnswersStated, terms_of_theorem, spec_outcome, gen_outcome, exists_outcome, choose_outcome}
+use Rattle.hol_model.specs.Derived.InferenceRules.{rule_spec, rule_gen, rule_exists, rule_choose}
 use Rattle.hol_journal.specs.Journal.{Journal}
 use Rattle.hol_prelude.specs.HasLogic.{HasLogic}
 use Rattle.hol_equal.specs.Inferred.{Infers}

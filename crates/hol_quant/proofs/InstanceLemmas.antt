@@ -1,15 +1,15 @@
 -- A known predicate and a known element may stand for variables of their types.
 use Rattle.std.proofs.Common.{◌≡◌, ℕ, List, [], ◌∷◌, Bool, true, false, ◌&&◌, not, if◌then◌else◌, refl, Some, None}
 use Rattle.hol_model.specs.declared.fault.Fault.{Fault}
-use Rattle.hol_model.specs.HolType.{HolType}
-use Rattle.hol_model.specs.NamedTerm.{NamedTerm, variable, type_of}
-use Rattle.hol_model.specs.Nameless.{image}
-use Rattle.hol_model.specs.Theory.{Theory, IsKnown, IsKnownType, type_a}
-use Rattle.hol_model.specs.KnownTerm.{knows_types, knows_constants, has_instances}
-use Rattle.hol_model.specs.Instantiation.{replacements_refusal, type_replacements_refusal}
-use Rattle.hol_model.proofs.HolTypeEq.{type_eq-self}
-use Rattle.hol_model.proofs.NamedTests.{is_known-Decides}
-use Rattle.hol_model.proofs.TypeTests.{knows_type-Decides}
+use Rattle.hol_model.specs.Terms.HolType.{HolType}
+use Rattle.hol_model.specs.Terms.NamedTerm.{NamedTerm, variable, type_of}
+use Rattle.hol_model.specs.Terms.Nameless.{image}
+use Rattle.hol_model.specs.Logic.Theory.{Theory, IsKnown, IsKnownType, type_a}
+use Rattle.hol_model.specs.Logic.KnownTerm.{knows_types, knows_constants, has_instances}
+use Rattle.hol_model.specs.Kernel.Instantiation.{replacements_refusal, type_replacements_refusal}
+use Rattle.hol_model.proofs.Terms.HolTypeEq.{type_eq-self}
+use Rattle.hol_model.proofs.Terms.NamedTests.{is_known-Decides}
+use Rattle.hol_model.proofs.Terms.TypeTests.{knows_type-Decides}
 
 pub type-passes : (theory : Theory) (ty : HolType) → IsKnownType theory ty → type_replacements_refusal theory ((ty, type_a) ∷ []) ≡ None
 type-passes theory ty known = rw ((knows_type-Decides theory ty).1 known) refl

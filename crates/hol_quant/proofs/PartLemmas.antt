@@ -3,14 +3,14 @@ use Rattle.std.proofs.Common.{◌≡◌, ℕ, List, [], true, sym, ◌∙◌, ap
 use Rattle.std.specs.Prelude.{codes}
 use Rattle.std.specs.Option.{option_map, option_map_or}
 use Rattle.std.proofs.lemmas.Slice.Eq.{bytes_eq-Decides}
-use Rattle.hol_model.specs.HolType.{HolType, bool_type, function_type, instantiate_type}
-use Rattle.hol_model.specs.NamedTerm.{NamedTerm, variable, constant, combination, abstraction, type_of, dest_abstraction}
-use Rattle.hol_model.specs.NamedLogic.{Abstracted, is_constant_named, dest_quantified}
-use Rattle.hol_model.specs.Nameless.{Nameless, const, app, HasType, image}
-use Rattle.hol_model.specs.Logic.{predicate, quantifier}
-use Rattle.hol_model.specs.Theory.{Theory, IsKnown, generic_type, type_a}
-use Rattle.hol_model.proofs.Images.{image-type, image-abstraction}
-use Rattle.hol_model.proofs.Measures.{some_type}
+use Rattle.hol_model.specs.Terms.HolType.{HolType, bool_type, function_type, instantiate_type}
+use Rattle.hol_model.specs.Terms.NamedTerm.{NamedTerm, variable, constant, combination, abstraction, type_of, dest_abstraction}
+use Rattle.hol_model.specs.Logic.NamedLogic.{Abstracted, is_constant_named, dest_quantified}
+use Rattle.hol_model.specs.Terms.Nameless.{Nameless, const, app, HasType, image}
+use Rattle.hol_model.specs.Logic.Logic.{predicate, quantifier}
+use Rattle.hol_model.specs.Logic.Theory.{Theory, IsKnown, generic_type, type_a}
+use Rattle.hol_model.proofs.Terms.Images.{image-type, image-abstraction}
+use Rattle.hol_model.proofs.Terms.Measures.{some_type}
 use Rattle.hol_equal.specs.Conversions.{closed}
 pub use Rattle.hol_quant.specs.QuantifiedParts.{IsQuantified}
 

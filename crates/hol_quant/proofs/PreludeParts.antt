@@ -1,13 +1,13 @@
 -- What single theorems of the prelude show.
 use Rattle.std.proofs.Common.{◌≡◌, [], ◌∷◌, Some, subst}
 use Rattle.std.specs.Prelude.{slice_get, codes}
-use Rattle.hol_model.specs.Theorem.{Theorem}
-use Rattle.hol_model.specs.HolType.{bool_type}
-use Rattle.hol_model.specs.NamedTerm.{combination, equation}
-use Rattle.hol_model.specs.NamedLogic.{true_term, implication, forall_term}
-use Rattle.hol_model.specs.Theory.{type_a}
-use Rattle.hol_model.specs.Derivable.{nameless_equation}
-use Rattle.hol_model.specs.Logic.{forall_name, exists_name}
+use Rattle.hol_model.specs.Kernel.Theorem.{Theorem}
+use Rattle.hol_model.specs.Terms.HolType.{bool_type}
+use Rattle.hol_model.specs.Terms.NamedTerm.{combination, equation}
+use Rattle.hol_model.specs.Logic.NamedLogic.{true_term, implication, forall_term}
+use Rattle.hol_model.specs.Logic.Theory.{type_a}
+use Rattle.hol_model.specs.Logic.Derivable.{nameless_equation}
+use Rattle.hol_model.specs.Logic.Logic.{forall_name, exists_name}
 use Rattle.hol_equal.specs.Sequents.{Shows}
 use Rattle.hol_prelude.specs.Prelude.{prelude_theorems, shown, p, q, P, x, P_x, always, forall_P, exists_P}
 use Rattle.hol_equal.proofs.CutLemmas.{shows-itself}

@@ -4,18 +4,18 @@ use Rattle.std.specs.Option.{option_map}
 use Rattle.std.specs.List.{list_all}
 use Rattle.std.proofs.lemmas.Bool.{leb-true, le-leb}
 use Rattle.hol_model.specs.declared.limits.TheConstants.{TYPE_NODES_LIMIT, TERM_NODES_LIMIT, TERM_HEIGHT_LIMIT}
-use Rattle.hol_model.specs.HolType.{HolType, bool_type, function_type, type_nodes}
-use Rattle.hol_model.specs.NamedTerm.{NamedTerm, abstraction, type_of, height, nodes, some_type_fits, types_fit, is_within_limits}
-use Rattle.hol_model.specs.Nameless.{Nameless, free, const, app, image}
-use Rattle.hol_model.specs.Measures.{nameless_height, nameless_nodes, nameless_types_fit, nameless_within_limits}
-use Rattle.hol_model.specs.Logic.{predicate, quantifier}
-use Rattle.hol_model.specs.Substitution.{close, fill}
-use Rattle.hol_model.specs.Derivable.{nameless_equation}
-use Rattle.hol_model.specs.DerivedRules.{is_roomy, is_roomy_type, has_roomy_types}
+use Rattle.hol_model.specs.Terms.HolType.{HolType, bool_type, function_type, type_nodes}
+use Rattle.hol_model.specs.Terms.NamedTerm.{NamedTerm, abstraction, type_of, height, nodes, some_type_fits, types_fit, is_within_limits}
+use Rattle.hol_model.specs.Terms.Nameless.{Nameless, free, const, app, image}
+use Rattle.hol_model.specs.Terms.Measures.{nameless_height, nameless_nodes, nameless_types_fit, nameless_within_limits}
+use Rattle.hol_model.specs.Logic.Logic.{predicate, quantifier}
+use Rattle.hol_model.specs.Terms.Substitution.{close, fill}
+use Rattle.hol_model.specs.Logic.Derivable.{nameless_equation}
+use Rattle.hol_model.specs.Derived.DerivedRules.{is_roomy, is_roomy_type, has_roomy_types}
 use Rattle.hol_model.proofs.Tests.{first_of_both, second_of_both, both}
-use Rattle.hol_model.proofs.Images.{image-typed, image-abstraction}
-use Rattle.hol_model.proofs.Measures.{height-image, nodes-image, past_limits-image, past_limits-abstraction}
-use Rattle.hol_model.proofs.WithinLimits.{within_limits-image}
+use Rattle.hol_model.proofs.Terms.Images.{image-typed, image-abstraction}
+use Rattle.hol_model.proofs.Terms.Measures.{height-image, nodes-image, past_limits-image, past_limits-abstraction}
+use Rattle.hol_model.proofs.Terms.WithinLimits.{within_limits-image}
 use Rattle.hol_equal.specs.Conversions.{closed, trivial, conversion, conversion_fits}
 use Rattle.hol_equal.proofs.Sizes.{IsSized, leaves_room, sized-app, sized-equation, sized-more, sized-within}
 use Rattle.hol_quant.specs.PredicateLemmas.{at_type, at_predicate, lemma_fits}

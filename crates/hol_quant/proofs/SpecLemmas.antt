@@ -4,22 +4,22 @@ use Rattle.std.specs.Prelude.{codes}
 use Rattle.std.specs.List.{list_all}
 use Rattle.hol_model.specs.declared.fault.Fault.{Fault}
 use Rattle.hol_model.specs.declared.fault.Fault.TheVariants.{Memory}
-use Rattle.hol_model.specs.HolType.{HolType, bool_type}
-use Rattle.hol_model.specs.NamedTerm.{NamedTerm, combination, type_of, dest_abstraction, equation}
-use Rattle.hol_model.specs.NamedLogic.{is_constant_named}
-use Rattle.hol_model.specs.Nameless.{Nameless, free, const, app, image}
-use Rattle.hol_model.specs.Measures.{nameless_within_limits}
-use Rattle.hol_model.specs.Logic.{forall_name, predicate, quantifier}
-use Rattle.hol_model.specs.Substitution.{close, fill}
-use Rattle.hol_model.specs.Theory.{Theory, IsLegal, generic_type, type_a}
-use Rattle.hol_model.specs.Theorem.{Theorem, IsTheorem}
-use Rattle.hol_model.specs.Derivable.{IsMember, nameless_equation}
-use Rattle.hol_model.specs.Outcome.{Answers, refused}
-use Rattle.hol_model.specs.Rules.{first_unknown, concluded, refl_outcome}
-use Rattle.hol_model.specs.DerivedRules.{Stated, AnswersStated, up_to_names, images, terms_of_theorem, terms_of_stated, is_roomy, spec_outcome}
-use Rattle.hol_model.proofs.HolTypeEq.{type_eq-self}
-use Rattle.hol_model.proofs.Images.{image-abstraction}
-use Rattle.hol_model.proofs.Membership.{IsMember-append_right}
+use Rattle.hol_model.specs.Terms.HolType.{HolType, bool_type}
+use Rattle.hol_model.specs.Terms.NamedTerm.{NamedTerm, combination, type_of, dest_abstraction, equation}
+use Rattle.hol_model.specs.Logic.NamedLogic.{is_constant_named}
+use Rattle.hol_model.specs.Terms.Nameless.{Nameless, free, const, app, image}
+use Rattle.hol_model.specs.Terms.Measures.{nameless_within_limits}
+use Rattle.hol_model.specs.Logic.Logic.{forall_name, predicate, quantifier}
+use Rattle.hol_model.specs.Terms.Substitution.{close, fill}
+use Rattle.hol_model.specs.Logic.Theory.{Theory, IsLegal, generic_type, type_a}
+use Rattle.hol_model.specs.Kernel.Theorem.{Theorem, IsTheorem}
+use Rattle.hol_model.specs.Logic.Derivable.{IsMember, nameless_equation}
+use Rattle.hol_model.specs.Kernel.Outcome.{Answers, refused}
+use Rattle.hol_model.specs.Kernel.Rules.{first_unknown, concluded, refl_outcome}
+use Rattle.hol_model.specs.Derived.DerivedRules.{Stated, AnswersStated, up_to_names, images, terms_of_theorem, terms_of_stated, is_roomy, spec_outcome}
+use Rattle.hol_model.proofs.Terms.HolTypeEq.{type_eq-self}
+use Rattle.hol_model.proofs.Terms.Images.{image-abstraction}
+use Rattle.hol_model.proofs.Terms.Membership.{IsMember-append_right}
 use Rattle.hol_model.proofs.Tests.{first_of_both, second_of_both}
 use Rattle.hol_kernel.proofs.RuleLemmas.{known_term}
 use Rattle.hol_journal.specs.Journal.{Journal, Recorded, IsMade, theorem_in}

@@ -3,16 +3,16 @@ use Rattle.std.proofs.Common.{◌≡◌, ◌⊎◌, ℕ, List, [], ◌∷◌, Bo
 use Rattle.hol_model.specs.declared.fault.Fault.{Fault}
 use Rattle.hol_model.specs.declared.fault.Fault.TheVariants.{Memory}
 use Rattle.hol_model.specs.declared.limits.TheConstants.{TERM_NODES_LIMIT, TERM_HEIGHT_LIMIT}
-use Rattle.hol_model.specs.HolType.{HolType, bool_type, function_type, codomain_of}
-use Rattle.hol_model.specs.NamedTerm.{NamedTerm, variable, type_of, same_variable, type_fits, is_within_limits}
-use Rattle.hol_model.specs.Nameless.{Nameless, free, const, bound, app, lam, image, nameless_type}
-use Rattle.hol_model.specs.Measures.{nameless_height, nameless_nodes, nameless_types_fit, nameless_within_limits}
-use Rattle.hol_model.specs.Substitution.{TermInstance, put, only, put_all}
-use Rattle.hol_model.specs.Outcome.{AnswersSuch}
-use Rattle.hol_model.proofs.WithinLimits.{within_limits-image}
-use Rattle.hol_model.proofs.Filling.{fill_at-close_at}
-use Rattle.hol_model.proofs.HolTypeEq.{type_eq-self}
-use Rattle.hol_model.proofs.Images.{image-typed}
+use Rattle.hol_model.specs.Terms.HolType.{HolType, bool_type, function_type, codomain_of}
+use Rattle.hol_model.specs.Terms.NamedTerm.{NamedTerm, variable, type_of, same_variable, type_fits, is_within_limits}
+use Rattle.hol_model.specs.Terms.Nameless.{Nameless, free, const, bound, app, lam, image, nameless_type}
+use Rattle.hol_model.specs.Terms.Measures.{nameless_height, nameless_nodes, nameless_types_fit, nameless_within_limits}
+use Rattle.hol_model.specs.Terms.Substitution.{TermInstance, put, only, put_all}
+use Rattle.hol_model.specs.Kernel.Outcome.{AnswersSuch}
+use Rattle.hol_model.proofs.Terms.WithinLimits.{within_limits-image}
+use Rattle.hol_model.proofs.Terms.Filling.{fill_at-close_at}
+use Rattle.hol_model.proofs.Terms.HolTypeEq.{type_eq-self}
+use Rattle.hol_model.proofs.Terms.Images.{image-typed}
 use Rattle.hol_model.proofs.Tests.{same_variable-type}
 use Rattle.hol_subst.specs.Outcomes.{vsubst_refusal}
 use Rattle.hol_equal.specs.Room.{IsSized}

@@ -2,12 +2,12 @@
 use Rattle.std.proofs.Common.{◌≡◌, ◌⊎◌, [], Bool, true, false, ◌&&◌, not, if◌then◌else◌, refl, inl, inr, Option, Some, None, Result, Err}
 use Rattle.hol_model.specs.declared.fault.Fault.{Fault}
 use Rattle.hol_model.specs.declared.fault.Fault.TheVariants.{Memory, UnknownType, UnknownConst, NotInstance}
-use Rattle.hol_model.specs.NamedTerm.{NamedTerm, equation}
-use Rattle.hol_model.specs.KnownTerm.{knows_types, knows_constants, has_instances, is_known}
-use Rattle.hol_model.specs.Theory.{Theory}
-use Rattle.hol_model.specs.Theorem.{Theorem}
-use Rattle.hol_model.specs.Outcome.{Answers, refused}
-use Rattle.hol_model.specs.Rules.{first_unknown, concluded, refl_outcome}
+use Rattle.hol_model.specs.Terms.NamedTerm.{NamedTerm, equation}
+use Rattle.hol_model.specs.Logic.KnownTerm.{knows_types, knows_constants, has_instances, is_known}
+use Rattle.hol_model.specs.Logic.Theory.{Theory}
+use Rattle.hol_model.specs.Kernel.Theorem.{Theorem}
+use Rattle.hol_model.specs.Kernel.Outcome.{Answers, refused}
+use Rattle.hol_model.specs.Kernel.Rules.{first_unknown, concluded, refl_outcome}
 
 abbrev first_of : Bool → Bool → Bool → Option Fault
 first_of types constants instances = if not types then Some UnknownType else (if not constants then Some UnknownConst else (if not instances then Some NotInstance else None))

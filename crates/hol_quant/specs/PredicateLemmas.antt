@@ -1,14 +1,14 @@
 -- Lemmas over a predicate `P` on the type variable `A` and an element `x` or a formula `q`, at a predicate and at such.
 use Rattle.std.specs.Prelude.{ℕ, List, [], ◌∷◌, Bool, codes}
 use Rattle.std.specs.List.{list_all}
-use Rattle.hol_model.specs.HolType.{HolType, bool_type}
-use Rattle.hol_model.specs.NamedTerm.{NamedTerm, variable}
-use Rattle.hol_model.specs.Nameless.{Nameless, free, const, bound, app, lam}
-use Rattle.hol_model.specs.Measures.{nameless_within_limits}
-use Rattle.hol_model.specs.Instantiation.{instantiate_all}
-use Rattle.hol_model.specs.Logic.{true_term, predicate, quantifier, implication, forall_term}
-use Rattle.hol_model.specs.Theory.{type_a}
-use Rattle.hol_model.specs.Derivable.{nameless_equation}
+use Rattle.hol_model.specs.Terms.HolType.{HolType, bool_type}
+use Rattle.hol_model.specs.Terms.NamedTerm.{NamedTerm, variable}
+use Rattle.hol_model.specs.Terms.Nameless.{Nameless, free, const, bound, app, lam}
+use Rattle.hol_model.specs.Terms.Measures.{nameless_within_limits}
+use Rattle.hol_model.specs.Kernel.Instantiation.{instantiate_all}
+use Rattle.hol_model.specs.Logic.Logic.{true_term, predicate, quantifier, implication, forall_term}
+use Rattle.hol_model.specs.Logic.Theory.{type_a}
+use Rattle.hol_model.specs.Logic.Derivable.{nameless_equation}
 use Rattle.hol_equal.specs.Sequents.{instance_of}
 
 -- a term of the lemma with the type for `A`

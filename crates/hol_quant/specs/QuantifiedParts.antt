@@ -1,12 +1,12 @@
 -- Quantified formulas by their parts, and witnesses of existential formulas.
 use Rattle.std.specs.Prelude.{◌≡◌, ℕ, List, [], ◌∷◌, Some}
-use Rattle.hol_model.specs.HolType.{HolType, bool_type}
-use Rattle.hol_model.specs.NamedTerm.{NamedTerm, variable, abstraction, type_of}
-use Rattle.hol_model.specs.NamedLogic.{dest_quantified}
-use Rattle.hol_model.specs.Nameless.{Nameless, const, app, image}
-use Rattle.hol_model.specs.Logic.{exists_name, predicate, quantifier}
-use Rattle.hol_model.specs.Substitution.{close, fill}
-use Rattle.hol_model.specs.Theory.{Theory, IsKnown}
+use Rattle.hol_model.specs.Terms.HolType.{HolType, bool_type}
+use Rattle.hol_model.specs.Terms.NamedTerm.{NamedTerm, variable, abstraction, type_of}
+use Rattle.hol_model.specs.Logic.NamedLogic.{dest_quantified}
+use Rattle.hol_model.specs.Terms.Nameless.{Nameless, const, app, image}
+use Rattle.hol_model.specs.Logic.Logic.{exists_name, predicate, quantifier}
+use Rattle.hol_model.specs.Terms.Substitution.{close, fill}
+use Rattle.hol_model.specs.Logic.Theory.{Theory, IsKnown}
 use Rattle.hol_equal.specs.Conversions.{closed}
 
 -- a known formula with a quantifier over an abstraction

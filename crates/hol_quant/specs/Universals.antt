@@ -1,14 +1,14 @@
 -- A formula that is quantified over a variable.
 use Rattle.std.specs.Prelude.{◌≡◌, ◌≤◌, ℕ, List, true}
-use Rattle.hol_model.specs.HolType.{HolType, type_nodes}
-use Rattle.hol_model.specs.NamedTerm.{NamedTerm, variable}
-use Rattle.hol_model.specs.Nameless.{Nameless, image}
-use Rattle.hol_model.specs.Substitution.{close}
-use Rattle.hol_model.specs.Theory.{Theory, IsKnownType}
-use Rattle.hol_model.specs.Logic.{forall_term}
-use Rattle.hol_model.specs.Derivable.{NotFreeInAny}
-use Rattle.hol_model.specs.Theorem.{Theorem}
-use Rattle.hol_model.specs.DerivedRules.{images, ROOMY_TYPE_NODES}
+use Rattle.hol_model.specs.Terms.HolType.{HolType, type_nodes}
+use Rattle.hol_model.specs.Terms.NamedTerm.{NamedTerm, variable}
+use Rattle.hol_model.specs.Terms.Nameless.{Nameless, image}
+use Rattle.hol_model.specs.Terms.Substitution.{close}
+use Rattle.hol_model.specs.Logic.Theory.{Theory, IsKnownType}
+use Rattle.hol_model.specs.Logic.Logic.{forall_term}
+use Rattle.hol_model.specs.Logic.Derivable.{NotFreeInAny}
+use Rattle.hol_model.specs.Kernel.Theorem.{Theorem}
+use Rattle.hol_model.specs.Derived.DerivedRules.{images, ROOMY_TYPE_NODES}
 use Rattle.hol_equal.specs.Room.{Room, FitsIf}
 
 -- !x. p

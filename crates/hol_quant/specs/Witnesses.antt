@@ -1,13 +1,13 @@
 -- What CHOOSE puts together: an existential formula, its body at a variable, and what suffices for a formula.
 use Rattle.std.specs.Prelude.{◌≡◌, ℕ, List, [], ◌∷◌, Bool, Some}
 use Rattle.std.specs.List.{list_all}
-use Rattle.hol_model.specs.HolType.{HolType, bool_type}
-use Rattle.hol_model.specs.NamedTerm.{NamedTerm, variable, abstraction, type_of}
-use Rattle.hol_model.specs.Nameless.{Nameless, const, bound, app, image}
-use Rattle.hol_model.specs.Substitution.{close, fill}
-use Rattle.hol_model.specs.Theory.{Theory, IsKnown, IsKnownType}
-use Rattle.hol_model.specs.Logic.{exists_name, predicate, quantifier, implication, forall_term}
-use Rattle.hol_model.specs.DerivedRules.{is_roomy}
+use Rattle.hol_model.specs.Terms.HolType.{HolType, bool_type}
+use Rattle.hol_model.specs.Terms.NamedTerm.{NamedTerm, variable, abstraction, type_of}
+use Rattle.hol_model.specs.Terms.Nameless.{Nameless, const, bound, app, image}
+use Rattle.hol_model.specs.Terms.Substitution.{close, fill}
+use Rattle.hol_model.specs.Logic.Theory.{Theory, IsKnown, IsKnownType}
+use Rattle.hol_model.specs.Logic.Logic.{exists_name, predicate, quantifier, implication, forall_term}
+use Rattle.hol_model.specs.Derived.DerivedRules.{is_roomy}
 use Rattle.hol_equal.specs.Conversions.{closed}
 
 -- an abstraction of a formula, its variable and another variable of the type, all of them known

@@ -1,16 +1,16 @@
 // GEN, over the lemmas `p |- p <=> T` and `P = (\x. T) |- (!) P`.
 ghost use Rattle.std.specs.Prelude.{◌≡◌, ◌∷◌, ℕ, List, [], Some, IfOk, IfErr, codes};
 ghost use Rattle.hol_model.specs.declared.fault.Fault.TheVariants.{Memory};
-ghost use Rattle.hol_model.specs.HolType.{HolType, bool_type};
-ghost use Rattle.hol_model.specs.Logic.{forall_name, predicate, quantifier};
-ghost use Rattle.hol_model.specs.Measures.{nameless_within_limits};
-ghost use Rattle.hol_model.specs.NamedLogic.{true_term};
-ghost use Rattle.hol_model.specs.NamedTerm.{variable, constant, combination, abstraction, type_of};
-ghost use Rattle.hol_model.specs.Nameless.{free, const, app, image};
-ghost use Rattle.hol_model.specs.Derivable.{nameless_equation};
-ghost use Rattle.hol_model.specs.Rules.{is_free_in_hypotheses};
-ghost use Rattle.hol_model.specs.DerivedRules.{AnswersStated, images, terms_of_theorem, gen_outcome};
-ghost use Rattle.hol_model.specs.InferenceRules.{rule_gen};
+ghost use Rattle.hol_model.specs.Terms.HolType.{HolType, bool_type};
+ghost use Rattle.hol_model.specs.Logic.Logic.{forall_name, predicate, quantifier};
+ghost use Rattle.hol_model.specs.Terms.Measures.{nameless_within_limits};
+ghost use Rattle.hol_model.specs.Logic.NamedLogic.{true_term};
+ghost use Rattle.hol_model.specs.Terms.NamedTerm.{variable, constant, combination, abstraction, type_of};
+ghost use Rattle.hol_model.specs.Terms.Nameless.{free, const, app, image};
+ghost use Rattle.hol_model.specs.Logic.Derivable.{nameless_equation};
+ghost use Rattle.hol_model.specs.Kernel.Rules.{is_free_in_hypotheses};
+ghost use Rattle.hol_model.specs.Derived.DerivedRules.{AnswersStated, images, terms_of_theorem, gen_outcome};
+ghost use Rattle.hol_model.specs.Derived.InferenceRules.{rule_gen};
 ghost use Rattle.hol_journal.specs.Journal.{IsMade, theorem_in};
 ghost use Rattle.hol_prelude.specs.HasLogic.{HasLogic};
 ghost use Rattle.hol_equal.specs.Room.{Room, FitsIf};

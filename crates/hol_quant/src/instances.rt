@@ -1,11 +1,11 @@
 // Instances of lemmas over a predicate `P` and an element `x`, or a formula `q`.
 ghost use Rattle.std.specs.Prelude.{◌≡◌, ◌∷◌, List, [], Some, IfOk, IfErr, codes};
 ghost use Rattle.hol_model.specs.declared.fault.Fault.TheVariants.{Memory};
-ghost use Rattle.hol_model.specs.HolType.{HolType, bool_type};
-ghost use Rattle.hol_model.specs.Logic.{predicate};
-ghost use Rattle.hol_model.specs.NamedTerm.{variable, type_of};
-ghost use Rattle.hol_model.specs.Nameless.{Nameless, image};
-ghost use Rattle.hol_model.specs.Theory.{IsKnown, type_a};
+ghost use Rattle.hol_model.specs.Terms.HolType.{HolType, bool_type};
+ghost use Rattle.hol_model.specs.Logic.Logic.{predicate};
+ghost use Rattle.hol_model.specs.Terms.NamedTerm.{variable, type_of};
+ghost use Rattle.hol_model.specs.Terms.Nameless.{Nameless, image};
+ghost use Rattle.hol_model.specs.Logic.Theory.{IsKnown, type_a};
 ghost use Rattle.hol_journal.specs.Journal.{IsMade};
 ghost use Rattle.hol_equal.specs.Formulas.{IsFormula};
 ghost use Rattle.hol_equal.specs.Sequents.{Shows, DerivesIf, Continues};

@@ -1,8 +1,8 @@
 // The parts of quantified formulas.
 ghost use Rattle.std.specs.Prelude.{◌≡◌, Some, true, IfSome};
 ghost use Rattle.std.specs.Option.{is_some};
-ghost use Rattle.hol_model.specs.NamedTerm.{combination, dest_abstraction};
-ghost use Rattle.hol_model.specs.NamedLogic.{is_constant_named, dest_quantified};
+ghost use Rattle.hol_model.specs.Terms.NamedTerm.{combination, dest_abstraction};
+ghost use Rattle.hol_model.specs.Logic.NamedLogic.{is_constant_named, dest_quantified};
 
 use hol_terms::{Parts, Term};
 

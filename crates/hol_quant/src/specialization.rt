@@ -1,10 +1,10 @@
 // SPEC, over the lemma `(!) P |- P x`.
 ghost use Rattle.std.specs.Prelude.{◌≡◌, ◌∷◌, [], Some};
-ghost use Rattle.hol_model.specs.Logic.{forall_name, quantifier};
-ghost use Rattle.hol_model.specs.Nameless.{image};
-ghost use Rattle.hol_model.specs.Theory.{generic_type, type_a};
-ghost use Rattle.hol_model.specs.DerivedRules.{AnswersStated, terms_of_theorem, spec_outcome};
-ghost use Rattle.hol_model.specs.InferenceRules.{rule_spec};
+ghost use Rattle.hol_model.specs.Logic.Logic.{forall_name, quantifier};
+ghost use Rattle.hol_model.specs.Terms.Nameless.{image};
+ghost use Rattle.hol_model.specs.Logic.Theory.{generic_type, type_a};
+ghost use Rattle.hol_model.specs.Derived.DerivedRules.{AnswersStated, terms_of_theorem, spec_outcome};
+ghost use Rattle.hol_model.specs.Derived.InferenceRules.{rule_spec};
 ghost use Rattle.hol_journal.specs.Journal.{IsMade, theorem_in};
 ghost use Rattle.hol_prelude.specs.HasLogic.{HasLogic};
 ghost use Rattle.hol_equal.specs.Sequents.{Shows, Continues};

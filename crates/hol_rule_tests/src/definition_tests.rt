@@ -209,7 +209,7 @@ fn declared_constants(rt: HostRuntime) -> Result<(), Fail> {
 }
 
 // A theorem of the theory without the definition, and that of the definition, go into one rule.
-#[tactic(auto, using(hol_kernel::proofs::DefinitionLemmas::earlier_too, hol_model::proofs::Earlier::earlier))]
+#[tactic(auto, using(hol_kernel::proofs::DefinitionLemmas::earlier_too, hol_model::proofs::Logic::Earlier::earlier))]
 fn earlier_and_later(alloc: Global) -> Result<Thm, Fault> {
     let mut theory = Theory::new(alloc)?;
     let earlier = prove(alloc, &theory, &REFL_P)?;

@@ -1,6 +1,6 @@
 // Terms and proofs of the tests, as data, and texts that show each name of a theorem.
 ghost use Rattle.std.specs.Prelude.{◌≡◌, IfOk};
-ghost use Rattle.hol_model.specs.Theory.{IsEarlier};
+ghost use Rattle.hol_model.specs.Logic.Theory.{IsEarlier};
 
 use hol_kernel::{Theory, Thm};
 use hol_model::Fault;
@@ -86,7 +86,7 @@ fn attempt(alloc: Global, proof: &Proof<'_>) -> Result<Thm, Fault> {
 }
 
 /// The theorem of the proof.
-#[tactic(auto, using(hol_model::proofs::Earlier::earlier))]
+#[tactic(auto, using(hol_model::proofs::Logic::Earlier::earlier))]
 pub(crate) fn prove(alloc: Global, theory: &Theory, proof: &Proof<'_>) -> Result<Thm, Fault>
     ensures { IfOk result (λ theorem. theorem.theory ≡ theory.now) }
 {

@@ -3,9 +3,9 @@ use Rattle.std.proofs.Common.{◌≡◌, inl, inr, List, ◌∷◌, ◌++◌, re
 use Rattle.std.specs.Prelude.{Bool, true, false, ◌&&◌}
 use Rattle.std.specs.List.{list_all}
 use Rattle.hol_model.specs.declared.fault.Fault.{Fault}
-use Rattle.hol_model.specs.Nameless.{Nameless}
-use Rattle.hol_model.specs.Theorem.{Theorem}
-use Rattle.hol_model.specs.DerivedRules.{Stated, AnswersStated, terms_of_stated, is_roomy}
+use Rattle.hol_model.specs.Terms.Nameless.{Nameless}
+use Rattle.hol_model.specs.Kernel.Theorem.{Theorem}
+use Rattle.hol_model.specs.Derived.DerivedRules.{Stated, AnswersStated, terms_of_stated, is_roomy}
 
 -- an answer for fewer arguments is one for more
 pub more-arguments : (result : Result Theorem Fault) (term : Nameless) (arguments : List Nameless) (outcome : Result Stated Fault) → AnswersStated result arguments outcome → AnswersStated result (term ∷ arguments) outcome

@@ -7,27 +7,27 @@ use Rattle.std.proofs.lemmas.Slice.Eq.{bytes_eq-Decides}
 use Rattle.indexmap.specs.IndexMap.{get_by_text}
 use Rattle.hol_model.specs.declared.fault.Fault.{Fault}
 use Rattle.hol_model.specs.declared.fault.Fault.TheVariants.{Memory, TooLarge, TypeMismatch, UnknownType, BadName, NotClosed, TypeVarsNotReflected, AlreadyDefined}
-use Rattle.hol_model.specs.Name.{is_constant_name, is_declared_type_name}
-use Rattle.hol_model.specs.HolType.{HolType}
-use Rattle.hol_model.specs.NamedTerm.{NamedTerm, constant, type_of, equation, is_within_limits}
-use Rattle.hol_model.specs.Nameless.{image}
-use Rattle.hol_model.specs.Theory.{Theory, definition, declaration_of_type, declaration_of_constant, generic_type, IsLegal, IsLegalType, IsLegalConstant}
-use Rattle.hol_model.specs.KnownTerm.{is_declared, knows_type}
-use Rattle.hol_model.specs.Legality.{is_closed, reflects, is_fixed, is_new_name, own_type}
-use Rattle.hol_model.specs.Outcome.{Answers, unless, refused}
-use Rattle.hol_model.specs.Constructors.{constant_outcome, typed_outcome, equation_outcome}
-use Rattle.hol_model.specs.Theorem.{Theorem}
-use Rattle.hol_model.specs.Rules.{first_unknown, is_full, with_definition, concluded, define_outcome, new_type_outcome, new_const_outcome}
-use Rattle.hol_model.specs.Reading.{Scope, meaning, type_meaning, ◌>>=◌}
-use Rattle.hol_model.specs.TermGrammar.{TermTree}
-use Rattle.hol_model.specs.TypeGrammar.{TypeTree}
-use Rattle.hol_model.specs.Commands.{SpellsCommand, def_command}
-use Rattle.hol_model.specs.Sessions.{State, scope_in, with_variable, over_theory, definition_name, def_outcome, newconst_outcome, theorem_line, Allows, proves, def_defines}
-use Rattle.hol_model.specs.Sessions as sessions
-use Rattle.hol_model.proofs.Outcomes.{passed_value}
+use Rattle.hol_model.specs.Terms.Name.{is_constant_name, is_declared_type_name}
+use Rattle.hol_model.specs.Terms.HolType.{HolType}
+use Rattle.hol_model.specs.Terms.NamedTerm.{NamedTerm, constant, type_of, equation, is_within_limits}
+use Rattle.hol_model.specs.Terms.Nameless.{image}
+use Rattle.hol_model.specs.Logic.Theory.{Theory, definition, declaration_of_type, declaration_of_constant, generic_type, IsLegal, IsLegalType, IsLegalConstant}
+use Rattle.hol_model.specs.Logic.KnownTerm.{is_declared, knows_type}
+use Rattle.hol_model.specs.Logic.Legality.{is_closed, reflects, is_fixed, is_new_name, own_type}
+use Rattle.hol_model.specs.Kernel.Outcome.{Answers, unless, refused}
+use Rattle.hol_model.specs.Kernel.Constructors.{constant_outcome, typed_outcome, equation_outcome}
+use Rattle.hol_model.specs.Kernel.Theorem.{Theorem}
+use Rattle.hol_model.specs.Kernel.Rules.{first_unknown, is_full, with_definition, concluded, define_outcome, new_type_outcome, new_const_outcome}
+use Rattle.hol_model.specs.Texts.Reading.{Scope, meaning, type_meaning, ◌>>=◌}
+use Rattle.hol_model.specs.Texts.TermGrammar.{TermTree}
+use Rattle.hol_model.specs.Texts.TypeGrammar.{TypeTree}
+use Rattle.hol_model.specs.Scripts.Commands.{SpellsCommand, def_command}
+use Rattle.hol_model.specs.Scripts.Sessions.{State, scope_in, with_variable, over_theory, definition_name, def_outcome, newconst_outcome, theorem_line, Allows, proves, def_defines}
+use Rattle.hol_model.specs.Scripts.Sessions as sessions
+use Rattle.hol_model.proofs.Kernel.Outcomes.{passed_value}
 use Rattle.hol_kernel.proofs.LimitLemmas.{equation-limited}
-use Rattle.hol_model.proofs.KnownTerms.{knows_type-IsKnownType}
-use Rattle.hol_model.proofs.LegalEntries.{fixed-has_none, new_name-IsNewName}
+use Rattle.hol_model.proofs.Logic.KnownTerms.{knows_type-IsKnownType}
+use Rattle.hol_model.proofs.Logic.LegalEntries.{fixed-has_none, new_name-IsNewName}
 use Rattle.hol_sound.specs.Laws.{IsSound}
 use Rattle.hol_syntax.specs.declared.scope.Scope.{Scope as ScopeHere}
 use Rattle.hol_syntax.specs.Scope.{scope_of, SetsConstant, SetsVariable, SetsType, KeepsScope}

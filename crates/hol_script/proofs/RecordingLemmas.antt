@@ -8,13 +8,13 @@ use Rattle.hol_model.specs.declared.fault.Fault.{Fault}
 use Rattle.hol_model.specs.declared.fault.Fault.TheVariants.{NotBool, NotTrivialBeta}
 use Rattle.hol_model.specs.declared.rule.TermRule.{TermRule}
 use Rattle.hol_model.specs.declared.rule.TermRule.TheVariants.{Refl, Beta, Assume}
-use Rattle.hol_model.specs.NamedTerm.{NamedTerm, equation, is_within_limits}
-use Rattle.hol_model.specs.Theory.{Theory, generic_type, IsLegal}
-use Rattle.hol_model.specs.KnownTerm.{is_declared}
-use Rattle.hol_model.specs.Theorem.{Theorem}
-use Rattle.hol_model.specs.Outcome.{Answers, unless, given, refused}
-use Rattle.hol_model.specs.Rules.{first_unknown, dest_trivial_redex, is_formula, concluded}
-use Rattle.hol_model.specs.Sessions.{term_rule_outcome}
+use Rattle.hol_model.specs.Terms.NamedTerm.{NamedTerm, equation, is_within_limits}
+use Rattle.hol_model.specs.Logic.Theory.{Theory, generic_type, IsLegal}
+use Rattle.hol_model.specs.Logic.KnownTerm.{is_declared}
+use Rattle.hol_model.specs.Kernel.Theorem.{Theorem}
+use Rattle.hol_model.specs.Kernel.Outcome.{Answers, unless, given, refused}
+use Rattle.hol_model.specs.Kernel.Rules.{first_unknown, dest_trivial_redex, is_formula, concluded}
+use Rattle.hol_model.specs.Scripts.Sessions.{term_rule_outcome}
 use Rattle.hol_journal.specs.Journal.{Journal, Recorded, IsMade, IsRecorded, theorem_in}
 use Rattle.hol_journal.specs.Steps.{Step}
 use Rattle.hol_journal.specs.Growth.{IsGrown, JournalsGrow}

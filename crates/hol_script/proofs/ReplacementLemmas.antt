@@ -3,16 +3,16 @@ use Rattle.std.proofs.Common.{◌≡◌, ◌⊎◌, inl, inr, ℕ, ◌+◌, ◌<
 use Rattle.std.proofs.lemmas.List.{append_assoc}
 use Rattle.hol_model.specs.declared.fault.Fault.{Fault}
 use Rattle.hol_model.specs.declared.fault.Fault.TheVariants.{Memory, UnknownName}
-use Rattle.hol_model.specs.Outcome.{given, AnswersSuch}
-use Rattle.hol_model.specs.HolType.{HolType}
-use Rattle.hol_model.specs.NamedTerm.{NamedTerm}
-use Rattle.hol_model.specs.TypeGrammar.{TypeTree}
-use Rattle.hol_model.specs.TermGrammar.{TermTree}
-use Rattle.hol_model.specs.Reading.{◌>>=◌}
-use Rattle.hol_model.specs.Instantiation.{inst_refusal, IsInst, inst_type_refusal, IsInstType}
-use Rattle.hol_model.specs.Commands.{by_inst, by_inst_type}
-use Rattle.hol_model.specs.Theorem.{Theorem}
-use Rattle.hol_model.specs.Sessions.{State, scope_in, replacement, type_replacement, each, with_stored, IsAnswerFor}
+use Rattle.hol_model.specs.Kernel.Outcome.{given, AnswersSuch}
+use Rattle.hol_model.specs.Terms.HolType.{HolType}
+use Rattle.hol_model.specs.Terms.NamedTerm.{NamedTerm}
+use Rattle.hol_model.specs.Texts.TypeGrammar.{TypeTree}
+use Rattle.hol_model.specs.Texts.TermGrammar.{TermTree}
+use Rattle.hol_model.specs.Texts.Reading.{◌>>=◌}
+use Rattle.hol_model.specs.Kernel.Instantiation.{inst_refusal, IsInst, inst_type_refusal, IsInstType}
+use Rattle.hol_model.specs.Scripts.Commands.{by_inst, by_inst_type}
+use Rattle.hol_model.specs.Kernel.Theorem.{Theorem}
+use Rattle.hol_model.specs.Scripts.Sessions.{State, scope_in, replacement, type_replacement, each, with_stored, IsAnswerFor}
 use Rattle.hol_script.specs.Answers.{AnswersRule}
 use Rattle.hol_command.specs.Views.{Match}
 

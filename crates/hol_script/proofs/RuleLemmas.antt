@@ -1,10 +1,10 @@
 -- What stands on an earlier theory is proved from a legal one.
 use Rattle.std.proofs.Common.{◌≡◌, [], map, sym}
-use Rattle.hol_model.specs.Nameless.{image}
-use Rattle.hol_model.specs.Theory.{Theory, IsEarlier, IsLegal}
-use Rattle.hol_model.specs.Theorem.{Theorem, IsTheorem}
-use Rattle.hol_model.specs.Sessions.{IsProved}
-use Rattle.hol_model.proofs.Later.{Derivable-earlier}
+use Rattle.hol_model.specs.Terms.Nameless.{image}
+use Rattle.hol_model.specs.Logic.Theory.{Theory, IsEarlier, IsLegal}
+use Rattle.hol_model.specs.Kernel.Theorem.{Theorem, IsTheorem}
+use Rattle.hol_model.specs.Scripts.Sessions.{IsProved}
+use Rattle.hol_model.proofs.Logic.Later.{Derivable-earlier}
 use Rattle.hol_sound.specs.Laws.{IsSound}
 
 pub same_is_earlier : (theory other : Theory) → other ≡ theory → IsEarlier other theory

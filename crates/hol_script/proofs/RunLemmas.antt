@@ -4,9 +4,9 @@ use Rattle.std.specs.Prelude.{MatchOption}
 use Rattle.std.specs.Io.KnownBytes.{Appends}
 use Rattle.hol_model.specs.declared.fault.Fault.{Fault}
 use Rattle.hol_model.specs.declared.fault.Fault.TheVariants.{Memory, Syntax}
-use Rattle.hol_model.specs.Reading.{Scope}
-use Rattle.hol_model.specs.Script.{begins_mark, has_mark, IsCut, Cuts, Request, line_feeds, leading_line_feeds, is_blank_text, request_and, requested}
-use Rattle.hol_model.specs.Sessions.{State, start, scope_in, Reply, proves, accepts, refused, finds_no_memory, is_unfinished, Turn, Session, Counts, no_counts, counting, counts_after, reply_text, refusal_line, IsRun, Tells, Stops}
+use Rattle.hol_model.specs.Texts.Reading.{Scope}
+use Rattle.hol_model.specs.Scripts.Script.{begins_mark, has_mark, IsCut, Cuts, Request, line_feeds, leading_line_feeds, is_blank_text, request_and, requested}
+use Rattle.hol_model.specs.Scripts.Sessions.{State, start, scope_in, Reply, proves, accepts, refused, finds_no_memory, is_unfinished, Turn, Session, Counts, no_counts, counting, counts_after, reply_text, refusal_line, IsRun, Tells, Stops}
 use Rattle.hol_model.proofs.Tests.{first_of_both, second_of_both}
 use Rattle.hol_script.specs.declared.session.Printed.{Printed}
 use Rattle.hol_script.specs.declared.session.Printed.TheVariants.{Nothing, Line}

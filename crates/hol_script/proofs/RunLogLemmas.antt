@@ -4,16 +4,16 @@ use Rattle.std.specs.Prelude.{IfOk, IfErr, IsErrOf, Contains, String, true}
 use Rattle.std.proofs.lemmas.List.{take_more, map-append}
 use Rattle.std.proofs.Common.{Vec, Global}
 use Rattle.indexmap.specs.IndexMap.{get_by_text}
-use Rattle.hol_model.specs.Name.{is_identifier}
-use Rattle.hol_model.specs.Derivable.{IsMember}
-use Rattle.hol_model.specs.Theorem.{Theorem}
+use Rattle.hol_model.specs.Terms.Name.{is_identifier}
+use Rattle.hol_model.specs.Logic.Derivable.{IsMember}
+use Rattle.hol_model.specs.Kernel.Theorem.{Theorem}
 use Rattle.hol_model.specs.declared.fault.Fault.{Fault}
 use Rattle.hol_model.specs.declared.fault.Fault.TheVariants.{Memory, ReadFault, TooLong, WriteFault}
 use Rattle.hol_model.specs.declared.limits.TheConstants.{TEXT_BYTES_LIMIT}
-use Rattle.hol_model.specs.LogState.{LogClaim}
-use Rattle.hol_model.specs.Script.{requested}
-use Rattle.hol_model.specs.Sessions.{State, Counts, Reply, proves, accepts, refused, IsRun, Stops}
-use Rattle.hol_model.proofs.Membership.{of_append}
+use Rattle.hol_model.specs.Logs.LogState.{LogClaim}
+use Rattle.hol_model.specs.Scripts.Script.{requested}
+use Rattle.hol_model.specs.Scripts.Sessions.{State, Counts, Reply, proves, accepts, refused, IsRun, Stops}
+use Rattle.hol_model.proofs.Terms.Membership.{of_append}
 use Rattle.hol_journal.specs.Steps.{sequent_of_theorem}
 use Rattle.hol_journal.specs.Journal.{Journal, Recorded}
 use Rattle.hol_journal.specs.LogWriting.{Claimed}

@@ -4,13 +4,13 @@ use Rattle.std.specs.Prelude.{true, false}
 use Rattle.std.specs.Option.{option_map, is_some}
 use Rattle.hol_model.specs.declared.fault.Fault.{Fault}
 use Rattle.hol_model.specs.declared.fault.Fault.TheVariants.{Memory, Syntax}
-use Rattle.hol_model.specs.Token.{Token}
-use Rattle.hol_model.specs.Lexing.{Lexes}
-use Rattle.hol_model.specs.Commands.{RuleTree, CommandTree, thm_command, show_command, var_command, def_command, newtype_command, newconst_command, IsReadCommand, SpellsCommand}
-use Rattle.hol_model.specs.Theorem.{Theorem}
-use Rattle.hol_model.specs.Sessions.{State, scope_in, proves, accepts, refused, Allows, finds_no_memory, is_no_command, thm_is_refused, thm_stores, is_theorem_name, IsRuleAnswer, with_theorem, IsProved}
-use Rattle.hol_model.specs.TypeGrammar.{TypeTree, type_steps}
-use Rattle.hol_model.specs.TermGrammar.{TermTree}
+use Rattle.hol_model.specs.Texts.Token.{Token}
+use Rattle.hol_model.specs.Texts.Lexing.{Lexes}
+use Rattle.hol_model.specs.Scripts.Commands.{RuleTree, CommandTree, thm_command, show_command, var_command, def_command, newtype_command, newconst_command, IsReadCommand, SpellsCommand}
+use Rattle.hol_model.specs.Kernel.Theorem.{Theorem}
+use Rattle.hol_model.specs.Scripts.Sessions.{State, scope_in, proves, accepts, refused, Allows, finds_no_memory, is_no_command, thm_is_refused, thm_stores, is_theorem_name, IsRuleAnswer, with_theorem, IsProved}
+use Rattle.hol_model.specs.Texts.TypeGrammar.{TypeTree, type_steps}
+use Rattle.hol_model.specs.Texts.TermGrammar.{TermTree}
 use Rattle.hol_grammar.specs.declared.type_reader.TypeStep.{TypeStep}
 use Rattle.hol_grammar.specs.declared.steps.TermStep.{TermStep}
 use Rattle.hol_syntax.specs.Scope.{scope_of}

@@ -8,27 +8,27 @@ use Rattle.std.proofs.Math.Nat.{add-sub_cancel}
 use Rattle.std.proofs.Math.Seq.{drop-append_seam}
 use Rattle.std.proofs.lemmas.Slice.Eq.{bytes_eq-Decides}
 use Rattle.hol_model.specs.declared.fault.Fault.{Fault}
-use Rattle.hol_model.specs.NamedTerm.{NamedTerm}
-use Rattle.hol_model.specs.Nameless.{image}
-use Rattle.hol_model.specs.Theory.{Theory, Entry, definition, declaration_of_type, declaration_of_constant, generic_type}
-use Rattle.hol_model.specs.KnownTerm.{is_declared}
-use Rattle.hol_model.specs.Legality.{is_new_name, own_type}
-use Rattle.hol_model.specs.Derivable.{IsMember}
-use Rattle.hol_model.specs.Theorem.{Theorem}
-use Rattle.hol_model.specs.Rules.{define_outcome, new_const_outcome}
-use Rattle.hol_model.specs.Reading.{meaning, type_meaning, ◌>>=◌}
-use Rattle.hol_model.specs.TermGrammar.{TermTree}
-use Rattle.hol_model.specs.TypeGrammar.{TypeTree}
-use Rattle.hol_model.specs.Script.{Request}
-use Rattle.hol_model.specs.Name.{is_capital, is_small, continues_name, all_continue, is_identifier}
+use Rattle.hol_model.specs.Terms.NamedTerm.{NamedTerm}
+use Rattle.hol_model.specs.Terms.Nameless.{image}
+use Rattle.hol_model.specs.Logic.Theory.{Theory, Entry, definition, declaration_of_type, declaration_of_constant, generic_type}
+use Rattle.hol_model.specs.Logic.KnownTerm.{is_declared}
+use Rattle.hol_model.specs.Logic.Legality.{is_new_name, own_type}
+use Rattle.hol_model.specs.Logic.Derivable.{IsMember}
+use Rattle.hol_model.specs.Kernel.Theorem.{Theorem}
+use Rattle.hol_model.specs.Kernel.Rules.{define_outcome, new_const_outcome}
+use Rattle.hol_model.specs.Texts.Reading.{meaning, type_meaning, ◌>>=◌}
+use Rattle.hol_model.specs.Texts.TermGrammar.{TermTree}
+use Rattle.hol_model.specs.Texts.TypeGrammar.{TypeTree}
+use Rattle.hol_model.specs.Scripts.Script.{Request}
+use Rattle.hol_model.specs.Terms.Name.{is_capital, is_small, continues_name, all_continue, is_identifier}
 use Rattle.hol_model.specs.declared.symbol.Symbol.TheVariants.{Equal}
-use Rattle.hol_model.specs.Token.{Token, Name, Mark}
-use Rattle.hol_model.specs.Lexing.{is_name_byte, Every, IsIdentifier, IsToken, Lexes}
-use Rattle.hol_model.specs.Commands.{CommandTree, thm_command, show_command, def_command, quote_tokens, rule_tokens, command_tokens, SpellsCommand}
+use Rattle.hol_model.specs.Texts.Token.{Token, Name, Mark}
+use Rattle.hol_model.specs.Texts.Lexing.{is_name_byte, Every, IsIdentifier, IsToken, Lexes}
+use Rattle.hol_model.specs.Scripts.Commands.{CommandTree, thm_command, show_command, def_command, quote_tokens, rule_tokens, command_tokens, SpellsCommand}
 use Rattle.hol_model.proofs.Tests.{first_of_both, second_of_both}
 use Rattle.std.proofs.lemmas.List.Folds.{list_all-append}
-use Rattle.hol_model.specs.Sessions.{State, start, scope_in, with_theorem, with_theorems, over_theory, is_theorem_name, definition_name, def_outcome, with_definition, newconst_outcome, Reply, proves, accepts, refused, Allows, finds_no_memory, is_unfinished, is_no_command, thm_has_bad_name, thm_has_taken_name, thm_is_refused, thm_stores, var_is_refused, var_declares, def_is_refused, def_defines, newtype_is_refused, newtype_declares, newconst_is_refused, newconst_declares, show_finds_none, show_prints, Session}
-use Rattle.hol_model.specs.Prelude.{stored_theorems}
+use Rattle.hol_model.specs.Scripts.Sessions.{State, start, scope_in, with_theorem, with_theorems, over_theory, is_theorem_name, definition_name, def_outcome, with_definition, newconst_outcome, Reply, proves, accepts, refused, Allows, finds_no_memory, is_unfinished, is_no_command, thm_has_bad_name, thm_has_taken_name, thm_is_refused, thm_stores, var_is_refused, var_declares, def_is_refused, def_defines, newtype_is_refused, newtype_declares, newconst_is_refused, newconst_declares, show_finds_none, show_prints, Session}
+use Rattle.hol_model.specs.Derived.Prelude.{stored_theorems}
 use Rattle.hol_script.specs.Beginning.{logical_state}
 use Rattle.hol_script.specs.Laws.{PrintedTheoremsStay}
 use Rattle.hol_script.proofs.GrowthLemmas.{definition-accepted, definition-was_new, type-accepted, const-accepted}

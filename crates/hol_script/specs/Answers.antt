@@ -3,10 +3,10 @@ use Rattle.std.specs.Prelude.{◌≡◌, ◌⊎◌, ℕ, List, [], Option, Some,
 use Rattle.std.proofs.Common.{Bor, Vec, Global}
 use Rattle.hol_model.specs.declared.fault.Fault.{Fault}
 use Rattle.hol_model.specs.declared.fault.Fault.TheVariants.{Memory, UnknownName}
-use Rattle.hol_model.specs.Theorem.{Theorem}
-use Rattle.hol_model.specs.Commands.{RuleTree}
-use Rattle.hol_model.specs.Reading.{Scope}
-use Rattle.hol_model.specs.Sessions.{State, IsRuleAnswer, Reply, proves, accepts, refused, Turn, scope_in, theorem_line, refusal_line}
+use Rattle.hol_model.specs.Kernel.Theorem.{Theorem}
+use Rattle.hol_model.specs.Scripts.Commands.{RuleTree}
+use Rattle.hol_model.specs.Texts.Reading.{Scope}
+use Rattle.hol_model.specs.Scripts.Sessions.{State, IsRuleAnswer, Reply, proves, accepts, refused, Turn, scope_in, theorem_line, refusal_line}
 use Rattle.hol_script.specs.declared.lines.TheoremLine.{TheoremLine}
 use Rattle.hol_script.specs.declared.session.Printed.{Printed}
 use Rattle.hol_script.specs.declared.session.Printed.TheVariants.{Nothing, Line}

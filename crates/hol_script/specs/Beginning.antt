@@ -1,11 +1,11 @@
 -- What stands when a script begins.
 use Rattle.std.specs.Prelude.{◌≡◌, ℕ, List, Some, None, slice_get}
-use Rattle.hol_model.specs.Logic.{logical_definitions}
-use Rattle.hol_model.specs.Theory.{Theory, generic_type}
-use Rattle.hol_model.specs.KnownTerm.{is_declared}
-use Rattle.hol_model.specs.Theorem.{Theorem}
-use Rattle.hol_model.specs.Reading.{Scope}
-use Rattle.hol_model.specs.Sessions.{State, with_theorem}
+use Rattle.hol_model.specs.Logic.Logic.{logical_definitions}
+use Rattle.hol_model.specs.Logic.Theory.{Theory, generic_type}
+use Rattle.hol_model.specs.Logic.KnownTerm.{is_declared}
+use Rattle.hol_model.specs.Kernel.Theorem.{Theorem}
+use Rattle.hol_model.specs.Texts.Reading.{Scope}
+use Rattle.hol_model.specs.Scripts.Sessions.{State, with_theorem}
 use Rattle.hol_prelude.specs.Prelude.{prelude_theorems}
 use Rattle.hol_script.specs.declared.beginning.StoredTheorem.{StoredTheorem}
 use Rattle.hol_command.specs.Views.{Match}

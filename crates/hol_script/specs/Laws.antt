@@ -1,10 +1,10 @@
 -- What is true of each session.
 use Rattle.std.specs.Prelude.{◌≡◌, ℕ, List, true, Some}
-use Rattle.hol_model.specs.Name.{is_identifier}
-use Rattle.hol_model.specs.Derivable.{IsMember}
-use Rattle.hol_model.specs.Theorem.{Theorem}
-use Rattle.hol_model.specs.Script.{Request}
-use Rattle.hol_model.specs.Sessions.{State, start, Reply, proves, Session}
+use Rattle.hol_model.specs.Terms.Name.{is_identifier}
+use Rattle.hol_model.specs.Logic.Derivable.{IsMember}
+use Rattle.hol_model.specs.Kernel.Theorem.{Theorem}
+use Rattle.hol_model.specs.Scripts.Script.{Request}
+use Rattle.hol_model.specs.Scripts.Sessions.{State, start, Reply, proves, Session}
 
 -- the name of each theorem that a session prints is an identifier, and stands for that theorem at the end
 pub record PrintedTheoremsStay : Type 0 where

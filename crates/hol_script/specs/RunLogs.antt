@@ -2,9 +2,9 @@
 use Rattle.std.specs.Prelude.{◌≡◌, ◌≤◌, ◌<◌, ℕ, List, [], ◌∷◌, ◌++◌, map, length, Option, Some, None, Ok}
 use Rattle.std.specs.Io.KnownBytes.{Appends}
 use Rattle.hol_model.specs.declared.limits.TheConstants.{TEXT_BYTES_LIMIT}
-use Rattle.hol_model.specs.LogState.{LogState, LogClaim}
-use Rattle.hol_model.specs.LogText.{log_outcome}
-use Rattle.hol_model.specs.Sessions.{Reply, proves, accepts, refused, Counts, Completes}
+use Rattle.hol_model.specs.Logs.LogState.{LogState, LogClaim}
+use Rattle.hol_model.specs.Logs.LogText.{log_outcome}
+use Rattle.hol_model.specs.Scripts.Sessions.{Reply, proves, accepts, refused, Counts, Completes}
 use Rattle.indexmap.specs.IndexMap.{get_by_text}
 use Rattle.hol_bytes.specs.Bytes.{AppendsFront}
 use Rattle.hol_logtext.specs.LogBytes.{log_text}

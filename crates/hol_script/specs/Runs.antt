@@ -1,7 +1,7 @@
 -- What a run has come to.
 use Rattle.std.specs.Prelude.{◌≡◌, ◌+◌, ◌++◌, ℕ, List, [], ◌∷◌, map, Option, Result, Ok, Err, string_bytes}
 use Rattle.hol_model.specs.declared.fault.Fault.{Fault}
-use Rattle.hol_model.specs.Sessions.{State, Reply, proves, accepts, refused, Counts, Completes}
+use Rattle.hol_model.specs.Scripts.Sessions.{State, Reply, proves, accepts, refused, Counts, Completes}
 use Rattle.hol_script.specs.declared.progress.Summary.{Summary}
 use Rattle.hol_script.specs.declared.progress.Progress.{Progress}
 use Rattle.hol_script.specs.declared.session.Printed.{Printed}

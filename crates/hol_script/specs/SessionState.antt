@@ -2,10 +2,10 @@
 use Rattle.std.specs.Prelude.{◌≡◌, ℕ, List, Option, Some}
 use Rattle.std.specs.Option.{option_map}
 use Rattle.indexmap.specs.IndexMap.{get_by_text}
-use Rattle.hol_model.specs.Theory.{IsLegal, generic_type}
-use Rattle.hol_model.specs.KnownTerm.{is_declared}
-use Rattle.hol_model.specs.Theorem.{Theorem}
-use Rattle.hol_model.specs.Sessions.{State}
+use Rattle.hol_model.specs.Logic.Theory.{IsLegal, generic_type}
+use Rattle.hol_model.specs.Logic.KnownTerm.{is_declared}
+use Rattle.hol_model.specs.Kernel.Theorem.{Theorem}
+use Rattle.hol_model.specs.Scripts.Sessions.{State}
 use Rattle.hol_journal.specs.Journal.{Journal, Recorded, IsMade}
 use Rattle.hol_prelude.specs.HasLogic.{HasLogic}
 use Rattle.hol_syntax.specs.Scope.{scope_of}

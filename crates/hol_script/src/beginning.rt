@@ -1,8 +1,8 @@
 // What stands when a script begins: the names of the logical constants, and the stored theorems.
 ghost use Rattle.std.specs.Prelude.{◌≡◌, Some, OnOk, IfOk, IfErr, drop};
-ghost use Rattle.hol_model.specs.Logic as logic;
-ghost use Rattle.hol_model.specs.Logic.{logical_definitions};
-ghost use Rattle.hol_model.specs.Theory.{type_a};
+ghost use Rattle.hol_model.specs.Logic.Logic as logic;
+ghost use Rattle.hol_model.specs.Logic.Logic.{logical_definitions};
+ghost use Rattle.hol_model.specs.Logic.Theory.{type_a};
 ghost use Rattle.hol_model.specs.declared.fault.Fault.TheVariants.{Memory};
 ghost use Rattle.hol_syntax.specs.Scope.{scope_of, SetsConstant};
 ghost use Rattle.hol_script.specs.Beginning.{IsScopeOf};

@@ -1,5 +1,5 @@
 //! Proof scripts: sessions, runs and their logs.
-#![tactic(auto, using(hol_model::proofs::Refusals::refusals))]
+#![tactic(auto, using(hol_model::proofs::Kernel::Refusals::refusals))]
 
 mod beginning;
 mod derivation;

@@ -1,8 +1,8 @@
 // Runs a script from a source to a sink, and writes its log to another.
 ghost use Rattle.std.specs.Prelude.{◌≡◌, ◌⊎◌, ◌≤◌, ◌<◌, ◌∷◌, [], true, false, map, length, Some, OnOk, OnErr, IfOk, IfErr, IfSome, IsErrOf, Contains};
 ghost use Rattle.std.specs.Io.KnownBytes.{Appends};
-ghost use Rattle.hol_model.specs.Sessions.{Completes, Stops, Tells};
-ghost use Rattle.hol_model.specs.Sessions as spec;
+ghost use Rattle.hol_model.specs.Scripts.Sessions.{Completes, Stops, Tells};
+ghost use Rattle.hol_model.specs.Scripts.Sessions as spec;
 ghost use Rattle.hol_model.specs.declared.fault.Fault.TheVariants.{Memory, ReadFault, WriteFault, TooLong};
 ghost use Rattle.hol_journal.specs.Pruning.{HaveIdentifiers};
 ghost use Rattle.hol_journal.specs.LogAccepted.{log_claim};

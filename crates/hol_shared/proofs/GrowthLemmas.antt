@@ -2,8 +2,8 @@
 use Rattle.std.proofs.Common.{◌≡◌, ℕ, ◌<◌, List, ◌++◌, length, ◌∙◌, ap, Some, arith, length-append, ◌+◌}
 use Rattle.std.proofs.lemmas.Option.{get_or_from_slice_get}
 use Rattle.std.specs.Prelude.{slice_get}
-use Rattle.hol_model.specs.HolType.{HolType, bool_type}
-use Rattle.hol_model.specs.Nameless.{Nameless, bound}
+use Rattle.hol_model.specs.Terms.HolType.{HolType, bool_type}
+use Rattle.hol_model.specs.Terms.Nameless.{Nameless, bound}
 use Rattle.hol_shared.specs.Growth.{IsLonger}
 use Rattle.hol_shared.specs.Terms.{type_at, TermTable, term_at, IsGrown}
 use Rattle.hol_shared.proofs.TableLemmas.{slice_get-longer, get_or-longer, IsLonger-trans}

@@ -3,8 +3,8 @@ use Rattle.std.proofs.Common.{◌≡◌, ℕ, ◌<◌, List, length, Some, Resul
 use Rattle.std.specs.Prelude.{slice_get}
 use Rattle.hol_model.specs.declared.fault.Fault.{Fault}
 use Rattle.hol_model.specs.declared.fault.Fault.TheVariants.{Memory}
-use Rattle.hol_model.specs.HolType.{HolType, codomain_of}
-use Rattle.hol_model.specs.Nameless.{Nameless, app}
+use Rattle.hol_model.specs.Terms.HolType.{HolType, codomain_of}
+use Rattle.hol_model.specs.Terms.Nameless.{Nameless, app}
 use Rattle.hol_shared.specs.Entries.{IsEntry, HasOnlyAdded}
 use Rattle.hol_shared.specs.Terms.{TermTable, type_at, term_at, IsGrown}
 use Rattle.hol_shared.specs.Typed.{IsTypedUnder}

@@ -3,12 +3,12 @@ use Rattle.std.proofs.Common.{◌≡◌, ℕ, ◌<◌, List, [], length, Bool, t
 use Rattle.std.specs.Prelude.{slice_get}
 use Rattle.std.proofs.lemmas.Option.{slice_get-get_or}
 use Rattle.hol_model.specs.declared.fault.Fault.{Fault}
-use Rattle.hol_model.specs.HolType.{HolType}
-use Rattle.hol_model.specs.NamedTerm.{same_variable}
-use Rattle.hol_model.specs.Nameless.{Nameless, free, const, bound, app, lam}
-use Rattle.hol_model.specs.Checks.{has_no_free}
-use Rattle.hol_model.specs.Substitution.{occurs_free}
-use Rattle.hol_model.proofs.Conditions.{first_of_both, second_of_both}
+use Rattle.hol_model.specs.Terms.HolType.{HolType}
+use Rattle.hol_model.specs.Terms.NamedTerm.{same_variable}
+use Rattle.hol_model.specs.Terms.Nameless.{Nameless, free, const, bound, app, lam}
+use Rattle.hol_model.specs.Logic.Checks.{has_no_free}
+use Rattle.hol_model.specs.Terms.Substitution.{occurs_free}
+use Rattle.hol_model.proofs.Logic.Conditions.{first_of_both, second_of_both}
 use Rattle.hol_model.proofs.Tests.{same_variable-self, same_name, same_variable-type}
 use Rattle.hol_shared.specs.Table.{HaveOneNumber}
 use Rattle.hol_shared.specs.Terms.{term_at}

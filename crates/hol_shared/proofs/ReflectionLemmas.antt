@@ -1,9 +1,9 @@
 -- Type variables of a whole, from those of its parts.
 use Rattle.std.proofs.Common.{◌≡◌, Bool, true, sym, ◌∙◌, ap}
-use Rattle.hol_model.specs.HolType.{HolType}
-use Rattle.hol_model.specs.Nameless.{Nameless, app, lam}
-use Rattle.hol_model.specs.Legality.{reflects_type}
-use Rattle.hol_model.specs.Checks.{reflects_nameless}
+use Rattle.hol_model.specs.Terms.HolType.{HolType}
+use Rattle.hol_model.specs.Terms.Nameless.{Nameless, app, lam}
+use Rattle.hol_model.specs.Logic.Legality.{reflects_type}
+use Rattle.hol_model.specs.Logic.Checks.{reflects_nameless}
 use Rattle.hol_model.proofs.Tests.{both}
 
 pub reflected-application : (whole : HolType) (t f a : Nameless) (first second : Bool) → t ≡ app f a → first ≡ true → first ≡ reflects_nameless whole f → second ≡ reflects_nameless whole a → second ≡ true → reflects_nameless whole t ≡ true

@@ -3,10 +3,10 @@ use Rattle.std.proofs.Common.{◌≡◌, ℕ, ◌<◌, ◌≤◌, List, [], ◌�
 use Rattle.std.specs.Prelude.{slice_get, nat_eq}
 use Rattle.std.proofs.lemmas.Bool.{eqb-true, eq-eqb}
 use Rattle.std.proofs.lemmas.Option.{slice_get-get_or, get_or_from_slice_get}
-use Rattle.hol_model.specs.HolType.{bool_type}
-use Rattle.hol_model.specs.Nameless.{Nameless, bound, same_term}
-use Rattle.hol_model.specs.Measures.{nameless_height, nameless_nodes}
-use Rattle.hol_model.specs.Checks.{has_no_free}
+use Rattle.hol_model.specs.Terms.HolType.{bool_type}
+use Rattle.hol_model.specs.Terms.Nameless.{Nameless, bound, same_term}
+use Rattle.hol_model.specs.Terms.Measures.{nameless_height, nameless_nodes}
+use Rattle.hol_model.specs.Logic.Checks.{has_no_free}
 use Rattle.hol_model.proofs.Tests.{same_answer, same_term-Decides}
 use Rattle.hol_shared.specs.Growth.{IsLonger}
 use Rattle.hol_shared.specs.Table.{HaveOneNumber, IsPut}

@@ -2,11 +2,11 @@
 use Rattle.std.proofs.Common.{◌≡◌, ℕ, ◌<◌, ◌≤◌, List, [], ◌∷◌, ◌++◌, length, get_or, refl, sym, ◌∙◌, ap, subst, inl, inr, Some, None, Result, IfOk, Ok, Err, arith, length-append}
 use Rattle.std.specs.Prelude.{slice_get}
 use Rattle.std.proofs.lemmas.Option.{slice_get-get_or, get_or_from_slice_get}
-use Rattle.hol_model.specs.HolType.{HolType, type_variable, bool_type, declared_type, type_nodes}
+use Rattle.hol_model.specs.Terms.HolType.{HolType, type_variable, bool_type, declared_type, type_nodes}
 use Rattle.hol_model.specs.declared.limits.TheConstants.{TYPE_NODES_LIMIT}
-use Rattle.hol_model.proofs.HolTypeEq.{type_eq-Decides}
+use Rattle.hol_model.proofs.Terms.HolTypeEq.{type_eq-Decides}
 use Rattle.hol_model.proofs.Tests.{same_answer}
-use Rattle.hol_model.specs.HolType.{type_eq}
+use Rattle.hol_model.specs.Terms.HolType.{type_eq}
 use Rattle.std.proofs.lemmas.Bool.{eqb-true, eq-eqb}
 use Rattle.std.specs.Prelude.{nat_eq}
 use Rattle.hol_shared.specs.Growth.{IsLonger}

@@ -1,10 +1,10 @@
 -- Types of terms that are kept.
 use Rattle.std.proofs.Common.{◌≡◌, ℕ, zero, suc, ◌-◌, ◌<◌, List, ◌∷◌, length, ◌&&◌, refl, sym, ◌∙◌, ap, inl, inr, Option, Some, None, arith}
 use Rattle.std.specs.Option.{IfSome}
-use Rattle.hol_model.specs.HolType.{HolType, function_type, codomain_of}
-use Rattle.hol_model.specs.NamedTerm.{type_fits}
-use Rattle.hol_model.specs.Nameless.{Nameless, free, const, bound, app, lam, binder_type, nameless_type}
-use Rattle.hol_model.specs.Measures.{nameless_types_fit}
+use Rattle.hol_model.specs.Terms.HolType.{HolType, function_type, codomain_of}
+use Rattle.hol_model.specs.Terms.NamedTerm.{type_fits}
+use Rattle.hol_model.specs.Terms.Nameless.{Nameless, free, const, bound, app, lam, binder_type, nameless_type}
+use Rattle.hol_model.specs.Terms.Measures.{nameless_types_fit}
 use Rattle.hol_shared.specs.Growth.{IsLonger}
 use Rattle.hol_shared.specs.Terms.{term_at}
 use Rattle.hol_shared.specs.Entries.{IsEntry, HasOnlyAdded}

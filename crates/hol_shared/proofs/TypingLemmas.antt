@@ -5,11 +5,11 @@ use Rattle.std.proofs.lemmas.Option.{slice_get-get_or}
 use Rattle.hol_model.specs.declared.fault.Fault.{Fault}
 use Rattle.hol_model.specs.declared.fault.Fault.TheVariants.{Memory, TooLarge}
 use Rattle.hol_model.specs.declared.limits.TheConstants.{TYPE_NODES_LIMIT}
-use Rattle.hol_model.specs.HolType.{HolType, function_type, codomain_of, type_nodes, bool_type}
-use Rattle.hol_model.specs.NamedTerm.{type_fits}
-use Rattle.hol_model.specs.Nameless.{Nameless, free, const, app, lam, nameless_type}
-use Rattle.hol_model.specs.Measures.{nameless_types_fit}
-use Rattle.hol_model.proofs.Measures.{past_limit-type}
+use Rattle.hol_model.specs.Terms.HolType.{HolType, function_type, codomain_of, type_nodes, bool_type}
+use Rattle.hol_model.specs.Terms.NamedTerm.{type_fits}
+use Rattle.hol_model.specs.Terms.Nameless.{Nameless, free, const, app, lam, nameless_type}
+use Rattle.hol_model.specs.Terms.Measures.{nameless_types_fit}
+use Rattle.hol_model.proofs.Terms.Measures.{past_limit-type}
 use Rattle.hol_model.proofs.Tests.{both}
 use Rattle.hol_shared.specs.Growth.{IsLonger}
 use Rattle.hol_shared.specs.Terms.{type_at}

@@ -1,6 +1,6 @@
 -- Bound variables whose binders stand around a term.
 use Rattle.std.specs.Prelude.{ℕ, ◌+◌, ◌-◌, max}
-use Rattle.hol_model.specs.Nameless.{Nameless, free, const, bound, app, lam}
+use Rattle.hol_model.specs.Terms.Nameless.{Nameless, free, const, bound, app, lam}
 
 -- the number of binders that the bound variables of the term need around it
 abbrev pub binders_needed : Nameless → ℕ

@@ -1,9 +1,9 @@
 -- Parts of a term in which a variable is not free.
 use Rattle.std.specs.Prelude.{◌≡◌, ℕ, List, Bool, false, Result, IfOk}
 use Rattle.hol_model.specs.declared.fault.Fault.{Fault}
-use Rattle.hol_model.specs.HolType.{HolType}
-use Rattle.hol_model.specs.Nameless.{Nameless}
-use Rattle.hol_model.specs.Substitution.{occurs_free}
+use Rattle.hol_model.specs.Terms.HolType.{HolType}
+use Rattle.hol_model.specs.Terms.Nameless.{Nameless}
+use Rattle.hol_model.specs.Terms.Substitution.{occurs_free}
 use Rattle.hol_shared.specs.Terms.{term_at}
 use Rattle.hol_shared.specs.Numbers.{IsNoted}
 

@@ -1,8 +1,8 @@
 -- Parts of a term whose type variables stand in a type.
 use Rattle.std.specs.Prelude.{◌≡◌, ℕ, List, true}
-use Rattle.hol_model.specs.HolType.{HolType}
-use Rattle.hol_model.specs.Nameless.{Nameless}
-use Rattle.hol_model.specs.Checks.{reflects_nameless}
+use Rattle.hol_model.specs.Terms.HolType.{HolType}
+use Rattle.hol_model.specs.Terms.Nameless.{Nameless}
+use Rattle.hol_model.specs.Logic.Checks.{reflects_nameless}
 use Rattle.hol_shared.specs.Terms.{term_at}
 use Rattle.hol_shared.specs.Numbers.{IsNoted}
 

@@ -1,8 +1,8 @@
 -- What a table of terms stands for, and what holds of it.
 use Rattle.std.specs.Prelude.{◌≡◌, ◌≤◌, ℕ, List, []}
-use Rattle.hol_model.specs.Nameless.{Nameless}
-use Rattle.hol_model.specs.Measures.{nameless_height, nameless_nodes}
-use Rattle.hol_model.specs.Checks.{has_no_free}
+use Rattle.hol_model.specs.Terms.Nameless.{Nameless}
+use Rattle.hol_model.specs.Terms.Measures.{nameless_height, nameless_nodes}
+use Rattle.hol_model.specs.Logic.Checks.{has_no_free}
 use Rattle.hol_model.specs.declared.limits.TheConstants.{TERM_HEIGHT_LIMIT, TERM_NODES_LIMIT}
 use Rattle.hol_shared.specs.Table.{values_after, HaveOneNumber, HoldsOfEach}
 use Rattle.hol_shared.specs.Types.{TypeTable}

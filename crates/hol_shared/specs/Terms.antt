@@ -1,12 +1,12 @@
 -- What nodes of terms denote.
 use Rattle.std.specs.Prelude.{ℕ, ◌⊎◌, ◌<◌, List, [], length}
 use Rattle.std.specs.List.{slice_index_or}
-use Rattle.hol_model.specs.HolType.{HolType, bool_type}
-use Rattle.hol_model.specs.Nameless.{Nameless, free, const, bound, app, lam}
+use Rattle.hol_model.specs.Terms.HolType.{HolType, bool_type}
+use Rattle.hol_model.specs.Terms.Nameless.{Nameless, free, const, bound, app, lam}
 use Rattle.hol_shared.specs.declared.terms.TermShape.{TermShape}
 use Rattle.hol_shared.specs.declared.terms.TermShape.TheVariants.{Free, Constant, Bound, Application, Abstraction}
 use Rattle.hol_shared.specs.declared.terms.TermNode.{TermNode}
-use Rattle.hol_model.specs.Measures.{nameless_height, nameless_nodes}
+use Rattle.hol_model.specs.Terms.Measures.{nameless_height, nameless_nodes}
 use Rattle.hol_model.specs.declared.limits.TheConstants.{TERM_HEIGHT_LIMIT, TERM_NODES_LIMIT}
 use Rattle.hol_shared.specs.Growth.{IsLonger}
 use Rattle.hol_shared.specs.Types.{TypeTable}

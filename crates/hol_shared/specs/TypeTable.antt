@@ -1,7 +1,7 @@
 -- What a table of types stands for, and what holds of it.
 use Rattle.std.specs.Prelude.{◌≡◌, ◌≤◌, ℕ, List, []}
 use Rattle.std.specs.List.{slice_index_or}
-use Rattle.hol_model.specs.HolType.{HolType, bool_type, type_nodes}
+use Rattle.hol_model.specs.Terms.HolType.{HolType, bool_type, type_nodes}
 use Rattle.hol_model.specs.declared.limits.TheConstants.{TYPE_NODES_LIMIT}
 use Rattle.hol_shared.specs.Table.{values_after, HaveOneNumber, HoldsOfEach}
 use Rattle.hol_shared.specs.Types.{TypeTable, type_of_node, StandsAfterParts}

@@ -1,8 +1,8 @@
 -- Types of terms that are kept.
 use Rattle.std.specs.Prelude.{◌≡◌, ◌<◌, ℕ, List, true, Some, slice_get, length}
-use Rattle.hol_model.specs.HolType.{HolType}
-use Rattle.hol_model.specs.Nameless.{Nameless, nameless_type}
-use Rattle.hol_model.specs.Measures.{nameless_types_fit}
+use Rattle.hol_model.specs.Terms.HolType.{HolType}
+use Rattle.hol_model.specs.Terms.Nameless.{Nameless, nameless_type}
+use Rattle.hol_model.specs.Terms.Measures.{nameless_types_fit}
 use Rattle.hol_shared.specs.Terms.{term_at}
 use Rattle.hol_shared.specs.Entries.{IsEntry}
 

@@ -1,7 +1,7 @@
 -- What nodes of types denote.
 use Rattle.std.specs.Prelude.{ℕ, ◌<◌, List, [], length}
 use Rattle.std.specs.List.{slice_index_or}
-use Rattle.hol_model.specs.HolType.{HolType, type_variable, bool_type, function_type, declared_type}
+use Rattle.hol_model.specs.Terms.HolType.{HolType, type_variable, bool_type, function_type, declared_type}
 use Rattle.hol_shared.specs.declared.types.TypeShape.{TypeShape}
 use Rattle.hol_shared.specs.declared.types.TypeShape.TheVariants.{Variable, Boolean, Function, Declared}
 use Rattle.hol_shared.specs.declared.types.TypeNode.{TypeNode}

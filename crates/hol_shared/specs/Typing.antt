@@ -2,9 +2,9 @@
 use Rattle.std.specs.Prelude.{◌≡◌, ◌⊎◌, ℕ, ◌<◌, List, [], ◌∷◌, true, false, Some, Result, slice_get, length, IfOk, IfErr}
 use Rattle.hol_model.specs.declared.fault.Fault.{Fault}
 use Rattle.hol_model.specs.declared.fault.Fault.TheVariants.{Memory, TooLarge}
-use Rattle.hol_model.specs.HolType.{HolType}
-use Rattle.hol_model.specs.Nameless.{Nameless, nameless_type}
-use Rattle.hol_model.specs.Measures.{nameless_types_fit}
+use Rattle.hol_model.specs.Terms.HolType.{HolType}
+use Rattle.hol_model.specs.Terms.Nameless.{Nameless, nameless_type}
+use Rattle.hol_model.specs.Terms.Measures.{nameless_types_fit}
 use Rattle.hol_shared.specs.Terms.{TermTable, type_at, term_at}
 use Rattle.hol_shared.specs.Entries.{IsEntry}
 use Rattle.hol_shared.specs.Typed.{IsTypedUnder}

@@ -2,8 +2,8 @@
 ghost use Rattle.std.specs.Prelude.{◌≡◌, ◌<◌, length};
 ghost use Rattle.std.specs.Ordering.{nat_cmp, ordering_then};
 ghost use Rattle.std.specs.Cmp.Lexicographic.{slice_cmp};
-ghost use Rattle.hol_model.specs.HolType.{type_cmp};
-ghost use Rattle.hol_model.specs.Nameless.{nameless_cmp};
+ghost use Rattle.hol_model.specs.Terms.HolType.{type_cmp};
+ghost use Rattle.hol_model.specs.Terms.Nameless.{nameless_cmp};
 ghost use Rattle.hol_shared.specs.Terms.{name_at, type_at, term_at};
 
 use crate::terms::{TermShape, Terms};

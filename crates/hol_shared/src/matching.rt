@@ -1,7 +1,7 @@
 // Whether a type is an instance of a generic one.
 ghost use Rattle.std.specs.Prelude.{◌≡◌, ◌<◌, length};
 ghost use Rattle.std.specs.Option.{option_map, IfSome};
-ghost use Rattle.hol_model.specs.HolType as spec;
+ghost use Rattle.hol_model.specs.Terms.HolType as spec;
 ghost use Rattle.hol_shared.specs.Terms.{name_at, type_at};
 
 use crate::terms::Terms;

@@ -1,9 +1,9 @@
 // Whether a variable is free in a term.
 ghost use Rattle.std.specs.Prelude.{◌≡◌, ◌<◌, ℕ, List, Some, slice_get, length, IfOk, IfErr};
 ghost use Rattle.hol_model.specs.declared.fault.Fault.TheVariants.{Memory};
-ghost use Rattle.hol_model.specs.HolType.{HolType};
-ghost use Rattle.hol_model.specs.Nameless.{free};
-ghost use Rattle.hol_model.specs.Substitution as substitution;
+ghost use Rattle.hol_model.specs.Terms.HolType.{HolType};
+ghost use Rattle.hol_model.specs.Terms.Nameless.{free};
+ghost use Rattle.hol_model.specs.Terms.Substitution as substitution;
 ghost use Rattle.hol_shared.specs.Terms.{term_at};
 ghost use Rattle.hol_shared.specs.Occurs.{AreAbsent, IsSearched};
 

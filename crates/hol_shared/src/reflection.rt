@@ -1,8 +1,8 @@
 // Type variables in types and in terms.
 ghost use Rattle.std.specs.Prelude.{◌≡◌, ◌<◌, length, IfOk, IfErr};
 ghost use Rattle.hol_model.specs.declared.fault.Fault.TheVariants.{Memory};
-ghost use Rattle.hol_model.specs.Legality as legality;
-ghost use Rattle.hol_model.specs.Checks.{reflects_nameless};
+ghost use Rattle.hol_model.specs.Logic.Legality as legality;
+ghost use Rattle.hol_model.specs.Logic.Checks.{reflects_nameless};
 ghost use Rattle.hol_shared.specs.Terms.{name_at, type_at, term_at};
 ghost use Rattle.hol_shared.specs.Reflection.{AllReflect};
 

@@ -1,9 +1,9 @@
 // Terms without bound names, each with one number.
 ghost use Rattle.std.specs.Prelude.{◌≡◌, ◌⊎◌, ◌+◌, ◌<◌, ◌≤◌, max, ℕ, List, [], Some, slice_get, nat_eq, length, IfOk, IfErr};
 ghost use Rattle.std.specs.Option.{IfSome};
-ghost use Rattle.hol_model.specs.Nameless.{free, const, bound, app, lam, same_term};
-ghost use Rattle.hol_model.specs.Measures.{nameless_height, nameless_nodes};
-ghost use Rattle.hol_model.specs.Checks.{has_no_free};
+ghost use Rattle.hol_model.specs.Terms.Nameless.{free, const, bound, app, lam, same_term};
+ghost use Rattle.hol_model.specs.Terms.Measures.{nameless_height, nameless_nodes};
+ghost use Rattle.hol_model.specs.Logic.Checks.{has_no_free};
 ghost use Rattle.hol_model.specs.declared.fault.Fault.TheVariants.{Memory, TooLarge};
 ghost use Rattle.hol_shared.specs.Growth.{IsLonger};
 ghost use Rattle.hol_shared.specs.Table.{IsPut, HaveOneNumber};
@@ -11,7 +11,7 @@ ghost use Rattle.hol_shared.specs.Loose.{binders_needed};
 ghost use Rattle.hol_shared.specs.Typed.{IsTyped, IsTypedUnderSome};
 ghost use Rattle.hol_shared.specs.Types.{type_of_shape, PartsStandBefore};
 ghost use Rattle.std.specs.Str.{bytes_eq};
-ghost use Rattle.hol_model.specs.HolType.{bool_type, type_variable, function_type, declared_type, type_nodes, type_eq};
+ghost use Rattle.hol_model.specs.Terms.HolType.{bool_type, type_variable, function_type, declared_type, type_nodes, type_eq};
 ghost use Rattle.hol_shared.specs.Terms.{TermTable, name_at, type_at, term_at, term_of_shape, term_of_node, TermPartsStandBefore, TermStandsAfterParts, type_table, IsGrown, IsTooLarge};
 
 use crate::memo::{recall_type, remember_type};
@@ -63,8 +63,8 @@ pub struct Terms {
 
 impl Model for Terms {
     ghost use Rattle.hol_shared.specs.Terms.{TermTable};
-    ghost use Rattle.hol_model.specs.HolTypeCode.{type_code};
-    ghost use Rattle.hol_model.specs.NamelessCode.{nameless_code};
+    ghost use Rattle.hol_model.specs.Terms.HolTypeCode.{type_code};
+    ghost use Rattle.hol_model.specs.Terms.NamelessCode.{nameless_code};
     ghost use Rattle.std.specs.Coded.{codes};
 
     ghost Value = { TermTable };

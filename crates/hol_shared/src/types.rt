@@ -3,7 +3,7 @@ ghost use Rattle.std.specs.Prelude.{◌≡◌, ◌⊎◌, ◌<◌, ◌≤◌, �
 ghost use Rattle.hol_shared.specs.Table.{IsPut, HaveOneNumber};
 ghost use Rattle.std.specs.List.{slice_index_or};
 ghost use Rattle.std.specs.Str.{bytes_eq};
-ghost use Rattle.hol_model.specs.HolType.{type_variable, bool_type, function_type, declared_type, type_nodes, type_eq};
+ghost use Rattle.hol_model.specs.Terms.HolType.{type_variable, bool_type, function_type, declared_type, type_nodes, type_eq};
 ghost use Rattle.hol_model.specs.declared.fault.Fault.TheVariants.{Memory, TooLarge};
 ghost use Rattle.hol_shared.specs.Growth.{IsLonger};
 ghost use Rattle.hol_shared.specs.Types.{type_of_shape, type_of_node, PartsStandBefore, StandsAfterParts};
@@ -49,7 +49,7 @@ pub struct Types {
 
 impl Model for Types {
     ghost use Rattle.hol_shared.specs.Types.{TypeTable};
-    ghost use Rattle.hol_model.specs.HolTypeCode.{type_code};
+    ghost use Rattle.hol_model.specs.Terms.HolTypeCode.{type_code};
     ghost use Rattle.std.specs.Coded.{codes};
 
     ghost Value = { TypeTable };

@@ -1,8 +1,8 @@
 // The types of terms, and whether the type of each part is within the limit.
 ghost use Rattle.std.specs.Prelude.{◌≡◌, ◌⊎◌, ◌<◌, true, false, [], ◌∷◌, Some, slice_get, length, IfOk, IfErr};
-ghost use Rattle.hol_model.specs.HolType.{codomain_of};
-ghost use Rattle.hol_model.specs.Nameless.{binder_type, nameless_type};
-ghost use Rattle.hol_model.specs.Measures.{nameless_within_limits};
+ghost use Rattle.hol_model.specs.Terms.HolType.{codomain_of};
+ghost use Rattle.hol_model.specs.Terms.Nameless.{binder_type, nameless_type};
+ghost use Rattle.hol_model.specs.Terms.Measures.{nameless_within_limits};
 ghost use Rattle.hol_model.specs.declared.fault.Fault.TheVariants.{Memory, TooLarge};
 ghost use Rattle.hol_shared.specs.Terms.{type_at, term_at, IsGrown};
 ghost use Rattle.hol_shared.specs.Entries.{HasOnlyAdded};

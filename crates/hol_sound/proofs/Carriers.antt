@@ -1,14 +1,14 @@
 -- The carriers of types, and the models that instances give.
 use Rattle.std.proofs.Common.{◌≡◌, List, [], ◌∷◌, ◌++◌, map, ℕ, refl, sym, ◌∙◌, ap, subst, inl, inr, Option, Some, None}
-use Rattle.hol_model.specs.HolType.{HolType, type_variable, bool_type, function_type, declared_type, TypeInstance, instantiate_type, OccursInType, part_at}
-use Rattle.hol_model.specs.Derivable.{IsMember}
-use Rattle.hol_model.specs.Theory.{Theory, definition, declaration_of_type, declaration_of_constant, IsLegal}
-use Rattle.hol_model.specs.Values.{Value, values_of, table}
-use Rattle.hol_model.specs.Tables.{first_of, each_row, each_before, tabulate}
-use Rattle.hol_model.specs.Models.{Model, carrier, carrier_over, part_carrier, instance_model}
-use Rattle.hol_model.specs.Holds.{IsModel, HasConstants, IsCarrier, IsDistinct}
-use Rattle.hol_model.proofs.Instances.{part_at-instance}
-use Rattle.hol_model.proofs.Membership.{of_append, of_map}
+use Rattle.hol_model.specs.Terms.HolType.{HolType, type_variable, bool_type, function_type, declared_type, TypeInstance, instantiate_type, OccursInType, part_at}
+use Rattle.hol_model.specs.Logic.Derivable.{IsMember}
+use Rattle.hol_model.specs.Logic.Theory.{Theory, definition, declaration_of_type, declaration_of_constant, IsLegal}
+use Rattle.hol_model.specs.Models.Values.{Value, values_of, table}
+use Rattle.hol_model.specs.Models.Tables.{first_of, each_row, each_before, tabulate}
+use Rattle.hol_model.specs.Models.Models.{Model, carrier, carrier_over, part_carrier, instance_model}
+use Rattle.hol_model.specs.Models.Holds.{IsModel, HasConstants, IsCarrier, IsDistinct}
+use Rattle.hol_model.proofs.Terms.Instances.{part_at-instance}
+use Rattle.hol_model.proofs.Terms.Membership.{of_append, of_map}
 use Rattle.hol_sound.proofs.Tables.{tabulate-member, of_each_before}
 
 pub first_of-member : (x : Value) (xs : List Value) → IsMember x xs → IsMember (first_of xs) xs

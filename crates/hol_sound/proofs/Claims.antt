@@ -1,5 +1,5 @@
 -- The claims of an accepted proof log hold.
-use Rattle.hol_model.proofs.AcceptedText.{accepted-sound}
+use Rattle.hol_model.proofs.Logs.AcceptedText.{accepted-sound}
 use Rattle.hol_sound.specs.LogClaims.{AcceptedClaimsHold}
 use Rattle.hol_sound.proofs.Soundness.{derivable-holds}
 

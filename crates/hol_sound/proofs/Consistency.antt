@@ -2,16 +2,16 @@
 use Rattle.std.proofs.Common.{◌≡◌, ℕ, List, [], ◌∷◌, ◌++◌, refl, sym, ◌∙◌, subst, inl, Option, Some, None}
 use Rattle.std.specs.Str.{bytes_eq}
 use Rattle.std.proofs.lemmas.Slice.Eq.{bytes_eq-Decides}
-use Rattle.hol_model.specs.HolType.{HolType, bool_type}
-use Rattle.hol_model.specs.Theory.{Theory, Entry, definition, declaration_of_type, declaration_of_constant, IsLegal, generic_type}
-use Rattle.hol_model.specs.Values.{Value, number, truth, falsity}
-use Rattle.hol_model.specs.Tables.{first_of}
-use Rattle.hol_model.specs.Models.{Model, carrier_over, constant_meaning, term_meaning}
-use Rattle.hol_model.specs.Holds.{IsModel, IsCarrier, HasConstants}
-use Rattle.hol_model.specs.Derivable.{IsMember, Derivable}
-use Rattle.hol_model.specs.Logic.{logical_definitions, false_name, false_term}
-use Rattle.hol_model.proofs.Conditions.{if_same}
-use Rattle.hol_model.proofs.Later.{head_is_new, rest_is_legal, generic_type-later}
+use Rattle.hol_model.specs.Terms.HolType.{HolType, bool_type}
+use Rattle.hol_model.specs.Logic.Theory.{Theory, Entry, definition, declaration_of_type, declaration_of_constant, IsLegal, generic_type}
+use Rattle.hol_model.specs.Models.Values.{Value, number, truth, falsity}
+use Rattle.hol_model.specs.Models.Tables.{first_of}
+use Rattle.hol_model.specs.Models.Models.{Model, carrier_over, constant_meaning, term_meaning}
+use Rattle.hol_model.specs.Models.Holds.{IsModel, IsCarrier, HasConstants}
+use Rattle.hol_model.specs.Logic.Derivable.{IsMember, Derivable}
+use Rattle.hol_model.specs.Logic.Logic.{logical_definitions, false_name, false_term}
+use Rattle.hol_model.proofs.Logic.Conditions.{if_same}
+use Rattle.hol_model.proofs.Logic.Later.{head_is_new, rest_is_legal, generic_type-later}
 use Rattle.hol_sound.proofs.Carriers.{carrier_over-IsCarrier}
 use Rattle.hol_sound.proofs.Extensions.{constant_meaning-later}
 use Rattle.hol_sound.proofs.Soundness.{derivable-holds}

@@ -3,21 +3,21 @@ use Rattle.std.proofs.Common.{◌≡◌, ◌⊎◌, ◌≢◌, ℕ, List, [], �
 use Rattle.std.specs.Prelude.{not}
 use Rattle.std.specs.Bool.{Decides}
 use mathlib.Core.Path.{fun_ext}
-use Rattle.hol_model.specs.HolType.{HolType, bool_type, function_type, TypeInstance}
-use Rattle.hol_model.specs.Nameless.{Nameless, free, const, bound, app, lam, same_term}
-use Rattle.hol_model.specs.NamedTerm.{same_variable}
-use Rattle.hol_model.specs.Substitution.{close, put, TermInstance, instantiate, occurs_free}
-use Rattle.hol_model.specs.Derivable.{IsMember, MayReplace, NotFreeInAny, AreKnown, nameless_equation, without, eta_axiom, eta_variable, select_hypothesis, select_conclusion, select_predicate, select_variable}
-use Rattle.hol_model.specs.Theory.{Theory, definition, IsLegal, IsKnown, type_a, type_b}
-use Rattle.hol_model.specs.Values.{Value, rows, same_value, values_of, truth, falsity}
-use Rattle.hol_model.specs.Tables.{look_up, tabulate, truth_of, first_true}
-use Rattle.hol_model.specs.Models.{Model, carrier, meaning, constant_meaning, term_meaning}
-use Rattle.hol_model.specs.Holds.{IsModel, AllTrue, Holds}
-use Rattle.hol_model.proofs.SameValue.{same_value-Decides}
+use Rattle.hol_model.specs.Terms.HolType.{HolType, bool_type, function_type, TypeInstance}
+use Rattle.hol_model.specs.Terms.Nameless.{Nameless, free, const, bound, app, lam, same_term}
+use Rattle.hol_model.specs.Terms.NamedTerm.{same_variable}
+use Rattle.hol_model.specs.Terms.Substitution.{close, put, TermInstance, instantiate, occurs_free}
+use Rattle.hol_model.specs.Logic.Derivable.{IsMember, MayReplace, NotFreeInAny, AreKnown, nameless_equation, without, eta_axiom, eta_variable, select_hypothesis, select_conclusion, select_predicate, select_variable}
+use Rattle.hol_model.specs.Logic.Theory.{Theory, definition, IsLegal, IsKnown, type_a, type_b}
+use Rattle.hol_model.specs.Models.Values.{Value, rows, same_value, values_of, truth, falsity}
+use Rattle.hol_model.specs.Models.Tables.{look_up, tabulate, truth_of, first_true}
+use Rattle.hol_model.specs.Models.Models.{Model, carrier, meaning, constant_meaning, term_meaning}
+use Rattle.hol_model.specs.Models.Holds.{IsModel, AllTrue, Holds}
+use Rattle.hol_model.proofs.Terms.SameValue.{same_value-Decides}
 use Rattle.hol_model.proofs.Tests.{same_name, same_variable-type, same_term-Decides}
-use Rattle.hol_model.proofs.Typing.{nameless_type-is}
-use Rattle.hol_model.proofs.Known.{MayReplace-typed}
-use Rattle.hol_model.proofs.Membership.{IsMember-append_left, IsMember-append_right, IsMember-map}
+use Rattle.hol_model.proofs.Terms.Typing.{nameless_type-is}
+use Rattle.hol_model.proofs.Logic.Known.{MayReplace-typed}
+use Rattle.hol_model.proofs.Terms.Membership.{IsMember-append_left, IsMember-append_right, IsMember-map}
 use Rattle.hol_sound.proofs.Tables.{map-alike, look_up-tabulate, tabulate-look_up}
 use Rattle.hol_sound.proofs.Carriers.{carrier-IsCarrier, HasConstants-alike}
 use Rattle.hol_sound.proofs.Members.{term_meaning-member}

@@ -1,13 +1,13 @@
 -- Members of lists, tables and their values.
 use Rattle.std.proofs.Common.{◌≡◌, ◌⊎◌, ◌≢◌, List, [], ◌∷◌, map, Bool, true, false, refl, sym, ◌∙◌, ap, subst, inl, inr, if◌then◌else◌}
 use Rattle.std.specs.Bool.{Decides}
-use Rattle.hol_model.specs.Derivable.{IsMember}
-use Rattle.hol_model.specs.Values.{Value, Values, one_more, same_value, values_of, table}
-use Rattle.hol_model.specs.Tables.{value_beside, look_up, tabulate, each_before, each_row}
-use Rattle.hol_model.specs.Holds.{IsDistinct}
-use Rattle.hol_model.proofs.Conditions.{if_same, if_other}
-use Rattle.hol_model.proofs.SameValue.{same_value-Decides}
-use Rattle.hol_model.proofs.Membership.{IsMember-append_left, IsMember-append_right, IsMember-map, of_append, of_map}
+use Rattle.hol_model.specs.Logic.Derivable.{IsMember}
+use Rattle.hol_model.specs.Models.Values.{Value, Values, one_more, same_value, values_of, table}
+use Rattle.hol_model.specs.Models.Tables.{value_beside, look_up, tabulate, each_before, each_row}
+use Rattle.hol_model.specs.Models.Holds.{IsDistinct}
+use Rattle.hol_model.proofs.Logic.Conditions.{if_same, if_other}
+use Rattle.hol_model.proofs.Terms.SameValue.{same_value-Decides}
+use Rattle.hol_model.proofs.Terms.Membership.{IsMember-append_left, IsMember-append_right, IsMember-map, of_append, of_map}
 
 -- a map by two functions that agree on the list
 pub map-alike : {A B : Type 0} (f g : A → B) (xs : List A) → ((x : A) → IsMember x xs → f x ≡ g x) → map f xs ≡ map g xs

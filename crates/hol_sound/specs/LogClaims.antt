@@ -1,10 +1,10 @@
 -- What the claims of an accepted proof log say.
 use Rattle.std.specs.Prelude.{◌≡◌, Ok}
 use Rattle.std.specs.List.{All}
-use Rattle.hol_model.specs.Theory.{Theory}
-use Rattle.hol_model.specs.Holds.{Holds}
-use Rattle.hol_model.specs.LogState.{LogState, LogClaim}
-use Rattle.hol_model.specs.LogText.{LogText, log_outcome}
+use Rattle.hol_model.specs.Logic.Theory.{Theory}
+use Rattle.hol_model.specs.Models.Holds.{Holds}
+use Rattle.hol_model.specs.Logs.LogState.{LogState, LogClaim}
+use Rattle.hol_model.specs.Logs.LogText.{LogText, log_outcome}
 
 -- the claim's sequent holds in every finite standard model
 abbrev pub ClaimHolds : Theory → LogClaim → Type 0

@@ -1,8 +1,8 @@
 -- Terms and types that are made of two parts, one after the other.
 use Rattle.std.proofs.Common.{◌≡◌, ℕ, List, ◌∙◌, Some}
 use Rattle.std.specs.Prelude.{slice_get}
-use Rattle.hol_model.specs.HolType.{HolType, function_type}
-use Rattle.hol_model.specs.Nameless.{Nameless, app, lam}
+use Rattle.hol_model.specs.Terms.HolType.{HolType, function_type}
+use Rattle.hol_model.specs.Terms.Nameless.{Nameless, app, lam}
 use Rattle.hol_shared.specs.Terms.{TermTable, type_at, term_at, IsGrown}
 use Rattle.hol_shared.proofs.GrowthLemmas.{type-place, type-there, place-grown, term-there, IsGrown-trans}
 

@@ -3,10 +3,10 @@ use Rattle.std.proofs.Common.{◌≡◌, ℕ, ◌<◌, List, [], Bool, true, fal
 use Rattle.std.specs.Prelude.{slice_get}
 use Rattle.hol_model.specs.declared.fault.Cause.TheVariants.{Large}
 use Rattle.hol_model.specs.declared.fault.Fault.TheVariants.{TooLarge}
-use Rattle.hol_model.specs.Nameless.{Nameless, const}
-use Rattle.hol_model.specs.Measures.{nameless_within_limits}
-use Rattle.hol_model.specs.LogState.{term_type}
-use Rattle.hol_model.specs.LogSequents.{equation_of, supposing}
+use Rattle.hol_model.specs.Terms.Nameless.{Nameless, const}
+use Rattle.hol_model.specs.Terms.Measures.{nameless_within_limits}
+use Rattle.hol_model.specs.Logs.LogState.{term_type}
+use Rattle.hol_model.specs.Logs.LogSequents.{equation_of, supposing}
 use Rattle.hol_shared.specs.Terms.{TermTable, name_at, type_at, term_at, IsGrown}
 use Rattle.hol_steps.specs.Steps.{step_cause, ruled, is_definable, definition_step}
 use Rattle.hol_change.specs.Forming.{IsFormed, IsFitting}

@@ -4,13 +4,13 @@ use Rattle.std.specs.Prelude.{slice_get}
 use Rattle.std.proofs.lemmas.List.{take_more, map-append}
 use Rattle.std.proofs.lemmas.List.Elements.{filter-append, All-cons, All-append, All-get_or}
 use Rattle.std.specs.List.{All}
-use Rattle.hol_model.specs.HolType.{HolType}
-use Rattle.hol_model.specs.Nameless.{Nameless, free, same_term}
-use Rattle.hol_model.specs.Substitution.{occurs_free}
-use Rattle.hol_model.specs.Derivable.{without}
-use Rattle.hol_model.specs.LogState.{with_term, with_terms, term_type}
-use Rattle.hol_model.specs.LogSequents.{variable_name}
-use Rattle.hol_model.specs.LogFaults.{is_free_in_any}
+use Rattle.hol_model.specs.Terms.HolType.{HolType}
+use Rattle.hol_model.specs.Terms.Nameless.{Nameless, free, same_term}
+use Rattle.hol_model.specs.Terms.Substitution.{occurs_free}
+use Rattle.hol_model.specs.Logic.Derivable.{without}
+use Rattle.hol_model.specs.Logs.LogState.{with_term, with_terms, term_type}
+use Rattle.hol_model.specs.Logs.LogSequents.{variable_name}
+use Rattle.hol_model.specs.Logs.LogFaults.{is_free_in_any}
 use Rattle.hol_shared.specs.Terms.{term_at}
 use Rattle.hol_steps.specs.Hypotheses.{terms_in}
 use Rattle.hol_change.specs.Forming.{IsFitting}

@@ -3,11 +3,11 @@ use Rattle.std.proofs.Common.{◌≡◌, ℕ, ◌+◌, ◌<◌, List, [], ◌∷
 use Rattle.std.specs.List.{All, list_all}
 use Rattle.std.proofs.lemmas.Option.{slice_get-get_or}
 use Rattle.std.proofs.lemmas.List.Elements.{All-head, All-tail, All-get_or}
-use Rattle.hol_model.specs.HolType.{HolType, bool_type, is_type_variable, replaces_type_variables, type_instance_of}
-use Rattle.hol_model.specs.Nameless.{Nameless, bound}
-use Rattle.hol_model.specs.Substitution.{put, instantiate}
-use Rattle.hol_model.specs.LogSequents.{term_instance_of}
-use Rattle.hol_model.specs.LogFaults.{is_replacement}
+use Rattle.hol_model.specs.Terms.HolType.{HolType, bool_type, is_type_variable, replaces_type_variables, type_instance_of}
+use Rattle.hol_model.specs.Terms.Nameless.{Nameless, bound}
+use Rattle.hol_model.specs.Terms.Substitution.{put, instantiate}
+use Rattle.hol_model.specs.Logs.LogSequents.{term_instance_of}
+use Rattle.hol_model.specs.Logs.LogFaults.{is_replacement}
 use Rattle.hol_shared.specs.Terms.{TermTable, type_at, term_at, IsGrown}
 use Rattle.hol_change.specs.Pairs.{ArePairs}
 use Rattle.hol_change.specs.Change.{changed, putting, instantiating}

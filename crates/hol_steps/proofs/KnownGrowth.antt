@@ -6,9 +6,9 @@ use Rattle.std.proofs.lemmas.Bool.{eqb-true}
 use Rattle.std.proofs.lemmas.Option.{slice_get-get_or, get_or_from_slice_get}
 use Rattle.std.proofs.lemmas.Slice.Eq.{bytes_eq-Decides}
 use Rattle.indexmap.specs.IndexMap.{insert_entry}
-use Rattle.hol_model.specs.HolType.{HolType, bool_type}
-use Rattle.hol_model.specs.Theory.{Theory, Entry, declaration_of_type, generic_type}
-use Rattle.hol_model.specs.KnownTerm.{is_declared}
+use Rattle.hol_model.specs.Terms.HolType.{HolType, bool_type}
+use Rattle.hol_model.specs.Logic.Theory.{Theory, Entry, declaration_of_type, generic_type}
+use Rattle.hol_model.specs.Logic.KnownTerm.{is_declared}
 use Rattle.hol_shared.specs.Table.{IsPut}
 use Rattle.hol_shared.specs.Terms.{TermTable, name_at, type_at}
 use Rattle.hol_shared.specs.Entries.{IsEntry}

@@ -5,9 +5,9 @@ use Rattle.std.specs.List.{list_any}
 use Rattle.std.specs.Map.{lookup}
 use Rattle.std.proofs.lemmas.Bool.{eqb-true, eq-eqb}
 use Rattle.std.proofs.lemmas.Option.{slice_get-get_or}
-use Rattle.hol_model.specs.HolType.{HolType}
-use Rattle.hol_model.specs.Theory.{Theory, generic_type}
-use Rattle.hol_model.specs.KnownTerm.{is_declared}
+use Rattle.hol_model.specs.Terms.HolType.{HolType}
+use Rattle.hol_model.specs.Logic.Theory.{Theory, generic_type}
+use Rattle.hol_model.specs.Logic.KnownTerm.{is_declared}
 use Rattle.hol_model.proofs.Tests.{first_of_neither, second_of_neither}
 use Rattle.hol_shared.specs.Table.{HaveOneNumber}
 use Rattle.hol_shared.specs.Terms.{TermTable, name_at}

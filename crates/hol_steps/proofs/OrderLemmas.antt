@@ -6,11 +6,11 @@ use Rattle.std.specs.List.{All}
 use Rattle.std.specs.Ordering.{ordering_reverse}
 use Rattle.std.specs.declared.cmp.Ordering.{Ordering}
 use Rattle.std.specs.declared.cmp.Ordering.TheVariants.{Less, Equal, Greater}
-use Rattle.hol_model.specs.Nameless.{Nameless, nameless_cmp}
-use Rattle.hol_model.specs.Theorem.{by_order}
-use Rattle.hol_model.specs.LogState.{with_term, with_terms, set_of}
-use Rattle.hol_model.proofs.Orders.{same_from_nameless_cmp, nameless_cmp-self}
-use Rattle.hol_model.proofs.TotalOrders.{nameless_cmp-IsOrder}
+use Rattle.hol_model.specs.Terms.Nameless.{Nameless, nameless_cmp}
+use Rattle.hol_model.specs.Kernel.Theorem.{by_order}
+use Rattle.hol_model.specs.Logs.LogState.{with_term, with_terms, set_of}
+use Rattle.hol_model.proofs.Terms.Orders.{same_from_nameless_cmp, nameless_cmp-self}
+use Rattle.hol_model.proofs.Terms.TotalOrders.{nameless_cmp-IsOrder}
 use Rattle.hol_shared.specs.Terms.{term_at}
 use Rattle.hol_steps.specs.Hypotheses.{terms_in, IsBefore, AreOrdered}
 use Rattle.hol_steps.specs.Steps.{AreInOrder}

@@ -2,10 +2,10 @@
 use Rattle.std.proofs.Common.{◌≡◌, ℕ, suc, ◌<◌, List, [], ◌∷◌, ◌++◌, length, length-append, refl, arith, sym, ◌∙◌, ap, subst, Some}
 use Rattle.std.specs.Prelude.{slice_get, map, reverse}
 use Rattle.std.specs.List.{All, slice_index_or}
-use Rattle.hol_model.specs.Measures.{nameless_within_limits}
-use Rattle.hol_model.specs.Theory.{Theory, definition, declaration_of_type, declaration_of_constant, generic_type}
-use Rattle.hol_model.specs.KnownTerm.{is_declared}
-use Rattle.hol_model.specs.LogState.{no_sequent}
+use Rattle.hol_model.specs.Terms.Measures.{nameless_within_limits}
+use Rattle.hol_model.specs.Logic.Theory.{Theory, definition, declaration_of_type, declaration_of_constant, generic_type}
+use Rattle.hol_model.specs.Logic.KnownTerm.{is_declared}
+use Rattle.hol_model.specs.Logs.LogState.{no_sequent}
 use Rattle.hol_logtext.specs.Lines.{version_of}
 use Rattle.hol_shared.specs.Growth.{IsLonger}
 use Rattle.hol_shared.specs.Terms.{TermTable, name_at, type_at, term_at, IsGrown}

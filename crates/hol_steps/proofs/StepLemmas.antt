@@ -10,14 +10,14 @@ use Rattle.hol_model.specs.declared.fault.Fault.{Fault}
 use Rattle.hol_model.specs.declared.fault.Fault.TheVariants.{TooLarge}
 use Rattle.hol_model.specs.declared.fault.Cause.{Cause}
 use Rattle.hol_model.specs.declared.fault.Cause.TheVariants.{Large}
-use Rattle.hol_model.specs.Nameless.{Nameless, bound, nameless_cmp}
-use Rattle.hol_model.specs.Measures.{nameless_within_limits}
-use Rattle.hol_model.specs.Theorem.{by_order}
-use Rattle.hol_model.specs.Goals.{Sequent}
-use Rattle.hol_model.specs.LogState.{with_term, with_terms, set_of}
-use Rattle.hol_model.specs.LogSequents.{supposing}
-use Rattle.hol_model.specs.LogFaults.{sequent_fits}
-use Rattle.hol_model.proofs.Orders.{same_from_nameless_cmp}
+use Rattle.hol_model.specs.Terms.Nameless.{Nameless, bound, nameless_cmp}
+use Rattle.hol_model.specs.Terms.Measures.{nameless_within_limits}
+use Rattle.hol_model.specs.Kernel.Theorem.{by_order}
+use Rattle.hol_model.specs.Goals.Goals.{Sequent}
+use Rattle.hol_model.specs.Logs.LogState.{with_term, with_terms, set_of}
+use Rattle.hol_model.specs.Logs.LogSequents.{supposing}
+use Rattle.hol_model.specs.Logs.LogFaults.{sequent_fits}
+use Rattle.hol_model.proofs.Terms.Orders.{same_from_nameless_cmp}
 use Rattle.hol_change.specs.Change.{PartChange, changed, IsMeant, IsMade}
 use Rattle.hol_change.specs.declared.leaves.Change.{Change}
 use Rattle.hol_shared.specs.Terms.{TermTable, term_at, IsGrown}

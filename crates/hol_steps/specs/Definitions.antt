@@ -1,8 +1,8 @@
 -- What a definition gives, by numbers.
 use Rattle.std.specs.Prelude.{◌≡◌, None, Some, Result, Ok, Err, slice_get}
 use Rattle.hol_model.specs.declared.fault.Cause.{Cause}
-use Rattle.hol_model.specs.Nameless.{Nameless}
-use Rattle.hol_model.specs.LogState.{term_type}
+use Rattle.hol_model.specs.Terms.Nameless.{Nameless}
+use Rattle.hol_model.specs.Logs.LogState.{term_type}
 use Rattle.hol_shared.specs.Terms.{TermTable}
 use Rattle.hol_steps.specs.Steps.{Step, step_cause}
 use Rattle.hol_steps.specs.declared.steps.definition.Definition.{Definition}

@@ -1,7 +1,7 @@
 -- Ordered lists of terms, by numbers.
 use Rattle.std.specs.Prelude.{◌≡◌, ℕ, List, [], ◌∷◌, map}
 use Rattle.std.specs.declared.cmp.Ordering.TheVariants.{Less}
-use Rattle.hol_model.specs.Nameless.{Nameless, nameless_cmp}
+use Rattle.hol_model.specs.Terms.Nameless.{Nameless, nameless_cmp}
 use Rattle.hol_shared.specs.Terms.{term_at}
 
 -- the terms of the numbers

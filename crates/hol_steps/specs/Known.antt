@@ -1,9 +1,9 @@
 -- What tables of constants and of declared types say of a theory.
 use Rattle.std.specs.Prelude.{◌≡◌, ℕ, ◌<◌, List, ◌∷◌, true, Some, None, if◌then◌else◌, slice_get, length}
 use Rattle.std.specs.Str.{bytes_eq}
-use Rattle.hol_model.specs.HolType.{HolType}
-use Rattle.hol_model.specs.Theory.{Theory, Entry, generic_type}
-use Rattle.hol_model.specs.KnownTerm.{is_declared}
+use Rattle.hol_model.specs.Terms.HolType.{HolType}
+use Rattle.hol_model.specs.Logic.Theory.{Theory, Entry, generic_type}
+use Rattle.hol_model.specs.Logic.KnownTerm.{is_declared}
 use Rattle.hol_shared.specs.Terms.{TermTable, name_at, type_at}
 use Rattle.hol_shared.specs.Entries.{IsEntry}
 use Rattle.hol_shared.specs.Numbers.{IsNoted}

@@ -2,10 +2,10 @@
 use Rattle.std.specs.Prelude.{◌<◌, ◌≤◌, List, map, reverse, length}
 use Rattle.std.specs.List.{All, slice_index_or}
 use Rattle.hol_model.specs.declared.limits.TheConstants.{DEFINITIONS_LIMIT}
-use Rattle.hol_model.specs.Nameless.{Nameless}
-use Rattle.hol_model.specs.Theory.{Theory, Entry, definition, declaration_of_type, declaration_of_constant}
-use Rattle.hol_model.specs.Goals.{Sequent}
-use Rattle.hol_model.specs.LogState.{LogState, LogClaim, no_sequent}
+use Rattle.hol_model.specs.Terms.Nameless.{Nameless}
+use Rattle.hol_model.specs.Logic.Theory.{Theory, Entry, definition, declaration_of_type, declaration_of_constant}
+use Rattle.hol_model.specs.Goals.Goals.{Sequent}
+use Rattle.hol_model.specs.Logs.LogState.{LogState, LogClaim, no_sequent}
 use Rattle.hol_logtext.specs.Lines.{version_of}
 use Rattle.hol_shared.specs.Terms.{TermTable, name_at, type_at, term_at}
 use Rattle.hol_steps.specs.Hypotheses.{terms_in, AreOrdered}

@@ -2,10 +2,10 @@
 use Rattle.std.specs.Prelude.{◌≡◌, ◌<◌, ℕ, List, map, true, false, Option, None, Some, length}
 use Rattle.std.specs.List.{All}
 use Rattle.std.proofs.Common.{Vec, Global}
-use Rattle.hol_model.specs.HolType.{HolType}
-use Rattle.hol_model.specs.Nameless.{Nameless}
-use Rattle.hol_model.specs.LogState.{LogState, term_pairs_at, type_pairs_at}
-use Rattle.hol_model.specs.LogFaults.{some_is_no_term, some_is_no_type}
+use Rattle.hol_model.specs.Terms.HolType.{HolType}
+use Rattle.hol_model.specs.Terms.Nameless.{Nameless}
+use Rattle.hol_model.specs.Logs.LogState.{LogState, term_pairs_at, type_pairs_at}
+use Rattle.hol_model.specs.Logs.LogFaults.{some_is_no_term, some_is_no_type}
 use Rattle.hol_shared.specs.Terms.{type_at, term_at}
 use Rattle.hol_change.specs.Forming.{IsFitting}
 

@@ -6,17 +6,17 @@ use Rattle.hol_model.specs.declared.fault.Fault.{Fault}
 use Rattle.hol_model.specs.declared.fault.Fault.TheVariants.{Memory, TooLarge}
 use Rattle.hol_model.specs.declared.fault.Cause.{Cause}
 use Rattle.hol_model.specs.declared.fault.Cause.TheVariants.{Name, Kind, Rule, Large}
-use Rattle.hol_model.specs.HolType.{HolType, bool_type, type_eq, type_instance_of, replaces_type_variables}
-use Rattle.hol_model.specs.Nameless.{Nameless, const, app, same_term}
-use Rattle.hol_model.specs.Measures.{nameless_within_limits}
-use Rattle.hol_model.specs.Substitution.{put, instantiate}
-use Rattle.hol_model.specs.Derivable.{without, eta_axiom, select_hypothesis, select_conclusion}
-use Rattle.hol_model.specs.Checks.{has_no_free, reflects_nameless}
-use Rattle.hol_model.specs.Goals.{Sequent}
-use Rattle.hol_model.specs.LogLine.{LogRule}
-use Rattle.hol_model.specs.LogState.{LogState, set_of, term_type}
-use Rattle.hol_model.specs.LogSequents.{is_free_variable, is_equation, left_side, right_side, side_type, redex_body, equation_of, abstraction_over, term_instance_of, supposing, sequent_of, rule_entries}
-use Rattle.hol_model.specs.LogFaults.{takes, is_replacement, is_free_in_any, is_trivial_redex, sequent_fits, first_applying, rule_has_number_fault, rule_has_name_fault, rule_has_type_fault, rule_has_rule_fault}
+use Rattle.hol_model.specs.Terms.HolType.{HolType, bool_type, type_eq, type_instance_of, replaces_type_variables}
+use Rattle.hol_model.specs.Terms.Nameless.{Nameless, const, app, same_term}
+use Rattle.hol_model.specs.Terms.Measures.{nameless_within_limits}
+use Rattle.hol_model.specs.Terms.Substitution.{put, instantiate}
+use Rattle.hol_model.specs.Logic.Derivable.{without, eta_axiom, select_hypothesis, select_conclusion}
+use Rattle.hol_model.specs.Logic.Checks.{has_no_free, reflects_nameless}
+use Rattle.hol_model.specs.Goals.Goals.{Sequent}
+use Rattle.hol_model.specs.Logs.LogLine.{LogRule}
+use Rattle.hol_model.specs.Logs.LogState.{LogState, set_of, term_type}
+use Rattle.hol_model.specs.Logs.LogSequents.{is_free_variable, is_equation, left_side, right_side, side_type, redex_body, equation_of, abstraction_over, term_instance_of, supposing, sequent_of, rule_entries}
+use Rattle.hol_model.specs.Logs.LogFaults.{takes, is_replacement, is_free_in_any, is_trivial_redex, sequent_fits, first_applying, rule_has_number_fault, rule_has_name_fault, rule_has_type_fault, rule_has_rule_fault}
 use Rattle.hol_steps.specs.Hypotheses.{terms_in}
 use Rattle.hol_steps.specs.State.{sequent_in, IsFittingTheorem}
 use Rattle.hol_steps.specs.declared.state.Theorem.{Theorem}

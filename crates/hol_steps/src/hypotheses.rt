@@ -2,10 +2,10 @@
 ghost use Rattle.std.specs.Prelude.{◌≡◌, ◌++◌, ℕ, List, Some, slice_get, length, IfOk, IfErr};
 ghost use Rattle.std.specs.List.{All};
 ghost use Rattle.hol_model.specs.declared.fault.Fault.TheVariants.{Memory};
-ghost use Rattle.hol_model.specs.HolType.{HolType};
-ghost use Rattle.hol_model.specs.Nameless.{free};
-ghost use Rattle.hol_model.specs.Derivable as derivable;
-ghost use Rattle.hol_model.specs.LogFaults as faults;
+ghost use Rattle.hol_model.specs.Terms.HolType.{HolType};
+ghost use Rattle.hol_model.specs.Terms.Nameless.{free};
+ghost use Rattle.hol_model.specs.Logic.Derivable as derivable;
+ghost use Rattle.hol_model.specs.Logs.LogFaults as faults;
 ghost use Rattle.hol_shared.specs.Terms.{term_at};
 ghost use Rattle.hol_change.specs.Change.{IsVariable};
 ghost use Rattle.hol_steps.specs.Hypotheses.{terms_in, AreOrdered};

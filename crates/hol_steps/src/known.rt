@@ -1,12 +1,12 @@
 // Which types and constants the entries so far have given.
 ghost use Rattle.std.specs.Prelude.{◌≡◌, ◌<◌, ◌∷◌, length, IfErr, OnOk, OnErr};
 ghost use Rattle.std.specs.Option.{option_map, IfSome};
-ghost use Rattle.hol_model.specs.Theory as theory;
-ghost use Rattle.hol_model.specs.Theory.{Theory, Entry, declaration_of_type};
+ghost use Rattle.hol_model.specs.Logic.Theory as theory;
+ghost use Rattle.hol_model.specs.Logic.Theory.{Theory, Entry, declaration_of_type};
 ghost use Rattle.hol_model.specs.declared.fault.Fault.TheVariants.{Memory};
-ghost use Rattle.hol_model.specs.KnownTerm as spec;
-ghost use Rattle.hol_model.specs.Legality as legality;
-ghost use Rattle.hol_model.specs.Checks as checks;
+ghost use Rattle.hol_model.specs.Logic.KnownTerm as spec;
+ghost use Rattle.hol_model.specs.Logic.Legality as legality;
+ghost use Rattle.hol_model.specs.Logic.Checks as checks;
 ghost use Rattle.hol_shared.specs.Terms.{TermTable, name_at, type_at};
 ghost use Rattle.hol_steps.specs.Known.{Knows, HasTheory, GivesConstant};
 

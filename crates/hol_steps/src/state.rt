@@ -1,7 +1,7 @@
 // What the lines of a log have given so far, as numbers of tables.
 ghost use Rattle.std.specs.Prelude.{◌≡◌, nat_le, length};
 ghost use Rattle.hol_model.specs.declared.limits.TheConstants.{DEFINITIONS_LIMIT};
-ghost use Rattle.hol_model.specs.LogFaults.{is_first_version};
+ghost use Rattle.hol_model.specs.Logs.LogFaults.{is_first_version};
 ghost use Rattle.hol_logtext.specs.Lines.{version_of};
 ghost use Rattle.hol_shared.specs.Terms.{TermTable};
 ghost use Rattle.hol_steps.specs.State.{state_of, IsContents};

@@ -3,13 +3,13 @@ use Rattle.std.proofs.Common.{◌≡◌, ◌⊎◌, inl, inr, ℕ, List, Bool, t
 use Rattle.std.specs.Prelude.{Option, Result}
 use Rattle.hol_model.specs.declared.fault.Fault.{Fault}
 use Rattle.hol_model.specs.declared.fault.Fault.TheVariants.{Memory, TooLarge, NotVariable, TypeMismatch}
-use Rattle.hol_model.specs.HolType.{HolType, replaces_type_variables}
-use Rattle.hol_model.specs.NamedTerm.{NamedTerm, variable, constant, combination, abstraction, dest_variable}
-use Rattle.hol_model.specs.Nameless.{image}
-use Rattle.hol_model.specs.Measures.{nameless_within_limits}
-use Rattle.hol_model.specs.Outcome.{AnswersSuch}
-use Rattle.hol_model.specs.Substitution.{put_all, replaces_variables, keeps_types}
-use Rattle.hol_model.specs.Instantiation.{or_too_large, instantiate_all}
+use Rattle.hol_model.specs.Terms.HolType.{HolType, replaces_type_variables}
+use Rattle.hol_model.specs.Terms.NamedTerm.{NamedTerm, variable, constant, combination, abstraction, dest_variable}
+use Rattle.hol_model.specs.Terms.Nameless.{image}
+use Rattle.hol_model.specs.Terms.Measures.{nameless_within_limits}
+use Rattle.hol_model.specs.Kernel.Outcome.{AnswersSuch}
+use Rattle.hol_model.specs.Terms.Substitution.{put_all, replaces_variables, keeps_types}
+use Rattle.hol_model.specs.Kernel.Instantiation.{or_too_large, instantiate_all}
 use Rattle.hol_subst.specs.Outcomes.{vsubst_refusal, inst_refusal, pairs_refusal, type_pairs_refusal, variant_refusal}
 
 such : {A : Type 0} (result : Result A Fault) (fact : A → Type 0) (first : Option Fault) (fits : Bool) → first ≡ None

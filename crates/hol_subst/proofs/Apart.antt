@@ -4,11 +4,11 @@ use Rattle.std.specs.Prelude.{Option, if◌then◌else◌, fold, bit_and, bit_or
 use Rattle.std.specs.List.{list_any}
 use Rattle.std.specs.Option.{option_map, option_map_or}
 use Rattle.std.proofs.lemmas.Nat.{and_comm}
-use Rattle.hol_model.specs.HolType.{HolType, function_type, type_put}
-use Rattle.hol_model.specs.NamedTerm.{NamedTerm, variable, constant, combination, abstraction, Binder, same_variable, is_free, type_of}
-use Rattle.hol_model.specs.Nameless.{Nameless, free, const, bound, app, lam, image, image_under, binder_index}
+use Rattle.hol_model.specs.Terms.HolType.{HolType, function_type, type_put}
+use Rattle.hol_model.specs.Terms.NamedTerm.{NamedTerm, variable, constant, combination, abstraction, Binder, same_variable, is_free, type_of}
+use Rattle.hol_model.specs.Terms.Nameless.{Nameless, free, const, bound, app, lam, image, image_under, binder_index}
 use Rattle.hol_model.proofs.Tests.{same_name, same_variable-type, first_of_neither, second_of_neither}
-use Rattle.hol_model.proofs.Images.{application-typed}
+use Rattle.hol_model.proofs.Terms.Images.{application-typed}
 use Rattle.hol_types.specs.Variables as types_spec
 use Rattle.hol_types.proofs.Closed.{unchanged}
 use Rattle.hol_terms.specs.Classes.{class_of_name, have_common_class, classes_of_names}

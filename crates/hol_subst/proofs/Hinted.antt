@@ -1,9 +1,9 @@
 -- A variable that is free in a part after the replacement is free in the whole.
 use Rattle.std.proofs.Common.{◌≡◌, List, ◌∷◌, ℕ, Bool, true, false, ◌||◌, refl, sym, ◌∙◌, ap}
-use Rattle.hol_model.specs.HolType.{HolType}
-use Rattle.hol_model.specs.NamedTerm.{NamedTerm, combination, abstraction, Binder}
-use Rattle.hol_model.specs.Nameless.{image_under}
-use Rattle.hol_model.specs.Substitution.{occurs_free}
+use Rattle.hol_model.specs.Terms.HolType.{HolType}
+use Rattle.hol_model.specs.Terms.NamedTerm.{NamedTerm, combination, abstraction, Binder}
+use Rattle.hol_model.specs.Terms.Nameless.{image_under}
+use Rattle.hol_model.specs.Terms.Substitution.{occurs_free}
 use Rattle.hol_subst.specs.Entries.{Entry, replaced}
 
 -- the variable is free in the term, which stands under binders, after the replacement

@@ -2,13 +2,13 @@
 use Rattle.std.proofs.Common.{◌≡◌, ℕ, List, [], ◌∷◌, Bool, true, false, Some, None, refl, sym, ◌∙◌, ap}
 use Rattle.std.specs.Prelude.{Option, if◌then◌else◌}
 use Rattle.std.specs.Option.{option_map}
-use Rattle.hol_model.specs.HolType.{HolType, function_type, type_put}
-use Rattle.hol_model.specs.NamedTerm.{NamedTerm, variable, constant, combination, abstraction, same_variable, type_of}
-use Rattle.hol_model.proofs.HolTypeEq.{same_from_type_eq, type_eq-self}
+use Rattle.hol_model.specs.Terms.HolType.{HolType, function_type, type_put}
+use Rattle.hol_model.specs.Terms.NamedTerm.{NamedTerm, variable, constant, combination, abstraction, same_variable, type_of}
+use Rattle.hol_model.proofs.Terms.HolTypeEq.{same_from_type_eq, type_eq-self}
 use Rattle.hol_model.proofs.Tests.{first_of_both, second_of_both, same_variable-type}
-use Rattle.hol_model.proofs.Images.{application-typed}
+use Rattle.hol_model.proofs.Terms.Images.{application-typed}
 use Rattle.hol_subst.specs.Entries.{Entry, entries, looked_up, KeepsTypes}
-use Rattle.hol_model.specs.Substitution.{same_type, keeps_types}
+use Rattle.hol_model.specs.Terms.Substitution.{same_type, keeps_types}
 use Rattle.hol_subst.proofs.Putting.{type_put-none}
 
 -- a kept variable in front of others that keep types

@@ -1,13 +1,13 @@
 -- Why a name with enough primes is not taken.
 use Rattle.std.proofs.Common.{◌≡◌, ℕ, zero, suc, ◌+◌, ◌<◌, ◌≤◌, max, List, [], ◌∷◌, ◌++◌, Bool, true, false, ◌&&◌, ◌||◌, length, ◌-◌, refl, ◌∙◌, ap, arith, below_more, length-append, Some, Ok, Err, IfOk}
 use Rattle.std.specs.Prelude.{Result}
-use Rattle.hol_model.specs.HolType.{HolType}
-use Rattle.hol_model.specs.Name.{is_identifier, is_capital, is_small, continues_name, all_continue}
-use Rattle.hol_model.specs.NamedTerm.{NamedTerm, variable, constant, combination, abstraction, dest_variable, is_free}
-use Rattle.hol_model.specs.Nameless.{Nameless, free, const, bound, app, lam, image}
-use Rattle.hol_model.specs.Substitution.{is_free_in_some, occurs_free, primed, IsFirstFree, IsVariantOf}
+use Rattle.hol_model.specs.Terms.HolType.{HolType}
+use Rattle.hol_model.specs.Terms.Name.{is_identifier, is_capital, is_small, continues_name, all_continue}
+use Rattle.hol_model.specs.Terms.NamedTerm.{NamedTerm, variable, constant, combination, abstraction, dest_variable, is_free}
+use Rattle.hol_model.specs.Terms.Nameless.{Nameless, free, const, bound, app, lam, image}
+use Rattle.hol_model.specs.Terms.Substitution.{is_free_in_some, occurs_free, primed, IsFirstFree, IsVariantOf}
 use Rattle.hol_model.proofs.Tests.{same_name}
-use Rattle.hol_model.proofs.Images.{occurs_free-image}
+use Rattle.hol_model.proofs.Terms.Images.{occurs_free-image}
 
 -- the length of the longest name of a free variable in a term
 abbrev pub longest_free : Nameless → ℕ

@@ -2,11 +2,11 @@
 use Rattle.std.proofs.Common.{◌≡◌, ℕ, List, [], ◌∷◌, Bool, true, false, Some, None, refl, ap, ◌∙◌}
 use Rattle.std.specs.Prelude.{Option, if◌then◌else◌, find}
 use Rattle.std.specs.Option.{option_map, option_map_or}
-use Rattle.hol_model.specs.HolType.{HolType, type_variable, bool_type, function_type, declared_type, type_instance_of, type_put}
-use Rattle.hol_model.specs.NamedTerm.{NamedTerm, variable, constant, combination, abstraction, same_variable}
-use Rattle.hol_model.specs.Nameless.{Nameless, free, const, bound, app, lam, image}
-use Rattle.hol_model.specs.Substitution.{is_variable_named, put, replacement, instantiate}
-use Rattle.hol_model.proofs.Images.{occurs_free-image}
+use Rattle.hol_model.specs.Terms.HolType.{HolType, type_variable, bool_type, function_type, declared_type, type_instance_of, type_put}
+use Rattle.hol_model.specs.Terms.NamedTerm.{NamedTerm, variable, constant, combination, abstraction, same_variable}
+use Rattle.hol_model.specs.Terms.Nameless.{Nameless, free, const, bound, app, lam, image}
+use Rattle.hol_model.specs.Terms.Substitution.{is_variable_named, put, replacement, instantiate}
+use Rattle.hol_model.proofs.Terms.Images.{occurs_free-image}
 use Rattle.hol_subst.specs.Entries.{entries, looked_up, replaced}
 
 found_choice : (here : Bool) (pair : NamedTerm × NamedTerm) (rest : Option (NamedTerm × NamedTerm))

@@ -2,12 +2,12 @@
 use Rattle.std.proofs.Common.{◌≡◌, inl, inr, ℕ, suc, List, [], ◌∷◌, Bool, true, false, ◌&&◌, ◌||◌, not, Some, None, refl, sym, ◌∙◌, ap}
 use Rattle.std.specs.Prelude.{Option, if◌then◌else◌, fold, bit_and, bit_or}
 use Rattle.std.specs.Option.{option_map, option_map_or, is_some}
-use Rattle.hol_model.specs.HolType.{HolType, type_put}
-use Rattle.hol_model.specs.NamedTerm.{NamedTerm, variable, constant, combination, abstraction, Binder, same_variable, is_free}
-use Rattle.hol_model.specs.Nameless.{free, bound, image, image_under, binder_index}
-use Rattle.hol_model.specs.Substitution.{occurs_free}
+use Rattle.hol_model.specs.Terms.HolType.{HolType, type_put}
+use Rattle.hol_model.specs.Terms.NamedTerm.{NamedTerm, variable, constant, combination, abstraction, Binder, same_variable, is_free}
+use Rattle.hol_model.specs.Terms.Nameless.{free, bound, image, image_under, binder_index}
+use Rattle.hol_model.specs.Terms.Substitution.{occurs_free}
 use Rattle.hol_model.proofs.Tests.{same_name, same_variable-type, same_variable-self}
-use Rattle.hol_model.proofs.Images.{occurs_free-image}
+use Rattle.hol_model.proofs.Terms.Images.{occurs_free-image}
 use Rattle.hol_terms.specs.Classes.{class_of_name, have_common_class, classes_of_names}
 use Rattle.hol_terms.proofs.FreeNames.{nothing_common, apart_from_first, apart_from_second, other_names, has_class}
 use Rattle.hol_subst.specs.Entries.{Entry, entries, looked_up, instance_of, mapped, replaced}

@@ -2,13 +2,13 @@
 use Rattle.std.proofs.Common.{◌≡◌, ℕ, List, [], ◌∷◌, true, false, Some, None, refl, sym, ap}
 use Rattle.std.specs.Prelude.{Option}
 use Rattle.std.specs.Option.{option_map, option_map_or}
-use Rattle.hol_model.specs.HolType.{HolType, function_type, type_eq, type_put, type_instance_of}
-use Rattle.hol_model.specs.NamedTerm.{NamedTerm, variable, constant, combination, abstraction, Binder, type_of}
-use Rattle.hol_model.specs.Nameless.{free, const, bound, app, lam, image, image_under, binder_index}
-use Rattle.hol_model.specs.Substitution.{instantiate}
-use Rattle.hol_model.proofs.HolTypeEq.{same_from_type_eq, type_eq-self}
+use Rattle.hol_model.specs.Terms.HolType.{HolType, function_type, type_eq, type_put, type_instance_of}
+use Rattle.hol_model.specs.Terms.NamedTerm.{NamedTerm, variable, constant, combination, abstraction, Binder, type_of}
+use Rattle.hol_model.specs.Terms.Nameless.{free, const, bound, app, lam, image, image_under, binder_index}
+use Rattle.hol_model.specs.Terms.Substitution.{instantiate}
+use Rattle.hol_model.proofs.Terms.HolTypeEq.{same_from_type_eq, type_eq-self}
 use Rattle.hol_model.proofs.Tests.{first_of_both, second_of_both, first_of_neither, second_of_neither, both}
-use Rattle.hol_model.proofs.Images.{application-typed}
+use Rattle.hol_model.proofs.Terms.Images.{application-typed}
 use Rattle.hol_types.specs.Variables as types_spec
 use Rattle.hol_types.proofs.Closed.{unchanged}
 use Rattle.hol_terms.specs.TypeVariables.{has_type_variables}

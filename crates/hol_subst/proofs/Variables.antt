@@ -8,10 +8,10 @@ use Rattle.std.proofs.lemmas.List.Elements.{Contains-append_left, Contains-push,
 use Rattle.std.proofs.lemmas.List.Folds.{list_any_at}
 use Rattle.std.proofs.lemmas.Map.Views.{Contains-from_any}
 use Rattle.std.proofs.lemmas.Slice.Eq.{bytes_eq-Decides}
-use Rattle.hol_model.specs.HolType.{HolType, type_eq, type_put}
-use Rattle.hol_model.specs.NamedTerm.{NamedTerm, variable, constant, combination, abstraction, Binder, same_variable}
-use Rattle.hol_model.specs.Nameless.{binder_index}
-use Rattle.hol_model.proofs.HolTypeEq.{same_from_type_eq, type_eq-self}
+use Rattle.hol_model.specs.Terms.HolType.{HolType, type_eq, type_put}
+use Rattle.hol_model.specs.Terms.NamedTerm.{NamedTerm, variable, constant, combination, abstraction, Binder, same_variable}
+use Rattle.hol_model.specs.Terms.Nameless.{binder_index}
+use Rattle.hol_model.proofs.Terms.HolTypeEq.{same_from_type_eq, type_eq-self}
 use Rattle.hol_model.proofs.Tests.{same_answer, first_of_both, same_name, same_variable-type, same_variable-self}
 use Rattle.hol_subst.specs.Occurrences.{IsFreeIn}
 use Rattle.hol_subst.specs.VariableTypes.{Admits, Widens, HasVariables, HasUnbound, Grows, types_kept, kept_types, table_with, admits}

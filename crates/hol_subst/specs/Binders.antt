@@ -1,9 +1,9 @@
 -- What becomes of the binder of an abstraction.
 use Rattle.std.specs.Prelude.{◌≡◌, ℕ, List, [], ◌∷◌, Option, Some, false, IsTrue, unwrap_or}
-use Rattle.hol_model.specs.HolType.{HolType, type_put}
-use Rattle.hol_model.specs.NamedTerm.{NamedTerm, is_variable, type_of}
-use Rattle.hol_model.specs.Nameless.{image_under}
-use Rattle.hol_model.specs.Substitution.{occurs_free}
+use Rattle.hol_model.specs.Terms.HolType.{HolType, type_put}
+use Rattle.hol_model.specs.Terms.NamedTerm.{NamedTerm, is_variable, type_of}
+use Rattle.hol_model.specs.Terms.Nameless.{image_under}
+use Rattle.hol_model.specs.Terms.Substitution.{occurs_free}
 use Rattle.hol_subst.specs.Entries.{Entry, replaced}
 use Rattle.hol_subst.specs.Fresh.{IsFreshBinder}
 use Rattle.hol_subst.specs.declared.binder.NewBinder.{NewBinder}

@@ -1,9 +1,9 @@
 -- Names that are not taken.
 use Rattle.std.specs.Prelude.{◌≡◌, ℕ, List}
-use Rattle.hol_model.specs.HolType.{HolType}
-use Rattle.hol_model.specs.NamedTerm.{NamedTerm, variable}
-use Rattle.hol_model.specs.Nameless.{Nameless}
-use Rattle.hol_model.specs.Substitution.{occurs_free, IsFirstFree}
+use Rattle.hol_model.specs.Terms.HolType.{HolType}
+use Rattle.hol_model.specs.Terms.NamedTerm.{NamedTerm, variable}
+use Rattle.hol_model.specs.Terms.Nameless.{Nameless}
+use Rattle.hol_model.specs.Terms.Substitution.{occurs_free, IsFirstFree}
 
 -- a variable of a type that is not free in a term, its name being another with as few primes as may be
 pub record IsFreshBinder (term : Nameless) (name : List ℕ) (ty : HolType) (binder : NamedTerm) : Type 0 where

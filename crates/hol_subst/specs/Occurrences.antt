@@ -1,7 +1,7 @@
 -- The variables that are free in a term, as a fact.
 use Rattle.std.specs.Prelude.{◌≡◌, ◌⊎◌, List, ℕ, false}
-use Rattle.hol_model.specs.HolType.{HolType}
-use Rattle.hol_model.specs.NamedTerm.{NamedTerm, variable, constant, combination, abstraction, same_variable}
+use Rattle.hol_model.specs.Terms.HolType.{HolType}
+use Rattle.hol_model.specs.Terms.NamedTerm.{NamedTerm, variable, constant, combination, abstraction, same_variable}
 
 -- the variable of this name and type is free in the term
 abbrev pub IsFreeIn : List ℕ → HolType → NamedTerm → Type 0

@@ -2,12 +2,12 @@
 use Rattle.std.specs.Prelude.{List, Option, Some, None, not, if◌then◌else◌}
 use Rattle.hol_model.specs.declared.fault.Fault.{Fault}
 use Rattle.hol_model.specs.declared.fault.Fault.TheVariants.{NotVariable, TypeMismatch}
-use Rattle.hol_model.specs.HolType.{HolType, replaces_type_variables}
-use Rattle.hol_model.specs.NamedTerm.{NamedTerm, is_variable}
-use Rattle.hol_model.specs.Nameless.{image}
-use Rattle.hol_model.specs.Measures.{nameless_within_limits}
-use Rattle.hol_model.specs.Substitution.{put_all, replaces_variables, keeps_types}
-use Rattle.hol_model.specs.Instantiation.{or_too_large, instantiate_all}
+use Rattle.hol_model.specs.Terms.HolType.{HolType, replaces_type_variables}
+use Rattle.hol_model.specs.Terms.NamedTerm.{NamedTerm, is_variable}
+use Rattle.hol_model.specs.Terms.Nameless.{image}
+use Rattle.hol_model.specs.Terms.Measures.{nameless_within_limits}
+use Rattle.hol_model.specs.Terms.Substitution.{put_all, replaces_variables, keeps_types}
+use Rattle.hol_model.specs.Kernel.Instantiation.{or_too_large, instantiate_all}
 
 -- the refusal for a list of replacements (new, old) of variables
 abbrev pub pairs_refusal : List (NamedTerm × NamedTerm) → Option Fault

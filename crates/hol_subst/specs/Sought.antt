@@ -1,8 +1,8 @@
 -- Where a variable may become free: the classes of the names of variables that may become it, or bring it.
 use Rattle.std.specs.Prelude.{◌≡◌, ℕ, List, Bool, true, false, not, Option, Some, None, bit_and, bit_or}
-use Rattle.hol_model.specs.HolType.{HolType, type_put}
-use Rattle.hol_model.specs.NamedTerm.{NamedTerm, Binder, is_free, same_variable}
-use Rattle.hol_model.specs.Nameless.{binder_index}
+use Rattle.hol_model.specs.Terms.HolType.{HolType, type_put}
+use Rattle.hol_model.specs.Terms.NamedTerm.{NamedTerm, Binder, is_free, same_variable}
+use Rattle.hol_model.specs.Terms.Nameless.{binder_index}
 use Rattle.hol_terms.specs.Classes.{class_of_name, have_common_class, classes_of_names}
 use Rattle.hol_subst.specs.Entries.{Entry, looked_up}
 use Rattle.hol_subst.specs.Occurrences.{IsFreeIn}

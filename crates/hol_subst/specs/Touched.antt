@@ -1,7 +1,7 @@
 -- What a replacement may touch, told by the classes of names that terms keep.
 use Rattle.std.specs.Prelude.{◌≡◌, ℕ, List, [], ◌∷◌, Bool, false, not, ◌&&◌, Some, None, bit_and}
-use Rattle.hol_model.specs.HolType.{HolType, type_eq, type_put}
-use Rattle.hol_model.specs.NamedTerm.{NamedTerm, variable, constant, combination, abstraction, is_free}
+use Rattle.hol_model.specs.Terms.HolType.{HolType, type_eq, type_put}
+use Rattle.hol_model.specs.Terms.NamedTerm.{NamedTerm, variable, constant, combination, abstraction, is_free}
 use Rattle.hol_types.specs.Variables as types_spec
 use Rattle.hol_terms.specs.Classes.{class_of_name, have_common_class, classes_of_names}
 use Rattle.hol_terms.specs.TypeVariables as terms_spec

@@ -6,9 +6,9 @@ use Rattle.std.specs.Str.{bytes_eq}
 use Rattle.std.specs.declared.alloc.Global.{Global}
 use Rattle.std.specs.declared.vec.Vec.{Vec}
 use Rattle.indexmap.specs.IndexMap.{get_by_text}
-use Rattle.hol_model.specs.HolType.{HolType, type_eq}
-use Rattle.hol_model.specs.NamedTerm.{NamedTerm, variable, Binder}
-use Rattle.hol_model.specs.Nameless.{binder_index}
+use Rattle.hol_model.specs.Terms.HolType.{HolType, type_eq}
+use Rattle.hol_model.specs.Terms.NamedTerm.{NamedTerm, variable, Binder}
+use Rattle.hol_model.specs.Terms.Nameless.{binder_index}
 use Rattle.hol_subst.specs.Occurrences.{IsFreeIn}
 use Rattle.hol_subst.specs.declared.known_variables.KnownVariables.{KnownVariables, Listed, AndBound'}
 use Rattle.hol_subst.specs.declared.variable_types.VariableTypes.{VariableTypes}

@@ -1,7 +1,7 @@
 // The binder of an abstraction after the replacement.
 ghost use Rattle.std.specs.Prelude.{◌≡◌, ◌<◌, [], ◌∷◌, IfOk, IfErr, IsTrue, Contains};
-ghost use Rattle.hol_model.specs.HolType.{type_nodes, type_put};
-ghost use Rattle.hol_model.specs.Name.{is_identifier};
+ghost use Rattle.hol_model.specs.Terms.HolType.{type_nodes, type_put};
+ghost use Rattle.hol_model.specs.Terms.Name.{is_identifier};
 ghost use Rattle.hol_model.specs.declared.fault.Fault.TheVariants.{Memory, TooLarge};
 ghost use Rattle.hol_subst.specs.Binders.{IsBinderAfter};
 ghost use Rattle.hol_subst.specs.Replacements.{entries_of};

@@ -1,10 +1,10 @@
 // Which variables are free in a term after the replacement, and which binders would capture them.
 ghost use Rattle.std.specs.Prelude.{◌≡◌, List, [], ◌∷◌, IfOk, IfErr, fold, bit_or, if◌then◌else◌, ◌&&◌, IsTrue};
-ghost use Rattle.hol_model.specs.HolType.{HolType, type_put};
-ghost use Rattle.hol_model.specs.NamedTerm.{NamedTerm, Binder, variable};
-ghost use Rattle.hol_model.specs.NamedTerm as terms;
-ghost use Rattle.hol_model.specs.Nameless.{image_under};
-ghost use Rattle.hol_model.specs.Substitution.{occurs_free};
+ghost use Rattle.hol_model.specs.Terms.HolType.{HolType, type_put};
+ghost use Rattle.hol_model.specs.Terms.NamedTerm.{NamedTerm, Binder, variable};
+ghost use Rattle.hol_model.specs.Terms.NamedTerm as terms;
+ghost use Rattle.hol_model.specs.Terms.Nameless.{image_under};
+ghost use Rattle.hol_model.specs.Terms.Substitution.{occurs_free};
 ghost use Rattle.hol_model.specs.declared.fault.Fault.TheVariants.{Memory};
 ghost use Rattle.hol_terms.specs.Classes.{classes_of_names};
 ghost use Rattle.hol_subst.specs.Entries.{entries, instance_of, replaced};

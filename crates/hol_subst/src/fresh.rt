@@ -1,18 +1,18 @@
 // Variables that are free in none of some terms.
 ghost use Rattle.std.specs.Prelude.{◌≡◌, [], ◌∷◌, ◌++◌, true, IfOk, IfErr, IsTrue};
 ghost use Rattle.std.specs.String.{string_bytes};
-ghost use Rattle.hol_model.specs.NamedTerm.{variable, is_variable, type_of};
-ghost use Rattle.hol_model.specs.Name.{is_identifier};
-ghost use Rattle.hol_model.specs.Nameless.{image_under};
-ghost use Rattle.hol_model.specs.Substitution.{occurs_free, IsFirstFree, IsVariantOf};
-ghost use Rattle.hol_model.specs.Substitution as spec;
+ghost use Rattle.hol_model.specs.Terms.NamedTerm.{variable, is_variable, type_of};
+ghost use Rattle.hol_model.specs.Terms.Name.{is_identifier};
+ghost use Rattle.hol_model.specs.Terms.Nameless.{image_under};
+ghost use Rattle.hol_model.specs.Terms.Substitution.{occurs_free, IsFirstFree, IsVariantOf};
+ghost use Rattle.hol_model.specs.Terms.Substitution as spec;
 ghost use Rattle.hol_subst.specs.Entries.{replaced};
 ghost use Rattle.hol_subst.specs.Replacements.{entries_of, binders_of};
 ghost use Rattle.hol_subst.specs.Touched.{Covers};
 ghost use Rattle.hol_subst.specs.Fresh.{IsFreshBinder};
 ghost use Rattle.hol_subst.specs.Outcomes.{variant_refusal};
 ghost use Rattle.hol_subst.specs.VariableTypes.{HasVariables, known_table};
-ghost use Rattle.hol_model.specs.Outcome.{AnswersSuch};
+ghost use Rattle.hol_model.specs.Kernel.Outcome.{AnswersSuch};
 ghost use Rattle.hol_model.specs.declared.fault.Fault.TheVariants.{Memory};
 
 use crate::capture::is_free_after;

@@ -1,8 +1,8 @@
 // What is known of the variables that are free in a part of a term.
 ghost use Rattle.std.specs.Prelude.{◌≡◌, ◌&&◌, not, IsFalse};
-ghost use Rattle.hol_model.specs.HolType.{HolType, type_eq, type_put};
-ghost use Rattle.hol_model.specs.NamedTerm.{NamedTerm, abstraction};
-ghost use Rattle.hol_model.specs.NamedTerm as terms;
+ghost use Rattle.hol_model.specs.Terms.HolType.{HolType, type_eq, type_put};
+ghost use Rattle.hol_model.specs.Terms.NamedTerm.{NamedTerm, abstraction};
+ghost use Rattle.hol_model.specs.Terms.NamedTerm as terms;
 ghost use Rattle.hol_subst.specs.VariableTypes as spec;
 ghost use Rattle.hol_subst.specs.VariableTypes.{Admits, HasVariables, known_table};
 

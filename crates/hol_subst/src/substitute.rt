@@ -1,14 +1,14 @@
 // Substitution and the instantiation of types.
 ghost use Rattle.std.specs.Prelude.{◌≡◌, ◌⊎◌, IfOk, IfErr, IsTrue, IsFalse, unwrap_or};
 ghost use Rattle.std.specs.Option.{option_map};
-ghost use Rattle.hol_model.specs.HolType.{type_put};
-ghost use Rattle.hol_model.specs.NamedTerm.{type_of};
-ghost use Rattle.hol_model.specs.Nameless.{image};
-ghost use Rattle.hol_model.specs.Substitution.{put_all};
-ghost use Rattle.hol_model.specs.Substitution as spec;
-ghost use Rattle.hol_model.specs.Instantiation.{instantiate_all};
-ghost use Rattle.hol_model.specs.Measures.{nameless_within_limits};
-ghost use Rattle.hol_model.specs.Outcome.{AnswersSuch};
+ghost use Rattle.hol_model.specs.Terms.HolType.{type_put};
+ghost use Rattle.hol_model.specs.Terms.NamedTerm.{type_of};
+ghost use Rattle.hol_model.specs.Terms.Nameless.{image};
+ghost use Rattle.hol_model.specs.Terms.Substitution.{put_all};
+ghost use Rattle.hol_model.specs.Terms.Substitution as spec;
+ghost use Rattle.hol_model.specs.Kernel.Instantiation.{instantiate_all};
+ghost use Rattle.hol_model.specs.Terms.Measures.{nameless_within_limits};
+ghost use Rattle.hol_model.specs.Kernel.Outcome.{AnswersSuch};
 ghost use Rattle.hol_model.specs.declared.fault.Fault.TheVariants.{Memory, TooLarge};
 ghost use Rattle.hol_subst.specs.Outcomes.{vsubst_refusal, inst_refusal};
 
@@ -92,7 +92,7 @@ fn instantiated(alloc: Global, theta: &[(Ty, Ty)], term: &Term) -> Result<Term, 
 }
 
 // The changed term, or a copy where nothing changes.
-#[tactic(auto, using(hol_model::proofs::WithinLimits::limits))]
+#[tactic(auto, using(hol_model::proofs::Terms::WithinLimits::limits))]
 fn changed_or_copy(alloc: Global, changed: Option<Term>, term: &Term) -> Result<Term, Fault>
     ensures ok { IfOk result (λ new. new ≡ unwrap_or changed term.now) }
     ensures within_limits { IfOk result (λ new. IsTrue (nameless_within_limits (image new))) }

@@ -1,6 +1,6 @@
 // What a replacement may touch, told by the classes of names that terms keep: the rest is handed on or passed over.
 ghost use Rattle.std.specs.Prelude.{◌≡◌, ◌∷◌, ℕ, List, Some, fold, bit_or};
-ghost use Rattle.hol_model.specs.HolType.{HolType};
+ghost use Rattle.hol_model.specs.Terms.HolType.{HolType};
 ghost use Rattle.hol_terms.specs.Classes.{classes_of_names};
 ghost use Rattle.hol_subst.specs.Entries.{Entry, entries};
 ghost use Rattle.hol_subst.specs.Touched.{Covers};

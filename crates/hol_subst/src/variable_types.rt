@@ -3,8 +3,8 @@ ghost use Rattle.std.specs.Prelude.{◌≡◌, ◌∷◌, [], ◌++◌, ◌&&◌
 ghost use Rattle.std.specs.List.{list_any};
 ghost use Rattle.std.specs.Option.{option_map};
 ghost use Rattle.indexmap.specs.IndexMap.{get_by_text};
-ghost use Rattle.hol_model.specs.HolType.{HolType, type_eq, type_put};
-ghost use Rattle.hol_model.specs.NamedTerm.{NamedTerm, variable};
+ghost use Rattle.hol_model.specs.Terms.HolType.{HolType, type_eq, type_put};
+ghost use Rattle.hol_model.specs.Terms.NamedTerm.{NamedTerm, variable};
 ghost use Rattle.hol_model.specs.declared.fault.Fault.TheVariants.{Memory};
 ghost use Rattle.hol_subst.specs.Replacements.{binders_of};
 ghost use Rattle.hol_subst.specs.VariableTypes as spec;

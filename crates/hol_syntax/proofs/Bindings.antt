@@ -3,11 +3,11 @@ use Rattle.std.proofs.Common.{◌≡◌, inl, ℕ, List, true, Option, None, Som
 use Rattle.std.specs.Option.{option_map}
 use Rattle.hol_model.specs.declared.fault.Fault.{Fault}
 use Rattle.hol_model.specs.declared.fault.Fault.TheVariants.{Memory, BadName}
-use Rattle.hol_model.specs.Name.{is_identifier}
-use Rattle.hol_model.specs.HolType.{HolType}
-use Rattle.hol_model.specs.NamedTerm.{NamedTerm, variable}
-use Rattle.hol_model.specs.Reading.{Scope, bare_name, bare_constant, bare_identifier}
-use Rattle.hol_model.specs.Outcome.{Answers}
+use Rattle.hol_model.specs.Terms.Name.{is_identifier}
+use Rattle.hol_model.specs.Terms.HolType.{HolType}
+use Rattle.hol_model.specs.Terms.NamedTerm.{NamedTerm, variable}
+use Rattle.hol_model.specs.Texts.Reading.{Scope, bare_name, bare_constant, bare_identifier}
+use Rattle.hol_model.specs.Kernel.Outcome.{Answers}
 
 pub bare_found : (scope : Scope) (bound : Option HolType) (name : List ℕ) (found : NamedTerm) (result : Result NamedTerm Fault)
     → Some found ≡ option_map (variable name) bound → is_identifier name ≡ true

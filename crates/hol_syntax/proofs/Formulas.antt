@@ -4,11 +4,11 @@ use Rattle.std.proofs.Math.Seq.{drop-nil}
 use Rattle.std.proofs.lemmas.List.{append-nil}
 use Rattle.hol_model.specs.declared.fault.Fault.{Fault}
 use Rattle.hol_model.specs.declared.fault.Fault.TheVariants.{Memory}
-use Rattle.hol_model.specs.NamedTerm.{NamedTerm}
-use Rattle.hol_model.specs.TermGrammar.{TermTree}
-use Rattle.hol_model.specs.Reading.{Scope, ◌>>=◌}
-use Rattle.hol_model.specs.SequentGrammar.{formula_meaning, formulas_meaning}
-use Rattle.hol_model.specs.Outcome.{Answers}
+use Rattle.hol_model.specs.Terms.NamedTerm.{NamedTerm}
+use Rattle.hol_model.specs.Texts.TermGrammar.{TermTree}
+use Rattle.hol_model.specs.Texts.Reading.{Scope, ◌>>=◌}
+use Rattle.hol_model.specs.Texts.SequentGrammar.{formula_meaning, formulas_meaning}
+use Rattle.hol_model.specs.Kernel.Outcome.{Answers}
 use Rattle.hol_grammar.specs.declared.steps.TermStep.{TermStep}
 use Rattle.hol_grammar.specs.Steps.{flat_steps_of}
 use Rattle.hol_grammar.specs.TermSteps.{flat_steps, term_steps}

@@ -1,6 +1,6 @@
 -- The first separator of its kind.
 use Rattle.std.proofs.Common.{◌≡◌, ℕ, zero, suc, ◌+◌, ◌<◌, List, [], ◌∷◌, length, take, drop, get_or, Bool, true, false, Some, sym, ap, ◌∙◌, subst, add-one}
-use Rattle.hol_model.specs.Token.{Token as TokenModel}
+use Rattle.hol_model.specs.Texts.Token.{Token as TokenModel}
 use Rattle.hol_grammar.specs.declared.token.Token.{Token}
 use Rattle.hol_syntax.specs.declared.sequents.Separator.{Separator}
 use Rattle.hol_grammar.specs.Views.{token_of, tokens_of}

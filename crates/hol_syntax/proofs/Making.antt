@@ -4,13 +4,13 @@ use Rattle.std.specs.Option.{option_map}
 use Rattle.std.proofs.lemmas.Bool.Decides.{nat_tests}
 use Rattle.hol_model.specs.declared.fault.Fault.{Fault}
 use Rattle.hol_model.specs.declared.fault.Fault.TheVariants.{TooLarge, TypeMismatch, NotInstance}
-use Rattle.hol_model.specs.HolType.{HolType, bool_type, function_type, type_eq, is_instance}
-use Rattle.hol_model.specs.NamedTerm.{NamedTerm, variable, abstraction, combination, application_type, type_of, constant, type_fits, is_within_limits}
-use Rattle.hol_model.specs.Outcome.{Answers, unless}
-use Rattle.hol_model.specs.Rules.{limited, abstraction_outcome}
-use Rattle.hol_model.specs.Constructors.{typed_outcome, combination_outcome}
-use Rattle.hol_model.specs.Reading.{Scope, connective, connective_at, truth_operation, quantifier_type, within_limits, well_typed}
-use Rattle.hol_model.proofs.HolTypeEq.{type_eq-self}
+use Rattle.hol_model.specs.Terms.HolType.{HolType, bool_type, function_type, type_eq, is_instance}
+use Rattle.hol_model.specs.Terms.NamedTerm.{NamedTerm, variable, abstraction, combination, application_type, type_of, constant, type_fits, is_within_limits}
+use Rattle.hol_model.specs.Kernel.Outcome.{Answers, unless}
+use Rattle.hol_model.specs.Kernel.Rules.{limited, abstraction_outcome}
+use Rattle.hol_model.specs.Kernel.Constructors.{typed_outcome, combination_outcome}
+use Rattle.hol_model.specs.Texts.Reading.{Scope, connective, connective_at, truth_operation, quantifier_type, within_limits, well_typed}
+use Rattle.hol_model.proofs.Terms.HolTypeEq.{type_eq-self}
 use Rattle.hol_syntax.specs.Building.{limited_constant}
 
 well_typed_is : (term : NamedTerm) (some fits : Bool) → is_some (type_of term) ≡ some → is_within_limits term ≡ fits

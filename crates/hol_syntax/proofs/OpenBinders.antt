@@ -1,9 +1,9 @@
 -- The open binders as the code holds them.
 use Rattle.std.proofs.Common.{◌≡◌, List, [], ◌∷◌, Option, None, Some, refl, sym, ap, ◌∙◌, ℕ}
 use Rattle.std.specs.Option.{option_map}
-use Rattle.hol_model.specs.HolType.{HolType}
-use Rattle.hol_model.specs.NamedTerm.{variable, dest_variable}
-use Rattle.hol_model.specs.Reading.{Bindings, bound_type}
+use Rattle.hol_model.specs.Terms.HolType.{HolType}
+use Rattle.hol_model.specs.Terms.NamedTerm.{variable, dest_variable}
+use Rattle.hol_model.specs.Texts.Reading.{Bindings, bound_type}
 use Rattle.hol_syntax.specs.declared.binders.Opened.{Opened}
 use Rattle.hol_syntax.specs.OpenBinders.{opened_of}
 

@@ -3,9 +3,9 @@ use Rattle.std.proofs.Common.{◌≡◌, ◌⊎◌, inl, inr, ℕ, List, Bool, t
 use Rattle.std.specs.Option.{option_map_or}
 use Rattle.std.specs.Str.{bytes_eq}
 use Rattle.std.proofs.lemmas.Slice.Eq.{bytes_eq-Decides}
-use Rattle.hol_model.specs.HolType.{HolType, type_variable, bool_type, function_type, declared_type, type_eq, part_at, first_answer, fits_generic, is_instance}
-use Rattle.hol_model.proofs.HolTypeEq.{type_eq-self}
-use Rattle.hol_model.specs.Reading.{quantifier_type}
+use Rattle.hol_model.specs.Terms.HolType.{HolType, type_variable, bool_type, function_type, declared_type, type_eq, part_at, first_answer, fits_generic, is_instance}
+use Rattle.hol_model.proofs.Terms.HolTypeEq.{type_eq-self}
+use Rattle.hol_model.specs.Texts.Reading.{quantifier_type}
 use Rattle.hol_syntax.specs.Building.{allows_truth, fits_truth, is_truth_apart}
 
 same_name : (name : List ℕ) → bytes_eq name name ≡ true

@@ -3,10 +3,10 @@ use Rattle.std.proofs.Common.{◌≡◌, ℕ, ◌+◌, ◌-◌, ◌≤◌, List,
 use Rattle.std.specs.List.{slice_split}
 use Rattle.std.proofs.lemmas.Bool.{eqb-true}
 use Rattle.std.proofs.lemmas.List.{drop-drop, drop-map, take-map, length-map, length-drop, nil_from_length}
-use Rattle.hol_model.specs.Token.{Token, Mark}
+use Rattle.hol_model.specs.Texts.Token.{Token, Mark}
 use Rattle.hol_model.specs.declared.symbol.Symbol.TheVariants.{Turnstile}
-use Rattle.hol_model.specs.TermGrammar.{TermTree, IsReadTerm}
-use Rattle.hol_model.specs.SequentGrammar.{with_commas, AreReadTerms, IsReadSequent}
+use Rattle.hol_model.specs.Texts.TermGrammar.{TermTree, IsReadTerm}
+use Rattle.hol_model.specs.Texts.SequentGrammar.{with_commas, AreReadTerms, IsReadSequent}
 use Rattle.hol_grammar.specs.declared.token.Token.{Token as TokenHere}
 use Rattle.hol_grammar.specs.declared.steps.TermStep.{TermStep}
 use Rattle.hol_grammar.specs.declared.type_reader.ReadError.{ReadError}

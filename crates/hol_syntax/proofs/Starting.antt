@@ -3,9 +3,9 @@ use Rattle.std.proofs.Common.{◌≡◌, ℕ, List, Bool, true, false, cond, Opt
 use Rattle.std.specs.Prelude.{codes}
 use Rattle.std.specs.Str.{bytes_eq}
 use Rattle.std.proofs.lemmas.Slice.Eq.{bytes_eq-Decides}
-use Rattle.hol_model.specs.HolType.{HolType}
-use Rattle.hol_model.specs.Theory.{equality_type, choice_type, type_a}
-use Rattle.hol_model.specs.Reading.{Scope}
+use Rattle.hol_model.specs.Terms.HolType.{HolType}
+use Rattle.hol_model.specs.Logic.Theory.{equality_type, choice_type, type_a}
+use Rattle.hol_model.specs.Texts.Reading.{Scope}
 use Rattle.hol_syntax.specs.Scope.{IsStart, SetsConstant}
 
 swapped : (name : List ℕ) (e c o : Option HolType) (a b : Bool) → o ≡ None → bytes_eq (codes "=") name ≡ a → bytes_eq (codes "@") name ≡ b

@@ -3,14 +3,14 @@ use Rattle.std.proofs.Common.{◌≡◌, inl, inr, ⊎_elim, ℕ, suc, ◌+◌, 
 use Rattle.std.proofs.lemmas.List.{drop-map, nil_from_length, length-drop, length-map}
 use Rattle.hol_model.specs.declared.fault.Fault.{Fault}
 use Rattle.hol_model.specs.declared.fault.Fault.TheVariants.{BadName}
-use Rattle.hol_model.specs.Name.{is_identifier}
-use Rattle.hol_model.specs.HolType.{HolType}
-use Rattle.hol_model.specs.NamedTerm.{NamedTerm, variable}
-use Rattle.hol_model.specs.Token.{Token, token_text}
-use Rattle.hol_model.specs.TypeGrammar.{TypeTree, type_steps}
-use Rattle.hol_model.specs.TermGrammar.{Bare, Variable, Constant, TermTree}
-use Rattle.hol_model.specs.Reading.{Scope, ◌>>=◌, named_variable, named_binding, meaning}
-use Rattle.hol_model.specs.Outcome.{Answers}
+use Rattle.hol_model.specs.Terms.Name.{is_identifier}
+use Rattle.hol_model.specs.Terms.HolType.{HolType}
+use Rattle.hol_model.specs.Terms.NamedTerm.{NamedTerm, variable}
+use Rattle.hol_model.specs.Texts.Token.{Token, token_text}
+use Rattle.hol_model.specs.Texts.TypeGrammar.{TypeTree, type_steps}
+use Rattle.hol_model.specs.Texts.TermGrammar.{Bare, Variable, Constant, TermTree}
+use Rattle.hol_model.specs.Texts.Reading.{Scope, ◌>>=◌, named_variable, named_binding, meaning}
+use Rattle.hol_model.specs.Kernel.Outcome.{Answers}
 use Rattle.hol_grammar.specs.declared.steps.TermStep.{TermStep as HeldStep}
 use Rattle.hol_syntax.specs.declared.evaluate.Evaluator.{Evaluator}
 use Rattle.hol_grammar.specs.Steps.{flat_step_of, flat_steps_of}

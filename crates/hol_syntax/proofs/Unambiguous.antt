@@ -1,10 +1,10 @@
 -- A text has one list of tokens, and one tree.
 use Rattle.std.proofs.Common.{◌≡◌, ◌≢◌, ℕ, List, [], ◌∷◌, Option, None, Some, refl, sym, ap, ◌∙◌, subst, unwrap_or}
-use Rattle.hol_model.specs.Token.{Token}
-use Rattle.hol_model.specs.TypeGrammar.{TypeTree, IsRead}
-use Rattle.hol_model.specs.Lexing.{Lexes, is_blank}
-use Rattle.hol_model.specs.TermGrammar.{TermTree, Lexeme, all_tokens, IsReadTerm}
-use Rattle.hol_model.specs.Texts.{TypesAreUnambiguous, TermsAreUnambiguous}
+use Rattle.hol_model.specs.Texts.Token.{Token}
+use Rattle.hol_model.specs.Texts.TypeGrammar.{TypeTree, IsRead}
+use Rattle.hol_model.specs.Texts.Lexing.{Lexes, is_blank}
+use Rattle.hol_model.specs.Texts.TermGrammar.{TermTree, Lexeme, all_tokens, IsReadTerm}
+use Rattle.hol_model.specs.Texts.Texts.{TypesAreUnambiguous, TermsAreUnambiguous}
 use Rattle.hol_grammar.specs.Lexer.{back}
 use Rattle.hol_grammar.specs.TypeReader.{run}
 use Rattle.hol_grammar.proofs.Lexing.{first_is, nothing_left}

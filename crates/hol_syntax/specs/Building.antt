@@ -3,8 +3,8 @@ use Rattle.std.specs.Prelude.{ℕ, List, Bool, true, false, not, Option, None, S
 use Rattle.hol_model.specs.declared.fault.Fault.{Fault}
 use Rattle.hol_model.specs.declared.fault.Fault.TheVariants.{TooLarge}
 use Rattle.std.specs.Str.{bytes_eq}
-use Rattle.hol_model.specs.HolType.{HolType, type_variable, bool_type, function_type, declared_type, type_eq, part_at}
-use Rattle.hol_model.specs.NamedTerm.{NamedTerm, variable, constant, type_fits}
+use Rattle.hol_model.specs.Terms.HolType.{HolType, type_variable, bool_type, function_type, declared_type, type_eq, part_at}
+use Rattle.hol_model.specs.Terms.NamedTerm.{NamedTerm, variable, constant, type_fits}
 
 -- the variable of a binding
 abbrev pub binding_variable : List ℕ × HolType → NamedTerm

@@ -2,8 +2,8 @@
 use Rattle.std.specs.Prelude.{◌≡◌, ◌⊎◌, reverse, Result, Ok, Err}
 use Rattle.hol_model.specs.declared.fault.Fault.{Fault}
 use Rattle.hol_model.specs.declared.fault.Fault.TheVariants.{Memory}
-use Rattle.hol_model.specs.NamedTerm.{NamedTerm}
-use Rattle.hol_model.specs.Reading.{◌>>=◌}
+use Rattle.hol_model.specs.Terms.NamedTerm.{NamedTerm}
+use Rattle.hol_model.specs.Texts.Reading.{◌>>=◌}
 use Rattle.hol_syntax.specs.declared.evaluate.Evaluator.{Evaluator}
 use Rattle.hol_syntax.specs.OpenBinders.{IsOpened}
 use Rattle.hol_grammar.specs.TermSteps.{Workspace, push}

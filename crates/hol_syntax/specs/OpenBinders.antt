@@ -6,9 +6,9 @@ use Rattle.std.specs.Map.{update}
 use Rattle.std.specs.Str.{bytes_eq}
 use Rattle.hol_model.specs.declared.fault.Fault.{Fault}
 use Rattle.hol_model.specs.declared.fault.Fault.TheVariants.{Memory}
-use Rattle.hol_model.specs.HolType.{HolType}
-use Rattle.hol_model.specs.NamedTerm.{NamedTerm, variable}
-use Rattle.hol_model.specs.Reading.{Bindings, bound_type}
+use Rattle.hol_model.specs.Terms.HolType.{HolType}
+use Rattle.hol_model.specs.Terms.NamedTerm.{NamedTerm, variable}
+use Rattle.hol_model.specs.Texts.Reading.{Bindings, bound_type}
 use Rattle.hol_syntax.specs.declared.binders.Opened.{Opened}
 use Rattle.hol_syntax.specs.declared.binders.Binders.{Binders}
 use Rattle.hol_syntax.specs.Building.{binding_variable}

@@ -4,11 +4,11 @@ use Rattle.std.proofs.Common.{Vec, Global}
 use Rattle.hol_model.specs.declared.fault.Fault.{Fault}
 use Rattle.hol_model.specs.declared.fault.Fault.TheVariants.{Memory as MemoryFault}
 use Rattle.hol_model.specs.declared.symbol.Symbol.TheVariants.{Comma, Turnstile}
-use Rattle.hol_model.specs.NamedTerm.{NamedTerm}
-use Rattle.hol_model.specs.Token.{Token, Mark}
-use Rattle.hol_model.specs.TermGrammar.{TermTree}
-use Rattle.hol_model.specs.SequentGrammar.{with_commas, AreReadTerms, IsReadSequent, formulas_meaning}
-use Rattle.hol_model.specs.Reading.{Scope}
+use Rattle.hol_model.specs.Terms.NamedTerm.{NamedTerm}
+use Rattle.hol_model.specs.Texts.Token.{Token, Mark}
+use Rattle.hol_model.specs.Texts.TermGrammar.{TermTree}
+use Rattle.hol_model.specs.Texts.SequentGrammar.{with_commas, AreReadTerms, IsReadSequent, formulas_meaning}
+use Rattle.hol_model.specs.Texts.Reading.{Scope}
 use Rattle.hol_syntax.specs.declared.sequents.Separator.{Separator}
 use Rattle.hol_syntax.specs.declared.sequents.Separator.TheVariants.{Comma as CommaHere, Turnstile as TurnstileHere}
 use Rattle.hol_grammar.specs.declared.type_reader.ReadError.{ReadError}

@@ -3,9 +3,9 @@ ghost use Rattle.std.specs.Prelude.{◌≡◌, ℕ, List, [], ◌∷◌, Some, I
 ghost use Rattle.std.specs.Option.{option_map};
 ghost use Rattle.std.specs.HashMap as map;
 ghost use Rattle.hol_model.specs.declared.fault.Fault.TheVariants.{Memory};
-ghost use Rattle.hol_model.specs.HolType.{HolType};
-ghost use Rattle.hol_model.specs.NamedTerm as named;
-ghost use Rattle.hol_model.specs.Reading.{Bindings, bound_type};
+ghost use Rattle.hol_model.specs.Terms.HolType.{HolType};
+ghost use Rattle.hol_model.specs.Terms.NamedTerm as named;
+ghost use Rattle.hol_model.specs.Texts.Reading.{Bindings, bound_type};
 ghost use Rattle.hol_syntax.specs.OpenBinders.{SetsName, IsOpened, Enters, Leaves};
 ghost use Rattle.hol_syntax.specs.TypeStack.{IsPopped};
 

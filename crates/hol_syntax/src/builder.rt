@@ -1,12 +1,12 @@
 // The makers of a term's nodes: each answers the term or the node's first refusal.
 ghost use Rattle.std.specs.Prelude.{MatchOption, IsFalse, IsTrue, ◌≡◌, List, ℕ, Some, codes};
-ghost use Rattle.hol_model.specs.HolType.{HolType, function_type, bool_type};
-ghost use Rattle.hol_model.specs.Name as names;
-ghost use Rattle.hol_model.specs.NamedTerm.{variable, abstraction, constant, combination, equation, type_of};
-ghost use Rattle.hol_model.specs.Theory.{choice_name, choice_type};
-ghost use Rattle.hol_model.specs.TypeGrammar.{TypeTree, type_steps};
-ghost use Rattle.hol_model.specs.Reading.{Bindings, bound_type, bare_name, known_constant, fitting_type, quantifier_type, variable_meaning, constant_meaning, named_variable, well_typed, connective, truth_operation, infix_term, negation, join, bind, bare_constant, is_closed_type};
-ghost use Rattle.hol_model.specs.Outcome.{Answers};
+ghost use Rattle.hol_model.specs.Terms.HolType.{HolType, function_type, bool_type};
+ghost use Rattle.hol_model.specs.Terms.Name as names;
+ghost use Rattle.hol_model.specs.Terms.NamedTerm.{variable, abstraction, constant, combination, equation, type_of};
+ghost use Rattle.hol_model.specs.Logic.Theory.{choice_name, choice_type};
+ghost use Rattle.hol_model.specs.Texts.TypeGrammar.{TypeTree, type_steps};
+ghost use Rattle.hol_model.specs.Texts.Reading.{Bindings, bound_type, bare_name, known_constant, fitting_type, quantifier_type, variable_meaning, constant_meaning, named_variable, well_typed, connective, truth_operation, infix_term, negation, join, bind, bare_constant, is_closed_type};
+ghost use Rattle.hol_model.specs.Kernel.Outcome.{Answers};
 ghost use Rattle.hol_syntax.specs.Scope.{scope_of};
 ghost use Rattle.hol_grammar.specs.Views.{steps_of};
 ghost use Rattle.hol_grammar.specs.Grammar.{infix_here, binder_here};

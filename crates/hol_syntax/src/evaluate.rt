@@ -1,12 +1,12 @@
 // Terms, made from their steps.
 ghost use Rattle.std.specs.Prelude.{◌≡◌, ◌∷◌, [], IfErr, OnOk, Result, reverse};
 ghost use Rattle.hol_model.specs.declared.fault.Fault.TheVariants.{Memory};
-ghost use Rattle.hol_model.specs.NamedTerm.{NamedTerm};
-ghost use Rattle.hol_model.specs.TypeGrammar.{TypeTree, type_steps};
-ghost use Rattle.hol_model.specs.TermGrammar.{TermTree};
-ghost use Rattle.hol_model.specs.Reading as reading;
-ghost use Rattle.hol_model.specs.Reading.{meaning};
-ghost use Rattle.hol_model.specs.Outcome.{Answers};
+ghost use Rattle.hol_model.specs.Terms.NamedTerm.{NamedTerm};
+ghost use Rattle.hol_model.specs.Texts.TypeGrammar.{TypeTree, type_steps};
+ghost use Rattle.hol_model.specs.Texts.TermGrammar.{TermTree};
+ghost use Rattle.hol_model.specs.Texts.Reading as reading;
+ghost use Rattle.hol_model.specs.Texts.Reading.{meaning};
+ghost use Rattle.hol_model.specs.Kernel.Outcome.{Answers};
 ghost use Rattle.hol_syntax.specs.Scope.{scope_of};
 ghost use Rattle.hol_grammar.specs.Views.{steps_of};
 ghost use Rattle.hol_grammar.specs.Grammar.{infix_here, binder_here};

@@ -1,7 +1,7 @@
 // Whether the type of a quantifier is an instance of a generic type. The type itself may be too large to be made.
 ghost use Rattle.std.specs.Prelude.{◌≡◌, ◌&&◌};
-ghost use Rattle.hol_model.specs.HolType as spec;
-ghost use Rattle.hol_model.specs.Reading.{quantifier_type};
+ghost use Rattle.hol_model.specs.Terms.HolType as spec;
+ghost use Rattle.hol_model.specs.Texts.Reading.{quantifier_type};
 ghost use Rattle.hol_syntax.specs.Building as building;
 
 use hol_types::{Ty, TypeParts, is_instance, part_at};

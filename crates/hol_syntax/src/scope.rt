@@ -1,7 +1,7 @@
 // What the names of a text stand for.
 ghost use Rattle.std.specs.Prelude.{◌≡◌, ◌↔◌, [], ◌∷◌, Some, None, true, false, Err, IfOk, IfErr, OnOk, OnErr, IsSome, IsTrue, Contains};
 ghost use Rattle.std.specs.Option.{option_map};
-ghost use Rattle.hol_model.specs.Theory.{equality_type, choice_type, type_a};
+ghost use Rattle.hol_model.specs.Logic.Theory.{equality_type, choice_type, type_a};
 ghost use Rattle.hol_model.specs.declared.fault.Fault.TheVariants.{Memory, NameTaken};
 ghost use Rattle.hol_syntax.specs.Scope.{scope_of, IsStart, SetsConstant, SetsVariable, SetsType, KeepsScope};
 

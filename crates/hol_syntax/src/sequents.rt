@@ -1,9 +1,9 @@
 // Sequents, read from texts.
 ghost use Rattle.std.specs.Prelude.{◌≡◌, ◌∷◌, [], List, IfOk, IfErr};
-ghost use Rattle.hol_model.specs.TermGrammar.{TermTree};
-ghost use Rattle.hol_model.specs.Rules.{is_formula};
-ghost use Rattle.hol_model.specs.SequentGrammar.{formula_meaning, ReadsSequent, RefusesSequent};
-ghost use Rattle.hol_model.specs.Outcome.{Answers};
+ghost use Rattle.hol_model.specs.Texts.TermGrammar.{TermTree};
+ghost use Rattle.hol_model.specs.Kernel.Rules.{is_formula};
+ghost use Rattle.hol_model.specs.Texts.SequentGrammar.{formula_meaning, ReadsSequent, RefusesSequent};
+ghost use Rattle.hol_model.specs.Kernel.Outcome.{Answers};
 ghost use Rattle.hol_syntax.specs.Scope.{scope_of};
 ghost use Rattle.hol_grammar.specs.Steps.{flat_steps_of};
 ghost use Rattle.hol_grammar.specs.TermSteps.{flat_steps, term_steps};

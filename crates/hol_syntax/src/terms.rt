@@ -1,6 +1,6 @@
 // Terms, read from texts.
 ghost use Rattle.std.specs.Prelude.{IfOk, IfErr};
-ghost use Rattle.hol_model.specs.Texts.{ReadsTerm, RefusesTerm, TermsAreUnambiguous};
+ghost use Rattle.hol_model.specs.Texts.Texts.{ReadsTerm, RefusesTerm, TermsAreUnambiguous};
 ghost use Rattle.hol_syntax.specs.Scope.{scope_of};
 
 use crate::evaluate::term_of_steps;

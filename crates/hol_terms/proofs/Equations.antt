@@ -4,14 +4,14 @@ use Rattle.std.proofs.lemmas.Bool.Decides.{nat_tests}
 use Rattle.std.specs.Prelude.{Result, is_some}
 use Rattle.hol_model.specs.declared.fault.Fault.{Fault}
 use Rattle.hol_model.specs.declared.fault.Fault.TheVariants.{TooLarge, BadName, TypeMismatch}
-use Rattle.hol_model.specs.HolType.{HolType, bool_type, function_type}
-use Rattle.hol_model.specs.NamedTerm.{NamedTerm, constant, combination, equality, application_type, type_of, type_fits, is_within_limits}
-use Rattle.hol_model.specs.Name.{is_constant_name}
-use Rattle.hol_model.specs.Outcome.{unless}
-use Rattle.hol_model.specs.Rules.{limited}
-use Rattle.hol_model.specs.Constructors.{function_type_outcome, constant_outcome, typed_outcome, combination_outcome, equation_outcome}
-use Rattle.hol_model.proofs.Outcomes.{passed_value}
-use Rattle.hol_model.proofs.HolTypeEq.{type_eq-self}
+use Rattle.hol_model.specs.Terms.HolType.{HolType, bool_type, function_type}
+use Rattle.hol_model.specs.Terms.NamedTerm.{NamedTerm, constant, combination, equality, application_type, type_of, type_fits, is_within_limits}
+use Rattle.hol_model.specs.Terms.Name.{is_constant_name}
+use Rattle.hol_model.specs.Kernel.Outcome.{unless}
+use Rattle.hol_model.specs.Kernel.Rules.{limited}
+use Rattle.hol_model.specs.Kernel.Constructors.{function_type_outcome, constant_outcome, typed_outcome, combination_outcome, equation_outcome}
+use Rattle.hol_model.proofs.Kernel.Outcomes.{passed_value}
+use Rattle.hol_model.proofs.Terms.HolTypeEq.{type_eq-self}
 
 large_function : (f x : NamedTerm) → is_within_limits f ≡ false → is_within_limits (combination f x) ≡ false
 large_function f x past = grind (arith, nat_tests)

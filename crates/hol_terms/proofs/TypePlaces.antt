@@ -1,6 +1,6 @@
 -- A term that is written without type variables has no places of them.
 use Rattle.std.proofs.Common.{◌≡◌, [], ◌++◌, false}
-use Rattle.hol_model.specs.NamedTerm.{NamedTerm, variable, constant, combination, abstraction, type_places}
+use Rattle.hol_model.specs.Terms.NamedTerm.{NamedTerm, variable, constant, combination, abstraction, type_places}
 use Rattle.hol_model.proofs.Tests.{first_of_neither, second_of_neither}
 use Rattle.hol_types.specs.Variables as types
 use Rattle.hol_types.proofs.Closed.{no_places}

@@ -1,6 +1,6 @@
 -- The classes of names: sets of numbers below 64, written as the bits of a number.
 use Rattle.std.specs.Prelude.{ℕ, ◌+◌, ◌*◌, ◌%◌, ◌^◌, List, Bool, not, nat_eq, fold, bit_and, bit_or}
-use Rattle.hol_model.specs.NamedTerm.{NamedTerm, variable, constant, combination, abstraction}
+use Rattle.hol_model.specs.Terms.NamedTerm.{NamedTerm, variable, constant, combination, abstraction}
 
 -- the bytes as the digits of a number to the base 37, modulo 64
 abbrev pub class_number : List ℕ → ℕ

@@ -1,7 +1,7 @@
 -- Terms that are written with type variables.
 use Rattle.std.specs.Prelude.{Bool, ◌||◌}
 use Rattle.hol_types.specs.Variables as types
-use Rattle.hol_model.specs.NamedTerm.{NamedTerm, variable, constant, combination, abstraction}
+use Rattle.hol_model.specs.Terms.NamedTerm.{NamedTerm, variable, constant, combination, abstraction}
 
 -- a type variable stands in a type that the term is written with
 abbrev pub has_type_variables : NamedTerm → Bool

@@ -1,12 +1,12 @@
 // A term of the logic.
 ghost use Rattle.std.specs.Prelude.{◌≡◌, ◌<◌, ◌≤◌, ◌↔◌, [], ◌∷◌, Some, Ok, Err, IfOk, IfErr, IfSome, IsTrue, IsFalse, IsNone, IsOk, IsSome, IsSomeAnd, Contains};
 ghost use Rattle.std.specs.Option.{option_map};
-ghost use Rattle.hol_model.specs.NamedTerm as spec;
-ghost use Rattle.hol_model.specs.NamedTerm.{NamedTerm, variable, constant, combination, abstraction, height, nodes, type_of, is_within_limits, is_variable, abstract, dest_variable, dest_constant, dest_combination, dest_abstraction};
-ghost use Rattle.hol_model.specs.Name.{is_identifier, is_constant_name};
-ghost use Rattle.hol_model.specs.Outcome.{Answers};
-ghost use Rattle.hol_model.specs.Rules.{abstraction_outcome};
-ghost use Rattle.hol_model.specs.Constructors.{variable_outcome, constant_outcome, combination_outcome};
+ghost use Rattle.hol_model.specs.Terms.NamedTerm as spec;
+ghost use Rattle.hol_model.specs.Terms.NamedTerm.{NamedTerm, variable, constant, combination, abstraction, height, nodes, type_of, is_within_limits, is_variable, abstract, dest_variable, dest_constant, dest_combination, dest_abstraction};
+ghost use Rattle.hol_model.specs.Terms.Name.{is_identifier, is_constant_name};
+ghost use Rattle.hol_model.specs.Kernel.Outcome.{Answers};
+ghost use Rattle.hol_model.specs.Kernel.Rules.{abstraction_outcome};
+ghost use Rattle.hol_model.specs.Kernel.Constructors.{variable_outcome, constant_outcome, combination_outcome};
 ghost use Rattle.hol_model.specs.declared.fault.Fault.TheVariants.{Memory, TooLarge, BadName, TypeMismatch, NotVariable};
 
 use crate::NameClasses;
@@ -57,8 +57,8 @@ pub enum Parts<'a> {
 }
 
 impl Model for Term {
-    ghost use Rattle.hol_model.specs.NamedTerm.{NamedTerm};
-    ghost use Rattle.hol_model.specs.NamedTermCode.{term_code};
+    ghost use Rattle.hol_model.specs.Terms.NamedTerm.{NamedTerm};
+    ghost use Rattle.hol_model.specs.Terms.NamedTermCode.{term_code};
 
     ghost Value = { NamedTerm };
 

@@ -1,13 +1,13 @@
 // Whether a type is an instance of a generic one.
 ghost use Rattle.std.specs.Prelude.{◌≡◌, ◌↔◌, IsTrue};
 ghost use Rattle.std.specs.Option.{option_map};
-ghost use Rattle.hol_model.specs.HolType.{IsInstance};
-ghost use Rattle.hol_model.specs.HolType as spec;
+ghost use Rattle.hol_model.specs.Terms.HolType.{IsInstance};
+ghost use Rattle.hol_model.specs.Terms.HolType as spec;
 
 use crate::{Ty, TypeParts};
 
 /// Whether the type is got from the generic one by replacing type variables.
-#[tactic(auto, using(hol_model::proofs::Instances::instances))]
+#[tactic(auto, using(hol_model::proofs::Terms::Instances::instances))]
 pub fn is_instance(generic: &Ty, ty: &Ty) -> bool
     ensures instance { IsTrue result ↔ IsInstance generic.now ty.now }
     ensures value { result ≡ spec.is_instance generic.now ty.now }

@@ -1,8 +1,8 @@
 -- The checker's answer for a log that is accepted.
 use Rattle.std.proofs.Common.{◌≡◌, ℕ, ap, ◌∙◌, Ok, Err, arith}
 use Rattle.hol_model.specs.declared.fault.Cause.{Cause}
-use Rattle.hol_model.specs.LogState.{LogState}
-use Rattle.hol_model.specs.LogText.{LogOutcome}
+use Rattle.hol_model.specs.Logs.LogState.{LogState}
+use Rattle.hol_model.specs.Logs.LogText.{LogOutcome}
 use Rattle.hol_check.specs.LogAnswers.{log_answer}
 use Rattle.holp.specs.LogsChecked.{LogsAreChecked}
 

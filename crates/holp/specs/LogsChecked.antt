@@ -2,7 +2,7 @@
 use Rattle.std.specs.Prelude.{◌≡◌, ◌<◌, ℕ, List, length, Some}
 use Rattle.hol_model.specs.declared.limits.TheConstants.{TEXT_BYTES_LIMIT}
 use Rattle.hol_model.specs.declared.fault.Cause.{Cause}
-use Rattle.hol_model.specs.LogState.{LogClaim}
+use Rattle.hol_model.specs.Logs.LogState.{LogClaim}
 use Rattle.hol_script.specs.RunLogs.{IsAcceptedLog}
 use Rattle.hol_check.specs.LogAnswers.{IsRefusedLog}
 use Rattle.hol_check.specs.Checking.{HasClaims}

@@ -1,10 +1,10 @@
 // The axioms.
 ghost use Rattle.std.specs.Prelude.{◌≡◌, ◌∷◌, [], codes, Some, slice_get, IfOk, IfErr};
 ghost use Rattle.hol_model.specs.declared.fault.Fault.TheVariants.{Memory};
-ghost use Rattle.hol_model.specs.HolType as types;
-ghost use Rattle.hol_model.specs.Nameless.{const, bound, app, lam};
-ghost use Rattle.hol_model.specs.Theory as theory;
-ghost use Rattle.hol_model.specs.Derivable as derivable;
+ghost use Rattle.hol_model.specs.Terms.HolType as types;
+ghost use Rattle.hol_model.specs.Terms.Nameless.{const, bound, app, lam};
+ghost use Rattle.hol_model.specs.Logic.Theory as theory;
+ghost use Rattle.hol_model.specs.Logic.Derivable as derivable;
 ghost use Rattle.hol_shared.specs.Terms.{IsGrown};
 ghost use Rattle.hol_steps.specs.Steps as spec;
 ghost use Rattle.hol_steps.specs.Steps.{IsNamed, IsNamedType, Takes};

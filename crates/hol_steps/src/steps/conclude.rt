@@ -1,7 +1,7 @@
 // The theorem of a step, of the hypotheses and the conclusion that were made.
 ghost use Rattle.std.specs.Prelude.{◌≡◌, List, Some, slice_get, length};
-ghost use Rattle.hol_model.specs.Nameless.{Nameless};
-ghost use Rattle.hol_model.specs.LogSequents.{supposing};
+ghost use Rattle.hol_model.specs.Terms.Nameless.{Nameless};
+ghost use Rattle.hol_model.specs.Logs.LogSequents.{supposing};
 ghost use Rattle.hol_shared.specs.Terms.{TermTable, IsGrown};
 ghost use Rattle.hol_steps.specs.Steps.{AreInOrder, Takes, plain};
 ghost use Rattle.hol_change.specs.Forming.{IsFormed};

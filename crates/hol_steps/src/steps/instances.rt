@@ -3,10 +3,10 @@ ghost use Rattle.std.specs.Prelude.{◌≡◌, ◌<◌, List, map, length, IfOk,
 ghost use Rattle.std.specs.List.{All};
 ghost use Rattle.std.specs.List.{list_all};
 ghost use Rattle.hol_model.specs.declared.fault.Fault.TheVariants.{Memory};
-ghost use Rattle.hol_model.specs.HolType.{HolType, is_type_variable, replaces_type_variables};
-ghost use Rattle.hol_model.specs.LogFaults.{is_replacement};
-ghost use Rattle.hol_model.specs.Nameless.{Nameless};
-ghost use Rattle.hol_model.specs.LogSequents.{supposing};
+ghost use Rattle.hol_model.specs.Terms.HolType.{HolType, is_type_variable, replaces_type_variables};
+ghost use Rattle.hol_model.specs.Logs.LogFaults.{is_replacement};
+ghost use Rattle.hol_model.specs.Terms.Nameless.{Nameless};
+ghost use Rattle.hol_model.specs.Logs.LogSequents.{supposing};
 ghost use Rattle.hol_shared.specs.Terms.{type_at, term_at, IsGrown};
 ghost use Rattle.hol_change.specs.Pairs.{ArePairs};
 ghost use Rattle.hol_change.specs.Change.{PartChange, changed, IsMeant, HasMeaning, NamePairs};

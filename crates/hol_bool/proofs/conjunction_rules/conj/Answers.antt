@@ -1,7 +1,7 @@
 use Rattle.std.proofs.Common.{◌∷◌, ◌++◌, refl}
-use Rattle.hol_model.specs.Nameless.{image}
-use Rattle.hol_model.specs.NamedLogic.{conjunction}
-use Rattle.hol_model.specs.DerivedRules.{images, terms_of_theorem, conj_outcome}
+use Rattle.hol_model.specs.Terms.Nameless.{image}
+use Rattle.hol_model.specs.Logic.NamedLogic.{conjunction}
+use Rattle.hol_model.specs.Derived.DerivedRules.{images, terms_of_theorem, conj_outcome}
 use Rattle.hol_equal.proofs.CutLemmas.{shows-itself}
 use Rattle.hol_bool.proofs.RuleAnswers.{answered}
 use Rattle.hol_bool.proofs.ConjunctionAnswers.{conj-equation-fits, first-roomy, second-roomy}

@@ -1,10 +1,10 @@
 use Rattle.std.proofs.Common.{Option, ◌∙◌, refl, sym, ap}
 use Rattle.hol_model.specs.declared.fault.Fault.TheVariants.{BadShape}
-use Rattle.hol_model.specs.NamedTerm.{NamedTerm}
-use Rattle.hol_model.specs.Nameless.{image}
-use Rattle.hol_model.specs.NamedLogic.{conjunction}
-use Rattle.hol_model.specs.Outcome.{given}
-use Rattle.hol_model.specs.DerivedRules.{stated, images, conjunct2_outcome}
+use Rattle.hol_model.specs.Terms.NamedTerm.{NamedTerm}
+use Rattle.hol_model.specs.Terms.Nameless.{image}
+use Rattle.hol_model.specs.Logic.NamedLogic.{conjunction}
+use Rattle.hol_model.specs.Kernel.Outcome.{given}
+use Rattle.hol_model.specs.Derived.DerivedRules.{stated, images, conjunct2_outcome}
 use Rattle.hol_prelude.specs.Prelude.{p, q}
 use Rattle.hol_equal.proofs.CutLemmas.{shows-itself}
 use Rattle.hol_bool.proofs.RuleAnswers.{answered-one, leads-p_q, roomy-fits}

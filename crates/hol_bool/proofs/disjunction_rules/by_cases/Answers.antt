@@ -1,8 +1,8 @@
 use Rattle.std.proofs.Common.{◌≡◌, ◌∙◌, List, ◌++◌, Ok, IfOk, sym, ap, subst}
-use Rattle.hol_model.specs.Nameless.{Nameless, image}
-use Rattle.hol_model.specs.NamedTerm.{NamedTerm}
-use Rattle.hol_model.specs.Derivable.{without}
-use Rattle.hol_model.specs.Logic as nameless
+use Rattle.hol_model.specs.Terms.Nameless.{Nameless, image}
+use Rattle.hol_model.specs.Terms.NamedTerm.{NamedTerm}
+use Rattle.hol_model.specs.Logic.Derivable.{without}
+use Rattle.hol_model.specs.Logic.Logic as nameless
 use Rattle.hol_equal.specs.Room.{FitsIf}
 use Rattle.hol_equal.specs.Sequents.{Shows, DerivesIf}
 use Rattle.hol_equal.specs.Formulas.{IsFormula}

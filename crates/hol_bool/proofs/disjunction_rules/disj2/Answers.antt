@@ -1,9 +1,9 @@
 use Rattle.std.proofs.Common.{◌≡◌, ◌∙◌, Err, IfOk, refl, ap, subst}
-use Rattle.hol_model.specs.NamedTerm.{NamedTerm}
-use Rattle.hol_model.specs.Nameless.{image}
-use Rattle.hol_model.specs.Logic.{or_name}
-use Rattle.hol_model.specs.NamedLogic.{disjunction}
-use Rattle.hol_model.specs.DerivedRules.{images}
+use Rattle.hol_model.specs.Terms.NamedTerm.{NamedTerm}
+use Rattle.hol_model.specs.Terms.Nameless.{image}
+use Rattle.hol_model.specs.Logic.Logic.{or_name}
+use Rattle.hol_model.specs.Logic.NamedLogic.{disjunction}
+use Rattle.hol_model.specs.Derived.DerivedRules.{images}
 use Rattle.hol_equal.specs.Sequents.{DerivesIf}
 use Rattle.hol_bool.specs.PreludeInstances.{LeadsTo, at_p_q}
 use Rattle.hol_equal.proofs.CutLemmas.{shows-itself}

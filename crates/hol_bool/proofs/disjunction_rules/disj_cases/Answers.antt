@@ -1,13 +1,13 @@
 use Rattle.std.proofs.Common.{◌≡◌, ◌∙◌, List, ◌++◌, true, Option, sym, subst, ap, inl, refl}
 use Rattle.hol_model.specs.declared.fault.Fault.TheVariants.{BadShape, NotAlpha}
-use Rattle.hol_model.specs.NamedTerm.{NamedTerm}
-use Rattle.hol_model.specs.Nameless.{Nameless, image, same_term}
-use Rattle.hol_model.specs.Derivable.{without}
-use Rattle.hol_model.specs.Logic.{or_name}
-use Rattle.hol_model.specs.NamedLogic.{disjunction}
-use Rattle.hol_model.specs.Outcome.{given, unless}
-use Rattle.hol_model.specs.Theorem.{are_alpha_equivalent}
-use Rattle.hol_model.specs.DerivedRules.{images, stated, terms_of_theorem, disj_cases_outcome}
+use Rattle.hol_model.specs.Terms.NamedTerm.{NamedTerm}
+use Rattle.hol_model.specs.Terms.Nameless.{Nameless, image, same_term}
+use Rattle.hol_model.specs.Logic.Derivable.{without}
+use Rattle.hol_model.specs.Logic.Logic.{or_name}
+use Rattle.hol_model.specs.Logic.NamedLogic.{disjunction}
+use Rattle.hol_model.specs.Kernel.Outcome.{given, unless}
+use Rattle.hol_model.specs.Kernel.Theorem.{are_alpha_equivalent}
+use Rattle.hol_model.specs.Derived.DerivedRules.{images, stated, terms_of_theorem, disj_cases_outcome}
 use Rattle.hol_model.proofs.Tests.{same_term-Decides}
 use Rattle.hol_equal.specs.Sequents.{Shows}
 use Rattle.hol_bool.specs.Disjunctions.{LeavesRoomIf}

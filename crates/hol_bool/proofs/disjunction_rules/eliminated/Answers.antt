@@ -1,8 +1,8 @@
 use Rattle.std.proofs.Common.{◌≡◌, ◌∙◌, refl, subst}
-use Rattle.hol_model.specs.Nameless.{const, image}
-use Rattle.hol_model.specs.NamedTerm.{NamedTerm}
-use Rattle.hol_model.specs.Logic.{binary, implies_name}
-use Rattle.hol_model.specs.NamedLogic.{disjunction, implication}
+use Rattle.hol_model.specs.Terms.Nameless.{const, image}
+use Rattle.hol_model.specs.Terms.NamedTerm.{NamedTerm}
+use Rattle.hol_model.specs.Logic.Logic.{binary, implies_name}
+use Rattle.hol_model.specs.Logic.NamedLogic.{disjunction, implication}
 use Rattle.hol_equal.specs.Sequents.{DerivesIf}
 use Rattle.hol_bool.specs.Disjunctions.{other_case, both_cases}
 use Rattle.hol_bool.specs.PreludeInstances.{LeadsTo, at_p_q_r}

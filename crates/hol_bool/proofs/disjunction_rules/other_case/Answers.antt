@@ -1,8 +1,8 @@
 use Rattle.std.proofs.Common.{refl, subst}
-use Rattle.hol_model.specs.Nameless.{const, image}
-use Rattle.hol_model.specs.NamedTerm.{NamedTerm}
-use Rattle.hol_model.specs.Logic.{binary, implies_name}
-use Rattle.hol_model.specs.NamedLogic.{implication}
+use Rattle.hol_model.specs.Terms.Nameless.{const, image}
+use Rattle.hol_model.specs.Terms.NamedTerm.{NamedTerm}
+use Rattle.hol_model.specs.Logic.Logic.{binary, implies_name}
+use Rattle.hol_model.specs.Logic.NamedLogic.{implication}
 use Rattle.hol_bool.proofs.RoomLemmas.{MakesConnected, connected-is, connected-past, connected-typed, fits-left}
 use Rattle.hol_bool.proofs.disjunction_rules.other_case.Goals as goal
 

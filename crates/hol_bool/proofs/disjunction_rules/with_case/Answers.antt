@@ -1,6 +1,6 @@
-use Rattle.hol_model.specs.Nameless.{image}
-use Rattle.hol_model.specs.Derivable.{without}
-use Rattle.hol_model.specs.Logic as nameless
+use Rattle.hol_model.specs.Terms.Nameless.{image}
+use Rattle.hol_model.specs.Logic.Derivable.{without}
+use Rattle.hol_model.specs.Logic.Logic as nameless
 use Rattle.hol_bool.proofs.disjunction_rules.with_case.Goals as goal
 
 pub returns-in-Err-clause-derives : goal.returns-in-Err-clause-derives

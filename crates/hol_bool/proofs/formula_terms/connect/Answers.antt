@@ -1,10 +1,10 @@
 use Rattle.std.proofs.Common.{◌≡◌, ◌∙◌, ap, subst, Err}
-use Rattle.hol_model.specs.HolType.{bool_type}
-use Rattle.hol_model.specs.NamedTerm.{NamedTerm, constant, combination}
-use Rattle.hol_model.specs.Nameless.{image}
-use Rattle.hol_model.specs.Logic.{binary, unary}
-use Rattle.hol_model.specs.Outcome.{Answers}
-use Rattle.hol_model.specs.Constructors.{combination_outcome}
+use Rattle.hol_model.specs.Terms.HolType.{bool_type}
+use Rattle.hol_model.specs.Terms.NamedTerm.{NamedTerm, constant, combination}
+use Rattle.hol_model.specs.Terms.Nameless.{image}
+use Rattle.hol_model.specs.Logic.Logic.{binary, unary}
+use Rattle.hol_model.specs.Kernel.Outcome.{Answers}
+use Rattle.hol_model.specs.Kernel.Constructors.{combination_outcome}
 use Rattle.hol_kernel.proofs.LimitLemmas.{applied}
 use Rattle.hol_bool.proofs.RoomLemmas.{fits-function, made-combination, half-typed, connected-typed}
 use Rattle.hol_bool.proofs.formula_terms.connect.Goals as goal

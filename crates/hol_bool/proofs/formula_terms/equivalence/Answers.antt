@@ -1,5 +1,5 @@
-use Rattle.hol_model.specs.HolType.{bool_type}
-use Rattle.hol_model.specs.NamedTerm.{combination, equality, type_of}
+use Rattle.hol_model.specs.Terms.HolType.{bool_type}
+use Rattle.hol_model.specs.Terms.NamedTerm.{combination, equality, type_of}
 use Rattle.hol_equal.proofs.StepLemmas.{equation-typed}
 use Rattle.hol_bool.proofs.RoomLemmas.{made-combination}
 use Rattle.hol_bool.proofs.formula_terms.equivalence.Goals as goal

@@ -1,9 +1,9 @@
 use Rattle.std.proofs.Common.{subst}
-use Rattle.hol_model.specs.HolType.{bool_type}
-use Rattle.hol_model.specs.NamedTerm.{NamedTerm, constant}
-use Rattle.hol_model.specs.Logic.{not_name, unary}
-use Rattle.hol_model.specs.Outcome.{Answers}
-use Rattle.hol_model.specs.Constructors.{combination_outcome}
+use Rattle.hol_model.specs.Terms.HolType.{bool_type}
+use Rattle.hol_model.specs.Terms.NamedTerm.{NamedTerm, constant}
+use Rattle.hol_model.specs.Logic.Logic.{not_name, unary}
+use Rattle.hol_model.specs.Kernel.Outcome.{Answers}
+use Rattle.hol_model.specs.Kernel.Constructors.{combination_outcome}
 use Rattle.hol_bool.proofs.RoomLemmas.{made-combination, negation-typed}
 use Rattle.hol_bool.proofs.formula_terms.negate.Goals as goal
 

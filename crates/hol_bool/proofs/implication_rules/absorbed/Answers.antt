@@ -1,9 +1,9 @@
 use Rattle.std.proofs.Common.{◌≡◌, ◌∙◌, [], ◌∷◌, ◌++◌, List, Ok, sym, subst, ap}
-use Rattle.hol_model.specs.HolType.{bool_type}
-use Rattle.hol_model.specs.Nameless.{Nameless, image}
-use Rattle.hol_model.specs.Measures.{nameless_within_limits}
-use Rattle.hol_model.specs.Derivable.{without, nameless_equation}
-use Rattle.hol_model.specs.Logic as nameless
+use Rattle.hol_model.specs.Terms.HolType.{bool_type}
+use Rattle.hol_model.specs.Terms.Nameless.{Nameless, image}
+use Rattle.hol_model.specs.Terms.Measures.{nameless_within_limits}
+use Rattle.hol_model.specs.Logic.Derivable.{without, nameless_equation}
+use Rattle.hol_model.specs.Logic.Logic as nameless
 use Rattle.hol_equal.specs.Room.{FitsIf}
 use Rattle.hol_equal.specs.Sequents.{Shows}
 use Rattle.hol_equal.proofs.StepLemmas.{still_made}

@@ -1,8 +1,8 @@
 use Rattle.std.proofs.Common.{◌≡◌, ◌∷◌, refl, inl, inr}
-use Rattle.hol_model.specs.Nameless.{image}
-use Rattle.hol_model.specs.Derivable.{without}
-use Rattle.hol_model.specs.NamedLogic.{implication}
-use Rattle.hol_model.specs.DerivedRules.{images, stated, terms_of_theorem, disch_outcome}
+use Rattle.hol_model.specs.Terms.Nameless.{image}
+use Rattle.hol_model.specs.Logic.Derivable.{without}
+use Rattle.hol_model.specs.Logic.NamedLogic.{implication}
+use Rattle.hol_model.specs.Derived.DerivedRules.{images, stated, terms_of_theorem, disch_outcome}
 use Rattle.hol_equal.proofs.CutLemmas.{shows-itself}
 use Rattle.hol_bool.proofs.RuleAnswers.{answered}
 use Rattle.hol_bool.proofs.ImplicationAnswers.{disch-fits}

@@ -1,12 +1,12 @@
 use Rattle.std.proofs.Common.{◌≡◌, ◌∙◌, IfOk, refl, sym, subst, ap}
-use Rattle.hol_model.specs.HolType.{bool_type}
-use Rattle.hol_model.specs.NamedTerm.{NamedTerm}
-use Rattle.hol_model.specs.Nameless.{Nameless, image}
-use Rattle.hol_model.specs.Theory.{Theory}
-use Rattle.hol_model.specs.Derivable.{without, nameless_equation}
-use Rattle.hol_model.specs.Logic as nameless
-use Rattle.hol_model.specs.Logic.{implies_name}
-use Rattle.hol_model.specs.NamedLogic.{implication}
+use Rattle.hol_model.specs.Terms.HolType.{bool_type}
+use Rattle.hol_model.specs.Terms.NamedTerm.{NamedTerm}
+use Rattle.hol_model.specs.Terms.Nameless.{Nameless, image}
+use Rattle.hol_model.specs.Logic.Theory.{Theory}
+use Rattle.hol_model.specs.Logic.Derivable.{without, nameless_equation}
+use Rattle.hol_model.specs.Logic.Logic as nameless
+use Rattle.hol_model.specs.Logic.Logic.{implies_name}
+use Rattle.hol_model.specs.Logic.NamedLogic.{implication}
 use Rattle.hol_equal.specs.Room.{FitsIf}
 use Rattle.hol_equal.specs.Sequents.{Shows, DerivesIf}
 use Rattle.hol_bool.specs.PreludeInstances.{LeadsTo, at_p_q}

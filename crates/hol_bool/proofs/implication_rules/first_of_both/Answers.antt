@@ -1,6 +1,6 @@
 use Rattle.std.proofs.Common.{◌∙◌, [], ◌∷◌, sym, subst}
-use Rattle.hol_model.specs.Nameless.{image}
-use Rattle.hol_model.specs.Theory.{Theory}
+use Rattle.hol_model.specs.Terms.Nameless.{image}
+use Rattle.hol_model.specs.Logic.Theory.{Theory}
 use Rattle.hol_bool.proofs.ImplicationAnswers.{conjunct-leads}
 use Rattle.hol_bool.proofs.implication_rules.first_of_both.Goals as goal
 use Rattle.hol_bool.specs.PreludeInstances.{LeadsTo}

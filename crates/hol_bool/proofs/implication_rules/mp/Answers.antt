@@ -1,10 +1,10 @@
 use Rattle.std.proofs.Common.{◌≡◌, ◌∙◌, ◌∷◌, ◌++◌, true, Option, sym, subst, ap}
 use Rattle.hol_model.specs.declared.fault.Fault.TheVariants.{BadShape, NotAlpha}
-use Rattle.hol_model.specs.NamedTerm.{NamedTerm}
-use Rattle.hol_model.specs.Nameless.{Nameless, image, same_term}
-use Rattle.hol_model.specs.Outcome.{given, unless}
-use Rattle.hol_model.specs.Theorem.{are_alpha_equivalent}
-use Rattle.hol_model.specs.DerivedRules.{images, stated, terms_of_theorem, mp_outcome}
+use Rattle.hol_model.specs.Terms.NamedTerm.{NamedTerm}
+use Rattle.hol_model.specs.Terms.Nameless.{Nameless, image, same_term}
+use Rattle.hol_model.specs.Kernel.Outcome.{given, unless}
+use Rattle.hol_model.specs.Kernel.Theorem.{are_alpha_equivalent}
+use Rattle.hol_model.specs.Derived.DerivedRules.{images, stated, terms_of_theorem, mp_outcome}
 use Rattle.hol_model.proofs.Tests.{same_term-Decides}
 use Rattle.hol_equal.specs.Room.{IsSized}
 use Rattle.hol_equal.specs.Sequents.{Shows}

@@ -1,9 +1,9 @@
 use Rattle.std.proofs.Common.{◌≡◌, [], ◌∷◌, true, Option, sym, subst, ap, refl, inl}
 use Rattle.hol_model.specs.declared.fault.Fault.TheVariants.{BadShape}
-use Rattle.hol_model.specs.NamedTerm.{NamedTerm}
-use Rattle.hol_model.specs.Nameless.{Nameless, image}
-use Rattle.hol_model.specs.Outcome.{given}
-use Rattle.hol_model.specs.DerivedRules.{images, stated, terms_of_theorem, undisch_outcome}
+use Rattle.hol_model.specs.Terms.NamedTerm.{NamedTerm}
+use Rattle.hol_model.specs.Terms.Nameless.{Nameless, image}
+use Rattle.hol_model.specs.Kernel.Outcome.{given}
+use Rattle.hol_model.specs.Derived.DerivedRules.{images, stated, terms_of_theorem, undisch_outcome}
 use Rattle.hol_equal.specs.Room.{IsSized}
 use Rattle.hol_equal.specs.Sequents.{Shows}
 use Rattle.hol_equal.proofs.CutLemmas.{shows-itself}

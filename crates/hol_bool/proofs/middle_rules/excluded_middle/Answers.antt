@@ -1,9 +1,9 @@
 use Rattle.std.proofs.Common.{◌≡◌, ◌∙◌, [], ◌∷◌, Err, IfOk, refl, subst, inl, inr}
-use Rattle.hol_model.specs.NamedTerm.{NamedTerm}
-use Rattle.hol_model.specs.Nameless.{const, app, image}
-use Rattle.hol_model.specs.Logic.{or_name, binary}
-use Rattle.hol_model.specs.NamedLogic.{disjunction, negation}
-use Rattle.hol_model.specs.DerivedRules.{stated, excluded_middle_outcome}
+use Rattle.hol_model.specs.Terms.NamedTerm.{NamedTerm}
+use Rattle.hol_model.specs.Terms.Nameless.{const, app, image}
+use Rattle.hol_model.specs.Logic.Logic.{or_name, binary}
+use Rattle.hol_model.specs.Logic.NamedLogic.{disjunction, negation}
+use Rattle.hol_model.specs.Derived.DerivedRules.{stated, excluded_middle_outcome}
 use Rattle.hol_prelude.specs.Prelude.{middle}
 use Rattle.hol_equal.specs.Sequents.{DerivesIf}
 use Rattle.hol_bool.specs.PreludeInstances.{Says}

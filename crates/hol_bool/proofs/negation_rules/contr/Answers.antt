@@ -1,8 +1,8 @@
 use Rattle.std.proofs.Common.{◌≡◌, ◌∙◌, ◌∷◌, true, subst, refl, sym, ap, inl, inr}
-use Rattle.hol_model.specs.NamedTerm.{NamedTerm}
-use Rattle.hol_model.specs.Nameless.{image}
-use Rattle.hol_model.specs.NamedLogic.{false_term, is_false}
-use Rattle.hol_model.specs.DerivedRules.{images, stated, terms_of_theorem, contr_outcome}
+use Rattle.hol_model.specs.Terms.NamedTerm.{NamedTerm}
+use Rattle.hol_model.specs.Terms.Nameless.{image}
+use Rattle.hol_model.specs.Logic.NamedLogic.{false_term, is_false}
+use Rattle.hol_model.specs.Derived.DerivedRules.{images, stated, terms_of_theorem, contr_outcome}
 use Rattle.hol_prelude.specs.Prelude.{p}
 use Rattle.hol_equal.proofs.CutLemmas.{shows-itself}
 use Rattle.hol_bool.proofs.FormulaLemmas.{false-is}

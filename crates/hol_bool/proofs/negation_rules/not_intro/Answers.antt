@@ -1,10 +1,10 @@
 use Rattle.std.proofs.Common.{◌≡◌, ◌∙◌, true, Option, Err, IfOk, refl, sym, ap, subst}
 use Rattle.hol_model.specs.declared.fault.Fault.TheVariants.{BadShape}
-use Rattle.hol_model.specs.NamedTerm.{NamedTerm}
-use Rattle.hol_model.specs.Nameless.{image}
-use Rattle.hol_model.specs.NamedLogic.{false_term, is_false, implication, negation}
-use Rattle.hol_model.specs.Outcome.{given, unless}
-use Rattle.hol_model.specs.DerivedRules.{images, stated, not_intro_outcome}
+use Rattle.hol_model.specs.Terms.NamedTerm.{NamedTerm}
+use Rattle.hol_model.specs.Terms.Nameless.{image}
+use Rattle.hol_model.specs.Logic.NamedLogic.{false_term, is_false, implication, negation}
+use Rattle.hol_model.specs.Kernel.Outcome.{given, unless}
+use Rattle.hol_model.specs.Derived.DerivedRules.{images, stated, not_intro_outcome}
 use Rattle.hol_prelude.specs.Prelude.{p}
 use Rattle.hol_equal.specs.Sequents.{DerivesIf}
 use Rattle.hol_bool.specs.PreludeInstances.{LeadsTo}

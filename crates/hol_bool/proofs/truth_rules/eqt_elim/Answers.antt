@@ -1,11 +1,11 @@
 use Rattle.std.proofs.Common.{◌≡◌, ◌∙◌, true, Option, refl, sym, ap}
 use Rattle.hol_model.specs.declared.fault.Fault.TheVariants.{BadShape}
-use Rattle.hol_model.specs.NamedTerm.{NamedTerm, equation}
-use Rattle.hol_model.specs.Nameless.{image}
-use Rattle.hol_model.specs.NamedLogic.{true_term, is_true}
-use Rattle.hol_model.specs.Outcome.{given, unless}
-use Rattle.hol_model.specs.Rules.{dest_equation}
-use Rattle.hol_model.specs.DerivedRules.{images, stated, eqt_elim_outcome}
+use Rattle.hol_model.specs.Terms.NamedTerm.{NamedTerm, equation}
+use Rattle.hol_model.specs.Terms.Nameless.{image}
+use Rattle.hol_model.specs.Logic.NamedLogic.{true_term, is_true}
+use Rattle.hol_model.specs.Kernel.Outcome.{given, unless}
+use Rattle.hol_model.specs.Kernel.Rules.{dest_equation}
+use Rattle.hol_model.specs.Derived.DerivedRules.{images, stated, eqt_elim_outcome}
 use Rattle.hol_prelude.specs.Prelude.{p}
 use Rattle.hol_equal.proofs.CutLemmas.{shows-itself}
 use Rattle.hol_bool.proofs.FormulaLemmas.{sides_as, truth-equation}

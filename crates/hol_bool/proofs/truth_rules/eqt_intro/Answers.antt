@@ -1,10 +1,10 @@
 use Rattle.std.proofs.Common.{◌≡◌, ◌∙◌, [], ◌∷◌, Err, refl, ap, subst, IfOk}
-use Rattle.hol_model.specs.HolType.{bool_type}
-use Rattle.hol_model.specs.NamedTerm.{NamedTerm, equation}
-use Rattle.hol_model.specs.Nameless.{image}
-use Rattle.hol_model.specs.NamedLogic.{true_term}
-use Rattle.hol_model.specs.DerivedRules.{images, eqt_intro_outcome}
-use Rattle.hol_model.proofs.Images.{image-equation}
+use Rattle.hol_model.specs.Terms.HolType.{bool_type}
+use Rattle.hol_model.specs.Terms.NamedTerm.{NamedTerm, equation}
+use Rattle.hol_model.specs.Terms.Nameless.{image}
+use Rattle.hol_model.specs.Logic.NamedLogic.{true_term}
+use Rattle.hol_model.specs.Derived.DerivedRules.{images, eqt_intro_outcome}
+use Rattle.hol_model.proofs.Terms.Images.{image-equation}
 use Rattle.hol_prelude.specs.Prelude.{p}
 use Rattle.hol_equal.specs.Sequents.{DerivesIf}
 use Rattle.hol_bool.specs.PreludeInstances.{LeadsTo}

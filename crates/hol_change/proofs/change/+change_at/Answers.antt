@@ -1,6 +1,6 @@
 use Rattle.std.proofs.Common.{◌+◌, ◌<◌, ◌≤◌, length, sym, ◌∙◌, ap, subst, arith}
-use Rattle.hol_model.specs.Nameless.{Nameless, app, lam}
-use Rattle.hol_model.specs.Measures.{nameless_height}
+use Rattle.hol_model.specs.Terms.Nameless.{Nameless, app, lam}
+use Rattle.hol_model.specs.Terms.Measures.{nameless_height}
 use Rattle.hol_shared.specs.Terms.{term_at, type_at}
 use Rattle.hol_shared.proofs.TableLemmas.{is_within}
 use Rattle.hol_change.proofs.ChangeLemmas.{answers-spared, answers-known, answers-leaf, refused-function, refused-argument, refused-body, refused-binder, held-after-type, answers-refused, answers-made, application-parts, abstraction-parts, under-is, inside-bound}

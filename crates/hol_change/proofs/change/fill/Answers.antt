@@ -1,6 +1,6 @@
 use Rattle.std.proofs.Common.{refl, subst}
 use Rattle.std.proofs.lemmas.Option.{slice_get-get_or}
-use Rattle.hol_model.specs.Nameless.{bound}
+use Rattle.hol_model.specs.Terms.Nameless.{bound}
 use Rattle.hol_shared.specs.Terms.{term_at}
 use Rattle.hol_change.specs.Change.{filling, IsAnswered}
 use Rattle.hol_change.proofs.ChangeLemmas.{changed-filling}

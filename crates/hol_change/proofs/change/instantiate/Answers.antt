@@ -1,5 +1,5 @@
 use Rattle.std.proofs.Common.{refl, subst}
-use Rattle.hol_model.specs.HolType.{type_instance_of}
+use Rattle.hol_model.specs.Terms.HolType.{type_instance_of}
 use Rattle.hol_shared.specs.Terms.{term_at}
 use Rattle.hol_change.specs.Change.{instantiating, IsAnswered}
 use Rattle.hol_change.proofs.ChangeLemmas.{changed-instantiating}

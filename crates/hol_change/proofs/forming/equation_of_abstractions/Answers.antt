@@ -1,4 +1,4 @@
-use Rattle.hol_model.specs.LogSequents.{abstraction_over}
+use Rattle.hol_model.specs.Logs.LogSequents.{abstraction_over}
 use Rattle.hol_shared.specs.Terms.{term_at}
 use Rattle.hol_shared.proofs.TableLemmas.{is_within}
 use Rattle.hol_change.proofs.forming.equation_of_abstractions.Goals as goal

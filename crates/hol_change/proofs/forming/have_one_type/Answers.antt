@@ -1,6 +1,6 @@
 use Rattle.std.proofs.Common.{◌≡◌, ◌∙◌, ap}
-use Rattle.hol_model.specs.HolType.{type_eq}
-use Rattle.hol_model.specs.LogState.{term_type}
+use Rattle.hol_model.specs.Terms.HolType.{type_eq}
+use Rattle.hol_model.specs.Logs.LogState.{term_type}
 use Rattle.hol_shared.specs.Terms.{type_at, term_at}
 use Rattle.hol_shared.proofs.TableLemmas.{is_within}
 use Rattle.hol_change.proofs.forming.have_one_type.Goals as goal

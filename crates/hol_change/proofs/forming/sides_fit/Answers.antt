@@ -1,6 +1,6 @@
 use Rattle.std.proofs.Common.{◌≡◌, ◌∙◌, ap}
-use Rattle.hol_model.specs.LogSequents.{side_type}
-use Rattle.hol_model.specs.LogFaults.{takes}
+use Rattle.hol_model.specs.Logs.LogSequents.{side_type}
+use Rattle.hol_model.specs.Logs.LogFaults.{takes}
 use Rattle.hol_shared.specs.Terms.{type_at, term_at}
 use Rattle.hol_shared.proofs.TableLemmas.{is_within}
 use Rattle.hol_change.proofs.forming.sides_fit.Goals as goal

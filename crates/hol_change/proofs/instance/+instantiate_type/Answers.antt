@@ -1,5 +1,5 @@
 use Rattle.std.proofs.Common.{◌<◌, length, sym, ◌∙◌, ap, Some, arith}
-use Rattle.hol_model.specs.HolType.{function_type}
+use Rattle.hol_model.specs.Terms.HolType.{function_type}
 use Rattle.hol_shared.specs.Terms.{type_at}
 use Rattle.hol_change.specs.TypeChange.{type_change}
 use Rattle.hol_shared.proofs.TableLemmas.{is_within, IsLonger-trans}

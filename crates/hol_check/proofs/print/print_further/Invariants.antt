@@ -1,5 +1,5 @@
 use Rattle.std.proofs.Common.{◌≡◌, ℕ, List, ◌++◌, drop}
-use Rattle.hol_model.specs.LogClaims.{further_nameless}
+use Rattle.hol_model.specs.Logs.LogClaims.{further_nameless}
 use Rattle.hol_check.specs.PrintedClaims.{terms_at}
 use Rattle.hol_check.proofs.print.print_further.Given as goal
 

@@ -1,5 +1,5 @@
 use Rattle.std.proofs.Common.{◌≡◌, [], true, false, get_or, rules}
-use Rattle.hol_model.specs.Name.{is_identifier}
+use Rattle.hol_model.specs.Terms.Name.{is_identifier}
 use Rattle.hol_grammar.specs.declared.token.Token.TheVariants.{Name}
 use Rattle.hol_command.proofs.ReadingLemmas.{name-front}
 use Rattle.hol_command.proofs.tokens.take_name.Goals as goal

@@ -1,4 +1,4 @@
-use Rattle.hol_model.specs.Rules.{abs_outcome}
+use Rattle.hol_model.specs.Kernel.Rules.{abs_outcome}
 use Rattle.hol_derivations.proofs.DerivationLemmas.{outcome-goes_on, abs-stands}
 use Rattle.hol_derivations.proofs.derivation.by_abs.Goals as goal
 

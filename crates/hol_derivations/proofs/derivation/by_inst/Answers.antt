@@ -1,5 +1,5 @@
 use Rattle.std.proofs.Common.{[], ◌∷◌, sym, ap, ◌∙◌, eq-eqb, length}
-use Rattle.hol_model.specs.Theorem.{Theorem}
+use Rattle.hol_model.specs.Kernel.Theorem.{Theorem}
 use Rattle.hol_journal.proofs.GrowthLemmas.{journals-grow}
 use Rattle.hol_derivations.proofs.DerivationLemmas.{unchanged-err, inst-goes_on, inst-answers}
 use Rattle.hol_derivations.proofs.derivation.by_inst.Goals as goal

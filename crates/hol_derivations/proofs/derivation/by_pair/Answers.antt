@@ -1,4 +1,4 @@
-use Rattle.hol_model.specs.Rules.{trans_outcome, mk_comb_outcome, eq_mp_outcome, deduct_antisym_outcome}
+use Rattle.hol_model.specs.Kernel.Rules.{trans_outcome, mk_comb_outcome, eq_mp_outcome, deduct_antisym_outcome}
 use Rattle.hol_derivations.proofs.DerivationLemmas.{outcome-goes_on, trans-stands, mk_comb-stands, eq_mp-stands, deduct-stands}
 use Rattle.hol_derivations.proofs.derivation.by_pair.Goals as goal
 

@@ -1,4 +1,4 @@
-use Rattle.hol_model.specs.Rules.{refl_outcome, beta_outcome, assume_outcome}
+use Rattle.hol_model.specs.Kernel.Rules.{refl_outcome, beta_outcome, assume_outcome}
 use Rattle.hol_derivations.proofs.DerivationLemmas.{outcome-goes_on, refl-stands, beta-stands, assume-stands}
 use Rattle.hol_derivations.proofs.derivation.by_term.Goals as goal
 

@@ -1,4 +1,4 @@
-use Rattle.hol_model.specs.Rules.{refl_outcome, eq_mp_outcome}
+use Rattle.hol_model.specs.Kernel.Rules.{refl_outcome, eq_mp_outcome}
 use Rattle.hol_journal.proofs.GrowthLemmas.{journals-grow}
 use Rattle.hol_derivations.proofs.DerivationLemmas.{outcome-goes_on, refl-stands, eq_mp-stands, goes_on-twice}
 use Rattle.hol_derivations.proofs.derivation.renamed.Goals as goal

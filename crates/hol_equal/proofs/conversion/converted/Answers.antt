@@ -1,11 +1,11 @@
 use Rattle.std.proofs.Common.{◌≡◌, [], ◌∷◌, ◌∙◌, List, subst, sym, None, Err}
-use Rattle.hol_model.specs.NamedTerm.{NamedTerm, variable, combination, abstraction}
-use Rattle.hol_model.specs.Nameless.{image}
-use Rattle.hol_model.specs.Theory.{Theory, IsKnown}
-use Rattle.hol_model.specs.Derivable.{nameless_equation}
-use Rattle.hol_model.specs.Outcome.{Answers}
-use Rattle.hol_model.specs.Constructors.{combination_outcome}
-use Rattle.hol_model.specs.Instantiation.{replacements_refusal}
+use Rattle.hol_model.specs.Terms.NamedTerm.{NamedTerm, variable, combination, abstraction}
+use Rattle.hol_model.specs.Terms.Nameless.{image}
+use Rattle.hol_model.specs.Logic.Theory.{Theory, IsKnown}
+use Rattle.hol_model.specs.Logic.Derivable.{nameless_equation}
+use Rattle.hol_model.specs.Kernel.Outcome.{Answers}
+use Rattle.hol_model.specs.Kernel.Constructors.{combination_outcome}
+use Rattle.hol_model.specs.Kernel.Instantiation.{replacements_refusal}
 use Rattle.hol_kernel.proofs.LimitLemmas.{applied}
 use Rattle.hol_equal.specs.Conversions.{trivial}
 use Rattle.hol_equal.proofs.BetaLemmas.{trivial-known, replacement-passes}

@@ -1,6 +1,6 @@
 use Rattle.std.proofs.Common.{[], ◌∷◌}
-use Rattle.hol_model.specs.Nameless.{image}
-use Rattle.hol_model.specs.DerivedRules.{images}
+use Rattle.hol_model.specs.Terms.Nameless.{image}
+use Rattle.hol_model.specs.Derived.DerivedRules.{images}
 use Rattle.hol_equal.proofs.CutLemmas.{assumed, shows-itself, add_assum-stated}
 use Rattle.hol_equal.proofs.equality.add_assum.Goals as goal
 use Rattle.hol_equal.proofs.InferredEquality.{infers_add_assum}

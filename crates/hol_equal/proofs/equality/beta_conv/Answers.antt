@@ -1,16 +1,16 @@
 use Rattle.std.proofs.Common.{◌≡◌, [], ◌∷◌, ◌∙◌, List, subst, sym, None, Ok, Err}
-use Rattle.hol_model.specs.NamedTerm.{NamedTerm, variable, combination, abstraction}
-use Rattle.hol_model.specs.Nameless.{free, app, lam, image}
-use Rattle.hol_model.specs.Measures.{nameless_within_limits}
-use Rattle.hol_model.specs.Substitution.{close}
-use Rattle.hol_model.specs.Theory.{Theory, IsKnown}
-use Rattle.hol_model.specs.Derivable.{nameless_equation}
-use Rattle.hol_model.specs.Outcome.{Answers}
-use Rattle.hol_model.specs.Theorem.{Theorem}
-use Rattle.hol_model.specs.Rules.{refl_outcome}
-use Rattle.hol_model.specs.Constructors.{combination_outcome}
-use Rattle.hol_model.specs.Instantiation.{replacements_refusal}
-use Rattle.hol_model.specs.DerivedRules.{AnswersStated, beta_conv_outcome}
+use Rattle.hol_model.specs.Terms.NamedTerm.{NamedTerm, variable, combination, abstraction}
+use Rattle.hol_model.specs.Terms.Nameless.{free, app, lam, image}
+use Rattle.hol_model.specs.Terms.Measures.{nameless_within_limits}
+use Rattle.hol_model.specs.Terms.Substitution.{close}
+use Rattle.hol_model.specs.Logic.Theory.{Theory, IsKnown}
+use Rattle.hol_model.specs.Logic.Derivable.{nameless_equation}
+use Rattle.hol_model.specs.Kernel.Outcome.{Answers}
+use Rattle.hol_model.specs.Kernel.Theorem.{Theorem}
+use Rattle.hol_model.specs.Kernel.Rules.{refl_outcome}
+use Rattle.hol_model.specs.Kernel.Constructors.{combination_outcome}
+use Rattle.hol_model.specs.Kernel.Instantiation.{replacements_refusal}
+use Rattle.hol_model.specs.Derived.DerivedRules.{AnswersStated, beta_conv_outcome}
 use Rattle.hol_journal.specs.Journal.{theorem_in}
 use Rattle.hol_kernel.proofs.LimitLemmas.{applied}
 use Rattle.hol_equal.proofs.BetaLemmas.{redex-of, term-is, walked, beta_conv-walk, beta_conv-past, applied-past, trivial_typed, trivial-within, trivial-known, conversion-within, replacement-passes, beta_conv-stated}

@@ -1,7 +1,7 @@
 use Rattle.std.proofs.Common.{◌++◌}
-use Rattle.hol_model.specs.HolType.{bool_type}
-use Rattle.hol_model.specs.Measures.{nameless_within_limits}
-use Rattle.hol_model.specs.Derivable.{without, nameless_equation}
+use Rattle.hol_model.specs.Terms.HolType.{bool_type}
+use Rattle.hol_model.specs.Terms.Measures.{nameless_within_limits}
+use Rattle.hol_model.specs.Logic.Derivable.{without, nameless_equation}
 use Rattle.hol_journal.proofs.GrowthLemmas.{journals-grow}
 use Rattle.hol_journal.proofs.Showing.{formula_of}
 use Rattle.hol_equal.proofs.CutLemmas.{cut-derives, right-names}

@@ -1,8 +1,8 @@
 use Rattle.std.proofs.Common.{[]}
-use Rattle.hol_model.specs.HolType.{bool_type}
-use Rattle.hol_model.specs.Nameless.{image}
-use Rattle.hol_model.specs.Measures.{nameless_within_limits}
-use Rattle.hol_model.specs.Derivable.{nameless_equation}
+use Rattle.hol_model.specs.Terms.HolType.{bool_type}
+use Rattle.hol_model.specs.Terms.Nameless.{image}
+use Rattle.hol_model.specs.Terms.Measures.{nameless_within_limits}
+use Rattle.hol_model.specs.Logic.Derivable.{nameless_equation}
 use Rattle.hol_journal.proofs.GrowthLemmas.{journals-grow}
 use Rattle.hol_equal.proofs.CutLemmas.{shown-known, itself-names, given-derives}
 use Rattle.hol_equal.proofs.equality.named.Goals as goal

@@ -1,6 +1,6 @@
 use Rattle.std.proofs.Common.{true, false}
-use Rattle.hol_model.specs.Nameless.{image}
-use Rattle.hol_model.specs.DerivedRules.{images}
+use Rattle.hol_model.specs.Terms.Nameless.{image}
+use Rattle.hol_model.specs.Derived.DerivedRules.{images}
 use Rattle.hol_equal.proofs.CutLemmas.{among-is, shows-itself, prove_hyp-taken, prove_hyp-kept}
 use Rattle.hol_equal.proofs.equality.prove_hyp.Goals as goal
 use Rattle.hol_equal.proofs.InferredEquality.{infers_prove_hyp}

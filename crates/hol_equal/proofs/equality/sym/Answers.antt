@@ -1,10 +1,10 @@
 use Rattle.std.proofs.Common.{[], ◌++◌, refl, ◌∙◌, ap, Ok}
-use Rattle.hol_model.specs.HolType.{bool_type, function_type}
-use Rattle.hol_model.specs.Nameless.{Nameless, app, image}
-use Rattle.hol_model.specs.Measures.{nameless_within_limits}
-use Rattle.hol_model.specs.Theory.{equality_type}
-use Rattle.hol_model.specs.Derivable.{nameless_equation}
-use Rattle.hol_model.specs.DerivedRules.{images}
+use Rattle.hol_model.specs.Terms.HolType.{bool_type, function_type}
+use Rattle.hol_model.specs.Terms.Nameless.{Nameless, app, image}
+use Rattle.hol_model.specs.Terms.Measures.{nameless_within_limits}
+use Rattle.hol_model.specs.Logic.Theory.{equality_type}
+use Rattle.hol_model.specs.Logic.Derivable.{nameless_equation}
+use Rattle.hol_model.specs.Derived.DerivedRules.{images}
 use Rattle.hol_journal.proofs.GrowthLemmas.{journals-grow}
 use Rattle.hol_equal.proofs.StepLemmas.{continues-twice}
 use Rattle.hol_equal.proofs.SymLemmas.{equality_at, sym-parts-at, known_in, relation-shows, relation-within, applied-within, left-within, congruence-within, sym-past, sym-stated, sym-names}

@@ -1,9 +1,9 @@
 use Rattle.std.proofs.Common.{[], ◌∷◌, ◌++◌, map}
 use Rattle.std.specs.List.{list_all}
-use Rattle.hol_model.specs.HolType.{bool_type}
-use Rattle.hol_model.specs.Measures.{nameless_within_limits}
-use Rattle.hol_model.specs.Instantiation.{instantiate_all}
-use Rattle.hol_model.specs.Derivable.{without, nameless_equation}
+use Rattle.hol_model.specs.Terms.HolType.{bool_type}
+use Rattle.hol_model.specs.Terms.Measures.{nameless_within_limits}
+use Rattle.hol_model.specs.Kernel.Instantiation.{instantiate_all}
+use Rattle.hol_model.specs.Logic.Derivable.{without, nameless_equation}
 use Rattle.hol_journal.proofs.GrowthLemmas.{journals-grow}
 use Rattle.hol_equal.specs.Sequents.{instance_of}
 use Rattle.hol_equal.proofs.Sizes.{past-room}

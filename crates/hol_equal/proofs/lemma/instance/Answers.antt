@@ -1,9 +1,9 @@
 use Rattle.std.proofs.Common.{◌≡◌, ◌∷◌, ◌++◌, map, None, subst, sym}
 use Rattle.std.specs.List.{list_all}
-use Rattle.hol_model.specs.Theory.{Theory}
-use Rattle.hol_model.specs.Measures.{nameless_within_limits}
-use Rattle.hol_model.specs.Substitution.{put_all}
-use Rattle.hol_model.specs.Instantiation.{instantiate_all, replacements_refusal}
+use Rattle.hol_model.specs.Logic.Theory.{Theory}
+use Rattle.hol_model.specs.Terms.Measures.{nameless_within_limits}
+use Rattle.hol_model.specs.Terms.Substitution.{put_all}
+use Rattle.hol_model.specs.Kernel.Instantiation.{instantiate_all, replacements_refusal}
 use Rattle.hol_equal.specs.Sequents.{instance_of}
 use Rattle.hol_equal.proofs.Sizes.{past-room}
 use Rattle.hol_equal.proofs.CutLemmas.{derives-where}

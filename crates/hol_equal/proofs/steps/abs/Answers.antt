@@ -1,4 +1,4 @@
-use Rattle.hol_model.specs.Rules.{abs_outcome}
+use Rattle.hol_model.specs.Kernel.Rules.{abs_outcome}
 use Rattle.hol_journal.specs.Steps.{by_abs}
 use Rattle.hol_equal.proofs.StepLemmas.{continues, abs-stands, abs-derives}
 use Rattle.hol_equal.proofs.steps.abs.Goals as goal

@@ -1,4 +1,4 @@
-use Rattle.hol_model.specs.Rules.{assume_outcome}
+use Rattle.hol_model.specs.Kernel.Rules.{assume_outcome}
 use Rattle.hol_journal.specs.Steps.{by_assume}
 use Rattle.hol_equal.proofs.StepLemmas.{continues, assume-stands, assume-gives}
 use Rattle.hol_equal.proofs.steps.assume.Goals as goal

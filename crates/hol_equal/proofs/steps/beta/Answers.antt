@@ -1,4 +1,4 @@
-use Rattle.hol_model.specs.Rules.{beta_outcome}
+use Rattle.hol_model.specs.Kernel.Rules.{beta_outcome}
 use Rattle.hol_journal.specs.Steps.{by_beta}
 use Rattle.hol_equal.proofs.StepLemmas.{continues, beta-stands, beta-derives}
 use Rattle.hol_equal.proofs.steps.beta.Goals as goal

@@ -1,4 +1,4 @@
-use Rattle.hol_model.specs.Rules.{deduct_antisym_outcome}
+use Rattle.hol_model.specs.Kernel.Rules.{deduct_antisym_outcome}
 use Rattle.hol_journal.specs.Steps.{by_deduct}
 use Rattle.hol_equal.proofs.StepLemmas.{deduct-names, continues, deduct-stands, deduct-derives}
 use Rattle.hol_equal.proofs.steps.deduct_antisym.Goals as goal

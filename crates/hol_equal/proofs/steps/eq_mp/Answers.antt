@@ -1,4 +1,4 @@
-use Rattle.hol_model.specs.Rules.{eq_mp_outcome}
+use Rattle.hol_model.specs.Kernel.Rules.{eq_mp_outcome}
 use Rattle.hol_journal.specs.Steps.{by_eq_mp}
 use Rattle.hol_equal.proofs.StepLemmas.{eq_mp-names, continues, eq_mp-stands, eq_mp-gives}
 use Rattle.hol_equal.proofs.steps.eq_mp.Goals as goal

@@ -1,5 +1,5 @@
-use Rattle.hol_model.specs.Substitution.{put_all}
-use Rattle.hol_model.specs.Instantiation.{replacements_refusal, inst_refusal}
+use Rattle.hol_model.specs.Terms.Substitution.{put_all}
+use Rattle.hol_model.specs.Kernel.Instantiation.{replacements_refusal, inst_refusal}
 use Rattle.hol_journal.specs.Steps.{by_inst}
 use Rattle.hol_equal.proofs.StepLemmas.{continues-changed, changed-derives}
 use Rattle.hol_equal.proofs.steps.inst.Goals as goal

@@ -1,4 +1,4 @@
-use Rattle.hol_model.specs.Instantiation.{type_replacements_refusal, inst_type_refusal, instantiate_all}
+use Rattle.hol_model.specs.Kernel.Instantiation.{type_replacements_refusal, inst_type_refusal, instantiate_all}
 use Rattle.hol_journal.specs.Steps.{by_inst_type}
 use Rattle.hol_equal.proofs.StepLemmas.{continues-changed, changed-derives}
 use Rattle.hol_equal.proofs.steps.inst_type.Goals as goal

@@ -1,4 +1,4 @@
-use Rattle.hol_model.specs.Rules.{mk_comb_outcome}
+use Rattle.hol_model.specs.Kernel.Rules.{mk_comb_outcome}
 use Rattle.hol_journal.specs.Steps.{by_mk_comb}
 use Rattle.hol_equal.proofs.StepLemmas.{mk_comb-names, continues, mk_comb-stands, mk_comb-derives}
 use Rattle.hol_equal.proofs.steps.mk_comb.Goals as goal

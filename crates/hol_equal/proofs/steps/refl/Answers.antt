@@ -1,4 +1,4 @@
-use Rattle.hol_model.specs.Rules.{refl_outcome}
+use Rattle.hol_model.specs.Kernel.Rules.{refl_outcome}
 use Rattle.hol_journal.specs.Steps.{by_refl}
 use Rattle.hol_equal.proofs.StepLemmas.{refl-names, continues, refl-stands, refl-derives}
 use Rattle.hol_equal.proofs.steps.refl.Goals as goal

@@ -1,4 +1,4 @@
-use Rattle.hol_model.specs.Rules.{trans_outcome}
+use Rattle.hol_model.specs.Kernel.Rules.{trans_outcome}
 use Rattle.hol_journal.specs.Steps.{by_trans}
 use Rattle.hol_equal.proofs.StepLemmas.{continues, trans-stands, trans-derives}
 use Rattle.hol_equal.proofs.steps.trans.Goals as goal

@@ -1,6 +1,6 @@
 use Rattle.std.proofs.Common.{◌≡◌, ◌≤◌, drop}
 use Rattle.hol_model.specs.declared.limits.TheConstants.{NUMBER_LIMIT}
-use Rattle.hol_model.specs.Lexing.{digits_value, numeral_value}
+use Rattle.hol_model.specs.Texts.Lexing.{digits_value, numeral_value}
 use Rattle.hol_grammar.proofs.lexer.is_within_limit.Given as goal
 
 abbrev pub invariant-loop-digit : goal.invariant-loop-digit

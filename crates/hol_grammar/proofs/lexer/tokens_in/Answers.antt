@@ -1,6 +1,6 @@
 use Rattle.std.proofs.Common.{◌∷◌, [], sym, ap, ◌∙◌, subst}
 use Rattle.std.proofs.lemmas.List.{map-append}
-use Rattle.hol_model.specs.Lexing.{is_blank}
+use Rattle.hol_model.specs.Texts.Lexing.{is_blank}
 use Rattle.hol_grammar.specs.Lexer.{token_at}
 use Rattle.hol_grammar.specs.Views.{token_of, tokens_of}
 use Rattle.hol_grammar.proofs.Lexing.{IsLexedTo, less, lexed_none, lexed_one, no_tokens, all_tokens, only_tokens, not_empty, is_nil}

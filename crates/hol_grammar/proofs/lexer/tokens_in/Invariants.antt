@@ -1,5 +1,5 @@
 use Rattle.std.proofs.Common.{◌≡◌, List, ℕ, length}
-use Rattle.hol_model.specs.Lexing.{is_blank}
+use Rattle.hol_model.specs.Texts.Lexing.{is_blank}
 use Rattle.hol_grammar.specs.Lexer.{back}
 use Rattle.hol_grammar.specs.Views.{tokens_of}
 use Rattle.hol_grammar.proofs.Lexing.{IsLexedTo}

@@ -1,5 +1,5 @@
 use Rattle.std.proofs.Common.{◌∷◌, ap, refl, ◌∙◌}
-use Rattle.hol_model.specs.TermGrammar.{BinderPiece}
+use Rattle.hol_model.specs.Texts.TermGrammar.{BinderPiece}
 use Rattle.hol_grammar.specs.Grammar.{binder_here}
 use Rattle.hol_grammar.specs.Pieces.{made, binder_piece}
 use Rattle.hol_grammar.specs.TermSteps.{FlatEnter}

@@ -1,6 +1,6 @@
 use Rattle.std.proofs.Common.{ap, ◌∙◌}
-use Rattle.hol_model.specs.Token.{token_text}
-use Rattle.hol_model.specs.TermGrammar.{AtomPiece, Constant}
+use Rattle.hol_model.specs.Texts.Token.{token_text}
+use Rattle.hol_model.specs.Texts.TermGrammar.{AtomPiece, Constant}
 use Rattle.hol_grammar.specs.Pieces.{made, bracket_piece, when, typed, EndsConstant}
 use Rattle.hol_grammar.specs.TermSteps.{FlatConstant}
 use Rattle.hol_grammar.specs.Views.{token_of, tokens_of, steps_of}

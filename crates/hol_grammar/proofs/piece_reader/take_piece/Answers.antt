@@ -1,5 +1,5 @@
 use Rattle.std.proofs.Common.{◌∷◌, ap, refl, ◌∙◌}
-use Rattle.hol_model.specs.TermGrammar.{AtomPiece, Bare}
+use Rattle.hol_model.specs.Texts.TermGrammar.{AtomPiece, Bare}
 use Rattle.hol_grammar.specs.Pieces.{piece_at}
 use Rattle.hol_grammar.specs.Views.{token_of, tokens_of}
 use Rattle.hol_grammar.proofs.piece_reader.take_piece.Goals as goal

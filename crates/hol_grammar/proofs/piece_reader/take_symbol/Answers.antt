@@ -1,5 +1,5 @@
 use Rattle.std.proofs.Common.{ap, refl}
-use Rattle.hol_model.specs.TermGrammar.{InfixPiece, IffInfix, ImpliesInfix, OrInfix, AndInfix, EqualInfix}
+use Rattle.hol_model.specs.Texts.TermGrammar.{InfixPiece, IffInfix, ImpliesInfix, OrInfix, AndInfix, EqualInfix}
 use Rattle.hol_grammar.specs.Pieces.{started, symbol_start}
 use Rattle.hol_grammar.specs.Views.{tokens_of}
 use Rattle.hol_grammar.proofs.piece_reader.take_symbol.Goals as goal

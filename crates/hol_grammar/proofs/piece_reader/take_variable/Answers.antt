@@ -1,5 +1,5 @@
 use Rattle.std.proofs.Common.{ap}
-use Rattle.hol_model.specs.TermGrammar.{AtomPiece, Variable}
+use Rattle.hol_model.specs.Texts.TermGrammar.{AtomPiece, Variable}
 use Rattle.hol_grammar.specs.Pieces.{made}
 use Rattle.hol_grammar.specs.TermSteps.{FlatVariable}
 use Rattle.hol_grammar.proofs.piece_reader.take_variable.Goals as goal

@@ -1,5 +1,5 @@
 use Rattle.std.proofs.Common.{◌-◌, ◌≤◌, List, Option, length, drop}
-use Rattle.hol_model.specs.TermGrammar.{TermTree}
+use Rattle.hol_model.specs.Texts.TermGrammar.{TermTree}
 use Rattle.hol_grammar.specs.TermReader.{Pending}
 use Rattle.hol_grammar.specs.Views.{tokens_of}
 use Rattle.hol_grammar.specs.TermStates.{IsState}

@@ -1,5 +1,5 @@
 use Rattle.std.proofs.Common.{◌≡◌, List, [], Option, None, drop}
-use Rattle.hol_model.specs.TypeGrammar.{TypeTree}
+use Rattle.hol_model.specs.Texts.TypeGrammar.{TypeTree}
 use Rattle.hol_grammar.specs.TypeReader.{Pending, run}
 use Rattle.hol_grammar.specs.Views.{tokens_of}
 use Rattle.hol_grammar.specs.TypeStates.{IsState}

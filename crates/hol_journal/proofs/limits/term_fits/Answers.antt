@@ -1,4 +1,4 @@
-use Rattle.hol_model.proofs.WithinLimits.{within_limits-image}
+use Rattle.hol_model.proofs.Terms.WithinLimits.{within_limits-image}
 use Rattle.hol_journal.proofs.limits.term_fits.Goals as goal
 
 pub returns : goal.returns

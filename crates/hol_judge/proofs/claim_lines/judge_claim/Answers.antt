@@ -1,5 +1,5 @@
 use Rattle.std.proofs.Common.{sym, ◌∙◌, ap, subst}
-use Rattle.hol_model.specs.LogState.{set_of}
+use Rattle.hol_model.specs.Logs.LogState.{set_of}
 use Rattle.hol_shared.specs.Terms.{term_at}
 use Rattle.hol_steps.specs.Hypotheses.{terms_in}
 use Rattle.hol_steps.specs.State.{sequent_in, state_of}

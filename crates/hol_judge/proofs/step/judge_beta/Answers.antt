@@ -1,4 +1,4 @@
-use Rattle.hol_model.specs.LogLine.LogRule.{beta_step}
+use Rattle.hol_model.specs.Logs.LogLine.LogRule.{beta_step}
 use Rattle.hol_shared.specs.Terms.{term_at}
 use Rattle.hol_steps.specs.State.{state_of}
 use Rattle.hol_steps.specs.Steps as steps

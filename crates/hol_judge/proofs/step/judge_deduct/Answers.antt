@@ -1,4 +1,4 @@
-use Rattle.hol_model.specs.LogLine.LogRule.{deduct_step}
+use Rattle.hol_model.specs.Logs.LogLine.LogRule.{deduct_step}
 use Rattle.hol_steps.specs.State.{sequent_in, state_of}
 use Rattle.hol_steps.specs.Steps as steps
 use Rattle.hol_judge.proofs.JudgedSteps.{deduct-step}

@@ -1,5 +1,5 @@
 use Rattle.std.proofs.Common.{subst}
-use Rattle.hol_model.specs.LogLine.LogRule.{inst_step}
+use Rattle.hol_model.specs.Logs.LogLine.LogRule.{inst_step}
 use Rattle.hol_steps.specs.State.{sequent_in, state_of}
 use Rattle.hol_steps.specs.StepPairs.{term_pairs_in, FindsTermPairs}
 use Rattle.hol_steps.specs.Steps as steps

@@ -1,5 +1,5 @@
 use Rattle.std.proofs.Common.{subst}
-use Rattle.hol_model.specs.LogLine.LogRule.{inst_type_step}
+use Rattle.hol_model.specs.Logs.LogLine.LogRule.{inst_type_step}
 use Rattle.hol_steps.specs.State.{sequent_in, state_of}
 use Rattle.hol_steps.specs.StepPairs.{type_pairs_in, FindsTypePairs}
 use Rattle.hol_steps.specs.Steps as steps

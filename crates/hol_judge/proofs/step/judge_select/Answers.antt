@@ -1,4 +1,4 @@
-use Rattle.hol_model.specs.LogLine.LogRule.{select_step}
+use Rattle.hol_model.specs.Logs.LogLine.LogRule.{select_step}
 use Rattle.hol_steps.specs.State.{state_of}
 use Rattle.hol_steps.specs.Steps as steps
 use Rattle.hol_judge.proofs.JudgedSteps.{select-step}

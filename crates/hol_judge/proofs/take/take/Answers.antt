@@ -1,6 +1,6 @@
 use Rattle.std.proofs.Common.{◌≡◌, sym, subst, ◌∙◌, Some, IfOk}
 use Rattle.hol_model.specs.declared.fault.Cause.TheVariants.{End}
-use Rattle.hol_model.specs.LogFaults.{first_cause}
+use Rattle.hol_model.specs.Logs.LogFaults.{first_cause}
 use Rattle.hol_logtext.specs.Lines.{line_of}
 use Rattle.hol_steps.specs.State.{state_of}
 use Rattle.hol_steps.specs.Judged.{IsJudged}

@@ -1,5 +1,5 @@
 use Rattle.std.proofs.Common.{◌≡◌, [], drop}
-use Rattle.hol_model.specs.Theorem as spec
+use Rattle.hol_model.specs.Kernel.Theorem as spec
 use Rattle.hol_kernel.proofs.hypotheses.in_order.Given as goal
 
 -- the rest of the terms, put into what is there, gives the same as all of them

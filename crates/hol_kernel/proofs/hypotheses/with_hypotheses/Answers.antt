@@ -1,7 +1,7 @@
 use Rattle.std.proofs.Common.{◌≡◌, ◌⊎◌, ◌≤◌, ◌++◌, [], ◌∷◌, length, drop, inl, inr, arith, ap, ◌∙◌, take, ◌-◌}
 use Rattle.std.proofs.lemmas.List.{take_all, length-drop}
 use Rattle.std.specs.declared.cmp.Ordering.TheVariants.{Less, Equal, Greater}
-use Rattle.hol_model.specs.Nameless.{image, nameless_cmp}
+use Rattle.hol_model.specs.Terms.Nameless.{image, nameless_cmp}
 use Rattle.hol_kernel.proofs.OrderLemmas.{merged-before, merged-same, merged-after, merged-last}
 use Rattle.hol_kernel.proofs.hypotheses.with_hypotheses.Goals as goal
 use Rattle.hol_kernel.proofs.hypotheses.with_hypotheses.Goals.{then-loop-left-test+else-right-second, else-loop-left-test}

@@ -1,6 +1,6 @@
 use Rattle.std.proofs.Common.{◌≡◌, ◌<◌, length, true, false, not, arith, ap, ◌∙◌}
 use Rattle.std.proofs.lemmas.List.{take_all}
-use Rattle.hol_model.specs.Theorem.{are_alpha_equivalent, without_hypothesis}
+use Rattle.hol_model.specs.Kernel.Theorem.{are_alpha_equivalent, without_hypothesis}
 use Rattle.hol_kernel.proofs.OrderLemmas.{kept-ordered}
 use Rattle.hol_kernel.proofs.HypothesesLemmas.{kept-taken, left_out-taken}
 use Rattle.hol_kernel.proofs.hypotheses.without_hypothesis.Goals as goal

@@ -1,5 +1,5 @@
 use Rattle.std.proofs.Common.{◌≡◌, take}
-use Rattle.hol_model.specs.Theorem as spec
+use Rattle.hol_model.specs.Kernel.Theorem as spec
 use Rattle.hol_kernel.proofs.hypotheses.without_hypothesis.Given as goal
 
 abbrev pub invariant-loop-hypothesis : goal.invariant-loop-hypothesis

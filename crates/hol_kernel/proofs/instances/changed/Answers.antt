@@ -1,6 +1,6 @@
 use Rattle.std.proofs.Common.{◌≡◌, [], refl, map, ◌∙◌, ap}
-use Rattle.hol_model.specs.Nameless.{image}
-use Rattle.hol_model.specs.Theorem.{with_hypotheses}
+use Rattle.hol_model.specs.Terms.Nameless.{image}
+use Rattle.hol_model.specs.Kernel.Theorem.{with_hypotheses}
 use Rattle.hol_kernel.specs.Change.{change_of}
 use Rattle.hol_kernel.proofs.RuleLemmas.{theorem-alike}
 use Rattle.hol_kernel.proofs.InstanceLemmas.{in_order}

@@ -1,6 +1,6 @@
 use Rattle.std.proofs.Common.{inl, inr}
 use Rattle.std.proofs.lemmas.Result.{err_from_is_err_and}
-use Rattle.hol_model.specs.NamedTerm.{equation}
+use Rattle.hol_model.specs.Terms.NamedTerm.{equation}
 use Rattle.hol_kernel.proofs.LimitLemmas.{concluded-refused}
 use Rattle.hol_kernel.proofs.rules.equation_theorem.Goals as goal
 

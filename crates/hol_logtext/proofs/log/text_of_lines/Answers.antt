@@ -1,7 +1,7 @@
 use Rattle.std.proofs.Common.{◌≡◌, ◌≤◌, ℕ, List, length, map, refl, lit<, ap, subst, ◌∙◌, arith}
 use Rattle.std.proofs.Math.ListN.{drop_of_length-le}
 use Rattle.hol_model.specs.declared.limits.TheConstants.{TEXT_BYTES_LIMIT}
-use Rattle.hol_model.specs.LogText.{log_outcome}
+use Rattle.hol_model.specs.Logs.LogText.{log_outcome}
 use Rattle.hol_logtext.specs.Lines.{line_of}
 use Rattle.hol_logtext.specs.LogBytes.{log_text, bytes_of_lines}
 use Rattle.hol_logtext.proofs.LogTextLemmas.{text-whole}

@@ -1,5 +1,5 @@
 use Rattle.std.proofs.Common.{◌+◌}
-use Rattle.hol_model.specs.HolType.{type_nodes}
+use Rattle.hol_model.specs.Terms.HolType.{type_nodes}
 use Rattle.hol_meaning.specs.Trees.{hol_type}
 use Rattle.hol_meaning.specs.Interpretations.{instance_nodes}
 use Rattle.hol_meaning.proofs.carriers.+carrier.Given as goal

@@ -1,6 +1,6 @@
 use Rattle.std.proofs.Common.{◌≡◌, ◌<◌, ◌≤◌, List, [], ◌∷◌, length, false, refl, arith}
-use Rattle.hol_model.specs.Values.{Value, values_of}
-use Rattle.hol_model.specs.Values as values
+use Rattle.hol_model.specs.Models.Values.{Value, values_of}
+use Rattle.hol_model.specs.Models.Values as values
 use Rattle.hol_meaning.proofs.element.+same.Goals as goal
 
 -- no elements are not some

@@ -1,4 +1,4 @@
-use Rattle.hol_model.specs.Values.{values_of}
+use Rattle.hol_model.specs.Models.Values.{values_of}
 use Rattle.hol_meaning.specs.ValueCode.{value_nodes, values_nodes}
 use Rattle.hol_meaning.proofs.element.+same.Given as goal
 

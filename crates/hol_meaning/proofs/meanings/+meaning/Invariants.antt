@@ -1,6 +1,6 @@
 use Rattle.std.proofs.Common.{◌≡◌, ◌+◌, ◌∷◌, map, take}
-use Rattle.hol_model.specs.Measures.{nameless_nodes}
-use Rattle.hol_model.specs.Models as models
+use Rattle.hol_model.specs.Terms.Measures.{nameless_nodes}
+use Rattle.hol_model.specs.Models.Models as models
 use Rattle.hol_meaning.specs.Trees.{hol_type, nameless, theory_of}
 use Rattle.hol_meaning.specs.Interpretations.{model_of}
 use Rattle.hol_meaning.specs.Frames.{types_of}

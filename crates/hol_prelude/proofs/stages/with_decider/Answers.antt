@@ -1,5 +1,5 @@
 use Rattle.std.proofs.Common.{◌++◌, refl}
-use Rattle.hol_model.specs.Logic.{logical_definitions}
+use Rattle.hol_model.specs.Logic.Logic.{logical_definitions}
 use Rattle.hol_prelude.specs.Prelude.{first_theorems}
 use Rattle.hol_prelude.specs.Laws.{laws, falsity_laws, decider_laws}
 use Rattle.hol_journal.proofs.GrowthLemmas.{journals-grow}

@@ -1,8 +1,8 @@
 use Rattle.std.proofs.Common.{ap, ◌∙◌, ◌+◌, ◌∷◌, subst}
 use Rattle.std.specs.String.{string_bytes}
-use Rattle.hol_model.specs.Printing.{enclose, term_tree}
-use Rattle.hol_model.specs.TermGrammar.{infix_level}
-use Rattle.hol_model.specs.Texts.{term_bytes}
+use Rattle.hol_model.specs.Texts.Printing.{enclose, term_tree}
+use Rattle.hol_model.specs.Texts.TermGrammar.{infix_level}
+use Rattle.hol_model.specs.Texts.Texts.{term_bytes}
 use Rattle.hol_print.specs.Output.{Appends}
 use Rattle.hol_grammar.specs.Grammar.{infix_here, binder_here}
 use Rattle.hol_syntax.specs.Scope.{scope_of}

@@ -1,6 +1,6 @@
 use Rattle.std.proofs.Common.{◌≡◌, ℕ, List, ◌++◌, drop}
 use Rattle.std.specs.String.{string_bytes}
-use Rattle.hol_model.specs.Texts.{further_bytes}
+use Rattle.hol_model.specs.Texts.Texts.{further_bytes}
 use Rattle.hol_syntax.specs.Scope.{scope_of}
 use Rattle.hol_print.proofs.printer.print_further.Given as goal
 

@@ -1,7 +1,7 @@
 use Rattle.std.proofs.Common.{[], subst}
 use Rattle.std.specs.String.{string_bytes}
-use Rattle.hol_model.specs.Printing.{term_tree}
-use Rattle.hol_model.specs.Texts.{term_bytes}
+use Rattle.hol_model.specs.Texts.Printing.{term_tree}
+use Rattle.hol_model.specs.Texts.Texts.{term_bytes}
 use Rattle.hol_print.specs.Output.{Appends}
 use Rattle.hol_syntax.specs.Scope.{scope_of}
 use Rattle.hol_print.proofs.Printed.{on_ok, enclose_none}

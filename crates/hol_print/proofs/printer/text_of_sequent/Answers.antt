@@ -1,8 +1,8 @@
 use Rattle.std.proofs.Common.{[], ◌∷◌, sym, subst}
 use Rattle.std.specs.String.{string_bytes}
-use Rattle.hol_model.specs.Printing.{term_tree}
-use Rattle.hol_model.specs.Texts.{term_bytes, listed_bytes}
-use Rattle.hol_model.specs.SequentGrammar.{ReadsSequent}
+use Rattle.hol_model.specs.Texts.Printing.{term_tree}
+use Rattle.hol_model.specs.Texts.Texts.{term_bytes, listed_bytes}
+use Rattle.hol_model.specs.Texts.SequentGrammar.{ReadsSequent}
 use Rattle.hol_syntax.specs.Scope.{scope_of}
 use Rattle.hol_print.proofs.Printed.{joined, from_nothing}
 use Rattle.hol_print.proofs.SequentTexts.{sequents_read_back}

@@ -1,7 +1,7 @@
 use Rattle.std.proofs.Common.{[], sym, subst}
 use Rattle.std.specs.String.{string_bytes}
-use Rattle.hol_model.specs.Printing.{term_tree}
-use Rattle.hol_model.specs.Texts.{term_bytes, ReadsTerm}
+use Rattle.hol_model.specs.Texts.Printing.{term_tree}
+use Rattle.hol_model.specs.Texts.Texts.{term_bytes, ReadsTerm}
 use Rattle.hol_syntax.specs.Scope.{scope_of}
 use Rattle.hol_print.proofs.Printed.{from_nothing}
 use Rattle.hol_print.proofs.ReadableTerms.{known_readable}

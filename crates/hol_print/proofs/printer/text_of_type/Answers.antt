@@ -1,7 +1,7 @@
 use Rattle.std.proofs.Common.{sym, subst, arith}
 use Rattle.std.specs.String.{string_bytes}
-use Rattle.hol_model.specs.Printing.{type_tree}
-use Rattle.hol_model.specs.Texts.{type_bytes, ReadsType}
+use Rattle.hol_model.specs.Texts.Printing.{type_tree}
+use Rattle.hol_model.specs.Texts.Texts.{type_bytes, ReadsType}
 use Rattle.hol_print.proofs.Printed.{from_nothing}
 use Rattle.hol_print.proofs.ReadableTerms.{named_readable}
 use Rattle.hol_print.proofs.TextsReadBack.{types_read_back}

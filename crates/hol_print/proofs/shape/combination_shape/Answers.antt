@@ -1,6 +1,6 @@
 use Rattle.std.proofs.Common.{ap, ◌∙◌, subst, ◌≡◌}
-use Rattle.hol_model.specs.NamedTerm.{combination}
-use Rattle.hol_model.specs.Printing.{apply_tree, prefix_tree, term_tree}
+use Rattle.hol_model.specs.Terms.NamedTerm.{combination}
+use Rattle.hol_model.specs.Texts.Printing.{apply_tree, prefix_tree, term_tree}
 use Rattle.hol_grammar.specs.Grammar.{infix_here}
 use Rattle.hol_print.proofs.Shapes.{applied_variable, applied_abstraction, applied_constant, applied_infix, applied_no_infix, applied_other}
 use Rattle.hol_print.proofs.shape.combination_shape.Goals as goal

@@ -1,6 +1,6 @@
 use Rattle.std.proofs.Common.{ap, arith, sym, ◌∙◌}
-use Rattle.hol_model.specs.Printing.{prefix_tree}
-use Rattle.hol_model.specs.Printing.{term_tree}
+use Rattle.hol_model.specs.Texts.Printing.{prefix_tree}
+use Rattle.hol_model.specs.Texts.Printing.{term_tree}
 use Rattle.hol_grammar.specs.Grammar.{binder_here}
 use Rattle.hol_print.specs.Shape.{prefix_here}
 use Rattle.hol_print.proofs.Shapes.{applied_to_other, other_parts}

@@ -1,5 +1,5 @@
 use Rattle.std.proofs.Common.{◌≡◌, ◌∷◌, [], List}
-use Rattle.hol_model.specs.NamedTerm.{NamedTerm}
+use Rattle.hol_model.specs.Terms.NamedTerm.{NamedTerm}
 use Rattle.hol_quant.proofs.VariableLemmas.{substituted-is, substituted-memory}
 use Rattle.hol_quant.proofs.elimination.body_at.Goals as goal
 

@@ -1,12 +1,12 @@
 use Rattle.std.proofs.Common.{◌≡◌, ◌∙◌, ◌∷◌, ◌++◌, ◌&&◌, true, false, not, refl, sym, ap}
 use Rattle.std.specs.List.{list_any}
-use Rattle.hol_model.specs.HolType.{type_eq}
-use Rattle.hol_model.specs.Logic.{exists_name, quantifier}
-use Rattle.hol_model.specs.NamedTerm.{is_free}
-use Rattle.hol_model.specs.Nameless.{image, same_term}
-use Rattle.hol_model.specs.Theory.{type_a}
-use Rattle.hol_model.specs.Theorem.{Theorem}
-use Rattle.hol_model.specs.DerivedRules.{is_free_in_some, terms_of_theorem, choose_outcome}
+use Rattle.hol_model.specs.Terms.HolType.{type_eq}
+use Rattle.hol_model.specs.Logic.Logic.{exists_name, quantifier}
+use Rattle.hol_model.specs.Terms.NamedTerm.{is_free}
+use Rattle.hol_model.specs.Terms.Nameless.{image, same_term}
+use Rattle.hol_model.specs.Logic.Theory.{type_a}
+use Rattle.hol_model.specs.Kernel.Theorem.{Theorem}
+use Rattle.hol_model.specs.Derived.DerivedRules.{is_free_in_some, terms_of_theorem, choose_outcome}
 use Rattle.hol_bool.proofs.LogicLemmas.{logical-type}
 use Rattle.hol_bool.proofs.RuleAnswers.{memory-stated}
 use Rattle.hol_quant.proofs.ChooseLemmas.{others-free}

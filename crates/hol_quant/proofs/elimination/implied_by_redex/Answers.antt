@@ -1,12 +1,12 @@
 use Rattle.std.proofs.Common.{◌≡◌, ◌∙◌, [], ◌∷◌, List, ap, subst, sym}
-use Rattle.hol_model.specs.HolType.{bool_type}
-use Rattle.hol_model.specs.NamedTerm.{NamedTerm}
-use Rattle.hol_model.specs.Nameless.{Nameless, app, image}
-use Rattle.hol_model.specs.Measures.{nameless_within_limits}
-use Rattle.hol_model.specs.Theory.{Theory}
-use Rattle.hol_model.specs.Logic as nameless
-use Rattle.hol_model.specs.Derivable.{without, nameless_equation}
-use Rattle.hol_model.specs.DerivedRules.{images, is_roomy}
+use Rattle.hol_model.specs.Terms.HolType.{bool_type}
+use Rattle.hol_model.specs.Terms.NamedTerm.{NamedTerm}
+use Rattle.hol_model.specs.Terms.Nameless.{Nameless, app, image}
+use Rattle.hol_model.specs.Terms.Measures.{nameless_within_limits}
+use Rattle.hol_model.specs.Logic.Theory.{Theory}
+use Rattle.hol_model.specs.Logic.Logic as nameless
+use Rattle.hol_model.specs.Logic.Derivable.{without, nameless_equation}
+use Rattle.hol_model.specs.Derived.DerivedRules.{images, is_roomy}
 use Rattle.hol_kernel.proofs.LimitLemmas as limits
 use Rattle.hol_equal.specs.Formulas.{IsFormula}
 use Rattle.hol_equal.specs.Room.{FitsIf}

@@ -1,11 +1,11 @@
 use Rattle.std.proofs.Common.{◌≡◌, ◌∷◌, ◌∙◌, refl, ap, sym}
-use Rattle.hol_model.specs.Logic.{exists_name, quantifier}
-use Rattle.hol_model.specs.NamedTerm.{NamedTerm}
-use Rattle.hol_model.specs.Nameless.{image, same_term}
-use Rattle.hol_model.specs.Substitution.{close, fill}
-use Rattle.hol_model.specs.Theory.{type_a}
-use Rattle.hol_model.specs.Theorem.{Theorem}
-use Rattle.hol_model.specs.DerivedRules.{terms_of_theorem, exists_outcome}
+use Rattle.hol_model.specs.Logic.Logic.{exists_name, quantifier}
+use Rattle.hol_model.specs.Terms.NamedTerm.{NamedTerm}
+use Rattle.hol_model.specs.Terms.Nameless.{image, same_term}
+use Rattle.hol_model.specs.Terms.Substitution.{close, fill}
+use Rattle.hol_model.specs.Logic.Theory.{type_a}
+use Rattle.hol_model.specs.Kernel.Theorem.{Theorem}
+use Rattle.hol_model.specs.Derived.DerivedRules.{terms_of_theorem, exists_outcome}
 use Rattle.hol_bool.proofs.LogicLemmas.{logical-type}
 use Rattle.hol_quant.proofs.SpecLemmas.{memory-answers}
 use Rattle.hol_quant.proofs.ExistsLemmas.{candidate, formula-refused, witness-refused, not_alpha-refused, exists-answers, witnessed-at}

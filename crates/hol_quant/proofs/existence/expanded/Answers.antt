@@ -1,11 +1,11 @@
 use Rattle.std.proofs.Common.{◌≡◌, [], ◌∙◌, ap, subst, sym}
 use Rattle.std.specs.List.{list_all}
-use Rattle.hol_model.specs.HolType.{bool_type}
-use Rattle.hol_model.specs.NamedTerm.{NamedTerm, combination}
-use Rattle.hol_model.specs.Nameless.{Nameless, image}
-use Rattle.hol_model.specs.Theory.{Theory, IsKnown}
-use Rattle.hol_model.specs.Derivable.{nameless_equation}
-use Rattle.hol_model.specs.DerivedRules.{images, is_roomy}
+use Rattle.hol_model.specs.Terms.HolType.{bool_type}
+use Rattle.hol_model.specs.Terms.NamedTerm.{NamedTerm, combination}
+use Rattle.hol_model.specs.Terms.Nameless.{Nameless, image}
+use Rattle.hol_model.specs.Logic.Theory.{Theory, IsKnown}
+use Rattle.hol_model.specs.Logic.Derivable.{nameless_equation}
+use Rattle.hol_model.specs.Derived.DerivedRules.{images, is_roomy}
 use Rattle.hol_journal.proofs.GrowthLemmas.{journals-grow}
 use Rattle.hol_kernel.proofs.LimitLemmas.{applied}
 use Rattle.hol_equal.specs.Room.{FitsIf}

@@ -1,5 +1,5 @@
 use Rattle.std.proofs.Common.{[], ◌∷◌, List, ◌∙◌}
-use Rattle.hol_model.specs.NamedTerm.{NamedTerm, variable}
+use Rattle.hol_model.specs.Terms.NamedTerm.{NamedTerm, variable}
 use Rattle.hol_quant.proofs.ExistsLemmas.{pair-is, instance-same, past-differs}
 use Rattle.hol_quant.proofs.existence.is_body_with.Goals as goal
 

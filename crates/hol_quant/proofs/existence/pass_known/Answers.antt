@@ -1,10 +1,10 @@
 use Rattle.std.proofs.Common.{[], ◌∙◌, ap, sym, subst, Err}
-use Rattle.hol_model.specs.NamedTerm.{equation}
-use Rattle.hol_model.specs.KnownTerm.{is_known}
-use Rattle.hol_model.specs.Theory.{Theory}
-use Rattle.hol_model.specs.Theorem.{Theorem}
-use Rattle.hol_model.specs.Outcome.{Answers}
-use Rattle.hol_model.specs.Rules.{first_unknown, concluded, refl_outcome}
+use Rattle.hol_model.specs.Terms.NamedTerm.{equation}
+use Rattle.hol_model.specs.Logic.KnownTerm.{is_known}
+use Rattle.hol_model.specs.Logic.Theory.{Theory}
+use Rattle.hol_model.specs.Kernel.Theorem.{Theorem}
+use Rattle.hol_model.specs.Kernel.Outcome.{Answers}
+use Rattle.hol_model.specs.Kernel.Rules.{first_unknown, concluded, refl_outcome}
 use Rattle.hol_journal.proofs.Showing.{passed-none}
 use Rattle.hol_quant.proofs.WalkLemmas.{known-passes, unknown-refused}
 use Rattle.hol_quant.proofs.existence.pass_known.Goals as goal

@@ -1,14 +1,14 @@
 use Rattle.std.proofs.Common.{◌≡◌, [], ◌∷◌, ◌∙◌, List, ap, subst, sym, refl, None}
 use Rattle.std.specs.Prelude.{codes}
 use Rattle.std.specs.List.{list_all}
-use Rattle.hol_model.specs.HolType.{bool_type}
-use Rattle.hol_model.specs.NamedTerm.{NamedTerm, variable}
-use Rattle.hol_model.specs.Nameless.{image}
-use Rattle.hol_model.specs.Measures.{nameless_within_limits}
-use Rattle.hol_model.specs.Derivable.{nameless_equation}
-use Rattle.hol_model.specs.Theorem.{Theorem}
-use Rattle.hol_model.specs.Instantiation.{instantiate_all, replacements_refusal}
-use Rattle.hol_model.specs.DerivedRules.{images}
+use Rattle.hol_model.specs.Terms.HolType.{bool_type}
+use Rattle.hol_model.specs.Terms.NamedTerm.{NamedTerm, variable}
+use Rattle.hol_model.specs.Terms.Nameless.{image}
+use Rattle.hol_model.specs.Terms.Measures.{nameless_within_limits}
+use Rattle.hol_model.specs.Logic.Derivable.{nameless_equation}
+use Rattle.hol_model.specs.Kernel.Theorem.{Theorem}
+use Rattle.hol_model.specs.Kernel.Instantiation.{instantiate_all, replacements_refusal}
+use Rattle.hol_model.specs.Derived.DerivedRules.{images}
 use Rattle.hol_journal.proofs.Showing.{formula_of}
 use Rattle.hol_equal.specs.Sequents.{Shows, DerivesIf, instance_of}
 use Rattle.hol_equal.proofs.CutLemmas.{conclusion-known, shows-itself, derives-where}

@@ -1,17 +1,17 @@
 use Rattle.std.proofs.Common.{◌≡◌, ◌∙◌, ap, subst, sym, Err, IfOk}
 use Rattle.std.specs.List.{list_all}
-use Rattle.hol_model.specs.HolType.{bool_type}
-use Rattle.hol_model.specs.Logic.{forall_name, quantifier}
-use Rattle.hol_model.specs.NamedTerm.{NamedTerm, constant, combination, type_of}
-use Rattle.hol_model.specs.Nameless.{Nameless, const, app, image}
-use Rattle.hol_model.specs.Measures.{nameless_within_limits}
-use Rattle.hol_model.specs.KnownTerm.{is_known}
-use Rattle.hol_model.specs.Theory.{Theory}
-use Rattle.hol_model.specs.Theorem.{Theorem}
-use Rattle.hol_model.specs.Outcome.{Answers}
-use Rattle.hol_model.specs.Derivable.{nameless_equation}
-use Rattle.hol_model.specs.Rules.{is_free_in_hypotheses, abstraction_outcome}
-use Rattle.hol_model.specs.DerivedRules.{images, is_roomy, terms_of_theorem}
+use Rattle.hol_model.specs.Terms.HolType.{bool_type}
+use Rattle.hol_model.specs.Logic.Logic.{forall_name, quantifier}
+use Rattle.hol_model.specs.Terms.NamedTerm.{NamedTerm, constant, combination, type_of}
+use Rattle.hol_model.specs.Terms.Nameless.{Nameless, const, app, image}
+use Rattle.hol_model.specs.Terms.Measures.{nameless_within_limits}
+use Rattle.hol_model.specs.Logic.KnownTerm.{is_known}
+use Rattle.hol_model.specs.Logic.Theory.{Theory}
+use Rattle.hol_model.specs.Kernel.Theorem.{Theorem}
+use Rattle.hol_model.specs.Kernel.Outcome.{Answers}
+use Rattle.hol_model.specs.Logic.Derivable.{nameless_equation}
+use Rattle.hol_model.specs.Kernel.Rules.{is_free_in_hypotheses, abstraction_outcome}
+use Rattle.hol_model.specs.Derived.DerivedRules.{images, is_roomy, terms_of_theorem}
 use Rattle.hol_equal.specs.Sequents.{Shows, DerivesIf, IsPast}
 use Rattle.hol_equal.proofs.CutLemmas.{derives-where}
 use Rattle.hol_quant.proofs.GenAnswers.{gen-free, gen-start, function, formula, formula_image, small, function_typed, gen-answers, gen-past, gen-fits, may-generalize, abstraction-past, abstraction-made, formula-within, names-within}

@@ -1,7 +1,7 @@
 use Rattle.std.proofs.Common.{◌∙◌, ap, subst, sym, Err}
-use Rattle.hol_model.specs.NamedTerm.{NamedTerm}
-use Rattle.hol_model.specs.Outcome.{Answers}
-use Rattle.hol_model.specs.Rules.{abstraction_outcome}
+use Rattle.hol_model.specs.Terms.NamedTerm.{NamedTerm}
+use Rattle.hol_model.specs.Kernel.Outcome.{Answers}
+use Rattle.hol_model.specs.Kernel.Rules.{abstraction_outcome}
 use Rattle.hol_quant.proofs.PreludeParts.{truth-shows, always-shows}
 use Rattle.hol_quant.proofs.ForAllLemmas.{abstraction-past, abstraction-is}
 use Rattle.hol_quant.proofs.generalization.generalized_up_to_names.Goals as goal

@@ -1,11 +1,11 @@
 use Rattle.std.proofs.Common.{◌≡◌, ◌∙◌, ap, subst, sym}
-use Rattle.hol_model.specs.HolType.{bool_type}
-use Rattle.hol_model.specs.Logic.{forall_name, predicate}
-use Rattle.hol_model.specs.NamedTerm.{NamedTerm, abstraction}
-use Rattle.hol_model.specs.Nameless.{Nameless, image}
-use Rattle.hol_model.specs.Measures.{nameless_within_limits}
-use Rattle.hol_model.specs.Theory.{Theory, IsKnown, IsKnownType}
-use Rattle.hol_model.specs.DerivedRules.{images}
+use Rattle.hol_model.specs.Terms.HolType.{bool_type}
+use Rattle.hol_model.specs.Logic.Logic.{forall_name, predicate}
+use Rattle.hol_model.specs.Terms.NamedTerm.{NamedTerm, abstraction}
+use Rattle.hol_model.specs.Terms.Nameless.{Nameless, image}
+use Rattle.hol_model.specs.Terms.Measures.{nameless_within_limits}
+use Rattle.hol_model.specs.Logic.Theory.{Theory, IsKnown, IsKnownType}
+use Rattle.hol_model.specs.Derived.DerivedRules.{images}
 use Rattle.hol_equal.specs.Sequents.{Shows, DerivesIf}
 use Rattle.hol_equal.proofs.CutLemmas.{derives-where}
 use Rattle.hol_equal.proofs.Sizes.{past-room}

@@ -1,16 +1,16 @@
 use Rattle.std.proofs.Common.{◌≡◌, ◌∷◌, [], List, subst, sym, None}
 use Rattle.std.specs.Prelude.{codes}
 use Rattle.std.specs.List.{list_all}
-use Rattle.hol_model.specs.HolType.{HolType, bool_type}
-use Rattle.hol_model.specs.Logic.{predicate}
-use Rattle.hol_model.specs.NamedTerm.{NamedTerm, variable}
-use Rattle.hol_model.specs.Nameless.{image}
-use Rattle.hol_model.specs.Measures.{nameless_within_limits}
-use Rattle.hol_model.specs.Theory.{type_a}
-use Rattle.hol_model.specs.Derivable.{nameless_equation}
-use Rattle.hol_model.specs.Instantiation.{instantiate_all, replacements_refusal, type_replacements_refusal}
-use Rattle.hol_model.proofs.Images.{image-type}
-use Rattle.hol_model.proofs.Known.{IsKnown-type}
+use Rattle.hol_model.specs.Terms.HolType.{HolType, bool_type}
+use Rattle.hol_model.specs.Logic.Logic.{predicate}
+use Rattle.hol_model.specs.Terms.NamedTerm.{NamedTerm, variable}
+use Rattle.hol_model.specs.Terms.Nameless.{image}
+use Rattle.hol_model.specs.Terms.Measures.{nameless_within_limits}
+use Rattle.hol_model.specs.Logic.Theory.{type_a}
+use Rattle.hol_model.specs.Logic.Derivable.{nameless_equation}
+use Rattle.hol_model.specs.Kernel.Instantiation.{instantiate_all, replacements_refusal, type_replacements_refusal}
+use Rattle.hol_model.proofs.Terms.Images.{image-type}
+use Rattle.hol_model.proofs.Logic.Known.{IsKnown-type}
 use Rattle.hol_equal.specs.Sequents.{Shows, DerivesIf, instance_of}
 use Rattle.hol_quant.proofs.InstanceLemmas.{type-passes, two-pass}
 use Rattle.hol_quant.proofs.instances.by_predicate_lemma.Goals as goal

@@ -1,6 +1,6 @@
 use Rattle.std.proofs.Common.{refl}
-use Rattle.hol_model.specs.Logic.{forall_name, quantifier}
-use Rattle.hol_model.specs.Theory.{type_a}
+use Rattle.hol_model.specs.Logic.Logic.{forall_name, quantifier}
+use Rattle.hol_model.specs.Logic.Theory.{type_a}
 use Rattle.hol_bool.proofs.LogicLemmas.{logical-type}
 use Rattle.hol_quant.proofs.PreludeParts.{forall-shows}
 use Rattle.hol_quant.proofs.InferredQuantifiers.{infers_spec}

@@ -1,5 +1,5 @@
-use Rattle.hol_model.specs.Nameless.{image}
-use Rattle.hol_model.specs.DerivedRules.{terms_of_theorem, gen_outcome}
+use Rattle.hol_model.specs.Terms.Nameless.{image}
+use Rattle.hol_model.specs.Derived.DerivedRules.{terms_of_theorem, gen_outcome}
 use Rattle.hol_journal.specs.Journal.{theorem_in}
 use Rattle.hol_script.proofs.DerivedLemmas.{more-arguments}
 use Rattle.hol_script.proofs.derivation.on_term_and_premise.Goals as goal

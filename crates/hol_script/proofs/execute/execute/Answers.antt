@@ -1,6 +1,6 @@
 use Rattle.std.proofs.Common.{List, Some, refl, sym, subst, ap, ◌∙◌}
 use Rattle.hol_model.specs.declared.fault.Fault.TheVariants.{Memory}
-use Rattle.hol_model.specs.Lexing.{Lexes}
+use Rattle.hol_model.specs.Texts.Lexing.{Lexes}
 use Rattle.hol_grammar.specs.Steps.{flat_steps_of}
 use Rattle.hol_grammar.specs.Views.{tokens_of, steps_of}
 use Rattle.hol_script.specs.SessionState.{state_of}

@@ -1,6 +1,6 @@
 use Rattle.std.proofs.Common.{List, ℕ, sym, subst, inr}
 use Rattle.hol_model.specs.declared.fault.Fault.TheVariants.{TooLong, WriteFault}
-use Rattle.hol_model.specs.Sessions.{Tells}
+use Rattle.hol_model.specs.Scripts.Sessions.{Tells}
 use Rattle.hol_script.proofs.RunLemmas.{unread, ends_by}
 use Rattle.hol_script.proofs.RunLogLemmas.{run_is_named, completes_log, stops_in_log, has_long_log, stops_whole, listed_of_session, listed_of_log, same_refusal}
 use Rattle.hol_script.proofs.runner.run.Goals as goal

@@ -1,5 +1,5 @@
 use Rattle.std.proofs.Common.{◌≡◌, ℕ, List, ◌++◌, ◌+◌, ◌≤◌, ◌∙◌, ap, sym, subst, arith, lit<, length, Some}
-use Rattle.hol_model.specs.Sessions.{State, start}
+use Rattle.hol_model.specs.Scripts.Sessions.{State, start}
 use Rattle.hol_script.specs.declared.progress.Summary.{Summary}
 use Rattle.hol_script.specs.declared.session.Session.{Session}
 use Rattle.hol_script.specs.Runs.{counts_of, counting_answer, names_of, names_in_answer, Ends}

@@ -1,6 +1,6 @@
 use Rattle.std.proofs.Common.{sym, ◌∙◌, ap}
-use Rattle.hol_model.specs.Nameless.{nameless_cmp}
-use Rattle.hol_model.proofs.Orders.{nameless_cmp-self}
+use Rattle.hol_model.specs.Terms.Nameless.{nameless_cmp}
+use Rattle.hol_model.proofs.Terms.Orders.{nameless_cmp-self}
 use Rattle.hol_shared.specs.Terms.{term_at}
 use Rattle.hol_shared.proofs.compare.«+compare_terms».Goals as goal
 

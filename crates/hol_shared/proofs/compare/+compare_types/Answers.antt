@@ -1,6 +1,6 @@
 use Rattle.std.proofs.Common.{sym, ◌∙◌, ap}
-use Rattle.hol_model.specs.HolType.{type_cmp}
-use Rattle.hol_model.proofs.Orders.{type_cmp-self}
+use Rattle.hol_model.specs.Terms.HolType.{type_cmp}
+use Rattle.hol_model.proofs.Terms.Orders.{type_cmp-self}
 use Rattle.hol_shared.specs.Terms.{type_at}
 use Rattle.hol_shared.proofs.compare.«+compare_types».Goals as goal
 

@@ -1,5 +1,5 @@
 use Rattle.std.proofs.Common.{sym, ◌∙◌, ap}
-use Rattle.hol_model.specs.Substitution.{occurs_free}
+use Rattle.hol_model.specs.Terms.Substitution.{occurs_free}
 use Rattle.hol_shared.specs.Terms.{term_at}
 use Rattle.hol_shared.proofs.OccursLemmas.{searched-variable, searched-none_free, searched-free, searched-argument, searched-whole}
 use Rattle.hol_shared.proofs.occurs.«+occurs_in».Goals as goal

@@ -1,5 +1,5 @@
 use Rattle.std.proofs.Common.{◌≡◌, true}
-use Rattle.hol_model.specs.Checks.{reflects_nameless}
+use Rattle.hol_model.specs.Logic.Checks.{reflects_nameless}
 use Rattle.hol_shared.specs.Terms.{type_at, term_at}
 use Rattle.hol_shared.proofs.NumberLemmas.{noted-all}
 use Rattle.hol_shared.proofs.ReflectionLemmas.{reflected-application, reflected-abstraction}

@@ -1,5 +1,5 @@
 use Rattle.std.proofs.Common.{◌||◌, refl, sym, ◌∙◌, ap, drop, ◌+◌}
-use Rattle.hol_model.specs.LogFaults.{is_free_in_any}
+use Rattle.hol_model.specs.Logs.LogFaults.{is_free_in_any}
 use Rattle.hol_shared.specs.Terms.{term_at}
 use Rattle.hol_steps.specs.Hypotheses.{terms_in}
 use Rattle.hol_steps.proofs.HypothesesLemmas.{searched}

@@ -1,7 +1,7 @@
 use Rattle.std.proofs.Common.{◌≡◌, ◌⊎◌, ◌≤◌, ◌++◌, length, drop, get_or, inl, inr, arith, ap, ◌∙◌, take, ◌-◌}
 use Rattle.std.proofs.lemmas.List.{take_all, length-drop}
 use Rattle.std.specs.declared.cmp.Ordering.TheVariants.{Less, Equal, Greater}
-use Rattle.hol_model.specs.Nameless.{nameless_cmp}
+use Rattle.hol_model.specs.Terms.Nameless.{nameless_cmp}
 use Rattle.hol_shared.specs.Terms.{term_at}
 use Rattle.hol_steps.proofs.OrderLemmas.{merged-before, merged-same, merged-after, merged-last}
 use Rattle.hol_steps.proofs.hypotheses.union.Goals as goal

@@ -1,7 +1,7 @@
 use Rattle.std.proofs.Common.{◌≡◌, ◌++◌, ◌∷◌, [], not, refl, sym, ◌∙◌, ap, get_or, arith}
 use Rattle.std.proofs.lemmas.List.{take_all}
-use Rattle.hol_model.specs.Nameless.{same_term}
-use Rattle.hol_model.specs.Derivable.{without}
+use Rattle.hol_model.specs.Terms.Nameless.{same_term}
+use Rattle.hol_model.specs.Logic.Derivable.{without}
 use Rattle.hol_shared.specs.Terms.{term_at}
 use Rattle.hol_steps.specs.Hypotheses.{terms_in}
 use Rattle.hol_steps.proofs.OrderLemmas.{kept-ordered}

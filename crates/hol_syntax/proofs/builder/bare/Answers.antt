@@ -1,8 +1,8 @@
 use Rattle.std.proofs.Common.{◌≡◌, Some, None, Option, subst, List, ℕ}
 use Rattle.std.specs.Option.{option_map}
-use Rattle.hol_model.specs.NamedTerm.{NamedTerm, variable}
-use Rattle.hol_model.specs.Reading.{bare_constant, bound_type}
-use Rattle.hol_model.specs.Outcome.{Answers}
+use Rattle.hol_model.specs.Terms.NamedTerm.{NamedTerm, variable}
+use Rattle.hol_model.specs.Texts.Reading.{bare_constant, bound_type}
+use Rattle.hol_model.specs.Kernel.Outcome.{Answers}
 use Rattle.hol_syntax.specs.Scope.{scope_of}
 use Rattle.hol_syntax.proofs.Bindings.{bare_found, bare_free}
 use Rattle.hol_syntax.proofs.builder.bare.Goals as goal

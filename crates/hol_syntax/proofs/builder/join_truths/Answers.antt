@@ -1,9 +1,9 @@
 use Rattle.std.proofs.Common.{◌≡◌, inl, Some, refl, sym, ap, ◌∙◌, subst, ⊎_elim}
 use Rattle.std.proofs.lemmas.Result.{err_from_is_err_and}
-use Rattle.hol_model.specs.HolType.{bool_type}
-use Rattle.hol_model.specs.NamedTerm.{combination, type_of}
-use Rattle.hol_model.specs.Reading.{well_typed}
-use Rattle.hol_model.specs.Outcome.{Answers}
+use Rattle.hol_model.specs.Terms.HolType.{bool_type}
+use Rattle.hol_model.specs.Terms.NamedTerm.{combination, type_of}
+use Rattle.hol_model.specs.Texts.Reading.{well_typed}
+use Rattle.hol_model.specs.Kernel.Outcome.{Answers}
 use Rattle.hol_syntax.proofs.Making.{made, combination_made, joined_refused, truth-is}
 use Rattle.hol_syntax.proofs.builder.join_truths.Goals as goal
 

@@ -1,7 +1,7 @@
 use Rattle.std.proofs.Common.{◌≡◌, Err, true, sym, ap, ◌∙◌, subst}
-use Rattle.hol_model.specs.HolType.{HolType, bool_type, type_eq}
-use Rattle.hol_model.specs.Reading.{quantifier_type}
-use Rattle.hol_model.specs.Outcome.{Answers}
+use Rattle.hol_model.specs.Terms.HolType.{HolType, bool_type, type_eq}
+use Rattle.hol_model.specs.Texts.Reading.{quantifier_type}
+use Rattle.hol_model.specs.Kernel.Outcome.{Answers}
 use Rattle.hol_syntax.specs.Scope.{scope_of}
 use Rattle.hol_syntax.specs.Building.{limited_constant}
 use Rattle.hol_syntax.proofs.Making.{quantifier_known, binder_typed, operator_refused, predicate_refused, choice_made, truth-is}

@@ -1,6 +1,6 @@
 use Rattle.std.proofs.Common.{◌&&◌, sym, ap, ◌∙◌}
-use Rattle.hol_model.specs.HolType.{function_type, is_instance}
-use Rattle.hol_model.specs.Reading.{quantifier_type}
+use Rattle.hol_model.specs.Terms.HolType.{function_type, is_instance}
+use Rattle.hol_model.specs.Texts.Reading.{quantifier_type}
 use Rattle.hol_syntax.specs.Building.{fits_truth}
 use Rattle.hol_syntax.proofs.QuantifierInstances.{at_variable, at_predicate_variable, at_predicate}
 use Rattle.hol_syntax.proofs.quantifier.is_quantifier_instance.Goals as goal

@@ -1,5 +1,5 @@
 use Rattle.std.proofs.Common.{◌≡◌, ◌∷◌, suc, drop, inl, inr, ⊎_elim, ap, sym, ◌∙◌, add-one, arith}
-use Rattle.hol_model.specs.SequentGrammar.{formulas_meaning}
+use Rattle.hol_model.specs.Texts.SequentGrammar.{formulas_meaning}
 use Rattle.hol_syntax.specs.Scope.{scope_of}
 use Rattle.hol_grammar.specs.Steps.{flat_steps_of}
 use Rattle.hol_grammar.specs.TermSteps.{flat_steps, term_steps}

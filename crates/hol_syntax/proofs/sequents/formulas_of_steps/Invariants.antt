@@ -1,6 +1,6 @@
 use Rattle.std.proofs.Common.{◌≡◌, List, drop}
-use Rattle.hol_model.specs.TermGrammar.{TermTree}
-use Rattle.hol_model.specs.SequentGrammar.{formulas_meaning}
+use Rattle.hol_model.specs.Texts.TermGrammar.{TermTree}
+use Rattle.hol_model.specs.Texts.SequentGrammar.{formulas_meaning}
 use Rattle.hol_syntax.specs.Scope.{scope_of}
 use Rattle.hol_syntax.specs.SequentStates.{AreSteps}
 use Rattle.hol_syntax.proofs.Formulas.{behind}

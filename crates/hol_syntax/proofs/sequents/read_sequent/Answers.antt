@@ -1,5 +1,5 @@
 use Rattle.std.proofs.Common.{Err, sym, ap, ◌∙◌, subst}
-use Rattle.hol_model.specs.SequentGrammar.{SpellsSequent, IsReadSequent, sequent_meaning}
+use Rattle.hol_model.specs.Texts.SequentGrammar.{SpellsSequent, IsReadSequent, sequent_meaning}
 use Rattle.hol_syntax.specs.Scope.{scope_of}
 use Rattle.hol_grammar.specs.Views.{tokens_of}
 use Rattle.hol_syntax.specs.SequentStates.{ParsesSequent}

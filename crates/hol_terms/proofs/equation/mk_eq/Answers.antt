@@ -1,8 +1,8 @@
 use Rattle.std.proofs.Common.{inl, inr, Some, refl, sym, ap, ◌∙◌, subst}
 use Rattle.std.proofs.lemmas.Result.{err_from_is_err_and}
-use Rattle.hol_model.specs.NamedTerm.{combination}
-use Rattle.hol_model.specs.Outcome.{Answers}
-use Rattle.hol_model.specs.Constructors.{combination_outcome}
+use Rattle.hol_model.specs.Terms.NamedTerm.{combination}
+use Rattle.hol_model.specs.Kernel.Outcome.{Answers}
+use Rattle.hol_model.specs.Kernel.Constructors.{combination_outcome}
 use Rattle.hol_terms.proofs.Equations.{equality-made, equation-is, equation-refused, combination-made}
 use Rattle.hol_terms.proofs.equation.mk_eq.Goals as goal
 

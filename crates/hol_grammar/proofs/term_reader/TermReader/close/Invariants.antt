@@ -1,5 +1,5 @@
 use Rattle.std.proofs.Common.{◌≡◌, List, Some, vec_len}
-use Rattle.hol_model.specs.TermGrammar.{TermTree}
+use Rattle.hol_model.specs.Texts.TermGrammar.{TermTree}
 use Rattle.hol_grammar.specs.TermReader.{Pending, close}
 use Rattle.hol_grammar.specs.TermStates.{IsState}
 use Rattle.hol_grammar.proofs.term_reader.TermReader.close.Given as goal

@@ -1,5 +1,5 @@
 use Rattle.std.proofs.Common.{◌+◌, Some, refl, subst}
-use Rattle.hol_model.specs.TermGrammar.{infix_level}
+use Rattle.hol_model.specs.Texts.TermGrammar.{infix_level}
 use Rattle.hol_grammar.specs.declared.term_reader.Waiting.TheVariants.{Right}
 use Rattle.hol_grammar.specs.declared.term_reader.Open.TheVariants.{Waits as WaitsHere}
 use Rattle.hol_grammar.specs.Grammar.{infix_here}

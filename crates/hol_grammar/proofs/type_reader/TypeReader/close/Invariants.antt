@@ -1,5 +1,5 @@
 use Rattle.std.proofs.Common.{◌≡◌, List, Some, vec_len}
-use Rattle.hol_model.specs.TypeGrammar.{TypeTree}
+use Rattle.hol_model.specs.Texts.TypeGrammar.{TypeTree}
 use Rattle.hol_grammar.specs.TypeReader.{Pending, close}
 use Rattle.hol_grammar.specs.TypeStates.{IsState}
 use Rattle.hol_grammar.proofs.type_reader.TypeReader.close.Given as goal

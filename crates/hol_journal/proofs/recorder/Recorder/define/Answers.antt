@@ -1,7 +1,7 @@
 use Rattle.std.proofs.Common.{length, refl, sym, ◌∙◌, ap, subst}
 use Rattle.std.proofs.lemmas.List.{length-map}
 use Rattle.hol_journal.specs.Views.{entry_of}
-use Rattle.hol_model.specs.Theory.{IsEarlier}
+use Rattle.hol_model.specs.Logic.Theory.{IsEarlier}
 use Rattle.hol_journal.specs.Journal.{Journal}
 use Rattle.hol_journal.specs.Recorder.{viewed_recorder}
 use Rattle.hol_journal.proofs.StoredLemmas.{defined_entry, definition-stored, definition-listed}

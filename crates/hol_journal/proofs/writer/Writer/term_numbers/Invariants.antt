@@ -1,5 +1,5 @@
 use Rattle.std.proofs.Common.{List, ◌++◌, take}
-use Rattle.hol_model.specs.NamedTerm.{NamedTerm}
+use Rattle.hol_model.specs.Terms.NamedTerm.{NamedTerm}
 use Rattle.hol_journal.specs.LogWriting.{Written}
 use Rattle.hol_journal.specs.Writing.{AreTermsWritten, KeepsNames}
 use Rattle.hol_journal.specs.Writer.{written}

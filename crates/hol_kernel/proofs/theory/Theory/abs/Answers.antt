@@ -1,8 +1,8 @@
 use Rattle.std.proofs.Common.{◌≡◌, Some, true, false, refl, sym, ◌∙◌, ap, inl, inr}
 use Rattle.std.proofs.lemmas.Result.{err_from_is_err_and}
-use Rattle.hol_model.specs.NamedTerm.{abstraction, dest_variable, type_of}
-use Rattle.hol_model.specs.KnownTerm.{knows_type}
-use Rattle.hol_model.specs.Rules.{dest_equation, is_free_in_hypotheses}
+use Rattle.hol_model.specs.Terms.NamedTerm.{abstraction, dest_variable, type_of}
+use Rattle.hol_model.specs.Logic.KnownTerm.{knows_type}
+use Rattle.hol_model.specs.Kernel.Rules.{dest_equation, is_free_in_hypotheses}
 use Rattle.hol_kernel.proofs.RuleLemmas.{theorem-alike, abs-types, abs-theorem, abs-concluded, answers-concluded}
 use Rattle.hol_kernel.proofs.LimitLemmas.{abstraction-limited, concluded-left, concluded-right, limited-is}
 use Rattle.hol_kernel.proofs.theory.Theory.abs.Goals as goal

@@ -1,5 +1,5 @@
 use Rattle.std.proofs.Common.{◌≡◌, None, true, [], ◌∷◌}
-use Rattle.hol_model.specs.Rules.{first_unknown, is_formula}
+use Rattle.hol_model.specs.Kernel.Rules.{first_unknown, is_formula}
 use Rattle.hol_kernel.proofs.RuleLemmas.{theorem-alike, assume-theorem}
 use Rattle.hol_kernel.proofs.theory.Theory.assume.Goals as goal
 

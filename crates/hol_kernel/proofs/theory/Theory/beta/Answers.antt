@@ -1,5 +1,5 @@
 use Rattle.std.proofs.Common.{◌≡◌, None, Some, refl}
-use Rattle.hol_model.specs.Rules.{first_unknown, dest_trivial_redex}
+use Rattle.hol_model.specs.Kernel.Rules.{first_unknown, dest_trivial_redex}
 use Rattle.hol_kernel.proofs.RuleLemmas.{theorem-alike, beta-theorem}
 use Rattle.hol_kernel.proofs.theory.Theory.beta.Goals as goal
 

@@ -1,5 +1,5 @@
 use Rattle.std.proofs.Common.{◌≡◌, refl}
-use Rattle.hol_model.specs.Theorem.{with_hypotheses, without_hypothesis}
+use Rattle.hol_model.specs.Kernel.Theorem.{with_hypotheses, without_hypothesis}
 use Rattle.hol_kernel.proofs.RuleLemmas.{theorem-alike, deduct_antisym-types, deduct_antisym-theorem}
 use Rattle.hol_kernel.proofs.theory.Theory.deduct_antisym.Goals as goal
 

@@ -1,15 +1,15 @@
 use Rattle.std.proofs.Common.{◌≡◌, ◌∷◌, [], true, false, None, Some, sym, ◌∙◌, ap, inl, inr, Ok}
 use Rattle.std.proofs.lemmas.Result.{err_from_is_err_and}
 use Rattle.std.specs.String.{string_bytes}
-use Rattle.hol_model.specs.Name.{is_constant_name}
-use Rattle.hol_model.specs.Nameless.{image}
-use Rattle.hol_model.specs.NamedTerm.{constant, equation}
-use Rattle.hol_model.specs.Theory.{definition}
-use Rattle.hol_model.specs.Legality.{is_closed, reflects, is_new_name}
-use Rattle.hol_model.specs.Rules.{first_unknown, is_full, limited}
-use Rattle.hol_model.proofs.Earlier.{earlier-more}
+use Rattle.hol_model.specs.Terms.Name.{is_constant_name}
+use Rattle.hol_model.specs.Terms.Nameless.{image}
+use Rattle.hol_model.specs.Terms.NamedTerm.{constant, equation}
+use Rattle.hol_model.specs.Logic.Theory.{definition}
+use Rattle.hol_model.specs.Logic.Legality.{is_closed, reflects, is_new_name}
+use Rattle.hol_model.specs.Kernel.Rules.{first_unknown, is_full, limited}
+use Rattle.hol_model.proofs.Logic.Earlier.{earlier-more}
 use Rattle.hol_model.specs.declared.fault.Fault.TheVariants.{BadName}
-use Rattle.hol_model.proofs.Outcomes.{passed_value}
+use Rattle.hol_model.proofs.Kernel.Outcomes.{passed_value}
 use Rattle.hol_kernel.proofs.RuleLemmas.{theorem-alike, some_type}
 use Rattle.hol_kernel.proofs.LimitLemmas.{limited-is, concluded-refused, concluded-made}
 use Rattle.hol_kernel.proofs.DefinitionLemmas.{definition-legal, definition-theorem, define-concluded}

@@ -1,8 +1,8 @@
 use Rattle.std.proofs.Common.{◌≡◌, Some, true}
-use Rattle.hol_model.specs.Nameless.{image, same_term}
+use Rattle.hol_model.specs.Terms.Nameless.{image, same_term}
 use Rattle.hol_model.proofs.Tests.{same_term-Decides}
-use Rattle.hol_model.specs.Rules.{dest_equation}
-use Rattle.hol_model.specs.Theorem.{with_hypotheses}
+use Rattle.hol_model.specs.Kernel.Rules.{dest_equation}
+use Rattle.hol_model.specs.Kernel.Theorem.{with_hypotheses}
 use Rattle.hol_kernel.proofs.RuleLemmas.{theorem-alike, eq_mp-theorem}
 use Rattle.hol_kernel.proofs.theory.Theory.eq_mp.Goals as goal
 

@@ -3,8 +3,8 @@ use Rattle.std.specs.Str.{bytes_eq}
 use Rattle.std.specs.String.{string_bytes}
 use Rattle.std.proofs.lemmas.Map.Text.{hash_set_updates_text}
 use Rattle.indexmap.specs.IndexSet.{contains_text}
-use Rattle.hol_model.specs.Theory.{generic_type}
-use Rattle.hol_model.specs.KnownTerm.{is_declared}
+use Rattle.hol_model.specs.Logic.Theory.{generic_type}
+use Rattle.hol_model.specs.Logic.KnownTerm.{is_declared}
 use Rattle.hol_kernel.proofs.theory.Theory.grow_by_type.Goals as goal
 
 either : (test rest : Bool) → (if test then true else rest) ≡ (test || rest)

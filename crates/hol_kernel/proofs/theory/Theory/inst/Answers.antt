@@ -1,7 +1,7 @@
 use Rattle.std.proofs.Common.{◌≡◌, None}
-use Rattle.hol_model.specs.Substitution.{replacement}
-use Rattle.hol_model.specs.Instantiation.{replacements_refusal}
-use Rattle.hol_model.specs.Derivable.Derivable.{inst_rule}
+use Rattle.hol_model.specs.Terms.Substitution.{replacement}
+use Rattle.hol_model.specs.Kernel.Instantiation.{replacements_refusal}
+use Rattle.hol_model.specs.Logic.Derivable.Derivable.{inst_rule}
 use Rattle.hol_kernel.proofs.RuleLemmas.{standing}
 use Rattle.hol_kernel.proofs.InstanceLemmas.{replacement-MayReplace, passes_inst}
 use Rattle.hol_kernel.proofs.theory.Theory.inst.Goals as goal

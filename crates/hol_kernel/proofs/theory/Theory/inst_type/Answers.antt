@@ -1,7 +1,7 @@
 use Rattle.std.proofs.Common.{◌≡◌, None}
-use Rattle.hol_model.specs.HolType.{type_instance_of}
-use Rattle.hol_model.specs.Instantiation.{type_replacements_refusal}
-use Rattle.hol_model.specs.Derivable.Derivable.{inst_type_rule}
+use Rattle.hol_model.specs.Terms.HolType.{type_instance_of}
+use Rattle.hol_model.specs.Kernel.Instantiation.{type_replacements_refusal}
+use Rattle.hol_model.specs.Logic.Derivable.Derivable.{inst_type_rule}
 use Rattle.hol_kernel.proofs.RuleLemmas.{standing}
 use Rattle.hol_kernel.proofs.InstanceLemmas.{known_types, passes_inst_type}
 use Rattle.hol_kernel.proofs.theory.Theory.inst_type.Goals as goal

@@ -1,8 +1,8 @@
 use Rattle.std.proofs.Common.{◌≡◌, Some, refl, sym, ◌∙◌, ap, inl, inr}
 use Rattle.std.proofs.lemmas.Result.{err_from_is_err_and}
-use Rattle.hol_model.specs.NamedTerm.{combination, type_of}
-use Rattle.hol_model.specs.Rules.{dest_equation}
-use Rattle.hol_model.specs.Theorem.{with_hypotheses}
+use Rattle.hol_model.specs.Terms.NamedTerm.{combination, type_of}
+use Rattle.hol_model.specs.Kernel.Rules.{dest_equation}
+use Rattle.hol_model.specs.Kernel.Theorem.{with_hypotheses}
 use Rattle.hol_kernel.proofs.RuleLemmas.{theorem-alike, mk_comb-types, mk_comb-theorem, mk_comb-concluded, answers-concluded}
 use Rattle.hol_kernel.proofs.LimitLemmas.{concluded-right, limited-is, applied, mk_comb-refused}
 use Rattle.hol_kernel.proofs.theory.Theory.mk_comb.Goals as goal

@@ -1,8 +1,8 @@
 use Rattle.std.proofs.Common.{◌≡◌, ◌∷◌, true}
-use Rattle.hol_model.specs.Theory.{declaration_of_constant}
-use Rattle.hol_model.specs.KnownTerm.{knows_type}
-use Rattle.hol_model.specs.Name.{is_constant_name}
-use Rattle.hol_model.specs.Legality.{is_new_name, is_fixed}
+use Rattle.hol_model.specs.Logic.Theory.{declaration_of_constant}
+use Rattle.hol_model.specs.Logic.KnownTerm.{knows_type}
+use Rattle.hol_model.specs.Terms.Name.{is_constant_name}
+use Rattle.hol_model.specs.Logic.Legality.{is_new_name, is_fixed}
 use Rattle.hol_kernel.proofs.DefinitionLemmas.{declared_constant-legal, only_grows}
 use Rattle.hol_kernel.proofs.theory.Theory.new_const.Goals as goal
 

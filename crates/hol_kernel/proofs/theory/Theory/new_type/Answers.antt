@@ -1,7 +1,7 @@
 use Rattle.std.proofs.Common.{◌≡◌, ◌∷◌, true}
-use Rattle.hol_model.specs.Theory.{declaration_of_type}
-use Rattle.hol_model.specs.Name.{is_declared_type_name}
-use Rattle.hol_model.specs.Legality.{is_new_name}
+use Rattle.hol_model.specs.Logic.Theory.{declaration_of_type}
+use Rattle.hol_model.specs.Terms.Name.{is_declared_type_name}
+use Rattle.hol_model.specs.Logic.Legality.{is_new_name}
 use Rattle.hol_kernel.proofs.DefinitionLemmas.{declared_type-legal, only_grows}
 use Rattle.hol_kernel.proofs.theory.Theory.new_type.Goals as goal
 

@@ -1,5 +1,5 @@
 use Rattle.std.proofs.Common.{◌≡◌, None, refl}
-use Rattle.hol_model.specs.Rules.{first_unknown}
+use Rattle.hol_model.specs.Kernel.Rules.{first_unknown}
 use Rattle.hol_kernel.proofs.RuleLemmas.{theorem-alike, refl-theorem}
 use Rattle.hol_kernel.proofs.theory.Theory.refl.Goals as goal
 

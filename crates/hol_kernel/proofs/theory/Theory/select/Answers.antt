@@ -1,5 +1,5 @@
 use Rattle.std.proofs.Common.{◌≡◌, ◌∷◌, ◌++◌, [], ◌∙◌}
-use Rattle.hol_model.specs.NamedAxioms.{select_hypothesis}
+use Rattle.hol_model.specs.Kernel.NamedAxioms.{select_hypothesis}
 use Rattle.hol_kernel.proofs.RuleLemmas.{theorem-alike, select-theorem}
 use Rattle.hol_kernel.proofs.theory.Theory.select.Goals as goal
 

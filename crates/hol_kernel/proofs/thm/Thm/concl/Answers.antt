@@ -1,5 +1,5 @@
 use Rattle.std.proofs.Common.{◌≡◌, sym, ap}
-use Rattle.hol_model.specs.Theorem.{Theorem}
+use Rattle.hol_model.specs.Kernel.Theorem.{Theorem}
 use Rattle.hol_kernel.specs.Thm.{viewed_theorem}
 use Rattle.hol_kernel.proofs.TheoremLemmas.{known_conclusion}
 use Rattle.hol_kernel.proofs.thm.Thm.concl.Goals as goal

@@ -1,7 +1,7 @@
 use Rattle.std.proofs.Common.{◌≡◌, List, sym, ap, subst}
 use Rattle.std.specs.List.{All}
-use Rattle.hol_model.specs.NamedTerm.{NamedTerm}
-use Rattle.hol_model.specs.Theorem.{Theorem}
+use Rattle.hol_model.specs.Terms.NamedTerm.{NamedTerm}
+use Rattle.hol_model.specs.Kernel.Theorem.{Theorem}
 use Rattle.hol_kernel.specs.Thm.{viewed_theorem}
 use Rattle.hol_kernel.specs.KnownFormula.{IsKnownFormula}
 use Rattle.hol_kernel.proofs.TheoremLemmas.{known_hypotheses}

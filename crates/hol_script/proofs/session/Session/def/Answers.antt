@@ -1,8 +1,8 @@
 use Rattle.std.proofs.Common.{refl, sym, subst, ap, ◌∙◌, Some, Err, Option}
 use Rattle.std.specs.Prelude.{is_some}
 use Rattle.hol_model.specs.declared.fault.Fault.TheVariants.{Memory}
-use Rattle.hol_model.specs.HolType.{HolType}
-use Rattle.hol_model.specs.Sessions.{def_is_refused}
+use Rattle.hol_model.specs.Terms.HolType.{HolType}
+use Rattle.hol_model.specs.Scripts.Sessions.{def_is_refused}
 use Rattle.hol_syntax.specs.Scope.{scope_of}
 use Rattle.hol_script.specs.SessionState.{state_of, IsSession}
 use Rattle.hol_script.proofs.SessionLemmas.{refuses_by, forgets_here}

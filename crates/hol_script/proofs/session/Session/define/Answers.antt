@@ -3,9 +3,9 @@ use Rattle.std.specs.Prelude.{cond}
 use Rattle.std.specs.Str.{bytes_eq}
 use Rattle.std.proofs.lemmas.Map.Text.{text_keys}
 use Rattle.indexmap.specs.IndexMap.{get_by_text}
-use Rattle.hol_model.specs.NamedTerm.{constant, equation}
-use Rattle.hol_model.specs.Legality.{own_type}
-use Rattle.hol_model.specs.Sessions.{definition_name}
+use Rattle.hol_model.specs.Terms.NamedTerm.{constant, equation}
+use Rattle.hol_model.specs.Logic.Legality.{own_type}
+use Rattle.hol_model.specs.Scripts.Sessions.{definition_name}
 use Rattle.hol_syntax.specs.Scope.{scope_of}
 use Rattle.hol_journal.specs.Journal.{Journal, IsMade}
 use Rattle.hol_journal.specs.Growth.{IsGrown}

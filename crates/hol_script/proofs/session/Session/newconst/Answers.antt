@@ -1,8 +1,8 @@
 use Rattle.std.proofs.Common.{refl, sym, subst, ap, ◌∙◌, Some, Ok, Err, Option}
 use Rattle.std.specs.Prelude.{is_some}
 use Rattle.hol_model.specs.declared.fault.Fault.TheVariants.{Memory}
-use Rattle.hol_model.specs.HolType.{HolType}
-use Rattle.hol_model.specs.Sessions.{State, over_theory, newconst_is_refused, newconst_declares}
+use Rattle.hol_model.specs.Terms.HolType.{HolType}
+use Rattle.hol_model.specs.Scripts.Sessions.{State, over_theory, newconst_is_refused, newconst_declares}
 use Rattle.hol_script.specs.declared.session.Printed.TheVariants.{Nothing}
 use Rattle.hol_script.specs.Answers.{Turns}
 use Rattle.hol_syntax.specs.Scope.{scope_of}

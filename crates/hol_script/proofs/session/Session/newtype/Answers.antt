@@ -1,6 +1,6 @@
 use Rattle.std.proofs.Common.{refl, sym, subst, ap, ◌∙◌, Some, Ok, Err}
 use Rattle.hol_model.specs.declared.fault.Fault.TheVariants.{Memory}
-use Rattle.hol_model.specs.Sessions.{State, over_theory, newtype_is_refused, newtype_declares}
+use Rattle.hol_model.specs.Scripts.Sessions.{State, over_theory, newtype_is_refused, newtype_declares}
 use Rattle.hol_script.specs.declared.session.Printed.TheVariants.{Nothing}
 use Rattle.hol_script.specs.Answers.{Turns}
 use Rattle.hol_script.specs.SessionState.{state_of, IsSession}

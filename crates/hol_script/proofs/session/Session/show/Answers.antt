@@ -1,8 +1,8 @@
 use Rattle.std.proofs.Common.{sym, ◌∙◌, ap, subst, Some, Bor}
 use Rattle.std.specs.Option.{option_map}
 use Rattle.hol_model.specs.declared.fault.Fault.TheVariants.{UnknownName}
-use Rattle.hol_model.specs.Reading.{Scope}
-use Rattle.hol_model.specs.Sessions.{show_finds_none, show_prints}
+use Rattle.hol_model.specs.Texts.Reading.{Scope}
+use Rattle.hol_model.specs.Scripts.Sessions.{show_finds_none, show_prints}
 use Rattle.hol_journal.specs.Journal.{Recorded}
 use Rattle.hol_script.specs.Answers.{IsLineOf}
 use Rattle.hol_script.specs.SessionState.{state_of, theorem_of}

@@ -1,5 +1,5 @@
 use Rattle.std.proofs.Common.{drop, ◌+◌}
-use Rattle.hol_model.specs.Prelude.{stored_theorems}
+use Rattle.hol_model.specs.Derived.Prelude.{stored_theorems}
 use Rattle.hol_script.specs.SessionState.{state_of}
 use Rattle.hol_script.proofs.BeginningLemmas.{storing-next, storing-further, next-number}
 use Rattle.hol_script.proofs.session.Session.store_all.Goals as goal

@@ -1,6 +1,6 @@
 use Rattle.std.proofs.Common.{[], subst}
-use Rattle.hol_model.specs.Outcome.{Answers}
-use Rattle.hol_model.specs.Reading.{Scope, meaning}
+use Rattle.hol_model.specs.Kernel.Outcome.{Answers}
+use Rattle.hol_model.specs.Texts.Reading.{Scope, meaning}
 use Rattle.hol_script.proofs.SessionLemmas.{scope_same}
 use Rattle.hol_script.proofs.session.Session.term.Goals as goal
 

@@ -1,7 +1,7 @@
 use Rattle.std.proofs.Common.{sym, ap, ◌∙◌, subst, Some, Ok, Err}
 use Rattle.hol_model.specs.declared.fault.Fault.TheVariants.{BadName, NameTaken}
-use Rattle.hol_model.specs.Reading.{Scope}
-use Rattle.hol_model.specs.Sessions.{State, thm_has_bad_name, thm_has_taken_name}
+use Rattle.hol_model.specs.Texts.Reading.{Scope}
+use Rattle.hol_model.specs.Scripts.Sessions.{State, thm_has_bad_name, thm_has_taken_name}
 use Rattle.hol_script.specs.Answers.{IsLineOf, Turns}
 use Rattle.hol_script.specs.SessionState.{state_of, IsSession}
 use Rattle.hol_script.proofs.RuleLemmas.{proved}

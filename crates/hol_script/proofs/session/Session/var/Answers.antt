@@ -1,5 +1,5 @@
 use Rattle.std.proofs.Common.{refl, sym, subst, Some, Ok}
-use Rattle.hol_model.specs.Sessions.{State, with_variable, var_is_refused, var_declares}
+use Rattle.hol_model.specs.Scripts.Sessions.{State, with_variable, var_is_refused, var_declares}
 use Rattle.hol_script.specs.declared.session.Printed.TheVariants.{Nothing}
 use Rattle.hol_script.specs.Answers.{Turns}
 use Rattle.hol_script.specs.SessionState.{state_of}

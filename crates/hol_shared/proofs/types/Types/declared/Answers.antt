@@ -3,7 +3,7 @@ use Rattle.hol_shared.proofs.TableLemmas.{is_within, IsLonger-same, IsLonger-tra
 use Rattle.std.proofs.Common.{◌≡◌, sym, subst, IfOk, Some, slice_get, List, []}
 use Rattle.std.specs.List.{slice_index_or}
 use Rattle.std.proofs.lemmas.Option.{get_or_from_slice_get}
-use Rattle.hol_model.specs.HolType.{HolType, declared_type}
+use Rattle.hol_model.specs.Terms.HolType.{HolType, declared_type}
 use Rattle.hol_shared.specs.Growth.{IsLonger}
 use Rattle.hol_shared.specs.Types.{TypeTable}
 use Rattle.hol_shared.specs.TypeTable.{types_of}

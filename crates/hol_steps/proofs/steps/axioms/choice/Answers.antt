@@ -1,4 +1,4 @@
-use Rattle.hol_model.specs.Theory.{choice_type, type_a}
+use Rattle.hol_model.specs.Logic.Theory.{choice_type, type_a}
 use Rattle.hol_steps.proofs.AxiomLemmas.{function-named}
 use Rattle.hol_steps.proofs.steps.axioms.choice.Goals as goal
 use Rattle.hol_shared.proofs.GrowthLemmas.{type-there}

@@ -1,5 +1,5 @@
 use Rattle.std.proofs.Common.{[]}
-use Rattle.hol_model.specs.Derivable.{eta_axiom}
+use Rattle.hol_model.specs.Logic.Derivable.{eta_axiom}
 use Rattle.hol_steps.proofs.steps.axioms.eta.Goals as goal
 
 pub returns-clause-taken : goal.returns-clause-taken

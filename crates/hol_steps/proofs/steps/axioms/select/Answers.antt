@@ -1,5 +1,5 @@
 use Rattle.std.proofs.Common.{[], ◌∷◌}
-use Rattle.hol_model.specs.Derivable.{select_hypothesis, select_conclusion}
+use Rattle.hol_model.specs.Logic.Derivable.{select_hypothesis, select_conclusion}
 use Rattle.hol_steps.proofs.steps.axioms.select.Goals as goal
 use Rattle.hol_shared.proofs.GrowthLemmas.{term-there}
 

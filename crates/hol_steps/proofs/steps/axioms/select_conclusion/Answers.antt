@@ -1,5 +1,5 @@
 use Rattle.std.proofs.Common.{◌∙◌}
-use Rattle.hol_model.specs.Nameless.{app}
+use Rattle.hol_model.specs.Terms.Nameless.{app}
 use Rattle.hol_steps.proofs.AxiomLemmas.{term-kept, grown-twice}
 use Rattle.hol_steps.proofs.steps.axioms.select_conclusion.Goals as goal
 use Rattle.hol_shared.proofs.GrowthLemmas.{term-there}

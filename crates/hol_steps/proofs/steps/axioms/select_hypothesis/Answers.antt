@@ -1,6 +1,6 @@
 use Rattle.std.proofs.Common.{refl, ◌∙◌, ap}
-use Rattle.hol_model.specs.Measures.{nameless_within_limits}
-use Rattle.hol_model.specs.Derivable.{select_predicate, select_variable, select_hypothesis}
+use Rattle.hol_model.specs.Terms.Measures.{nameless_within_limits}
+use Rattle.hol_model.specs.Logic.Derivable.{select_predicate, select_variable, select_hypothesis}
 use Rattle.hol_shared.proofs.TableLemmas.{is_within}
 use Rattle.hol_steps.proofs.AxiomLemmas.{application-named, grown-twice}
 use Rattle.hol_steps.proofs.steps.axioms.select_hypothesis.Goals as goal

@@ -1,5 +1,5 @@
 use Rattle.std.proofs.Common.{sym, ◌∙◌, ap}
-use Rattle.hol_model.specs.Measures.{nameless_within_limits}
+use Rattle.hol_model.specs.Terms.Measures.{nameless_within_limits}
 use Rattle.std.specs.Prelude.{Some}
 use Rattle.hol_shared.specs.Terms.{name_at, term_at}
 use Rattle.hol_steps.proofs.AxiomLemmas.{grown-twice}

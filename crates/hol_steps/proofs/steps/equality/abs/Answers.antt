@@ -1,6 +1,6 @@
 use Rattle.std.proofs.Common.{◌≡◌, true, false, not, sym, ◌∙◌, ap}
-use Rattle.hol_model.specs.LogSequents as sequents
-use Rattle.hol_model.specs.LogFaults.{is_free_in_any}
+use Rattle.hol_model.specs.Logs.LogSequents as sequents
+use Rattle.hol_model.specs.Logs.LogFaults.{is_free_in_any}
 use Rattle.hol_steps.specs.State.{sequent_in}
 use Rattle.hol_steps.specs.Steps.{AreInOrder}
 use Rattle.hol_shared.specs.Terms.{term_at}

@@ -1,6 +1,6 @@
 use Rattle.std.proofs.Common.{◌≡◌, ◌++◌, true, not, sym, ◌∙◌, ap}
-use Rattle.hol_model.specs.LogSequents as sequents
-use Rattle.hol_model.specs.LogFaults.{takes}
+use Rattle.hol_model.specs.Logs.LogSequents as sequents
+use Rattle.hol_model.specs.Logs.LogFaults.{takes}
 use Rattle.hol_steps.specs.State.{sequent_in}
 use Rattle.hol_steps.specs.Steps.{are_equations, AreInOrder}
 use Rattle.hol_steps.proofs.StepLemmas.{typed-taken, both-but}

@@ -1,6 +1,6 @@
 use Rattle.std.proofs.Common.{◌≡◌, true, ◌++◌}
-use Rattle.hol_model.specs.Nameless.{same_term}
-use Rattle.hol_model.specs.LogSequents as sequents
+use Rattle.hol_model.specs.Terms.Nameless.{same_term}
+use Rattle.hol_model.specs.Logs.LogSequents as sequents
 use Rattle.hol_steps.specs.State.{sequent_in}
 use Rattle.hol_steps.specs.Steps.{are_equations, AreInOrder}
 use Rattle.hol_steps.proofs.StepLemmas.{ruled-taken, not-both}

@@ -1,6 +1,6 @@
 use Rattle.std.proofs.Common.{◌&&◌, ◌+◌, drop, ◌∙◌, ap}
 use Rattle.std.specs.List.{list_all}
-use Rattle.hol_model.specs.LogFaults.{is_replacement}
+use Rattle.hol_model.specs.Logs.LogFaults.{is_replacement}
 use Rattle.hol_steps.specs.StepPairs.{term_pairs_in}
 use Rattle.hol_steps.proofs.InstanceLemmas.{replaced-more}
 use Rattle.hol_steps.proofs.steps.instances.are_replacements.Goals as goal

@@ -1,5 +1,5 @@
 use Rattle.std.proofs.Common.{not, refl, sym, ◌∙◌, ap, subst}
-use Rattle.hol_model.specs.LogSequents.{term_instance_of}
+use Rattle.hol_model.specs.Logs.LogSequents.{term_instance_of}
 use Rattle.hol_change.specs.Change.{changed, putting}
 use Rattle.hol_steps.specs.State.{sequent_in}
 use Rattle.hol_steps.specs.StepPairs.{term_pairs_in}

@@ -1,5 +1,5 @@
 use Rattle.std.proofs.Common.{◌≡◌, true, not, refl, ap, subst}
-use Rattle.hol_model.specs.HolType.{replaces_type_variables, type_instance_of}
+use Rattle.hol_model.specs.Terms.HolType.{replaces_type_variables, type_instance_of}
 use Rattle.hol_change.specs.Change.{instantiating}
 use Rattle.hol_steps.specs.State.{sequent_in}
 use Rattle.hol_steps.specs.StepPairs.{type_pairs_in}

@@ -1,5 +1,5 @@
 use Rattle.std.proofs.Common.{◌≡◌, drop}
-use Rattle.hol_model.specs.HolType.{replaces_type_variables}
+use Rattle.hol_model.specs.Terms.HolType.{replaces_type_variables}
 use Rattle.hol_steps.specs.StepPairs.{type_pairs_in}
 use Rattle.hol_steps.proofs.steps.instances.replace_type_variables.Given as goal
 

@@ -1,5 +1,5 @@
 use Rattle.std.proofs.Common.{◌++◌}
-use Rattle.hol_model.specs.Derivable.{without}
+use Rattle.hol_model.specs.Logic.Derivable.{without}
 use Rattle.hol_steps.specs.State.{sequent_in}
 use Rattle.hol_steps.proofs.steps.logic.deduct.Goals as goal
 

@@ -1,4 +1,4 @@
-use Rattle.hol_model.specs.Reading.{type_meaning}
+use Rattle.hol_model.specs.Texts.Reading.{type_meaning}
 use Rattle.hol_syntax.specs.Scope.{scope_of}
 use Rattle.hol_syntax.proofs.TermEvaluation.{entered}
 use Rattle.hol_syntax.proofs.evaluate.Evaluator.enter.Goals as goal

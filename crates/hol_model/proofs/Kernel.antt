@@ -1,0 +1,3 @@
+-- What the kernel's calls answer.
+pub mod Refusals
+pub mod Outcomes

@@ -1,0 +1,4 @@
+-- Proof logs.
+pub mod LogTests
+pub mod AcceptedLog
+pub mod AcceptedText

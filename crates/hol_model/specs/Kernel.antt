@@ -1,0 +1,9 @@
+-- What the kernel's calls answer.
+pub mod Fault
+pub mod Outcome
+pub mod Theorem
+pub mod TheoremCode
+pub mod Rules
+pub mod Constructors
+pub mod Instantiation
+pub mod NamedAxioms

@@ -1,0 +1,4 @@
+-- Propositions and tautologies.
+pub mod Propositions
+pub mod Tautologies
+pub mod Connectives

@@ -1,0 +1,356 @@
+-- Which answers the commands of a script may have, and what a run writes.
+use Rattle.std.specs.Prelude.{◌≡◌, ℕ, ◌+◌, Bool, true, false, not, nat_eq, List, [], ◌∷◌, ◌++◌, map, Option, None, Some, IfSome, Result, Ok, Err, codes, decimal, if◌then◌else◌}
+use Rattle.std.specs.Str.{bytes_eq}
+use Rattle.std.specs.List.{ends_with}
+use Rattle.std.specs.Io.KnownBytes.{Appends}
+use Rattle.hol_model.specs.declared.fault.Fault.{Fault}
+use Rattle.hol_model.specs.declared.fault.Fault.TheVariants.{Memory, BadName, UnknownName, Syntax, NameTaken}
+use Rattle.hol_model.specs.declared.rule.TermRule.{TermRule}
+use Rattle.hol_model.specs.declared.rule.TermRule.TheVariants.{Refl, Beta, Assume}
+use Rattle.hol_model.specs.declared.rule.PairRule.{PairRule}
+use Rattle.hol_model.specs.declared.rule.PairRule.TheVariants.{Trans, MkComb, EqMp, DeductAntisym}
+use Rattle.hol_model.specs.declared.rule.PremiseRule.{PremiseRule}
+use Rattle.hol_model.specs.declared.rule.PremiseRule.TheVariants.{Sym, EqtIntro, EqtElim, Conjunct1, Conjunct2, Undisch, NotIntro, NotElim}
+use Rattle.hol_model.specs.declared.rule.PremisesRule.{PremisesRule}
+use Rattle.hol_model.specs.declared.rule.PremisesRule.TheVariants.{ProveHyp, Conj, Mp}
+use Rattle.hol_model.specs.declared.rule.TermPremiseRule.{TermPremiseRule}
+use Rattle.hol_model.specs.declared.rule.TermPremiseRule.TheVariants.{AddAssum, Disch, Spec, Gen, Disj1, Disj2, Contr}
+use Rattle.hol_model.specs.declared.rule.Axiom.{Axiom}
+use Rattle.hol_model.specs.declared.rule.Axiom.TheVariants.{Eta, Select}
+use Rattle.hol_model.specs.Kernel.Fault.{number_of, name_of}
+use Rattle.hol_model.specs.Terms.HolType.{HolType, type_variable}
+use Rattle.hol_model.specs.Terms.NamedTerm.{NamedTerm}
+use Rattle.hol_model.specs.Terms.Nameless.{Nameless, image}
+use Rattle.hol_model.specs.Logic.Theory.{Theory, generic_type, IsLegal}
+use Rattle.hol_model.specs.Logic.KnownTerm.{is_declared}
+use Rattle.hol_model.specs.Logic.Derivable.{Derivable}
+use Rattle.hol_model.specs.Models.Holds.{Holds}
+use Rattle.hol_model.specs.Kernel.Outcome.{given}
+use Rattle.hol_model.specs.Kernel.Theorem.{Theorem}
+use Rattle.hol_model.specs.Kernel.Rules.{refl_outcome, beta_outcome, assume_outcome, trans_outcome, mk_comb_outcome, eq_mp_outcome, deduct_antisym_outcome, abs_outcome, define_outcome, new_type_outcome, new_const_outcome}
+use Rattle.hol_model.specs.Kernel.Instantiation.{inst_refusal, IsInst, inst_type_refusal, IsInstType}
+use Rattle.hol_model.specs.Logic.Logic.{logical_definitions}
+use Rattle.hol_model.specs.Derived.Prelude.{stored_theorems}
+use Rattle.hol_model.specs.Kernel.NamedAxioms.{eta_conclusion, select_hypothesis, select_conclusion}
+use Rattle.hol_model.specs.Derived.DerivedRules.{Stated, AnswersStated, terms_of_theorem, sym_outcome, add_assum_outcome, prove_hyp_outcome, beta_conv_outcome, eqt_intro_outcome, eqt_elim_outcome, conj_outcome, conjunct1_outcome, conjunct2_outcome, disch_outcome, undisch_outcome, mp_outcome, spec_outcome, gen_outcome, exists_outcome, choose_outcome, disj1_outcome, disj2_outcome, disj_cases_outcome, contr_outcome, not_intro_outcome, not_elim_outcome}
+use Rattle.hol_model.specs.Texts.TypeGrammar.{TypeTree}
+use Rattle.hol_model.specs.Texts.TermGrammar.{TermTree}
+use Rattle.hol_model.specs.Texts.Reading.{Scope, type_meaning, meaning, ◌>>=◌}
+use Rattle.hol_model.specs.Texts.Texts.{text_of_sequent}
+use Rattle.hol_model.specs.Scripts.Script.{Request, Cuts, requested}
+use Rattle.hol_model.specs.Scripts.Commands.{DerivedTree, by_conversion, by_premise, by_premises, by_term_and_premise, by_cases, by_witness, by_choice, RuleTree, by_term, by_pair, by_abs, by_inst, by_inst_type, by_axiom, by_derived, CommandTree, thm_command, show_command, var_command, def_command, newtype_command, newconst_command, SpellsCommand}
+
+-- what a session keeps: the entries of its theory, the declared variables and the stored theorems
+pub record State : Type 0 where
+  pub theory : Theory
+  pub variables : List ℕ → Option HolType
+  pub theorems : List ℕ → Option Theorem
+
+-- what the names of a text stand for in a state
+abbrev pub scope_in : State → Scope
+scope_in state = record { generic_type = generic_type state.theory; variable_type = state.variables; declares_type = is_declared state.theory }
+
+-- the state with one more theorem
+abbrev pub with_theorem : State → List ℕ → Theorem → State
+with_theorem state name theorem = record state { theorems = λ other. if bytes_eq name other then Some theorem else state.theorems other }
+
+-- the state with these theorems under their names, one after another
+abbrev pub with_theorems : State → List (List ℕ × Theorem) → State
+with_theorems state [] = state
+with_theorems state (named ∷ others) = with_theorems (with_theorem state named.0 named.1) others
+
+-- the state in which a script begins: the logical constants are defined, and the theorems of the prelude stored
+abbrev pub start : State
+start = with_theorems (record { theory = logical_definitions; variables = λ _. None; theorems = λ _. None }) stored_theorems
+
+-- the state with a declared variable, in place of an earlier one of the name
+abbrev pub with_variable : State → List ℕ → HolType → State
+with_variable state name ty = record state { variables = λ other. if bytes_eq name other then Some ty else state.variables other }
+
+-- the state over another theory
+abbrev pub over_theory : State → Theory → State
+over_theory state theory = record state { theory = theory }
+
+-- ---- rules
+
+abbrev pub term_rule_outcome : TermRule → Theory → NamedTerm → Result Theorem Fault
+term_rule_outcome Refl = refl_outcome
+term_rule_outcome Beta = beta_outcome
+term_rule_outcome Assume = assume_outcome
+
+abbrev pub pair_rule_outcome : PairRule → Theory → Theorem → Theorem → Result Theorem Fault
+pair_rule_outcome Trans = trans_outcome
+pair_rule_outcome MkComb = mk_comb_outcome
+pair_rule_outcome EqMp = eq_mp_outcome
+pair_rule_outcome DeductAntisym = deduct_antisym_outcome
+
+abbrev pub axiom_theorem : Axiom → Theory → Theorem
+axiom_theorem Eta theory = record { theory = theory; hypotheses = []; conclusion = eta_conclusion }
+axiom_theorem Select theory = record { theory = theory; hypotheses = select_hypothesis ∷ []; conclusion = select_conclusion }
+
+-- the stored theorem of a name, and what follows with it
+abbrev pub stored : State → List ℕ → (Theorem → Result Theorem Fault) → Result Theorem Fault
+stored state name next = given (state.theorems name) UnknownName next
+
+-- the replacement that a pair of INST is
+abbrev pub replacement : Scope → TermTree × TermTree → Result (NamedTerm × NamedTerm) Fault
+replacement scope pair = meaning scope [] pair.0 >>= λ new. meaning scope [] pair.1 >>= λ old. Ok (new, old)
+
+-- the replacement that a pair of INST_TYPE is
+abbrev pub type_replacement : Scope → TypeTree × List ℕ → Result (HolType × HolType) Fault
+type_replacement scope pair = type_meaning scope pair.0 >>= λ new. Ok (new, type_variable pair.1)
+
+-- what each of a list is read as, from left to right
+abbrev pub each : {A B : Type 0} → (A → Result B Fault) → List A → Result (List B) Fault
+each read [] = Ok []
+each read (x ∷ xs) = read x >>= λ first. each read xs >>= λ others. Ok (first ∷ others)
+
+-- what was read, and then the stored theorem of a name
+abbrev pub with_stored : {A : Type 0} → Result A Fault → State → List ℕ → Result (A × Theorem) Fault
+with_stored read state name = read >>= λ theta. given (state.theorems name) UnknownName (λ theorem. Ok (theta, theorem))
+
+-- the answer is the refusal, where there is one, else a theorem of which the fact holds
+abbrev pub IsSettled : Option Fault → (Theorem → Type 0) → Result Theorem Fault → Type 0
+IsSettled refusal fact (Ok theorem) = (refusal ≡ None) × fact theorem
+IsSettled refusal fact (Err fault) = refusal ≡ Some fault
+
+-- the answer for what was read, by the refusal and the fact of a rule
+abbrev pub IsAnswerFor : {A : Type 0} → (A → Theorem → Option Fault) → (A → Theorem → Theorem → Type 0) → Result (A × Theorem) Fault → Result Theorem Fault → Type 0
+IsAnswerFor refusal fact (Ok read) answer = IsSettled (refusal read.0 read.1) (fact read.0 read.1) answer
+IsAnswerFor refusal fact (Err fault) answer = answer ≡ Err fault
+
+-- ---- derived rules
+
+abbrev pub premise_outcome : PremiseRule → Theorem → Result Stated Fault
+premise_outcome Sym = sym_outcome
+premise_outcome EqtIntro = eqt_intro_outcome
+premise_outcome EqtElim = eqt_elim_outcome
+premise_outcome Conjunct1 = conjunct1_outcome
+premise_outcome Conjunct2 = conjunct2_outcome
+premise_outcome Undisch = undisch_outcome
+premise_outcome NotIntro = not_intro_outcome
+premise_outcome NotElim = not_elim_outcome
+
+abbrev pub premises_outcome : PremisesRule → Theorem → Theorem → Result Stated Fault
+premises_outcome ProveHyp = prove_hyp_outcome
+premises_outcome Conj = conj_outcome
+premises_outcome Mp = mp_outcome
+
+abbrev pub term_premise_outcome : TermPremiseRule → Theory → NamedTerm → Theorem → Result Stated Fault
+term_premise_outcome AddAssum = add_assum_outcome
+term_premise_outcome Disch = disch_outcome
+term_premise_outcome Spec = spec_outcome
+term_premise_outcome Gen = gen_outcome
+term_premise_outcome Disj1 = disj1_outcome
+term_premise_outcome Disj2 = disj2_outcome
+term_premise_outcome Contr = contr_outcome
+
+-- the stored theorem of a name
+abbrev pub theorem_named : State → List ℕ → Result Theorem Fault
+theorem_named state name = given (state.theorems name) UnknownName (λ theorem. Ok theorem)
+
+-- the stored theorems of two names, and of three
+abbrev pub theorems_named : State → List ℕ → List ℕ → Result (Theorem × Theorem) Fault
+theorems_named state a b = with_stored (theorem_named state a) state b
+
+abbrev pub three_named : State → List ℕ → List ℕ → List ℕ → Result (Theorem × Theorem × Theorem) Fault
+three_named state a b c = theorem_named state a >>= λ first. theorems_named state b c >>= λ others. Ok (first, others.0, others.1)
+
+-- the terms of two texts, and the stored theorem of a name
+abbrev pub terms_and_theorem : State → TermTree → TermTree → List ℕ → Result (NamedTerm × NamedTerm × Theorem) Fault
+terms_and_theorem state tree other a =
+    meaning (scope_in state) [] tree >>= λ first. with_stored (meaning (scope_in state) [] other) state a >>= λ others. Ok (first, others.0, others.1)
+
+-- the term of a text, and the stored theorems of two names
+abbrev pub term_and_theorems : State → TermTree → List ℕ → List ℕ → Result (NamedTerm × Theorem × Theorem) Fault
+term_and_theorems state tree a b = meaning (scope_in state) [] tree >>= λ term. theorems_named state a b >>= λ others. Ok (term, others.0, others.1)
+
+-- the answer for what was read, by the terms of the arguments and what the rule states
+abbrev pub IsDerivedFor : {A : Type 0} → (A → List Nameless) → (A → Result Stated Fault) → Result A Fault → Result Theorem Fault → Type 0
+IsDerivedFor arguments outcome (Ok read) answer = AnswersStated answer (arguments read) (outcome read)
+IsDerivedFor arguments outcome (Err fault) answer = answer ≡ Err fault
+
+-- what a derived rule may answer: its arguments from left to right, then the rule
+abbrev pub IsDerivedAnswer : State → DerivedTree → Result Theorem Fault → Type 0
+IsDerivedAnswer state (by_conversion tree) answer =
+    IsDerivedFor (λ term. image term ∷ []) (beta_conv_outcome state.theory) (meaning (scope_in state) [] tree) answer
+IsDerivedAnswer state (by_premise rule a) answer =
+    IsDerivedFor terms_of_theorem (premise_outcome rule) (theorem_named state a) answer
+IsDerivedAnswer state (by_premises rule a b) answer =
+    IsDerivedFor (λ read. terms_of_theorem read.0 ++ terms_of_theorem read.1) (λ read. premises_outcome rule read.0 read.1) (theorems_named state a b) answer
+IsDerivedAnswer state (by_term_and_premise rule tree a) answer =
+    IsDerivedFor (λ read. image read.0 ∷ terms_of_theorem read.1) (λ read. term_premise_outcome rule state.theory read.0 read.1)
+    (with_stored (meaning (scope_in state) [] tree) state a) answer
+IsDerivedAnswer state (by_cases a b c) answer =
+    IsDerivedFor (λ read. terms_of_theorem read.0 ++ terms_of_theorem read.1 ++ terms_of_theorem read.2) (λ read. disj_cases_outcome read.0 read.1 read.2)
+    (three_named state a b c) answer
+IsDerivedAnswer state (by_witness formula witness a) answer =
+    IsDerivedFor (λ read. image read.0 ∷ image read.1 ∷ terms_of_theorem read.2) (λ read. exists_outcome state.theory read.0 read.1 read.2)
+    (terms_and_theorem state formula witness a) answer
+IsDerivedAnswer state (by_choice variable a b) answer =
+    IsDerivedFor (λ read. image read.0 ∷ terms_of_theorem read.1 ++ terms_of_theorem read.2) (λ read. choose_outcome state.theory read.0 read.1 read.2)
+    (term_and_theorems state variable a b) answer
+
+-- what a rule answers: its arguments from left to right, then the rule
+abbrev pub IsRuleAnswer : State → RuleTree → Result Theorem Fault → Type 0
+IsRuleAnswer state (by_term rule tree) answer = (meaning (scope_in state) [] tree >>= λ term. term_rule_outcome rule state.theory term) ≡ answer
+IsRuleAnswer state (by_pair rule a b) answer =
+    stored state a (λ first. stored state b (λ second. pair_rule_outcome rule state.theory first second)) ≡ answer
+IsRuleAnswer state (by_abs tree a) answer =
+    (meaning (scope_in state) [] tree >>= λ binder. stored state a (λ theorem. abs_outcome state.theory binder theorem)) ≡ answer
+IsRuleAnswer state (by_inst pairs a) answer =
+    IsAnswerFor (inst_refusal state.theory) (IsInst state.theory) (with_stored (each (replacement (scope_in state)) pairs) state a) answer
+IsRuleAnswer state (by_inst_type pairs a) answer =
+    IsAnswerFor (inst_type_refusal state.theory) (IsInstType state.theory) (with_stored (each (type_replacement (scope_in state)) pairs) state a) answer
+IsRuleAnswer state (by_axiom rule) answer = Ok (axiom_theorem rule state.theory) ≡ answer
+IsRuleAnswer state (by_derived tree) answer = IsDerivedAnswer state tree answer
+
+-- ---- commands
+
+-- a name that `thm` may give: names that end in `_def` belong to definitions
+abbrev pub is_theorem_name : List ℕ → Bool
+is_theorem_name name = not (ends_with nat_eq name (codes "_def"))
+
+-- the name under which the theorem of a definition is stored
+abbrev pub definition_name : List ℕ → List ℕ
+definition_name name = name ++ codes "_def"
+
+-- what `def` gives: the term, then the definition
+abbrev pub def_outcome : State → List ℕ → TermTree → Result Theorem Fault
+def_outcome state name tree = meaning (scope_in state) [] tree >>= λ term. define_outcome state.theory name term
+
+-- the state with the theorem of a definition, over the theory with it
+abbrev pub with_definition : State → List ℕ → Theorem → State
+with_definition state name theorem = with_theorem (over_theory state theorem.theory) (definition_name name) theorem
+
+-- what `newconst` gives: the type, then the theory with the constant
+abbrev pub newconst_outcome : State → List ℕ → TypeTree → Result Theory Fault
+newconst_outcome state name tree = type_meaning (scope_in state) tree >>= λ ty. new_const_outcome state.theory name ty
+
+-- what a command answers: a theorem that is stored or shown, an acceptance that prints nothing, or a refusal
+pub data Reply : Type 0 where
+  proves : List ℕ → Theorem → Reply
+  accepts : Reply
+  refused : Fault → Reply
+
+-- In the old state the text, or what stands behind the last `;;`, may answer so and leave the new state. A refusal
+-- leaves the state as it was.
+pub data Allows : State → Option (List ℕ) → Reply → State → Type 0 where
+  finds_no_memory : {state : State} {text : Option (List ℕ)} → Allows state text (refused Memory) state
+  is_unfinished : {state : State} → Allows state None (refused Syntax) state
+  is_no_command : {state : State} {text : List ℕ} → ((tree : CommandTree) → ¬ (SpellsCommand text tree)) → Allows state (Some text) (refused Syntax) state
+  thm_has_bad_name : {state : State} {text name : List ℕ} {rule : RuleTree} → SpellsCommand text (thm_command name rule) → is_theorem_name name ≡ false → Allows state (Some text) (refused BadName) state
+  thm_has_taken_name : {state : State} {text name : List ℕ} {rule : RuleTree} {there : Theorem} → SpellsCommand text (thm_command name rule) → is_theorem_name name ≡ true → state.theorems name ≡ Some there → Allows state (Some text) (refused NameTaken) state
+  thm_is_refused : {state : State} {text name : List ℕ} {rule : RuleTree} {fault : Fault} → SpellsCommand text (thm_command name rule) → is_theorem_name name ≡ true → state.theorems name ≡ None → IsRuleAnswer state rule (Err fault) → Allows state (Some text) (refused fault) state
+  thm_stores : {state : State} {text name : List ℕ} {rule : RuleTree} {theorem : Theorem} → SpellsCommand text (thm_command name rule) → is_theorem_name name ≡ true → state.theorems name ≡ None → IsRuleAnswer state rule (Ok theorem) → Allows state (Some text) (proves name theorem) (with_theorem state name theorem)
+  var_is_refused : {state : State} {text name : List ℕ} {tree : TypeTree} {fault : Fault} → SpellsCommand text (var_command name tree) → type_meaning (scope_in state) tree ≡ Err fault → Allows state (Some text) (refused fault) state
+  var_declares : {state : State} {text name : List ℕ} {tree : TypeTree} {ty : HolType} → SpellsCommand text (var_command name tree) → type_meaning (scope_in state) tree ≡ Ok ty → Allows state (Some text) accepts (with_variable state name ty)
+  def_is_refused : {state : State} {text name : List ℕ} {tree : TermTree} {fault : Fault} → SpellsCommand text (def_command name tree) → def_outcome state name tree ≡ Err fault → Allows state (Some text) (refused fault) state
+  def_defines : {state : State} {text name : List ℕ} {tree : TermTree} {theorem : Theorem} → SpellsCommand text (def_command name tree) → def_outcome state name tree ≡ Ok theorem → Allows state (Some text) (proves (definition_name name) theorem) (with_definition state name theorem)
+  newtype_is_refused : {state : State} {text name : List ℕ} {fault : Fault} → SpellsCommand text (newtype_command name) → new_type_outcome state.theory name ≡ Err fault → Allows state (Some text) (refused fault) state
+  newtype_declares : {state : State} {text name : List ℕ} {theory : Theory} → SpellsCommand text (newtype_command name) → new_type_outcome state.theory name ≡ Ok theory → Allows state (Some text) accepts (over_theory state theory)
+  newconst_is_refused : {state : State} {text name : List ℕ} {tree : TypeTree} {fault : Fault} → SpellsCommand text (newconst_command name tree) → newconst_outcome state name tree ≡ Err fault → Allows state (Some text) (refused fault) state
+  newconst_declares : {state : State} {text name : List ℕ} {tree : TypeTree} {theory : Theory} → SpellsCommand text (newconst_command name tree) → newconst_outcome state name tree ≡ Ok theory → Allows state (Some text) accepts (over_theory state theory)
+  show_finds_none : {state : State} {text name : List ℕ} → SpellsCommand text (show_command name) → state.theorems name ≡ None → Allows state (Some text) (refused UnknownName) state
+  show_prints : {state : State} {text name : List ℕ} {theorem : Theorem} → SpellsCommand text (show_command name) → state.theorems name ≡ Some theorem → Allows state (Some text) (proves name theorem) state
+
+-- ---- theorems
+
+-- the sequent follows from the entries of a legal theory, and holds in every finite standard model
+pub record IsProved (theory : Theory) (theorem : Theorem) : Type 0 where
+  pub legal : IsLegal theory
+  pub derivable : Derivable theory (map image theorem.hypotheses) (image theorem.conclusion)
+  pub holds : Holds theory (map image theorem.hypotheses) (image theorem.conclusion)
+
+-- a theorem that is printed is proved from the entries accepted so far
+abbrev pub IsProvedReply : Theory → Reply → Type 0
+IsProvedReply theory (proves name theorem) = IsProved theory theorem
+IsProvedReply theory accepts = Unit {0}
+IsProvedReply theory (refused fault) = Unit {0}
+
+-- ---- what is printed
+
+-- a theorem's line
+abbrev pub theorem_line : Scope → List ℕ → Theorem → List ℕ
+theorem_line scope name theorem = name ++ codes ": " ++ text_of_sequent scope theorem.hypotheses theorem.conclusion ++ codes "\n"
+
+-- the line for a refusal
+abbrev pub refusal_line : ℕ → Fault → List ℕ
+refusal_line line fault = codes "line " ++ decimal line ++ codes ": E" ++ decimal (number_of fault) ++ codes " " ++ name_of fault ++ codes "\n"
+
+-- the text of a reply to the command in this line
+abbrev pub reply_text : ℕ → Scope → Reply → List ℕ
+reply_text line scope (proves name theorem) = theorem_line scope name theorem
+reply_text line scope accepts = []
+reply_text line scope (refused fault) = refusal_line line fault
+
+-- ---- sessions
+
+-- one command of a session
+pub record Turn (old : State) (text : Option (List ℕ)) (reply : Reply) (new : State) : Type 0 where
+  pub allowed : Allows old text reply new
+  pub proved : IsProvedReply new.theory reply
+
+-- From the old state a session of these requests may give these replies, one for each, write this text and end in the new
+-- state.
+abbrev pub Session : State → List Request → List Reply → List ℕ → State → Type 0
+Session old [] [] out new = (new ≡ old) × (out ≡ [])
+Session old (request ∷ requests) (reply ∷ replies) out new =
+    (mid : State) × (rest : List ℕ) × Turn old request.text reply mid × Session mid requests replies rest new
+    × (out ≡ reply_text request.line (scope_in mid) reply ++ rest)
+Session old [] (reply ∷ replies) out new = ⊥
+Session old (request ∷ requests) [] out new = ⊥
+
+-- how many commands were accepted and refused, and how many theorems were printed
+pub record Counts : Type 0 where
+  pub accepted_commands : ℕ
+  pub refused_commands : ℕ
+  pub theorem_lines : ℕ
+
+abbrev pub no_counts : Counts
+no_counts = record { accepted_commands = 0; refused_commands = 0; theorem_lines = 0 }
+
+-- the counts after one more reply
+abbrev pub counting : Counts → Reply → Counts
+counting counts (proves name theorem) = record { accepted_commands = counts.accepted_commands + 1; refused_commands = counts.refused_commands; theorem_lines = counts.theorem_lines + 1 }
+counting counts accepts = record { accepted_commands = counts.accepted_commands + 1; refused_commands = counts.refused_commands; theorem_lines = counts.theorem_lines }
+counting counts (refused fault) = record { accepted_commands = counts.accepted_commands; refused_commands = counts.refused_commands + 1; theorem_lines = counts.theorem_lines }
+
+-- the counts after these replies
+abbrev pub counts_after : Counts → List Reply → Counts
+counts_after counts [] = counts
+counts_after counts (reply ∷ replies) = counts_after (counting counts reply) replies
+
+-- ---- runs
+
+-- The text is what a session of this script writes, and its replies are counted so.
+pub record IsRun (script out : List ℕ) (counts : Counts) : Type 0 where
+  pub pieces : List (List ℕ)
+  pub last : List ℕ
+  pub cuts : Cuts script pieces last
+  pub replies : List Reply
+  pub final : State
+  pub session : Session start (requested 1 pieces last) replies out final
+  pub counted : counts ≡ counts_after no_counts replies
+
+-- the bytes are those that a device tells, where it tells any
+abbrev pub Tells : Option (List ℕ) → List ℕ → Type 0
+Tells known bytes = IfSome known (λ told. told ≡ bytes)
+
+-- What was read and written is a whole run.
+pub record Completes (input written new_written : Option (List ℕ)) (counts : Counts) : Type 0 where
+  pub script : List ℕ
+  pub out : List ℕ
+  pub read : Tells input script
+  pub wrote : Appends written new_written out
+  pub is_run : IsRun script out counts
+
+-- What was written is the front of what a run writes.
+pub record Stops (input written new_written : Option (List ℕ)) : Type 0 where
+  pub script : List ℕ
+  pub out : List ℕ
+  pub rest : List ℕ
+  pub counts : Counts
+  pub read : Tells input script
+  pub wrote : Appends written new_written out
+  pub is_run : IsRun script (out ++ rest) counts
