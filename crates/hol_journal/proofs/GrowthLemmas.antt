@@ -8,8 +8,8 @@ use Rattle.hol_journal.specs.Journal.{Journal}
 use Rattle.hol_journal.specs.Growth.{IsGrown, JournalsGrow}
 use Rattle.hol_journal.specs.Views.{entry_of, entries_of}
 use Rattle.hol_journal.specs.declared.entry.Entry.{Entry}
-use Rattle.hol_journal.proofs.LogTables.{get_earlier, get_at_end}
 use Rattle.hol_journal.proofs.JournalLemmas.{entries_of-last}
+use Rattle.hol_journal.proofs.Places.{get_earlier, get_at_end}
 
 pub journals-grow : JournalsGrow
 journals-grow = record {

@@ -8,17 +8,4 @@ pub mod JournalLemmas
 pub mod FollowLemmas
 pub mod StoredLemmas
 pub mod GrowthLemmas
-pub mod LogTables
-pub mod LogRuns
-pub mod LogParts
-pub mod KeptTheory
-pub mod WrittenLemmas
-pub mod MarkingLemmas
-pub mod WriterLemmas
-pub mod LogEntries
-pub mod LogClaims
-pub mod EarlierEntries
-pub mod StepLineLemmas
-pub mod EntryLoopLemmas
-pub mod PrunedLemmas
-mod LogTextLemmas
+pub mod Places

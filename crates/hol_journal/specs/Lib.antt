@@ -6,12 +6,3 @@ pub mod Views
 pub mod Recorder
 pub mod JournalCode
 pub mod Growth
-pub mod Needed
-pub mod LogWriting
-pub mod Writing
-pub mod Marking
-pub mod Writer
-pub mod LogAccepted
-pub mod Claims
-pub mod Pruning
-pub mod LogOf

@@ -7,7 +7,7 @@ use hol_types::Ty;
 /// How a theorem follows: by a rule, or as an axiom, from the theorems of earlier entries, which are named by their
 /// numbers.
 #[derive(Drop)]
-pub(crate) enum Rule {
+pub enum Rule {
     Refl(Term),
     Trans(usize, usize),
     MkComb(usize, usize),
@@ -27,7 +27,7 @@ pub(crate) enum Rule {
 
 /// A theorem and how it follows, a definition, or a declaration.
 #[derive(Drop)]
-pub(crate) enum Entry {
+pub enum Entry {
     Derived(Rule, Thm),
     Defined(String, Term),
     DeclaredType(String),

@@ -1,16 +1,9 @@
 // What is true of each journal.
 
 ghost use Rattle.hol_journal.specs.Growth.{JournalsGrow};
-ghost use Rattle.hol_journal.specs.LogAccepted.{LogsAreAccepted};
 
 /// A journal only grows, and what its recorder made stays its own, so that it may be handed in again. Nothing is
 /// computed: the clause is the law, for callers' proofs.
 pub fn journals_grow()
     ensures { JournalsGrow }
-{}
-
-/// The log of a journal, pruned to what its claims need, is accepted. Nothing is computed: the clause is the law, for
-/// callers' proofs.
-pub fn journal_logs_are_accepted()
-    ensures { LogsAreAccepted }
 {}

@@ -5,8 +5,6 @@ ghost use Rattle.hol_model.specs.Terms.Nameless.{image};
 ghost use Rattle.hol_model.specs.Terms.Measures.{nameless_within_limits};
 ghost use Rattle.hol_model.specs.Terms.NamedTerm.{type_fits};
 ghost use Rattle.hol_journal.specs.Limits.{fits_log, FitsLog, pair_fits, type_pair_fits};
-ghost use Rattle.hol_model.specs.Terms.NamedTerm.{is_within_limits};
-ghost use Rattle.hol_journal.specs.Pruning.{IsFitting};
 
 use hol_kernel::Thm;
 use hol_terms::Term;
@@ -60,22 +58,4 @@ pub(crate) fn type_fit(ty: &Ty)
     ensures { type_fits ty.now ≡ true }
 {
     let _nodes = ty.nodes();
-}
-
-// A theorem's terms are formulas within the limits.
-pub(crate) fn formulas_fit(theorem: &Thm)
-    ensures { IsFitting theorem.now }
-{
-    let conclusion = theorem.concl();
-    conclusion.well_formed();
-    let hypotheses = theorem.hyps();
-    all_within_limits(hypotheses);
-}
-
-fn all_within_limits(terms: &[Term])
-    ensures { list_all is_within_limits terms.now ≡ true }
-{
-    for term in terms {
-        term.well_formed();
-    }
 }

@@ -66,14 +66,14 @@ impl Model for Rec {
 
 impl Rec {
     /// The theorem.
-    pub(crate) fn theorem(&self) -> &Thm
+    pub fn theorem(&self) -> &Thm
         ensures { result.now ≡ self.now.theorem }
     {
         &self.theorem
     }
 
     /// The number of the entry.
-    pub(crate) fn entry(&self) -> usize
+    pub fn entry(&self) -> usize
         ensures { result ≡ self.now.entry }
     {
         self.entry
@@ -111,7 +111,7 @@ impl Recorder {
     }
 
     /// The entries.
-    pub(crate) fn stored(&self) -> &[Entry]
+    pub fn stored(&self) -> &[Entry]
         ensures value { entries_of result.now ≡ self.now.entries }
         ensures journal { IsJournal self.now }
     {

@@ -1,7 +1,8 @@
 // Pruned logs of small journals, with the expected bytes by hand.
 ghost use Rattle.hol_journal.specs.Journal.{IsMade};
 
-use hol_journal::{Claim, Rec, Recorder, journals_grow};
+use hol_journal::{Rec, Recorder, journals_grow};
+use hol_log::{Claim, pruned};
 use hol_logtext::{Line, write_line};
 use hol_model::Fault;
 use hol_terms::Term;
@@ -23,7 +24,7 @@ fn log_of(alloc: Global, recorder: &Recorder, theorem: &Rec) -> Result<Vec<u8>, 
     requires { IsMade recorder.now theorem.now }
 {
     let claims = [Claim { name: "a", theorem }];
-    let lines = recorder.pruned(alloc, &claims)?;
+    let lines = pruned(recorder, alloc, &claims)?;
     Ok(bytes(alloc, &lines)?)
 }
 

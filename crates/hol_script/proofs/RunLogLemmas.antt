@@ -16,12 +16,12 @@ use Rattle.hol_model.specs.Scripts.Sessions.{State, Counts, Reply, proves, accep
 use Rattle.hol_model.proofs.Terms.Membership.{of_append}
 use Rattle.hol_journal.specs.Steps.{sequent_of_theorem}
 use Rattle.hol_journal.specs.Journal.{Journal, Recorded}
-use Rattle.hol_journal.specs.LogWriting.{Claimed}
-use Rattle.hol_journal.specs.declared.claim.Claim.{Claim}
-use Rattle.hol_journal.specs.Claims.{claim_of, claims_of}
-use Rattle.hol_journal.specs.LogAccepted.{log_claim}
-use Rattle.hol_journal.specs.Pruning.{AreMade, HaveIdentifiers}
-use Rattle.hol_journal.specs.LogOf.{IsPrunedText, IsLogOf, IsPastLimit}
+use Rattle.hol_log.specs.LogWriting.{Claimed}
+use Rattle.hol_log.specs.declared.claim.Claim.{Claim}
+use Rattle.hol_log.specs.Claims.{claim_of, claims_of}
+use Rattle.hol_log.specs.LogAccepted.{log_claim}
+use Rattle.hol_log.specs.Pruning.{AreMade, HaveIdentifiers}
+use Rattle.hol_log.specs.LogOf.{IsPrunedText, IsLogOf, IsPastLimit}
 use Rattle.hol_script.specs.declared.progress.Progress.{Progress}
 use Rattle.hol_script.specs.SessionState.{state_of, theorem_of}
 use Rattle.hol_script.specs.SessionState as session

@@ -10,10 +10,10 @@ use Rattle.hol_bytes.specs.Bytes.{AppendsFront}
 use Rattle.hol_logtext.specs.LogBytes.{log_text}
 use Rattle.hol_journal.specs.Steps.{sequent_of_theorem}
 use Rattle.hol_journal.specs.Journal.{Journal, Recorded}
-use Rattle.hol_journal.specs.LogWriting.{Claimed}
-use Rattle.hol_journal.specs.LogAccepted.{log_claim}
-use Rattle.hol_journal.specs.Pruning.{AreMade}
-use Rattle.hol_journal.specs.LogOf.{IsPrunedText}
+use Rattle.hol_log.specs.LogWriting.{Claimed}
+use Rattle.hol_log.specs.LogAccepted.{log_claim}
+use Rattle.hol_log.specs.Pruning.{AreMade}
+use Rattle.hol_log.specs.LogOf.{IsPrunedText}
 use Rattle.hol_script.specs.declared.progress.Progress.{Progress}
 use Rattle.hol_script.specs.Runs.{names_of}
 

@@ -2,8 +2,8 @@
 ghost use Rattle.std.specs.Prelude.{◌≡◌, ◌≤◌, ◌<◌, ◌+◌, ◌^◌, ◌++◌, ◌∷◌, [], map, Some, OnOk, IfOk, IfErr, IsErrOf, Contains, vec_len, vec_capacity};
 ghost use Rattle.hol_model.specs.Scripts.Sessions.{start};
 ghost use Rattle.hol_model.specs.declared.fault.Fault.TheVariants.{Memory, TooLong};
-ghost use Rattle.hol_journal.specs.Pruning.{HaveIdentifiers};
-ghost use Rattle.hol_journal.specs.LogAccepted.{log_claim};
+ghost use Rattle.hol_log.specs.Pruning.{HaveIdentifiers};
+ghost use Rattle.hol_log.specs.LogAccepted.{log_claim};
 ghost use Rattle.hol_script.specs.Answers.{Turns};
 ghost use Rattle.hol_script.specs.Runs.{counts_of, counting_answer, names_of, names_in_answer};
 ghost use Rattle.hol_script.specs.RunLogs.{claims_stored, IsAcceptedLog, IsLongLog};

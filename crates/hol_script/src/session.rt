@@ -20,8 +20,8 @@ ghost use Rattle.hol_grammar.specs.Views.{steps_of};
 ghost use Rattle.hol_script.specs.Answers.{Turns, AnswersRule, AnswersItems};
 ghost use Rattle.hol_prelude.specs.Prelude.{prelude_theorems};
 ghost use Rattle.hol_journal.specs.Journal.{Journal, Recorded, IsMade, theorem_in};
-ghost use Rattle.hol_journal.specs.LogAccepted.{log_claim};
-ghost use Rattle.hol_journal.specs.Pruning.{HaveIdentifiers};
+ghost use Rattle.hol_log.specs.LogAccepted.{log_claim};
+ghost use Rattle.hol_log.specs.Pruning.{HaveIdentifiers};
 ghost use Rattle.hol_script.specs.RunLogs.{stored_claims, IsAcceptedLog, IsLongLog};
 ghost use Rattle.hol_script.specs.Growth.{IsRefused, Defines, KeepsSession};
 ghost use Rattle.hol_script.specs.Recording.{AppliesRule, GrowsJournal};
@@ -40,6 +40,7 @@ use hol_command::pairs::{TermPair, TypePair};
 use hol_equal::beta_conv;
 use hol_grammar::{TermStep, TypeStep};
 use hol_journal::{Rec, Recorder, journals_grow};
+use hol_log::log_text;
 use hol_model::{Axiom, Fault, PairRule, PremiseRule, PremisesRule, TermPremiseRule, TermRule};
 use hol_prelude::{Bool, logic_stays, prelude, theorem_of};
 use hol_quant::{choose, exists};
@@ -320,7 +321,7 @@ impl Session {
         ensures refusals { IfErr result (Contains (TooLong ∷ Memory ∷ [])) }
     {
         match claims(alloc, &self.theorems, names) {
-            Ok(claims) => self.recorder.log_text(alloc, &claims),
+            Ok(claims) => log_text(&self.recorder, alloc, &claims),
             Err(fault) => Err(fault),
         }
     }

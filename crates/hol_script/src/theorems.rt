@@ -3,10 +3,11 @@ ghost use Rattle.std.specs.Prelude.{◌≡◌, map, IfOk, IfErr, string_bytes};
 ghost use Rattle.std.specs.Option.{option_map};
 ghost use Rattle.indexmap.specs.IndexMap.{get_by_text};
 ghost use Rattle.hol_model.specs.declared.fault.Fault.TheVariants.{Memory};
-ghost use Rattle.hol_journal.specs.Claims.{claims_of};
+ghost use Rattle.hol_log.specs.Claims.{claims_of};
 ghost use Rattle.hol_script.specs.RunLogs.{stored_claims};
 
-use hol_journal::{Claim, Rec};
+use hol_journal::Rec;
+use hol_log::Claim;
 use hol_model::Fault;
 use indexmap::IndexMap;
 use std::alloc::Global;

@@ -2,7 +2,7 @@ use Rattle.std.proofs.Common.{Some, None, sym, ap, ◌∙◌, append-nil, Bor}
 use Rattle.std.specs.Option.{option_map}
 use Rattle.indexmap.specs.IndexMap.{get_by_text}
 use Rattle.hol_journal.specs.Journal.{Recorded}
-use Rattle.hol_journal.specs.Claims.{claims_of}
+use Rattle.hol_log.specs.Claims.{claims_of}
 use Rattle.hol_script.proofs.RunLogLemmas.{further_claims, pushed_claim}
 use Rattle.hol_script.proofs.theorems.claims.Goals as goal
 use Rattle.hol_script.proofs.theorems.claims.Goals.{in-Some+in_ok-push, in_default}

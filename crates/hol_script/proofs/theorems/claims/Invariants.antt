@@ -1,6 +1,6 @@
 use Rattle.std.proofs.Common.{◌≡◌, map, take, string_bytes}
 use Rattle.indexmap.specs.IndexMap.{get_by_text}
-use Rattle.hol_journal.specs.Claims.{claims_of}
+use Rattle.hol_log.specs.Claims.{claims_of}
 use Rattle.hol_script.specs.RunLogs.{stored_claims}
 use Rattle.hol_script.proofs.theorems.claims.Given as goal
 

@@ -1,8 +1,8 @@
 use Rattle.std.proofs.Common.{◌≡◌, ◌∙◌, ap, sym, subst, List, map, string_bytes}
 use Rattle.indexmap.specs.IndexMap.{get_by_text}
-use Rattle.hol_journal.specs.Claims.{claims_of}
-use Rattle.hol_journal.specs.LogWriting.{Claimed}
-use Rattle.hol_journal.specs.Pruning.{AreMade, HaveIdentifiers}
+use Rattle.hol_log.specs.Claims.{claims_of}
+use Rattle.hol_log.specs.LogWriting.{Claimed}
+use Rattle.hol_log.specs.Pruning.{AreMade, HaveIdentifiers}
 use Rattle.hol_script.specs.RunLogs.{stored_claims}
 use Rattle.hol_script.proofs.RunLogLemmas.{stored_claims-made, log_answers, long_log}
 use Rattle.hol_script.proofs.session.Session.log_text.Goals as goal

@@ -1,7 +1,0 @@
-use Rattle.hol_journal.specs.Claims.{claims_of}
-use Rattle.hol_journal.proofs.LogTextLemmas.{text-accepted}
-use Rattle.hol_journal.proofs.recorder.Recorder.log_text.Goals as goal
-
-pub returns-clause-accepted : goal.returns-clause-accepted
-returns-clause-accepted c = λ named.
-    text-accepted c.text_of_lines.result c.deref.result.now c.in-Ok.lines.items (claims_of c.args.claims.now) c.deref.ensures.value c.text_of_lines.ensures.accepted (c.in-Ok.ensures.accepted named)

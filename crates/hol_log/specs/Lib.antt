@@ -1,0 +1,9 @@
+pub mod Needed
+pub mod LogWriting
+pub mod Writing
+pub mod Marking
+pub mod Writer
+pub mod LogAccepted
+pub mod Claims
+pub mod Pruning
+pub mod LogOf

@@ -1,0 +1,15 @@
+//! The log of a journal, pruned to what its claims need.
+#![tactic(auto)]
+
+mod claim;
+mod fitting;
+mod log;
+mod log_laws;
+mod needed;
+mod pruned;
+mod writer;
+
+pub use claim::Claim;
+pub use log::log_text;
+pub use log_laws::journal_logs_are_accepted;
+pub use pruned::pruned;
