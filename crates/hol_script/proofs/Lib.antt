@@ -1,10 +1,3 @@
-pub mod RuleLemmas
-pub mod BeginningLemmas
-pub mod RecordingLemmas
-pub mod ReplacementLemmas
-pub mod DerivedLemmas
-pub mod SessionLemmas
-pub mod GrowthLemmas
 pub mod RunLemmas
 pub mod StoredLemmas
 pub mod RunLogLemmas

@@ -8,10 +8,10 @@ use Rattle.hol_model.specs.Texts.Reading.{Scope}
 use Rattle.hol_model.specs.Scripts.Script.{begins_mark, has_mark, IsCut, Cuts, Request, line_feeds, leading_line_feeds, is_blank_text, request_and, requested}
 use Rattle.hol_model.specs.Scripts.Sessions.{State, start, scope_in, Reply, proves, accepts, refused, finds_no_memory, is_unfinished, Turn, Session, Counts, no_counts, counting, counts_after, reply_text, refusal_line, IsRun, Tells, Stops}
 use Rattle.hol_model.proofs.Tests.{first_of_both, second_of_both}
-use Rattle.hol_script.specs.declared.session.Printed.{Printed}
-use Rattle.hol_script.specs.declared.session.Printed.TheVariants.{Nothing, Line}
+use Rattle.hol_session.specs.declared.session.Printed.{Printed}
+use Rattle.hol_session.specs.declared.session.Printed.TheVariants.{Nothing, Line}
 use Rattle.hol_bytes.specs.Bytes.{AppendsFront}
-use Rattle.hol_script.specs.Answers.{Says, Turns, answer_text}
+use Rattle.hol_session.specs.Answers.{Says, Turns, answer_text}
 use Rattle.hol_script.specs.Runs.{counting_answer, names_in_answer, names_in, printed_names, Ends}
 use Rattle.hol_bytes.proofs.BytesLemmas.{Appends-none, Appends-more}
 

@@ -1,74 +1,30 @@
 -- The claims of a run are the theorems that it printed, and its log is theirs.
-use Rattle.std.proofs.Common.{◌≡◌, ℕ, ◌≤◌, ◌<◌, ◌+◌, take, get_or, List, [], ◌∷◌, ◌++◌, map, length, refl, sym, ap, subst, ◌∙◌, inl, inr, Option, None, Some, Ok, Err, Result, append-nil, append_assoc, lit<, arith, zero, suc, string_bytes}
-use Rattle.std.specs.Prelude.{IfOk, IfErr, IsErrOf, Contains, String, true}
-use Rattle.std.proofs.lemmas.List.{take_more, map-append}
-use Rattle.std.proofs.Common.{Vec, Global}
+use Rattle.std.proofs.Common.{◌≡◌, ℕ, ◌<◌, ◌+◌, List, [], ◌∷◌, ◌++◌, map, refl, sym, ap, subst, ◌∙◌, inl, inr, Option, None, Some, Ok, Err, Result, append-nil, lit<, arith, zero, suc}
+use Rattle.std.specs.Prelude.{IfErr, IsErrOf, Contains, true}
 use Rattle.indexmap.specs.IndexMap.{get_by_text}
 use Rattle.hol_model.specs.Terms.Name.{is_identifier}
 use Rattle.hol_model.specs.Logic.Derivable.{IsMember}
 use Rattle.hol_model.specs.Kernel.Theorem.{Theorem}
 use Rattle.hol_model.specs.declared.fault.Fault.{Fault}
 use Rattle.hol_model.specs.declared.fault.Fault.TheVariants.{Memory, ReadFault, TooLong, WriteFault}
-use Rattle.hol_model.specs.declared.limits.TheConstants.{TEXT_BYTES_LIMIT}
 use Rattle.hol_model.specs.Logs.LogState.{LogClaim}
 use Rattle.hol_model.specs.Scripts.Script.{requested}
 use Rattle.hol_model.specs.Scripts.Sessions.{State, Counts, Reply, proves, accepts, refused, IsRun, Stops}
 use Rattle.hol_model.proofs.Terms.Membership.{of_append}
 use Rattle.hol_journal.specs.Steps.{sequent_of_theorem}
-use Rattle.hol_journal.specs.Journal.{Journal, Recorded}
+use Rattle.hol_journal.specs.Journal.{Recorded}
 use Rattle.hol_log.specs.LogWriting.{Claimed}
-use Rattle.hol_log.specs.declared.claim.Claim.{Claim}
-use Rattle.hol_log.specs.Claims.{claim_of, claims_of}
 use Rattle.hol_log.specs.LogAccepted.{log_claim}
-use Rattle.hol_log.specs.Pruning.{AreMade, HaveIdentifiers}
-use Rattle.hol_log.specs.LogOf.{IsPrunedText, IsLogOf, IsPastLimit}
+use Rattle.hol_log.specs.Pruning.{HaveIdentifiers}
 use Rattle.hol_script.specs.declared.progress.Progress.{Progress}
-use Rattle.hol_script.specs.SessionState.{state_of, theorem_of}
-use Rattle.hol_script.specs.SessionState as session
+use Rattle.hol_session.specs.SessionState.{state_of, theorem_of}
+use Rattle.hol_session.specs.SessionState as session
 use Rattle.hol_script.specs.Runs.{names_of, printed_names, Ends}
-use Rattle.hol_script.specs.RunLogs.{claim_in, claims_in, IsAcceptedLog, IsLongLog, WritesLog, WritesFront, CompletesLog, StopsInLog, HasLongLog, IsWhole, stored_claim, stored_claims, claims_stored}
+use Rattle.hol_script.specs.RunLogs.{claim_in, claims_in, WritesLog, WritesFront, CompletesLog, StopsInLog, HasLongLog, IsWhole, claims_stored}
+use Rattle.hol_session.specs.StoredClaims.{IsLongLog, stored_claim, stored_claims}
 use Rattle.hol_script.proofs.StoredLemmas.{printed_theorems_stay}
 
 -- ---- claims of stored theorems
-
-member_of_stored_claim : (stored : List ℕ → Option Recorded) (name : List ℕ) (found : Option Recorded) (claim : Claimed) → stored name ≡ found → IsMember claim (stored_claim name found)
-    → stored claim.name ≡ Some claim.made
-member_of_stored_claim stored name None claim is member = absurd member
-member_of_stored_claim stored name (Some made) claim is (inl same) =
-    ap (λ (c : Claimed). stored c.name) same ∙ is ∙ ap (λ (c : Claimed). Some c.made) (sym same)
-member_of_stored_claim stored name (Some made) claim is (inr none) = absurd none
-
--- each claim is for the theorem that is stored under its name
-member_of_stored_claims : (stored : List ℕ → Option Recorded) (names : List (List ℕ)) (claim : Claimed) → IsMember claim (stored_claims stored names) → stored claim.name ≡ Some claim.made
-member_of_stored_claims stored [] claim member = absurd member
-member_of_stored_claims stored (name ∷ names) claim member =
-    elim (of_append claim (stored_claim name (stored name)) (stored_claims stored names) member) [
-      | inl here ↦ member_of_stored_claim stored name (stored name) claim refl here
-      | inr further ↦ member_of_stored_claims stored names claim further
-    ]
-
--- one name more
-snoc_claims : (stored : List ℕ → Option Recorded) (names : List (List ℕ)) (name : List ℕ) → stored_claims stored (names ++ name ∷ []) ≡ stored_claims stored names ++ stored_claim name (stored name)
-snoc_claims stored [] name = append-nil (stored_claim name (stored name))
-snoc_claims stored (first ∷ names) name =
-    ap (λ l. stored_claim first (stored first) ++ l) (snoc_claims stored names name) ∙ sym (append_assoc (stored_claim first (stored first)) (stored_claims stored names) (stored_claim name (stored name)))
-
-pub further_claims : (stored : List ℕ → Option Recorded) (names : List (String Global)) (at : ℕ) (item : String Global) (name : List ℕ) (found : Option Recorded) (before after : List Claimed) → at < length names → item ≡ get_or names at item
-    → name ≡ string_bytes item → stored name ≡ found → before ≡ stored_claims stored (map string_bytes (take at names)) → after ≡ before ++ stored_claim name found
-    → after ≡ stored_claims stored (map string_bytes (take (at + 1) names))
-further_claims stored names at item name found before after within is named known so_far added =
-    let here : before ++ stored_claim name found ≡ stored_claims stored (map string_bytes (take at names)) ++ stored_claim (string_bytes item) (stored (string_bytes item)) =
-    ap (λ l. l ++ stored_claim name found) so_far ∙ ap (λ f. stored_claims stored (map string_bytes (take at names)) ++ stored_claim name f) (sym known)
-    ∙ ap (λ (n : List ℕ). stored_claims stored (map string_bytes (take at names)) ++ stored_claim n (stored n)) named in
-    let longer : map string_bytes (take at names) ++ string_bytes item ∷ [] ≡ map string_bytes (take (at + 1) names) =
-    sym (map-append string_bytes (take at names) (item ∷ [])) ∙ ap (λ (x : String Global). map string_bytes (take at names ++ x ∷ [])) is ∙ ap (map string_bytes) (sym (take_more names at item within)) in
-    added ∙ here ∙ sym (snoc_claims stored (map string_bytes (take at names)) (string_bytes item)) ∙ ap (stored_claims stored) longer
-
-pub pushed_claim : (claims pushed : List Claim) (claim : Claim) → pushed ≡ claims ++ claim ∷ [] → claims_of pushed ≡ claims_of claims ++ claim_of claim ∷ []
-pushed_claim claims pushed claim is = ap claims_of is ∙ map-append claim_of claims (claim ∷ [])
-
-pub stored_claims-made : (journal : Journal) (stored : List ℕ → Option Recorded) (names : List (List ℕ)) → session.AreMade journal stored → AreMade journal (stored_claims stored names)
-stored_claims-made journal stored names made claim member = made claim.name claim.made (member_of_stored_claims stored names claim member)
 
 -- each has one of the names
 member_of_names : (name : List ℕ) (found : Option Recorded) (claim : Claimed) → IsMember claim (stored_claim name found) → claim.name ≡ name
@@ -152,25 +108,6 @@ module _ {input written now : Option (List ℕ)} {counts : Counts} (progress : P
       record { script = c.script; out = c.out; rest = []; counts = counts; read = c.read; wrote = c.wrote; is_run = subst (λ (l : List ℕ). IsRun c.script l counts) (sym (append-nil c.out)) c.is_run }
 
 -- ---- the text of a log
-
-pub log_answers : (result : Result (Vec ℕ Global) Fault) (journal : Journal) (given claimed : List Claimed) → given ≡ claimed → AreMade journal claimed
-    → IfOk result (λ (text : Vec ℕ Global). IsPrunedText journal given text.items) → IfOk result (λ (text : Vec ℕ Global). IsLogOf text.items given) → IfOk result (λ (text : Vec ℕ Global). length text.items ≤ TEXT_BYTES_LIMIT)
-    → IfOk result (λ (text : Vec ℕ Global). IsAcceptedLog (map log_claim claimed) text.items)
-log_answers (Ok text) journal given claimed same made pruned accepted within = record {
-  is_log = record { journal = journal; claimed = claimed; made = made; are_claims = refl; pruned = subst (λ (cs : List Claimed). IsPrunedText journal cs text.items) same pruned };
-  within_limit = within;
-  state = accepted.state;
-  accepted = accepted.accepted;
-  claimed = accepted.claimed ∙ ap (map log_claim) same;
-}
-log_answers (Err fault) journal given claimed same made pruned accepted within = tt
-
-pub long_log : (journal : Journal) (given claimed : List Claimed) → given ≡ claimed → AreMade journal claimed → IsPastLimit journal given → IsLongLog (map log_claim claimed)
-long_log journal given claimed same made past = record {
-  log = past.text;
-  is_log = record { journal = journal; claimed = claimed; made = made; are_claims = refl; pruned = subst (λ (cs : List Claimed). IsPrunedText journal cs past.text) same past.pruned };
-  longer = past.longer;
-}
 
 pub write_fault_listed : {A : Type 0} (result : Result A Fault) → IfErr result (λ (fault : Fault). fault ≡ WriteFault) → IfErr result (Contains (WriteFault ∷ TooLong ∷ Memory ∷ []))
 write_fault_listed (Ok x) is = tt

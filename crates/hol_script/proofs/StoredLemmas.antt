@@ -29,9 +29,9 @@ use Rattle.hol_model.proofs.Tests.{first_of_both, second_of_both}
 use Rattle.std.proofs.lemmas.List.Folds.{list_all-append}
 use Rattle.hol_model.specs.Scripts.Sessions.{State, start, scope_in, with_theorem, with_theorems, over_theory, is_theorem_name, definition_name, def_outcome, with_definition, newconst_outcome, Reply, proves, accepts, refused, Allows, finds_no_memory, is_unfinished, is_no_command, thm_has_bad_name, thm_has_taken_name, thm_is_refused, thm_stores, var_is_refused, var_declares, def_is_refused, def_defines, newtype_is_refused, newtype_declares, newconst_is_refused, newconst_declares, show_finds_none, show_prints, Session}
 use Rattle.hol_model.specs.Derived.Prelude.{stored_theorems}
-use Rattle.hol_script.specs.Beginning.{logical_state}
+use Rattle.hol_session.specs.Beginning.{logical_state}
 use Rattle.hol_script.specs.Laws.{PrintedTheoremsStay}
-use Rattle.hol_script.proofs.GrowthLemmas.{definition-accepted, definition-was_new, type-accepted, const-accepted}
+use Rattle.hol_session.proofs.GrowthLemmas.{definition-accepted, definition-was_new, type-accepted, const-accepted}
 
 -- only the definition of a constant gives a name its `_def`
 record IsTold (state : State) : Type 0 where

@@ -1,8 +1,3 @@
-pub mod SessionState
-pub mod Answers
-pub mod Growth
-pub mod Beginning
-pub mod Recording
 pub mod Runs
 pub mod Laws
 pub mod RunLogs

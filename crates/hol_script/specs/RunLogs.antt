@@ -1,21 +1,15 @@
 -- The log of a run: it claims the theorems that the run prints.
-use Rattle.std.specs.Prelude.{◌≡◌, ◌≤◌, ◌<◌, ℕ, List, [], ◌∷◌, ◌++◌, map, length, Option, Some, None, Ok}
+use Rattle.std.specs.Prelude.{ℕ, List, [], ◌∷◌, ◌++◌, Option}
 use Rattle.std.specs.Io.KnownBytes.{Appends}
-use Rattle.hol_model.specs.declared.limits.TheConstants.{TEXT_BYTES_LIMIT}
-use Rattle.hol_model.specs.Logs.LogState.{LogState, LogClaim}
-use Rattle.hol_model.specs.Logs.LogText.{log_outcome}
+use Rattle.hol_model.specs.Logs.LogState.{LogClaim}
 use Rattle.hol_model.specs.Scripts.Sessions.{Reply, proves, accepts, refused, Counts, Completes}
 use Rattle.indexmap.specs.IndexMap.{get_by_text}
 use Rattle.hol_bytes.specs.Bytes.{AppendsFront}
-use Rattle.hol_logtext.specs.LogBytes.{log_text}
 use Rattle.hol_journal.specs.Steps.{sequent_of_theorem}
-use Rattle.hol_journal.specs.Journal.{Journal, Recorded}
 use Rattle.hol_log.specs.LogWriting.{Claimed}
-use Rattle.hol_log.specs.LogAccepted.{log_claim}
-use Rattle.hol_log.specs.Pruning.{AreMade}
-use Rattle.hol_log.specs.LogOf.{IsPrunedText}
 use Rattle.hol_script.specs.declared.progress.Progress.{Progress}
 use Rattle.hol_script.specs.Runs.{names_of}
+use Rattle.hol_session.specs.StoredClaims.{IsAcceptedLog, IsLongLog, stored_claims}
 
 -- the claim of the theorem that a reply prints: the name in its line, and the images of its terms
 abbrev pub claim_in : Reply → List LogClaim
@@ -27,28 +21,6 @@ claim_in (refused fault) = []
 abbrev pub claims_in : List Reply → List LogClaim
 claims_in [] = []
 claims_in (reply ∷ replies) = claim_in reply ++ claims_in replies
-
--- The text is the pruned log of a journal whose recorder made the theorems of these claims.
-pub record IsLog (claims : List LogClaim) (text : List ℕ) : Type 0 where
-  pub journal : Journal
-  pub claimed : List Claimed
-  pub made : AreMade journal claimed
-  pub are_claims : map log_claim claimed ≡ claims
-  pub pruned : IsPrunedText journal claimed text
-
--- The text is the log of these claims, within the limit on texts, and it is accepted with them.
-pub record IsAcceptedLog (claims : List LogClaim) (text : List ℕ) : Type 0 where
-  pub is_log : IsLog claims text
-  pub within_limit : length text ≤ TEXT_BYTES_LIMIT
-  pub state : LogState
-  pub accepted : log_outcome (log_text text) ≡ Ok state
-  pub claimed : state.claims ≡ claims
-
--- The log of these claims is past the limit on texts.
-pub record IsLongLog (claims : List LogClaim) : Type 0 where
-  pub log : List ℕ
-  pub is_log : IsLog claims log
-  pub longer : TEXT_BYTES_LIMIT < length log
 
 -- the log of these claims was written
 pub record WritesLog (claims : List LogClaim) (logged new_logged : Option (List ℕ)) : Type 0 where
@@ -87,15 +59,6 @@ pub record HasLongLog (input written new_written : Option (List ℕ)) : Type 0 w
   pub long : IsLongLog (claims_in completes.is_run.replies)
 
 -- ---- what the program claims
-
-abbrev pub stored_claim : List ℕ → Option Recorded → List Claimed
-stored_claim name (Some made) = record { name = name; made = made } ∷ []
-stored_claim name None = []
-
--- a claim for each of the names under which a theorem is stored, in order
-abbrev pub stored_claims : (List ℕ → Option Recorded) → List (List ℕ) → List Claimed
-stored_claims stored [] = []
-stored_claims stored (name ∷ names) = stored_claim name (stored name) ++ stored_claims stored names
 
 abbrev pub claims_stored : Progress → List Claimed
 claims_stored progress = stored_claims (get_by_text progress.session.theorems) (names_of progress)

@@ -4,8 +4,8 @@ use Rattle.hol_model.specs.declared.fault.Fault.{Fault}
 use Rattle.hol_model.specs.Scripts.Sessions.{State, Reply, proves, accepts, refused, Counts, Completes}
 use Rattle.hol_script.specs.declared.progress.Summary.{Summary}
 use Rattle.hol_script.specs.declared.progress.Progress.{Progress}
-use Rattle.hol_script.specs.declared.session.Printed.{Printed}
-use Rattle.hol_script.specs.declared.session.Printed.TheVariants.{Nothing, Line}
+use Rattle.hol_session.specs.declared.session.Printed.{Printed}
+use Rattle.hol_session.specs.declared.session.Printed.TheVariants.{Nothing, Line}
 
 abbrev pub counts_of : Summary → Counts
 counts_of summary = record { accepted_commands = summary.accepted; refused_commands = summary.refused; theorem_lines = summary.printed }

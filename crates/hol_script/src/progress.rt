@@ -4,14 +4,15 @@ ghost use Rattle.hol_model.specs.Scripts.Sessions.{start};
 ghost use Rattle.hol_model.specs.declared.fault.Fault.TheVariants.{Memory, TooLong};
 ghost use Rattle.hol_log.specs.Pruning.{HaveIdentifiers};
 ghost use Rattle.hol_log.specs.LogAccepted.{log_claim};
-ghost use Rattle.hol_script.specs.Answers.{Turns};
+ghost use Rattle.hol_session.specs.Answers.{Turns};
 ghost use Rattle.hol_script.specs.Runs.{counts_of, counting_answer, names_of, names_in_answer};
-ghost use Rattle.hol_script.specs.RunLogs.{claims_stored, IsAcceptedLog, IsLongLog};
-ghost use Rattle.hol_script.specs.SessionState.{state_of, IsSession};
+ghost use Rattle.hol_script.specs.RunLogs.{claims_stored};
+ghost use Rattle.hol_session.specs.SessionState.{state_of, IsSession};
+ghost use Rattle.hol_session.specs.StoredClaims.{IsAcceptedLog, IsLongLog};
 
-use crate::execute::execute;
-use crate::session::{Printed, Session};
 use hol_model::Fault;
+use hol_session::execute::execute;
+use hol_session::session::{Printed, Session};
 use std::alloc::Global;
 
 /// How many commands were accepted and refused, and how many theorems were printed.

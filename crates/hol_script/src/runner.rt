@@ -7,16 +7,17 @@ ghost use Rattle.hol_model.specs.declared.fault.Fault.TheVariants.{Memory, ReadF
 ghost use Rattle.hol_log.specs.Pruning.{HaveIdentifiers};
 ghost use Rattle.hol_log.specs.LogAccepted.{log_claim};
 ghost use Rattle.hol_bytes.specs.Bytes.{AppendsFront, joined};
-ghost use Rattle.hol_script.specs.Answers.{answer_text};
+ghost use Rattle.hol_session.specs.Answers.{answer_text};
 ghost use Rattle.hol_script.specs.Runs.{counts_of, names_of, Ends};
-ghost use Rattle.hol_script.specs.RunLogs.{claims_stored, WritesLog, WritesFront, IsLongLog, CompletesLog, StopsInLog, HasLongLog, IsWhole};
-ghost use Rattle.hol_script.specs.SessionState.{state_of, IsSession};
+ghost use Rattle.hol_script.specs.RunLogs.{claims_stored, WritesLog, WritesFront, CompletesLog, StopsInLog, HasLongLog, IsWhole};
+ghost use Rattle.hol_session.specs.SessionState.{state_of, IsSession};
+ghost use Rattle.hol_session.specs.StoredClaims.{IsLongLog};
 
 use crate::progress::{Progress, Summary};
-use crate::session::Printed;
 use hol_bytes::{read_all, write_all, write_pieces};
 use hol_command::cut::{cut, is_blank_text, leading_line_feeds, line_feeds};
 use hol_model::{Fault, Sink, Source, TEXT_BYTES_LIMIT};
+use hol_session::session::Printed;
 use itoa::Buffer;
 use std::alloc::Global;
 

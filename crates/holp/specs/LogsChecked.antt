@@ -3,9 +3,9 @@ use Rattle.std.specs.Prelude.{◌≡◌, ◌<◌, ℕ, List, length, Some}
 use Rattle.hol_model.specs.declared.limits.TheConstants.{TEXT_BYTES_LIMIT}
 use Rattle.hol_model.specs.declared.fault.Cause.{Cause}
 use Rattle.hol_model.specs.Logs.LogState.{LogClaim}
-use Rattle.hol_script.specs.RunLogs.{IsAcceptedLog}
 use Rattle.hol_check.specs.LogAnswers.{IsRefusedLog}
 use Rattle.hol_check.specs.Checking.{HasClaims}
+use Rattle.hol_session.specs.StoredClaims.{IsAcceptedLog}
 
 -- Of the log that a run writes for its claims the checker can answer these claims alone, and it refuses no line of it and
 -- does not find it too long.

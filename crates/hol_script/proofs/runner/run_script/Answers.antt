@@ -1,9 +1,9 @@
 use Rattle.std.proofs.Common.{◌≡◌, ℕ, List, ◌++◌, ◌+◌, ◌≤◌, ◌∙◌, ap, sym, subst, arith, lit<, length, Some}
 use Rattle.hol_model.specs.Scripts.Sessions.{State, start}
 use Rattle.hol_script.specs.declared.progress.Summary.{Summary}
-use Rattle.hol_script.specs.declared.session.Session.{Session}
+use Rattle.hol_session.specs.declared.session.Session.{Session}
 use Rattle.hol_script.specs.Runs.{counts_of, counting_answer, names_of, names_in_answer, Ends}
-use Rattle.hol_script.specs.SessionState.{state_of, IsSession}
+use Rattle.hol_session.specs.SessionState.{state_of, IsSession}
 use Rattle.hol_script.proofs.RunLemmas.{Underway, underway_begun, underway_ended, cut_length, passed_by, turned_by, broken_by, ended_by, broken_within_by, unread}
 use Rattle.hol_script.proofs.runner.run_script.Goals as goal
 use Rattle.hol_script.proofs.runner.run_script.Goals.{then-not-is_blank_text+in-Ok-write_answer, else-not-is_blank_text}

@@ -1,6 +1,6 @@
 use Rattle.std.proofs.Common.{◌≡◌, ◌≤◌, ◌+◌, false, length}
 use Rattle.hol_script.specs.Runs.{counts_of, names_of}
-use Rattle.hol_script.specs.SessionState.{state_of, IsSession}
+use Rattle.hol_session.specs.SessionState.{state_of, IsSession}
 use Rattle.hol_script.proofs.RunLemmas.{Underway}
 use Rattle.hol_script.proofs.runner.run_script.Given as goal
 

@@ -1,7 +1,7 @@
 use Rattle.std.proofs.Common.{refl, Some}
 use Rattle.hol_model.specs.declared.fault.Fault.TheVariants.{Memory}
-use Rattle.hol_script.specs.SessionState.{state_of}
-use Rattle.hol_script.proofs.SessionLemmas.{forgets}
+use Rattle.hol_session.specs.SessionState.{state_of}
+use Rattle.hol_session.proofs.SessionLemmas.{forgets}
 use Rattle.hol_script.proofs.progress.Progress.answer.Goals as goal
 
 pub returns-then-is_err-clause-turns : goal.returns-then-is_err-clause-turns

@@ -1,9 +1,0 @@
-use Rattle.std.proofs.Common.{◌≡◌, map, take, string_bytes}
-use Rattle.indexmap.specs.IndexMap.{get_by_text}
-use Rattle.hol_log.specs.Claims.{claims_of}
-use Rattle.hol_script.specs.RunLogs.{stored_claims}
-use Rattle.hol_script.proofs.theorems.claims.Given as goal
-
--- the names so far have their claims
-abbrev pub invariant-loop-name : goal.invariant-loop-name
-invariant-loop-name l = claims_of l.claims.items ≡ stored_claims (get_by_text l.theorems) (map string_bytes (take l.name-index l.names))

@@ -1,0 +1,152 @@
+-- What was recorded stays made by the recorder, and what the rules answer stands on its theory.
+use Rattle.std.proofs.Common.{◌≡◌, ℕ, List, [], ◌∷◌, refl, sym, subst, ap, ◌∙◌, append-nil, Option, None, Some, Result, Ok, Err}
+use Rattle.std.specs.Prelude.{Bool, true, false, cond, IfOk, OnErr}
+use Rattle.std.specs.Map.{update}
+use Rattle.std.specs.Str.{bytes_eq}
+use Rattle.indexmap.specs.IndexMap.{get_by_text}
+use Rattle.hol_model.specs.declared.fault.Fault.{Fault}
+use Rattle.hol_model.specs.declared.fault.Fault.TheVariants.{NotBool, NotTrivialBeta}
+use Rattle.hol_model.specs.declared.rule.TermRule.{TermRule}
+use Rattle.hol_model.specs.declared.rule.TermRule.TheVariants.{Refl, Beta, Assume}
+use Rattle.hol_model.specs.Terms.NamedTerm.{NamedTerm, equation, is_within_limits}
+use Rattle.hol_model.specs.Logic.Theory.{Theory, generic_type, IsLegal}
+use Rattle.hol_model.specs.Logic.KnownTerm.{is_declared}
+use Rattle.hol_model.specs.Kernel.Theorem.{Theorem}
+use Rattle.hol_model.specs.Kernel.Outcome.{Answers, unless, given, refused}
+use Rattle.hol_model.specs.Kernel.Rules.{first_unknown, dest_trivial_redex, is_formula, concluded}
+use Rattle.hol_model.specs.Scripts.Sessions.{term_rule_outcome}
+use Rattle.hol_journal.specs.Journal.{Journal, Recorded, IsMade, IsRecorded, theorem_in}
+use Rattle.hol_journal.specs.Steps.{Step}
+use Rattle.hol_journal.specs.Growth.{IsGrown, JournalsGrow}
+use Rattle.hol_prelude.specs.HasLogic.{HasLogic, LogicStays}
+use Rattle.hol_syntax.specs.declared.scope.Scope.{Scope as ScopeHere}
+use Rattle.hol_syntax.specs.Scope.{scope_of}
+use Rattle.hol_session.specs.declared.session.Session.{Session}
+use Rattle.hol_session.specs.SessionState.{state_of, theorem_of, AreMade, IsSession}
+use Rattle.hol_session.specs.Recording.{Records, AppliesRule, GrowsJournal}
+
+-- ---- stored theorems
+
+-- as the journal grows
+pub still_made : (old new : Journal) (stored : List ℕ → Option Recorded) → JournalsGrow → IsGrown old new → AreMade old stored → AreMade new stored
+still_made old new stored grow grown made name answer found = grow.stays old new answer grown (made name answer found)
+
+-- with one more
+pub stored_made : (journal : Journal) (answer : Recorded) (name : List ℕ) (old new : List ℕ → Option Recorded) → AreMade journal old → IsMade journal answer
+    → ((other : List ℕ) → new other ≡ update bytes_eq old name (Some answer) other) → AreMade journal new
+stored_made journal answer name old new made is_made stored other found same = go (bytes_eq name other) (sym (stored other) ∙ same)
+  where
+    go : (test : Bool) → cond test (Some answer) (old other) ≡ Some found → IsMade journal found
+    go true is = (let one : answer ≡ found = cc in subst (IsMade journal) one is_made)
+    go false is = made other found is
+
+-- and what the names then stand for
+pub stored_theorem : (answer : Recorded) (name : List ℕ) (old new : List ℕ → Option Recorded) → ((other : List ℕ) → new other ≡ update bytes_eq old name (Some answer) other)
+    → (other : List ℕ) → theorem_of (new other) ≡ cond (bytes_eq name other) (Some answer.theorem) (theorem_of (old other))
+stored_theorem answer name old new stored other = ap theorem_of (stored other) ∙ go (bytes_eq name other)
+  where
+    go : (test : Bool) → theorem_of (cond test (Some answer) (old other)) ≡ cond test (Some answer.theorem) (theorem_of (old other))
+    go true = refl
+    go false = refl
+
+-- ---- the theory of an outcome's theorem
+
+-- the theorem stands on this theory
+abbrev pub StandsOn : Theory → Result Theorem Fault → Type 0
+StandsOn theory (Ok theorem) = theorem.theory ≡ theory
+StandsOn theory (Err fault) = Unit {0}
+
+unless-stands : (theory : Theory) (test : Bool) (fault : Fault) (next : Result Theorem Fault) → StandsOn theory next → StandsOn theory (unless test fault next)
+unless-stands theory true fault next stands = stands
+unless-stands theory false fault next stands = tt
+
+refused-stands : (theory : Theory) (refusal : Option Fault) (next : Result Theorem Fault) → StandsOn theory next → StandsOn theory (refused refusal next)
+refused-stands theory None next stands = stands
+refused-stands theory (Some fault) next stands = tt
+
+given-stands : {A : Type 0} (theory : Theory) (found : Option A) (fault : Fault) (next : A → Result Theorem Fault) → ((x : A) → StandsOn theory (next x)) → StandsOn theory (given found fault next)
+given-stands theory None fault next stands = tt
+given-stands theory (Some x) fault next stands = stands x
+
+concluded-stands : (theory : Theory) (hypotheses : List NamedTerm) (conclusion : NamedTerm) → StandsOn theory (concluded theory hypotheses conclusion)
+concluded-stands theory hypotheses conclusion = unless-stands theory (is_within_limits conclusion) _ _ refl
+
+term_rule-stands : (rule : TermRule) (theory : Theory) (term : NamedTerm) → StandsOn theory (term_rule_outcome rule theory term)
+term_rule-stands Refl theory term =
+    refused-stands theory (first_unknown theory term) (concluded theory [] (equation term term)) (concluded-stands theory [] (equation term term))
+term_rule-stands Beta theory term =
+    given-stands theory (dest_trivial_redex term) NotTrivialBeta (λ body. refused (first_unknown theory term) (concluded theory [] (equation term body)))
+    (λ body. refused-stands theory (first_unknown theory term) (concluded theory [] (equation term body)) (concluded-stands theory [] (equation term body)))
+term_rule-stands Assume theory term =
+    let assumed : Result Theorem Fault = Ok (record { theory = theory; hypotheses = term ∷ []; conclusion = term }) in
+    unless-stands theory (is_formula term) NotBool (refused (first_unknown theory term) assumed) (refused-stands theory (first_unknown theory term) assumed refl)
+
+-- so does what a call answers
+answer-stands : (theory : Theory) (outcome : Result Theorem Fault) (theorem : Theorem) → StandsOn theory outcome → outcome ≡ Ok theorem → theorem.theory ≡ theory
+answer-stands theory outcome theorem stands is = subst (StandsOn theory) is stands
+
+-- ---- what a rule leaves
+
+abbrev pub over_journal : Session → Journal → Session
+over_journal session recorder = record session { recorder = recorder }
+
+-- what the recorder answered for a rule on a term
+pub term_rule-answered : (session : Session) (new : Journal) (result : Result Recorded Fault) (rule : TermRule) (term : NamedTerm) → Answers (theorem_in result) (term_rule_outcome rule session.recorder.theory term)
+    → IfOk result (Records session.recorder new) → IfOk result (AppliesRule session (over_journal session new))
+term_rule-answered session new (Ok made) rule term answers records = record {
+  records = records;
+  stands_on = answer-stands session.recorder.theory (term_rule_outcome rule session.recorder.theory term) made.theorem (term_rule-stands rule session.recorder.theory term) answers;
+  scope = refl;
+  theorems = refl;
+  logic = refl;
+}
+term_rule-answered session new (Err fault) rule term answers records = tt
+
+no_growth : (journal : Journal) → IsGrown journal journal
+no_growth journal = record { added = []; entries = sym (append-nil journal.entries); earlier = record { added = []; is_added = refl } }
+
+-- a refusal before any rule
+pub nothing-grows : (session : Session) (fault : Fault) → GrowsJournal session session (Err fault)
+nothing-grows session fault = record { continues = record { grown = no_growth session.recorder; theory = refl; held = tt }; scope = refl; theorems = refl; logic = refl }
+
+-- one more entry is a growth
+pub rule-grows : (old new : Session) (result : Result Recorded Fault) → JournalsGrow → IfOk result (AppliesRule old new) → OnErr result (new ≡ old) → GrowsJournal old new result
+rule-grows old new (Ok made) grow applies kept = record {
+  continues = record {
+    grown = grow.grown old.recorder new.recorder applies.records.step made applies.records.is_recorded;
+    theory = sym applies.records.is_recorded.stands_on ∙ applies.stands_on;
+    held = record { made = grow.made old.recorder new.recorder applies.records.step made applies.records.is_recorded; stands_on = applies.records.is_recorded.stands_on };
+  };
+  scope = applies.scope;
+  theorems = applies.theorems;
+  logic = applies.logic;
+}
+rule-grows old new (Err fault) grow applies kept = subst (λ (s : Session). GrowsJournal old s (Err fault)) (sym kept) (nothing-grows old fault)
+
+-- so is the entry of an axiom
+pub axiom-grows : (session : Session) (new : Journal) (result : Result Recorded Fault) (step : Step) (theorem : Theorem) → JournalsGrow → theorem.theory ≡ session.recorder.theory
+    → IfOk result (λ made. made.theorem ≡ theorem) → IfOk result (IsRecorded session.recorder new step) → OnErr result (new ≡ session.recorder) → GrowsJournal session (over_journal session new) result
+axiom-grows session new (Ok made) step theorem grow over is recorded kept =
+    rule-grows session (over_journal session new) (Ok made) grow
+    (record { records = record { step = step; is_recorded = recorded }; stands_on = ap (λ (t : Theorem). t.theory) is ∙ over; scope = refl; theorems = refl; logic = refl }) tt
+axiom-grows session new (Err fault) step theorem grow over is recorded kept =
+    subst (λ (j : Journal). GrowsJournal session (over_journal session j) (Err fault)) (sym kept) (nothing-grows session fault)
+
+-- the session after a rule
+module _ (old new : Session) (result : Result Recorded Fault) (grows : GrowsJournal old new result) where
+  pub rule_state : state_of new ≡ state_of old
+  rule_state = λ i. record {
+    theory = grows.continues.theory i;
+    variables = (scope_of (grows.scope i)).variable_type;
+    theorems = λ name. theorem_of (get_by_text (grows.theorems i) name);
+  }
+
+  pub rule_session : JournalsGrow → LogicStays → IsSession old → IsSession new
+  rule_session grow stay known = record {
+    legal = subst IsLegal (sym grows.continues.theory) known.legal;
+    constants = λ name. ap (λ (s : ScopeHere). (scope_of s).generic_type name) grows.scope ∙ known.constants name ∙ ap (λ (t : Theory). generic_type t name) (sym grows.continues.theory);
+    types = λ name. ap (λ (s : ScopeHere). (scope_of s).declares_type name) grows.scope ∙ known.types name ∙ ap (λ (t : Theory). is_declared t name) (sym grows.continues.theory);
+    made = still_made old.recorder new.recorder (get_by_text new.theorems) grow grows.continues.grown
+        (λ name answer found. known.made name answer (sym (ap (λ ts. get_by_text ts name) grows.theorems) ∙ found));
+    logic = subst (HasLogic new.recorder) (sym grows.logic) (stay old.recorder new.recorder old.logic grows.continues.grown known.logic);
+  }

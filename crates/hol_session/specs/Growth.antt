@@ -1,0 +1,63 @@
+-- What the calls that let a session's theory grow answer.
+use Rattle.std.specs.Prelude.{◌≡◌, ◌≢◌, ℕ, List, [], Option, Some, None, Result, Ok, Err}
+use Rattle.std.specs.Map.{update}
+use Rattle.std.specs.Str.{bytes_eq}
+use Rattle.indexmap.specs.IndexMap.{get_by_text}
+use Rattle.hol_model.specs.declared.fault.Fault.{Fault}
+use Rattle.hol_model.specs.declared.fault.Fault.TheVariants.{Memory}
+use Rattle.hol_model.specs.Terms.NamedTerm.{NamedTerm, constant, equation}
+use Rattle.hol_model.specs.Logic.Legality.{own_type}
+use Rattle.hol_model.specs.Logic.Theory.{Theory}
+use Rattle.hol_model.specs.Kernel.Theorem.{IsTheorem}
+use Rattle.hol_model.specs.Kernel.Rules.{define_outcome}
+use Rattle.hol_model.specs.Texts.Reading.{Scope}
+use Rattle.hol_model.specs.Scripts.Sessions.{definition_name}
+use Rattle.hol_journal.specs.Journal.{Recorded, IsMade}
+use Rattle.hol_journal.specs.Growth.{IsGrown}
+use Rattle.hol_syntax.specs.Scope.{scope_of}
+use Rattle.hol_session.specs.declared.lines.TheoremLine.{TheoremLine}
+use Rattle.hol_session.specs.declared.session.Session.{Session}
+use Rattle.hol_session.specs.Answers.{IsLineOf}
+
+-- some refusal is the outcome
+abbrev pub IsRefused : {A : Type 0} → Result A Fault → Type 0
+IsRefused outcome = (fault : Fault) × (outcome ≡ Err fault)
+
+-- want of memory is told; any other refusal leaves nothing
+abbrev pub LeavesNone : Result (Option NamedTerm) Fault → Fault → Type 0
+LeavesNone (Ok (Some made)) fault = ⊥
+LeavesNone (Ok None) fault = fault ≢ Memory
+LeavesNone (Err told) fault = told ≡ Memory
+
+-- the equation of a definition, or none where every theory refuses the definition
+abbrev pub MakesEquation : Result (Option NamedTerm) Fault → List ℕ → NamedTerm → Type 0
+MakesEquation (Ok (Some made)) name term = made ≡ equation (constant name (own_type term)) term
+MakesEquation (Ok None) name term = (theory : Theory) → IsRefused (define_outcome theory name term)
+MakesEquation (Err fault) name term = fault ≡ Memory
+
+-- the line of a definition's theorem, or none where every theory refuses the definition
+abbrev pub MakesLine : Result (Option TheoremLine) Fault → Scope → List ℕ → List ℕ → NamedTerm → Type 0
+MakesLine (Ok (Some line)) scope name stored term =
+    IsLineOf line scope stored (record { theory = []; hypotheses = []; conclusion = equation (constant name (own_type term)) term })
+MakesLine (Ok None) scope name stored term = (theory : Theory) → IsRefused (define_outcome theory name term)
+MakesLine (Err fault) scope name stored term = fault ≡ Memory
+
+-- the theory has the definition, its theorem is stored, and the line is the theorem's
+pub record Defines (old new : Session) (name : List ℕ) (term : NamedTerm) (line : TheoremLine) : Type 0 where
+  pub answer : Recorded
+  pub outcome : define_outcome old.recorder.theory name term ≡ Ok answer.theorem
+  pub is_theorem : IsTheorem answer.theorem
+  pub theory : new.recorder.theory ≡ answer.theorem.theory
+  pub made : IsMade new.recorder answer
+  pub grown : IsGrown old.recorder new.recorder
+  pub scope : new.scope ≡ old.scope
+  pub logic : new.logic ≡ old.logic
+  pub stored : (other : List ℕ) → get_by_text new.theorems other ≡ update bytes_eq (get_by_text old.theorems) (definition_name name) (Some answer) other
+  pub line_is : IsLineOf line (scope_of old.scope) (definition_name name) answer.theorem
+
+-- the journal, the scope, the stored theorems and those from which rules are made are those of before
+pub record KeepsSession (old new : Session) : Type 0 where
+  pub recorder : new.recorder ≡ old.recorder
+  pub scope : new.scope ≡ old.scope
+  pub theorems : (name : List ℕ) → get_by_text new.theorems name ≡ get_by_text old.theorems name
+  pub logic : new.logic ≡ old.logic

@@ -1,0 +1,36 @@
+-- What the fields of a session stand for, and what holds of them.
+use Rattle.std.specs.Prelude.{◌≡◌, ℕ, List, Option, Some}
+use Rattle.std.specs.Option.{option_map}
+use Rattle.indexmap.specs.IndexMap.{get_by_text}
+use Rattle.hol_model.specs.Logic.Theory.{IsLegal, generic_type}
+use Rattle.hol_model.specs.Logic.KnownTerm.{is_declared}
+use Rattle.hol_model.specs.Kernel.Theorem.{Theorem}
+use Rattle.hol_model.specs.Scripts.Sessions.{State}
+use Rattle.hol_journal.specs.Journal.{Journal, Recorded, IsMade}
+use Rattle.hol_prelude.specs.HasLogic.{HasLogic}
+use Rattle.hol_syntax.specs.Scope.{scope_of}
+use Rattle.hol_session.specs.declared.session.Session.{Session}
+
+-- the theorem of what was recorded
+abbrev pub theorem_of : Option Recorded → Option Theorem
+theorem_of found = option_map (λ (stored : Recorded). stored.theorem) found
+
+-- the state that a session of the program is in
+abbrev pub state_of : Session → State
+state_of session = record {
+  theory = session.recorder.theory;
+  variables = (scope_of session.scope).variable_type;
+  theorems = λ name. theorem_of (get_by_text session.theorems name);
+}
+
+-- the recorder made each of the stored theorems
+abbrev pub AreMade : Journal → (List ℕ → Option Recorded) → Type 0
+AreMade journal stored = (name : List ℕ) (made : Recorded) → stored name ≡ Some made → IsMade journal made
+
+-- the scope is that of the theory, and the recorder made each stored theorem and the theorems from which rules are made
+pub record IsSession (session : Session) : Type 0 where
+  pub legal : IsLegal session.recorder.theory
+  pub constants : (name : List ℕ) → (scope_of session.scope).generic_type name ≡ generic_type session.recorder.theory name
+  pub types : (name : List ℕ) → (scope_of session.scope).declares_type name ≡ is_declared session.recorder.theory name
+  pub made : AreMade session.recorder (get_by_text session.theorems)
+  pub logic : HasLogic session.recorder session.logic

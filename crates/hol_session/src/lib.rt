@@ -1,0 +1,9 @@
+//! Sessions: one command at a time, the theorems stored under their names, and the log of those that are named.
+#![tactic(auto, using(hol_model::proofs::Kernel::Refusals::refusals))]
+
+mod beginning;
+mod derivation;
+pub mod execute;
+mod lines;
+pub mod session;
+mod theorems;
