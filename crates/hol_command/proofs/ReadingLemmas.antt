@@ -1,7 +1,7 @@
 -- Names among tokens, where quoted terms end, and which words name rules.
 use Rattle.std.proofs.Common.{◌≡◌, ◌≢◌, ℕ, zero, suc, ◌+◌, ◌-◌, ◌<◌, ◌≤◌, arith, List, [], ◌∷◌, ◌++◌, length, get_or, take, drop, ◌==◌, eqb-true, Bool, true, false, ◌||◌, refl, sym, ◌∙◌, ap, subst, Option, None, Some, Result, Ok, Err, Bor, Vec, Global}
 use Rattle.std.specs.Prelude.{codes, if◌then◌else◌}
-use Rattle.std.specs.Option.{option_map}
+use Rattle.std.specs.Option.{option_map, option_or}
 use Rattle.std.specs.Str.{bytes_eq}
 use Rattle.std.proofs.lemmas.Slice.Eq.{bytes_eq-Decides}
 use Rattle.std.proofs.lemmas.List.{take_all, length-drop}
@@ -9,11 +9,16 @@ use borrow.Author.Count.{below_more}
 use Rattle.hol_model.specs.Terms.Name.{is_capital, is_small, continues_name, all_continue, is_identifier}
 use Rattle.hol_model.specs.declared.symbol.Symbol.{Symbol}
 use Rattle.hol_model.specs.declared.symbol.Symbol.TheVariants.{Backquote, Colon, Equal}
+use Rattle.hol_model.specs.declared.rule.TermRule.{TermRule}
 use Rattle.hol_model.specs.declared.rule.TermRule.TheVariants.{Refl, Beta, Assume}
+use Rattle.hol_model.specs.declared.rule.PairRule.{PairRule}
 use Rattle.hol_model.specs.declared.rule.PairRule.TheVariants.{Trans, MkComb, EqMp, DeductAntisym}
 use Rattle.hol_model.specs.declared.rule.Axiom.TheVariants.{Eta, Select}
+use Rattle.hol_model.specs.declared.rule.PremiseRule.{PremiseRule}
 use Rattle.hol_model.specs.declared.rule.PremiseRule.TheVariants.{Sym, EqtIntro, EqtElim, Conjunct1, Conjunct2, Undisch, NotIntro, NotElim}
+use Rattle.hol_model.specs.declared.rule.PremisesRule.{PremisesRule}
 use Rattle.hol_model.specs.declared.rule.PremisesRule.TheVariants.{ProveHyp, Conj, Mp}
+use Rattle.hol_model.specs.declared.rule.TermPremiseRule.{TermPremiseRule}
 use Rattle.hol_model.specs.declared.rule.TermPremiseRule.TheVariants.{AddAssum, Disch, Spec, Gen, Disj1, Disj2, Contr}
 use Rattle.hol_model.specs.declared.rule.DerivedKind.{DerivedKind}
 use Rattle.hol_model.specs.declared.rule.DerivedKind.TheVariants.{BetaConv, Premise, Premises, TermPremise, DisjCases, Exists as ExistsRule, Choose}
@@ -34,7 +39,7 @@ use Rattle.hol_grammar.specs.declared.type_reader.ReadError.TheVariants.{Memory,
 use Rattle.hol_grammar.specs.declared.type_reader.TypeStep.{TypeStep}
 use Rattle.hol_grammar.specs.TermStates.{Parses}
 use Rattle.hol_grammar.specs.TypeStates.{ParsesType}
-use Rattle.hol_command.specs.Reading.{AreTokens, is_quote, HasNoQuote, derived_kind_of_word, rule_kind_of, kind_of_command, command_word, command_kind_of, name_in_command, body_tokens, ParsesQuote, ParsesOnlyQuote, ParsesQuoteAndName, ParsesTyping, ParsesDerived, ParsesArguments, ParsesRule, ParsesBody, ParsesCommand}
+use Rattle.hol_command.specs.Reading.{AreTokens, is_quote, HasNoQuote, premise_rule_of, premises_rule_of, term_premise_rule_of, single_rule_of, derived_kind_of_word, term_rule_of, pair_rule_of, kernel_rule_of, rule_kind_of, kind_of_command, command_word, command_kind_of, name_in_command, body_tokens, ParsesQuote, ParsesOnlyQuote, ParsesQuoteAndName, ParsesTyping, ParsesDerived, ParsesArguments, ParsesRule, ParsesBody, ParsesCommand}
 use Rattle.hol_command.specs.declared.command.Rule.{Rule}
 use Rattle.hol_command.specs.declared.command.Command.{Command}
 use Rattle.hol_command.specs.declared.command.CommandKind.{CommandKind}
@@ -328,50 +333,86 @@ chosen {Kind = Kind} spelling word name here kind others named found later = go 
     go true passed found = (let same : here ≡ kind = cc in (bytes_eq-Decides word name).0 passed ∙ named ∙ ap spelling same)
     go false failed found = later found
 
-derived-kind-word : (word : List ℕ) (kind : DerivedKind) → derived_kind_of_word word ≡ Some kind → word ≡ derived_word kind
-derived-kind-word word kind found =
+-- where some of the words of a list are tried first
+first-tried : {Named Kind : Type 0} (spelling : Kind → List ℕ) (wrap : Named → Kind) (word : List ℕ) (kind : Kind) (tried : Option Named) (others : Option Kind)
+    → ((here : Named) → tried ≡ Some here → word ≡ spelling (wrap here)) → option_or (option_map wrap tried) others ≡ Some kind → (others ≡ Some kind → word ≡ spelling kind) → word ≡ spelling kind
+first-tried spelling wrap word kind (Some here) others spells found later = (let same : wrap here ≡ kind = cc in spells here refl ∙ ap spelling same)
+first-tried spelling wrap word kind None others spells found later = later found
+
+premise-rule-word : (word : List ℕ) (kind : PremiseRule) → premise_rule_of word ≡ Some kind → word ≡ derived_word (Premise kind)
+premise-rule-word word kind found =
+    chosen (λ (rule : PremiseRule). derived_word (Premise rule)) word (codes "SYM") Sym kind _ refl found (λ found.
+    chosen (λ (rule : PremiseRule). derived_word (Premise rule)) word (codes "EQT_INTRO") EqtIntro kind _ refl found (λ found.
+    chosen (λ (rule : PremiseRule). derived_word (Premise rule)) word (codes "EQT_ELIM") EqtElim kind _ refl found (λ found.
+    chosen (λ (rule : PremiseRule). derived_word (Premise rule)) word (codes "CONJUNCT1") Conjunct1 kind _ refl found (λ found.
+    chosen (λ (rule : PremiseRule). derived_word (Premise rule)) word (codes "CONJUNCT2") Conjunct2 kind _ refl found (λ found.
+    chosen (λ (rule : PremiseRule). derived_word (Premise rule)) word (codes "UNDISCH") Undisch kind _ refl found (λ found.
+    chosen (λ (rule : PremiseRule). derived_word (Premise rule)) word (codes "NOT_INTRO") NotIntro kind _ refl found (λ found.
+    chosen (λ (rule : PremiseRule). derived_word (Premise rule)) word (codes "NOT_ELIM") NotElim kind None refl found (λ found. cc))))))))
+
+premises-rule-word : (word : List ℕ) (kind : PremisesRule) → premises_rule_of word ≡ Some kind → word ≡ derived_word (Premises kind)
+premises-rule-word word kind found =
+    chosen (λ (rule : PremisesRule). derived_word (Premises rule)) word (codes "PROVE_HYP") ProveHyp kind _ refl found (λ found.
+    chosen (λ (rule : PremisesRule). derived_word (Premises rule)) word (codes "CONJ") Conj kind _ refl found (λ found.
+    chosen (λ (rule : PremisesRule). derived_word (Premises rule)) word (codes "MP") Mp kind None refl found (λ found. cc)))
+
+term-premise-rule-word : (word : List ℕ) (kind : TermPremiseRule) → term_premise_rule_of word ≡ Some kind → word ≡ derived_word (TermPremise kind)
+term-premise-rule-word word kind found =
+    chosen (λ (rule : TermPremiseRule). derived_word (TermPremise rule)) word (codes "ADD_ASSUM") AddAssum kind _ refl found (λ found.
+    chosen (λ (rule : TermPremiseRule). derived_word (TermPremise rule)) word (codes "DISCH") Disch kind _ refl found (λ found.
+    chosen (λ (rule : TermPremiseRule). derived_word (TermPremise rule)) word (codes "SPEC") Spec kind _ refl found (λ found.
+    chosen (λ (rule : TermPremiseRule). derived_word (TermPremise rule)) word (codes "GEN") Gen kind _ refl found (λ found.
+    chosen (λ (rule : TermPremiseRule). derived_word (TermPremise rule)) word (codes "DISJ1") Disj1 kind _ refl found (λ found.
+    chosen (λ (rule : TermPremiseRule). derived_word (TermPremise rule)) word (codes "DISJ2") Disj2 kind _ refl found (λ found.
+    chosen (λ (rule : TermPremiseRule). derived_word (TermPremise rule)) word (codes "CONTR") Contr kind None refl found (λ found. cc)))))))
+
+single-rule-word : (word : List ℕ) (kind : DerivedKind) → single_rule_of word ≡ Some kind → word ≡ derived_word kind
+single-rule-word word kind found =
     chosen derived_word word (codes "BETA_CONV") BetaConv kind _ refl found (λ found.
-    chosen derived_word word (codes "SYM") (Premise Sym) kind _ refl found (λ found.
-    chosen derived_word word (codes "EQT_INTRO") (Premise EqtIntro) kind _ refl found (λ found.
-    chosen derived_word word (codes "EQT_ELIM") (Premise EqtElim) kind _ refl found (λ found.
-    chosen derived_word word (codes "CONJUNCT1") (Premise Conjunct1) kind _ refl found (λ found.
-    chosen derived_word word (codes "CONJUNCT2") (Premise Conjunct2) kind _ refl found (λ found.
-    chosen derived_word word (codes "UNDISCH") (Premise Undisch) kind _ refl found (λ found.
-    chosen derived_word word (codes "NOT_INTRO") (Premise NotIntro) kind _ refl found (λ found.
-    chosen derived_word word (codes "NOT_ELIM") (Premise NotElim) kind _ refl found (λ found.
-    chosen derived_word word (codes "PROVE_HYP") (Premises ProveHyp) kind _ refl found (λ found.
-    chosen derived_word word (codes "CONJ") (Premises Conj) kind _ refl found (λ found.
-    chosen derived_word word (codes "MP") (Premises Mp) kind _ refl found (λ found.
-    chosen derived_word word (codes "ADD_ASSUM") (TermPremise AddAssum) kind _ refl found (λ found.
-    chosen derived_word word (codes "DISCH") (TermPremise Disch) kind _ refl found (λ found.
-    chosen derived_word word (codes "SPEC") (TermPremise Spec) kind _ refl found (λ found.
-    chosen derived_word word (codes "GEN") (TermPremise Gen) kind _ refl found (λ found.
-    chosen derived_word word (codes "DISJ1") (TermPremise Disj1) kind _ refl found (λ found.
-    chosen derived_word word (codes "DISJ2") (TermPremise Disj2) kind _ refl found (λ found.
-    chosen derived_word word (codes "CONTR") (TermPremise Contr) kind _ refl found (λ found.
     chosen derived_word word (codes "DISJ_CASES") DisjCases kind _ refl found (λ found.
     chosen derived_word word (codes "EXISTS") ExistsRule kind _ refl found (λ found.
-    chosen derived_word word (codes "CHOOSE") Choose kind None refl found (λ found. cc))))))))))))))))))))))
+    chosen derived_word word (codes "CHOOSE") Choose kind None refl found (λ found. cc))))
 
--- the last test of the chain
-behind-tests : (word : List ℕ) (kind : RuleKind) (known : Option DerivedKind) → derived_kind_of_word word ≡ known → option_map Derived known ≡ Some kind → word ≡ rule_word kind
-behind-tests word kind (Some derived) is found = (let same : Derived derived ≡ kind = cc in derived-kind-word word derived is ∙ ap rule_word same)
-behind-tests word kind None is found = cc
+derived-kind-word : (word : List ℕ) (kind : DerivedKind) → derived_kind_of_word word ≡ Some kind → word ≡ derived_word kind
+derived-kind-word word kind found =
+    first-tried derived_word Premise word kind (premise_rule_of word) _ (premise-rule-word word) found (λ found.
+    first-tried derived_word Premises word kind (premises_rule_of word) _ (premises-rule-word word) found (λ found.
+    first-tried derived_word TermPremise word kind (term_premise_rule_of word) _ (term-premise-rule-word word) found (λ found. single-rule-word word kind found)))
 
-pub kind-word : (word : List ℕ) (kind : RuleKind) → rule_kind_of word ≡ Some kind → word ≡ rule_word kind
-kind-word word kind found =
-    chosen rule_word word (codes "REFL") (Term Refl) kind _ refl found (λ found.
-    chosen rule_word word (codes "BETA") (Term Beta) kind _ refl found (λ found.
-    chosen rule_word word (codes "ASSUME") (Term Assume) kind _ refl found (λ found.
-    chosen rule_word word (codes "TRANS") (Pair Trans) kind _ refl found (λ found.
-    chosen rule_word word (codes "MK_COMB") (Pair MkComb) kind _ refl found (λ found.
-    chosen rule_word word (codes "EQ_MP") (Pair EqMp) kind _ refl found (λ found.
-    chosen rule_word word (codes "DEDUCT_ANTISYM_RULE") (Pair DeductAntisym) kind _ refl found (λ found.
+term-rule-word : (word : List ℕ) (kind : TermRule) → term_rule_of word ≡ Some kind → word ≡ rule_word (Term kind)
+term-rule-word word kind found =
+    chosen (λ (rule : TermRule). rule_word (Term rule)) word (codes "REFL") Refl kind _ refl found (λ found.
+    chosen (λ (rule : TermRule). rule_word (Term rule)) word (codes "BETA") Beta kind _ refl found (λ found.
+    chosen (λ (rule : TermRule). rule_word (Term rule)) word (codes "ASSUME") Assume kind None refl found (λ found. cc)))
+
+pair-rule-word : (word : List ℕ) (kind : PairRule) → pair_rule_of word ≡ Some kind → word ≡ rule_word (Pair kind)
+pair-rule-word word kind found =
+    chosen (λ (rule : PairRule). rule_word (Pair rule)) word (codes "TRANS") Trans kind _ refl found (λ found.
+    chosen (λ (rule : PairRule). rule_word (Pair rule)) word (codes "MK_COMB") MkComb kind _ refl found (λ found.
+    chosen (λ (rule : PairRule). rule_word (Pair rule)) word (codes "EQ_MP") EqMp kind _ refl found (λ found.
+    chosen (λ (rule : PairRule). rule_word (Pair rule)) word (codes "DEDUCT_ANTISYM_RULE") DeductAntisym kind None refl found (λ found. cc))))
+
+kernel-rule-word : (word : List ℕ) (kind : RuleKind) → kernel_rule_of word ≡ Some kind → word ≡ rule_word kind
+kernel-rule-word word kind found =
     chosen rule_word word (codes "ABS") Abs kind _ refl found (λ found.
     chosen rule_word word (codes "INST") Inst kind _ refl found (λ found.
     chosen rule_word word (codes "INST_TYPE") InstType kind _ refl found (λ found.
     chosen rule_word word (codes "ETA") (OfAxiom Eta) kind _ refl found (λ found.
-    chosen rule_word word (codes "SELECT") (OfAxiom Select) kind _ refl found (λ found. behind-tests word kind (derived_kind_of_word word) refl found))))))))))))
+    chosen rule_word word (codes "SELECT") (OfAxiom Select) kind None refl found (λ found. cc)))))
+
+-- the last words
+kernel-or-derived : (word : List ℕ) (kind : RuleKind) (kernel : Option RuleKind) → kernel_rule_of word ≡ kernel → option_or kernel (option_map Derived (derived_kind_of_word word)) ≡ Some kind → word ≡ rule_word kind
+kernel-or-derived word kind (Some here) is found = kernel-rule-word word kind (is ∙ found)
+kernel-or-derived word kind None is found = go (derived_kind_of_word word) refl found
+  where
+    go : (known : Option DerivedKind) → derived_kind_of_word word ≡ known → option_map Derived known ≡ Some kind → word ≡ rule_word kind
+    go (Some derived) known found = (let same : Derived derived ≡ kind = cc in derived-kind-word word derived known ∙ ap rule_word same)
+    go None known found = cc
+
+pub kind-word : (word : List ℕ) (kind : RuleKind) → rule_kind_of word ≡ Some kind → word ≡ rule_word kind
+kind-word word kind found =
+    first-tried rule_word Term word kind (term_rule_of word) _ (term-rule-word word) found (λ found.
+    first-tried rule_word Pair word kind (pair_rule_of word) _ (pair-rule-word word) found (λ found. kernel-or-derived word kind (kernel_rule_of word) refl found))
 
 -- ---- rules
 

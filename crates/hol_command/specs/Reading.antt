@@ -1,15 +1,20 @@
 -- What the readers of commands answer.
 use Rattle.std.specs.Prelude.{◌≡◌, ◌≢◌, ℕ, List, [], ◌∷◌, Bool, true, false, Option, None, Some, Result, Ok, Err, codes, if◌then◌else◌}
-use Rattle.std.specs.Option.{option_map}
+use Rattle.std.specs.Option.{option_map, option_or}
 use Rattle.std.specs.Str.{bytes_eq}
 use Rattle.std.proofs.Common.{Vec, Bor, Global}
 use Rattle.hol_model.specs.declared.symbol.Symbol.{Symbol}
 use Rattle.hol_model.specs.declared.symbol.Symbol.TheVariants.{Backquote, Colon, Equal}
+use Rattle.hol_model.specs.declared.rule.TermRule.{TermRule}
 use Rattle.hol_model.specs.declared.rule.TermRule.TheVariants.{Refl, Beta, Assume}
+use Rattle.hol_model.specs.declared.rule.PairRule.{PairRule}
 use Rattle.hol_model.specs.declared.rule.PairRule.TheVariants.{Trans, MkComb, EqMp, DeductAntisym}
 use Rattle.hol_model.specs.declared.rule.Axiom.TheVariants.{Eta, Select}
+use Rattle.hol_model.specs.declared.rule.PremiseRule.{PremiseRule}
 use Rattle.hol_model.specs.declared.rule.PremiseRule.TheVariants.{Sym, EqtIntro, EqtElim, Conjunct1, Conjunct2, Undisch, NotIntro, NotElim}
+use Rattle.hol_model.specs.declared.rule.PremisesRule.{PremisesRule}
 use Rattle.hol_model.specs.declared.rule.PremisesRule.TheVariants.{ProveHyp, Conj, Mp}
+use Rattle.hol_model.specs.declared.rule.TermPremiseRule.{TermPremiseRule}
 use Rattle.hol_model.specs.declared.rule.TermPremiseRule.TheVariants.{AddAssum, Disch, Spec, Gen, Disj1, Disj2, Contr}
 use Rattle.hol_model.specs.declared.rule.DerivedKind.{DerivedKind}
 use Rattle.hol_model.specs.declared.rule.DerivedKind.TheVariants.{BetaConv, Premise, Premises, TermPremise, DisjCases, Exists, Choose}
@@ -94,47 +99,77 @@ ParsesQuoteAndName (Ok x) tokens =
 ParsesQuoteAndName (Err Memory) tokens = Unit {0}
 ParsesQuoteAndName (Err Syntax) tokens = (tree : TermTree) (name : List ℕ) → IsQuotable tree → tokens ≢ quote_tokens tree (Name name ∷ [])
 
+-- the rule of one premise that a word names
+abbrev pub premise_rule_of : List ℕ → Option PremiseRule
+premise_rule_of word =
+    if bytes_eq word (codes "SYM") then Some Sym else
+    (if bytes_eq word (codes "EQT_INTRO") then Some EqtIntro else
+    (if bytes_eq word (codes "EQT_ELIM") then Some EqtElim else
+    (if bytes_eq word (codes "CONJUNCT1") then Some Conjunct1 else
+    (if bytes_eq word (codes "CONJUNCT2") then Some Conjunct2 else
+    (if bytes_eq word (codes "UNDISCH") then Some Undisch else
+    (if bytes_eq word (codes "NOT_INTRO") then Some NotIntro else
+    (if bytes_eq word (codes "NOT_ELIM") then Some NotElim else None)))))))
+
+-- the rule of two premises that a word names
+abbrev pub premises_rule_of : List ℕ → Option PremisesRule
+premises_rule_of word =
+    if bytes_eq word (codes "PROVE_HYP") then Some ProveHyp else
+    (if bytes_eq word (codes "CONJ") then Some Conj else
+    (if bytes_eq word (codes "MP") then Some Mp else None))
+
+-- the rule of a term and a premise that a word names
+abbrev pub term_premise_rule_of : List ℕ → Option TermPremiseRule
+term_premise_rule_of word =
+    if bytes_eq word (codes "ADD_ASSUM") then Some AddAssum else
+    (if bytes_eq word (codes "DISCH") then Some Disch else
+    (if bytes_eq word (codes "SPEC") then Some Spec else
+    (if bytes_eq word (codes "GEN") then Some Gen else
+    (if bytes_eq word (codes "DISJ1") then Some Disj1 else
+    (if bytes_eq word (codes "DISJ2") then Some Disj2 else
+    (if bytes_eq word (codes "CONTR") then Some Contr else None))))))
+
+-- the derived rule with arguments of its own that a word names
+abbrev pub single_rule_of : List ℕ → Option DerivedKind
+single_rule_of word =
+    if bytes_eq word (codes "BETA_CONV") then Some BetaConv else
+    (if bytes_eq word (codes "DISJ_CASES") then Some DisjCases else
+    (if bytes_eq word (codes "EXISTS") then Some Exists else
+    (if bytes_eq word (codes "CHOOSE") then Some Choose else None)))
+
 -- the kind of derived rule that a word names
 abbrev pub derived_kind_of_word : List ℕ → Option DerivedKind
 derived_kind_of_word word =
-    if bytes_eq word (codes "BETA_CONV") then Some BetaConv else
-    (if bytes_eq word (codes "SYM") then Some (Premise Sym) else
-    (if bytes_eq word (codes "EQT_INTRO") then Some (Premise EqtIntro) else
-    (if bytes_eq word (codes "EQT_ELIM") then Some (Premise EqtElim) else
-    (if bytes_eq word (codes "CONJUNCT1") then Some (Premise Conjunct1) else
-    (if bytes_eq word (codes "CONJUNCT2") then Some (Premise Conjunct2) else
-    (if bytes_eq word (codes "UNDISCH") then Some (Premise Undisch) else
-    (if bytes_eq word (codes "NOT_INTRO") then Some (Premise NotIntro) else
-    (if bytes_eq word (codes "NOT_ELIM") then Some (Premise NotElim) else
-    (if bytes_eq word (codes "PROVE_HYP") then Some (Premises ProveHyp) else
-    (if bytes_eq word (codes "CONJ") then Some (Premises Conj) else
-    (if bytes_eq word (codes "MP") then Some (Premises Mp) else
-    (if bytes_eq word (codes "ADD_ASSUM") then Some (TermPremise AddAssum) else
-    (if bytes_eq word (codes "DISCH") then Some (TermPremise Disch) else
-    (if bytes_eq word (codes "SPEC") then Some (TermPremise Spec) else
-    (if bytes_eq word (codes "GEN") then Some (TermPremise Gen) else
-    (if bytes_eq word (codes "DISJ1") then Some (TermPremise Disj1) else
-    (if bytes_eq word (codes "DISJ2") then Some (TermPremise Disj2) else
-    (if bytes_eq word (codes "CONTR") then Some (TermPremise Contr) else
-    (if bytes_eq word (codes "DISJ_CASES") then Some DisjCases else
-    (if bytes_eq word (codes "EXISTS") then Some Exists else
-    (if bytes_eq word (codes "CHOOSE") then Some Choose else None)))))))))))))))))))))
+    option_or (option_map Premise (premise_rule_of word)) (option_or (option_map Premises (premises_rule_of word)) (option_or (option_map TermPremise (term_premise_rule_of word)) (single_rule_of word)))
+
+-- the rule of a term that a word names
+abbrev pub term_rule_of : List ℕ → Option TermRule
+term_rule_of word =
+    if bytes_eq word (codes "REFL") then Some Refl else
+    (if bytes_eq word (codes "BETA") then Some Beta else
+    (if bytes_eq word (codes "ASSUME") then Some Assume else None))
+
+-- the rule of two theorems that a word names
+abbrev pub pair_rule_of : List ℕ → Option PairRule
+pair_rule_of word =
+    if bytes_eq word (codes "TRANS") then Some Trans else
+    (if bytes_eq word (codes "MK_COMB") then Some MkComb else
+    (if bytes_eq word (codes "EQ_MP") then Some EqMp else
+    (if bytes_eq word (codes "DEDUCT_ANTISYM_RULE") then Some DeductAntisym else None)))
+
+-- the kernel's rule or axiom with arguments of its own that a word names
+abbrev pub kernel_rule_of : List ℕ → Option RuleKind
+kernel_rule_of word =
+    if bytes_eq word (codes "ABS") then Some Abs else
+    (if bytes_eq word (codes "INST") then Some Inst else
+    (if bytes_eq word (codes "INST_TYPE") then Some InstType else
+    (if bytes_eq word (codes "ETA") then Some (OfAxiom Eta) else
+    (if bytes_eq word (codes "SELECT") then Some (OfAxiom Select) else None))))
 
 -- the kind of rule that a word names
 abbrev pub rule_kind_of : List ℕ → Option RuleKind
 rule_kind_of word =
-    if bytes_eq word (codes "REFL") then Some (Term Refl) else
-    (if bytes_eq word (codes "BETA") then Some (Term Beta) else
-    (if bytes_eq word (codes "ASSUME") then Some (Term Assume) else
-    (if bytes_eq word (codes "TRANS") then Some (Pair Trans) else
-    (if bytes_eq word (codes "MK_COMB") then Some (Pair MkComb) else
-    (if bytes_eq word (codes "EQ_MP") then Some (Pair EqMp) else
-    (if bytes_eq word (codes "DEDUCT_ANTISYM_RULE") then Some (Pair DeductAntisym) else
-    (if bytes_eq word (codes "ABS") then Some Abs else
-    (if bytes_eq word (codes "INST") then Some Inst else
-    (if bytes_eq word (codes "INST_TYPE") then Some InstType else
-    (if bytes_eq word (codes "ETA") then Some (OfAxiom Eta) else
-    (if bytes_eq word (codes "SELECT") then Some (OfAxiom Select) else option_map Derived (derived_kind_of_word word))))))))))))
+    option_or (option_map Term (term_rule_of word)) (option_or (option_map Pair (pair_rule_of word)) (option_or (kernel_rule_of word) (option_map Derived (derived_kind_of_word word))))
 
 abbrev pub ParsesDerived : Result OfDerived ReadError → DerivedKind → List Token → Type 0
 ParsesDerived (Ok derived) kind tokens =

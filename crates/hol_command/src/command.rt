@@ -1,7 +1,7 @@
 // Commands, read from the tokens of a text.
 ghost use Rattle.std.specs.Prelude.{◌≡◌};
 ghost use Rattle.hol_grammar.specs.Views.{tokens_of};
-ghost use Rattle.hol_command.specs.Reading.{AreTokens, rule_kind_of, command_kind_of, ParsesTyping, ParsesArguments, ParsesRule, ParsesBody, ParsesCommand};
+ghost use Rattle.hol_command.specs.Reading.{AreTokens, term_rule_of, pair_rule_of, kernel_rule_of, rule_kind_of, command_kind_of, ParsesTyping, ParsesArguments, ParsesRule, ParsesBody, ParsesCommand};
 ghost use Rattle.hol_command.specs.Pairs.{ParsesPairs};
 
 use crate::derived::{Derived, derived_kind, parse_derived};
@@ -53,21 +53,58 @@ enum CommandKind {
 fn rule_kind(word: &str) -> Option<RuleKind>
     ensures { result ≡ rule_kind_of word.now }
 {
+    if let Some(rule) = term_rule(word) {
+        return Some(RuleKind::Term(rule));
+    }
+    if let Some(rule) = pair_rule(word) {
+        return Some(RuleKind::Pair(rule));
+    }
+    if let Some(kind) = kernel_rule(word) {
+        return Some(kind);
+    }
+    match derived_kind(word) {
+        Some(kind) => Some(RuleKind::Derived(kind)),
+        None => None,
+    }
+}
+
+// The rule of a term that a word names.
+fn term_rule(word: &str) -> Option<TermRule>
+    ensures { result ≡ term_rule_of word.now }
+{
     if word == "REFL" {
-        Some(RuleKind::Term(TermRule::Refl))
+        Some(TermRule::Refl)
     } else if word == "BETA" {
-        Some(RuleKind::Term(TermRule::Beta))
+        Some(TermRule::Beta)
     } else if word == "ASSUME" {
-        Some(RuleKind::Term(TermRule::Assume))
-    } else if word == "TRANS" {
-        Some(RuleKind::Pair(PairRule::Trans))
+        Some(TermRule::Assume)
+    } else {
+        None
+    }
+}
+
+// The rule of two theorems that a word names.
+fn pair_rule(word: &str) -> Option<PairRule>
+    ensures { result ≡ pair_rule_of word.now }
+{
+    if word == "TRANS" {
+        Some(PairRule::Trans)
     } else if word == "MK_COMB" {
-        Some(RuleKind::Pair(PairRule::MkComb))
+        Some(PairRule::MkComb)
     } else if word == "EQ_MP" {
-        Some(RuleKind::Pair(PairRule::EqMp))
+        Some(PairRule::EqMp)
     } else if word == "DEDUCT_ANTISYM_RULE" {
-        Some(RuleKind::Pair(PairRule::DeductAntisym))
-    } else if word == "ABS" {
+        Some(PairRule::DeductAntisym)
+    } else {
+        None
+    }
+}
+
+// The kernel's rule or axiom with arguments of its own that a word names.
+fn kernel_rule(word: &str) -> Option<RuleKind>
+    ensures { result ≡ kernel_rule_of word.now }
+{
+    if word == "ABS" {
         Some(RuleKind::Abs)
     } else if word == "INST" {
         Some(RuleKind::Inst)
@@ -78,10 +115,7 @@ fn rule_kind(word: &str) -> Option<RuleKind>
     } else if word == "SELECT" {
         Some(RuleKind::Axiom(Axiom::Select))
     } else {
-        match derived_kind(word) {
-            Some(kind) => Some(RuleKind::Derived(kind)),
-            None => None,
-        }
+        None
     }
 }
 

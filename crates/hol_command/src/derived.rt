@@ -1,7 +1,7 @@
 // Derived rules, read from the tokens of a command.
 ghost use Rattle.std.specs.Prelude.{◌≡◌};
 ghost use Rattle.hol_grammar.specs.Views.{tokens_of};
-ghost use Rattle.hol_command.specs.Reading.{AreTokens, derived_kind_of_word, ParsesDerived};
+ghost use Rattle.hol_command.specs.Reading.{AreTokens, premise_rule_of, premises_rule_of, term_premise_rule_of, single_rule_of, derived_kind_of_word, ParsesDerived};
 
 use crate::quotes::{parse_only_quote, parse_quote, parse_quote_and_name};
 use crate::tokens::{only_name, only_two_names, take_name};
@@ -25,44 +25,87 @@ pub enum Derived<'a> {
 pub fn derived_kind(word: &str) -> Option<DerivedKind>
     ensures { result ≡ derived_kind_of_word word.now }
 {
+    if let Some(rule) = premise_rule(word) {
+        return Some(DerivedKind::Premise(rule));
+    }
+    if let Some(rule) = premises_rule(word) {
+        return Some(DerivedKind::Premises(rule));
+    }
+    match term_premise_rule(word) {
+        Some(rule) => Some(DerivedKind::TermPremise(rule)),
+        None => single_rule(word),
+    }
+}
+
+// The rule of one premise that a word names.
+fn premise_rule(word: &str) -> Option<PremiseRule>
+    ensures { result ≡ premise_rule_of word.now }
+{
+    if word == "SYM" {
+        Some(PremiseRule::Sym)
+    } else if word == "EQT_INTRO" {
+        Some(PremiseRule::EqtIntro)
+    } else if word == "EQT_ELIM" {
+        Some(PremiseRule::EqtElim)
+    } else if word == "CONJUNCT1" {
+        Some(PremiseRule::Conjunct1)
+    } else if word == "CONJUNCT2" {
+        Some(PremiseRule::Conjunct2)
+    } else if word == "UNDISCH" {
+        Some(PremiseRule::Undisch)
+    } else if word == "NOT_INTRO" {
+        Some(PremiseRule::NotIntro)
+    } else if word == "NOT_ELIM" {
+        Some(PremiseRule::NotElim)
+    } else {
+        None
+    }
+}
+
+// The rule of two premises that a word names.
+fn premises_rule(word: &str) -> Option<PremisesRule>
+    ensures { result ≡ premises_rule_of word.now }
+{
+    if word == "PROVE_HYP" {
+        Some(PremisesRule::ProveHyp)
+    } else if word == "CONJ" {
+        Some(PremisesRule::Conj)
+    } else if word == "MP" {
+        Some(PremisesRule::Mp)
+    } else {
+        None
+    }
+}
+
+// The rule of a term and a premise that a word names.
+fn term_premise_rule(word: &str) -> Option<TermPremiseRule>
+    ensures { result ≡ term_premise_rule_of word.now }
+{
+    if word == "ADD_ASSUM" {
+        Some(TermPremiseRule::AddAssum)
+    } else if word == "DISCH" {
+        Some(TermPremiseRule::Disch)
+    } else if word == "SPEC" {
+        Some(TermPremiseRule::Spec)
+    } else if word == "GEN" {
+        Some(TermPremiseRule::Gen)
+    } else if word == "DISJ1" {
+        Some(TermPremiseRule::Disj1)
+    } else if word == "DISJ2" {
+        Some(TermPremiseRule::Disj2)
+    } else if word == "CONTR" {
+        Some(TermPremiseRule::Contr)
+    } else {
+        None
+    }
+}
+
+// The derived rule with arguments of its own that a word names.
+fn single_rule(word: &str) -> Option<DerivedKind>
+    ensures { result ≡ single_rule_of word.now }
+{
     if word == "BETA_CONV" {
         Some(DerivedKind::BetaConv)
-    } else if word == "SYM" {
-        Some(DerivedKind::Premise(PremiseRule::Sym))
-    } else if word == "EQT_INTRO" {
-        Some(DerivedKind::Premise(PremiseRule::EqtIntro))
-    } else if word == "EQT_ELIM" {
-        Some(DerivedKind::Premise(PremiseRule::EqtElim))
-    } else if word == "CONJUNCT1" {
-        Some(DerivedKind::Premise(PremiseRule::Conjunct1))
-    } else if word == "CONJUNCT2" {
-        Some(DerivedKind::Premise(PremiseRule::Conjunct2))
-    } else if word == "UNDISCH" {
-        Some(DerivedKind::Premise(PremiseRule::Undisch))
-    } else if word == "NOT_INTRO" {
-        Some(DerivedKind::Premise(PremiseRule::NotIntro))
-    } else if word == "NOT_ELIM" {
-        Some(DerivedKind::Premise(PremiseRule::NotElim))
-    } else if word == "PROVE_HYP" {
-        Some(DerivedKind::Premises(PremisesRule::ProveHyp))
-    } else if word == "CONJ" {
-        Some(DerivedKind::Premises(PremisesRule::Conj))
-    } else if word == "MP" {
-        Some(DerivedKind::Premises(PremisesRule::Mp))
-    } else if word == "ADD_ASSUM" {
-        Some(DerivedKind::TermPremise(TermPremiseRule::AddAssum))
-    } else if word == "DISCH" {
-        Some(DerivedKind::TermPremise(TermPremiseRule::Disch))
-    } else if word == "SPEC" {
-        Some(DerivedKind::TermPremise(TermPremiseRule::Spec))
-    } else if word == "GEN" {
-        Some(DerivedKind::TermPremise(TermPremiseRule::Gen))
-    } else if word == "DISJ1" {
-        Some(DerivedKind::TermPremise(TermPremiseRule::Disj1))
-    } else if word == "DISJ2" {
-        Some(DerivedKind::TermPremise(TermPremiseRule::Disj2))
-    } else if word == "CONTR" {
-        Some(DerivedKind::TermPremise(TermPremiseRule::Contr))
     } else if word == "DISJ_CASES" {
         Some(DerivedKind::DisjCases)
     } else if word == "EXISTS" {
