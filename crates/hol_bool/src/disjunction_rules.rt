@@ -45,7 +45,7 @@ pub fn disj1(
     ensures inferred { Infers recorder.old.theory (rule_disj1 q.now) (premise.now.theorem ∷ []) (theorem_in result) }
 {
     let _type = q.ty();
-    match pass_formula(recorder, alloc, q) {
+    match pass_formula(recorder, q) {
         Ok(()) => {}
         Err(fault) => return Err(fault),
     }
@@ -78,7 +78,7 @@ pub fn disj2(
     ensures inferred { Infers recorder.old.theory (rule_disj2 p.now) (premise.now.theorem ∷ []) (theorem_in result) }
 {
     let _type = p.ty();
-    match pass_formula(recorder, alloc, p) {
+    match pass_formula(recorder, p) {
         Ok(()) => {}
         Err(fault) => return Err(fault),
     }

@@ -198,7 +198,7 @@ pub fn disch(
     ensures inferred { Infers recorder.old.theory (rule_disch p.now) (premise.now.theorem ∷ []) (theorem_in result) }
 {
     let _type = p.ty();
-    match pass_formula(recorder, alloc, p) {
+    match pass_formula(recorder, p) {
         Ok(()) => {}
         Err(fault) => return Err(fault),
     }

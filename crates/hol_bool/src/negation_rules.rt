@@ -103,7 +103,7 @@ pub fn contr(
     if !is_named(conclusion, "F") {
         return Err(Fault::BadShape);
     }
-    match pass_formula(recorder, alloc, p) {
+    match pass_formula(recorder, p) {
         Ok(()) => {}
         Err(fault) => return Err(fault),
     }

@@ -105,13 +105,15 @@ pub(crate) fn negated_of<'a>(
 }
 
 /// Walks a term that comes in: it is to be a formula that the theory knows.
-pub(crate) fn pass_formula(recorder: &Recorder, alloc: Global, term: &Term) -> Result<(), Fault>
+pub(crate) fn pass_formula(recorder: &Recorder, term: &Term) -> Result<(), Fault>
     ensures ok { OnOk result (IsPassed recorder.now.theory term.now) }
     ensures err { IfErr result (IsRefused recorder.now.theory term.now) }
 {
-    let _type = term.ty();
-    match recorder.theory().assume(alloc, term) {
-        Ok(_assumed) => Ok(()),
-        Err(fault) => Err(fault),
+    if !term.ty().is_bool() {
+        return Err(Fault::NotBool);
+    }
+    match recorder.theory().first_unknown(term) {
+        Some(fault) => Err(fault),
+        None => Ok(()),
     }
 }

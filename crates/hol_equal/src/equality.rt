@@ -219,9 +219,8 @@ pub fn beta_conv(recorder: &mut Recorder, alloc: Global, term: &Term) -> Result<
     let Some(redex) = redex_parts(term) else {
         return Err(Fault::BadShape);
     };
-    match recorder.theory().refl(alloc, term) {
-        Ok(_walked) => {}
-        Err(fault) => return Err(fault),
+    if let Some(fault) = recorder.theory().first_unknown(term) {
+        return Err(fault);
     }
     let trivial = match Term::mk_comb(alloc, redex.function, redex.binder) {
         Ok(trivial) => trivial,

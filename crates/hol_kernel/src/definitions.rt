@@ -8,7 +8,7 @@ ghost use Rattle.hol_kernel.specs.Leaving.{leaving};
 
 use crate::entries::StoredEntry;
 use crate::equation::equation;
-use crate::known::{first_unknown, knows_type};
+use crate::known::knows_type;
 use crate::legality::{is_closed, is_fixed, is_new_name, reflects};
 use crate::theory::Theory;
 use crate::thm::Thm;
@@ -28,7 +28,7 @@ impl Theory {
         if !is_constant_name(name.as_bytes()) {
             return Err(Fault::BadName);
         }
-        if let Some(fault) = first_unknown(term, self) {
+        if let Some(fault) = self.first_unknown(term) {
             return Err(fault);
         }
         if !is_closed(term) {
@@ -100,12 +100,5 @@ impl Theory {
         let stored = StoredEntry::DeclaredConstant(String::from_str(alloc, name)?, ty.copy(alloc)?);
         let entries = self.entries()?.with(alloc, stored)?;
         self.grow_by_constant(alloc, name, ty, entries)
-    }
-
-    /// Whether the types and the constants of a term are known.
-    pub fn known(&self, term: &Term) -> bool
-        ensures { result ≡ spec.is_known self.now term.now }
-    {
-        first_unknown(term, self).is_none()
     }
 }

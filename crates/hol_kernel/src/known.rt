@@ -8,18 +8,28 @@ use hol_model::Fault;
 use hol_terms::{Parts, Term};
 use hol_types::{Ty, TypeParts, is_instance};
 
-/// The refusal for a term of which a type or a constant is not known.
-pub fn first_unknown(term: &Term, theory: &Theory) -> Option<Fault>
-    ensures { result ≡ rules.first_unknown theory.now term.now }
-{
-    if !knows_types(term, theory) {
-        Some(Fault::UnknownType)
-    } else if !knows_constants(term, theory) {
-        Some(Fault::UnknownConst)
-    } else if !has_instances(term, theory) {
-        Some(Fault::NotInstance)
-    } else {
-        None
+impl Theory {
+    /// The refusal for a term of which a type or a constant is not known: UnknownType, UnknownConst and NotInstance, the
+    /// first that applies.
+    pub fn first_unknown(&self, term: &Term) -> Option<Fault>
+        ensures { result ≡ rules.first_unknown self.now term.now }
+    {
+        if !knows_types(term, self) {
+            Some(Fault::UnknownType)
+        } else if !knows_constants(term, self) {
+            Some(Fault::UnknownConst)
+        } else if !has_instances(term, self) {
+            Some(Fault::NotInstance)
+        } else {
+            None
+        }
+    }
+
+    /// Whether the types and the constants of a term are known.
+    pub fn known(&self, term: &Term) -> bool
+        ensures { result ≡ spec.is_known self.now term.now }
+    {
+        self.first_unknown(term).is_none()
     }
 }
 

@@ -13,7 +13,7 @@ use crate::equation::{
     abstraction, application, combination, dest_eq, dest_trivial_redex, equation,
 };
 use crate::hypotheses::{copies, is_free_in_hypotheses, with_hypotheses, without_hypothesis};
-use crate::known::{first_unknown, knows_type};
+use crate::known::knows_type;
 use crate::theory::Theory;
 use crate::thm::Thm;
 use hol_alpha::aconv;
@@ -46,7 +46,7 @@ impl Theory {
         ensures outcome { Answers result (outcome.refl_outcome self.now term.now) }
         ensures stands_on { IfOk result (λ answer. answer.theory ≡ self.now) }
     {
-        if let Some(fault) = first_unknown(term, self) {
+        if let Some(fault) = self.first_unknown(term) {
             return Err(fault);
         }
         equation_theorem(alloc, self.entries()?, Vec::new(alloc), term, term)
@@ -60,7 +60,7 @@ impl Theory {
         if !term.ty().is_bool() {
             return Err(Fault::NotBool);
         }
-        if let Some(fault) = first_unknown(term, self) {
+        if let Some(fault) = self.first_unknown(term) {
             return Err(fault);
         }
         let mut hypotheses = Vec::new(alloc);
@@ -158,7 +158,7 @@ impl Theory {
         let Some(body) = dest_trivial_redex(term) else {
             return Err(Fault::NotTrivialBeta);
         };
-        if let Some(fault) = first_unknown(term, self) {
+        if let Some(fault) = self.first_unknown(term) {
             return Err(fault);
         }
         equation_theorem(alloc, self.entries()?, Vec::new(alloc), term, body)

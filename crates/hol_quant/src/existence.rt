@@ -32,16 +32,13 @@ use hol_terms::Term;
 use std::alloc::Global;
 
 // Walks a term that comes in: the theory is to know its types and constants.
-fn pass_known(recorder: &Recorder, alloc: Global, term: &Term) -> Result<(), Fault>
+fn pass_known(recorder: &Recorder, term: &Term) -> Result<(), Fault>
     ensures ok { OnOk result (first_unknown recorder.now.theory term.now ≡ None) }
     ensures err { IfErr result (λ fault. (fault ≡ Memory) ⊎ (first_unknown recorder.now.theory term.now ≡ Some fault)) }
 {
-    if recorder.theory().known(term) {
-        return Ok(());
-    }
-    match recorder.theory().refl(alloc, term) {
-        Ok(_walked) => Ok(()),
-        Err(fault) => Err(fault),
+    match recorder.theory().first_unknown(term) {
+        Some(fault) => Err(fault),
+        None => Ok(()),
     }
 }
 
@@ -195,11 +192,11 @@ pub fn exists(
     if !witness.ty().eq(parts.binder.ty()) {
         return Err(Fault::TypeMismatch);
     }
-    match pass_known(recorder, alloc, formula) {
+    match pass_known(recorder, formula) {
         Ok(()) => {}
         Err(fault) => return Err(fault),
     }
-    match pass_known(recorder, alloc, witness) {
+    match pass_known(recorder, witness) {
         Ok(()) => {}
         Err(fault) => return Err(fault),
     }

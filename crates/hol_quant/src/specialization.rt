@@ -43,9 +43,8 @@ pub(crate) fn specialized(
     if !term.ty().eq(parts.binder.ty()) {
         return Err(Fault::TypeMismatch);
     }
-    match recorder.theory().refl(alloc, term) {
-        Ok(_walked) => {}
-        Err(fault) => return Err(fault),
+    if let Some(fault) = recorder.theory().first_unknown(term) {
+        return Err(fault);
     }
     let redex = match by_predicate_lemma(recorder, alloc, lemma, parts.predicate, term, premise) {
         Ok(redex) => redex,
