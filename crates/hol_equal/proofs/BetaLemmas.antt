@@ -1,22 +1,21 @@
 -- BETA_CONV: a redex, the trivial one of its abstraction, and what putting the argument for the variable makes of that.
-use Rattle.std.proofs.Common.{◌≡◌, ◌⊎◌, ◌+◌, ◌≤◌, ℕ, suc, List, [], ◌∷◌, Bool, true, false, ◌&&◌, not, if◌then◌else◌, refl, sym, ◌∙◌, ap, subst, inl, inr, Option, Some, None, Result, Ok, Err, IfOk, arith, nat_le}
+use Rattle.std.proofs.Common.{◌≡◌, ◌+◌, ◌≤◌, ℕ, suc, List, [], ◌∷◌, Bool, true, false, ◌&&◌, not, if◌then◌else◌, refl, sym, ◌∙◌, ap, subst, inl, inr, Option, Some, None, Result, Ok, Err, IfOk, arith, nat_le}
 use Rattle.std.specs.Option.{option_map, option_map_or}
 use Rattle.std.specs.List.{list_all}
 use Rattle.hol_model.specs.declared.fault.Fault.{Fault}
-use Rattle.hol_model.specs.declared.fault.Fault.TheVariants.{Memory, TooLarge}
+use Rattle.hol_model.specs.declared.fault.Fault.TheVariants.{TooLarge}
 use Rattle.hol_model.specs.declared.limits.TheConstants.{TERM_NODES_LIMIT, TERM_HEIGHT_LIMIT, TYPE_NODES_LIMIT}
 use Rattle.std.proofs.lemmas.Bool.{leb-true, le-leb}
 use Rattle.hol_model.specs.Terms.HolType.{HolType, function_type, type_nodes}
-use Rattle.hol_model.specs.Terms.NamedTerm.{NamedTerm, variable, constant, combination, abstraction, same_variable, type_of, dest_abstraction, equation, is_within_limits, nodes, height}
+use Rattle.hol_model.specs.Terms.NamedTerm.{NamedTerm, variable, constant, combination, abstraction, same_variable, type_of, dest_abstraction, is_within_limits, nodes, height}
 use Rattle.hol_model.specs.Terms.Nameless.{Nameless, free, const, bound, app, lam, HasType, image, nameless_type}
 use Rattle.hol_model.specs.Terms.Measures.{nameless_height, nameless_nodes, nameless_types_fit, nameless_within_limits}
 use Rattle.hol_model.specs.Terms.Substitution.{close_at, close, fill, put, put_all, only, replacement}
 use Rattle.hol_model.specs.Logic.Theory.{Theory, IsKnown}
 use Rattle.hol_model.specs.Logic.Derivable.{nameless_equation}
-use Rattle.hol_model.specs.Kernel.Theorem.{Theorem}
-use Rattle.hol_model.specs.Kernel.Outcome.{Answers, unless, refused}
+use Rattle.hol_model.specs.Kernel.Outcome.{Answers, unless}
 use Rattle.hol_model.specs.Kernel.Constructors.{combination_outcome}
-use Rattle.hol_model.specs.Kernel.Rules.{first_unknown, concluded, refl_outcome}
+use Rattle.hol_model.specs.Kernel.Rules.{first_unknown}
 use Rattle.hol_model.specs.Derived.DerivedRules.{Stated, AnswersStated, up_to_names, terms_of_stated, is_roomy, is_roomy_type, has_roomy_types, beta_conv_outcome}
 use Rattle.hol_model.proofs.Tests.{first_of_both, second_of_both, both, same_variable-self}
 use Rattle.hol_model.proofs.Terms.Filling.{fill_at-close_at}
@@ -30,8 +29,8 @@ use Rattle.hol_model.specs.Kernel.Instantiation.{replacements_refusal}
 use Rattle.hol_kernel.proofs.RuleLemmas.{known_term}
 use Rattle.hol_journal.specs.Journal.{Recorded, theorem_in}
 use Rattle.hol_equal.specs.Sequents.{DerivesInstance, IsPast}
-use Rattle.hol_equal.proofs.StepLemmas.{application, refl-derives}
-use Rattle.hol_equal.proofs.CutLemmas.{answers-stated, derives-where, assumed-none}
+use Rattle.hol_equal.proofs.StepLemmas.{application}
+use Rattle.hol_equal.proofs.CutLemmas.{answers-stated, derives-where}
 use Rattle.hol_equal.proofs.Sizes.{IsSized, leaves_room, sized-more, sized-app, sized-equation, sized-within, past-room}
 
 -- putting for a variable
@@ -229,24 +228,8 @@ module _ (theory : Theory) (name : List ℕ) (ty codomain : HolType) (body argum
       (past-room fault within (list_all is_roomy (image redex ∷ rest)) past (λ all. fits (first_of_both (is_roomy (image redex)) (list_all is_roomy rest) all)))
 
   -- the walk
-  pub beta_conv-walk : (fault : Fault) → Answers {A = Theorem} (Err fault) (refl_outcome theory redex) → AnswersStated (Err fault) (image redex ∷ []) (beta_conv_outcome theory redex)
-  beta_conv-walk fault answers = go (first_unknown theory redex) refl
-    where
-      other_is : (other : Fault) → refused (Some other) (concluded theory [] (equation redex redex)) ≡ Err fault → fault ≡ other
-      other_is other same = cc
-
-      unknown : (other : Fault) → first_unknown theory redex ≡ Some other → (fault ≡ Memory) ⊎ (fault ≡ other)
-      unknown other is = elim answers [ inl memory ↦ inl memory | inr refusal ↦ inr (other_is other (ap (λ (o : Option Fault). refused o (concluded theory [] (equation redex redex))) (sym is) ∙ refusal)) ]
-
-      go : (found : Option Fault) → first_unknown theory redex ≡ found → AnswersStated (Err fault) (image redex ∷ []) (beta_conv_outcome theory redex)
-      go (Some other) is = rw is (unknown other is)
-      go None is =
-          let known = known_term theory redex codomain is redex_typed in
-          beta_conv-past fault (nameless_within_limits (nameless_equation codomain (image redex) (image redex))) is
-          (refl-derives (Err fault) theory redex answers codomain known) reflexive-within
-
-  pub walked : (theorem : Theorem) → refl_outcome theory redex ≡ Ok theorem → first_unknown theory redex ≡ None
-  walked theorem is = assumed-none (first_unknown theory redex) (concluded theory [] (equation redex redex)) theorem is
+  pub beta_conv-walk : (fault : Fault) → first_unknown theory redex ≡ Some fault → AnswersStated (Err fault) (image redex ∷ []) (beta_conv_outcome theory redex)
+  beta_conv-walk fault is = rw is (inr refl)
 
   -- the trivial redex is known where the redex is
   pub trivial-known : first_unknown theory redex ≡ None → IsKnown theory (image trivial_redex) codomain

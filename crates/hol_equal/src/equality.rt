@@ -219,8 +219,9 @@ pub fn beta_conv(recorder: &mut Recorder, alloc: Global, term: &Term) -> Result<
     let Some(redex) = redex_parts(term) else {
         return Err(Fault::BadShape);
     };
-    if let Some(fault) = recorder.theory().first_unknown(term) {
-        return Err(fault);
+    match recorder.theory().first_unknown(term) {
+        Some(fault) => return Err(fault),
+        None => {}
     }
     let trivial = match Term::mk_comb(alloc, redex.function, redex.binder) {
         Ok(trivial) => trivial,

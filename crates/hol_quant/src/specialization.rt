@@ -43,8 +43,9 @@ pub(crate) fn specialized(
     if !term.ty().eq(parts.binder.ty()) {
         return Err(Fault::TypeMismatch);
     }
-    if let Some(fault) = recorder.theory().first_unknown(term) {
-        return Err(fault);
+    match recorder.theory().first_unknown(term) {
+        Some(fault) => return Err(fault),
+        None => {}
     }
     let redex = match by_predicate_lemma(recorder, alloc, lemma, parts.predicate, term, premise) {
         Ok(redex) => redex,

@@ -24,6 +24,22 @@ use Rattle.hol_quant.proofs.SpecLemmas.{walk-refused, spec-start, small, special
 use Rattle.hol_quant.proofs.SpecLemmas.IsWalkRefused.{no_memory, unknown, past}
 use Rattle.hol_quant.proofs.specialization.specialized.Goals as goal
 
+pub returns-in-Some-first_unknown-clause-outcome : goal.returns-in-Some-first_unknown-clause-outcome
+returns-in-Some-first_unknown-clause-outcome c =
+    let journal = c.args.recorder.now in
+    let theory = journal.theory in
+    let term = c.args.term.now in
+    let premise = c.args.premise.now.theorem in
+    let function = c.in-Some.parts.predicate.now in
+    let binder = c.in-Some.parts.binder.now in
+    let body = c.in-Some.parts.body.now in
+    let start =
+    spec-start journal c.theory_is_legal.ensures c.args.premise.now c.requires.premise c.thm.result.now c.thm.ensures c.concl-formula.ensures.theorem c.requires.generic term c.concl-formula.result.now
+    c.in-Some.parts.quantifier.now function binder body c.concl-formula.ensures.value c.in-Some.ensures.whole c.in-Some.ensures.named c.in-Some.ensures.abstraction
+    c.ty.result.now c.ty-2.result.now c.ty.ensures c.ty-2.ensures (c.eq.ensures.same.0 c.if-not-eq.false) in
+    let at = start.at in
+    spec-unknown theory term premise function binder body at start.typed c.in-Some-first_unknown.fault (sym (rw c.theory.ensures at c.in-Some-first_unknown.ensures))
+
 pub returns-in-Err-clause-outcome : goal.returns-in-Err-clause-outcome
 returns-in-Err-clause-outcome c =
     let journal = c.args.recorder.now in
@@ -38,38 +54,15 @@ returns-in-Err-clause-outcome c =
     c.in-Some.parts.quantifier.now function binder body c.concl-formula.ensures.value c.in-Some.ensures.whole c.in-Some.ensures.named c.in-Some.ensures.abstraction
     c.ty.result.now c.ty-2.result.now c.ty.ensures c.ty-2.ensures (c.eq.ensures.same.0 c.if-not-eq.false) in
     let at = start.at in
-    let fault = c.in-Err.fault in
-    let fits = list_all is_roomy (small theory term premise function binder body at start.typed) in
-    elim (walk-refused theory term at.ty fault start.typed (rw c.theory.ensures at c.in-Err.ensures.outcome)) [
-      | no_memory memory ↦ memory-answers fault (image term ∷ terms_of_theorem premise) (spec_outcome theory term premise) memory
-      | unknown is ↦ spec-unknown theory term premise function binder body at start.typed fault is
-      | past none is_past ↦ spec-answers theory term premise function binder body at start.typed (Err fault) none
-          (past-room fault (nameless_within_limits (nameless_equation at.ty (image term) (image term))) fits is_past (walk-within theory term premise function binder body at start.typed))
-    ]
-
-pub returns-in-Err-by_predicate_lemma-clause-outcome : goal.returns-in-Err-by_predicate_lemma-clause-outcome
-returns-in-Err-by_predicate_lemma-clause-outcome c =
-    let journal = c.args.recorder.now in
-    let theory = journal.theory in
-    let term = c.args.term.now in
-    let premise = c.args.premise.now.theorem in
-    let function = c.in-Some.parts.predicate.now in
-    let binder = c.in-Some.parts.binder.now in
-    let body = c.in-Some.parts.body.now in
-    let start =
-    spec-start journal c.theory_is_legal.ensures c.args.premise.now c.requires.premise c.thm.result.now c.thm.ensures c.concl-formula.ensures.theorem c.requires.generic term c.concl-formula.result.now
-    c.in-Some.parts.quantifier.now function binder body c.concl-formula.ensures.value c.in-Some.ensures.whole c.in-Some.ensures.named c.in-Some.ensures.abstraction
-    c.ty.result.now c.ty-2.result.now c.ty.ensures c.ty-2.ensures (c.eq.ensures.same.0 c.if-not-eq.false) in
-    let at = start.at in
-    let none = passed-none (first_unknown theory term) (concluded theory [] (equation term term)) c.in-Ok._walked (rw c.theory.ensures at c.in-Ok.ensures.outcome) in
+    let none = sym (rw c.theory.ensures at c.in-None.ensures) in
     let fits = list_all is_roomy (small theory term premise function binder body at start.typed) in
     let term_known = known_term theory term at.ty none start.typed in
     let function_known = subst (λ (t : Nameless). IsKnown theory t (predicate at.ty)) (sym (function_image theory term premise function binder body at start.typed)) at.function_known in
     let premise_shows = subst (λ (t : Nameless). Shows premise (images premise) t) (sym (premise-at theory term premise function binder body at start.typed)) (shows-itself premise) in
-    let fault = c.in-Err-by_predicate_lemma.fault in
+    let fault = c.in-Err.fault in
     spec-answers theory term premise function binder body at start.typed (Err fault) none
     (past-room fault (lemma_fits at.ty function term (over_predicate forall_name) applied) fits
-    (c.in-Err-by_predicate_lemma.ensures.derives at.ty function_known term_known (images premise) (over_predicate forall_name) applied c.requires.shows premise_shows)
+    (c.in-Err.ensures.derives at.ty function_known term_known (images premise) (over_predicate forall_name) applied c.requires.shows premise_shows)
     (spec-lemma-within theory term premise function binder body at start.typed))
 
 pub returns-in-Err-converted-clause-outcome : goal.returns-in-Err-converted-clause-outcome
@@ -86,14 +79,14 @@ returns-in-Err-converted-clause-outcome c =
     c.in-Some.parts.quantifier.now function binder body c.concl-formula.ensures.value c.in-Some.ensures.whole c.in-Some.ensures.named c.in-Some.ensures.abstraction
     c.ty.result.now c.ty-2.result.now c.ty.ensures c.ty-2.ensures (c.eq.ensures.same.0 c.if-not-eq.false) in
     let at = start.at in
-    let none = passed-none (first_unknown theory term) (concluded theory [] (equation term term)) c.in-Ok._walked (rw c.theory.ensures at c.in-Ok.ensures.outcome) in
+    let none = sym (rw c.theory.ensures at c.in-None.ensures) in
     let fits = list_all is_roomy (small theory term premise function binder body at start.typed) in
     let term_known = known_term theory term at.ty none start.typed in
     let function_known = subst (λ (t : Nameless). IsKnown theory t (predicate at.ty)) (sym (function_image theory term premise function binder body at start.typed)) at.function_known in
     let premise_shows = subst (λ (t : Nameless). Shows premise (images premise) t) (sym (premise-at theory term premise function binder body at start.typed)) (shows-itself premise) in
-    let redex = subst (λ (t : Nameless). Shows c.in-Ok-by_predicate_lemma.redex.theorem (images premise) t) (redex-at theory term premise function binder body at start.typed)
-    (c.in-Ok-by_predicate_lemma.ensures.derives at.ty function_known term_known (images premise) (over_predicate forall_name) applied c.requires.shows premise_shows) in
-    let later : c.by_predicate_lemma.new.recorder.theory ≡ theory = c.in-Ok-by_predicate_lemma.ensures.continues.theory in
+    let redex = subst (λ (t : Nameless). Shows c.in-Ok.redex.theorem (images premise) t) (redex-at theory term premise function binder body at start.typed)
+    (c.in-Ok.ensures.derives at.ty function_known term_known (images premise) (over_predicate forall_name) applied c.requires.shows premise_shows) in
+    let later : c.by_predicate_lemma.new.recorder.theory ≡ theory = c.in-Ok.ensures.continues.theory in
     let redex_none = subst (λ (th : Theory). first_unknown th (combination (abstraction at.name at.ty body) term) ≡ None) (sym later)
     (no_unknown theory (combination (abstraction at.name at.ty body) term) bool_type
     (subst (λ (t : Nameless). IsKnown theory (app t (image term)) bool_type) (sym (image-abstraction at.name at.ty body)) (app-known theory at.ty bool_type (closed at.name at.ty body) (image term) at.function_known term_known))) in
@@ -105,7 +98,7 @@ returns-in-Err-converted-clause-outcome c =
 
 pub eq_mp-requires-clause-second : goal.eq_mp-requires-clause-second
 eq_mp-requires-clause-second c =
-    journals-grow.stays c.by_predicate_lemma.new.recorder c.converted.new.recorder c.in-Ok-by_predicate_lemma.redex c.in-Ok-converted.ensures.continues.grown c.in-Ok-by_predicate_lemma.ensures.continues.held.made
+    journals-grow.stays c.by_predicate_lemma.new.recorder c.converted.new.recorder c.in-Ok.redex c.in-Ok-converted.ensures.continues.grown c.in-Ok.ensures.continues.held.made
 
 pub returns-clause-outcome : goal.returns-clause-outcome
 returns-clause-outcome c =
@@ -121,14 +114,14 @@ returns-clause-outcome c =
     c.in-Some.parts.quantifier.now function binder body c.concl-formula.ensures.value c.in-Some.ensures.whole c.in-Some.ensures.named c.in-Some.ensures.abstraction
     c.ty.result.now c.ty-2.result.now c.ty.ensures c.ty-2.ensures (c.eq.ensures.same.0 c.if-not-eq.false) in
     let at = start.at in
-    let none = passed-none (first_unknown theory term) (concluded theory [] (equation term term)) c.in-Ok._walked (rw c.theory.ensures at c.in-Ok.ensures.outcome) in
+    let none = sym (rw c.theory.ensures at c.in-None.ensures) in
     let fits = list_all is_roomy (small theory term premise function binder body at start.typed) in
     let term_known = known_term theory term at.ty none start.typed in
     let function_known = subst (λ (t : Nameless). IsKnown theory t (predicate at.ty)) (sym (function_image theory term premise function binder body at start.typed)) at.function_known in
     let premise_shows = subst (λ (t : Nameless). Shows premise (images premise) t) (sym (premise-at theory term premise function binder body at start.typed)) (shows-itself premise) in
-    let redex = subst (λ (t : Nameless). Shows c.in-Ok-by_predicate_lemma.redex.theorem (images premise) t) (redex-at theory term premise function binder body at start.typed)
-    (c.in-Ok-by_predicate_lemma.ensures.derives at.ty function_known term_known (images premise) (over_predicate forall_name) applied c.requires.shows premise_shows) in
-    let later : c.by_predicate_lemma.new.recorder.theory ≡ theory = c.in-Ok-by_predicate_lemma.ensures.continues.theory in
+    let redex = subst (λ (t : Nameless). Shows c.in-Ok.redex.theorem (images premise) t) (redex-at theory term premise function binder body at start.typed)
+    (c.in-Ok.ensures.derives at.ty function_known term_known (images premise) (over_predicate forall_name) applied c.requires.shows premise_shows) in
+    let later : c.by_predicate_lemma.new.recorder.theory ≡ theory = c.in-Ok.ensures.continues.theory in
     let redex_none = subst (λ (th : Theory). first_unknown th (combination (abstraction at.name at.ty body) term) ≡ None) (sym later)
     (no_unknown theory (combination (abstraction at.name at.ty body) term) bool_type
     (subst (λ (t : Nameless). IsKnown theory (app t (image term)) bool_type) (sym (image-abstraction at.name at.ty body)) (app-known theory at.ty bool_type (closed at.name at.ty body) (image term) at.function_known term_known))) in
