@@ -2,7 +2,7 @@ use Rattle.std.proofs.Common.{map}
 use Rattle.hol_logtext.specs.Lines.{line_of}
 use Rattle.hol_log.specs.Claims.{claims_of}
 use Rattle.hol_log.proofs.PrunedLemmas.{accepted_answers}
-use Rattle.hol_log.proofs.pruned.pruned.Goals as goal
+use Rattle.hol_log.proofs.pruning.pruned.Goals as goal
 
 pub returns-clause-accepted : goal.returns-clause-accepted
 returns-clause-accepted c =

@@ -1,6 +1,6 @@
 use Rattle.hol_log.specs.Claims.{claims_of}
 use Rattle.hol_log.proofs.PrunedLemmas.{stored_earlier, cited_within}
-use Rattle.hol_log.proofs.pruned.claims_log.Goals as goal
+use Rattle.hol_log.proofs.pruning.claims_log.Goals as goal
 
 pub needed-requires-clause-earlier : goal.needed-requires-clause-earlier
 needed-requires-clause-earlier c = stored_earlier c.args.recorder.now c.stored-entries.result.now c.stored-entries.ensures.journal c.stored-entries.ensures.value

@@ -4,7 +4,7 @@ use Rattle.hol_log.specs.Claims.{claims_of}
 use Rattle.hol_log.specs.Pruning.{AreFitting}
 use Rattle.hol_log.proofs.StepLineLemmas.{next_item}
 use Rattle.hol_log.proofs.PrunedLemmas.{fitting_turn}
-use Rattle.hol_log.proofs.pruned.claims_fit.Goals as goal
+use Rattle.hol_log.proofs.pruning.claims_fit.Goals as goal
 
 pub loop-at-preserved : goal.loop-at-preserved
 loop-at-preserved c =

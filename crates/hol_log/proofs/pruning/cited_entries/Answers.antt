@@ -3,7 +3,7 @@ use Rattle.std.proofs.lemmas.List.{take_all}
 use Rattle.hol_log.specs.declared.claim.Claim.{Claim}
 use Rattle.hol_log.proofs.StepLineLemmas.{next_item}
 use Rattle.hol_log.proofs.EntryLoopLemmas.{numbers_turn, numbers_of_claims}
-use Rattle.hol_log.proofs.pruned.cited_entries.Goals as goal
+use Rattle.hol_log.proofs.pruning.cited_entries.Goals as goal
 
 pub loop-at-preserved : goal.loop-at-preserved
 loop-at-preserved c =
