@@ -1,6 +1,8 @@
 -- Formulas of a recorder's theory: conclusions, their parts, and terms that come in.
-use Rattle.std.proofs.Common.{◌≡◌, ℕ, List, true, false, refl, sym, ◌∙◌, ap, subst, Option, Some, None, Ok, IfSome}
+use Rattle.std.proofs.Common.{◌≡◌, ℕ, List, true, false, refl, inr, sym, ◌∙◌, ap, subst, Option, Some, None, IfSome}
 use Rattle.std.specs.Option.{option_map, option_map_or}
+use Rattle.hol_model.specs.declared.fault.Fault.{Fault}
+use Rattle.hol_model.specs.declared.fault.Fault.TheVariants.{NotBool}
 use Rattle.hol_model.specs.Terms.HolType.{HolType, type_variable, bool_type, type_eq}
 use Rattle.hol_model.specs.Terms.NamedTerm.{NamedTerm, type_of}
 use Rattle.hol_model.specs.Terms.Nameless.{Nameless, const, app, image}
