@@ -1,12 +1,12 @@
--- Heights of trees, computed along the lines.
+-- Depths of trees, computed from line to line.
 use Rattle.std.proofs.Common.{◌≡◌, ℕ, suc, ◌+◌, ◌<◌, max, List, [], ◌∷◌, ◌++◌, drop, length, map, refl, sym, ap, ◌∙◌, arith, drop-cons, get_or, Option, Some, None}
 use Rattle.std.specs.Prelude.{slice_get}
 use Rattle.std.specs.Option.{unwrap_or, option_map}
 use Rattle.std.proofs.lemmas.Option.{slice_get-map, unwrap_or-slice_get}
 use Rattle.hol_model.specs.Goals.Justifications.{Justification, named}
 use Rattle.hol_just.specs.Flat.{FlatLine, flat_sub, flat_named, flat_lemma, flat_rule, cited, cited_parts, tree_of_line, trees_after, tree}
-use Rattle.hol_just.specs.Steps.{cited_depth, deepest, depth_of_line, depths_after}
-use Rattle.hol_model.specs.Goals.Replays.{depth, depth_of_parts}
+use Rattle.hol_just.specs.Depths.{cited_depth, deepest, depth_of_line, depths_after}
+use Rattle.hol_model.specs.Goals.Replays.{depth, depth_of_parts, is_within_depth}
 
 pub deepest-drop : (depths places : List ℕ) (i : ℕ) → i < length places
     → deepest depths (drop i places) ≡ max (cited_depth depths (get_or places i 0)) (deepest depths (drop (i + 1) places))
@@ -45,7 +45,7 @@ depths_after-trees trees (line ∷ lines) =
     ap (λ depths. depths_after depths lines) (ap (λ found. map depth trees ++ found ∷ []) (depth_of_line-tree trees line) ∙ sym (map-end trees (tree_of_line trees line)))
     ∙ depths_after-trees (trees ++ tree_of_line trees line ∷ []) lines
 
--- the height found along the lines is that of the tree
+-- the depth found along the lines is that of the tree
 pub root_depth : (depths : List ℕ) (lines : List FlatLine) (root : ℕ) → depths ≡ depths_after [] lines → cited_depth depths root ≡ depth (tree (record { lines = lines; root = root }))
 root_depth depths lines root are =
     ap (λ found. cited_depth found root) (are ∙ depths_after-trees [] lines) ∙ cited_depth-tree (trees_after [] lines) root

@@ -1,13 +1,12 @@
 -- What goals, steps and justifications of the code stand for.
-use Rattle.std.specs.Prelude.{◌≡◌, ◌⊎◌, ◌<◌, ℕ, ◌+◌, List, [], ◌∷◌, ◌++◌, length, map, max, slice_index_or}
+use Rattle.std.specs.Prelude.{◌≡◌, ◌⊎◌, ℕ, List, [], ◌∷◌, length, map, false}
 use Rattle.hol_model.specs.declared.fault.Fault.{Fault}
 use Rattle.hol_model.specs.declared.fault.Fault.TheVariants.{Memory, TooLarge}
-use Rattle.hol_model.specs.declared.limits.TheConstants.{JUSTIFICATION_DEPTH_LIMIT}
 use Rattle.hol_model.specs.Goals.Goals.{Goal}
-use Rattle.hol_model.specs.Goals.Justifications.{Justification, sub, named, lemma, by_rule, Parts, no_parts, part}
+use Rattle.hol_model.specs.Goals.Justifications.{Justification, Parts, no_parts, part}
 use Rattle.hol_model.specs.Goals.ValidSteps.{Step}
-use Rattle.hol_model.specs.Goals.Replays.{depth}
-use Rattle.hol_just.specs.Flat.{FlatLine, flat_rule, FlatJustification, FlatPortion, tree}
+use Rattle.hol_model.specs.Goals.Replays.{is_within_depth}
+use Rattle.hol_just.specs.Flat.{FlatJustification, FlatPortion, tree}
 use Rattle.hol_just.specs.Lines.{flat_of_lines}
 use Rattle.hol_just.specs.declared.just.Just.{Just}
 use Rattle.hol_just.specs.declared.goal.Goal as code_goal
@@ -37,30 +36,13 @@ abbrev pub parts_of : List Justification → Parts
 parts_of [] = no_parts
 parts_of (first ∷ rest) = part first (parts_of rest)
 
--- the height of what a line stands for, which comes after lines of these heights
-
-abbrev pub cited_depth : List ℕ → ℕ → ℕ
-cited_depth depths place = slice_index_or depths place 1
-
-abbrev pub deepest : List ℕ → List ℕ → ℕ
-deepest depths [] = 0
-deepest depths (place ∷ places) = max (cited_depth depths place) (deepest depths places)
-
-abbrev pub depth_of_line : List ℕ → FlatLine → ℕ
-depth_of_line depths (flat_rule rule places) = deepest depths places + 1
-depth_of_line depths _ = 1
-
-abbrev pub depths_after : List ℕ → List FlatLine → List ℕ
-depths_after depths [] = depths
-depths_after depths (line ∷ lines) = depths_after (depths ++ depth_of_line depths line ∷ []) lines
-
 -- the number of lines
 abbrev pub steps_of : Just → ℕ
 steps_of just = length just.node.value.lines.items
 
 -- the tree is deeper than the limit
 abbrev pub IsTooDeep : Justification → Type 0
-IsTooDeep justification = JUSTIFICATION_DEPTH_LIMIT < depth justification
+IsTooDeep justification = is_within_depth justification ≡ false
 
 -- there is no memory, or the tree is too deep
 abbrev pub IsRefused : Justification → Fault → Type 0

@@ -1,12 +1,11 @@
-// Splicing: justifications in place of subgoals.
-ghost use Rattle.std.specs.Prelude.{◌≡◌, ◌+◌, ◌-◌, ◌≤◌, [], length, map, sum_by, slice_index, slice_get, IfOk, IfErr, OnOk};
+// Justifications in place of subgoals.
+ghost use Rattle.std.specs.Prelude.{◌≡◌, ◌+◌, ◌-◌, ◌≤◌, [], length, map, sum_by, slice_index, slice_get, true, IfOk, IfErr, OnOk};
 ghost use Rattle.hol_model.specs.declared.fault.Fault.TheVariants.{Memory};
-ghost use Rattle.hol_model.specs.declared.limits.TheConstants.{JUSTIFICATION_DEPTH_LIMIT};
 ghost use Rattle.hol_model.specs.Goals.Splicing as spec;
 ghost use Rattle.hol_just.specs.Flat.{redirected, with_replaced, replaced_line, replaced_sub};
 ghost use Rattle.hol_just.specs.Lines.{flat_line, flat_lines};
 ghost use Rattle.hol_just.specs.Steps.{flat_of, tree_of, step_of, steps_of, flat_portion, IsRefused};
-ghost use Rattle.hol_model.specs.Goals.Replays.{depth};
+ghost use Rattle.hol_model.specs.Goals.Replays.{is_within_depth};
 ghost use Rattle.hol_just.specs.Joining.{replaced_of, redirected_of};
 
 use crate::goal::Step;
@@ -65,7 +64,7 @@ fn replaced_sub(roots: &[usize], subgoals: usize, number: usize) -> Result<Repla
     Ok(Replacement::Own(Line::Sub(moved(number - roots.len(), subgoals)?)))
 }
 
-// What a line becomes behind portions with these roots and so many subgoals.
+// What a line becomes behind portions with these roots and so many subgoals in all.
 fn replaced_line(
     alloc: Global,
     roots: &[usize],
@@ -129,12 +128,14 @@ fn redirected(
     Ok(spliced)
 }
 
-/// The justification with that of each part in place of the subgoal of the part's number. The subgoals of the parts are
-/// numbered one after another, and a subgoal past the parts comes behind them all. Each part's lines stand in it once.
+/// The justification with that of the part at each place in place of the subgoal of that number. The subgoals of the parts
+/// are numbered one after another, and a subgoal past the parts comes behind them all. The lines of each part stand in it
+/// once, however often its subgoal is named. Refused: Memory (also where a number would pass `usize`), or TooLarge for a
+/// tree that is deeper than the limit.
 pub fn splice(alloc: Global, just: &Just, parts: &[Step]) -> Result<Just, Fault>
     ensures tree { IfOk result (λ made. tree_of made ≡ spec.splice (tree_of just.now) (map (λ part. spec.portion_of (step_of part)) parts.now)) }
     ensures steps { IfOk result (λ made. steps_of made ≤ steps_of just.now + sum_by (λ part. steps_of part.just) parts.now) }
-    ensures within { IfOk result (λ made. depth (tree_of made) ≤ JUSTIFICATION_DEPTH_LIMIT) }
+    ensures within { IfOk result (λ made. is_within_depth (tree_of made) ≡ true) }
     ensures err { IfErr result (IsRefused (spec.splice (tree_of just.now) (map (λ part. spec.portion_of (step_of part)) parts.now))) }
 {
     let mut joined = Joined::new(alloc);

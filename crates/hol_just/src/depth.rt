@@ -1,16 +1,16 @@
-// The heights of the trees of lines.
+// The depths of the trees of lines, each computed once.
 ghost use Rattle.std.specs.Prelude.{◌≡◌, [], IfOk, IfErr, IfSome};
 ghost use Rattle.hol_model.specs.declared.fault.Fault.TheVariants.{Memory};
-ghost use Rattle.hol_just.specs.Lines.{flat_line, flat_lines};
-ghost use Rattle.hol_just.specs.Steps.{cited_depth, deepest, depth_of_line, depths_after};
-ghost use Rattle.hol_model.specs.Goals.Replays.{depth};
+ghost use Rattle.hol_model.specs.Goals.Replays.{depth, is_within_depth};
+ghost use Rattle.hol_just.specs.Lines.{flat_line, flat_lines, flat_of_lines};
+ghost use Rattle.hol_just.specs.Depths.{cited_depth, deepest, depth_of_line, depths_after};
 ghost use Rattle.hol_just.specs.Flat.{tree};
 
 use crate::line::Line;
-use hol_model::Fault;
+use hol_model::{Fault, JUSTIFICATION_DEPTH_LIMIT};
 use std::alloc::Global;
 
-// The height at a place; 1 where there is none.
+// The depth at a place; 1 where there is none.
 fn depth_at(depths: &[usize], place: usize) -> usize
     ensures { result ≡ cited_depth depths.now place }
 {
@@ -21,7 +21,7 @@ fn depth_at(depths: &[usize], place: usize) -> usize
     }
 }
 
-// The greatest of the heights at these places.
+// The greatest of the depths at these places.
 fn deepest(depths: &[usize], places: &[usize]) -> usize
     ensures { result ≡ deepest depths.now places.now }
 {
@@ -35,7 +35,7 @@ fn deepest(depths: &[usize], places: &[usize]) -> usize
     greatest
 }
 
-// The height of what a line stands for, after lines of these heights.
+// The depth of a line's tree, behind lines of these depths.
 fn depth_of_line(depths: &[usize], line: &Line) -> Option<usize>
     ensures { IfSome result (λ depth. depth ≡ depth_of_line depths.now (flat_line line.now)) }
 {
@@ -45,7 +45,7 @@ fn depth_of_line(depths: &[usize], line: &Line) -> Option<usize>
     }
 }
 
-// The heights of the trees of lines.
+// The depths of the lines' trees.
 fn depths(alloc: Global, lines: &[Line]) -> Result<Vec<usize>, Fault>
     ensures ok { IfOk result (λ depths. depths.items ≡ depths_after [] (flat_lines lines.now)) }
     ensures err { IfErr result (λ fault. fault ≡ Memory) }
@@ -60,12 +60,20 @@ fn depths(alloc: Global, lines: &[Line]) -> Result<Vec<usize>, Fault>
     Ok(depths)
 }
 
-/// The height of the tree of the line at a place.
+// The depth of the tree of the line at a place.
 #[tactic(auto, using(crate::proofs::Depths::root_depth))]
-pub(crate) fn root_depth(alloc: Global, lines: &[Line], root: usize) -> Result<usize, Fault>
-    ensures ok { IfOk result (λ found. found ≡ depth (tree (record { lines = flat_lines lines.now; root = root }))) }
+fn root_depth(alloc: Global, lines: &[Line], root: usize) -> Result<usize, Fault>
+    ensures ok { IfOk result (λ found. found ≡ depth (tree (flat_of_lines lines.now root))) }
     ensures err { IfErr result (λ fault. fault ≡ Memory) }
 {
     let depths = depths(alloc, lines)?;
     Ok(depth_at(&depths, root))
+}
+
+/// Whether the tree of the line at a place is within the limit.
+pub(crate) fn is_within_depth(alloc: Global, lines: &[Line], root: usize) -> Result<bool, Fault>
+    ensures ok { IfOk result (λ answer. answer ≡ is_within_depth (tree (flat_of_lines lines.now root))) }
+    ensures err { IfErr result (λ fault. fault ≡ Memory) }
+{
+    Ok(root_depth(alloc, lines, root)? <= JUSTIFICATION_DEPTH_LIMIT as usize)
 }
