@@ -6,7 +6,7 @@ use Rattle.std.proofs.lemmas.Option.{slice_get-map, unwrap_or-slice_get}
 use Rattle.hol_model.specs.Goals.Justifications.{Justification, named}
 use Rattle.hol_just.specs.Flat.{FlatLine, flat_sub, flat_named, flat_lemma, flat_rule, cited, cited_parts, tree_of_line, trees_after, tree}
 use Rattle.hol_just.specs.Depths.{cited_depth, deepest, depth_of_line, depths_after}
-use Rattle.hol_model.specs.Goals.Replays.{depth, depth_of_parts, is_within_depth}
+use Rattle.hol_model.specs.Goals.Replays.{depth, depth_of_parts}
 
 pub deepest-drop : (depths places : List ℕ) (i : ℕ) → i < length places
     → deepest depths (drop i places) ≡ max (cited_depth depths (get_or places i 0)) (deepest depths (drop (i + 1) places))

@@ -1,5 +1,5 @@
 -- Which trees name subgoals below a count alone, computed from line to line.
-use Rattle.std.proofs.Common.{◌≡◌, ℕ, suc, ◌+◌, ◌<◌, List, [], ◌∷◌, ◌++◌, Bool, true, false, ◌&&◌, drop, length, map, refl, sym, ap, ◌∙◌, arith, drop-cons, get_or, Option, Some, None}
+use Rattle.std.proofs.Common.{◌≡◌, ℕ, List, [], ◌∷◌, ◌++◌, Bool, true, ◌&&◌, map, refl, sym, ap, ◌∙◌, Option, Some, None}
 use Rattle.std.specs.Prelude.{slice_get}
 use Rattle.std.specs.Option.{unwrap_or, option_map}
 use Rattle.std.proofs.lemmas.Option.{slice_get-map, unwrap_or-slice_get}
