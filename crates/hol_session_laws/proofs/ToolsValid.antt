@@ -140,8 +140,8 @@ tools-valid host steps state logic store over = record {
   room = λ lemmas justification. has_room state.library.theory (sequents_in (store_in (with_lemmas state lemmas))) [] justification;
   valid = λ tree tactic goal refinement is_read known runs.
       let good = refiners-answer-valid host state.library.theory (at (store_in state) steps) (at (over_lemmas (store_in state) refinement.lemmas) refinement.left) (tactic_of tactic) goal refinement.step logic store
-          (tactic-known state.library.theory (meaning (scope_in state) []) (λ term_tree term is. read_terms-known state.library.theory (scope_in state) logic.legal over term_tree term is) tree tactic is_read)
-          known runs in
+      (tactic-known state.library.theory (meaning (scope_in state) []) (λ term_tree term is. read_terms-known state.library.theory (scope_in state) logic.legal over term_tree term is) tree tactic is_read)
+      known runs in
       record { valid = good.valid; known = good.known };
   lemmas = λ tactic goal refinement runs.
       let later = (refiners-spend host state.library.theory).spends (at (store_in state) steps) (at (over_lemmas (store_in state) refinement.lemmas) refinement.left) (tactic_of tactic) goal (Ok refinement.step) runs in
