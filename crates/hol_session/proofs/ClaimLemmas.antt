@@ -13,6 +13,7 @@ use Rattle.hol_log.specs.Claims.{claim_of, claims_of}
 use Rattle.hol_log.specs.LogAccepted.{log_claim}
 use Rattle.hol_log.specs.Pruning.{AreMade}
 use Rattle.hol_log.specs.LogOf.{IsPrunedText, IsLogOf, IsPastLimit}
+use Rattle.hol_session.specs.SessionState as session
 use Rattle.hol_session.specs.StoredClaims.{IsAcceptedLog, IsLongLog, stored_claim, stored_claims}
 
 member_of_stored_claim : (stored : List ℕ → Option Recorded) (name : List ℕ) (found : Option Recorded) (claim : Claimed) → stored name ≡ found → IsMember claim (stored_claim name found)
