@@ -32,8 +32,8 @@ use Rattle.hol_journal.specs.Steps.{sequent_of_theorem}
 use Rattle.hol_equal.specs.Sequents.{Shows}
 use Rattle.hol_equal.specs.Inferred.{IsDrawn, Infers}
 use Rattle.hol_model.proofs.Logic.Checks.{knows_nameless-Decides}
-use Rattle.hol_derivations.specs.Derivations.{axiom_theorem}
-use Rattle.hol_derivations.specs.declared.derivation.Axiom.TheVariants as axioms
+use Rattle.hol_model.specs.Kernel.RuleOutcomes.{axiom_theorem}
+use Rattle.hol_model.specs.declared.rule.Axiom.TheVariants as axioms
 use Rattle.hol_equal.proofs.CutLemmas.{shows-itself}
 use Rattle.hol_equal.proofs.StepLemmas.{changed-shows}
 use Rattle.hol_equal.proofs.DrawnTerms.{IsPremise, knows-image, walked_by, walked_known_by, one_premise, two_premises, same_set}

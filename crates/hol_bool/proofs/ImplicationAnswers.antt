@@ -7,7 +7,7 @@ use Rattle.hol_model.specs.Terms.Measures.{nameless_types_fit}
 use Rattle.hol_model.specs.Logic.Theory.{Theory, equality_name, equality_type}
 use Rattle.hol_model.specs.Logic.Derivable.{without, nameless_equation}
 use Rattle.hol_model.specs.Logic.Logic as nameless
-use Rattle.hol_model.specs.Logic.Logic.{binary, and_name, implies_name}
+use Rattle.hol_model.specs.Logic.Logic.{binary, and_name}
 use Rattle.hol_model.specs.Logic.NamedLogic.{conjunction, implication}
 use Rattle.hol_model.proofs.Tests.{both, same_term-Decides}
 use Rattle.hol_prelude.specs.Prelude.{p, q}

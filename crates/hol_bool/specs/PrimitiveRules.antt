@@ -10,9 +10,9 @@ use Rattle.hol_model.specs.Kernel.Rules.{refl_outcome, assume_outcome, beta_outc
 use Rattle.hol_model.specs.Derived.InferenceRules.{InferenceRule, rule_refl, rule_trans, rule_mk_comb, rule_abs, rule_beta, rule_assume, rule_eq_mp, rule_deduct_antisym, rule_inst, rule_inst_type, rule_eta_axiom, rule_select_axiom}
 use Rattle.hol_model.specs.Kernel.Instantiation.{inst_refusal, IsInst, inst_type_refusal, IsInstType}
 use Rattle.hol_equal.specs.Formulas.{IsFormula}
-use Rattle.hol_derivations.specs.Derivations.{axiom_theorem}
+use Rattle.hol_model.specs.Kernel.RuleOutcomes.{axiom_theorem}
 use Rattle.hol_equal.specs.Inferred.{Infers}
-use Rattle.hol_derivations.specs.declared.derivation.Axiom.TheVariants as axioms
+use Rattle.hol_model.specs.declared.rule.Axiom.TheVariants as axioms
 
 -- a call that answers the rule's outcome answers what is drawn
 abbrev pub OutcomeInfers : Theory → InferenceRule → List Theorem → Result Theorem Fault → Type 0

@@ -10,7 +10,7 @@ use Rattle.hol_model.proofs.Terms.HolTypeEq.{type_eq-Decides}
 use Rattle.hol_shared.specs.Growth.{IsLonger}
 use Rattle.hol_shared.specs.Table.{HaveOneNumber}
 use Rattle.hol_shared.specs.Terms.{type_at}
-use Rattle.hol_shared.specs.Entries.{IsEntry, HasOnlyAdded}
+use Rattle.hol_shared.specs.Entries.{HasOnlyAdded}
 use Rattle.hol_change.specs.Pairs.{replaced_number, ArePairs}
 use Rattle.hol_change.specs.TypeChange.{IsChangedType, IsTypeMemo, AnswersType, type_change, IsInstanceWork}
 use Rattle.hol_change.proofs.PairLemmas.{replaced-named, pairs-grown}
@@ -50,13 +50,6 @@ pub answers-kept : (types : List HolType) (change : HolType → HolType) (ty : �
     → AnswersType (change (type_at types ty)) (Ok ty) types change entries
 answers-kept types change ty within same entries memo = record {
   number = slice_get-get_or types ty bool_type within ∙ ap Some (sym same);
-  refused = tt;
-  memo = memo;
-}
-
-pub answers-known : (types : List HolType) (change : HolType → HolType) (ty new : ℕ) (entries : List (ℕ × ℕ)) → IsTypeMemo types change entries → IsEntry entries ty new → AnswersType (change (type_at types ty)) (Ok new) types change entries
-answers-known types change ty new entries memo there = record {
-  number = (memo ty new there).is_changed;
   refused = tt;
   memo = memo;
 }

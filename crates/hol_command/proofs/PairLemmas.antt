@@ -149,15 +149,6 @@ broken_off tokens left pairs front no_pair no_end = λ list rest unquoted same. 
     go rest ([], unquoted, same) = no_end rest same
     go rest (q ∷ qs, unquoted, same) = no_pair q (further_tokens qs rest) unquoted.0 same
 
--- neither the empty list nor a first pair
-pub no-list : (tokens : List Token) → ((rest : List Token) → tokens ≢ list_tokens [] rest) → ((pair : Parts) (rest : List Token) → IsUnquoted pair → tokens ≢ Mark OpenBracket ∷ pair_tokens pair rest)
-    → TakesPairs (Err Syntax) tokens
-no-list tokens not_empty no_pair = go
-  where
-    go : (pairs : List Parts) (rest : List Token) → AreUnquoted pairs → tokens ≢ list_tokens pairs rest
-    go [] rest unquoted same = not_empty rest same
-    go (q ∷ qs) rest unquoted same = no_pair q (further_tokens qs rest) unquoted.0 same
-
 -- the pairs of a list, and what follows it, are determined
 pub record SameList (ps qs : List Parts) (r s : List Token) : Type 0 where
   pub pairs : ps ≡ qs
@@ -213,10 +204,6 @@ pub no-name-behind-list : (tokens rest : List Token) (pairs : List Parts) → Ar
     → (others : List Parts) (name : List ℕ) → AreUnquoted others → tokens ≢ list_tokens others (Name name ∷ [])
 no-name-behind-list tokens rest pairs unquoted read none others name unquoted_others same =
     none name (list_once tokens pairs others rest (Name name ∷ []) unquoted unquoted_others read same).rest
-
-pub list-refused : (error : ReadError) (tokens : List Token) → TakesPairs (Err error) tokens → ParsesPairs (Err error) tokens
-list-refused Memory tokens refused = tt
-list-refused Syntax tokens refused = λ pairs name unquoted. refused pairs (Name name ∷ []) unquoted
 
 -- ---- terms and types
 

@@ -29,7 +29,7 @@ use Rattle.hol_model.specs.Texts.Lexing.{Lexes, IsToken, IsIdentifier, Every, is
 use Rattle.hol_model.specs.Texts.TypeGrammar.{TypeTree, Named, Enclosed, Function, type_tokens}
 use Rattle.hol_model.specs.Texts.TermGrammar.{Bare, Variable, Constant, TermTree, Leaf, Apply, Not, Join, Bind, IsConstantName, IsTermTree, Infix, IffInfix, ImpliesInfix, OrInfix, AndInfix, EqualInfix, Binder, Lambda, ForAll, Exists, Choice, Lexeme, InfixPiece, BinderPiece, pieces, all_tokens, IsReadTerm}
 use Rattle.hol_model.specs.Texts.TermGrammar.{Enclosed as EnclosedTerm}
-use Rattle.hol_model.specs.Scripts.Commands.{DerivedTree, by_conversion, by_premise, by_premises, by_term_and_premise, by_cases, by_witness, by_choice, derived_kind_of, derived_word, derived_tokens, IsDerivedTree, RuleTree, CommandTree, thm_command, show_command, var_command, def_command, newtype_command, newconst_command, kind_of, rule_word, quoted, quote_tokens, argument_tokens, rule_tokens, command_tokens, IsQuotable, IsCommandTree, IsReadCommand}
+use Rattle.hol_model.specs.Scripts.Commands.{DerivedTree, by_conversion, by_premise, by_premises, by_term_and_premise, by_cases, by_witness, by_choice, derived_kind_of, derived_word, derived_tokens, IsDerivedTree, CommandTree, thm_command, show_command, var_command, def_command, newtype_command, newconst_command, kind_of, rule_word, quoted, quote_tokens, argument_tokens, rule_tokens, command_tokens, IsQuotable, IsCommandTree}
 use Rattle.hol_model.proofs.Tests.{both}
 use Rattle.hol_grammar.specs.declared.token.Token.{Token as TokenHere}
 use Rattle.hol_grammar.specs.declared.token.Token.TheVariants.{Name as NameHere}
@@ -430,13 +430,6 @@ rule-parsed (Err Syntax) kind tokens arguments word begins known refused = λ tr
     let same_kind : kind_of tree ≡ kind = cc in
     refused tree grammatical same_kind further
 
-pub rule-unknown : (tokens arguments : List Token) (word : List ℕ) → tokens ≡ Name word ∷ arguments → rule_kind_of word ≡ None → (tree : RuleTree) → tokens ≢ rule_tokens tree
-rule-unknown tokens arguments word begins unknown tree same =
-    let both : Name word ∷ arguments ≡ Name (rule_word (kind_of tree)) ∷ argument_tokens tree = sym begins ∙ same in
-    let spelled : word ≡ rule_word (kind_of tree) = cc in
-    let found : None ≡ Some (kind_of tree) = sym unknown ∙ ap rule_kind_of spelled ∙ word-kind (kind_of tree) in
-    cc
-
 -- ---- commands
 
 pub command-kind : (kind : CommandKind) → command_kind_of (command_word kind) ≡ Some kind
@@ -481,23 +474,6 @@ command-parsed (Err Syntax) kind tokens rest body word name begins goes known re
     let same_kind : kind_of_command tree ≡ kind = cc in
     refused tree read.grammatical same_kind further
 
-pub command-unknown : (tokens rest : List Token) (word : List ℕ) → tokens ≡ Name word ∷ rest → command_kind_of word ≡ None → (tree : CommandTree) → ¬ (IsReadCommand tokens tree)
-command-unknown tokens rest word begins unknown tree read =
-    let both : Name word ∷ rest ≡ Name (command_word (kind_of_command tree)) ∷ Name (name_in_command tree) ∷ body_tokens tree = sym begins ∙ read.spelled ∙ command-parts tree in
-    let spelled : word ≡ command_word (kind_of_command tree) = cc in
-    let found : None ≡ Some (kind_of_command tree) = sym unknown ∙ ap command_kind_of spelled ∙ command-kind (kind_of_command tree) in
-    cc
-
--- tokens that do not begin with a name, or with two of them, are no command
-pub command-without_word : (tokens : List Token) → ((name : List ℕ) (rest : List Token) → tokens ≢ Name name ∷ rest) → (tree : CommandTree) → ¬ (IsReadCommand tokens tree)
-command-without_word tokens none tree read = none (command_word (kind_of_command tree)) (Name (name_in_command tree) ∷ body_tokens tree) (read.spelled ∙ command-parts tree)
-
-pub command-without_name : (tokens rest : List Token) (word : List ℕ) → tokens ≡ Name word ∷ rest → ((name : List ℕ) (behind : List Token) → rest ≢ Name name ∷ behind) → (tree : CommandTree) → ¬ (IsReadCommand tokens tree)
-command-without_name tokens rest word begins none tree read =
-    let both : Name word ∷ rest ≡ Name (command_word (kind_of_command tree)) ∷ Name (name_in_command tree) ∷ body_tokens tree = sym begins ∙ read.spelled ∙ command-parts tree in
-    let further : rest ≡ Name (name_in_command tree) ∷ body_tokens tree = cc in
-    none (name_in_command tree) (body_tokens tree) further
-
 -- ---- bodies of commands
 
 pub typing-parsed : (result : Result (Vec TypeStep Global) ReadError) (tokens rest : List Token) → tokens ≡ Mark Colon ∷ rest → ParsesType result rest → ParsesTyping result tokens
@@ -507,9 +483,6 @@ typing-parsed (Err Syntax) tokens rest begins refused = λ tree within same.
     let both : Mark Colon ∷ rest ≡ Mark Colon ∷ type_tokens tree [] = sym begins ∙ same in
     let further : rest ≡ type_tokens tree [] = cc in
     refused tree (record { grammatical = within.0; depth = within.1; spelled = further })
-
-pub no-typing : (tokens : List Token) → ((rest : List Token) → tokens ≢ Mark Colon ∷ rest) → ParsesTyping (Err Syntax) tokens
-no-typing tokens none = λ tree within same. none (type_tokens tree []) same
 
 -- a refusal of the type is one of the command
 pub var-refused : (error : ReadError) (name : List ℕ) (tokens : List Token) → ParsesTyping (Err error) tokens → ParsesBody (Err error) Var name tokens
@@ -571,59 +544,6 @@ pub def-refused : (error : ReadError) (name : List ℕ) (tokens rest : List Toke
 def-refused Memory name tokens rest begins refused = tt
 def-refused Syntax name tokens rest begins refused = def-unquoted name tokens rest begins refused
 
--- without an equals sign there is no body of `thm` or `def`
-pub thm-unequal : (name : List ℕ) (tokens : List Token) → ((rest : List Token) → tokens ≢ Mark Equal ∷ rest) → ParsesBody (Err Syntax) Thm name tokens
-thm-unequal name tokens none = go
-  where
-    go : (tree : CommandTree) → IsCommandTree tree → kind_of_command tree ≡ Thm → tokens ≢ body_tokens tree
-    go (thm_command other rule) grammatical kind same = none (rule_tokens rule) same
-    go (show_command other) grammatical kind same = cc
-    go (var_command other tree) grammatical kind same = cc
-    go (def_command other tree) grammatical kind same = cc
-    go (newtype_command other) grammatical kind same = cc
-    go (newconst_command other tree) grammatical kind same = cc
-
-pub def-unequal : (name : List ℕ) (tokens : List Token) → ((rest : List Token) → tokens ≢ Mark Equal ∷ rest) → ParsesBody (Err Syntax) Def name tokens
-def-unequal name tokens none = go
-  where
-    go : (tree : CommandTree) → IsCommandTree tree → kind_of_command tree ≡ Def → tokens ≢ body_tokens tree
-    go (def_command other tree) grammatical kind same = none (quote_tokens tree []) same
-    go (thm_command other rule) grammatical kind same = cc
-    go (show_command other) grammatical kind same = cc
-    go (var_command other tree) grammatical kind same = cc
-    go (newtype_command other) grammatical kind same = cc
-    go (newconst_command other tree) grammatical kind same = cc
-
--- nothing may follow the name of `show` and `newtype`
-pub show-followed : (name : List ℕ) (tokens : List Token) → tokens ≢ [] → ParsesBody (Err Syntax) Show name tokens
-show-followed name tokens more = go
-  where
-    go : (tree : CommandTree) → IsCommandTree tree → kind_of_command tree ≡ Show → tokens ≢ body_tokens tree
-    go (show_command other) grammatical kind same = more same
-    go (thm_command other rule) grammatical kind same = cc
-    go (var_command other tree) grammatical kind same = cc
-    go (def_command other tree) grammatical kind same = cc
-    go (newtype_command other) grammatical kind same = cc
-    go (newconst_command other tree) grammatical kind same = cc
-
-pub newtype-followed : (name : List ℕ) (tokens : List Token) → tokens ≢ [] → ParsesBody (Err Syntax) NewType name tokens
-newtype-followed name tokens more = go
-  where
-    go : (tree : CommandTree) → IsCommandTree tree → kind_of_command tree ≡ NewType → tokens ≢ body_tokens tree
-    go (newtype_command other) grammatical kind same = more same
-    go (thm_command other rule) grammatical kind same = cc
-    go (show_command other) grammatical kind same = cc
-    go (var_command other tree) grammatical kind same = cc
-    go (def_command other tree) grammatical kind same = cc
-    go (newconst_command other tree) grammatical kind same = cc
-
-pub some-tokens : (tokens : List TokenHere) → false ≡ (length tokens == 0) → tokens_of tokens ≢ []
-some-tokens [] filled same = cc
-some-tokens (token ∷ tokens) filled same = cc
-
 -- what follows a mark
 pub behind-mark : (symbol : Symbol) (tokens rest : List Token) → tokens ≡ Mark symbol ∷ rest → AreTokens tokens → AreTokens rest
 behind-mark symbol tokens rest same all = (subst AreTokens same all).1
-
-pub behind-name : (name : List ℕ) (tokens rest : List Token) → tokens ≡ Name name ∷ rest → AreTokens tokens → AreTokens rest
-behind-name name tokens rest same all = (subst AreTokens same all).1

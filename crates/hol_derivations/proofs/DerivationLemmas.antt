@@ -114,9 +114,6 @@ handed_out-copy journal (Ok copy) made is same =
     record { grown = (unchanged journal NotBool).grown; theory = refl; made = subst (IsMade journal) (sym same) is }
 handed_out-copy journal (Err fault) made is same = unchanged journal fault
 
-pub handed_out : (journal : Journal) (made : Recorded) → IsMade journal made → GoesOn journal journal (Ok made)
-handed_out journal made is = record { grown = (unchanged journal NotBool).grown; theory = refl; made = is }
-
 recorded : (result : Result Recorded Fault) (old new : Journal) (step : Step) → ((made : Recorded) → result ≡ Ok made → made.theorem.theory ≡ old.theory)
     → IfOk result (IsRecorded old new step) → OnErr result (new ≡ old) → GoesOn old new result
 recorded (Ok made) old new step stands is kept = record {

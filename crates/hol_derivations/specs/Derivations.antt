@@ -2,16 +2,12 @@
 use Rattle.std.specs.Prelude.{◌≡◌, ℕ, List, [], ◌∷◌, map, Some, Result, Ok, IfOk, slice_get, length, nat_eq}
 use Rattle.hol_model.specs.declared.fault.Fault.{Fault}
 use Rattle.hol_model.specs.declared.fault.Fault.TheVariants.{BadShape, NotEquation, NotAlpha}
-use Rattle.hol_model.specs.declared.rule.TermRule.{TermRule}
-use Rattle.hol_model.specs.declared.rule.TermRule.TheVariants as term_rule
-use Rattle.hol_model.specs.declared.rule.PairRule.{PairRule}
-use Rattle.hol_model.specs.declared.rule.PairRule.TheVariants as pair_rule
 use Rattle.hol_model.specs.Terms.NamedTerm.{NamedTerm}
 use Rattle.hol_model.specs.Terms.Nameless.{Nameless, image, same_term}
 use Rattle.hol_model.specs.Kernel.Outcome.{given, unless, refused}
 use Rattle.hol_model.specs.Logic.Theory.{Theory}
 use Rattle.hol_model.specs.Kernel.Theorem.{Theorem}
-use Rattle.hol_model.specs.Kernel.Rules.{refl_outcome, assume_outcome, beta_outcome, trans_outcome, eq_mp_outcome, mk_comb_outcome, deduct_antisym_outcome, abs_outcome, dest_equation}
+use Rattle.hol_model.specs.Kernel.Rules.{refl_outcome, abs_outcome, dest_equation}
 use Rattle.hol_model.specs.Terms.Substitution.{put_all}
 use Rattle.hol_model.specs.Kernel.Instantiation.{inst_refusal, inst_type_refusal, instantiate_all}
 use Rattle.hol_journal.specs.Journal.{Journal, Recorded, IsMade}
@@ -19,9 +15,7 @@ use Rattle.hol_journal.specs.Growth.{IsGrown}
 use Rattle.hol_derivations.specs.Sketches.{followed, type_outcome, term_outcome}
 use Rattle.hol_derivations.specs.declared.sketch.TypeSketch.{TypeSketch}
 use Rattle.hol_derivations.specs.declared.sketch.TermSketch.{TermSketch}
-use Rattle.hol_model.specs.Kernel.NamedAxioms.{eta_conclusion, select_hypothesis, select_conclusion}
-use Rattle.hol_derivations.specs.declared.derivation.Axiom.TheVariants as axioms
-use Rattle.hol_derivations.specs.declared.derivation.Axiom.{Axiom}
+use Rattle.hol_model.specs.Kernel.RuleOutcomes.{axiom_theorem, term_rule_outcome, pair_rule_outcome}
 use Rattle.hol_derivations.specs.declared.derivation.Derivation as derivations
 use Rattle.hol_derivations.specs.declared.derivation.Derivation.{Derivation}
 
@@ -37,21 +31,6 @@ pub record AreMade (journal : Journal) (all : List Recorded) : Type 0 where
 
 abbrev pub theorems : List Recorded → List Theorem
 theorems all = map (λ made. made.theorem) all
-
-abbrev pub axiom_theorem : Axiom → Theory → Theorem
-axiom_theorem axioms.Eta theory = record { theory = theory; hypotheses = []; conclusion = eta_conclusion }
-axiom_theorem axioms.Select theory = record { theory = theory; hypotheses = select_hypothesis ∷ []; conclusion = select_conclusion }
-
-abbrev pub term_rule_outcome : TermRule → Theory → NamedTerm → Result Theorem Fault
-term_rule_outcome term_rule.Refl theory term = refl_outcome theory term
-term_rule_outcome term_rule.Beta theory term = beta_outcome theory term
-term_rule_outcome term_rule.Assume theory term = assume_outcome theory term
-
-abbrev pub pair_rule_outcome : PairRule → Theory → Theorem → Theorem → Result Theorem Fault
-pair_rule_outcome pair_rule.Trans theory first second = trans_outcome theory first second
-pair_rule_outcome pair_rule.MkComb theory first second = mk_comb_outcome theory first second
-pair_rule_outcome pair_rule.EqMp theory first second = eq_mp_outcome theory first second
-pair_rule_outcome pair_rule.DeductAntisym theory first second = deduct_antisym_outcome theory first second
 
 -- EQ_MP of REFL of the conclusion, and a theorem without hypotheses of this image
 abbrev pub renamed : Theory → Nameless → NamedTerm → Result Theorem Fault

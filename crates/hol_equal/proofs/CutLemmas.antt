@@ -10,7 +10,7 @@ use Rattle.hol_model.specs.Terms.Measures.{nameless_within_limits}
 use Rattle.hol_model.specs.Logic.Theory.{Theory, IsLegal, IsKnown}
 use Rattle.hol_model.specs.Logic.Derivable.{IsMember, IsSameSet, without, nameless_equation}
 use Rattle.hol_model.specs.Kernel.Theorem.{Theorem, IsTheorem}
-use Rattle.hol_model.specs.Kernel.Outcome.{Answers, unless, refused}
+use Rattle.hol_model.specs.Kernel.Outcome.{refused}
 use Rattle.hol_model.specs.Kernel.Rules.{first_unknown, is_formula, dest_equation, assume_outcome}
 use Rattle.hol_model.specs.Derived.DerivedRules.{Stated, IsConclusion, AnswersStated, named, images, terms_of_theorem, terms_of_stated, is_roomy, is_among, add_assum_outcome, prove_hyp_outcome}
 use Rattle.hol_model.proofs.Tests.{first_of_both, second_of_both, both, same_term-Decides}
@@ -143,25 +143,6 @@ assumed theory term theorem is =
       known = assumed-none (first_unknown theory term) (Ok made) theorem one.1;
       shows = subst (λ (t : Theorem). Shows t (image term ∷ []) (image term)) (ok_is made theorem (refused-is (first_unknown theory term) (Ok made) theorem one.1)) (shows-itself made);
     }
-
-pub add_assum-refused : (fault : Fault) (theory : Theory) (term : NamedTerm) (arguments : List Nameless) (theorem : Theorem) → Answers {A = Theorem} (Err fault) (assume_outcome theory term)
-    → AnswersStated (Err fault) arguments (add_assum_outcome theory term theorem)
-add_assum-refused fault theory term arguments theorem answers = go (is_formula term) (first_unknown theory term) answers
-  where
-    made : Theorem
-    made = record { theory = theory; hypotheses = term ∷ []; conclusion = term }
-
-    sequent : Stated
-    sequent = record { hypotheses = image term ∷ images theorem; conclusion = named theorem.conclusion }
-
-    go : (formula : Bool) (unknown : Option Fault) → Answers {A = Theorem} (Err fault) (unless formula NotBool (refused unknown (Ok made)))
-        → AnswersStated (Err fault) arguments (unless formula NotBool (refused unknown (Ok sequent)))
-    go false unknown (inl memory) = inl memory
-    go false unknown (inr is) = inr (cc)
-    go true (Some other) (inl memory) = inl memory
-    go true (Some other) (inr is) = inr (cc)
-    go true None (inl memory) = inl memory
-    go true None (inr is) = cc
 
 pub add_assum-stated : (result : Result Recorded Fault) (theory : Theory) (term : NamedTerm) (first theorem : Theorem) → IsAssumed theory term first
     → DerivesIf (nameless_within_limits (nameless_equation bool_type (image term) (image theorem.conclusion))) result (image term ∷ [] ++ without (image term) (images theorem)) (image theorem.conclusion)

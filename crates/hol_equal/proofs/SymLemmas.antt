@@ -1,5 +1,5 @@
 -- SYM: the parts of an equation, what is made on the way, and the answer.
-use Rattle.std.proofs.Common.{◌≡◌, List, [], ◌∷◌, ◌++◌, Bool, true, refl, sym, ◌∙◌, ap, subst, inr, Some, None, Result, Ok, Err, IfOk, arith, append-nil}
+use Rattle.std.proofs.Common.{◌≡◌, List, [], ◌∷◌, ◌++◌, Bool, true, refl, sym, ◌∙◌, ap, subst, Some, Result, Ok, Err, IfOk, arith, append-nil}
 use Rattle.std.specs.List.{list_all}
 use Rattle.hol_model.specs.declared.fault.Fault.{Fault}
 use Rattle.hol_model.specs.Terms.HolType.{HolType, bool_type, function_type}
@@ -161,7 +161,3 @@ sym-names (Ok made) theory theorem same applied reflexive congruence relation a 
     five (combination (combination relation a) a, combination (combination relation b) a)
     (ap dest_equation congruence_is ∙ equation-dest (combination (combination relation a) a) (combination (combination relation b) a) bool_type whole)
     ∙ ap (λ (t : NamedTerm). combination (combination t b) a) (parts.relation_is ∙ ap equality (sym parts.right_typed))
-
--- SYM of what is no equation
-pub sym-refused : (theorem : Theorem) → dest_equation theorem.conclusion ≡ None → AnswersStated (Err Fault.NotEquation) (terms_of_theorem theorem) (sym_outcome theorem)
-sym-refused theorem none = rw none (inr refl)

@@ -1,5 +1,5 @@
 -- The token at the front is the one that the definition of tokens says.
-use Rattle.std.proofs.Common.{◌≡◌, ◌≢◌, ℕ, ◌+◌, ◌-◌, ◌*◌, ◌≤◌, Bool, true, false, ◌==◌, ◌||◌, List, [], ◌∷◌, ◌++◌, Option, None, Some, refl, sym, ap, ◌∙◌, subst, arith, append_assoc, unwrap_or, ◌<◌, length, drop, drop-cons, suc, get_or, Bor, MatchOption, nat_le, ◌&&◌}
+use Rattle.std.proofs.Common.{◌≡◌, ◌≢◌, ℕ, ◌+◌, ◌-◌, ◌*◌, ◌≤◌, Bool, true, false, ◌==◌, List, [], ◌∷◌, ◌++◌, Option, None, Some, refl, sym, ap, ◌∙◌, subst, arith, append_assoc, unwrap_or, ◌<◌, length, drop, drop-cons, suc, get_or, Bor, MatchOption}
 use Rattle.hol_grammar.specs.Classes.{IsStripped}
 use Rattle.std.proofs.lemmas.List.{append-nil, length-append, nil_from_length}
 use Rattle.std.proofs.lemmas.Bool.{eqb-true, eq-eqb, leb-true, le-leb, lt-leb}
@@ -292,71 +292,6 @@ lexed_one text done bytes rest token h e n = record {
 pub stripped : (text bytes : List ℕ) (r : Option (Bor (List ℕ))) → MatchOption r ((rest : List ℕ) → bytes ≢ text ++ rest) (λ x. bytes ≡ text ++ x.now) → IsStripped r (strip text bytes)
 stripped text bytes None h = strip_none text bytes h
 stripped text bytes (Some x) h = ap (strip text) h ∙ strip_some text x.now
-
-pub symbol_here : (symbol : Symbol) (others : List Symbol) (bytes : List ℕ) (o : Option (List ℕ)) → strip (symbol_text symbol) bytes ≡ o
-    → symbol_at (symbol ∷ others) bytes ≡ or_else symbol o (symbol_at others bytes)
-symbol_here symbol others bytes o e = ap (λ o. or_else symbol o (symbol_at others bytes)) e
-
-pub token_name : (bytes : List ℕ) → bytes ≢ [] → is_letter (get_or bytes 0 0) ≡ true → token_at bytes ≡ Some (Name (front is_name_byte bytes), back is_name_byte bytes)
-token_name [] n h = absurd (n refl)
-token_name (b ∷ bytes) n h =
-    let named : is_name_byte b ≡ true = ap (λ t. t || (nat_le 48 b && nat_le b 57) || b == 95 || b == 39) h in
-    ap (λ t. if_else t (Some (Name (b ∷ front is_name_byte bytes), back is_name_byte bytes))
-    (if_else (is_digit b) (number_at b (front is_digit bytes) (back is_digit bytes)) (symbol_at symbols (b ∷ bytes)))) h
-    ∙ sym (ap (λ t. Some (Name (if_else t (b ∷ front is_name_byte bytes) []), if_else t (back is_name_byte bytes) (b ∷ bytes))) named)
-
-pub token_mark : (bytes : List ℕ) → bytes ≢ [] → is_letter (get_or bytes 0 0) ≡ false → is_digit (get_or bytes 0 0) ≡ false → token_at bytes ≡ symbol_at symbols bytes
-token_mark [] n h d = absurd (n refl)
-token_mark (b ∷ bytes) n h d =
-    ap (λ t. if_else t (Some (Name (b ∷ front is_name_byte bytes), back is_name_byte bytes))
-    (if_else (is_digit b) (number_at b (front is_digit bytes) (back is_digit bytes)) (symbol_at symbols (b ∷ bytes)))) h
-    ∙ ap (λ t. if_else t (number_at b (front is_digit bytes) (back is_digit bytes)) (symbol_at symbols (b ∷ bytes))) d
-
-token_digit : (b : ℕ) (bytes : List ℕ) → is_letter b ≡ false → is_digit b ≡ true → token_at (b ∷ bytes) ≡ number_at b (front is_digit bytes) (back is_digit bytes)
-token_digit b bytes h d =
-    ap (λ t. if_else t (Some (Name (b ∷ front is_name_byte bytes), back is_name_byte bytes))
-    (if_else (is_digit b) (number_at b (front is_digit bytes) (back is_digit bytes)) (symbol_at symbols (b ∷ bytes)))) h
-    ∙ ap (λ t. if_else t (number_at b (front is_digit bytes) (back is_digit bytes)) (symbol_at symbols (b ∷ bytes))) d
-
-when_none : (t : Bool) → when {A = Token × List ℕ} t None ≡ None
-when_none true = refl
-when_none false = refl
-
-pub token_zero : (bytes : List ℕ) → bytes ≢ [] → is_letter (get_or bytes 0 0) ≡ false → is_digit (get_or bytes 0 0) ≡ true → get_or bytes 0 0 ≡ 48 → 1 < length (front is_digit bytes)
-    → token_at bytes ≡ None
-token_zero [] n h d z l = absurd (n refl)
-token_zero (b ∷ bytes) n h d z l =
-    token_digit b bytes h d ∙ go (front is_digit bytes) (subst (λ m. 1 < m) (ap (λ t. length (if_else t (b ∷ front is_digit bytes) [])) d) l)
-  where
-    go : (digits : List ℕ) → 1 < length (b ∷ digits) → number_at b digits (back is_digit bytes) ≡ None
-    go [] k = absurd (omega (arith, k))
-    go (c ∷ digits) k =
-        ap (when (is_within_limit (b ∷ c ∷ digits))) (ap (λ t. if_else t None (Some (Number (b ∷ c ∷ digits), back is_digit bytes))) (eq-eqb b 48 z))
-        ∙ when_none (is_within_limit (b ∷ c ∷ digits))
-
--- the digits at the front of a number, whatever stands before
-front_digits : (b : ℕ) (bytes : List ℕ) → is_digit b ≡ true → front is_digit (b ∷ bytes) ≡ b ∷ front is_digit bytes
-front_digits b bytes d = ap (λ t. if_else t (b ∷ front is_digit bytes) []) d
-
-pub token_large : (bytes : List ℕ) → bytes ≢ [] → is_letter (get_or bytes 0 0) ≡ false → is_digit (get_or bytes 0 0) ≡ true → is_within_limit (front is_digit bytes) ≡ false
-    → token_at bytes ≡ None
-token_large [] n h d l = absurd (n refl)
-token_large (b ∷ bytes) n h d l =
-    token_digit b bytes h d ∙ ap (λ t. when t (numeral_at b (front is_digit bytes) (back is_digit bytes))) (ap is_within_limit (sym (front_digits b bytes d)) ∙ l)
-
-pub token_number : (bytes : List ℕ) → bytes ≢ [] → is_letter (get_or bytes 0 0) ≡ false → is_digit (get_or bytes 0 0) ≡ true
-    → (get_or bytes 0 0 ≡ 48 → length (front is_digit bytes) ≤ 1) → is_within_limit (front is_digit bytes) ≡ true
-    → token_at bytes ≡ Some (Number (front is_digit bytes), back is_digit bytes)
-token_number [] n h d l w = absurd (n refl)
-token_number (b ∷ bytes) n h d l w =
-    token_digit b bytes h d
-    ∙ number_found b (front is_digit bytes) (back is_digit bytes) (λ z. go (front is_digit bytes) (subst (λ m. m ≤ 1) (ap (λ t. length (if_else t (b ∷ front is_digit bytes) [])) d) (l z)))
-    (ap is_within_limit (sym (front_digits b bytes d)) ∙ w)
-    ∙ sym (ap (λ t. Some (Number (if_else t (b ∷ front is_digit bytes) []), if_else t (back is_digit bytes) (b ∷ bytes))) d)
-  where
-    go : (digits : List ℕ) → length (b ∷ digits) ≤ 1 → digits ≡ []
-    go [] k = refl
-    go (c ∷ digits) k = absurd (omega (arith, k))
 
 -- each turn leaves less of the text
 pub less : (p : ℕ → Bool) (bytes rest : List ℕ) (token : Token) → token_at bytes ≡ Some (token, rest) → length (back p rest) < length bytes

@@ -26,10 +26,5 @@ type_taken wanted tokens n d t b found h e =
     ∙ ap (λ x. when x (Some (t, drop (suc n) (tokens_of tokens)))) (sym e)
     ∙ ap (λ r. when b (Some (t, r))) (drop-map token_of (suc n) tokens)
 
--- the type does not end within the tokens
-pub type_unended : (wanted : Ending) (tokens : List TokenModel) (n : ℕ) (t : TypeTree) → run tokens [] None ≡ Some (t, drop n tokens) → drop n tokens ≡ []
-    → type_until wanted (run tokens [] None) ≡ None
-type_unended wanted tokens n t found e = ap (type_until wanted) (found ∙ ap (λ r. Some (t, r)) e)
-
 pub rest_whole : {A : Type 0} (k : ℕ) (xs : List A) → take (length xs - k) (drop k xs) ≡ drop k xs
 rest_whole k xs = ap (λ n. take n (drop k xs)) (sym (length-drop k xs)) ∙ take-length (drop k xs)

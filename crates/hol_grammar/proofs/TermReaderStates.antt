@@ -228,10 +228,6 @@ floor_known n items (o ∷ opens) h e =
     let last = unsnoc open_here items (places opens) (place o) e in
     h.1 last.0 last.1 last.2 ∙ open_level_is last.1 ∙ ap place_level last.3 ∙ sym (floor_is o opens)
 
-abbrev is_alone : Place → Bool
-is_alone AloneOpen = true
-is_alone _ = false
-
 alone : (o : Pending) → AloneOpen ≡ place o → o ≡ Parenthesis None
 alone (Parenthesis None) e = refl
 alone (Parenthesis (Some f)) e = absurd (let bad : AloneOpen ≡ ArgumentOpen = e in cc)
@@ -291,20 +287,9 @@ encloses_argument old new (opens, t) step h pop is push same = go (popped opens 
           },
         )
 
--- what waits for a term is not closed, and neither is nothing
-pub closes_nothing : (old : TermReader) (x : List Pending × TermTree) (rest : List Open) (w : Waiting) → IsState old x.0 (Some x.1)
-    → old.opens.items ≡ rest ++ WaitsHere w ∷ [] → closed x ≡ Fails
-closes_nothing old (opens, t) rest w h pop =
-    let last = popped opens rest (WaitsHere w) (sym (ap (map open_here) pop) ∙ h.places_are) in
-    let frame = is_frame last.0 (ap waits_at (sym last.4) ∙ waits_here w) in
-    ap (λ l. closed (l, t)) (last.2 ∙ ap (λ x. x ∷ last.1) frame.1)
-
 no_places : (opens : List Pending) → places opens ≡ [] → opens ≡ []
 no_places [] e = refl
 no_places (o ∷ opens) e = absurd (nil_not_snoc (places opens) (place o) (sym e))
-
-pub closes_empty : (old : TermReader) (x : List Pending × TermTree) → IsState old x.0 (Some x.1) → old.opens.items ≡ [] → closed x ≡ Fails
-closes_empty old (opens, t) h e = ap (λ l. closed (l, t)) (no_places opens (sym h.places_are ∙ ap (map open_here) e))
 
 -- nothing is open at the end, or something is
 pub ends_whole : (reader : TermReader) (x : List Pending × TermTree) → IsState reader x.0 (Some x.1) → reader.opens.items ≡ []
@@ -312,10 +297,6 @@ pub ends_whole : (reader : TermReader) (x : List Pending × TermTree) → IsStat
 ends_whole reader (opens, t) h e =
     let none : opens ≡ [] = no_places opens (sym h.places_are ∙ ap (map open_here) e) in
     (t, ap (λ l. whole (l, t)) none, h.steps_are ∙ ap (λ l. flat_steps (steps_before l ++ term_steps t)) none)
-
-pub ends_open : (reader : TermReader) (x : List Pending × TermTree) → IsState reader x.0 (Some x.1) → (reader.opens.items ≡ [] → ⊥) → whole x ≡ None
-ends_open reader ([], t) h e = absurd (e (nothing open_here reader.opens.items h.places_are))
-ends_open reader (o ∷ opens, t) h e = refl
 
 -- the pieces that stand for themselves
 pub open_piece : (lexeme : Lexeme) → IsPieceOf OpenHere lexeme → lexeme ≡ OpenPiece

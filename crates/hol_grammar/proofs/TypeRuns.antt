@@ -7,10 +7,10 @@ use Rattle.hol_grammar.specs.declared.token.Token.{Token}
 use Rattle.hol_grammar.specs.declared.type_reader.TypeReader.{TypeReader}
 use Rattle.hol_grammar.specs.declared.type_reader.ReadError.{ReadError}
 use Rattle.hol_grammar.specs.declared.type_reader.ReadError.TheVariants.{Memory, Syntax}
-use Rattle.hol_grammar.specs.TypeReader.{Role, Stops, role, Pending, turn, run}
+use Rattle.hol_grammar.specs.TypeReader.{Role, role, Pending, turn, run}
 use Rattle.hol_grammar.specs.Views.{token_of, tokens_of, steps_of}
 use Rattle.hol_grammar.specs.TypeStates.{IsState, Takes, Reads}
-use Rattle.hol_grammar.proofs.TypeReading.{goes_on, ends_before, fails_at, at_end}
+use Rattle.hol_grammar.proofs.TypeReading.{goes_on, ends_before, fails_at}
 
 -- the token at an index, and what follows it
 pub rest_at : (tokens : List Token) (i : ℕ) (d : Token) → i < length tokens
@@ -34,18 +34,3 @@ pub fails : (r : Role) (token : TokenModel) (rest whole : List TokenModel) (open
     → r ≡ role token → Takes (Err error) new (turn r opens c) → run (token ∷ rest) opens c ≡ run whole [] None → Reads (Err error) whole
 fails r token rest whole opens c new Memory e h w = tt
 fails r token rest whole opens c new Syntax e h w = sym w ∙ fails_at token rest opens c (ap (λ r. turn r opens c) (sym e) ∙ h)
-
--- at the end of the tokens
-pub goes_past : (opens : List Pending) (c : Option TypeTree) (new : TypeReader) (b : Bool) → Takes (Ok b) new (turn Stops opens c) → b ≡ true → run [] opens c ≡ None
-goes_past opens c new true h b = at_end opens c _ h.2
-goes_past opens c new false h b = absurd (let no : false ≡ true = b in cc)
-
-pub ends_last : (opens : List Pending) (c : Option TypeTree) (new : TypeReader) (b : Bool) → Takes (Ok b) new (turn Stops opens c) → b ≡ false
-    → (t : TypeTree) × (run [] opens c ≡ Some (t, [])) × (steps_of new.steps.items ≡ type_steps t)
-ends_last opens c new false h b = (h.0, at_end opens c _ h.1, h.2)
-ends_last opens c new true h b = absurd (let no : true ≡ false = b in cc)
-
-pub fails_last : (whole : List TokenModel) (opens : List Pending) (c : Option TypeTree) (new : TypeReader) (error : ReadError)
-    → Takes (Err error) new (turn Stops opens c) → run [] opens c ≡ run whole [] None → Reads (Err error) whole
-fails_last whole opens c new Memory h w = tt
-fails_last whole opens c new Syntax h w = sym w ∙ at_end opens c _ h

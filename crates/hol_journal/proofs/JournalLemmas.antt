@@ -5,7 +5,7 @@ use Rattle.hol_model.specs.Logic.Theory.{Theory, IsLegal}
 use Rattle.hol_model.specs.Kernel.Theorem.{IsTheorem}
 use Rattle.hol_model.specs.Logic.Derivable.{IsMember}
 use Rattle.hol_model.specs.Goals.Goals.{Sequent}
-use Rattle.hol_journal.specs.Steps.{Step, JournalEntry, derived, derived_sequent, sequent_of_theorem}
+use Rattle.hol_journal.specs.Steps.{Step, JournalEntry, derived_sequent, sequent_of_theorem}
 use Rattle.hol_journal.specs.Steps as steps
 use Rattle.hol_journal.specs.Lines.{Gives}
 use Rattle.hol_journal.specs.Journal.{Journal, Recorded, added_by, grown_by, HasTheorem, KnowsParts, Follows, IsEntryAfter, IsJournal, IsMade}

@@ -1,5 +1,5 @@
 -- Entries at places of a list that grows.
-use Rattle.std.proofs.Common.{◌≡◌, ◌+◌, ℕ, zero, suc, List, [], ◌∷◌, ◌++◌, length, refl, Some}
+use Rattle.std.proofs.Common.{◌≡◌, ℕ, zero, suc, List, [], ◌∷◌, ◌++◌, length, refl, Some}
 use Rattle.std.specs.Prelude.{slice_get}
 
 -- what stands at a place stands there in a list that goes on

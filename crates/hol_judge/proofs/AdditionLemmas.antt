@@ -1,25 +1,23 @@
 -- What a log has given, with what a line adds.
 use Rattle.std.proofs.Common.{◌≡◌, ℕ, ◌<◌, ◌+◌, List, [], ◌∷◌, ◌++◌, ◌||◌, length, append-nil, length-append, true, false, Bool, refl, sym, ◌∙◌, ap, subst, arith, Vec, Global, Result, Ok, Err}
-use Rattle.std.specs.Prelude.{map, reverse, OnErr}
+use Rattle.std.specs.Prelude.{map, OnErr}
 use Rattle.std.specs.List.{All, slice_index_or}
-use Rattle.std.proofs.lemmas.List.{length-map, map_push, reverse-append}
+use Rattle.std.proofs.lemmas.List.{length-map, map_push}
 use Rattle.std.proofs.lemmas.List.Elements.{All-push}
 use Rattle.hol_model.specs.declared.fault.Fault.{Fault}
 use Rattle.hol_model.specs.Logs.LogState.{no_sequent}
 use Rattle.hol_logtext.specs.Lines.{version_of}
 use Rattle.hol_shared.specs.Terms.{TermTable, name_at, type_at, term_at}
-use Rattle.hol_steps.specs.Known.{Knows, GivesConstant}
+use Rattle.hol_steps.specs.Known.{GivesConstant}
 use Rattle.hol_steps.specs.Hypotheses.{terms_in, AreOrdered}
 use Rattle.hol_steps.specs.State.{sequent_in, entry_in, theory_in, claim_in, state_of, IsFittingTheorem, HasEntryParts, IsClaim, IsContents}
 use Rattle.hol_steps.specs.Judged.{CanBeAdded, HasRoom, IsNewConstant}
 use Rattle.hol_judge.specs.Added.{IsAdded, IsEntered}
-use Rattle.hol_steps.specs.declared.known.Known.{Known}
 use Rattle.hol_steps.specs.declared.state.Theorem.{Theorem}
-use Rattle.hol_steps.specs.declared.state.TheoryEntry.{TheoryEntry}
 use Rattle.hol_steps.specs.declared.state.TheoryEntry.TheVariants.{Definition}
 use Rattle.hol_steps.specs.declared.state.ListedClaim.{ListedClaim}
 use Rattle.hol_steps.specs.declared.state.Contents.{Contents}
-use Rattle.hol_steps.specs.declared.state.Addition.TheVariants.{TypeNumber, TermNumber, Proved, Defined, Claimed, Ended}
+use Rattle.hol_steps.specs.declared.state.Addition.TheVariants.{TypeNumber, TermNumber, Proved, Defined, Claimed}
 use Rattle.hol_change.specs.Forming.{IsFitting}
 use Rattle.hol_shared.proofs.TableLemmas.{get_or-longer}
 use Rattle.hol_steps.proofs.StateLemmas.{map-same, All-weaker}
@@ -141,53 +139,6 @@ added-claim table contents claims claim is stands pushed = record {
     is_ended = sym (either contents.is_ended) i;
   };
 }
-
-either-true : (test : Bool) → true ≡ (test || true)
-either-true true = refl
-either-true false = refl
-
-pub added-end : (table : TermTable) (contents : Contents) → IsContents table contents → IsAdded table contents Ended (record contents { is_ended = true })
-added-end table contents is = record {
-  is_contents = record {
-    types = is.types;
-    terms = is.terms;
-    theorems = is.theorems;
-    entries = is.entries;
-    room = is.room;
-    knows = is.knows;
-    claims = is.claims;
-  };
-  state = λ i. record {
-    version = version_of contents.version;
-    types = sym (append-nil (state_of table contents).types) i;
-    terms = sym (append-nil (state_of table contents).terms) i;
-    theorems = sym (append-nil (state_of table contents).theorems) i;
-    theory = (state_of table contents).theory;
-    claims = sym (append-nil (state_of table contents).claims) i;
-    is_ended = either-true contents.is_ended i;
-  };
-}
-
-pub entered : (table : TermTable) (contents : Contents) (entries : Vec TheoryEntry Global) (known : Known) (entry : TheoryEntry) → IsContents table contents → HasEntryParts table entry → HasRoom contents → entries.items ≡ contents.entries.items ++ entry ∷ []
-    → Knows table known.constants.entries known.declared.keys (entry_in table entry ∷ theory_in table contents.entries.items)
-    → IsEntered table contents entry (record contents { entries = entries; known = known })
-entered table contents entries known entry is parts room pushed knows = record {
-  is_contents = record {
-    types = is.types;
-    terms = is.terms;
-    theorems = is.theorems;
-    entries = subst (All (HasEntryParts table)) (sym pushed) (All-push (HasEntryParts table) contents.entries.items entry is.entries parts);
-    room = let longer : length entries.items ≡ length contents.entries.items + 1 = ap length pushed ∙ length-append contents.entries.items (entry ∷ []) in omega (arith, room, longer);
-    knows = subst (Knows table known.constants.entries known.declared.keys) (sym theory) knows;
-    claims = is.claims;
-  };
-  state = λ i. record (state_of table contents) { theory = theory i };
-}
-  where
-    theory : theory_in table entries.items ≡ entry_in table entry ∷ theory_in table contents.entries.items
-    theory =
-        ap reverse (ap (map (entry_in table)) pushed ∙ map_push (entry_in table) contents.entries.items entry)
-        ∙ reverse-append (map (entry_in table) contents.entries.items) (entry_in table entry ∷ [])
 
 pub gives-definition : (table : TermTable) (contents : Contents) (name ty body : ℕ) → IsNewConstant table contents name ty → GivesConstant table (entry_in table (Definition name ty body)) (theory_in table contents.entries.items) name ty
 gives-definition table contents name ty body new = record { name_within = new.name_within; type_within = new.type_within; is_new = new.is_new; gives = λ other. refl; keeps = λ other. refl }

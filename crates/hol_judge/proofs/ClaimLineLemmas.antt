@@ -1,16 +1,16 @@
 -- The lines of claims.
-use Rattle.std.proofs.Common.{◌≡◌, ℕ, ◌+◌, ◌<◌, ◌≤◌, ◌||◌, List, [], ◌∷◌, ◌++◌, length, drop, get_or, Bool, true, false, not, ◌&&◌, refl, sym, ◌∙◌, ap, subst, Some, Ok, append_assoc, append-nil, arith}
+use Rattle.std.proofs.Common.{◌≡◌, ℕ, ◌+◌, ◌<◌, ◌||◌, List, [], ◌∷◌, ◌++◌, length, drop, get_or, Bool, true, false, not, ◌&&◌, refl, sym, ◌∙◌, ap, subst, Some, Ok, append_assoc, arith}
 use Rattle.std.specs.Prelude.{slice_get, nat_eq, nat_le}
 use Rattle.std.specs.List.{All, list_any}
 use Rattle.std.specs.Str.{bytes_eq}
-use Rattle.std.proofs.lemmas.List.{map_push, drop_all, length-map}
+use Rattle.std.proofs.lemmas.List.{map_push, length-map}
 use Rattle.std.proofs.lemmas.List.Elements.{All-head, All-tail, All-push}
 use Rattle.std.proofs.lemmas.Option.{get_or_from_slice_get}
 use Rattle.hol_model.specs.Terms.Name.{is_identifier}
 use Rattle.hol_model.specs.Terms.Nameless.{Nameless, same_term}
 use Rattle.hol_model.specs.Logs.LogLine.{claim_line}
 use Rattle.hol_model.specs.Logs.LogState as given
-use Rattle.hol_model.specs.Logs.LogState.{LogState, LogClaim, same_terms, set_of, terms_at, no_sequent}
+use Rattle.hol_model.specs.Logs.LogState.{LogState, same_terms, set_of, terms_at}
 use Rattle.hol_model.specs.Logs.LogSequents.{supposing}
 use Rattle.hol_model.specs.Logs.LogFaults.{is_no_term}
 use Rattle.hol_model.proofs.Tests.{same_term-Decides, first_of_both, second_of_both}
@@ -49,13 +49,6 @@ pub record AreNumbered (state : LogState) (lines : List ℕ) (index : ℕ) (term
   pub named : terms_in terms numbers ++ terms_at state (drop index lines) ≡ terms_at state lines
   pub fitting : All (IsFitting terms) numbers
 
-pub none-numbered : (state : LogState) (lines : List ℕ) (terms : List Nameless) (numbers : List ℕ) → numbers ≡ [] → AreNumbered state lines 0 terms numbers
-none-numbered state lines terms numbers none = record {
-  there = refl;
-  named = ap (λ l. terms_in terms l ++ terms_at state lines) none;
-  fitting = subst (All (IsFitting terms)) (sym none) (λ k d within. absurd (omega (arith, within)));
-}
-
 module _ (state : LogState) (lines : List ℕ) (index line : ℕ) (within : index < length lines) (is : line ≡ get_or lines index 0) (terms : List Nameless) (numbers : List ℕ) (numbered : AreNumbered state lines index terms numbers) where
   here : drop index lines ≡ line ∷ drop (index + 1) lines
   here = drop-here lines index line within is
@@ -80,15 +73,6 @@ module _ (state : LogState) (lines : List ℕ) (index line : ℕ) (within : inde
         ∙ (ap (λ t. terms_in terms numbers ++ t ∷ rest) (sym names.named) ∙ (ap (λ l. terms_in terms numbers ++ terms_at state l) (sym here) ∙ numbered.named)));
     fitting = subst (All (IsFitting terms)) (sym pushed) (All-push (IsFitting terms) numbers number numbered.fitting names.fits);
   }
-
-pub all-numbered : (state : LogState) (lines : List ℕ) (index : ℕ) (terms : List Nameless) (numbers : List ℕ) → length lines ≤ index → AreNumbered state lines index terms numbers → NamesTerms state lines terms numbers
-all-numbered state lines index terms numbers past numbered =
-    let done : drop index lines ≡ [] = drop_all index lines past in
-    record {
-      are_there = numbered.there ∙ ap (list_any (is_no_term state)) done;
-      named = sym (append-nil (terms_in terms numbers)) ∙ (ap (λ l. terms_in terms numbers ++ terms_at state l) (sym done) ∙ numbered.named);
-      fitting = numbered.fitting;
-    }
 
 none-of-three : (p q r : Bool) → p ≡ false → q ≡ false → r ≡ false → (p || q || r) ≡ false
 none-of-three p q r one two three = cc

@@ -81,14 +81,8 @@ room table contents is =
 pub all-fit : (types terms theorems entries : Bool) → types ≡ true → terms ≡ true → theorems ≡ true → entries ≡ true → not (types && terms && theorems && entries) ≡ false
 all-fit types terms theorems entries a b c d = cc
 
-pub types-large : (types terms theorems entries : Bool) → types ≡ false → not (types && terms && theorems && entries) ≡ true
-types-large types terms theorems entries is = cc
-
 pub terms-large : (types terms theorems entries : Bool) → types ≡ true → terms ≡ false → not (types && terms && theorems && entries) ≡ true
 terms-large types terms theorems entries is large = cc
-
-pub theorems-large : (types terms theorems entries : Bool) → types ≡ true → terms ≡ true → theorems ≡ false → not (types && terms && theorems && entries) ≡ true
-theorems-large types terms theorems entries is one large = cc
 
 pub entries-large : (types terms theorems entries : Bool) → types ≡ true → terms ≡ true → theorems ≡ true → entries ≡ false → not (types && terms && theorems && entries) ≡ true
 entries-large types terms theorems entries is one two large = cc

@@ -12,13 +12,13 @@ use Rattle.hol_model.specs.Logic.Legality.{is_new_name}
 use Rattle.hol_model.specs.Logs.LogLine.LogLine.{theorem_line}
 use Rattle.hol_model.specs.Logs.LogLine.LogRule.{definition_step}
 use Rattle.hol_model.specs.Logs.LogState as given
-use Rattle.hol_model.specs.Logs.LogState.{LogState, term_type}
+use Rattle.hol_model.specs.Logs.LogState.{term_type}
 use Rattle.hol_model.specs.Logs.LogFaults.{is_no_term, is_no_new_constant, sequent_fits, first_applying}
 use Rattle.hol_shared.specs.Terms.{TermTable, name_at, type_at, term_at, IsGrown}
 use Rattle.hol_steps.specs.State.{theory_in, state_of, IsContents}
 use Rattle.hol_steps.specs.Judged.{NamesTerm, first_fault, Judges}
 use Rattle.hol_steps.specs.Steps as steps
-use Rattle.hol_steps.specs.Steps.{Step, step_cause, ruled}
+use Rattle.hol_steps.specs.Steps.{Step, step_cause}
 use Rattle.hol_steps.specs.Definitions.{IsDefined}
 use Rattle.hol_steps.specs.declared.state.Contents.{Contents}
 use Rattle.hol_steps.specs.declared.state.Addition.TheVariants.{Defined}

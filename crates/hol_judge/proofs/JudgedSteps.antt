@@ -1,5 +1,5 @@
 -- What a judged step says of a line with a theorem.
-use Rattle.std.proofs.Common.{◌≡◌, ℕ, ◌+◌, ◌≤◌, List, [], ◌∷◌, length, Bool, true, false, not, ◌&&◌, ◌||◌, nat_le, refl, sym, ◌∙◌, ap, Some, Ok, arith}
+use Rattle.std.proofs.Common.{◌≡◌, ℕ, ◌+◌, ◌≤◌, List, [], ◌∷◌, length, Bool, true, false, not, ◌&&◌, ◌||◌, nat_le, refl, sym, ◌∙◌, ap, Ok, arith}
 use Rattle.std.specs.Prelude.{map}
 use Rattle.std.proofs.lemmas.List.{length-reverse, length-map}
 use Rattle.hol_model.specs.declared.limits.TheConstants.{DEFINITIONS_LIMIT}
@@ -17,15 +17,12 @@ use Rattle.hol_steps.specs.Judged.{NamesTerm, NamesTheorem, first_fault, IsAccep
 use Rattle.hol_steps.specs.StepPairs.{term_pairs_in, type_pairs_in, NamesTermPairs, NamesTypePairs}
 use Rattle.hol_model.specs.Terms.HolType.{HolType}
 use Rattle.hol_steps.specs.Steps as steps
-use Rattle.hol_steps.specs.Steps.{Step, IsStep, step_of, step_cause, IsTaken, Takes}
+use Rattle.hol_steps.specs.Steps.{Step, IsStep, step_cause, IsTaken}
 use Rattle.hol_steps.specs.declared.state.Theorem.{Theorem}
 use Rattle.hol_steps.specs.declared.state.Contents.{Contents}
 use Rattle.hol_steps.specs.declared.state.Addition.TheVariants.{Proved}
 
 -- causes
-
-pub number-refused : (state : LogState) (rule : LogRule) → rule_has_number_fault state rule ≡ true → first_fault state (theorem_line rule) ≡ Some Number
-number-refused state rule fault = rw fault refl
 
 -- the causes of the line are those of the step
 causes : (number name kind fault fits room : Bool) → number ≡ false → room ≡ true

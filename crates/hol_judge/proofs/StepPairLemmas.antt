@@ -9,10 +9,8 @@ use Rattle.hol_model.specs.Logs.LogState as given
 use Rattle.hol_model.specs.Logs.LogState.{LogState}
 use Rattle.hol_model.specs.Logs.LogFaults.{is_no_term, is_no_type}
 use Rattle.hol_shared.specs.Terms.{type_at, term_at}
-use Rattle.hol_steps.specs.Judged.{NamesTerm, NamesType}
-use Rattle.hol_steps.specs.StepPairs.{IsFittingPair, IsTypePair, NamesTermPairs, NamesTypePairs}
+use Rattle.hol_steps.specs.StepPairs.{IsFittingPair, IsTypePair}
 use Rattle.hol_steps.proofs.InstanceLemmas.{drop-pair}
-use Rattle.hol_judge.proofs.JudgedSteps.{neither-true}
 
 -- what is named, as far as this place
 pub record ArePaired {Value : Type 0} (missing : ℕ × ℕ → Bool) (at here : ℕ × ℕ → Value) (P : ℕ × ℕ → Type 0) (lines : List (ℕ × ℕ)) (index : ℕ) (pairs : List (ℕ × ℕ)) : Type 0 where
@@ -68,27 +66,3 @@ AreTermsPaired state terms =
 abbrev pub AreTypesPaired : LogState → List HolType → List (ℕ × ℕ) → ℕ → List (ℕ × ℕ) → Type 0
 AreTypesPaired state types =
     ArePaired {Value = HolType × HolType} (λ pair. is_no_type state pair.0 || is_no_type state pair.1) (λ pair. (given.type_at state pair.0, given.type_at state pair.1)) (λ pair. (type_at types pair.0, type_at types pair.1)) (IsTypePair types)
-
-pub terms-paired : (state : LogState) (terms : List Nameless) (lines : List (ℕ × ℕ)) (index : ℕ) (pairs now : List (ℕ × ℕ)) (new old : ℕ) → index < length lines → AreTermsPaired state terms lines index pairs
-    → NamesTerm state (get_or lines index (0, 0)).0 terms new → NamesTerm state (get_or lines index (0, 0)).1 terms old → now ≡ pairs ++ (new, old) ∷ [] → AreTermsPaired state terms lines (index + 1) now
-terms-paired state terms lines index pairs now new old within paired one two pushed =
-    one-paired {Value = Nameless × Nameless} (λ pair. is_no_term state pair.0 || is_no_term state pair.1) (λ pair. (given.term_at state pair.0, given.term_at state pair.1)) (λ pair. (term_at terms pair.0, term_at terms pair.1)) (IsFittingPair terms) lines index (0, 0) within pairs paired (new, old) now (neither-true _ _ one.is_there two.is_there) (λ i. (one.named i, two.named i)) (record { new = one.fits; old = two.fits }) pushed
-
-pub types-paired : (state : LogState) (types : List HolType) (lines : List (ℕ × ℕ)) (index : ℕ) (pairs now : List (ℕ × ℕ)) (new old : ℕ) → index < length lines → AreTypesPaired state types lines index pairs
-    → NamesType state (get_or lines index (0, 0)).0 types new → NamesType state (get_or lines index (0, 0)).1 types old → now ≡ pairs ++ (new, old) ∷ [] → AreTypesPaired state types lines (index + 1) now
-types-paired state types lines index pairs now new old within paired one two pushed =
-    one-paired {Value = HolType × HolType} (λ pair. is_no_type state pair.0 || is_no_type state pair.1) (λ pair. (given.type_at state pair.0, given.type_at state pair.1)) (λ pair. (type_at types pair.0, type_at types pair.1)) (IsTypePair types) lines index (0, 0) within pairs paired (new, old) now (neither-true _ _ one.is_there two.is_there) (λ i. (one.named i, two.named i)) (record { new = one.within; old = two.within }) pushed
-
-pub all-terms-paired : (state : LogState) (terms : List Nameless) (lines : List (ℕ × ℕ)) (index : ℕ) (pairs : List (ℕ × ℕ)) → length lines ≤ index → AreTermsPaired state terms lines index pairs → NamesTermPairs state lines terms pairs
-all-terms-paired state terms lines index pairs past paired = record {
-  are_there = all-paired-there {Value = Nameless × Nameless} (λ pair. is_no_term state pair.0 || is_no_term state pair.1) (λ pair. (given.term_at state pair.0, given.term_at state pair.1)) (λ pair. (term_at terms pair.0, term_at terms pair.1)) (IsFittingPair terms) lines index pairs past paired;
-  named = all-paired-named {Value = Nameless × Nameless} (λ pair. is_no_term state pair.0 || is_no_term state pair.1) (λ pair. (given.term_at state pair.0, given.term_at state pair.1)) (λ pair. (term_at terms pair.0, term_at terms pair.1)) (IsFittingPair terms) lines index pairs past paired;
-  fitting = paired.fitting;
-}
-
-pub all-types-paired : (state : LogState) (types : List HolType) (lines : List (ℕ × ℕ)) (index : ℕ) (pairs : List (ℕ × ℕ)) → length lines ≤ index → AreTypesPaired state types lines index pairs → NamesTypePairs state lines types pairs
-all-types-paired state types lines index pairs past paired = record {
-  are_there = all-paired-there {Value = HolType × HolType} (λ pair. is_no_type state pair.0 || is_no_type state pair.1) (λ pair. (given.type_at state pair.0, given.type_at state pair.1)) (λ pair. (type_at types pair.0, type_at types pair.1)) (IsTypePair types) lines index pairs past paired;
-  named = all-paired-named {Value = HolType × HolType} (λ pair. is_no_type state pair.0 || is_no_type state pair.1) (λ pair. (given.type_at state pair.0, given.type_at state pair.1)) (λ pair. (type_at types pair.0, type_at types pair.1)) (IsTypePair types) lines index pairs past paired;
-  within = paired.fitting;
-}

@@ -11,16 +11,16 @@ use Rattle.hol_model.specs.declared.limits.TheConstants.{DEFINITIONS_LIMIT}
 use Rattle.hol_model.specs.Terms.Name.{is_identifier, is_constant_name}
 use Rattle.hol_model.specs.Terms.HolType.{HolType}
 use Rattle.hol_model.specs.Terms.NamedTerm.{type_fits}
-use Rattle.hol_model.specs.Terms.Nameless.{Nameless, free, const, bound, app, lam, nameless_type}
+use Rattle.hol_model.specs.Terms.Nameless.{Nameless, free, const, app, nameless_type}
 use Rattle.hol_model.specs.Terms.Measures.{nameless_within_limits}
 use Rattle.hol_model.specs.Logic.Checks.{knows_constant}
 use Rattle.hol_model.specs.Logs.LogLine.{LogLine, variable_line, constant_line, combination_line, abstraction_line}
 use Rattle.hol_model.specs.Logs.LogState as given
-use Rattle.hol_model.specs.Logs.LogState.{LogState, type_of_term_at}
+use Rattle.hol_model.specs.Logs.LogState.{LogState}
 use Rattle.hol_model.specs.Logs.LogSequents.{new_types, new_terms, new_theorems, new_entries, new_claims, ends, is_free_variable, abstraction_over}
 use Rattle.hol_model.specs.Logs.LogFaults.{has_shape_fault, has_number_fault, has_name_fault, has_type_fault, has_constant_fault, has_rule_fault, has_claim_fault, has_size_fault, takes, sequent_fits, is_no_type, is_no_term}
 use Rattle.hol_shared.specs.Terms.{TermTable, name_at, type_at, term_at, IsGrown}
-use Rattle.hol_change.specs.Change.{IsVariable, IsMade}
+use Rattle.hol_change.specs.Change.{IsMade}
 use Rattle.hol_steps.specs.State.{theory_in, state_of, IsContents}
 use Rattle.hol_steps.specs.Judged.{NamesType, NamesTerm, Judges, first_fault}
 use Rattle.hol_judge.specs.TermLines.{AnswersTerm}
@@ -89,13 +89,6 @@ judged-term line contents earlier now wanted (Err fault) adds is answers grown =
 pub made-within : (wanted : Nameless) (result : Result ℕ Fault) (terms : List Nameless) → IsMade wanted result terms → IfOk result (λ number. number < length terms)
 made-within wanted (Ok number) terms made = is_within terms number wanted made.number
 made-within wanted (Err fault) terms made = tt
-
-pub is-variable : (terms : List Nameless) (number : ℕ) (t : Nameless) → slice_get terms number ≡ Some t → is_free_variable t ≡ true → IsVariable terms number
-is-variable terms number (free name ty) there is = record { name = name; ty = ty; is_free = there }
-is-variable terms number (const name ty) there is = cc
-is-variable terms number (bound index) there is = cc
-is-variable terms number (app f a) there is = cc
-is-variable terms number (lam ty body) there is = cc
 
 pub adds-variable : (state : LogState) (name : List ℕ) (line : ℕ) (ty : HolType) → is_no_type state line ≡ false → is_identifier name ≡ true → given.type_at state line ≡ ty → AddsOneTerm state (variable_line name line) (free name ty)
 adds-variable state name line ty there legal named = record {

@@ -1,5 +1,5 @@
 -- Putting hypotheses in their places, and what it does to the set of their images.
-use Rattle.std.proofs.Common.{◌≡◌, ◌⊎◌, ℕ, suc, ◌+◌, ◌<◌, List, [], ◌∷◌, ◌++◌, map, length, take, drop, get_or, Bool, true, false, not, refl, sym, ◌∙◌, ap, subst, inl, inr, Option, Some, None, if◌then◌else◌, arith, drop-cons, add-one, append-nil}
+use Rattle.std.proofs.Common.{◌≡◌, ◌⊎◌, ℕ, suc, ◌+◌, ◌<◌, List, [], ◌∷◌, ◌++◌, map, length, take, drop, get_or, Bool, true, false, not, refl, sym, ◌∙◌, ap, subst, inl, inr, Option, Some, None, if◌then◌else◌, drop-cons, add-one, append-nil}
 use Rattle.std.proofs.lemmas.List.{take_more}
 use Rattle.std.proofs.lemmas.List.Elements.{filter-append}
 use Rattle.std.specs.Prelude.{insert}
@@ -11,31 +11,11 @@ use Rattle.hol_model.specs.Terms.Nameless.{Nameless, image, nameless_cmp, same_t
 use Rattle.hol_model.specs.Logic.Derivable.{IsMember, IsSameSet, without}
 use Rattle.hol_model.proofs.Terms.Orders.{same_from_nameless_cmp}
 use Rattle.hol_model.specs.Kernel.Theorem.{by_order, are_alpha_equivalent, with_hypothesis, with_hypotheses, without_hypothesis}
-use Rattle.hol_kernel.specs.Place.{place_of, shifted}
-
--- the place
-
-pub shifted-zero : (place : Option ℕ) → shifted 0 place ≡ place
-shifted-zero None = refl
-shifted-zero (Some index) = ap Some (omega arith)
-
-pub shifted-suc : (by : ℕ) (place : Option ℕ) → shifted by (option_map suc place) ≡ shifted (by + 1) place
-shifted-suc by None = refl
-shifted-suc by (Some index) = ap Some (omega arith)
+use Rattle.hol_kernel.specs.Place.{place_of}
 
 -- a list from one of its elements on
 pub drop-here : (xs : List NamedTerm) (index : ℕ) (x : NamedTerm) → index < length xs → x ≡ get_or xs index x → drop index xs ≡ x ∷ drop (index + 1) xs
 drop-here xs index x within is = drop-cons xs index x within ∙ rw (← is, add-one) refl
-
--- the place, at an element that the new hypothesis comes before, is, or comes after
-pub place-before : (xs rest : List NamedTerm) (x new : NamedTerm) → xs ≡ x ∷ rest → nameless_cmp (image new) (image x) ≡ Less → place_of xs new ≡ Some 0
-place-before xs rest x new is order = rw (is, order) refl
-
-pub place-there : (xs rest : List NamedTerm) (x new : NamedTerm) → xs ≡ x ∷ rest → nameless_cmp (image new) (image x) ≡ Equal → place_of xs new ≡ None
-place-there xs rest x new is order = rw (is, order) refl
-
-pub place-after : (xs rest : List NamedTerm) (x new : NamedTerm) → xs ≡ x ∷ rest → nameless_cmp (image new) (image x) ≡ Greater → place_of xs new ≡ option_map suc (place_of rest new)
-place-after xs rest x new is order = rw (is, order) refl
 
 -- a hypothesis goes to its place
 pub with_hypothesis-place : (xs : List NamedTerm) (new : NamedTerm) → with_hypothesis xs new ≡ option_map_or (λ index. insert xs index new) (place_of xs new) xs

@@ -1,13 +1,12 @@
 -- Theorems of which each term is changed, whatever names their binders take, and what may stand for variables.
-use Rattle.std.proofs.Common.{◌≡◌, ◌⊎◌, ℕ, zero, suc, ◌<◌, List, [], ◌∷◌, ◌++◌, length, get_or, arith, sym, ◌&&◌, map, Bool, true, false, not, Option, Some, None, refl, ◌∙◌, ap, inl, inr, if◌then◌else◌, find}
+use Rattle.std.proofs.Common.{◌≡◌, ◌⊎◌, ℕ, List, [], ◌∷◌, map, Bool, true, false, not, Option, Some, None, refl, ◌∙◌, ap, inl, inr, if◌then◌else◌, find}
 use Rattle.std.specs.List.{list_all}
 use Rattle.std.specs.Option.{option_map_or}
 use Rattle.hol_model.specs.Logic.KnownTerm.{knows_type, knows_types, knows_constants, has_instances}
 use Rattle.hol_model.proofs.Terms.HolTypeEq.{type_eq-Decides}
-use Rattle.hol_model.proofs.Tests.{first_of_both, second_of_both, both, same_variable-type}
+use Rattle.hol_model.proofs.Tests.{first_of_both, second_of_both, same_variable-type}
 use Rattle.hol_model.proofs.Logic.KnownTerms.{image-known, knows_type-IsKnownType}
 use Rattle.hol_model.specs.Terms.HolType.{HolType, type_variable, type_eq, replaces_type_variables, type_instance_of}
-use Rattle.hol_model.specs.Terms.Measures.{nameless_within_limits}
 use Rattle.hol_model.specs.Terms.NamedTerm.{NamedTerm, variable, constant, combination, abstraction, type_of}
 use Rattle.hol_model.specs.Terms.Nameless.{Nameless, free, image}
 use Rattle.hol_model.specs.Terms.Substitution.{replacement, is_variable_named, same_type, keeps_types, replaces_variables}
@@ -109,41 +108,3 @@ passes_inst_type theory theta none = go (replaces_type_variables theta) refl (li
 pub record AreChanged (change : Nameless → Nameless) (terms made : List NamedTerm) : Type 0 where
   pub images : map image made ≡ map change (map image terms)
   pub fit : all_fit change terms ≡ true
-
-pub none-changed : (change : Nameless → Nameless) → AreChanged change [] []
-none-changed change = record { images = refl; fit = refl }
-
-pub one_more-changed : (change : Nameless → Nameless) (terms made : List NamedTerm) (term new : NamedTerm) → AreChanged change terms made → image new ≡ change (image term)
-    → nameless_within_limits (change (image term)) ≡ true → AreChanged change (terms ++ term ∷ []) (made ++ new ∷ [])
-one_more-changed change terms made term new earlier is fits = record {
-  images = images made terms earlier.images;
-  fit = fit terms earlier.fit;
-}
-  where
-    images : (made terms : List NamedTerm) → map image made ≡ map change (map image terms) → map image (made ++ new ∷ []) ≡ map change (map image (terms ++ term ∷ []))
-    images [] [] same = ap (λ t. t ∷ []) is
-    images [] (t ∷ terms) same = cc
-    images (m ∷ made) [] same = cc
-    images (m ∷ made) (t ∷ terms) same =
-        let first : image m ≡ change (image t) = cc in
-        let rest : map image made ≡ map change (map image terms) = cc in
-        λ i. first i ∷ images made terms rest i
-
-    fit : (terms : List NamedTerm) → all_fit change terms ≡ true → all_fit change (terms ++ term ∷ []) ≡ true
-    fit [] all = both (nameless_within_limits (change (image term))) true fits refl
-    fit (t ∷ terms) all =
-        both (nameless_within_limits (change (image t))) (all_fit change (terms ++ term ∷ [])) (first_of_both (nameless_within_limits (change (image t))) (all_fit change terms) all)
-        (fit terms (second_of_both (nameless_within_limits (change (image t))) (all_fit change terms) all))
-
--- terms do not fit where one of them does not
-pub one-past : (change : Nameless → Nameless) (terms : List NamedTerm) (index : ℕ) (term : NamedTerm) → index < length terms → term ≡ get_or terms index term
-    → nameless_within_limits (change (image term)) ≡ false → all_fit change terms ≡ false
-one-past change [] index term within is past = absurd (omega arith)
-one-past change (t ∷ terms) zero term within is past = let here : nameless_within_limits (change (image t)) ≡ false = ap (λ s. nameless_within_limits (change (image s))) (sym is) ∙ past in rw here refl
-one-past change (t ∷ terms) (suc index) term within is past =
-    let deeper : all_fit change terms ≡ false = one-past change terms index term (omega arith) is past in
-    go (nameless_within_limits (change (image t))) (all_fit change terms) deeper
-  where
-    go : (p q : Bool) → q ≡ false → (p && q) ≡ false
-    go true q is = is
-    go false q is = refl

@@ -1,14 +1,14 @@
 // ETA_AX and SELECT_AX, as data.
 use crate::laws::{CHOSEN, DISCHARGE, FIRST_OF_TESTS, GENERALIZES, U, V};
 use hol_derivations::conjunction::{FIRST, REFL_FIRST, REFL_TEST, TRUE_AT_FIRST};
-use hol_derivations::derivation::{Axiom, Derivation};
+use hol_derivations::derivation::Derivation;
 use hol_derivations::formulas::{
     A, ALWAYS, BOOL, FORALL, PRED, PRED_X, PRED_X_IMP, PREDICATE, QUANTIFIER, T, TEST, TESTED_TRUE,
     X,
 };
 use hol_derivations::sketch::{TermSketch, TypeSketch};
 use hol_derivations::truth::EARLIER_TRUTH;
-use hol_model::{PairRule, TermRule};
+use hol_model::{Axiom, PairRule, TermRule};
 
 // |- P x ==> P ((@) P)
 const SELECT: Derivation<'static> = Derivation::Axiom(Axiom::Select);

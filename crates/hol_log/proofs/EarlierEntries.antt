@@ -17,7 +17,7 @@ use Rattle.hol_model.proofs.Terms.TypeTests.{knows_type-Decides, is_new_name-Dec
 use Rattle.hol_model.proofs.Logs.LogTests.{is_there}
 use Rattle.hol_model.proofs.Logic.Later.{head_is_new}
 use Rattle.hol_journal.specs.Steps as steps
-use Rattle.hol_journal.specs.Steps.{Step, by_definition, JournalEntry, derived, declared_constant, terms_of, types_of, entries_of}
+use Rattle.hol_journal.specs.Steps.{Step, by_definition, JournalEntry, derived, declared_constant, terms_of, types_of}
 use Rattle.hol_journal.specs.Journal.{Journal, added_by, grown_by, theory_of, IsJournal, IsEntryAfter, KnowsParts}
 use Rattle.hol_log.specs.Needed.{names_in_type, names_in_term, names_in, introduced_by, StandOnEarlier}
 use Rattle.hol_log.proofs.KeptTheory.{entry_name, new_earlier, grown_by-append, legal_before}

@@ -25,7 +25,7 @@ use Rattle.hol_model.proofs.Tests.{both}
 use Rattle.hol_model.proofs.Terms.TypeTests.{knows_type-Decides, is_fixed-Decides, is_new_name-Decides}
 use Rattle.hol_kernel.proofs.DefinitionLemmas.{own_type-is}
 use Rattle.hol_journal.specs.Steps as steps
-use Rattle.hol_journal.specs.Steps.{Step, by_refl, by_trans, by_mk_comb, by_abs, by_beta, by_assume, by_eq_mp, by_deduct, by_inst, by_inst_type, by_eta, by_select, by_definition, JournalEntry, derived, declared_constant, derived_sequent, sequent_at, terms_of, types_of, entries_of}
+use Rattle.hol_journal.specs.Steps.{Step, by_refl, by_trans, by_mk_comb, by_abs, by_beta, by_assume, by_eq_mp, by_deduct, by_inst, by_inst_type, by_eta, by_select, by_definition, JournalEntry, derived, declared_constant, derived_sequent, sequent_at, terms_of, types_of}
 use Rattle.hol_journal.specs.Lines.{Numbering, line_of, NamesTheorem, NamesParts, MayGoOn}
 use Rattle.hol_journal.specs.Journal.{Journal, added_by, grown_by, theory_of, KnowsParts, IsJournal, IsKnownWithin, IsKnownTypeWithin}
 use Rattle.hol_log.specs.Needed.{names_in_type, names_in_term, names_in, introduced_by, MarksNeeded}

@@ -16,9 +16,6 @@ use Rattle.hol_journal.specs.Steps.{Step, JournalEntry, derived, declared_type, 
 use Rattle.hol_log.specs.Needed.{names_in, introduced_by, IsNeeded, by_claim, by_citation, by_name, StandOnEarlier, MarksNeeded}
 use Rattle.hol_log.specs.Marking.{IsMarkedAt, AreMarked, held_names, is_reached, cited_by, CitesWithin, IsEntryMarked, Marks, Notes, is_noted, IsMarkedFrom}
 
-pub Marks-none : (marks : List Bool) → Marks marks marks []
-Marks-none marks = record { one_each = refl; kept = λ n h. h; added = λ n h. absurd h; only = λ n h. inl h }
-
 pub Marks-twice : (first second third : List Bool) (xs ys : List ℕ) → Marks first second xs → Marks second third ys → Marks first third (xs ++ ys)
 Marks-twice first second third xs ys early late = record {
   one_each = late.one_each ∙ early.one_each;
@@ -29,9 +26,6 @@ Marks-twice first second third xs ys early late = record {
     | inr b ↦ inr (IsMember-append_right n xs ys b)
   ];
 }
-
-pub Notes-none : (names : List (List ℕ)) → Notes names names []
-Notes-none names = record { kept = λ n h. h; added = λ n h. absurd h; only = λ n h. inl h }
 
 pub Notes-twice : (first second third : List (List ℕ)) (xs ys : List (List ℕ)) → Notes first second xs → Notes second third ys → Notes first third (xs ++ ys)
 Notes-twice first second third xs ys early late = record {
@@ -248,10 +242,6 @@ note_put keys new_keys key put = go (list_any (λ other. bytes_eq key.now other.
 pub notes_two : {A E : Type 0} (answer : Result A E) (first second third : List (List ℕ)) (xs ys zs : List (List ℕ)) → zs ≡ xs ++ ys → Notes first second xs → OnOk answer (Notes second third ys) → OnOk answer (Notes first third zs)
 notes_two (Ok x) first second third xs ys zs is early late = subst (Notes first third) (sym is) (Notes-twice first second third xs ys early late)
 notes_two (Err e) first second third xs ys zs is early late = tt
-
-pub notes_as : {A E : Type 0} (answer : Result A E) (old new : List (List ℕ)) (xs ys : List (List ℕ)) → ys ≡ xs → OnOk answer (Notes old new xs) → OnOk answer (Notes old new ys)
-notes_as (Ok x) old new xs ys is notes = subst (Notes old new) (sym is) notes
-notes_as (Err e) old new xs ys is notes = tt
 
 flat_map-push : {A B : Type 0} (f : A → List B) (xs : List A) (x : A) → flat_map f (xs ++ x ∷ []) ≡ flat_map f xs ++ f x
 flat_map-push f [] x = append-nil (f x)

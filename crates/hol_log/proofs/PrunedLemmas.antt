@@ -1,13 +1,13 @@
 -- The pruned log.
-use Rattle.std.proofs.Common.{suc, [], ◌∷◌, ◌++◌, true, inl, inr, refl, ◌≡◌, ℕ, ◌<◌, List, length, Bool, Result, Ok, Err, IfOk, sym, ◌∙◌, ap, subst, arith}
+use Rattle.std.proofs.Common.{suc, [], ◌∷◌, ◌++◌, true, inl, inr, refl, ◌≡◌, ℕ, ◌<◌, List, length, Result, Ok, Err, IfOk, sym, ◌∙◌, ap, subst, arith}
 use Rattle.std.specs.Prelude.{slice_get}
 use Rattle.hol_model.specs.Logic.Derivable.{IsMember}
 use Rattle.hol_model.proofs.Terms.Membership.{of_map, of_append}
 use Rattle.hol_model.specs.Logs.LogLine.{LogLine}
 use Rattle.hol_journal.specs.Steps.{derived, sequent_of_theorem}
 use Rattle.hol_journal.specs.Journal.{Journal, IsJournal}
-use Rattle.hol_log.specs.Needed.{StandOnEarlier, MarksNeeded}
-use Rattle.hol_log.specs.LogWriting.{Claimed, log_lines}
+use Rattle.hol_log.specs.Needed.{StandOnEarlier}
+use Rattle.hol_log.specs.LogWriting.{Claimed}
 use Rattle.hol_log.specs.Pruning.{IsPruned, AreMade, IsFitting, AreFitting, HaveIdentifiers, HasNames, entries_of_claims}
 use Rattle.hol_log.specs.LogAccepted.{IsFormulaWithin, IsAccepted, LogsAreAccepted}
 use Rattle.hol_log.specs.Claims.{claim_of, claims_of}
@@ -34,19 +34,6 @@ cited_within journal entries claims cited made same is number member =
     let there : slice_get (entries_of entries) number ≡ slice_get journal.entries claim.0.made.entry = ap (λ l. slice_get l number) same ∙ ap (slice_get journal.entries) claim.2 in
     let inside = within (entries_of entries) number (derived by.step (sequent_of_theorem claim.0.made.theorem)) (there ∙ by.there) in
     omega (arith, length_entries entries)
-
-pub pruned_answers : {A E : Type 0} (answer : Result A E) (lines : A → List LogLine) (journal : Journal) (entries : List Entry) (claims : List Claimed) (cited : List ℕ) (marks : List Bool)
-    → entries_of entries ≡ journal.entries → cited ≡ entries_of_claims claims → MarksNeeded (entries_of entries) cited marks
-    → IfOk answer (λ all. lines all ≡ log_lines (entries_of entries) marks claims) → IfOk answer (λ all. IsPruned journal claims (lines all))
-pruned_answers (Ok all) lines journal entries claims cited marks same is needed log = record {
-  marks = marks;
-  needed = subst (λ l. MarksNeeded l (entries_of_claims claims) marks) same (subst (λ l. MarksNeeded (entries_of entries) l marks) is needed);
-  is_log = log ∙ ap (λ l. log_lines l marks claims) same;
-}
-pruned_answers (Err e) lines journal entries claims cited marks same is needed log = tt
-
-pub marks_length : (entries : List Entry) (cited : List ℕ) (marks : List Bool) → MarksNeeded (entries_of entries) cited marks → length marks ≡ length entries
-marks_length entries cited marks needed = needed.one_each ∙ length_entries entries
 
 -- fitting theorems
 

@@ -14,11 +14,9 @@ use Rattle.std.specs.Str.{bytes_eq}
 use Rattle.std.proofs.lemmas.Slice.Eq.{bytes_eq-Decides}
 use Rattle.std.proofs.lemmas.Bool.{eq-eqb}
 use Rattle.hol_model.proofs.Tests.{both}
-use Rattle.std.specs.List.{list_any, list_all, position_or_len}
-use Rattle.std.proofs.lemmas.List.Folds.{list_all-append}
+use Rattle.std.specs.List.{list_any, position_or_len}
 use Rattle.indexmap.specs.IndexSet.{insert_key}
 use Rattle.hol_model.specs.Logs.LogLine.{LogLine}
-use Rattle.hol_log.specs.LogAccepted.{has_name}
 use Rattle.hol_log.specs.LogWriting.{Written, same_line, is_among, place_of}
 use Rattle.hol_log.specs.Writing.{IsTypeLineWritten, IsTermLineWritten, IsTypeWritten, IsTermWritten}
 use Rattle.hol_log.specs.Writer.{line_of_type, line_of_term}
@@ -171,9 +169,6 @@ module _ (key : TermLine) (keys new_keys : List TermLine) (types : List LogLine)
       let same : map line_of_term new_keys ≡ map line_of_term keys ++ line_of_term key ∷ [] =
       ap (map line_of_term) (put ∙ new-key term_line.ghosts.eq line_of_term term_lines_agree key keys any) ∙ map-end term_line.ghosts.eq line_of_term term_lines_agree key keys in
       answer_at answer place _ answers (rw (same, longer) (new_term (line_of_term key) (term_is_named key) types theorems lines place (map line_of_term keys) (sym term_any ∙ any) term_place))
-
-pub list_all-end : (line : LogLine) (lines : List LogLine) → has_name line ≡ true → list_all has_name lines ≡ true → list_all has_name (lines ++ line ∷ []) ≡ true
-list_all-end line lines named all = let split = list_all-append has_name lines (line ∷ []) in rw split (rw (all, named))
 
 pub lines_end : (old new : List Line) (line : Line) (is : LogLine) → new ≡ old ++ line ∷ [] → line_of line ≡ is → map line_of new ≡ map line_of old ++ is ∷ []
 lines_end old new line is longer same = ap (map line_of) longer ∙ go old

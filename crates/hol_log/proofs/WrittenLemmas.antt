@@ -131,13 +131,6 @@ terms-with_term_line line w = go (is_among line w.terms)
     go true = refl
     go false = refl
 
-pub types-with_term_line : (line : LogLine) (w : Written) → (with_term_line line w).types ≡ w.types
-types-with_term_line line w = go (is_among line w.terms)
-  where
-    go : (test : Bool) → (if test then w else record w { terms = w.terms ++ line ∷ []; lines = w.lines ++ line ∷ [] }).types ≡ w.types
-    go true = refl
-    go false = refl
-
 pub among-with_type_line : (line : LogLine) (w : Written) → IsNamed line → is_among line (with_type_line line w).types ≡ true
 among-with_type_line line w named = rw (types-with_type_line line w) (any-put (same_line line) w.types line named)
 
@@ -190,9 +183,6 @@ HasType-grown old new ty grows has = subst (λ types. HasType types ty) (sym gro
 
 pub type_number-grown : (old new : Written) (ty : HolType) → Grows old new → HasType old.types ty → type_number new.types ty ≡ type_number old.types ty
 type_number-grown old new ty grows has = ap (λ types. type_number types ty) grows.types ∙ type_number-longer old.types grows.more_types ty has
-
-pub type_line-grown : (old new : Written) (ty : HolType) → Grows old new → HasType old.types ty → type_line new.types ty ≡ type_line old.types ty
-type_line-grown old new ty grows has = ap (λ types. type_line types ty) grows.types ∙ type_line-longer old.types grows.more_types ty has
 
 -- a type that is written
 
@@ -314,9 +304,6 @@ HasTerm-grown old new term grows has = rw (grows.types, grows.terms) (HasTerm-lo
 
 pub term_number-grown : (old new : Written) (term : NamedTerm) → Grows old new → HasTermOf old term → number_of_term new term ≡ number_of_term old term
 term_number-grown old new term grows has = rw (grows.types, grows.terms) (term_number-longer old.types grows.more_types old.terms grows.more_terms term has)
-
-pub term_line-grown : (old new : Written) (term : NamedTerm) → Grows old new → HasTermOf old term → term_line new.types new.terms term ≡ term_line old.types old.terms term
-term_line-grown old new term grows has = rw (grows.types, grows.terms) (term_line-longer old.types grows.more_types old.terms grows.more_terms term has)
 
 pub Grows-with_term : (term : NamedTerm) (w : Written) → Grows w (with_term term w)
 Grows-with_term term w = Grows-with_term_line (term_line w.types w.terms term) w

@@ -9,10 +9,6 @@ use Rattle.hol_logtext.specs.Lines.{fields_in}
 abbrev pub behind_all : {A : Type 0} → List A → Option (List A) → Option (List A)
 behind_all front rest = option_map (λ more. front ++ more) rest
 
-pub behind_none : {A : Type 0} (rest : Option (List A)) → behind_all [] rest ≡ rest
-behind_none None = refl
-behind_none (Some more) = refl
-
 -- one more was read
 pub behind_one : {A : Type 0} (front : List A) (x : A) (rest : Option (List A)) → behind_all (front ++ x ∷ []) rest ≡ behind_all front (before_all (Some x) rest)
 behind_one front x None = refl

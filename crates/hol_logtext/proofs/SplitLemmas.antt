@@ -1,5 +1,5 @@
 -- The fields of a text.
-use Rattle.std.proofs.Common.{◌≡◌, ℕ, ◌<◌, List, [], ◌∷◌, ◌++◌, length, false, ◌==◌, refl, sym, ◌∙◌, ap, append_assoc, Bor, arith}
+use Rattle.std.proofs.Common.{◌≡◌, ℕ, List, [], ◌∷◌, ◌++◌, false, ◌==◌, refl, sym, ◌∙◌, ap, append_assoc, Bor}
 use Rattle.std.proofs.lemmas.List.{map-append}
 use Rattle.hol_model.proofs.Tests.{first_of_neither, second_of_neither}
 use Rattle.hol_logtext.specs.Fields.{space, split_fields, has_space, IsCut}
@@ -37,11 +37,3 @@ pub split_all : (fields : List (Bor (List ℕ))) (last : Bor (List ℕ)) (text :
     → fields_in fields ++ split_fields last.now ≡ split_fields text → has_space last.now ≡ false → fields_in (fields ++ last ∷ []) ≡ split_fields text
 split_all fields last text so_far none =
     map-append (λ (f : Bor (List ℕ)). f.now) fields (last ∷ []) ∙ ap (λ more. fields_in fields ++ more) (sym (split_one last.now none)) ∙ so_far
-
-shorter : (field rest : List ℕ) → length rest < length (field ++ space ∷ rest)
-shorter [] rest = omega arith
-shorter (byte ∷ field) rest = let less = shorter field rest in omega (arith, less)
-
--- what is behind a space is shorter
-pub behind_shorter : (text field rest : List ℕ) → IsCut text field rest → length rest < length text
-behind_shorter text field rest cut = rw cut.whole (shorter field rest)

@@ -1,13 +1,10 @@
 -- Texts that are written one after another.
-use Rattle.std.proofs.Common.{◌≡◌, ℕ, ◌<◌, ◌+◌, List, [], ◌∷◌, ◌++◌, length, drop, get_or, refl, sym, ◌∙◌, ap, append_assoc, append-nil}
+use Rattle.std.proofs.Common.{◌≡◌, ℕ, ◌<◌, ◌+◌, List, [], ◌∷◌, ◌++◌, length, drop, get_or, sym, ◌∙◌, ap, append_assoc, append-nil}
 use Rattle.std.specs.Prelude.{decimal, map}
 use Rattle.std.proofs.lemmas.List.{drop_more}
 use Rattle.hol_logtext.specs.Fields.{spaced}
 use Rattle.hol_logtext.specs.LineText.{pair_fields}
 use Rattle.hol_logtext.specs.Writing.{Appends, Begins}
-
-pub begins-none : (text : List ℕ) → Begins text text
-begins-none text = record { more = []; is_more = sym (append-nil text) }
 
 pub begins-more : {a b c : List ℕ} → Begins a b → Begins b c → Begins a c
 begins-more {a} first second = record { more = first.more ++ second.more; is_more = second.is_more ∙ ap (λ l. l ++ second.more) first.is_more ∙ append_assoc a first.more second.more }
@@ -15,21 +12,12 @@ begins-more {a} first second = record { more = first.more ++ second.more; is_mor
 pub appends-begins : {a b : List ℕ} {w : List ℕ → List ℕ} → Appends a b w → Begins a b
 appends-begins {a} {b} {w} written = record { more = w []; is_more = sym (append-nil b) ∙ written.appended [] }
 
-pub appends-more : {a b c : List ℕ} {v w : List ℕ → List ℕ} → Appends a b v → Appends b c w → Appends a c (λ rest. v (w rest))
-appends-more {w} first second = record { appended = λ rest. second.appended rest ∙ first.appended (w rest) }
-
 -- lists of numbers, one after another
 
 -- what was written of a list of fields, where these are left
 pub record IsLeft (old out : List ℕ) (all left : List (List ℕ)) : Type 0 where
   pub left_over : (rest : List ℕ) → out ++ spaced left rest ≡ old ++ spaced all rest
   pub begun : Begins old out
-
-pub left-all : (old : List ℕ) (all : List (List ℕ)) → IsLeft old old all all
-left-all old all = record { left_over = λ rest. refl; begun = begins-none old }
-
-pub left-none : {old out : List ℕ} {all : List (List ℕ)} (left : List (List ℕ)) → left ≡ [] → IsLeft old out all left → Appends old out (spaced all)
-left-none {out} left none is = record { appended = λ rest. ap (λ l. out ++ spaced l rest) (sym none) ∙ is.left_over rest }
 
 pub left-one : {old out new : List ℕ} {all : List (List ℕ)} (left more : List (List ℕ)) (field : List ℕ) → left ≡ field ∷ more → IsLeft old out all left
     → Appends out new (spaced (field ∷ [])) → IsLeft old new all more

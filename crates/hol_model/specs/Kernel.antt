@@ -7,3 +7,4 @@ pub mod Rules
 pub mod Constructors
 pub mod Instantiation
 pub mod NamedAxioms
+pub mod RuleOutcomes

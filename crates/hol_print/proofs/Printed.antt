@@ -1,21 +1,19 @@
 -- What the parts of the printer put at the end of a text is the text of the tree.
-use Rattle.std.proofs.Common.{OnOk, Result, Ok, Err, inl, inr, ◌⊎◌, ◌≤◌, ◌<◌, suc, ltb, arith, append_assoc, ◌≡◌, ℕ, Bool, true, false, not, List, [], ◌∷◌, ◌++◌, Option, None, Some, refl, sym, ap, ◌∙◌, subst, if◌then◌else◌, codes, nat_le, is_none, ◌&&◌, ◌||◌}
-use Rattle.std.specs.Option.{option_map_or}
+use Rattle.std.proofs.Common.{OnOk, Result, Ok, Err, inl, inr, ◌⊎◌, ◌≤◌, ◌<◌, suc, ltb, arith, append_assoc, ◌≡◌, ℕ, Bool, true, false, not, List, [], ◌∷◌, ◌++◌, Option, None, Some, refl, sym, ap, ◌∙◌, subst, if◌then◌else◌, codes, nat_le, ◌||◌}
 use Rattle.std.specs.Str.{bytes_eq}
 use Rattle.std.proofs.lemmas.Slice.Eq.{bytes_eq-Decides}
 use Rattle.std.proofs.lemmas.List.{append-nil}
 use Rattle.std.proofs.lemmas.Bool.Decides.{leb_tells}
 use Rattle.hol_model.specs.declared.fault.Fault.{Fault}
 use Rattle.hol_model.specs.Terms.Name.{is_identifier, is_symbol, is_constant_name}
-use Rattle.hol_model.specs.Terms.HolType.{HolType, type_eq}
-use Rattle.hol_model.specs.Texts.TermGrammar.{Atom, Infix, Bare, Variable, Constant, TermTree, Leaf, Apply, Not, Join, Bind, Enclosed, infix_level, infix_symbol, Binder, binder_symbol, level}
+use Rattle.hol_model.specs.Terms.HolType.{HolType}
+use Rattle.hol_model.specs.Texts.TermGrammar.{Atom, Infix, Bare, Constant, TermTree, Leaf, Apply, Not, Join, Bind, Enclosed, infix_level, infix_symbol, Binder, binder_symbol, level}
 use Rattle.hol_model.specs.Texts.Token.{Token, Name, Mark, token_text, symbol_text}
 use Rattle.hol_model.specs.declared.symbol.Symbol.TheVariants.{Implies, And, Or, Equal, Exclamation, Question, At, Tilde}
 use Rattle.hol_model.specs.Texts.Reading.{Scope, Bindings, bound_type, is_closed_type}
-use Rattle.hol_model.specs.Texts.Printing.{type_tree, enclose, variable_tree, name_token, typed_constant, bare_tree, constant_tree}
+use Rattle.hol_model.specs.Texts.Printing.{type_tree, enclose, name_token, typed_constant, bare_tree, constant_tree}
 use Rattle.hol_model.specs.Texts.Texts.{type_bytes, term_bytes}
 use Rattle.hol_print.specs.Output.{Appends, opening, closing}
-use Rattle.hol_print.specs.Shape.{is_bound_at, is_bare_constant}
 
 pub joined : {a b c : List ℕ} {f g : List ℕ → List ℕ} → Appends a b f → Appends b c g → Appends a c (λ rest. f (g rest))
 joined {f} {g} h k = record { appended = λ rest. k.appended rest ∙ h.appended (g rest) }
@@ -24,11 +22,6 @@ joined {f} {g} h k = record { appended = λ rest. k.appended rest ∙ h.appended
 pub from_nothing : (old new : List ℕ) (f : List ℕ → List ℕ) → old ≡ [] → Appends old new f → new ≡ f []
 from_nothing old new f e h = sym (append-nil new) ∙ h.appended [] ∙ ap (λ o. o ++ f []) e
 
-both_true : (a b : Bool) → a && b ≡ true → (a ≡ true) × (b ≡ true)
-both_true true true e = (refl, refl)
-both_true true false e = absurd (let bad : false ≡ true = e in cc)
-both_true false b e = absurd (let bad : false ≡ true = e in cc)
-
 -- a tree in parentheses, where its level is below
 pub enclosing : (n : ℕ) (b : Bool) (tree : TermTree) (o1 o2 o3 o4 : List ℕ) → not b ≡ nat_le n (level tree)
     → Appends o1 o2 (opening b) → Appends o2 o3 (term_bytes tree) → Appends o3 o4 (closing b) → Appends o1 o4 (term_bytes (enclose n tree))
@@ -36,24 +29,6 @@ enclosing n true tree o1 o2 o3 o4 e h k l =
     subst (λ b. Appends o1 o4 (term_bytes (if b then tree else Enclosed tree))) e (joined h (joined k l))
 enclosing n false tree o1 o2 o3 o4 e h k l =
     subst (λ b. Appends o1 o4 (term_bytes (if b then tree else Enclosed tree))) e (joined h (joined k l))
-
-bound_variable : (o : Option HolType) (name : List ℕ) (ty : HolType) → option_map_or (λ bound. type_eq bound ty) o false ≡ true
-    → Leaf (Bare name) ≡ variable_tree o name ty
-bound_variable None name ty e = absurd (let bad : false ≡ true = e in cc)
-bound_variable (Some bound) name ty e = sym (ap (λ b. if b then Leaf (Bare name) else Leaf (Variable name (type_tree ty))) e)
-
-other_variable : (o : Option HolType) (name : List ℕ) (ty : HolType) → option_map_or (λ bound. type_eq bound ty) o false ≡ false
-    → Leaf (Variable name (type_tree ty)) ≡ variable_tree o name ty
-other_variable None name ty e = refl
-other_variable (Some bound) name ty e = sym (ap (λ b. if b then Leaf (Bare name) else Leaf (Variable name (type_tree ty))) e)
-
-pub bare_variable_printed : (bindings : Bindings) (name : List ℕ) (ty : HolType) (old new : List ℕ) → is_bound_at bindings name ty ≡ true
-    → Appends old new (λ rest. name ++ rest) → Appends old new (term_bytes (variable_tree (bound_type bindings name) name ty))
-bare_variable_printed bindings name ty old new e h = subst (λ t. Appends old new (term_bytes t)) (bound_variable (bound_type bindings name) name ty e) h
-
-pub typed_variable_printed : (bindings : Bindings) (name : List ℕ) (ty : HolType) (old new : List ℕ) → is_bound_at bindings name ty ≡ false
-    → Appends old new (λ rest. 40 ∷ (name ++ 58 ∷ type_bytes (type_tree ty) (41 ∷ rest))) → Appends old new (term_bytes (variable_tree (bound_type bindings name) name ty))
-typed_variable_printed bindings name ty old new e h = subst (λ t. Appends old new (term_bytes t)) (other_variable (bound_type bindings name) name ty e) h
 
 -- one of the symbols, or a later one
 named_or : (name : List ℕ) (b : Bool) (text : List ℕ) (t u : Token) (more : Bool) → bytes_eq name text ≡ b → token_text t ≡ text
@@ -90,49 +65,6 @@ identifier_or false name other more h later = later h
 -- the token that names a constant is spelled as its name
 pub token_named : (name : List ℕ) → is_constant_name name ≡ true → token_text (name_token name) ≡ name
 token_named name h = identifier_or (is_identifier name) name _ (is_symbol name) h (symbol_named name)
-
-pick_bare : (b : Bool) (x y : TermTree) → b ≡ true → x ≡ (if b then x else y)
-pick_bare true x y e = refl
-pick_bare false x y e = absurd (let bad : false ≡ true = e in cc)
-
-bare_constant : (scope : Scope) (bindings : Bindings) (name : List ℕ) (ty : HolType) → is_bare_constant scope bindings name ≡ true
-    → Leaf (Bare name) ≡ constant_tree scope bindings name ty
-bare_constant scope bindings name ty e = go (is_identifier name) (scope.generic_type name) (bound_type bindings name) e
-  where
-    go : (i : Bool) (generic bound : Option HolType) → i && option_map_or is_closed_type generic false && is_none bound ≡ true
-        → Leaf (Bare name) ≡ (if i then bare_tree generic bound name ty else typed_constant name ty)
-    go true None None e = absurd (let bad : false ≡ true = e in cc)
-    go true None (Some b) e = absurd (let bad : false ≡ true = e in cc)
-    go true (Some generic) None e = pick_bare (is_closed_type generic) (Leaf (Bare name)) (typed_constant name ty) (both_true (is_closed_type generic) true e).0
-    go true (Some generic) (Some b) e = absurd (let bad : false ≡ true = (both_true (is_closed_type generic) false e).1 in cc)
-    go false generic bound e = absurd (let bad : false ≡ true = e in cc)
-
-other_constant : (scope : Scope) (bindings : Bindings) (name : List ℕ) (ty : HolType) → is_bare_constant scope bindings name ≡ false
-    → typed_constant name ty ≡ constant_tree scope bindings name ty
-other_constant scope bindings name ty e = go (is_identifier name) (scope.generic_type name) (bound_type bindings name) e
-  where
-    pick : (b : Bool) → b && true ≡ false → typed_constant name ty ≡ (if b then Leaf (Bare name) else typed_constant name ty)
-    pick true e = absurd (let bad : true ≡ false = e in cc)
-    pick false e = refl
-
-    go : (i : Bool) (generic bound : Option HolType) → i && option_map_or is_closed_type generic false && is_none bound ≡ false
-        → typed_constant name ty ≡ (if i then bare_tree generic bound name ty else typed_constant name ty)
-    go true None None e = refl
-    go true None (Some b) e = refl
-    go true (Some generic) None e = pick (is_closed_type generic) e
-    go true (Some generic) (Some b) e = refl
-    go false generic bound e = refl
-
-pub bare_constant_printed : (scope : Scope) (bindings : Bindings) (name : List ℕ) (ty : HolType) (old new : List ℕ) → is_bare_constant scope bindings name ≡ true
-    → Appends old new (λ rest. name ++ rest) → Appends old new (term_bytes (constant_tree scope bindings name ty))
-bare_constant_printed scope bindings name ty old new e h = subst (λ t. Appends old new (term_bytes t)) (bare_constant scope bindings name ty e) h
-
-pub typed_constant_printed : (scope : Scope) (bindings : Bindings) (name : List ℕ) (ty : HolType) (old new : List ℕ) → is_bare_constant scope bindings name ≡ false
-    → is_constant_name name ≡ true → Appends old new (λ rest. 91 ∷ (name ++ 58 ∷ type_bytes (type_tree ty) (93 ∷ rest)))
-    → Appends old new (term_bytes (constant_tree scope bindings name ty))
-typed_constant_printed scope bindings name ty old new e n h =
-    subst (λ t. Appends old new (term_bytes t)) (other_constant scope bindings name ty e)
-    (subst (λ n. Appends old new (λ rest. 91 ∷ (n ++ 58 ∷ type_bytes (type_tree ty) (93 ∷ rest)))) (sym (token_named name n)) h)
 
 -- an answer that holds where another does
 pub on_ok : {P Q : Type 0} (result : Result (Unit {0}) Fault) → OnOk result P → (P → Q) → OnOk result Q
@@ -173,10 +105,6 @@ leaf_level : (b : Bool) (x y : Atom) → 20 ≡ level (if b then Leaf x else Lea
 leaf_level true x y = refl
 leaf_level false x y = refl
 
-variable_level : (o : Option HolType) (name : List ℕ) (ty : HolType) → 20 ≡ level (variable_tree o name ty)
-variable_level None name ty = refl
-variable_level (Some bound) name ty = leaf_level (type_eq bound ty) (Bare name) (Variable name (type_tree ty))
-
 bare_level : (generic bound : Option HolType) (name : List ℕ) (ty : HolType) → 20 ≡ level (bare_tree generic bound name ty)
 bare_level (Some generic) None name ty = leaf_level (is_closed_type generic) (Bare name) (Constant (name_token name) (type_tree ty))
 bare_level _ _ name ty = refl
@@ -187,12 +115,6 @@ constant_level scope bindings name ty = go (is_identifier name)
     go : (b : Bool) → 20 ≡ level (if b then bare_tree (scope.generic_type name) (bound_type bindings name) name ty else typed_constant name ty)
     go true = bare_level (scope.generic_type name) (bound_type bindings name) name ty
     go false = refl
-
-pub variable_printed : (n m : ℕ) (bindings : Bindings) (name : List ℕ) (ty : HolType) (whole : TermTree) (o1 o2 o3 o4 : List ℕ) → m ≡ 20
-    → variable_tree (bound_type bindings name) name ty ≡ whole → Appends o1 o2 (opening (ltb m n))
-    → Appends o2 o3 (term_bytes (variable_tree (bound_type bindings name) name ty)) → Appends o3 o4 (closing (ltb m n)) → Appends o1 o4 (term_bytes (enclose n whole))
-variable_printed n m bindings name ty whole o1 o2 o3 o4 l e h k c =
-    printed_form n m (variable_tree (bound_type bindings name) name ty) whole o1 o2 o3 o4 (l ∙ variable_level (bound_type bindings name) name ty) e h k c
 
 pub constant_printed : (n m : ℕ) (scope : Scope) (bindings : Bindings) (name : List ℕ) (ty : HolType) (whole : TermTree) (o1 o2 o3 o4 : List ℕ) → m ≡ 20
     → constant_tree scope bindings name ty ≡ whole → Appends o1 o2 (opening (ltb m n))

@@ -9,7 +9,7 @@ use Rattle.hol_model.specs.Terms.NamedTerm.{NamedTerm, combination, abstraction,
 use Rattle.hol_model.specs.Terms.Nameless.{Nameless, free, const, bound, app, image, same_term}
 use Rattle.hol_model.specs.Terms.Measures.{nameless_types_fit, nameless_within_limits}
 use Rattle.hol_model.specs.Logic.Logic as nameless
-use Rattle.hol_model.specs.Logic.Logic.{implies_name, forall_name, exists_name, binary, predicate, quantifier}
+use Rattle.hol_model.specs.Logic.Logic.{implies_name, forall_name, exists_name, predicate, quantifier}
 use Rattle.hol_model.specs.Terms.Substitution.{close, occurs_free}
 use Rattle.hol_model.specs.Logic.Theory.{Theory, IsKnown}
 use Rattle.hol_model.specs.Logic.Derivable.{without, nameless_equation}

@@ -8,7 +8,7 @@ use Rattle.hol_model.specs.declared.fault.Fault.TheVariants.{BadShape, TypeMisma
 use Rattle.hol_model.specs.Terms.HolType.{HolType, bool_type, function_type, type_eq}
 use Rattle.hol_model.specs.Terms.NamedTerm.{NamedTerm, variable, constant, combination, abstraction, type_of}
 use Rattle.hol_model.specs.Terms.Nameless.{Nameless, free, const, app, lam, image, same_term}
-use Rattle.hol_model.specs.Logic.Logic.{logical_definitions, forall_name, exists_name, predicate, quantifier}
+use Rattle.hol_model.specs.Logic.Logic.{logical_definitions, forall_name, exists_name, quantifier}
 use Rattle.hol_model.specs.Logic.Logic as nameless_formulas
 use Rattle.hol_model.specs.Terms.Substitution.{close, fill, occurs_free}
 use Rattle.hol_model.specs.Logic.Theory.{Theory, IsLegal, IsKnown, generic_type, type_a}

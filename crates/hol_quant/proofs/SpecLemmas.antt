@@ -1,33 +1,29 @@
 -- SPEC: the lemma at a predicate and an element, and the answer.
-use Rattle.std.proofs.Common.{◌≡◌, ℕ, List, [], ◌∷◌, ◌++◌, true, refl, sym, ◌∙◌, ap, subst, inl, inr, Option, Some, None, Result, Ok, Err, IfOk, arith}
+use Rattle.std.proofs.Common.{◌≡◌, ℕ, List, [], ◌∷◌, ◌++◌, true, refl, sym, ◌∙◌, ap, subst, inl, inr, Some, None, Result, Ok, Err, IfOk, arith}
 use Rattle.std.specs.Prelude.{codes}
 use Rattle.std.specs.List.{list_all}
 use Rattle.hol_model.specs.declared.fault.Fault.{Fault}
 use Rattle.hol_model.specs.declared.fault.Fault.TheVariants.{Memory}
 use Rattle.hol_model.specs.Terms.HolType.{HolType, bool_type}
-use Rattle.hol_model.specs.Terms.NamedTerm.{NamedTerm, combination, type_of, dest_abstraction, equation}
+use Rattle.hol_model.specs.Terms.NamedTerm.{NamedTerm, combination, type_of, dest_abstraction}
 use Rattle.hol_model.specs.Logic.NamedLogic.{is_constant_named}
 use Rattle.hol_model.specs.Terms.Nameless.{Nameless, free, const, app, image}
-use Rattle.hol_model.specs.Terms.Measures.{nameless_within_limits}
 use Rattle.hol_model.specs.Logic.Logic.{forall_name, predicate, quantifier}
 use Rattle.hol_model.specs.Terms.Substitution.{close, fill}
 use Rattle.hol_model.specs.Logic.Theory.{Theory, IsLegal, generic_type, type_a}
 use Rattle.hol_model.specs.Kernel.Theorem.{Theorem, IsTheorem}
-use Rattle.hol_model.specs.Logic.Derivable.{IsMember, nameless_equation}
-use Rattle.hol_model.specs.Kernel.Outcome.{Answers, refused}
-use Rattle.hol_model.specs.Kernel.Rules.{first_unknown, concluded, refl_outcome}
+use Rattle.hol_model.specs.Logic.Derivable.{IsMember}
+use Rattle.hol_model.specs.Kernel.Rules.{first_unknown}
 use Rattle.hol_model.specs.Derived.DerivedRules.{Stated, AnswersStated, up_to_names, images, terms_of_theorem, terms_of_stated, is_roomy, spec_outcome}
 use Rattle.hol_model.proofs.Terms.HolTypeEq.{type_eq-self}
 use Rattle.hol_model.proofs.Terms.Images.{image-abstraction}
 use Rattle.hol_model.proofs.Terms.Membership.{IsMember-append_right}
 use Rattle.hol_model.proofs.Tests.{first_of_both, second_of_both}
-use Rattle.hol_kernel.proofs.RuleLemmas.{known_term}
 use Rattle.hol_journal.specs.Journal.{Journal, Recorded, IsMade, theorem_in}
-use Rattle.hol_equal.specs.Sequents.{DerivesIf, IsPast}
+use Rattle.hol_equal.specs.Sequents.{DerivesIf}
 use Rattle.hol_equal.specs.Conversions.{closed, conversion_fits}
-use Rattle.hol_equal.proofs.StepLemmas.{refl-derives}
 use Rattle.hol_equal.proofs.CutLemmas.{answers-stated, conclusion-known}
-use Rattle.hol_equal.proofs.Sizes.{IsSized, leaves_room, sized-app, sized-equation, sized-more, sized-within}
+use Rattle.hol_equal.proofs.Sizes.{IsSized, leaves_room, sized-app, sized-more}
 use Rattle.hol_quant.specs.PredicateLemmas.{applied, over_predicate, at_type, at_predicate, lemma_fits}
 use Rattle.hol_quant.proofs.PartLemmas.{IsQuantified, quantified-at}
 use Rattle.hol_quant.proofs.RoomLemmas.{PredicateRoom, predicate-room, conversion-within, lemma-within, free-sized, const-sized}

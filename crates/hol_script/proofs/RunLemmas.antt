@@ -1,6 +1,5 @@
 -- How a run comes to its end, and what is left where it stops.
 use Rattle.std.proofs.Common.{◌≡◌, ℕ, zero, suc, ◌+◌, ◌≤◌, List, [], ◌∷◌, ◌++◌, length, refl, sym, ap, subst, ◌∙◌, ◌⊎◌, inl, inr, arith, Bool, true, false, ◌==◌, ◌&&◌, ◌||◌, Option, None, Some, Result, Ok, Err, append_assoc, append-nil, length-append, eqb-true}
-use Rattle.std.specs.Prelude.{MatchOption}
 use Rattle.std.specs.Io.KnownBytes.{Appends}
 use Rattle.hol_model.specs.declared.fault.Fault.{Fault}
 use Rattle.hol_model.specs.declared.fault.Fault.TheVariants.{Memory, Syntax}
@@ -294,9 +293,6 @@ ends_by {known} text tells e =
     let c = e.completes in
     record { completes = record { script = c.script; out = c.out; read = Tells-by known text c.script tells c.read; wrote = c.wrote; is_run = c.is_run }; final = e.final; named = e.named }
 
-pub stops_by : {known written now : Option (List ℕ)} (text : List ℕ) → Tells known text → Stops (Some text) written now → Stops known written now
-stops_by {known} text tells c = record { script = c.script; out = c.out; rest = c.rest; counts = c.counts; read = Tells-by known text c.script tells c.read; wrote = c.wrote; is_run = c.is_run }
-
 -- nothing was read, and nothing written
 pub unread : (known written : Option (List ℕ)) → Stops known written written
 unread None written = stopped [] [] [] (begun []) refl tt (Appends-none written)
@@ -343,7 +339,3 @@ module _ (script : List ℕ) where
       → has_mark left ≡ false → is_blank_text left ≡ false → here ≡ leading_line_feeds left → AppendsFront now next (refusal_line (line + here) Syntax) → Stops (Some script) written next
   broken_within_by {written} {now} {next} {line = line} here u none filled led wrote =
       underway_broken_within script u none filled (subst (λ (n : ℕ). AppendsFront now next (refusal_line (line + n) Syntax)) led wrote)
-
--- no mark is left where none was found
-pub uncut : {A : Type 0} (found : Option A) (P : Type 0) (Q : A → Type 0) → MatchOption found P Q → found ≡ None → P
-uncut found P Q known none = rw none at known

@@ -1,5 +1,5 @@
 -- The claims of a run are the theorems that it printed, and its log is theirs.
-use Rattle.std.proofs.Common.{◌≡◌, ℕ, ◌<◌, ◌+◌, List, [], ◌∷◌, ◌++◌, map, refl, sym, ap, subst, ◌∙◌, inl, inr, Option, None, Some, Ok, Err, Result, append-nil, lit<, arith, zero, suc}
+use Rattle.std.proofs.Common.{◌≡◌, ℕ, List, [], ◌∷◌, ◌++◌, map, refl, sym, ap, subst, ◌∙◌, inl, inr, Option, None, Some, Ok, Err, Result, append-nil, lit<, arith, zero, suc}
 use Rattle.std.specs.Prelude.{IfErr, IsErrOf, Contains, true}
 use Rattle.indexmap.specs.IndexMap.{get_by_text}
 use Rattle.hol_model.specs.Terms.Name.{is_identifier}

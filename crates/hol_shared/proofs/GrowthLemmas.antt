@@ -1,5 +1,5 @@
 -- Numbers keep what they name while the tables grow.
-use Rattle.std.proofs.Common.{◌≡◌, ℕ, ◌<◌, List, ◌++◌, length, ◌∙◌, ap, Some, arith, length-append, ◌+◌}
+use Rattle.std.proofs.Common.{◌≡◌, ℕ, ◌<◌, List, ◌++◌, length, ◌∙◌, ap, Some, arith, length-append}
 use Rattle.std.proofs.lemmas.Option.{get_or_from_slice_get}
 use Rattle.std.specs.Prelude.{slice_get}
 use Rattle.hol_model.specs.Terms.HolType.{HolType, bool_type}

@@ -18,6 +18,3 @@ insert-added {K} {V} e same (first ∷ rest) key value other one (i, there) = go
     go true is (suc i) there deeper = inl (suc i, there)
     go false is zero there deeper = inl (0, there)
     go false is (suc i) there deeper = elim (deeper (i, there)) [ inl early ↦ inl (suc early.0, early.1) | inr new ↦ inr new ]
-
-pub unchanged-added : {K V : Type 0} (entries : List (K × V)) (key : K) (value : V) → HasOnlyAdded entries entries key value
-unchanged-added entries key value other one there = inl there

@@ -13,7 +13,7 @@ use Rattle.hol_model.proofs.Tests.{same_variable-self, same_name, same_variable-
 use Rattle.hol_shared.specs.Table.{HaveOneNumber}
 use Rattle.hol_shared.specs.Terms.{term_at}
 use Rattle.hol_shared.specs.Occurs.{AreAbsent, IsSearched}
-use Rattle.hol_shared.specs.Numbers.{IsNoted, IsNotedWhere}
+use Rattle.hol_shared.specs.Numbers.{IsNotedWhere}
 use Rattle.hol_shared.proofs.NumberLemmas.{noted-all}
 use Rattle.hol_shared.proofs.GrowthLemmas.{term-there}
 
@@ -35,9 +35,6 @@ pub searched-none_free : (name : List ℕ) (ty : HolType) (terms : List Nameless
     → IsSearched name ty (term_at terms number) (Ok false) terms numbers
 searched-none_free name ty terms numbers number none absent = record { found = sym (none_free name ty (term_at terms number) none); absent = absent }
 
-pub searched-noted : (name : List ℕ) (ty : HolType) (terms : List Nameless) (numbers : List ℕ) (number : ℕ) → IsNoted numbers number → AreAbsent terms name ty numbers → IsSearched name ty (term_at terms number) (Ok false) terms numbers
-searched-noted name ty terms numbers number noted absent = record { found = sym (absent number noted); absent = absent }
-
 pub searched-free : (name : List ℕ) (ty : HolType) (terms : List Nameless) → HaveOneNumber terms → (numbers : List ℕ) (number variable : ℕ) (other : List ℕ) (s : HolType) → number < length terms → slice_get terms variable ≡ Some (free name ty) → ¬ (number ≡ variable)
     → term_at terms number ≡ free other s → AreAbsent terms name ty numbers → IsSearched name ty (term_at terms number) (Ok false) terms numbers
 searched-free name ty terms one numbers number variable other s within there differ is absent =
@@ -50,10 +47,6 @@ searched-free name ty terms one numbers number variable other s within there dif
         let terms_same : free name ty ≡ free other s = (λ i. free (names i) (types i)) in
         absurd (differ (one number variable (free other s) (slice_get-get_or terms number (bound 0) within ∙ ap Some is) (there ∙ ap Some terms_same)))
     go false passed = refl
-
-pub searched-leaf : (name : List ℕ) (ty : HolType) (terms : List Nameless) (numbers : List ℕ) (number : ℕ) (leaf : Nameless) → term_at terms number ≡ leaf → occurs_free name ty leaf ≡ false → AreAbsent terms name ty numbers
-    → IsSearched name ty (term_at terms number) (Ok false) terms numbers
-searched-leaf name ty terms numbers number leaf is none absent = record { found = sym (ap (occurs_free name ty) is ∙ none); absent = absent }
 
 -- neither part of a combination has the variable, or the argument has it
 pub searched-argument : (name : List ℕ) (ty : HolType) (t f a : Nameless) (first found : Bool) → t ≡ app f a → first ≡ false → first ≡ occurs_free name ty f → found ≡ occurs_free name ty a → found ≡ occurs_free name ty t

@@ -13,7 +13,7 @@ use Rattle.hol_model.proofs.Terms.Measures.{past_limit-type}
 use Rattle.hol_model.proofs.Tests.{both}
 use Rattle.hol_shared.specs.Growth.{IsLonger}
 use Rattle.hol_shared.specs.Terms.{type_at}
-use Rattle.hol_shared.specs.Typed.{IsTyped, IsTypedUnderSome}
+use Rattle.hol_shared.specs.Typed.{IsTypedUnderSome}
 use Rattle.hol_shared.specs.Typing.{binder_types, AreTypes, AnswersTyping}
 use Rattle.hol_shared.specs.declared.typing.Binders.{Binders, Outermost, Under'}
 use Rattle.hol_shared.proofs.GrowthLemmas.{type-within, type-grown, type-place, type-there}
@@ -46,9 +46,6 @@ typed-const types binders t name ty count is within counted fits = record {
 }
 
 -- types that are kept
-
-pub typed-known : (types binders : List HolType) (t : Nameless) (ty : ℕ) → IsTyped types t ty → AnswersTyping binders t (Ok ty) types
-typed-known types binders t ty is = record { number = (is binders).number; fits = (is binders).fits; refused = tt }
 
 pub typed-under_some : (types binders : List HolType) (t : Nameless) (ty : ℕ) → AnswersTyping binders t (Ok ty) types → IsTypedUnderSome types t ty
 typed-under_some types binders t ty answers = record { binders = binders; typed = record { number = answers.number; fits = answers.fits } }

@@ -3,17 +3,16 @@ use Rattle.std.proofs.Common.{◌≡◌, ℕ, ◌+◌, ◌<◌, List, [], ◌∷
 use Rattle.std.specs.List.{All, list_all}
 use Rattle.std.proofs.lemmas.Option.{slice_get-get_or}
 use Rattle.std.proofs.lemmas.List.Elements.{All-head, All-tail, All-get_or}
-use Rattle.hol_model.specs.Terms.HolType.{HolType, bool_type, is_type_variable, replaces_type_variables, type_instance_of}
+use Rattle.hol_model.specs.Terms.HolType.{HolType, bool_type, type_instance_of}
 use Rattle.hol_model.specs.Terms.Nameless.{Nameless, bound}
 use Rattle.hol_model.specs.Terms.Substitution.{put, instantiate}
 use Rattle.hol_model.specs.Logs.LogSequents.{term_instance_of}
 use Rattle.hol_model.specs.Logs.LogFaults.{is_replacement}
-use Rattle.hol_shared.specs.Terms.{TermTable, type_at, term_at, IsGrown}
+use Rattle.hol_shared.specs.Terms.{TermTable, term_at, IsGrown}
 use Rattle.hol_change.specs.Pairs.{ArePairs}
 use Rattle.hol_change.specs.Change.{changed, putting, instantiating}
 use Rattle.hol_steps.specs.StepPairs.{term_pairs_in, type_pairs_in, IsFittingPair, IsTypePair}
 use Rattle.hol_change.proofs.ChangeLemmas.{changed-putting, changed-instantiating}
-use Rattle.hol_steps.proofs.StateLemmas.{map-same}
 use Rattle.hol_shared.proofs.GrowthLemmas.{term-grown}
 
 -- a list from one of its elements on
@@ -37,10 +36,6 @@ are-type-pairs types (pair ∷ pairs) within =
     let first = All-head (IsTypePair types) pair pairs within in
     (slice_get-get_or types pair.0 bool_type first.new, slice_get-get_or types pair.1 bool_type first.old, are-type-pairs types pairs (All-tail (IsTypePair types) pair pairs within))
 
-pub pairs-still : (earlier now : TermTable) → IsGrown earlier now → (pairs : List (ℕ × ℕ)) → All (IsFittingPair earlier.terms) pairs → term_pairs_in now.terms pairs ≡ term_pairs_in earlier.terms pairs
-pairs-still earlier now grows = map-same (IsFittingPair earlier.terms) (λ pair. (term_at now.terms pair.0, term_at now.terms pair.1)) (λ pair. (term_at earlier.terms pair.0, term_at earlier.terms pair.1))
-    (λ pair fitting. λ i. (term-grown earlier now pair.0 grows fitting.new.within i, term-grown earlier now pair.1 grows fitting.old.within i))
-
 -- one more pair
 
 pub replaced-more : (t0 t1 : TermTable) (pairs : List (ℕ × ℕ)) (index : ℕ) (d : ℕ × ℕ) (answer : Bool) → IsGrown t0 t1 → index < length pairs → All (IsFittingPair t0.terms) pairs
@@ -54,13 +49,6 @@ replaced-more t0 t1 pairs index d answer grows within fitting so_far is =
     is ∙ (λ i. is_replacement (term-grown t0 t1 pair.0 grows here.new.within i, term-grown t0 t1 pair.1 grows here.old.within i)) in
     so_far ∙ (ap (λ l. list_all is_replacement (term_pairs_in t0.terms l)) (drop-pair pairs index d within)
     ∙ ap (λ b. b && list_all is_replacement (term_pairs_in t0.terms (drop (index + 1) pairs))) (sym same))
-
-pub variables-more : (types : List HolType) (pairs : List (ℕ × ℕ)) (index : ℕ) (d : ℕ × ℕ) (answer : Bool) → index < length pairs
-    → replaces_type_variables (type_pairs_in types pairs) ≡ replaces_type_variables (type_pairs_in types (drop index pairs)) → answer ≡ is_type_variable (type_at types (get_or pairs index d).1)
-    → replaces_type_variables (type_pairs_in types pairs) ≡ (answer && replaces_type_variables (type_pairs_in types (drop (index + 1) pairs)))
-variables-more types pairs index d answer within so_far is =
-    so_far ∙ (ap (λ l. replaces_type_variables (type_pairs_in types l)) (drop-pair pairs index d within)
-    ∙ ap (λ b. b && replaces_type_variables (type_pairs_in types (drop (index + 1) pairs))) (sym is))
 
 -- what the changes are
 

@@ -72,12 +72,6 @@ concluded earlier now theorem wanted formed grows order made =
       refused = tt;
     }
 
-pub concluded-large : (now : List Nameless) (wanted : List Nameless) (formed : Nameless) → nameless_within_limits formed ≡ false → Takes (plain (supposing wanted formed)) (Ok (Err Large)) now
-concluded-large now wanted formed past = record {
-  taken = large_cause (supposing wanted formed) (ap (λ b. b && list_all nameless_within_limits (set_of wanted)) past);
-  refused = tt;
-}
-
 -- conditions that hold
 
 pub ruled-taken : (fault : Bool) (sequent : Sequent) (result : Result (Result Theorem Cause) Fault) (terms : List Nameless) → fault ≡ false → Takes (plain sequent) result terms → Takes (ruled fault sequent) result terms

@@ -67,14 +67,4 @@ combination-typed types f x g y ty typed function argument =
     let second : type_of y ≡ Some (type_put types parts.0) = argument ∙ ap (option_map (type_put types)) parts.2 in
     rw (first, second, type_eq-self (type_put types parts.0)) refl
 
--- an abstraction of a new type over a body of a new type has the new type
-pub abstraction-typed : (types : List (HolType × HolType)) (ty : HolType) (body new : NamedTerm)
-    → type_of new ≡ option_map (type_put types) (type_of body)
-    → option_map (function_type (type_put types ty)) (type_of new) ≡ option_map (type_put types) (option_map (function_type ty) (type_of body))
-abstraction-typed types ty body new is = ap (option_map (function_type (type_put types ty))) is ∙ go (type_of body)
-  where
-    go : (found : Option HolType) → option_map (function_type (type_put types ty)) (option_map (type_put types) found) ≡ option_map (type_put types) (option_map (function_type ty) found)
-    go None = refl
-    go (Some c) = refl
-
 pub ruleset keeping = (KeepsTypes-keeping, KeepsTypes-putting, KeepsTypes-entries, KeepsTypes-none, unchanged_type)

@@ -1,5 +1,5 @@
 -- Why a name with enough primes is not taken.
-use Rattle.std.proofs.Common.{◌≡◌, ℕ, zero, suc, ◌+◌, ◌<◌, ◌≤◌, max, List, [], ◌∷◌, ◌++◌, Bool, true, false, ◌&&◌, ◌||◌, length, ◌-◌, refl, ◌∙◌, ap, arith, below_more, length-append, Some, Ok, Err, IfOk}
+use Rattle.std.proofs.Common.{◌≡◌, ℕ, suc, ◌+◌, ◌<◌, ◌≤◌, max, List, [], ◌∷◌, ◌++◌, Bool, true, false, ◌&&◌, ◌||◌, length, ◌-◌, refl, ◌∙◌, ap, arith, below_more, length-append, Some, Ok, Err, IfOk}
 use Rattle.std.specs.Prelude.{Result}
 use Rattle.hol_model.specs.Terms.HolType.{HolType}
 use Rattle.hol_model.specs.Terms.Name.{is_identifier, is_capital, is_small, continues_name, all_continue}
@@ -65,11 +65,6 @@ pub record HasPrimes (taken : List ℕ → Bool) (name fresh : List ℕ) : Type 
   pub all_taken : (fewer : ℕ) → fewer < primes → taken (primed fewer name) ≡ true
   pub is_named : is_identifier fresh ≡ true
 
--- the name itself has none
-pub no_primes : (taken : List ℕ → Bool) (name fresh : List ℕ) → is_identifier name ≡ true → fresh ≡ name → HasPrimes taken name fresh
-no_primes taken name fresh named same =
-    record { primes = zero; is_primed = same; all_taken = λ fewer below. absurd (omega arith); is_named = rw same named }
-
 -- a taken name gets one more
 pub one_more_prime : (taken : List ℕ → Bool) (name fresh next : List ℕ) → HasPrimes taken name fresh
     → taken fresh ≡ true → next ≡ fresh ++ 39 ∷ [] → HasPrimes taken name next
@@ -83,16 +78,6 @@ one_more_prime taken name fresh next known is_taken is =
           below_more (λ k. taken (primed k name) ≡ true) known.primes known.all_taken (rw (← known.is_primed) is_taken) fewer at_most;
       is_named = rw is (is_identifier-prime fresh known.is_named);
     }
-
--- a taken name with one prime
-pub one_prime : (taken : List ℕ → Bool) (name fresh : List ℕ) → is_identifier name ≡ true → taken name ≡ true → fresh ≡ name ++ 39 ∷ []
-    → HasPrimes taken name fresh
-one_prime taken name fresh named is_taken is = one_more_prime taken name name fresh (no_primes taken name name named refl) is_taken is
-
--- the name that is not taken is the first one
-pub free_at_last : (taken : List ℕ → Bool) (name fresh : List ℕ) → HasPrimes taken name fresh → taken fresh ≡ false → IsFirstFree taken name fresh
-free_at_last taken name fresh known is_free =
-    record { primes = known.primes; is_primed = known.is_primed; is_fresh = is_free; is_first = known.all_taken }
 
 -- how many primes more may be needed
 abbrev pub primes_left : ℕ → List ℕ → ℕ

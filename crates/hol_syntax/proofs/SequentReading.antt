@@ -43,9 +43,6 @@ pub record IsListed (tokens : List Token) (at : ℕ) (parsed : List (Vec TermSte
   pub done : AreParsed parsed parts
   pub left : slice_split (separates CommaHere) tokens ≡ parts ++ slice_split (separates CommaHere) (drop at tokens)
 
-pub listed_none : (tokens : List Token) (parsed : List (Vec TermStep Global)) → parsed ≡ [] → IsListed tokens 0 parsed
-listed_none tokens parsed e = record { parts = []; done = subst (λ p. AreParsed p []) (sym e) tt; left = refl }
-
 pub listed_more : (tokens : List Token) (at n : ℕ) (parsed new : List (Vec TermStep Global)) (steps : Vec TermStep Global) → IsListed tokens at parsed → IsFound (Some n) CommaHere (drop at tokens)
     → Parses (Ok steps) (take n (drop at tokens)) → new ≡ parsed ++ steps ∷ [] → IsListed tokens (at + (n + 1)) new
 listed_more tokens at n parsed new steps h f k e = record {

@@ -204,23 +204,9 @@ combination-step f x within =
           (second_of_both p q each.2),
     )
 
-pub past_limits-function : (f x : Nameless) → nameless_within_limits f ≡ false → nameless_within_limits (app f x) ≡ false
-past_limits-function f x past = refuted (nameless_within_limits f) (nameless_within_limits (app f x)) (λ within. (combination-step f x within).0) past
-
 pub past_limits-argument : (f x : Nameless) → nameless_within_limits x ≡ false → nameless_within_limits (app f x) ≡ false
 past_limits-argument f x past = refuted (nameless_within_limits x) (nameless_within_limits (app f x)) (λ within. (combination-step f x within).1) past
 
 -- a type past the limit
 pub past_limit-type : (ty : HolType) → TYPE_NODES_LIMIT < type_nodes ty → type_fits ty ≡ false
 past_limit-type ty past = grind arith
-
-pub past_limits-binder : (ty : HolType) (body : Nameless) → TYPE_NODES_LIMIT < type_nodes ty → nameless_within_limits (lam ty body) ≡ false
-past_limits-binder ty body past = refuted (type_fits ty) (nameless_within_limits (lam ty body)) step (past_limit-type ty past)
-  where
-    step : nameless_within_limits (lam ty body) ≡ true → type_fits ty ≡ true
-    step within =
-        let h = nat_le (nameless_height body + 1) TERM_HEIGHT_LIMIT in
-        let n = nat_le (nameless_nodes body + 1) TERM_NODES_LIMIT in
-        let p = nameless_types_fit (ty ∷ []) body in
-        let q = type_fits (function_type ty (nameless_type (ty ∷ []) body)) in
-        type_fits-domain ty (nameless_type (ty ∷ []) body) (second_of_both p q (each_of_three h n (p && q) within).2)

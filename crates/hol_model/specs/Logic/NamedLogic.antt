@@ -36,9 +36,6 @@ quantified quantifier_name name ty body = combination (constant quantifier_name 
 abbrev pub forall_term : List ℕ → HolType → NamedTerm → NamedTerm
 forall_term name ty body = quantified forall_name name ty body
 
-abbrev pub exists_term : List ℕ → HolType → NamedTerm → NamedTerm
-exists_term name ty body = quantified exists_name name ty body
-
 -- parts of formulas
 
 -- the term is a constant of this name

@@ -5,18 +5,12 @@ use Rattle.std.specs.List.{ends_with}
 use Rattle.std.specs.Io.KnownBytes.{Appends}
 use Rattle.hol_model.specs.declared.fault.Fault.{Fault}
 use Rattle.hol_model.specs.declared.fault.Fault.TheVariants.{Memory, BadName, UnknownName, Syntax, NameTaken}
-use Rattle.hol_model.specs.declared.rule.TermRule.{TermRule}
-use Rattle.hol_model.specs.declared.rule.TermRule.TheVariants.{Refl, Beta, Assume}
-use Rattle.hol_model.specs.declared.rule.PairRule.{PairRule}
-use Rattle.hol_model.specs.declared.rule.PairRule.TheVariants.{Trans, MkComb, EqMp, DeductAntisym}
 use Rattle.hol_model.specs.declared.rule.PremiseRule.{PremiseRule}
 use Rattle.hol_model.specs.declared.rule.PremiseRule.TheVariants.{Sym, EqtIntro, EqtElim, Conjunct1, Conjunct2, Undisch, NotIntro, NotElim}
 use Rattle.hol_model.specs.declared.rule.PremisesRule.{PremisesRule}
 use Rattle.hol_model.specs.declared.rule.PremisesRule.TheVariants.{ProveHyp, Conj, Mp}
 use Rattle.hol_model.specs.declared.rule.TermPremiseRule.{TermPremiseRule}
 use Rattle.hol_model.specs.declared.rule.TermPremiseRule.TheVariants.{AddAssum, Disch, Spec, Gen, Disj1, Disj2, Contr}
-use Rattle.hol_model.specs.declared.rule.Axiom.{Axiom}
-use Rattle.hol_model.specs.declared.rule.Axiom.TheVariants.{Eta, Select}
 use Rattle.hol_model.specs.Kernel.Fault.{number_of, name_of}
 use Rattle.hol_model.specs.Terms.HolType.{HolType, type_variable}
 use Rattle.hol_model.specs.Terms.NamedTerm.{NamedTerm}
@@ -27,11 +21,11 @@ use Rattle.hol_model.specs.Logic.Derivable.{Derivable}
 use Rattle.hol_model.specs.Models.Holds.{Holds}
 use Rattle.hol_model.specs.Kernel.Outcome.{given}
 use Rattle.hol_model.specs.Kernel.Theorem.{Theorem}
-use Rattle.hol_model.specs.Kernel.Rules.{refl_outcome, beta_outcome, assume_outcome, trans_outcome, mk_comb_outcome, eq_mp_outcome, deduct_antisym_outcome, abs_outcome, define_outcome, new_type_outcome, new_const_outcome}
+use Rattle.hol_model.specs.Kernel.Rules.{abs_outcome, define_outcome, new_type_outcome, new_const_outcome}
 use Rattle.hol_model.specs.Kernel.Instantiation.{inst_refusal, IsInst, inst_type_refusal, IsInstType}
 use Rattle.hol_model.specs.Logic.Logic.{logical_definitions}
 use Rattle.hol_model.specs.Derived.Prelude.{stored_theorems}
-use Rattle.hol_model.specs.Kernel.NamedAxioms.{eta_conclusion, select_hypothesis, select_conclusion}
+use Rattle.hol_model.specs.Kernel.RuleOutcomes.{term_rule_outcome, pair_rule_outcome, axiom_theorem}
 use Rattle.hol_model.specs.Derived.DerivedRules.{Stated, AnswersStated, terms_of_theorem, sym_outcome, add_assum_outcome, prove_hyp_outcome, beta_conv_outcome, eqt_intro_outcome, eqt_elim_outcome, conj_outcome, conjunct1_outcome, conjunct2_outcome, disch_outcome, undisch_outcome, mp_outcome, spec_outcome, gen_outcome, exists_outcome, choose_outcome, disj1_outcome, disj2_outcome, disj_cases_outcome, contr_outcome, not_intro_outcome, not_elim_outcome}
 use Rattle.hol_model.specs.Texts.TypeGrammar.{TypeTree}
 use Rattle.hol_model.specs.Texts.TermGrammar.{TermTree}
@@ -72,21 +66,6 @@ abbrev pub over_theory : State → Theory → State
 over_theory state theory = record state { theory = theory }
 
 -- ---- rules
-
-abbrev pub term_rule_outcome : TermRule → Theory → NamedTerm → Result Theorem Fault
-term_rule_outcome Refl = refl_outcome
-term_rule_outcome Beta = beta_outcome
-term_rule_outcome Assume = assume_outcome
-
-abbrev pub pair_rule_outcome : PairRule → Theory → Theorem → Theorem → Result Theorem Fault
-pair_rule_outcome Trans = trans_outcome
-pair_rule_outcome MkComb = mk_comb_outcome
-pair_rule_outcome EqMp = eq_mp_outcome
-pair_rule_outcome DeductAntisym = deduct_antisym_outcome
-
-abbrev pub axiom_theorem : Axiom → Theory → Theorem
-axiom_theorem Eta theory = record { theory = theory; hypotheses = []; conclusion = eta_conclusion }
-axiom_theorem Select theory = record { theory = theory; hypotheses = select_hypothesis ∷ []; conclusion = select_conclusion }
 
 -- the stored theorem of a name, and what follows with it
 abbrev pub stored : State → List ℕ → (Theorem → Result Theorem Fault) → Result Theorem Fault

@@ -1,14 +1,12 @@
-use Rattle.std.proofs.Common.{◌≡◌, [], ◌∷◌, subst, sym, None, Err}
+use Rattle.std.proofs.Common.{◌≡◌, [], subst, sym, None, Err}
 use Rattle.std.specs.List.{list_all}
 use Rattle.hol_model.specs.Terms.HolType.{bool_type}
 use Rattle.hol_model.specs.Logic.Logic.{forall_name, predicate}
 use Rattle.hol_model.specs.Terms.NamedTerm.{combination, abstraction, equation}
 use Rattle.hol_model.specs.Terms.Nameless.{Nameless, app, image}
-use Rattle.hol_model.specs.Terms.Measures.{nameless_within_limits}
 use Rattle.hol_model.specs.Logic.Theory.{Theory, IsKnown}
-use Rattle.hol_model.specs.Logic.Derivable.{nameless_equation}
-use Rattle.hol_model.specs.Kernel.Rules.{first_unknown, concluded}
-use Rattle.hol_model.specs.Derived.DerivedRules.{images, is_roomy, terms_of_theorem, spec_outcome}
+use Rattle.hol_model.specs.Kernel.Rules.{first_unknown}
+use Rattle.hol_model.specs.Derived.DerivedRules.{images, is_roomy}
 use Rattle.hol_model.proofs.Terms.Images.{image-abstraction}
 use Rattle.hol_model.proofs.Logic.Known.{app-known}
 use Rattle.hol_kernel.proofs.RuleLemmas.{known_term}

@@ -1,6 +1,5 @@
-use Rattle.std.proofs.Common.{◌≡◌, Err, length, ◌∙◌, arith}
+use Rattle.std.proofs.Common.{◌≡◌, length, arith}
 use Rattle.std.proofs.lemmas.List.{length-map}
-use Rattle.hol_model.specs.Texts.TypeGrammar.{IsRead}
 use Rattle.hol_grammar.specs.Views.{token_of, tokens_of}
 use Rattle.hol_syntax.proofs.TypeBuilding.{all_read}
 use Rattle.hol_syntax.proofs.Readings.{type_unread, type_goes_on}

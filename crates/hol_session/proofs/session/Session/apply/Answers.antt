@@ -1,6 +1,6 @@
 use Rattle.std.proofs.Common.{refl}
 use Rattle.hol_model.specs.declared.rule.Axiom.TheVariants.{Select}
-use Rattle.hol_model.specs.Scripts.Sessions.{axiom_theorem}
+use Rattle.hol_model.specs.Kernel.RuleOutcomes.{axiom_theorem}
 use Rattle.hol_journal.specs.Steps.{by_select}
 use Rattle.hol_session.proofs.RecordingLemmas.{axiom-grows}
 use Rattle.hol_session.proofs.session.Session.apply.Goals as goal

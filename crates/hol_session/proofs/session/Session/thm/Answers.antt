@@ -1,9 +1,9 @@
-use Rattle.std.proofs.Common.{sym, ap, ◌∙◌, subst, Some, Ok, Err}
+use Rattle.std.proofs.Common.{sym, ◌∙◌, subst, Some, Ok, Err}
 use Rattle.hol_model.specs.declared.fault.Fault.TheVariants.{BadName, NameTaken}
 use Rattle.hol_model.specs.Texts.Reading.{Scope}
 use Rattle.hol_model.specs.Scripts.Sessions.{State, thm_has_bad_name, thm_has_taken_name}
 use Rattle.hol_session.specs.Answers.{IsLineOf, Turns}
-use Rattle.hol_session.specs.SessionState.{state_of, IsSession}
+use Rattle.hol_session.specs.SessionState.{state_of}
 use Rattle.hol_session.proofs.RuleLemmas.{proved}
 use Rattle.hol_session.proofs.RecordingLemmas.{rule_state, rule_session}
 use Rattle.hol_session.proofs.SessionLemmas.{scope_same, refuses, forgets_here, taken, untaken, thm_refuses, thm_prints_after}
