@@ -1,6 +1,8 @@
 -- Formulas of a recorder's theory: conclusions, their parts, and terms that come in.
-use Rattle.std.proofs.Common.{◌≡◌, ℕ, List, true, false, refl, sym, ◌∙◌, ap, subst, Option, Some, None, Ok, IfSome}
+use Rattle.std.proofs.Common.{◌≡◌, ℕ, List, true, false, refl, inr, sym, ◌∙◌, ap, subst, Option, Some, None, IfSome}
 use Rattle.std.specs.Option.{option_map, option_map_or}
+use Rattle.hol_model.specs.declared.fault.Fault.{Fault}
+use Rattle.hol_model.specs.declared.fault.Fault.TheVariants.{NotBool}
 use Rattle.hol_model.specs.Terms.HolType.{HolType, type_variable, bool_type, type_eq}
 use Rattle.hol_model.specs.Terms.NamedTerm.{NamedTerm, type_of}
 use Rattle.hol_model.specs.Terms.Nameless.{Nameless, const, app, image}
@@ -10,15 +12,14 @@ use Rattle.hol_model.specs.Logic.Theory.{Theory, IsLegal, IsKnown, generic_type}
 use Rattle.hol_model.specs.Logic.Logic.{logical_definitions, true_name, false_name, not_name, unary, binary}
 use Rattle.hol_model.specs.Logic.NamedLogic.{true_term, false_term, is_true, is_false, connected, dest_connected, dest_negation}
 use Rattle.hol_model.specs.Kernel.Theorem.{Theorem, IsTheorem}
-use Rattle.hol_model.specs.Kernel.Rules.{dest_equation, is_formula, assume_outcome}
+use Rattle.hol_model.specs.Kernel.Rules.{dest_equation, is_formula, first_unknown}
 use Rattle.hol_model.proofs.Terms.HolTypeEq.{type_eq-Decides}
 use Rattle.hol_kernel.proofs.RuleLemmas.{known_term}
 use Rattle.hol_journal.specs.Journal.{Journal}
 use Rattle.hol_journal.proofs.Showing.{sides_of}
 use Rattle.hol_prelude.specs.HasLogic.{HasLogic}
-use Rattle.hol_equal.specs.Formulas.{IsFormula, AreSides, IsNegated, IsPassed}
+use Rattle.hol_equal.specs.Formulas.{IsFormula, AreSides, IsNegated, IsPassed, IsRefused}
 use Rattle.hol_prelude.specs.declared.stored.Bool.{Bool as Stored}
-use Rattle.hol_equal.proofs.CutLemmas.{assumed}
 use Rattle.hol_bool.proofs.RoomLemmas.{connected-typed}
 use Rattle.hol_bool.proofs.LogicLemmas.{logical-type, connected-parts, negated-part, constant-is}
 
@@ -85,8 +86,17 @@ typed-formula term is = go (type_of term) refl is
     go None found is = cc
     go (Some ty) found is = found ∙ ap Some ((type_eq-Decides ty bool_type).0 is)
 
-pub passed : (theory : Theory) (term : NamedTerm) (theorem : Theorem) → assume_outcome theory term ≡ Ok theorem → IsPassed theory term
-passed theory term theorem is =
-    let a = assumed theory term theorem is in
-    let typed = typed-formula term a.formula in
-    record { is_formula = a.formula; is_known = a.known; formula = record { typed = typed; known = known_term theory term bool_type a.known typed } }
+-- a term's type tells whether it is a formula
+pub formula-test : (term : NamedTerm) (ty : HolType) → type_of term ≡ Some ty → is_formula term ≡ type_eq ty bool_type
+formula-test term ty typed = rw typed refl
+
+pub no-formula : (theory : Theory) (term : NamedTerm) → is_formula term ≡ false → IsRefused theory term NotBool
+no-formula theory term is = inr (λ next. rw is refl)
+
+pub unknown-formula : (theory : Theory) (term : NamedTerm) (fault : Fault) → is_formula term ≡ true → first_unknown theory term ≡ Some fault → IsRefused theory term fault
+unknown-formula theory term fault is unknown = inr (λ next. rw (is, unknown) refl)
+
+pub passed : (theory : Theory) (term : NamedTerm) → is_formula term ≡ true → first_unknown theory term ≡ None → IsPassed theory term
+passed theory term is known =
+    let typed = typed-formula term is in
+    record { is_formula = is; is_known = known; formula = record { typed = typed; known = known_term theory term bool_type known typed } }

@@ -6,10 +6,10 @@ mod fitting;
 mod log;
 mod log_laws;
 mod needed;
-mod pruned;
+mod pruning;
 mod writer;
 
 pub use claim::Claim;
 pub use log::log_text;
 pub use log_laws::journal_logs_are_accepted;
-pub use pruned::pruned;
+pub use pruning::pruned;

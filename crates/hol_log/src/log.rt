@@ -6,7 +6,7 @@ ghost use Rattle.hol_log.specs.Pruning.{AreMade, HaveIdentifiers};
 ghost use Rattle.hol_log.specs.LogOf.{IsPrunedText, IsLogOf, IsPastLimit};
 
 use crate::claim::Claim;
-use crate::pruned::pruned;
+use crate::pruning::pruned;
 use hol_journal::Recorder;
 use hol_logtext::text_of_lines;
 use hol_model::{Fault, TEXT_BYTES_LIMIT};

@@ -6,7 +6,6 @@ pub mod GenLemmas
 pub mod ForAllLemmas
 pub mod GenAnswers
 pub mod PreludeParts
-pub mod WalkLemmas
 pub mod ExistsLemmas
 pub mod VariableLemmas
 pub mod ChooseLemmas

@@ -39,25 +39,6 @@ pub over_predicate-at : (quantifier_name : List ℕ) (ty : HolType) (function el
     → at_predicate ty function element (over_predicate quantifier_name) ≡ app (const quantifier_name (quantifier ty)) (image function)
 over_predicate-at quantifier_name ty function element = rw (type_eq-self ty) refl
 
--- what the walk over a known term is refused for
-pub data IsWalkRefused (theory : Theory) (term : NamedTerm) (ty : HolType) (fault : Fault) : Type 0 where
-  no_memory : fault ≡ Memory → IsWalkRefused theory term ty fault
-  unknown : first_unknown theory term ≡ Some fault → IsWalkRefused theory term ty fault
-  past : first_unknown theory term ≡ None → IsPast fault (nameless_within_limits (nameless_equation ty (image term) (image term))) → IsWalkRefused theory term ty fault
-
-pub walk-refused : (theory : Theory) (term : NamedTerm) (ty : HolType) (fault : Fault) → type_of term ≡ Some ty → Answers {A = Theorem} (Err fault) (refl_outcome theory term) → IsWalkRefused theory term ty fault
-walk-refused theory term ty fault typed answers = go (first_unknown theory term) refl
-  where
-    same_fault : (other : Fault) → refused (Some other) (concluded theory [] (equation term term)) ≡ Err fault → other ≡ fault
-    same_fault other same = cc
-
-    go : (found : Option Fault) → first_unknown theory term ≡ found → IsWalkRefused theory term ty fault
-    go (Some other) is = elim answers [
-      | inl memory ↦ no_memory memory
-      | inr refusal ↦ unknown (is ∙ ap Some (same_fault other (ap (λ (o : Option Fault). refused o (concluded theory [] (equation term term))) (sym is) ∙ refusal)))
-    ]
-    go None is = past is (refl-derives (Err fault) theory term answers ty (known_term theory term ty is typed))
-
 -- without memory any outcome may fail
 pub memory-answers : (fault : Fault) (arguments : List Nameless) (outcome : Result Stated Fault) → fault ≡ Memory → AnswersStated (Err fault) arguments outcome
 memory-answers fault arguments (Ok sequent) memory = inl memory
@@ -116,12 +97,6 @@ module _ (theory : Theory) (term : NamedTerm) (premise : Theorem) (function bind
         parts = predicate-room forall_name at.name at.ty body at.body_typed roomy;
         result_sized = (leaves_room specialized_body (first_of_both (is_roomy specialized_body) true last)).sized;
       }
-
-  pub walk-within : list_all is_roomy small ≡ true → nameless_within_limits (nameless_equation at.ty (image term) (image term)) ≡ true
-  walk-within all =
-      let room = spec-room all in
-      let few = room.parts.few in
-      sized-within 1002 10003 (nameless_equation at.ty (image term) (image term)) (sized-equation 1000 5000 5000 at.ty (image term) (image term) (omega arith) (omega arith) room.term_sized room.term_sized) (omega arith) (omega arith)
 
   pub function_image : image function ≡ closed at.name at.ty body
   function_image = ap image at.function_is ∙ image-abstraction at.name at.ty body

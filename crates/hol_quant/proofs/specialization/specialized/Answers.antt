@@ -13,15 +13,13 @@ use Rattle.hol_model.proofs.Terms.Images.{image-abstraction}
 use Rattle.hol_model.proofs.Logic.Known.{app-known}
 use Rattle.hol_kernel.proofs.RuleLemmas.{known_term}
 use Rattle.hol_journal.proofs.GrowthLemmas.{journals-grow}
-use Rattle.hol_journal.proofs.Showing.{passed-none}
 use Rattle.hol_equal.specs.Sequents.{Shows}
 use Rattle.hol_equal.specs.Conversions.{closed, conversion_fits}
 use Rattle.hol_equal.proofs.StepLemmas.{no_unknown}
 use Rattle.hol_equal.proofs.Sizes.{past-room}
 use Rattle.hol_equal.proofs.CutLemmas.{shows-itself, given-derives}
 use Rattle.hol_quant.specs.PredicateLemmas.{applied, over_predicate, lemma_fits}
-use Rattle.hol_quant.proofs.SpecLemmas.{walk-refused, spec-start, small, specialized_body, memory-answers, spec-answers, spec-unknown, walk-within, function_image, premise-at, redex-at, spec-lemma-within, spec-conversion-within}
-use Rattle.hol_quant.proofs.SpecLemmas.IsWalkRefused.{no_memory, unknown, past}
+use Rattle.hol_quant.proofs.SpecLemmas.{spec-start, small, specialized_body, spec-answers, spec-unknown, function_image, premise-at, redex-at, spec-lemma-within, spec-conversion-within}
 use Rattle.hol_quant.proofs.specialization.specialized.Goals as goal
 
 pub returns-in-Some-first_unknown-clause-outcome : goal.returns-in-Some-first_unknown-clause-outcome

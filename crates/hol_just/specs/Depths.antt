@@ -1,0 +1,21 @@
+-- The depths of the trees of lines, computed from line to line.
+use Rattle.std.specs.Prelude.{ℕ, ◌+◌, List, [], ◌∷◌, ◌++◌, max, slice_index_or}
+use Rattle.hol_just.specs.Flat.{FlatLine, flat_rule}
+
+-- the depth of a cited line
+abbrev pub cited_depth : List ℕ → ℕ → ℕ
+cited_depth depths place = slice_index_or depths place 1
+
+abbrev pub deepest : List ℕ → List ℕ → ℕ
+deepest depths [] = 0
+deepest depths (place ∷ places) = max (cited_depth depths place) (deepest depths places)
+
+-- the depth of a line's tree, behind lines of these depths
+abbrev pub depth_of_line : List ℕ → FlatLine → ℕ
+depth_of_line depths (flat_rule rule places) = deepest depths places + 1
+depth_of_line depths _ = 1
+
+-- the depths of lines' trees, after those of the lines before
+abbrev pub depths_after : List ℕ → List FlatLine → List ℕ
+depths_after depths [] = depths
+depths_after depths (line ∷ lines) = depths_after (depths ++ depth_of_line depths line ∷ []) lines

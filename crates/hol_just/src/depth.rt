@@ -1,0 +1,79 @@
+// The depths of the trees of lines, each computed once.
+ghost use Rattle.std.specs.Prelude.{◌≡◌, [], IfOk, IfErr, IfSome};
+ghost use Rattle.hol_model.specs.declared.fault.Fault.TheVariants.{Memory};
+ghost use Rattle.hol_model.specs.Goals.Replays.{depth, is_within_depth};
+ghost use Rattle.hol_just.specs.Lines.{flat_line, flat_lines, flat_of_lines};
+ghost use Rattle.hol_just.specs.Depths.{cited_depth, deepest, depth_of_line, depths_after};
+ghost use Rattle.hol_just.specs.Flat.{tree};
+
+use crate::line::Line;
+use hol_model::{Fault, JUSTIFICATION_DEPTH_LIMIT};
+use std::alloc::Global;
+
+// The depth at a place; 1 where there is none.
+fn depth_at(depths: &[usize], place: usize) -> usize
+    ensures { result ≡ cited_depth depths.now place }
+{
+    if place < depths.len() {
+        depths[place]
+    } else {
+        1
+    }
+}
+
+// The greatest of the depths at these places.
+fn deepest(depths: &[usize], places: &[usize]) -> usize
+    ensures { result ≡ deepest depths.now places.now }
+{
+    let mut greatest = 0;
+    for place in places {
+        let depth = depth_at(depths, *place);
+        if greatest < depth {
+            greatest = depth;
+        }
+    }
+    greatest
+}
+
+// The depth of a line's tree, behind lines of these depths.
+fn depth_of_line(depths: &[usize], line: &Line) -> Option<usize>
+    ensures { IfSome result (λ depth. depth ≡ depth_of_line depths.now (flat_line line.now)) }
+{
+    match line {
+        Line::ByRule(_, places) => deepest(depths, places).checked_add(1),
+        _ => Some(1),
+    }
+}
+
+// The depths of the lines' trees.
+fn depths(alloc: Global, lines: &[Line]) -> Result<Vec<usize>, Fault>
+    ensures ok { IfOk result (λ depths. depths.items ≡ depths_after [] (flat_lines lines.now)) }
+    ensures err { IfErr result (λ fault. fault ≡ Memory) }
+{
+    let mut depths = Vec::new(alloc);
+    for line in lines {
+        let Some(depth) = depth_of_line(&depths, line) else {
+            return Err(Fault::Memory);
+        };
+        depths.push(depth)?;
+    }
+    Ok(depths)
+}
+
+// The depth of the tree of the line at a place.
+#[tactic(auto, using(crate::proofs::Depths::root_depth))]
+fn root_depth(alloc: Global, lines: &[Line], root: usize) -> Result<usize, Fault>
+    ensures ok { IfOk result (λ found. found ≡ depth (tree (flat_of_lines lines.now root))) }
+    ensures err { IfErr result (λ fault. fault ≡ Memory) }
+{
+    let depths = depths(alloc, lines)?;
+    Ok(depth_at(&depths, root))
+}
+
+/// Whether the tree of the line at a place is within the limit.
+pub(crate) fn is_within_depth(alloc: Global, lines: &[Line], root: usize) -> Result<bool, Fault>
+    ensures ok { IfOk result (λ answer. answer ≡ is_within_depth (tree (flat_of_lines lines.now root))) }
+    ensures err { IfErr result (λ fault. fault ≡ Memory) }
+{
+    Ok(root_depth(alloc, lines, root)? <= JUSTIFICATION_DEPTH_LIMIT as usize)
+}

@@ -1,0 +1,150 @@
+// Justifications in place of subgoals.
+ghost use Rattle.std.specs.Prelude.{◌≡◌, ◌+◌, ◌-◌, ◌≤◌, [], length, map, sum_by, slice_index, slice_get, true, IfOk, IfErr, OnOk};
+ghost use Rattle.hol_model.specs.declared.fault.Fault.TheVariants.{Memory};
+ghost use Rattle.hol_model.specs.Goals.Splicing as spec;
+ghost use Rattle.hol_just.specs.Flat.{redirected, with_replaced, replaced_line, replaced_sub};
+ghost use Rattle.hol_just.specs.Lines.{flat_line, flat_lines};
+ghost use Rattle.hol_just.specs.Steps.{flat_of, tree_of, step_of, steps_of, flat_portion, IsRefused};
+ghost use Rattle.hol_model.specs.Goals.Replays.{is_within_depth};
+ghost use Rattle.hol_just.specs.Joining.{replaced_of, redirected_of};
+
+use crate::goal::Step;
+use crate::just::Just;
+use crate::line::Line;
+use crate::making::finished;
+use crate::moving::{Joined, moved};
+use hol_model::Fault;
+use std::alloc::Global;
+
+// What a line becomes: the place of a portion's root, or a line of its own.
+#[derive(Drop)]
+enum Replacement {
+    Root(usize),
+    Own(Line),
+}
+
+// The lines so far, and the new place of each old line.
+#[derive(Drop)]
+struct Spliced {
+    lines: Vec<Line>,
+    new_places: Vec<usize>,
+}
+
+// The place at a number; 0 where there is none.
+fn place_at(places: &[usize], number: usize) -> usize
+    ensures { result ≡ slice_index places.now number }
+{
+    if number < places.len() {
+        places[number]
+    } else {
+        0
+    }
+}
+
+// The new places of cited lines.
+fn redirected_places(alloc: Global, places: &[usize], cites: &[usize]) -> Result<Vec<usize>, Fault>
+    ensures ok { IfOk result (λ redirected. redirected.items ≡ map (slice_index places.now) cites.now) }
+    ensures err { IfErr result (λ fault. fault ≡ Memory) }
+{
+    let mut redirected = Vec::new(alloc);
+    for cite in cites {
+        redirected.push(place_at(places, *cite))?;
+    }
+    Ok(redirected)
+}
+
+// What a subgoal becomes.
+fn replaced_sub(roots: &[usize], subgoals: usize, number: usize) -> Result<Replacement, Fault>
+    ensures ok { IfOk result (λ made. replaced_of made ≡ replaced_sub subgoals (number - length roots.now) (slice_get roots.now number)) }
+    ensures err { IfErr result (λ fault. fault ≡ Memory) }
+{
+    if number < roots.len() {
+        return Ok(Replacement::Root(roots[number]));
+    }
+    Ok(Replacement::Own(Line::Sub(moved(number - roots.len(), subgoals)?)))
+}
+
+// What a line becomes behind portions with these roots and so many subgoals in all.
+fn replaced_line(
+    alloc: Global,
+    roots: &[usize],
+    subgoals: usize,
+    new_places: &[usize],
+    line: &Line,
+) -> Result<Replacement, Fault>
+    ensures ok { IfOk result (λ made. replaced_of made ≡ replaced_line roots.now subgoals new_places.now (flat_line line.now)) }
+    ensures err { IfErr result (λ fault. fault ≡ Memory) }
+{
+    match line {
+        Line::Sub(number) => replaced_sub(roots, subgoals, *number),
+        Line::Named(name) => Ok(Replacement::Own(Line::Named(String::from_str(alloc, name)?))),
+        Line::Lemma(number) => Ok(Replacement::Own(Line::Lemma(*number))),
+        Line::ByRule(rule, cites) => Ok(Replacement::Own(Line::ByRule(
+            rule.clone()?,
+            redirected_places(alloc, new_places, cites)?,
+        ))),
+    }
+}
+
+impl Spliced {
+    // Adds what a line becomes.
+    fn take(&mut self, replacement: Replacement) -> Result<(), Fault>
+        ensures ok { OnOk result (redirected_of self.new ≡ with_replaced (redirected_of self.old) (replaced_of replacement)) }
+        ensures err { IfErr result (λ fault. fault ≡ Memory) }
+    {
+        match replacement {
+            Replacement::Root(place) => self.new_places.push(place)?,
+            Replacement::Own(line) => {
+                self.new_places.push(self.lines.len())?;
+                self.lines.push(line)?;
+            }
+        }
+        Ok(())
+    }
+}
+
+// The lines of a justification behind its portions.
+fn redirected(
+    alloc: Global,
+    joined: Joined,
+    subgoals: usize,
+    lines: &[Line],
+) -> Result<Spliced, Fault>
+    ensures ok { IfOk result (λ made. redirected_of made ≡ redirected joined.roots.items subgoals (record { lines = flat_lines joined.lines.items; new_places = [] }) (flat_lines lines.now)) }
+    ensures err { IfErr result (λ fault. fault ≡ Memory) }
+{
+    let Joined {
+        lines: joined_lines,
+        roots,
+    } = joined;
+    let mut spliced = Spliced {
+        lines: joined_lines,
+        new_places: Vec::new(alloc),
+    };
+    for line in lines {
+        let replacement = replaced_line(alloc, &roots, subgoals, &spliced.new_places, line)?;
+        spliced.take(replacement)?;
+    }
+    Ok(spliced)
+}
+
+/// The justification with that of the part at each place in place of the subgoal of that number. The subgoals of the parts
+/// are numbered one after another, and a subgoal past the parts comes behind them all. The lines of each part stand in it
+/// once, however often its subgoal is named. Refused: Memory (also where a number would pass `usize`), or TooLarge for a
+/// tree that is deeper than the limit.
+pub fn splice(alloc: Global, just: &Just, parts: &[Step]) -> Result<Just, Fault>
+    ensures tree { IfOk result (λ made. tree_of made ≡ spec.splice (tree_of just.now) (map (λ part. spec.portion_of (step_of part)) parts.now)) }
+    ensures steps { IfOk result (λ made. steps_of made ≤ steps_of just.now + sum_by (λ part. steps_of part.just) parts.now) }
+    ensures within { IfOk result (λ made. is_within_depth (tree_of made) ≡ true) }
+    ensures err { IfErr result (IsRefused (spec.splice (tree_of just.now) (map (λ part. spec.portion_of (step_of part)) parts.now))) }
+{
+    let mut joined = Joined::new(alloc);
+    let mut subgoals = 0;
+    for part in parts {
+        joined.add(alloc, &part.just, subgoals)?;
+        subgoals = moved(part.goals.len(), subgoals)?;
+    }
+    let spliced = redirected(alloc, joined, subgoals, &just.node.lines)?;
+    let root = place_at(&spliced.new_places, just.node.root);
+    finished(alloc, spliced.lines, root)
+}
