@@ -167,8 +167,8 @@ still_made old new result made goes_on is = journals-grow.stays old new made goe
 pub still_all_made : (old new : Journal) (result : Result Recorded Fault) (all : List Recorded) → GoesOn old new result → AreMade old all → AreMade new all
 still_all_made old new result all goes_on are = record { each = λ number made there. journals-grow.stays old new made goes_on.grown (are.each number made there) }
 
-pub goes_on-twice : (first second third : Journal) (one two : Result Recorded Fault) → GoesOn first second one → GoesOn second third two → GoesOn first third two
-goes_on-twice first second third one two before after = record {
+pub goes_on_twice : (first second third : Journal) (one two : Result Recorded Fault) → GoesOn first second one → GoesOn second third two → GoesOn first third two
+goes_on_twice first second third one two before after = record {
   grown = journals-grow.twice first second third before.grown after.grown;
   theory = after.theory ∙ before.theory;
   made = after.made;

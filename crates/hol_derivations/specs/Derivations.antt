@@ -2,7 +2,7 @@
 use Rattle.std.specs.Prelude.{◌≡◌, ℕ, List, [], ◌∷◌, map, Some, Result, Ok, IfOk, slice_get, length, nat_eq}
 use Rattle.hol_model.specs.declared.fault.Fault.{Fault}
 use Rattle.hol_model.specs.declared.fault.Fault.TheVariants.{BadShape, NotEquation, NotAlpha}
-use Rattle.hol_model.specs.Terms.NamedTerm.{NamedTerm}
+use Rattle.hol_model.specs.Terms.NamedTerm.{NamedTerm, dest_combination}
 use Rattle.hol_model.specs.Terms.Nameless.{Nameless, image, same_term}
 use Rattle.hol_model.specs.Kernel.Outcome.{given, unless, refused}
 use Rattle.hol_model.specs.Logic.Theory.{Theory}
@@ -31,6 +31,32 @@ pub record AreMade (journal : Journal) (all : List Recorded) : Type 0 where
 
 abbrev pub theorems : List Recorded → List Theorem
 theorems all = map (λ made. made.theorem) all
+
+-- AP_TERM: from x = y, f x = f y
+abbrev pub ap_term_of : Theory → TermSketch → Theorem → Result Theorem Fault
+ap_term_of theory function theorem =
+    followed (term_outcome function) (λ function.
+    followed (refl_outcome theory function) (λ reflexive. mk_comb_outcome theory reflexive theorem))
+
+-- AP_THM: from f = g, f x = g x
+abbrev pub ap_thm_of : Theory → Theorem → TermSketch → Result Theorem Fault
+ap_thm_of theory theorem argument =
+    followed (term_outcome argument) (λ argument.
+    followed (refl_outcome theory argument) (λ reflexive. mk_comb_outcome theory theorem reflexive))
+
+-- EQ_MP of `(a = a) = (b = a)` and `a = a`: the relation, a, and the theorem a = b
+abbrev pub turned : Theory → NamedTerm → NamedTerm → Theorem → Result Theorem Fault
+turned theory relation left theorem =
+    followed (refl_outcome theory relation) (λ relation.
+    followed (mk_comb_outcome theory relation theorem) (λ applied.
+    followed (refl_outcome theory left) (λ reflexive.
+    followed (mk_comb_outcome theory applied reflexive) (λ sides. eq_mp_outcome theory sides reflexive))))
+
+-- SYM: from a = b, b = a
+abbrev pub sym_of : Theory → Theorem → Result Theorem Fault
+sym_of theory theorem =
+    given (dest_combination theorem.conclusion) NotEquation (λ sides.
+    given (dest_combination sides.0) NotEquation (λ parts. turned theory parts.0 parts.1 theorem))
 
 -- EQ_MP of REFL of the conclusion, and a theorem without hypotheses of this image
 abbrev pub renamed : Theory → Nameless → NamedTerm → Result Theorem Fault
@@ -67,6 +93,11 @@ derived_outcome theory earlier (derivations.Pair' rule p first q second) =
     followed (derived_outcome theory earlier first) (λ first.
     followed (derived_outcome theory earlier second) (λ second.
     pair_rule_outcome rule theory first second))
+derived_outcome theory earlier (derivations.Sym' p theorem) = followed (derived_outcome theory earlier theorem) (λ theorem. sym_of theory theorem)
+derived_outcome theory earlier (derivations.ApTerm' function p theorem) =
+    followed (derived_outcome theory earlier theorem) (λ theorem. ap_term_of theory function.now theorem)
+derived_outcome theory earlier (derivations.ApThm' p theorem argument) =
+    followed (derived_outcome theory earlier theorem) (λ theorem. ap_thm_of theory theorem argument.now)
 derived_outcome theory earlier (derivations.Abs' variable p theorem) =
     followed (derived_outcome theory earlier theorem) (λ theorem.
     followed (term_outcome variable.now) (λ variable. abs_outcome theory variable theorem))

@@ -2,25 +2,23 @@
 use crate::derivation::Derivation;
 use crate::formulas::{AND_BODY, AND_P, P, P_AND_Q, Q, T, TEST, TESTED, TESTED_TRUE};
 use crate::sketch::TermSketch;
-use crate::truth::{EARLIER_TRUTH, REFL_EQ_BOOL, REFL_P};
+use crate::truth::{EARLIER_TRUTH, EQ_BOOL};
 use hol_model::{PairRule, TermRule};
 
 // |- p /\ q <=> (\f. f p q) = (\f. f T T): AND_DEF at p and q
 const AND_DEF: Derivation<'static> = Derivation::Earlier(1);
 
-pub const REFL_Q: Derivation<'static> = Derivation::Term(TermRule::Refl, &Q);
-
 const AND_BODY_P: TermSketch<'static> = TermSketch::Combination(&AND_BODY, &P);
 
 const AND_P_Q: TermSketch<'static> = TermSketch::Combination(&AND_P, &Q);
 
-const AND_AT_P: Derivation<'static> = Derivation::Pair(PairRule::MkComb, &AND_DEF, &REFL_P);
+const AND_AT_P: Derivation<'static> = Derivation::ApThm(&AND_DEF, &P);
 
 const BETA_AND_P: Derivation<'static> = Derivation::Term(TermRule::Beta, &AND_BODY_P);
 
 const AND_P_IS: Derivation<'static> = Derivation::Pair(PairRule::Trans, &AND_AT_P, &BETA_AND_P);
 
-const AND_AT_P_Q: Derivation<'static> = Derivation::Pair(PairRule::MkComb, &AND_P_IS, &REFL_Q);
+const AND_AT_P_Q: Derivation<'static> = Derivation::ApThm(&AND_P_IS, &Q);
 
 const BETA_AND_P_Q: Derivation<'static> = Derivation::Term(TermRule::Beta, &AND_P_Q);
 
@@ -43,9 +41,7 @@ pub const Q_TRUE: Derivation<'static> = Derivation::Pair(
     &EARLIER_TRUTH,
 );
 
-pub const REFL_TEST: Derivation<'static> = Derivation::Term(TermRule::Refl, &TEST);
-
-const TEST_P_TRUE: Derivation<'static> = Derivation::Pair(PairRule::MkComb, &REFL_TEST, &P_TRUE);
+const TEST_P_TRUE: Derivation<'static> = Derivation::ApTerm(&TEST, &P_TRUE);
 
 const TEST_P_Q_TRUE: Derivation<'static> = Derivation::Pair(
     PairRule::MkComb,
@@ -55,25 +51,9 @@ const TEST_P_Q_TRUE: Derivation<'static> = Derivation::Pair(
 
 const TESTS_TRUE: Derivation<'static> = Derivation::Abs(&TEST, &TEST_P_Q_TRUE);
 
-pub(crate) const REFL_P_AND_Q: Derivation<'static> = Derivation::Term(TermRule::Refl, &P_AND_Q);
+pub const P_AND_Q_IS_EQUATES: Derivation<'static> = Derivation::ApTerm(&EQ_BOOL, &P_AND_Q_IS);
 
-pub const P_AND_Q_IS_EQUATES: Derivation<'static> = Derivation::Pair(
-    PairRule::MkComb,
-    &REFL_EQ_BOOL,
-    &P_AND_Q_IS,
-);
-
-const P_AND_Q_IS_SIDES: Derivation<'static> = Derivation::Pair(
-    PairRule::MkComb,
-    &P_AND_Q_IS_EQUATES,
-    &REFL_P_AND_Q,
-);
-
-const SYM_P_AND_Q_IS: Derivation<'static> = Derivation::Pair(
-    PairRule::EqMp,
-    &P_AND_Q_IS_SIDES,
-    &REFL_P_AND_Q,
-);
+const SYM_P_AND_Q_IS: Derivation<'static> = Derivation::Sym(&P_AND_Q_IS);
 
 pub const CONJ: Derivation<'static> = Derivation::Pair(
     PairRule::EqMp,
@@ -116,11 +96,7 @@ const BETA_AT_FIRST: Derivation<'static> = Derivation::Inst(
 
 const BETA_FIRST_P: Derivation<'static> = Derivation::Term(TermRule::Beta, &FIRST_AT_P);
 
-const FIRST_OF_P_Q: Derivation<'static> = Derivation::Pair(
-    PairRule::MkComb,
-    &BETA_FIRST_P,
-    &REFL_Q,
-);
+const FIRST_OF_P_Q: Derivation<'static> = Derivation::ApThm(&BETA_FIRST_P, &Q);
 
 const FIRST_P_Q: TermSketch<'static> = TermSketch::Combination(&FIRST_P, &Q);
 
@@ -169,27 +145,7 @@ pub const FIRST_TRUE: Derivation<'static> = Derivation::Pair(
     &FIRST_IS_AT_T_T,
 );
 
-const REFL_TRUE_AT_FIRST: Derivation<'static> = Derivation::Term(TermRule::Refl, &TRUE_AT_FIRST);
-
-const REFL_AT_FIRST: Derivation<'static> = Derivation::Term(TermRule::Refl, &AT_FIRST);
-
-const FIRST_TRUE_EQUATES: Derivation<'static> = Derivation::Pair(
-    PairRule::MkComb,
-    &REFL_EQ_BOOL,
-    &FIRST_TRUE,
-);
-
-const FIRST_TRUE_SIDES: Derivation<'static> = Derivation::Pair(
-    PairRule::MkComb,
-    &FIRST_TRUE_EQUATES,
-    &REFL_TRUE_AT_FIRST,
-);
-
-const SYM_FIRST_TRUE: Derivation<'static> = Derivation::Pair(
-    PairRule::EqMp,
-    &FIRST_TRUE_SIDES,
-    &REFL_TRUE_AT_FIRST,
-);
+const SYM_FIRST_TRUE: Derivation<'static> = Derivation::Sym(&FIRST_TRUE);
 
 const FIRST_HOLDS: Derivation<'static> = Derivation::Pair(
     PairRule::EqMp,
@@ -197,27 +153,9 @@ const FIRST_HOLDS: Derivation<'static> = Derivation::Pair(
     &EARLIER_TRUTH,
 );
 
-pub const REFL_FIRST: Derivation<'static> = Derivation::Term(TermRule::Refl, &FIRST);
+const AGREE_AT_FIRST: Derivation<'static> = Derivation::ApThm(&AGREE, &FIRST);
 
-const AGREE_AT_FIRST: Derivation<'static> = Derivation::Pair(PairRule::MkComb, &AGREE, &REFL_FIRST);
-
-const AGREE_AT_FIRST_EQUATES: Derivation<'static> = Derivation::Pair(
-    PairRule::MkComb,
-    &REFL_EQ_BOOL,
-    &AGREE_AT_FIRST,
-);
-
-const AGREE_AT_FIRST_SIDES: Derivation<'static> = Derivation::Pair(
-    PairRule::MkComb,
-    &AGREE_AT_FIRST_EQUATES,
-    &REFL_AT_FIRST,
-);
-
-const SYM_AGREE_AT_FIRST: Derivation<'static> = Derivation::Pair(
-    PairRule::EqMp,
-    &AGREE_AT_FIRST_SIDES,
-    &REFL_AT_FIRST,
-);
+const SYM_AGREE_AT_FIRST: Derivation<'static> = Derivation::Sym(&AGREE_AT_FIRST);
 
 const FIRST_TESTS: Derivation<'static> = Derivation::Pair(
     PairRule::EqMp,
@@ -253,11 +191,7 @@ const BETA_AT_SECOND: Derivation<'static> = Derivation::Inst(
 
 const BETA_SECOND_P: Derivation<'static> = Derivation::Term(TermRule::Beta, &SECOND_AT_P);
 
-const SECOND_OF_P_Q: Derivation<'static> = Derivation::Pair(
-    PairRule::MkComb,
-    &BETA_SECOND_P,
-    &REFL_Q,
-);
+const SECOND_OF_P_Q: Derivation<'static> = Derivation::ApThm(&BETA_SECOND_P, &Q);
 
 const SECOND_P_Q: TermSketch<'static> = TermSketch::Combination(&SECOND_P, &Q);
 
@@ -314,27 +248,7 @@ pub const SECOND_TRUE: Derivation<'static> = Derivation::Pair(
     &SECOND_IS_AT_T_T,
 );
 
-const REFL_TRUE_AT_SECOND: Derivation<'static> = Derivation::Term(TermRule::Refl, &TRUE_AT_SECOND);
-
-const REFL_AT_SECOND: Derivation<'static> = Derivation::Term(TermRule::Refl, &AT_SECOND);
-
-const SECOND_TRUE_EQUATES: Derivation<'static> = Derivation::Pair(
-    PairRule::MkComb,
-    &REFL_EQ_BOOL,
-    &SECOND_TRUE,
-);
-
-const SECOND_TRUE_SIDES: Derivation<'static> = Derivation::Pair(
-    PairRule::MkComb,
-    &SECOND_TRUE_EQUATES,
-    &REFL_TRUE_AT_SECOND,
-);
-
-const SYM_SECOND_TRUE: Derivation<'static> = Derivation::Pair(
-    PairRule::EqMp,
-    &SECOND_TRUE_SIDES,
-    &REFL_TRUE_AT_SECOND,
-);
+const SYM_SECOND_TRUE: Derivation<'static> = Derivation::Sym(&SECOND_TRUE);
 
 const SECOND_HOLDS: Derivation<'static> = Derivation::Pair(
     PairRule::EqMp,
@@ -342,31 +256,9 @@ const SECOND_HOLDS: Derivation<'static> = Derivation::Pair(
     &EARLIER_TRUTH,
 );
 
-pub const REFL_SECOND: Derivation<'static> = Derivation::Term(TermRule::Refl, &SECOND);
+const AGREE_AT_SECOND: Derivation<'static> = Derivation::ApThm(&AGREE, &SECOND);
 
-const AGREE_AT_SECOND: Derivation<'static> = Derivation::Pair(
-    PairRule::MkComb,
-    &AGREE,
-    &REFL_SECOND,
-);
-
-const AGREE_AT_SECOND_EQUATES: Derivation<'static> = Derivation::Pair(
-    PairRule::MkComb,
-    &REFL_EQ_BOOL,
-    &AGREE_AT_SECOND,
-);
-
-const AGREE_AT_SECOND_SIDES: Derivation<'static> = Derivation::Pair(
-    PairRule::MkComb,
-    &AGREE_AT_SECOND_EQUATES,
-    &REFL_AT_SECOND,
-);
-
-const SYM_AGREE_AT_SECOND: Derivation<'static> = Derivation::Pair(
-    PairRule::EqMp,
-    &AGREE_AT_SECOND_SIDES,
-    &REFL_AT_SECOND,
-);
+const SYM_AGREE_AT_SECOND: Derivation<'static> = Derivation::Sym(&AGREE_AT_SECOND);
 
 const SECOND_TESTS: Derivation<'static> = Derivation::Pair(
     PairRule::EqMp,

@@ -6,7 +6,7 @@ ghost use Rattle.hol_model.specs.Kernel.Rules.{refl_outcome, eq_mp_outcome, abs_
 ghost use Rattle.hol_model.specs.Kernel.RuleOutcomes.{axiom_theorem, term_rule_outcome, pair_rule_outcome};
 ghost use Rattle.hol_journal.specs.Journal.{IsMade, theorem_in};
 ghost use Rattle.hol_derivations.specs.Sketches.{followed, term_outcome};
-ghost use Rattle.hol_derivations.specs.Derivations.{inst_of, inst_type_of, derived_outcome, theorems, GoesOn, AreMade};
+ghost use Rattle.hol_derivations.specs.Derivations.{ap_term_of, ap_thm_of, turned, sym_of, inst_of, inst_type_of, derived_outcome, theorems, GoesOn, AreMade};
 
 use crate::sketch::{TermSketch, TypeSketch, term_of, type_of};
 use hol_journal::{Rec, Recorder};
@@ -22,6 +22,12 @@ pub enum Derivation<'a> {
     Axiom(Axiom),
     Term(TermRule, &'a TermSketch<'a>),
     Pair(PairRule, &'a Derivation<'a>, &'a Derivation<'a>),
+    /// SYM.
+    Sym(&'a Derivation<'a>),
+    /// AP_TERM: the function, and the theorem.
+    ApTerm(&'a TermSketch<'a>, &'a Derivation<'a>),
+    /// AP_THM: the theorem, and the argument.
+    ApThm(&'a Derivation<'a>, &'a TermSketch<'a>),
     /// ABS: the variable, and the theorem.
     Abs(&'a TermSketch<'a>, &'a Derivation<'a>),
     /// INST of a theorem without hypotheses: the new term, the variable, the theorem, and the conclusion with its names.
@@ -51,6 +57,18 @@ pub(crate) fn derive(
             let first = derive(recorder, alloc, earlier, first)?;
             let second = derive(recorder, alloc, earlier, second)?;
             by_pair(recorder, alloc, *rule, &first, &second)
+        }
+        Derivation::Sym(theorem) => {
+            let theorem = derive(recorder, alloc, earlier, theorem)?;
+            by_sym(recorder, alloc, &theorem)
+        }
+        Derivation::ApTerm(function, theorem) => {
+            let theorem = derive(recorder, alloc, earlier, theorem)?;
+            by_ap_term(recorder, alloc, function, &theorem)
+        }
+        Derivation::ApThm(theorem, argument) => {
+            let theorem = derive(recorder, alloc, earlier, theorem)?;
+            by_ap_thm(recorder, alloc, &theorem, argument)
         }
         Derivation::Abs(variable, theorem) => {
             let theorem = derive(recorder, alloc, earlier, theorem)?;
@@ -95,6 +113,14 @@ fn by_axiom(recorder: &mut Recorder, alloc: Global, rule: Axiom) -> Result<Rec, 
     }
 }
 
+// REFL of a term.
+fn reflexive(recorder: &mut Recorder, alloc: Global, term: &Term) -> Result<Rec, Fault>
+    ensures outcome { Answers (theorem_in result) (refl_outcome recorder.old.theory term.now) }
+    ensures goes_on { GoesOn recorder.old recorder.new result }
+{
+    recorder.refl(alloc, term)
+}
+
 // REFL, BETA or ASSUME.
 fn by_term(
     recorder: &mut Recorder,
@@ -107,7 +133,7 @@ fn by_term(
 {
     let term = term_of(alloc, term)?;
     match rule {
-        TermRule::Refl => recorder.refl(alloc, &term),
+        TermRule::Refl => reflexive(recorder, alloc, &term),
         TermRule::Beta => recorder.beta(alloc, &term),
         TermRule::Assume => recorder.assume(alloc, &term),
     }
@@ -134,6 +160,75 @@ fn by_pair(
     }
 }
 
+// MK_COMB of REFL of a function, and a theorem.
+#[tactic(auto, using(crate::proofs::DerivationLemmas::still_made, crate::proofs::DerivationLemmas::goes_on_twice))]
+fn by_ap_term(
+    recorder: &mut Recorder,
+    alloc: Global,
+    function: &TermSketch<'_>,
+    theorem: &Rec,
+) -> Result<Rec, Fault>
+    requires { IsMade recorder.old theorem.now }
+    ensures outcome { Answers (theorem_in result) (ap_term_of recorder.old.theory function.now theorem.now.theorem) }
+    ensures goes_on { GoesOn recorder.old recorder.new result }
+{
+    let function = term_of(alloc, function)?;
+    let reflexive = reflexive(recorder, alloc, &function)?;
+    by_pair(recorder, alloc, PairRule::MkComb, &reflexive, theorem)
+}
+
+// MK_COMB of a theorem, and REFL of an argument.
+#[tactic(auto, using(crate::proofs::DerivationLemmas::still_made, crate::proofs::DerivationLemmas::goes_on_twice))]
+fn by_ap_thm(
+    recorder: &mut Recorder,
+    alloc: Global,
+    theorem: &Rec,
+    argument: &TermSketch<'_>,
+) -> Result<Rec, Fault>
+    requires { IsMade recorder.old theorem.now }
+    ensures outcome { Answers (theorem_in result) (ap_thm_of recorder.old.theory theorem.now.theorem argument.now) }
+    ensures goes_on { GoesOn recorder.old recorder.new result }
+{
+    let argument = term_of(alloc, argument)?;
+    let reflexive = reflexive(recorder, alloc, &argument)?;
+    by_pair(recorder, alloc, PairRule::MkComb, theorem, &reflexive)
+}
+
+// An equation with its sides turned, by its relation and its left side.
+#[tactic(auto, using(crate::proofs::DerivationLemmas::still_made, crate::proofs::DerivationLemmas::goes_on_twice))]
+fn turned(
+    recorder: &mut Recorder,
+    alloc: Global,
+    relation: &Term,
+    left: &Term,
+    theorem: &Rec,
+) -> Result<Rec, Fault>
+    requires { IsMade recorder.old theorem.now }
+    ensures outcome { Answers (theorem_in result) (turned recorder.old.theory relation.now left.now theorem.now.theorem) }
+    ensures goes_on { GoesOn recorder.old recorder.new result }
+{
+    let same = reflexive(recorder, alloc, relation)?;
+    let applied = by_pair(recorder, alloc, PairRule::MkComb, &same, theorem)?;
+    let reflexive = reflexive(recorder, alloc, left)?;
+    let sides = by_pair(recorder, alloc, PairRule::MkComb, &applied, &reflexive)?;
+    by_pair(recorder, alloc, PairRule::EqMp, &sides, &reflexive)
+}
+
+// SYM.
+fn by_sym(recorder: &mut Recorder, alloc: Global, theorem: &Rec) -> Result<Rec, Fault>
+    requires { IsMade recorder.old theorem.now }
+    ensures outcome { Answers (theorem_in result) (sym_of recorder.old.theory theorem.now.theorem) }
+    ensures goes_on { GoesOn recorder.old recorder.new result }
+{
+    let Some((applied, _)) = recorder.thm(theorem).concl().dest_comb() else {
+        return Err(Fault::NotEquation);
+    };
+    let Some((relation, left)) = applied.dest_comb() else {
+        return Err(Fault::NotEquation);
+    };
+    turned(recorder, alloc, relation, left, theorem)
+}
+
 // ABS over a variable.
 fn by_abs(
     recorder: &mut Recorder,
@@ -150,6 +245,7 @@ fn by_abs(
 }
 
 // EQ_MP of REFL of a term, and a theorem of its image.
+#[tactic(auto, using(crate::proofs::DerivationLemmas::still_made, crate::proofs::DerivationLemmas::goes_on_twice))]
 fn renamed(
     recorder: &mut Recorder,
     alloc: Global,
@@ -160,8 +256,8 @@ fn renamed(
     ensures outcome { Answers (theorem_in result) (followed (refl_outcome recorder.old.theory conclusion.now) (λ reflexive. eq_mp_outcome recorder.old.theory reflexive theorem.now.theorem)) }
     ensures goes_on { GoesOn recorder.old recorder.new result }
 {
-    let reflexive = recorder.refl(alloc, conclusion)?;
-    recorder.eq_mp(alloc, &reflexive, theorem)
+    let reflexive = reflexive(recorder, alloc, conclusion)?;
+    by_pair(recorder, alloc, PairRule::EqMp, &reflexive, theorem)
 }
 
 // INST of a theorem without hypotheses.

@@ -5,7 +5,7 @@ pub const BOOL: TypeSketch<'static> = TypeSketch::Bool;
 
 pub const A: TypeSketch<'static> = TypeSketch::Variable("A");
 
-pub const UNARY: TypeSketch<'static> = TypeSketch::Function(&BOOL, &BOOL);
+pub(crate) const UNARY: TypeSketch<'static> = TypeSketch::Function(&BOOL, &BOOL);
 
 pub const BINARY: TypeSketch<'static> = TypeSketch::Binary;
 
@@ -42,7 +42,7 @@ pub const FORALL: TermSketch<'static> = TermSketch::Constant("!", &QUANTIFIER);
 pub const FORALL_BOOL: TermSketch<'static> = TermSketch::Constant("!", &BOOL_QUANTIFIER);
 
 // (\p. p) = (\p. p)
-pub const IDENTITY: TermSketch<'static> = TermSketch::Abstraction(&P, &P);
+pub(crate) const IDENTITY: TermSketch<'static> = TermSketch::Abstraction(&P, &P);
 
 pub const TRUE_BODY: TermSketch<'static> = TermSketch::Equation(&IDENTITY, &IDENTITY);
 
@@ -63,25 +63,25 @@ pub const TESTED_TRUE: TermSketch<'static> = TermSketch::Abstraction(&TEST, &TES
 
 const TESTS_AGREE: TermSketch<'static> = TermSketch::Equation(&TESTED, &TESTED_TRUE);
 
-pub const AND_P: TermSketch<'static> = TermSketch::Abstraction(&Q, &TESTS_AGREE);
+pub(crate) const AND_P: TermSketch<'static> = TermSketch::Abstraction(&Q, &TESTS_AGREE);
 
 pub const AND_BODY: TermSketch<'static> = TermSketch::Abstraction(&P, &AND_P);
 
 // \p q. p /\ q <=> p
 const P_AND: TermSketch<'static> = TermSketch::Combination(&AND, &P);
 
-pub const P_AND_Q: TermSketch<'static> = TermSketch::Combination(&P_AND, &Q);
+pub(crate) const P_AND_Q: TermSketch<'static> = TermSketch::Combination(&P_AND, &Q);
 
-pub const P_ABSORBS_Q: TermSketch<'static> = TermSketch::Equation(&P_AND_Q, &P);
+pub(crate) const P_ABSORBS_Q: TermSketch<'static> = TermSketch::Equation(&P_AND_Q, &P);
 
-pub const IMP_P: TermSketch<'static> = TermSketch::Abstraction(&Q, &P_ABSORBS_Q);
+pub(crate) const IMP_P: TermSketch<'static> = TermSketch::Abstraction(&Q, &P_ABSORBS_Q);
 
 pub const IMP_BODY: TermSketch<'static> = TermSketch::Abstraction(&P, &IMP_P);
 
 // \P. P = (\x. T)
 pub const ALWAYS: TermSketch<'static> = TermSketch::Abstraction(&X, &T);
 
-pub const IS_ALWAYS: TermSketch<'static> = TermSketch::Equation(&PRED, &ALWAYS);
+pub(crate) const IS_ALWAYS: TermSketch<'static> = TermSketch::Equation(&PRED, &ALWAYS);
 
 pub const FORALL_BODY: TermSketch<'static> = TermSketch::Abstraction(&PRED, &IS_ALWAYS);
 
@@ -136,6 +136,6 @@ pub const OR_BODY: TermSketch<'static> = TermSketch::Abstraction(&P, &OR_P);
 pub const FALSE_BODY: TermSketch<'static> = TermSketch::Combination(&FORALL_BOOL, &IDENTITY);
 
 // \p. p ==> F
-pub const P_IMP_F: TermSketch<'static> = TermSketch::Combination(&P_IMP, &F);
+pub(crate) const P_IMP_F: TermSketch<'static> = TermSketch::Combination(&P_IMP, &F);
 
 pub const NOT_BODY: TermSketch<'static> = TermSketch::Abstraction(&P, &P_IMP_F);

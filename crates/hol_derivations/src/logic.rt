@@ -1,28 +1,27 @@
 // The definitions of the logical constants (HOL Light's `bool.ml`), and derivations from them, as data.
-use crate::conjunction::{REFL_P_AND_Q, REFL_Q};
 use crate::derivation::Derivation;
 use crate::formulas::{
     A, ALWAYS, BOOL, F, FALSE_BODY, FORALL, FORALL_BODY, FORALL_BOOL, IDENTITY, IMP_BODY, IMP_P,
     IS_ALWAYS, NOT, NOT_BODY, P, P_ABSORBS_Q, P_IMP, P_IMP_F, PRED, PRED_X, Q, T, UNARY, X,
 };
 use crate::sketch::TermSketch;
-use crate::truth::{ASSUME_P, EARLIER_TRUTH, REFL_EQ_BOOL, REFL_P};
+use crate::truth::{ASSUME_P, EARLIER_TRUTH};
 use hol_model::{PairRule, TermRule};
 
 // |- p ==> q <=> (p /\ q <=> p): IMP_DEF at p and q
-pub(crate) const IMP_DEF: Derivation<'static> = Derivation::Earlier(2);
+const IMP_DEF: Derivation<'static> = Derivation::Earlier(2);
 
 const IMP_BODY_P: TermSketch<'static> = TermSketch::Combination(&IMP_BODY, &P);
 
 const IMP_P_Q: TermSketch<'static> = TermSketch::Combination(&IMP_P, &Q);
 
-const IMP_AT_P: Derivation<'static> = Derivation::Pair(PairRule::MkComb, &IMP_DEF, &REFL_P);
+const IMP_AT_P: Derivation<'static> = Derivation::ApThm(&IMP_DEF, &P);
 
 const BETA_IMP_P: Derivation<'static> = Derivation::Term(TermRule::Beta, &IMP_BODY_P);
 
 const IMP_P_IS: Derivation<'static> = Derivation::Pair(PairRule::Trans, &IMP_AT_P, &BETA_IMP_P);
 
-const IMP_AT_P_Q: Derivation<'static> = Derivation::Pair(PairRule::MkComb, &IMP_P_IS, &REFL_Q);
+const IMP_AT_P_Q: Derivation<'static> = Derivation::ApThm(&IMP_P_IS, &Q);
 
 const BETA_IMP_P_Q: Derivation<'static> = Derivation::Term(TermRule::Beta, &IMP_P_Q);
 
@@ -37,25 +36,7 @@ pub const P_IMP_Q_IS: Derivation<'static> = Derivation::Earlier(15);
 
 const P_IMP_Q: TermSketch<'static> = TermSketch::Combination(&P_IMP, &Q);
 
-pub const REFL_P_IMP_Q: Derivation<'static> = Derivation::Term(TermRule::Refl, &P_IMP_Q);
-
-const P_IMP_Q_IS_EQUATES: Derivation<'static> = Derivation::Pair(
-    PairRule::MkComb,
-    &REFL_EQ_BOOL,
-    &P_IMP_Q_IS,
-);
-
-const P_IMP_Q_IS_SIDES: Derivation<'static> = Derivation::Pair(
-    PairRule::MkComb,
-    &P_IMP_Q_IS_EQUATES,
-    &REFL_P_IMP_Q,
-);
-
-const SYM_P_IMP_Q_IS: Derivation<'static> = Derivation::Pair(
-    PairRule::EqMp,
-    &P_IMP_Q_IS_SIDES,
-    &REFL_P_IMP_Q,
-);
+const SYM_P_IMP_Q_IS: Derivation<'static> = Derivation::Sym(&P_IMP_Q_IS);
 
 const ASSUME_ABSORBS: Derivation<'static> = Derivation::Term(TermRule::Assume, &P_ABSORBS_Q);
 
@@ -70,23 +51,7 @@ const ASSUME_P_IMP_Q: Derivation<'static> = Derivation::Term(TermRule::Assume, &
 
 const ABSORBS: Derivation<'static> = Derivation::Pair(PairRule::EqMp, &P_IMP_Q_IS, &ASSUME_P_IMP_Q);
 
-const ABSORBS_EQUATES: Derivation<'static> = Derivation::Pair(
-    PairRule::MkComb,
-    &REFL_EQ_BOOL,
-    &ABSORBS,
-);
-
-const ABSORBS_SIDES: Derivation<'static> = Derivation::Pair(
-    PairRule::MkComb,
-    &ABSORBS_EQUATES,
-    &REFL_P_AND_Q,
-);
-
-const SYM_ABSORBS: Derivation<'static> = Derivation::Pair(
-    PairRule::EqMp,
-    &ABSORBS_SIDES,
-    &REFL_P_AND_Q,
-);
+const SYM_ABSORBS: Derivation<'static> = Derivation::Sym(&ABSORBS);
 
 const BOTH: Derivation<'static> = Derivation::Pair(PairRule::EqMp, &SYM_ABSORBS, &ASSUME_P);
 
@@ -127,17 +92,11 @@ pub const MP_EQUATION: Derivation<'static> = Derivation::Pair(
 );
 
 // |- (!) P <=> P = (\x. T): FORALL_DEF at P
-pub(crate) const FORALL_DEF: Derivation<'static> = Derivation::Earlier(3);
-
-pub const REFL_PRED: Derivation<'static> = Derivation::Term(TermRule::Refl, &PRED);
+const FORALL_DEF: Derivation<'static> = Derivation::Earlier(3);
 
 const FORALL_BODY_PRED: TermSketch<'static> = TermSketch::Combination(&FORALL_BODY, &PRED);
 
-const FORALL_AT_PRED: Derivation<'static> = Derivation::Pair(
-    PairRule::MkComb,
-    &FORALL_DEF,
-    &REFL_PRED,
-);
+const FORALL_AT_PRED: Derivation<'static> = Derivation::ApThm(&FORALL_DEF, &PRED);
 
 const BETA_FORALL_PRED: Derivation<'static> = Derivation::Term(TermRule::Beta, &FORALL_BODY_PRED);
 
@@ -152,25 +111,7 @@ pub const FORALL_PRED_IS: Derivation<'static> = Derivation::Earlier(18);
 
 const FORALL_PRED: TermSketch<'static> = TermSketch::Combination(&FORALL, &PRED);
 
-const REFL_FORALL_PRED: Derivation<'static> = Derivation::Term(TermRule::Refl, &FORALL_PRED);
-
-const FORALL_PRED_IS_EQUATES: Derivation<'static> = Derivation::Pair(
-    PairRule::MkComb,
-    &REFL_EQ_BOOL,
-    &FORALL_PRED_IS,
-);
-
-const FORALL_PRED_IS_SIDES: Derivation<'static> = Derivation::Pair(
-    PairRule::MkComb,
-    &FORALL_PRED_IS_EQUATES,
-    &REFL_FORALL_PRED,
-);
-
-pub const SYM_FORALL_PRED_IS: Derivation<'static> = Derivation::Pair(
-    PairRule::EqMp,
-    &FORALL_PRED_IS_SIDES,
-    &REFL_FORALL_PRED,
-);
+pub const SYM_FORALL_PRED_IS: Derivation<'static> = Derivation::Sym(&FORALL_PRED_IS);
 
 const ASSUME_ALWAYS: Derivation<'static> = Derivation::Term(TermRule::Assume, &IS_ALWAYS);
 
@@ -189,9 +130,7 @@ const PRED_ALWAYS: Derivation<'static> = Derivation::Pair(
     &ASSUME_FORALL,
 );
 
-pub const REFL_X: Derivation<'static> = Derivation::Term(TermRule::Refl, &X);
-
-const PRED_AT_X: Derivation<'static> = Derivation::Pair(PairRule::MkComb, &PRED_ALWAYS, &REFL_X);
+const PRED_AT_X: Derivation<'static> = Derivation::ApThm(&PRED_ALWAYS, &X);
 
 pub const ALWAYS_X: TermSketch<'static> = TermSketch::Combination(&ALWAYS, &X);
 
@@ -205,23 +144,7 @@ const PRED_X_TRUE: Derivation<'static> = Derivation::Pair(
 
 pub const REFL_PRED_X: Derivation<'static> = Derivation::Term(TermRule::Refl, &PRED_X);
 
-const PRED_X_TRUE_EQUATES: Derivation<'static> = Derivation::Pair(
-    PairRule::MkComb,
-    &REFL_EQ_BOOL,
-    &PRED_X_TRUE,
-);
-
-const PRED_X_TRUE_SIDES: Derivation<'static> = Derivation::Pair(
-    PairRule::MkComb,
-    &PRED_X_TRUE_EQUATES,
-    &REFL_PRED_X,
-);
-
-const SYM_PRED_X_TRUE: Derivation<'static> = Derivation::Pair(
-    PairRule::EqMp,
-    &PRED_X_TRUE_SIDES,
-    &REFL_PRED_X,
-);
+const SYM_PRED_X_TRUE: Derivation<'static> = Derivation::Sym(&PRED_X_TRUE);
 
 pub const SPEC: Derivation<'static> = Derivation::Pair(
     PairRule::EqMp,
@@ -230,11 +153,11 @@ pub const SPEC: Derivation<'static> = Derivation::Pair(
 );
 
 // |- ~p <=> p ==> F: NOT_DEF at p
-pub(crate) const NOT_DEF: Derivation<'static> = Derivation::Earlier(7);
+const NOT_DEF: Derivation<'static> = Derivation::Earlier(7);
 
 const NOT_BODY_P: TermSketch<'static> = TermSketch::Combination(&NOT_BODY, &P);
 
-const NOT_AT_P: Derivation<'static> = Derivation::Pair(PairRule::MkComb, &NOT_DEF, &REFL_P);
+const NOT_AT_P: Derivation<'static> = Derivation::ApThm(&NOT_DEF, &P);
 
 const BETA_NOT_P: Derivation<'static> = Derivation::Term(TermRule::Beta, &NOT_BODY_P);
 
@@ -249,25 +172,7 @@ const NOT_P_IS: Derivation<'static> = Derivation::Earlier(21);
 
 pub const NOT_P: TermSketch<'static> = TermSketch::Combination(&NOT, &P);
 
-pub const REFL_NOT_P: Derivation<'static> = Derivation::Term(TermRule::Refl, &NOT_P);
-
-const NOT_P_IS_EQUATES: Derivation<'static> = Derivation::Pair(
-    PairRule::MkComb,
-    &REFL_EQ_BOOL,
-    &NOT_P_IS,
-);
-
-const NOT_P_IS_SIDES: Derivation<'static> = Derivation::Pair(
-    PairRule::MkComb,
-    &NOT_P_IS_EQUATES,
-    &REFL_NOT_P,
-);
-
-pub const SYM_NOT_P_IS: Derivation<'static> = Derivation::Pair(
-    PairRule::EqMp,
-    &NOT_P_IS_SIDES,
-    &REFL_NOT_P,
-);
+pub const SYM_NOT_P_IS: Derivation<'static> = Derivation::Sym(&NOT_P_IS);
 
 const ASSUME_P_IMP_F: Derivation<'static> = Derivation::Term(TermRule::Assume, &P_IMP_F);
 
@@ -287,7 +192,7 @@ pub const NOT_ELIM: Derivation<'static> = Derivation::Pair(
 );
 
 // F |- p: F_DEF, and FORALL_DEF for formulas
-pub(crate) const F_DEF: Derivation<'static> = Derivation::Earlier(6);
+const F_DEF: Derivation<'static> = Derivation::Earlier(6);
 
 pub const FORMULA_PRED: TermSketch<'static> = TermSketch::Variable("P", &UNARY);
 
@@ -340,11 +245,7 @@ const IDENTITY_ALWAYS: Derivation<'static> = Derivation::Pair(
     &EACH_HOLDS,
 );
 
-const IDENTITY_AT_P: Derivation<'static> = Derivation::Pair(
-    PairRule::MkComb,
-    &IDENTITY_ALWAYS,
-    &REFL_P,
-);
+const IDENTITY_AT_P: Derivation<'static> = Derivation::ApThm(&IDENTITY_ALWAYS, &P);
 
 const IDENTITY_P: TermSketch<'static> = TermSketch::Combination(&IDENTITY, &P);
 
@@ -354,27 +255,7 @@ const BETA_IDENTITY: Derivation<'static> = Derivation::Term(TermRule::Beta, &IDE
 
 const BETA_P_ALWAYS: Derivation<'static> = Derivation::Term(TermRule::Beta, &P_ALWAYS_P);
 
-const REFL_IDENTITY_P: Derivation<'static> = Derivation::Term(TermRule::Refl, &IDENTITY_P);
-
-const REFL_P_ALWAYS_P: Derivation<'static> = Derivation::Term(TermRule::Refl, &P_ALWAYS_P);
-
-const BETA_P_ALWAYS_EQUATES: Derivation<'static> = Derivation::Pair(
-    PairRule::MkComb,
-    &REFL_EQ_BOOL,
-    &BETA_P_ALWAYS,
-);
-
-const BETA_P_ALWAYS_SIDES: Derivation<'static> = Derivation::Pair(
-    PairRule::MkComb,
-    &BETA_P_ALWAYS_EQUATES,
-    &REFL_P_ALWAYS_P,
-);
-
-const SYM_BETA_P_ALWAYS: Derivation<'static> = Derivation::Pair(
-    PairRule::EqMp,
-    &BETA_P_ALWAYS_SIDES,
-    &REFL_P_ALWAYS_P,
-);
+const SYM_BETA_P_ALWAYS: Derivation<'static> = Derivation::Sym(&BETA_P_ALWAYS);
 
 const ALWAYS_HOLDS: Derivation<'static> = Derivation::Pair(
     PairRule::EqMp,
@@ -382,23 +263,7 @@ const ALWAYS_HOLDS: Derivation<'static> = Derivation::Pair(
     &EARLIER_TRUTH,
 );
 
-const IDENTITY_AT_P_EQUATES: Derivation<'static> = Derivation::Pair(
-    PairRule::MkComb,
-    &REFL_EQ_BOOL,
-    &IDENTITY_AT_P,
-);
-
-const IDENTITY_AT_P_SIDES: Derivation<'static> = Derivation::Pair(
-    PairRule::MkComb,
-    &IDENTITY_AT_P_EQUATES,
-    &REFL_IDENTITY_P,
-);
-
-const SYM_IDENTITY_AT_P: Derivation<'static> = Derivation::Pair(
-    PairRule::EqMp,
-    &IDENTITY_AT_P_SIDES,
-    &REFL_IDENTITY_P,
-);
+const SYM_IDENTITY_AT_P: Derivation<'static> = Derivation::Sym(&IDENTITY_AT_P);
 
 const IDENTITY_HOLDS: Derivation<'static> = Derivation::Pair(
     PairRule::EqMp,

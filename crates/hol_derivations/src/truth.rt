@@ -7,19 +7,13 @@ use hol_model::{PairRule, TermRule};
 // |- T: EQ_MP (SYM T_DEF) (REFL (\p. p))
 const T_DEF: Derivation<'static> = Derivation::Earlier(0);
 
-const EQ_BOOL: TermSketch<'static> = TermSketch::Constant("=", &BINARY);
-
-pub const REFL_EQ_BOOL: Derivation<'static> = Derivation::Term(TermRule::Refl, &EQ_BOOL);
+pub const EQ_BOOL: TermSketch<'static> = TermSketch::Constant("=", &BINARY);
 
 pub const REFL_T: Derivation<'static> = Derivation::Term(TermRule::Refl, &T);
 
 const REFL_IDENTITY: Derivation<'static> = Derivation::Term(TermRule::Refl, &IDENTITY);
 
-const T_EQUATES: Derivation<'static> = Derivation::Pair(PairRule::MkComb, &REFL_EQ_BOOL, &T_DEF);
-
-const T_SIDES: Derivation<'static> = Derivation::Pair(PairRule::MkComb, &T_EQUATES, &REFL_T);
-
-const SYM_T_DEF: Derivation<'static> = Derivation::Pair(PairRule::EqMp, &T_SIDES, &REFL_T);
+const SYM_T_DEF: Derivation<'static> = Derivation::Sym(&T_DEF);
 
 pub const TRUTH: Derivation<'static> = Derivation::Pair(PairRule::EqMp, &SYM_T_DEF, &REFL_IDENTITY);
 
@@ -37,18 +31,8 @@ pub const EQT_INTRO: Derivation<'static> = Derivation::Pair(
 // p <=> T |- p: EQ_MP (SYM (ASSUME (p <=> T))) TRUTH
 const P_IS_T: TermSketch<'static> = TermSketch::Equation(&P, &T);
 
-pub const REFL_P: Derivation<'static> = Derivation::Term(TermRule::Refl, &P);
-
 const ASSUME_P_IS_T: Derivation<'static> = Derivation::Term(TermRule::Assume, &P_IS_T);
 
-const P_EQUATES: Derivation<'static> = Derivation::Pair(
-    PairRule::MkComb,
-    &REFL_EQ_BOOL,
-    &ASSUME_P_IS_T,
-);
-
-const P_SIDES: Derivation<'static> = Derivation::Pair(PairRule::MkComb, &P_EQUATES, &REFL_P);
-
-const T_IS_P: Derivation<'static> = Derivation::Pair(PairRule::EqMp, &P_SIDES, &REFL_P);
+const T_IS_P: Derivation<'static> = Derivation::Sym(&ASSUME_P_IS_T);
 
 pub const EQT_ELIM: Derivation<'static> = Derivation::Pair(PairRule::EqMp, &T_IS_P, &EARLIER_TRUTH);

@@ -1,6 +1,6 @@
 // ETA_AX and SELECT_AX, as data.
 use crate::laws::{CHOSEN, DISCHARGE, FIRST_OF_TESTS, GENERALIZES, U, V};
-use hol_derivations::conjunction::{FIRST, REFL_FIRST, REFL_TEST, TRUE_AT_FIRST};
+use hol_derivations::conjunction::{FIRST, TRUE_AT_FIRST};
 use hol_derivations::derivation::Derivation;
 use hol_derivations::formulas::{
     A, ALWAYS, BOOL, FORALL, PRED, PRED_X, PRED_X_IMP, PREDICATE, QUANTIFIER, T, TEST, TESTED_TRUE,
@@ -27,11 +27,7 @@ const CHOOSES_TRUE: Derivation<'static> = Derivation::Pair(
     &EARLIER_TRUTH,
 );
 
-const TEST_PRED_X_HOLDS: Derivation<'static> = Derivation::Pair(
-    PairRule::MkComb,
-    &REFL_TEST,
-    &PRED_X_HOLDS,
-);
+const TEST_PRED_X_HOLDS: Derivation<'static> = Derivation::ApTerm(&TEST, &PRED_X_HOLDS);
 
 const CHOOSES_TEST_TRUE: Derivation<'static> = Derivation::Pair(
     PairRule::MkComb,
@@ -62,11 +58,7 @@ const ASSUME_CHOOSES_TESTS: Derivation<'static> = Derivation::Term(
     &CHOOSES_TESTS,
 );
 
-const CHOOSES_AT_FIRST_TRUE: Derivation<'static> = Derivation::Pair(
-    PairRule::MkComb,
-    &ASSUME_CHOOSES_TESTS,
-    &REFL_FIRST,
-);
+const CHOOSES_AT_FIRST_TRUE: Derivation<'static> = Derivation::ApThm(&ASSUME_CHOOSES_TESTS, &FIRST);
 
 const CHOOSES_OPEN_TEST: TermSketch<'static> = TermSketch::Combination(&TEST_PRED_X, &V);
 

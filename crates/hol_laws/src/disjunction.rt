@@ -3,7 +3,7 @@ use crate::laws::{
     DISCHARGE, FIRST_OF_TESTS, FROM_TRUE, GENERALIZES, P_OR_Q_FROM, P_OR_Q_IS, SPECIALIZES, T_IMP,
     U, V,
 };
-use hol_derivations::conjunction::{FIRST, Q_TRUE, REFL_FIRST, REFL_Q, REFL_TEST, TRUE_AT_FIRST};
+use hol_derivations::conjunction::{FIRST, Q_TRUE, TRUE_AT_FIRST};
 use hol_derivations::derivation::Derivation;
 use hol_derivations::formulas::{
     A, BINARY, BOOL, BOTH_CASES, FORALL_R_CASES, IMP, OR_BODY, OR_P, P, P_CASE, P_IMP_R, Q, Q_CASE,
@@ -13,13 +13,13 @@ use hol_derivations::logic::{
     FORALL_FORMULA, FORALL_FORMULA_IS, FORMULA, FORMULA_ALWAYS, FORMULA_IS_ALWAYS, FORMULA_PRED,
 };
 use hol_derivations::sketch::TermSketch;
-use hol_derivations::truth::{EARLIER_TRUTH, EQT_INTRO, REFL_EQ_BOOL, REFL_P};
+use hol_derivations::truth::{EARLIER_TRUTH, EQT_INTRO};
 use hol_model::{PairRule, TermRule};
 
 // |- p \/ q <=> (!r. (p ==> r) ==> (q ==> r) ==> r): OR_DEF at p and q
 const OR_DEF: Derivation<'static> = Derivation::Earlier(5);
 
-const OR_AT_P: Derivation<'static> = Derivation::Pair(PairRule::MkComb, &OR_DEF, &REFL_P);
+const OR_AT_P: Derivation<'static> = Derivation::ApThm(&OR_DEF, &P);
 
 const OR_BODY_P: TermSketch<'static> = TermSketch::Combination(&OR_BODY, &P);
 
@@ -27,7 +27,7 @@ const BETA_OR_P: Derivation<'static> = Derivation::Term(TermRule::Beta, &OR_BODY
 
 const OR_P_IS: Derivation<'static> = Derivation::Pair(PairRule::Trans, &OR_AT_P, &BETA_OR_P);
 
-const OR_AT_P_Q: Derivation<'static> = Derivation::Pair(PairRule::MkComb, &OR_P_IS, &REFL_Q);
+const OR_AT_P_Q: Derivation<'static> = Derivation::ApThm(&OR_P_IS, &Q);
 
 const OR_P_Q: TermSketch<'static> = TermSketch::Combination(&OR_P, &Q);
 
@@ -46,40 +46,14 @@ pub const P_OR: TermSketch<'static> = TermSketch::Combination(&OR, &P);
 
 pub const P_OR_Q: TermSketch<'static> = TermSketch::Combination(&P_OR, &Q);
 
-const REFL_P_OR_Q: Derivation<'static> = Derivation::Term(TermRule::Refl, &P_OR_Q);
-
-const P_OR_Q_IS_EQUATES: Derivation<'static> = Derivation::Pair(
-    PairRule::MkComb,
-    &REFL_EQ_BOOL,
-    &P_OR_Q_IS,
-);
-
-const P_OR_Q_IS_SIDES: Derivation<'static> = Derivation::Pair(
-    PairRule::MkComb,
-    &P_OR_Q_IS_EQUATES,
-    &REFL_P_OR_Q,
-);
-
-pub const SYM_P_OR_Q_IS: Derivation<'static> = Derivation::Pair(
-    PairRule::EqMp,
-    &P_OR_Q_IS_SIDES,
-    &REFL_P_OR_Q,
-);
+pub const SYM_P_OR_Q_IS: Derivation<'static> = Derivation::Sym(&P_OR_Q_IS);
 
 // p |- p \/ q
 const ASSUME_P_IMP_R: Derivation<'static> = Derivation::Term(TermRule::Assume, &P_IMP_R);
 
-pub const REFL_IMP: Derivation<'static> = Derivation::Term(TermRule::Refl, &IMP);
+const R_FROM_P_IMP: Derivation<'static> = Derivation::ApTerm(&IMP, &EQT_INTRO);
 
-const R_FROM_P_IMP: Derivation<'static> = Derivation::Pair(PairRule::MkComb, &REFL_IMP, &EQT_INTRO);
-
-pub const REFL_R: Derivation<'static> = Derivation::Term(TermRule::Refl, &R);
-
-const R_FROM_P_FOLLOWS: Derivation<'static> = Derivation::Pair(
-    PairRule::MkComb,
-    &R_FROM_P_IMP,
-    &REFL_R,
-);
+const R_FROM_P_FOLLOWS: Derivation<'static> = Derivation::ApThm(&R_FROM_P_IMP, &R);
 
 pub const T_IMP_R: TermSketch<'static> = TermSketch::Combination(&T_IMP, &R);
 
@@ -113,11 +87,7 @@ const P_Q_CASE_TRUE: Derivation<'static> = Derivation::Pair(
     &EARLIER_TRUTH,
 );
 
-const TEST_Q_IMP_R_HOLDS: Derivation<'static> = Derivation::Pair(
-    PairRule::MkComb,
-    &REFL_TEST,
-    &Q_IMP_R_HOLDS,
-);
+const TEST_Q_IMP_R_HOLDS: Derivation<'static> = Derivation::ApTerm(&TEST, &Q_IMP_R_HOLDS);
 
 const P_Q_CASE_TEST_TRUE: Derivation<'static> = Derivation::Pair(
     PairRule::MkComb,
@@ -140,10 +110,9 @@ const ASSUME_P_Q_CASE_TESTS: Derivation<'static> = Derivation::Term(
     &P_Q_CASE_TESTS,
 );
 
-const P_Q_CASE_AT_FIRST_TRUE: Derivation<'static> = Derivation::Pair(
-    PairRule::MkComb,
+const P_Q_CASE_AT_FIRST_TRUE: Derivation<'static> = Derivation::ApThm(
     &ASSUME_P_Q_CASE_TESTS,
-    &REFL_FIRST,
+    &FIRST,
 );
 
 const P_Q_CASE_OPEN_TEST: TermSketch<'static> = TermSketch::Combination(&TEST_Q_IMP_R, &V);
@@ -256,11 +225,7 @@ const P_P_CASE_TRUE: Derivation<'static> = Derivation::Pair(
     &EARLIER_TRUTH,
 );
 
-const TEST_P_IMP_R_HOLDS: Derivation<'static> = Derivation::Pair(
-    PairRule::MkComb,
-    &REFL_TEST,
-    &P_IMP_R_HOLDS,
-);
+const TEST_P_IMP_R_HOLDS: Derivation<'static> = Derivation::ApTerm(&TEST, &P_IMP_R_HOLDS);
 
 const P_P_CASE_TEST_TRUE: Derivation<'static> = Derivation::Pair(
     PairRule::MkComb,
@@ -283,10 +248,9 @@ const ASSUME_P_P_CASE_TESTS: Derivation<'static> = Derivation::Term(
     &P_P_CASE_TESTS,
 );
 
-const P_P_CASE_AT_FIRST_TRUE: Derivation<'static> = Derivation::Pair(
-    PairRule::MkComb,
+const P_P_CASE_AT_FIRST_TRUE: Derivation<'static> = Derivation::ApThm(
     &ASSUME_P_P_CASE_TESTS,
-    &REFL_FIRST,
+    &FIRST,
 );
 
 const P_P_CASE_OPEN_TEST: TermSketch<'static> = TermSketch::Combination(&TEST_P_IMP_R, &V);
@@ -430,13 +394,9 @@ const P_CASES: Derivation<'static> = Derivation::Pair(
 pub const DISJ_P: Derivation<'static> = Derivation::Pair(PairRule::EqMp, &P_OR_Q_FROM, &P_CASES);
 
 // q |- p \/ q
-const R_FROM_Q_IMP: Derivation<'static> = Derivation::Pair(PairRule::MkComb, &REFL_IMP, &Q_TRUE);
+const R_FROM_Q_IMP: Derivation<'static> = Derivation::ApTerm(&IMP, &Q_TRUE);
 
-const R_FROM_Q_FOLLOWS: Derivation<'static> = Derivation::Pair(
-    PairRule::MkComb,
-    &R_FROM_Q_IMP,
-    &REFL_R,
-);
+const R_FROM_Q_FOLLOWS: Derivation<'static> = Derivation::ApThm(&R_FROM_Q_IMP, &R);
 
 const R_FROM_Q_IS: Derivation<'static> = Derivation::Pair(
     PairRule::Trans,
@@ -609,11 +569,7 @@ const DISJ_CASES_ALWAYS: Derivation<'static> = Derivation::Pair(
     &CASES_OF_R,
 );
 
-const DISJ_CASES_AT: Derivation<'static> = Derivation::Pair(
-    PairRule::MkComb,
-    &DISJ_CASES_ALWAYS,
-    &REFL_R,
-);
+const DISJ_CASES_AT: Derivation<'static> = Derivation::ApThm(&DISJ_CASES_ALWAYS, &R);
 
 const DISJ_CASES_APPLIED: Derivation<'static> = Derivation::Pair(
     PairRule::EqMp,

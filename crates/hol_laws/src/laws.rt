@@ -1,13 +1,13 @@
 // Laws of truth, implication and `!` from which derivations discharge, detach, generalize and specialize, as data.
 use hol_derivations::conjunction::{
-    FIRST, FIRST_TESTED, FIRST_TRUE, P_AND_Q_IS_EQUATES, P_TRUE, Q_TRUE, REFL_FIRST, REFL_SECOND,
-    REFL_TEST, SECOND, SECOND_TESTED, SECOND_TRUE, TRUE_AT_FIRST, TRUE_AT_SECOND,
+    FIRST, FIRST_TESTED, FIRST_TRUE, P_AND_Q_IS_EQUATES, P_TRUE, Q_TRUE, SECOND, SECOND_TESTED,
+    SECOND_TRUE, TRUE_AT_FIRST, TRUE_AT_SECOND,
 };
 use hol_derivations::derivation::Derivation;
 use hol_derivations::formulas::{IMP, P, P_IMP, PRED_X, Q, T, TEST, TEST_P, TEST_T, TESTED_TRUE};
-use hol_derivations::logic::{BETA_ALWAYS, P_IMP_Q_IS, REFL_P_IMP_Q, REFL_PRED_X};
+use hol_derivations::logic::{BETA_ALWAYS, P_IMP_Q_IS, REFL_PRED_X};
 use hol_derivations::sketch::TermSketch;
-use hol_derivations::truth::{EARLIER_TRUTH, EQT_INTRO, REFL_EQ_BOOL, REFL_P};
+use hol_derivations::truth::{EARLIER_TRUTH, EQ_BOOL, EQT_INTRO};
 use hol_model::{PairRule, TermRule};
 
 // |- (p <=> T) <=> p
@@ -20,11 +20,7 @@ pub const TRUE_EQUATION: Derivation<'static> = Derivation::Pair(
 );
 
 // |- ((\f. f u v) = (\f. f T T) <=> u) <=> (u ==> v)
-const AND_ABSORBS: Derivation<'static> = Derivation::Pair(
-    PairRule::MkComb,
-    &P_AND_Q_IS_EQUATES,
-    &REFL_P,
-);
+const AND_ABSORBS: Derivation<'static> = Derivation::ApThm(&P_AND_Q_IS_EQUATES, &P);
 
 const IMP_AS_TESTS: Derivation<'static> = Derivation::Pair(
     PairRule::Trans,
@@ -32,23 +28,7 @@ const IMP_AS_TESTS: Derivation<'static> = Derivation::Pair(
     &AND_ABSORBS,
 );
 
-const IMP_AS_TESTS_EQUATES: Derivation<'static> = Derivation::Pair(
-    PairRule::MkComb,
-    &REFL_EQ_BOOL,
-    &IMP_AS_TESTS,
-);
-
-const IMP_AS_TESTS_SIDES: Derivation<'static> = Derivation::Pair(
-    PairRule::MkComb,
-    &IMP_AS_TESTS_EQUATES,
-    &REFL_P_IMP_Q,
-);
-
-const SYM_IMP_AS_TESTS: Derivation<'static> = Derivation::Pair(
-    PairRule::EqMp,
-    &IMP_AS_TESTS_SIDES,
-    &REFL_P_IMP_Q,
-);
+const SYM_IMP_AS_TESTS: Derivation<'static> = Derivation::Sym(&IMP_AS_TESTS);
 
 pub const U: TermSketch<'static> = TermSketch::Formula("u");
 
@@ -97,11 +77,7 @@ pub const TESTS_DISCHARGE: Derivation<'static> = Derivation::Inst(
 );
 
 // |- ((\f. f u v) (\p q. p) <=> (\f. f T T) (\p q. p)) <=> u
-const FIRST_EQUATES: Derivation<'static> = Derivation::Pair(
-    PairRule::MkComb,
-    &REFL_EQ_BOOL,
-    &FIRST_TESTED,
-);
+const FIRST_EQUATES: Derivation<'static> = Derivation::ApTerm(&EQ_BOOL, &FIRST_TESTED);
 
 const FIRST_SIDES: Derivation<'static> = Derivation::Pair(
     PairRule::MkComb,
@@ -186,11 +162,7 @@ const T_IMP_Q_TESTS: Derivation<'static> = Derivation::Pair(
     &TRUE_ABSORBS_MEANS,
 );
 
-const SECOND_EQUATES: Derivation<'static> = Derivation::Pair(
-    PairRule::MkComb,
-    &REFL_EQ_BOOL,
-    &SECOND_TESTED,
-);
+const SECOND_EQUATES: Derivation<'static> = Derivation::ApTerm(&EQ_BOOL, &SECOND_TESTED);
 
 const SECOND_SIDES: Derivation<'static> = Derivation::Pair(
     PairRule::MkComb,
@@ -231,11 +203,7 @@ const ASSUME_TESTS_AGREE_T_Q: Derivation<'static> = Derivation::Term(
     &TESTS_AGREE_T_Q,
 );
 
-const TESTS_AT_SECOND: Derivation<'static> = Derivation::Pair(
-    PairRule::MkComb,
-    &ASSUME_TESTS_AGREE_T_Q,
-    &REFL_SECOND,
-);
+const TESTS_AT_SECOND: Derivation<'static> = Derivation::ApThm(&ASSUME_TESTS_AGREE_T_Q, &SECOND);
 
 const Q_FROM_TESTS: Derivation<'static> = Derivation::Pair(
     PairRule::EqMp,
@@ -243,13 +211,7 @@ const Q_FROM_TESTS: Derivation<'static> = Derivation::Pair(
     &TESTS_AT_SECOND,
 );
 
-const REFL_TEST_T: Derivation<'static> = Derivation::Term(TermRule::Refl, &TEST_T);
-
-const TEST_T_Q_TRUE: Derivation<'static> = Derivation::Pair(
-    PairRule::MkComb,
-    &REFL_TEST_T,
-    &Q_TRUE,
-);
+const TEST_T_Q_TRUE: Derivation<'static> = Derivation::ApTerm(&TEST_T, &Q_TRUE);
 
 const TESTS_FROM_Q: Derivation<'static> = Derivation::Abs(&TEST, &TEST_T_Q_TRUE);
 
@@ -272,11 +234,7 @@ const TRUE_FOLLOWS_TRUE: Derivation<'static> = Derivation::Pair(
     &EARLIER_TRUTH,
 );
 
-pub const TEST_P_HOLDS: Derivation<'static> = Derivation::Pair(
-    PairRule::MkComb,
-    &REFL_TEST,
-    &EQT_INTRO,
-);
+pub const TEST_P_HOLDS: Derivation<'static> = Derivation::ApTerm(&TEST, &EQT_INTRO);
 
 const TRUE_FOLLOWS_TEST_TRUE: Derivation<'static> = Derivation::Pair(
     PairRule::MkComb,
@@ -303,10 +261,9 @@ const ASSUME_TRUE_FOLLOWS_TESTS: Derivation<'static> = Derivation::Term(
     &TRUE_FOLLOWS_TESTS,
 );
 
-const TRUE_FOLLOWS_AT_FIRST_TRUE: Derivation<'static> = Derivation::Pair(
-    PairRule::MkComb,
+const TRUE_FOLLOWS_AT_FIRST_TRUE: Derivation<'static> = Derivation::ApThm(
     &ASSUME_TRUE_FOLLOWS_TESTS,
-    &REFL_FIRST,
+    &FIRST,
 );
 
 pub const FIRST_OF_TESTS: Derivation<'static> = Derivation::Earlier(29);
@@ -426,11 +383,7 @@ pub const IMP_TRUE_EQUATION: Derivation<'static> = Derivation::Pair(
 );
 
 // |- (P x <=> (\x. T) x) <=> P x
-const PRED_X_EQUATES: Derivation<'static> = Derivation::Pair(
-    PairRule::MkComb,
-    &REFL_EQ_BOOL,
-    &REFL_PRED_X,
-);
+const PRED_X_EQUATES: Derivation<'static> = Derivation::ApTerm(&EQ_BOOL, &REFL_PRED_X);
 
 const PRED_X_SIDES: Derivation<'static> = Derivation::Pair(
     PairRule::MkComb,
@@ -459,7 +412,7 @@ pub(crate) const P_OR_Q_IS: Derivation<'static> = Derivation::Earlier(34);
 
 pub const FROM_TRUE: Derivation<'static> = Derivation::Earlier(30);
 
-pub const GENERALIZES: Derivation<'static> = Derivation::Earlier(32);
+pub(crate) const GENERALIZES: Derivation<'static> = Derivation::Earlier(32);
 
 pub const P_OR_Q_FROM: Derivation<'static> = Derivation::Earlier(35);
 

@@ -1,29 +1,24 @@
 // The pieces of EXISTS and CHOOSE, as data.
-use hol_derivations::conjunction::{FIRST, REFL_FIRST, REFL_Q, REFL_TEST, TRUE_AT_FIRST};
+use hol_derivations::conjunction::{FIRST, TRUE_AT_FIRST};
 use hol_derivations::derivation::Derivation;
 use hol_derivations::formulas::{
-    ALWAYS, EACH_IMP_Q, EACH_IMP_Q_IMP, EACH_IMP_Q_IMP_Q, EXISTS_BODY, FORALL_Q_EACH, PRED, Q,
+    ALWAYS, EACH_IMP_Q, EACH_IMP_Q_IMP, EACH_IMP_Q_IMP_Q, EXISTS_BODY, FORALL_Q_EACH, IMP, PRED, Q,
     Q_EACH, QUANTIFIER, TEST, TESTED_TRUE, X, X_PRED_X_IMP_Q,
 };
 use hol_derivations::logic::{
-    ALWAYS_X, FORALL_FORMULA_IS, FORALL_PRED_IS, FORMULA, FORMULA_ALWAYS, FORMULA_PRED, REFL_PRED,
-    REFL_X,
+    ALWAYS_X, FORALL_FORMULA_IS, FORALL_PRED_IS, FORMULA, FORMULA_ALWAYS, FORMULA_PRED,
 };
 use hol_derivations::sketch::TermSketch;
-use hol_derivations::truth::{EARLIER_TRUTH, REFL_EQ_BOOL};
+use hol_derivations::truth::EARLIER_TRUTH;
 use hol_laws::choice::PRED_X_HOLDS;
-use hol_laws::disjunction::{EACH_FORMULA, FORMULA_ALWAYS_X, GENERALIZES_FORMULA, REFL_IMP};
+use hol_laws::disjunction::{EACH_FORMULA, FORMULA_ALWAYS_X, GENERALIZES_FORMULA};
 use hol_laws::laws::{DISCHARGE, EXISTS_PRED_IS, FIRST_OF_TESTS, FROM_TRUE, SPECIALIZES, U, V};
 use hol_model::{PairRule, TermRule};
 
 // |- (?) P <=> (!q. (!x. P x ==> q) ==> q): EXISTS_DEF at P
 const EXISTS_DEF: Derivation<'static> = Derivation::Earlier(4);
 
-const EXISTS_AT_PRED: Derivation<'static> = Derivation::Pair(
-    PairRule::MkComb,
-    &EXISTS_DEF,
-    &REFL_PRED,
-);
+const EXISTS_AT_PRED: Derivation<'static> = Derivation::ApThm(&EXISTS_DEF, &PRED);
 
 const EXISTS_BODY_PRED: TermSketch<'static> = TermSketch::Combination(&EXISTS_BODY, &PRED);
 
@@ -74,7 +69,7 @@ const X_CASE_ALWAYS: Derivation<'static> = Derivation::Pair(
     &ASSUME_EACH_IMP_Q,
 );
 
-const X_CASE_AT: Derivation<'static> = Derivation::Pair(PairRule::MkComb, &X_CASE_ALWAYS, &REFL_X);
+const X_CASE_AT: Derivation<'static> = Derivation::ApThm(&X_CASE_ALWAYS, &X);
 
 const X_CASE_APPLIED: Derivation<'static> = Derivation::Pair(
     PairRule::EqMp,
@@ -86,17 +81,9 @@ const BETA_X_CASE: Derivation<'static> = Derivation::Term(TermRule::Beta, &X_CAS
 
 const X_CASE: Derivation<'static> = Derivation::Pair(PairRule::EqMp, &BETA_X_CASE, &X_CASE_APPLIED);
 
-const Q_FROM_X_IMP: Derivation<'static> = Derivation::Pair(
-    PairRule::MkComb,
-    &REFL_IMP,
-    &PRED_X_HOLDS,
-);
+const Q_FROM_X_IMP: Derivation<'static> = Derivation::ApTerm(&IMP, &PRED_X_HOLDS);
 
-const Q_FROM_X_FOLLOWS: Derivation<'static> = Derivation::Pair(
-    PairRule::MkComb,
-    &Q_FROM_X_IMP,
-    &REFL_Q,
-);
+const Q_FROM_X_FOLLOWS: Derivation<'static> = Derivation::ApThm(&Q_FROM_X_IMP, &Q);
 
 const Q_FROM_X_IS: Derivation<'static> = Derivation::Pair(
     PairRule::Trans,
@@ -118,9 +105,8 @@ const X_CASES_TRUE: Derivation<'static> = Derivation::Pair(
     &EARLIER_TRUTH,
 );
 
-const TEST_X_CASE_FORALL_HOLDS: Derivation<'static> = Derivation::Pair(
-    PairRule::MkComb,
-    &REFL_TEST,
+const TEST_X_CASE_FORALL_HOLDS: Derivation<'static> = Derivation::ApTerm(
+    &TEST,
     &X_CASE_FORALL_HOLDS,
 );
 
@@ -145,11 +131,7 @@ const ASSUME_X_CASES_TESTS: Derivation<'static> = Derivation::Term(
     &X_CASES_TESTS,
 );
 
-const X_CASES_AT_FIRST_TRUE: Derivation<'static> = Derivation::Pair(
-    PairRule::MkComb,
-    &ASSUME_X_CASES_TESTS,
-    &REFL_FIRST,
-);
+const X_CASES_AT_FIRST_TRUE: Derivation<'static> = Derivation::ApThm(&ASSUME_X_CASES_TESTS, &FIRST);
 
 const X_CASES_OPEN_TEST: TermSketch<'static> = TermSketch::Combination(&TEST_X_CASE_FORALL, &V);
 
@@ -278,25 +260,7 @@ const EXISTS: TermSketch<'static> = TermSketch::Constant("?", &QUANTIFIER);
 
 const EXISTS_PRED: TermSketch<'static> = TermSketch::Combination(&EXISTS, &PRED);
 
-const REFL_EXISTS_PRED: Derivation<'static> = Derivation::Term(TermRule::Refl, &EXISTS_PRED);
-
-const EXISTS_PRED_IS_EQUATES: Derivation<'static> = Derivation::Pair(
-    PairRule::MkComb,
-    &REFL_EQ_BOOL,
-    &EXISTS_PRED_IS,
-);
-
-const EXISTS_PRED_IS_SIDES: Derivation<'static> = Derivation::Pair(
-    PairRule::MkComb,
-    &EXISTS_PRED_IS_EQUATES,
-    &REFL_EXISTS_PRED,
-);
-
-const SYM_EXISTS_PRED_IS: Derivation<'static> = Derivation::Pair(
-    PairRule::EqMp,
-    &EXISTS_PRED_IS_SIDES,
-    &REFL_EXISTS_PRED,
-);
+const SYM_EXISTS_PRED_IS: Derivation<'static> = Derivation::Sym(&EXISTS_PRED_IS);
 
 pub(crate) const EXISTS_RULE: Derivation<'static> = Derivation::Pair(
     PairRule::EqMp,
@@ -371,7 +335,7 @@ const CHOOSE_ALWAYS: Derivation<'static> = Derivation::Pair(
     &CASES_OF_Q,
 );
 
-const CHOOSE_AT: Derivation<'static> = Derivation::Pair(PairRule::MkComb, &CHOOSE_ALWAYS, &REFL_Q);
+const CHOOSE_AT: Derivation<'static> = Derivation::ApThm(&CHOOSE_ALWAYS, &Q);
 
 const CHOOSE_APPLIED: Derivation<'static> = Derivation::Pair(
     PairRule::EqMp,
@@ -381,7 +345,7 @@ const CHOOSE_APPLIED: Derivation<'static> = Derivation::Pair(
 
 const BETA_CHOOSE: Derivation<'static> = Derivation::Term(TermRule::Beta, &EACH_CASE_AT_SELF);
 
-pub const CHOOSE: Derivation<'static> = Derivation::Pair(
+pub(crate) const CHOOSE: Derivation<'static> = Derivation::Pair(
     PairRule::EqMp,
     &BETA_CHOOSE,
     &CHOOSE_APPLIED,

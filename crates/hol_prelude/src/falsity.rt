@@ -1,13 +1,13 @@
 // Laws of falsity, of `p ==> p` and of `p \/ T`, as data.
-use hol_derivations::conjunction::{FIRST, REFL_FIRST, TRUE_AT_FIRST};
+use hol_derivations::conjunction::{FIRST, TRUE_AT_FIRST};
 use hol_derivations::derivation::Derivation;
 use hol_derivations::formulas::{
     F, FORALL_BOOL, IMP, P, P_CASE, P_IMP, P_IMP_R, Q, R, T, TEST, TEST_P, TESTED_TRUE,
 };
 use hol_derivations::logic::{ASSUME_F, FORMULA_ALWAYS, FORMULA_PRED};
 use hol_derivations::sketch::TermSketch;
-use hol_derivations::truth::{ASSUME_P, EARLIER_TRUTH, EQT_INTRO, REFL_EQ_BOOL};
-use hol_laws::disjunction::{FROM_TRUE_R, GENERALIZES_FORMULA, P_OR, REFL_IMP, REFL_R, T_IMP_R};
+use hol_derivations::truth::{ASSUME_P, EARLIER_TRUTH, EQT_INTRO};
+use hol_laws::disjunction::{FROM_TRUE_R, GENERALIZES_FORMULA, P_OR, T_IMP_R};
 use hol_laws::laws::{
     P_OR_Q_FROM, TEST_P_HOLDS, TRUE_FOLLOWS_OPEN_DISCHARGE, TRUE_FOLLOWS_OPEN_FIRST, V,
 };
@@ -20,25 +20,7 @@ const DENIES: TermSketch<'static> = TermSketch::Equation(&P_IS_F, &P);
 
 const ASSUME_DENIES: Derivation<'static> = Derivation::Term(TermRule::Assume, &DENIES);
 
-const DENIES_EQUATES: Derivation<'static> = Derivation::Pair(
-    PairRule::MkComb,
-    &REFL_EQ_BOOL,
-    &ASSUME_DENIES,
-);
-
-const REFL_P_IS_F: Derivation<'static> = Derivation::Term(TermRule::Refl, &P_IS_F);
-
-const DENIES_SIDES: Derivation<'static> = Derivation::Pair(
-    PairRule::MkComb,
-    &DENIES_EQUATES,
-    &REFL_P_IS_F,
-);
-
-const SYM_DENIES: Derivation<'static> = Derivation::Pair(
-    PairRule::EqMp,
-    &DENIES_SIDES,
-    &REFL_P_IS_F,
-);
+const SYM_DENIES: Derivation<'static> = Derivation::Sym(&ASSUME_DENIES);
 
 const P_IS_F_FROM_P: Derivation<'static> = Derivation::Pair(PairRule::EqMp, &SYM_DENIES, &ASSUME_P);
 
@@ -99,11 +81,7 @@ const SELF_TESTS: TermSketch<'static> = TermSketch::Equation(&SELF_TESTED, &TEST
 
 const ASSUME_SELF_TESTS: Derivation<'static> = Derivation::Term(TermRule::Assume, &SELF_TESTS);
 
-const SELF_AT_FIRST_TRUE: Derivation<'static> = Derivation::Pair(
-    PairRule::MkComb,
-    &ASSUME_SELF_TESTS,
-    &REFL_FIRST,
-);
+const SELF_AT_FIRST_TRUE: Derivation<'static> = Derivation::ApThm(&ASSUME_SELF_TESTS, &FIRST);
 
 const SELF_AT_FIRST: TermSketch<'static> = TermSketch::Combination(&SELF_TESTED, &FIRST);
 
@@ -164,17 +142,9 @@ const R_FOLLOWS_R_TRUE: Derivation<'static> = Derivation::Pair(
     &EARLIER_TRUTH,
 );
 
-const T_CASE_EQUATES: Derivation<'static> = Derivation::Pair(
-    PairRule::MkComb,
-    &REFL_IMP,
-    &FROM_TRUE_R,
-);
+const T_CASE_EQUATES: Derivation<'static> = Derivation::ApTerm(&IMP, &FROM_TRUE_R);
 
-const T_CASE_SIDES: Derivation<'static> = Derivation::Pair(
-    PairRule::MkComb,
-    &T_CASE_EQUATES,
-    &REFL_R,
-);
+const T_CASE_SIDES: Derivation<'static> = Derivation::ApThm(&T_CASE_EQUATES, &R);
 
 const T_CASE_TRUE: Derivation<'static> = Derivation::Pair(
     PairRule::Trans,
@@ -182,13 +152,7 @@ const T_CASE_TRUE: Derivation<'static> = Derivation::Pair(
     &R_FOLLOWS_R_TRUE,
 );
 
-const REFL_P_CASE: Derivation<'static> = Derivation::Term(TermRule::Refl, &P_CASE);
-
-const T_CASES_FOLLOW: Derivation<'static> = Derivation::Pair(
-    PairRule::MkComb,
-    &REFL_P_CASE,
-    &T_CASE_TRUE,
-);
+const T_CASES_FOLLOW: Derivation<'static> = Derivation::ApTerm(&P_CASE, &T_CASE_TRUE);
 
 const P_CASE_T: TermSketch<'static> = TermSketch::Combination(&P_CASE, &T);
 

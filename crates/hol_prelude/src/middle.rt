@@ -1,16 +1,14 @@
 // EXCLUDED_MIDDLE, as data: a formula that is chosen to deny `@x. T` or to make `p \/ ~p` hold.
 use crate::falsity::{P_FOLLOWS_P, P_FROM_F, TO_TRUE};
-use hol_derivations::conjunction::{FIRST, REFL_FIRST, REFL_TEST, TRUE_AT_FIRST};
+use hol_derivations::conjunction::{FIRST, TRUE_AT_FIRST};
 use hol_derivations::derivation::Derivation;
 use hol_derivations::formulas::{
     A, BOOL, BOOL_QUANTIFIER, F, FORALL_BOOL, IMP, NOT, P, P_IMP, Q, T, TEST, TESTED_TRUE,
 };
-use hol_derivations::logic::{
-    FORMULA, FORMULA_ALWAYS, FORMULA_PRED, NOT_P, REFL_NOT_P, SYM_NOT_P_IS,
-};
+use hol_derivations::logic::{FORMULA, FORMULA_ALWAYS, FORMULA_PRED, NOT_P, SYM_NOT_P_IS};
 use hol_derivations::sketch::TermSketch;
-use hol_derivations::truth::{EARLIER_TRUTH, REFL_EQ_BOOL, REFL_T};
-use hol_laws::disjunction::{FORMULA_PRED_X, GENERALIZES_FORMULA, OR, P_OR, P_OR_Q, REFL_IMP};
+use hol_derivations::truth::{EARLIER_TRUTH, EQ_BOOL, REFL_T};
+use hol_laws::disjunction::{FORMULA_PRED_X, GENERALIZES_FORMULA, OR, P_OR, P_OR_Q};
 use hol_laws::laws::{CHOSEN, DISCHARGE, FIRST_OF_TESTS, FROM_TRUE, T_IMP, U, V};
 use hol_model::{PairRule, TermRule};
 
@@ -25,11 +23,7 @@ const P_OR_Q_TRUE: Derivation<'static> = Derivation::Pair(
 
 const P_OR_EACH_TRUE: Derivation<'static> = Derivation::Abs(&Q, &P_OR_Q_TRUE);
 
-const P_OR_NOT_P_AT: Derivation<'static> = Derivation::Pair(
-    PairRule::MkComb,
-    &P_OR_EACH_TRUE,
-    &REFL_NOT_P,
-);
+const P_OR_NOT_P_AT: Derivation<'static> = Derivation::ApThm(&P_OR_EACH_TRUE, &NOT_P);
 
 const P_OR_EACH: TermSketch<'static> = TermSketch::Abstraction(&Q, &P_OR_Q);
 
@@ -43,11 +37,7 @@ const Q_ALWAYS_Q: TermSketch<'static> = TermSketch::Combination(&Q_ALWAYS, &Q);
 
 const BETA_Q_ALWAYS: Derivation<'static> = Derivation::Term(TermRule::Beta, &Q_ALWAYS_Q);
 
-const P_OR_EACH_EQUATES: Derivation<'static> = Derivation::Pair(
-    PairRule::MkComb,
-    &REFL_EQ_BOOL,
-    &BETA_P_OR_EACH,
-);
+const P_OR_EACH_EQUATES: Derivation<'static> = Derivation::ApTerm(&EQ_BOOL, &BETA_P_OR_EACH);
 
 const P_OR_EACH_SIDES: Derivation<'static> = Derivation::Pair(
     PairRule::MkComb,
@@ -109,15 +99,9 @@ const DENIAL_TRUE: Derivation<'static> = Derivation::Pair(
     &EARLIER_TRUTH,
 );
 
-const DENIAL_IMP: Derivation<'static> = Derivation::Pair(PairRule::MkComb, &REFL_IMP, &DENIAL_TRUE);
+const DENIAL_IMP: Derivation<'static> = Derivation::ApTerm(&IMP, &DENIAL_TRUE);
 
-const REFL_MIDDLE: Derivation<'static> = Derivation::Term(TermRule::Refl, &P_OR_NOT_P);
-
-const DENIAL_FOLLOWS: Derivation<'static> = Derivation::Pair(
-    PairRule::MkComb,
-    &DENIAL_IMP,
-    &REFL_MIDDLE,
-);
+const DENIAL_FOLLOWS: Derivation<'static> = Derivation::ApThm(&DENIAL_IMP, &P_OR_NOT_P);
 
 const T_IMP_MIDDLE: TermSketch<'static> = TermSketch::Combination(&T_IMP, &P_OR_NOT_P);
 
@@ -229,22 +213,9 @@ const DECIDER_CHOSEN_AT: Derivation<'static> = Derivation::Inst(
     &DECIDES_DENIAL_CHOOSES,
 );
 
-const DECIDER_IMP: Derivation<'static> = Derivation::Pair(
-    PairRule::MkComb,
-    &REFL_IMP,
-    &DECIDES_DENIAL_TRUE,
-);
+const DECIDER_IMP: Derivation<'static> = Derivation::ApTerm(&IMP, &DECIDES_DENIAL_TRUE);
 
-const REFL_DECIDES_DECIDER: Derivation<'static> = Derivation::Term(
-    TermRule::Refl,
-    &DECIDES_DECIDER,
-);
-
-const DECIDER_FOLLOWS: Derivation<'static> = Derivation::Pair(
-    PairRule::MkComb,
-    &DECIDER_IMP,
-    &REFL_DECIDES_DECIDER,
-);
+const DECIDER_FOLLOWS: Derivation<'static> = Derivation::ApThm(&DECIDER_IMP, &DECIDES_DECIDER);
 
 const T_IMP_DECIDER: TermSketch<'static> = TermSketch::Combination(&T_IMP, &DECIDES_DECIDER);
 
@@ -307,16 +278,7 @@ pub(crate) const MIDDLE_CHOSEN: Derivation<'static> = Derivation::Pair(
 // ((@x. T) <=> F) <=> c |- p \/ ~p <=> T
 const MIDDLE_TRUE: Derivation<'static> = Derivation::Earlier(42);
 
-const REFL_DENIAL_OF_X_IMP: Derivation<'static> = Derivation::Term(
-    TermRule::Refl,
-    &DENIAL_OF_X_IMP,
-);
-
-const X_LEADS_EQUATES: Derivation<'static> = Derivation::Pair(
-    PairRule::MkComb,
-    &REFL_DENIAL_OF_X_IMP,
-    &MIDDLE_TRUE,
-);
+const X_LEADS_EQUATES: Derivation<'static> = Derivation::ApTerm(&DENIAL_OF_X_IMP, &MIDDLE_TRUE);
 
 const DENIAL_OF_X_TO_TRUE: TermSketch<'static> = TermSketch::Combination(&DENIAL_OF_X_IMP, &T);
 
@@ -335,11 +297,7 @@ const X_LEADS_TRUE: Derivation<'static> = Derivation::Pair(
     &X_TO_TRUE,
 );
 
-const X_DECIDES_EQUATES: Derivation<'static> = Derivation::Pair(
-    PairRule::MkComb,
-    &REFL_EQ_BOOL,
-    &X_LEADS_TRUE,
-);
+const X_DECIDES_EQUATES: Derivation<'static> = Derivation::ApTerm(&EQ_BOOL, &X_LEADS_TRUE);
 
 const X_DECIDES_SIDES: Derivation<'static> = Derivation::Pair(
     PairRule::MkComb,
@@ -361,13 +319,7 @@ const X_DECIDES_TRUE: Derivation<'static> = Derivation::Pair(
 
 const EACH_DECIDES: Derivation<'static> = Derivation::Abs(&FORMULA, &X_DECIDES_TRUE);
 
-const REFL_FORMULA_CHOICE: Derivation<'static> = Derivation::Term(TermRule::Refl, &FORMULA_CHOICE);
-
-const DECIDER_IS_ANY: Derivation<'static> = Derivation::Pair(
-    PairRule::MkComb,
-    &REFL_FORMULA_CHOICE,
-    &EACH_DECIDES,
-);
+const DECIDER_IS_ANY: Derivation<'static> = Derivation::ApTerm(&FORMULA_CHOICE, &EACH_DECIDES);
 
 const ASSUME_DECIDER_DENIES: Derivation<'static> = Derivation::Term(
     TermRule::Assume,
@@ -400,13 +352,7 @@ const P_IS_F_FROM_DECIDER: Derivation<'static> = Derivation::Pair(
     &F_FROM_DECIDER,
 );
 
-const REFL_P_IMP: Derivation<'static> = Derivation::Term(TermRule::Refl, &P_IMP);
-
-const P_IMP_P_SIDES: Derivation<'static> = Derivation::Pair(
-    PairRule::MkComb,
-    &REFL_P_IMP,
-    &P_IS_F_FROM_DECIDER,
-);
+const P_IMP_P_SIDES: Derivation<'static> = Derivation::ApTerm(&P_IMP, &P_IS_F_FROM_DECIDER);
 
 const P_IMP_F_FROM_DECIDER: Derivation<'static> = Derivation::Pair(
     PairRule::EqMp,
@@ -426,13 +372,7 @@ const NOT_P_TRUE: Derivation<'static> = Derivation::Pair(
     &EARLIER_TRUTH,
 );
 
-const REFL_P_OR: Derivation<'static> = Derivation::Term(TermRule::Refl, &P_OR);
-
-const MIDDLE_SIDES: Derivation<'static> = Derivation::Pair(
-    PairRule::MkComb,
-    &REFL_P_OR,
-    &NOT_P_TRUE,
-);
+const MIDDLE_SIDES: Derivation<'static> = Derivation::ApTerm(&P_OR, &NOT_P_TRUE);
 
 const P_OR_TRUE: Derivation<'static> = Derivation::Earlier(40);
 
@@ -451,9 +391,8 @@ const DECIDER_DENIES_TRUE: Derivation<'static> = Derivation::Pair(
 
 const MIDDLE_HOLDS: Derivation<'static> = Derivation::Earlier(44);
 
-const TEST_DECIDER_DENIES_TRUE: Derivation<'static> = Derivation::Pair(
-    PairRule::MkComb,
-    &REFL_TEST,
+const TEST_DECIDER_DENIES_TRUE: Derivation<'static> = Derivation::ApTerm(
+    &TEST,
     &DECIDER_DENIES_TRUE,
 );
 
@@ -475,11 +414,7 @@ const MIDDLE_TESTS: TermSketch<'static> = TermSketch::Equation(&MIDDLE_TESTED, &
 
 const ASSUME_MIDDLE_TESTS: Derivation<'static> = Derivation::Term(TermRule::Assume, &MIDDLE_TESTS);
 
-const MIDDLE_AT_FIRST_TRUE: Derivation<'static> = Derivation::Pair(
-    PairRule::MkComb,
-    &ASSUME_MIDDLE_TESTS,
-    &REFL_FIRST,
-);
+const MIDDLE_AT_FIRST_TRUE: Derivation<'static> = Derivation::ApThm(&ASSUME_MIDDLE_TESTS, &FIRST);
 
 const MIDDLE_OPEN_TEST: TermSketch<'static> = TermSketch::Combination(&TEST_DECIDER_DENIES, &V);
 
@@ -575,7 +510,7 @@ const DECIDER_LEADS_HOLDS: Derivation<'static> = Derivation::Pair(
 
 const DECIDER_LEADS_IS: Derivation<'static> = Derivation::Earlier(43);
 
-pub const EXCLUDED_MIDDLE: Derivation<'static> = Derivation::Pair(
+pub(crate) const EXCLUDED_MIDDLE: Derivation<'static> = Derivation::Pair(
     PairRule::EqMp,
     &DECIDER_LEADS_IS,
     &DECIDER_LEADS_HOLDS,

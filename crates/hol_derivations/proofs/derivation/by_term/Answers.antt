@@ -1,12 +1,6 @@
-use Rattle.hol_model.specs.Kernel.Rules.{refl_outcome, beta_outcome, assume_outcome}
-use Rattle.hol_derivations.proofs.DerivationLemmas.{outcome-goes_on, refl-stands, beta-stands, assume-stands}
+use Rattle.hol_model.specs.Kernel.Rules.{beta_outcome, assume_outcome}
+use Rattle.hol_derivations.proofs.DerivationLemmas.{outcome-goes_on, beta-stands, assume-stands}
 use Rattle.hol_derivations.proofs.derivation.by_term.Goals as goal
-
-pub returns-in-Refl-clause-goes_on : goal.returns-in-Refl-clause-goes_on
-returns-in-Refl-clause-goes_on c =
-    let theory = c.args.recorder.now.theory in
-    let term = c.in_ok-term.term in
-    outcome-goes_on c.refl.result c.args.recorder.now c.refl.new.self _ (refl_outcome theory term) (refl-stands theory term) c.refl.ensures.outcome c.refl.ensures.recorded c.refl.ensures.kept
 
 pub returns-in-Beta-clause-goes_on : goal.returns-in-Beta-clause-goes_on
 returns-in-Beta-clause-goes_on c =
