@@ -7,7 +7,7 @@ use Rattle.hol_model.specs.Terms.Nameless.{Nameless, image, same_term}
 use Rattle.hol_model.specs.Kernel.Outcome.{given, unless, refused}
 use Rattle.hol_model.specs.Logic.Theory.{Theory}
 use Rattle.hol_model.specs.Kernel.Theorem.{Theorem}
-use Rattle.hol_model.specs.Kernel.Rules.{refl_outcome, abs_outcome, dest_equation}
+use Rattle.hol_model.specs.Kernel.Rules.{refl_outcome, mk_comb_outcome, eq_mp_outcome, abs_outcome, dest_equation}
 use Rattle.hol_model.specs.Terms.Substitution.{put_all}
 use Rattle.hol_model.specs.Kernel.Instantiation.{inst_refusal, inst_type_refusal, instantiate_all}
 use Rattle.hol_journal.specs.Journal.{Journal, Recorded, IsMade}

@@ -17,6 +17,3 @@ pub use line::{Line, Rule, Version};
 pub use log::text_of_lines;
 pub use reader::read_line;
 pub use writer::write_line;
-
-#[cfg(test)]
-mod tests;

@@ -11,11 +11,8 @@ mod tree;
 mod types;
 
 pub use carriers::carrier;
-pub use element::{Element, ElementParts};
+pub use element::{Element, ElementParts, same};
 pub use interpretation::{Choices, ConstantElement, Interpretation, NamedCarrier, VariableElement};
 pub use meanings::term_meaning;
 pub use sequent::holds_in;
 pub use tree::{EntryTree, TermTree, TypeTree};
-
-#[cfg(test)]
-mod tests;

@@ -2,8 +2,6 @@
 #![tactic(auto)]
 
 mod device;
-#[cfg(test)]
-mod device_tests;
 mod fault;
 mod laws;
 mod limits;

@@ -10,6 +10,3 @@ pub use ty::{Ty, TypeParts};
 pub use variables::{
     add_tyvars, is_replaced_type, replaced_type, replaces_type_variables, type_subst, tyvars,
 };
-
-#[cfg(test)]
-mod tests;

@@ -1,6 +1,6 @@
 // Terms of the greatest height, and one past it.
-use crate::Term;
 use hol_model::{Fault, TERM_HEIGHT_LIMIT};
+use hol_terms::Term;
 use hol_types::Ty;
 use std::alloc::Global;
 use std::test::Fail;

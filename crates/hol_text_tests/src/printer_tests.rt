@@ -1,7 +1,7 @@
 // Texts that are worked out by hand from the rules of the format.
-use crate::printer::{text_of_goal, text_of_sequent, text_of_term, text_of_type};
 use hol_grammar::grammar::{Binder, Infix};
 use hol_model::Fault;
+use hol_print::{text_of_goal, text_of_sequent, text_of_term, text_of_type};
 use hol_syntax::Scope;
 use hol_syntax::builder::{apply, bind, join, negate};
 use hol_terms::{Term, mk_eq};

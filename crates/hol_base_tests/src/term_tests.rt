@@ -1,6 +1,6 @@
 // Terms whose types are at the limit, and each call on small terms, with expected values by hand.
-use crate::{Term, frees, mk_eq, type_vars};
 use hol_model::Fault;
+use hol_terms::{Term, frees, mk_eq, type_vars};
 use hol_types::Ty;
 use std::alloc::Global;
 use std::test::Fail;

@@ -1,6 +1,6 @@
 // Texts that are nested as deep as the limit, and one deeper: 2,000 for types, 4,000 for terms. The deepest terms are
 // higher than a term may be, so they are refused for that, behind the grammar.
-use crate::test_tools::{
+use crate::texts::{
     joined, nested, refusal, sequent_refusal, type_refusal, with_negation, with_variables,
 };
 use hol_model::Fault;

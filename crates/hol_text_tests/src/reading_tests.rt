@@ -1,5 +1,5 @@
 // Terms and sequents, read from small texts, with expected values by hand.
-use crate::test_tools::{refusal, sequent_refusal};
+use crate::texts::{refusal, sequent_refusal};
 use hol_grammar::tokens_in;
 use hol_model::Fault;
 use hol_syntax::{Scope, read_sequent, read_term};

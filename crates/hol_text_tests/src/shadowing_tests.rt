@@ -1,5 +1,5 @@
 // Texts in which binders and constants share names at different types: each is read, and printed as itself.
-use crate::test_tools::{
+use crate::texts::{
     prints_as, prints_back, refusal, sequent_prints_as, with_quantifier, with_truth,
 };
 use hol_model::Fault;

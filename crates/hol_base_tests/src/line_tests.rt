@@ -1,5 +1,7 @@
 // Lines and their texts, with expected values by hand.
-use crate::{Line, Rule, Version, read_line, read_name, read_number, text_of_lines, write_line};
+use hol_logtext::{
+    Line, Rule, Version, read_line, read_name, read_number, text_of_lines, write_line,
+};
 use hol_model::Cause;
 use std::alloc::{AllocError, Global};
 use std::test::Fail;

@@ -1,5 +1,5 @@
 // Tokens beside one another without white space, and bytes that no token has.
-use crate::test_tools::{joined, prints_as, refusal, sequent_prints_as, with_connective};
+use crate::texts::{joined, prints_as, refusal, sequent_prints_as, with_connective};
 use hol_grammar::Token;
 use hol_grammar::lexer::{text, tokens_in};
 use hol_model::Fault;

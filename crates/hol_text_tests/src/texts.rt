@@ -1,6 +1,6 @@
 // What the tests share: answers to texts, and scopes.
-use crate::{text_of_sequent, text_of_term};
 use hol_model::Fault;
+use hol_print::{text_of_sequent, text_of_term};
 use hol_syntax::{Scope, read_sequent, read_term, read_type};
 use hol_types::Ty;
 use std::alloc::{AllocError, Global};

@@ -1,6 +1,6 @@
 // Which refusal answers a text with two faults: the grammar's for the whole text, then the first from left to right, a
 // node after its parts, and at one node the first of its list.
-use crate::test_tools::{
+use crate::texts::{
     joined, map_of_a, nested, refusal, sequent_refusal, type_refusal, with_connective,
     with_negation, with_quantifier, with_truth, with_variables,
 };

@@ -1,6 +1,6 @@
 // Types at the limit, and each call on small types, with expected values by hand.
-use crate::{Ty, is_instance, is_replaced_type, part_at, replaced_type, type_subst, tyvars};
 use hol_model::Fault;
+use hol_types::{Ty, is_instance, is_replaced_type, part_at, replaced_type, type_subst, tyvars};
 use std::alloc::Global;
 use std::cmp::Ordering;
 use std::test::Fail;

@@ -1,5 +1,5 @@
 // Devices over memory, and over readers and writers that fail in mid-stream.
-use crate::{DeviceFail, FromRead, IntoWrite, Sink, Source};
+use hol_model::{DeviceFail, FromRead, IntoWrite, Sink, Source};
 use std::io;
 use std::io::{Read, Write};
 use std::test::Fail;

@@ -1,8 +1,7 @@
 // Meanings and sequents in small models, with expected values by hand.
-use crate::element::same;
-use crate::{
+use hol_meaning::{
     Choices, ConstantElement, Element, EntryTree, Interpretation, NamedCarrier, TermTree, TypeTree,
-    VariableElement, carrier, holds_in, term_meaning,
+    VariableElement, carrier, holds_in, same, term_meaning,
 };
 use std::alloc::{AllocError, Global};
 use std::test::Fail;
