@@ -12,6 +12,7 @@ use Rattle.hol_journal.specs.Journal.{Journal, Recorded}
 use Rattle.hol_derivations.specs.Derivations.{theorems, AreMade}
 use Rattle.hol_derivations.specs.Makings.{Made, all_made, made_in, MakesAll, HasMade}
 use Rattle.hol_prelude.specs.Laws.{without_laws}
+use Rattle.hol_prelude.specs.Stages.{MakesTheorems}
 use Rattle.hol_model.specs.Logic.Logic.{logical_definitions}
 use Rattle.hol_model.specs.Kernel.Outcome.{Answers}
 use Rattle.hol_prelude.specs.declared.tables.TheConstants.{FIRST_LAW, BEHIND_LAWS}
@@ -30,7 +31,7 @@ table-answers : {makings : List Making} (result : Result (Vec Recorded Global) F
 table-answers {makings} result old new start behind earlier makes same same_earlier =
     subst (λ t. Answers (made_in new result) (all_made t earlier makings)) same (subst (λ e. Answers (made_in new result) (all_made old e makings)) same_earlier makes.answers)
 
-pub table-ok : {makings : List Making} (result : Result (Vec Recorded Global) Fault) (old new start : Theory) (behind earlier wanted : List Theorem) → MakesAll old behind makings new result
+table-ok : {makings : List Making} (result : Result (Vec Recorded Global) Fault) (old new start : Theory) (behind earlier wanted : List Theorem) → MakesAll old behind makings new result
     → old ≡ start → behind ≡ earlier → all_made start earlier makings ≡ Ok (record { theory = logical_definitions; theorems = wanted })
     → IfOk result (λ all. HasMade new all.items wanted)
 table-ok {makings} (Ok all) old new start behind earlier wanted makes same same_earlier computed =
@@ -39,7 +40,7 @@ table-ok {makings} (Ok all) old new start behind earlier wanted makes same same_
     record { defined = ap (λ (m : Made). m.theory) made; theorems_are = ap (λ (m : Made). m.theorems) made }
 table-ok {makings} (Err fault) old new start behind earlier wanted makes same same_earlier computed = tt
 
-pub table-err : {makings : List Making} (result : Result (Vec Recorded Global) Fault) (old new start : Theory) (behind earlier wanted : List Theorem) → MakesAll old behind makings new result
+table-err : {makings : List Making} (result : Result (Vec Recorded Global) Fault) (old new start : Theory) (behind earlier wanted : List Theorem) → MakesAll old behind makings new result
     → old ≡ start → behind ≡ earlier → all_made start earlier makings ≡ Ok (record { theory = logical_definitions; theorems = wanted })
     → IfErr result (λ fault. fault ≡ Memory)
 table-err {makings} (Ok all) old new start behind earlier wanted makes same same_earlier computed = tt
@@ -47,6 +48,14 @@ table-err {makings} (Err fault) old new start behind earlier wanted makes same s
   | inl memory ↦ memory
   | inr refused ↦ no_refusal (all_made start earlier makings) fault (record { theory = logical_definitions; theorems = wanted }) refused computed
 ]
+
+pub table-makes : {makings : List Making} (result : Result (Vec Recorded Global) Fault) (old new start : Theory) (behind earlier wanted : List Theorem) → MakesAll old behind makings new result
+    → old ≡ start → behind ≡ earlier → all_made start earlier makings ≡ Ok (record { theory = logical_definitions; theorems = wanted })
+    → MakesTheorems wanted new result
+table-makes {makings} result old new start behind earlier wanted makes same same_earlier computed = record {
+  ok = table-ok result old new start behind earlier wanted makes same same_earlier computed;
+  err = table-err result old new start behind earlier wanted makes same same_earlier computed;
+}
 
 -- the theorems without the laws
 

@@ -1,3 +1,4 @@
 pub mod HasLogic
 pub mod Prelude
 pub mod Laws
+pub mod Stages

@@ -1,10 +1,9 @@
 // The theorems of the prelude and the laws among them, table by table.
-ghost use Rattle.std.specs.Prelude.{◌≡◌, [], ◌++◌, IfOk, IfErr};
-ghost use Rattle.hol_model.specs.declared.fault.Fault.TheVariants.{Memory};
+ghost use Rattle.std.specs.Prelude.{◌≡◌, [], ◌++◌, IfOk};
 ghost use Rattle.hol_journal.specs.Growth.{IsGrown};
 ghost use Rattle.hol_derivations.specs.Derivations.{AreMade};
-ghost use Rattle.hol_derivations.specs.Makings.{HasMade};
 ghost use Rattle.hol_prelude.specs.Prelude.{first_theorems, disjunction_theorems, case_theorems, existence_theorems, axiom_theorems, middle_theorems};
+ghost use Rattle.hol_prelude.specs.Stages.{MakesTheorems};
 ghost use Rattle.hol_prelude.specs.Laws.{laws, falsity_laws, decider_laws};
 
 use crate::tables::{
@@ -18,9 +17,8 @@ use std::alloc::Global;
 // The definitions, TRUTH and the theorems of the first connectives.
 fn first(recorder: &mut Recorder, alloc: Global) -> Result<Vec<Rec>, Fault>
     requires new { recorder.old.theory ≡ [] }
-    ensures ok { IfOk result (λ all. HasMade recorder.new.theory all.items (first_theorems)) }
+    ensures outcome { MakesTheorems first_theorems recorder.new.theory result }
     ensures made { IfOk result (λ all. AreMade recorder.new all.items) }
-    ensures err { IfErr result (λ fault. fault ≡ Memory) }
     ensures grown { IsGrown recorder.old recorder.new }
 {
     make_first(recorder, alloc, &FIRST_THEOREMS)
@@ -29,9 +27,8 @@ fn first(recorder: &mut Recorder, alloc: Global) -> Result<Vec<Rec>, Fault>
 // The theorems, and the laws that the later tables cite.
 fn with_laws(recorder: &mut Recorder, alloc: Global) -> Result<Vec<Rec>, Fault>
     requires new { recorder.old.theory ≡ [] }
-    ensures ok { IfOk result (λ all. HasMade recorder.new.theory all.items (first_theorems ++ laws)) }
+    ensures outcome { MakesTheorems (first_theorems ++ laws) recorder.new.theory result }
     ensures made { IfOk result (λ all. AreMade recorder.new all.items) }
-    ensures err { IfErr result (λ fault. fault ≡ Memory) }
     ensures grown { IsGrown recorder.old recorder.new }
 {
     match first(recorder, alloc) {
@@ -43,9 +40,8 @@ fn with_laws(recorder: &mut Recorder, alloc: Global) -> Result<Vec<Rec>, Fault>
 // The theorems, and the laws of falsity.
 fn with_falsity(recorder: &mut Recorder, alloc: Global) -> Result<Vec<Rec>, Fault>
     requires new { recorder.old.theory ≡ [] }
-    ensures ok { IfOk result (λ all. HasMade recorder.new.theory all.items (first_theorems ++ laws ++ falsity_laws)) }
+    ensures outcome { MakesTheorems (first_theorems ++ laws ++ falsity_laws) recorder.new.theory result }
     ensures made { IfOk result (λ all. AreMade recorder.new all.items) }
-    ensures err { IfErr result (λ fault. fault ≡ Memory) }
     ensures grown { IsGrown recorder.old recorder.new }
 {
     match with_laws(recorder, alloc) {
@@ -57,9 +53,8 @@ fn with_falsity(recorder: &mut Recorder, alloc: Global) -> Result<Vec<Rec>, Faul
 // The theorems, and the laws of the formula that is chosen for `p \/ ~p`.
 fn with_decider(recorder: &mut Recorder, alloc: Global) -> Result<Vec<Rec>, Fault>
     requires new { recorder.old.theory ≡ [] }
-    ensures ok { IfOk result (λ all. HasMade recorder.new.theory all.items (first_theorems ++ laws ++ falsity_laws ++ decider_laws)) }
+    ensures outcome { MakesTheorems (first_theorems ++ laws ++ falsity_laws ++ decider_laws) recorder.new.theory result }
     ensures made { IfOk result (λ all. AreMade recorder.new all.items) }
-    ensures err { IfErr result (λ fault. fault ≡ Memory) }
     ensures grown { IsGrown recorder.old recorder.new }
 {
     match with_falsity(recorder, alloc) {
@@ -71,9 +66,8 @@ fn with_decider(recorder: &mut Recorder, alloc: Global) -> Result<Vec<Rec>, Faul
 // The theorems, and DISJ1.
 fn with_disjunction(recorder: &mut Recorder, alloc: Global) -> Result<Vec<Rec>, Fault>
     requires new { recorder.old.theory ≡ [] }
-    ensures ok { IfOk result (λ all. HasMade recorder.new.theory all.items (first_theorems ++ laws ++ falsity_laws ++ decider_laws ++ disjunction_theorems)) }
+    ensures outcome { MakesTheorems (first_theorems ++ laws ++ falsity_laws ++ decider_laws ++ disjunction_theorems) recorder.new.theory result }
     ensures made { IfOk result (λ all. AreMade recorder.new all.items) }
-    ensures err { IfErr result (λ fault. fault ≡ Memory) }
     ensures grown { IsGrown recorder.old recorder.new }
 {
     match with_decider(recorder, alloc) {
@@ -85,9 +79,8 @@ fn with_disjunction(recorder: &mut Recorder, alloc: Global) -> Result<Vec<Rec>, 
 // The theorems, and DISJ2 and DISJ_CASES.
 fn with_cases(recorder: &mut Recorder, alloc: Global) -> Result<Vec<Rec>, Fault>
     requires new { recorder.old.theory ≡ [] }
-    ensures ok { IfOk result (λ all. HasMade recorder.new.theory all.items (first_theorems ++ laws ++ falsity_laws ++ decider_laws ++ disjunction_theorems ++ case_theorems)) }
+    ensures outcome { MakesTheorems (first_theorems ++ laws ++ falsity_laws ++ decider_laws ++ disjunction_theorems ++ case_theorems) recorder.new.theory result }
     ensures made { IfOk result (λ all. AreMade recorder.new all.items) }
-    ensures err { IfErr result (λ fault. fault ≡ Memory) }
     ensures grown { IsGrown recorder.old recorder.new }
 {
     match with_disjunction(recorder, alloc) {
@@ -99,9 +92,8 @@ fn with_cases(recorder: &mut Recorder, alloc: Global) -> Result<Vec<Rec>, Fault>
 // The theorems, and EXISTS.
 fn with_existence(recorder: &mut Recorder, alloc: Global) -> Result<Vec<Rec>, Fault>
     requires new { recorder.old.theory ≡ [] }
-    ensures ok { IfOk result (λ all. HasMade recorder.new.theory all.items (first_theorems ++ laws ++ falsity_laws ++ decider_laws ++ disjunction_theorems ++ case_theorems ++ existence_theorems)) }
+    ensures outcome { MakesTheorems (first_theorems ++ laws ++ falsity_laws ++ decider_laws ++ disjunction_theorems ++ case_theorems ++ existence_theorems) recorder.new.theory result }
     ensures made { IfOk result (λ all. AreMade recorder.new all.items) }
-    ensures err { IfErr result (λ fault. fault ≡ Memory) }
     ensures grown { IsGrown recorder.old recorder.new }
 {
     match with_cases(recorder, alloc) {
@@ -113,9 +105,8 @@ fn with_existence(recorder: &mut Recorder, alloc: Global) -> Result<Vec<Rec>, Fa
 // The theorems, and CHOOSE, ETA_AX and SELECT_AX.
 fn with_axioms(recorder: &mut Recorder, alloc: Global) -> Result<Vec<Rec>, Fault>
     requires new { recorder.old.theory ≡ [] }
-    ensures ok { IfOk result (λ all. HasMade recorder.new.theory all.items (first_theorems ++ laws ++ falsity_laws ++ decider_laws ++ disjunction_theorems ++ case_theorems ++ existence_theorems ++ axiom_theorems)) }
+    ensures outcome { MakesTheorems (first_theorems ++ laws ++ falsity_laws ++ decider_laws ++ disjunction_theorems ++ case_theorems ++ existence_theorems ++ axiom_theorems) recorder.new.theory result }
     ensures made { IfOk result (λ all. AreMade recorder.new all.items) }
-    ensures err { IfErr result (λ fault. fault ≡ Memory) }
     ensures grown { IsGrown recorder.old recorder.new }
 {
     match with_existence(recorder, alloc) {
@@ -127,9 +118,8 @@ fn with_axioms(recorder: &mut Recorder, alloc: Global) -> Result<Vec<Rec>, Fault
 /// All theorems, the laws among them.
 pub(crate) fn with_middle(recorder: &mut Recorder, alloc: Global) -> Result<Vec<Rec>, Fault>
     requires new { recorder.old.theory ≡ [] }
-    ensures ok { IfOk result (λ all. HasMade recorder.new.theory all.items (first_theorems ++ laws ++ falsity_laws ++ decider_laws ++ disjunction_theorems ++ case_theorems ++ existence_theorems ++ axiom_theorems ++ middle_theorems)) }
+    ensures outcome { MakesTheorems (first_theorems ++ laws ++ falsity_laws ++ decider_laws ++ disjunction_theorems ++ case_theorems ++ existence_theorems ++ axiom_theorems ++ middle_theorems) recorder.new.theory result }
     ensures made { IfOk result (λ all. AreMade recorder.new all.items) }
-    ensures err { IfErr result (λ fault. fault ≡ Memory) }
     ensures grown { IsGrown recorder.old recorder.new }
 {
     match with_axioms(recorder, alloc) {

@@ -4,18 +4,13 @@ use Rattle.hol_prelude.specs.Prelude.{first_theorems}
 use Rattle.hol_prelude.specs.Laws.{laws, falsity_laws}
 use Rattle.hol_journal.proofs.GrowthLemmas.{journals-grow}
 use Rattle.hol_derivations.specs.Derivations.{theorems}
-use Rattle.hol_prelude.proofs.PreludeLemmas.{table-ok, table-err}
+use Rattle.hol_prelude.proofs.PreludeLemmas.{table-makes}
 use Rattle.hol_prelude.proofs.stages.with_falsity.Goals as goal
 
-pub returns-in-Ok-clause-ok : goal.returns-in-Ok-clause-ok
-returns-in-Ok-clause-ok c =
-    table-ok c.make_table.result c.with_laws.new.recorder.theory c.make_table.new.recorder.theory logical_definitions (theorems c.in-Ok.earlier.items) (first_theorems ++ laws) (first_theorems ++ laws ++ falsity_laws)
-    c.make_table.ensures.outcome c.in-Ok.ensures.ok.defined c.in-Ok.ensures.ok.theorems_are refl
-
-pub returns-in-Ok-clause-err : goal.returns-in-Ok-clause-err
-returns-in-Ok-clause-err c =
-    table-err c.make_table.result c.with_laws.new.recorder.theory c.make_table.new.recorder.theory logical_definitions (theorems c.in-Ok.earlier.items) (first_theorems ++ laws) (first_theorems ++ laws ++ falsity_laws)
-    c.make_table.ensures.outcome c.in-Ok.ensures.ok.defined c.in-Ok.ensures.ok.theorems_are refl
+pub returns-in-Ok-clause-outcome : goal.returns-in-Ok-clause-outcome
+returns-in-Ok-clause-outcome c =
+    table-makes c.make_table.result c.with_laws.new.recorder.theory c.make_table.new.recorder.theory logical_definitions (theorems c.in-Ok.earlier.items) (first_theorems ++ laws) (first_theorems ++ laws ++ falsity_laws)
+    c.make_table.ensures.outcome c.in-Ok.ensures.outcome.ok.defined c.in-Ok.ensures.outcome.ok.theorems_are refl
 
 pub returns-in-Ok-clause-grown : goal.returns-in-Ok-clause-grown
 returns-in-Ok-clause-grown c = journals-grow.twice c.args.recorder.now c.with_laws.new.recorder c.make_table.new.recorder c.with_laws.ensures.grown c.make_table.ensures.grown

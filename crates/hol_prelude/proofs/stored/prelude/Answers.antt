@@ -6,7 +6,7 @@ use Rattle.hol_prelude.proofs.stored.prelude.Goals as goal
 
 pub returns-in-Ok-clause-ok : goal.returns-in-Ok-clause-ok
 returns-in-Ok-clause-ok c =
-    ap theorems c.without_laws.ensures ∙ theorems-without_laws c.in-Ok.all.items ∙ ap without_laws c.in-Ok.ensures.ok.theorems_are
+    ap theorems c.without_laws.ensures ∙ theorems-without_laws c.in-Ok.all.items ∙ ap without_laws c.in-Ok.ensures.outcome.ok.theorems_are
 
 pub returns-in-Ok-clause-made : goal.returns-in-Ok-clause-made
 returns-in-Ok-clause-made c =
