@@ -1,4 +1,4 @@
-use Rattle.std.proofs.Common.{Some, None, Option, subst, List, ℕ}
+use Rattle.std.proofs.Common.{◌≡◌, Some, None, Option, subst, List, ℕ}
 use Rattle.std.specs.Option.{option_map}
 use Rattle.hol_model.specs.Terms.NamedTerm.{NamedTerm, variable}
 use Rattle.hol_model.specs.Texts.Reading.{bare_constant, bound_type}
