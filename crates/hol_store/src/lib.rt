@@ -6,6 +6,3 @@ mod store;
 
 pub use laws::stores_stay;
 pub use store::Store;
-
-#[cfg(test)]
-mod tests;
