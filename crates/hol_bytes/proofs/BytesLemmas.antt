@@ -1,17 +1,8 @@
 -- Lemmas on what sources give and sinks take.
-use Rattle.std.proofs.Common.{◌≡◌, ℕ, List, [], ◌++◌, take, drop, OnErr, Option, None, Some, Ok, Err, Result, sym, ap, ◌∙◌, append-nil, append_assoc, take-append-drop}
+use Rattle.std.proofs.Common.{◌≡◌, ℕ, List, ◌++◌, take, drop, OnErr, Option, Ok, Err, Result, sym, ap, ◌∙◌, append_assoc, take-append-drop}
 use Rattle.std.specs.Io.KnownBytes.{Appends}
+use Rattle.std.proofs.KnownBytes.{Appends-trans}
 use Rattle.hol_bytes.specs.Bytes.{AppendsFront}
-
-pub Appends-none : (a : Option (List ℕ)) → Appends a a []
-Appends-none None = tt
-Appends-none (Some x) = sym (append-nil x)
-
-pub Appends-more : (a b c : Option (List ℕ)) (bs cs : List ℕ) → Appends a b bs → Appends b c cs → Appends a c (bs ++ cs)
-Appends-more None b c bs cs p q = tt
-Appends-more (Some x) None c bs cs p q = absurd p
-Appends-more (Some x) (Some y) None bs cs p q = absurd q
-Appends-more (Some x) (Some y) (Some z) bs cs p q = q ∙ ap (λ l. l ++ cs) p ∙ append_assoc x bs cs
 
 -- how far a piece was taken
 pub record TakenUpTo (old new : Option (List ℕ)) (piece rest : List ℕ) : Type 0 where
@@ -23,7 +14,7 @@ pub taken_more : {a b c : Option (List ℕ)} {piece rest : List ℕ} (n : ℕ) �
 taken_more {a} {b} {c} {piece} {rest} n so_far next = record {
   front = so_far.front ++ take n rest;
   whole = so_far.whole ∙ ap (λ l. so_far.front ++ l) (sym (take-append-drop n rest)) ∙ sym (append_assoc so_far.front (take n rest) (drop n rest));
-  taken = Appends-more a b c so_far.front (take n rest) so_far.taken next;
+  taken = Appends-trans a b c so_far.front (take n rest) so_far.taken next;
 }
 
 -- the front of what follows a piece that was taken whole
@@ -32,7 +23,7 @@ front_after a b c first rest before after = record {
   front = first ++ after.front;
   rest = after.rest;
   whole = ap (λ l. first ++ l) after.whole ∙ sym (append_assoc first after.front after.rest);
-  taken = Appends-more a b c first after.front before after.taken;
+  taken = Appends-trans a b c first after.front before after.taken;
 }
 
 pub err_after : {T E : Type 0} (a b c : Option (List ℕ)) (first rest : List ℕ) (result : Result T E) → Appends a b first → OnErr result (AppendsFront b c rest) → OnErr result (AppendsFront a c (first ++ rest))

@@ -1,6 +1,6 @@
 // Whole inputs and whole pieces of output.
-ghost use Rattle.std.specs.Prelude.{◌≡◌, ◌≤◌, ◌^◌, List, ℕ, [], ◌∷◌, ◌++◌, true, false, length, take, drop, Ok, Err, IfOk, OnOk, OnErr, IsErrOf, IfErr, IfSome, Contains, ◌<◌, ◌⊎◌, vec_len};
-ghost use Rattle.std.specs.Io.KnownBytes.{Consumes, Appends, IsAtEnd, Keeps};
+ghost use Rattle.std.specs.Prelude.{◌≡◌, ◌≤◌, [], ◌∷◌, true, false, length, Ok, Err, IfOk, OnOk, OnErr, IsErrOf, IfErr, IfSome, Contains, ◌<◌};
+ghost use Rattle.std.specs.Io.KnownBytes.{Appends};
 ghost use Rattle.hol_model.specs.declared.fault.Fault.TheVariants.{Memory, ReadFault, WriteFault, TooLong};
 ghost use Rattle.hol_model.specs.Scripts.Sessions.{Tells};
 ghost use Rattle.hol_bytes.specs.Bytes.{AppendsFront, joined};

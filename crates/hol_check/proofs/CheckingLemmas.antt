@@ -8,13 +8,14 @@ use Rattle.hol_sound.specs.LogClaims.{ClaimHolds, AcceptedClaimsHold}
 use Rattle.hol_check.specs.LogAnswers.{IsAcceptedLog}
 use Rattle.hol_check.specs.Checking.{HasClaims}
 
-pub has_claims : (input : Option (List ℕ)) (state : LogState) (claims : List LogClaim) → AcceptedLogsAreSound → AcceptedClaimsHold → IsAcceptedLog input state → claims ≡ state.claims → HasClaims input claims
+abbrev pub has_claims : (input : Option (List ℕ)) (state : LogState) (claims : List LogClaim) → AcceptedLogsAreSound → AcceptedClaimsHold → IsAcceptedLog input state → claims ≡ state.claims → HasClaims input claims
 has_claims input state claims sound holds log listed = record {
   text = log.text;
   read = log.read;
   state = state;
   accepted = log.accepted;
   listed = listed;
+  legal = (sound.last (log_text log.text) state log.accepted).legal;
   derivable = subst (All (IsDerivableClaim state.theory)) (sym listed) (sound.last (log_text log.text) state log.accepted).claims;
   hold = subst (All (ClaimHolds state.theory)) (sym listed) (holds (log_text log.text) state log.accepted);
 }

@@ -167,6 +167,7 @@ is_migration input text new claims keeps told within checked migrated = record {
     state = in_second checked.state;
     accepted = keeps.accepted text new checked.state (text_accepted text claims checked) migrated;
     listed = checked.listed;
+    legal = checked.legal;
     derivable = checked.derivable;
     hold = checked.hold;
   };

@@ -2,6 +2,7 @@ pub mod Reading
 pub mod LogAnswers
 pub mod PrintedClaims
 pub mod Claims
+pub mod Entries
 pub mod Views
 pub mod Checking
 pub mod Migration

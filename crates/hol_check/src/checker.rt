@@ -2,13 +2,15 @@
 ghost use Rattle.std.specs.Prelude.{◌≡◌, ◌<◌, true, false, length, IfOk, OnOk, IfErr, IfSome, IsErrOf};
 ghost use Rattle.hol_model.specs.declared.fault.Fault.TheVariants.{ReadFault, TooLong};
 ghost use Rattle.hol_check.specs.LogAnswers.{TellsRefusal, IsRefusal};
-ghost use Rattle.hol_check.specs.Checking.{HasClaims};
+ghost use Rattle.hol_check.specs.Checking.{HasClaims, HasEntries};
 
 use crate::claim::{Claim, claims_of};
+use crate::entry::{LogEntry, entries_of};
 use crate::log_reader::read_log;
 use hol_model::{Fault, Source, TEXT_BYTES_LIMIT, accepted_logs_are_sound};
 use hol_sound::accepted_claims_hold;
 use std::alloc::Global;
+use std::rc::Rc;
 
 /// The claims of the log that a source gives, in the order of their lines. Each of them is derivable from the
 /// definitions and declarations of the log, and holds in every finite standard model of them, whatever the bytes are.
@@ -26,8 +28,43 @@ pub fn check<R: Source>(alloc: Global, reader: &mut R) -> Result<Vec<Claim>, Fau
 {
     accepted_logs_are_sound();
     accepted_claims_hold();
-    match read_log(alloc, reader) {
-        Ok(log) => claims_of(alloc, log),
+    let log = match read_log(alloc, reader) {
+        Ok(log) => Rc::new(alloc, log)?,
+        Err(fault) => return Err(fault),
+    };
+    claims_of(alloc, log)
+}
+
+/// A log that was accepted: its claims, and the entries of its theory on which they rest, each in the order of their lines.
+#[derive(Drop)]
+pub struct CheckedLog {
+    pub claims: Vec<Claim>,
+    pub entries: Vec<LogEntry>,
+}
+
+/// The log that a source gives: its claims, as `check` answers them, and the definitions and declarations of which they
+/// speak. Refusals: as of `check`.
+pub fn check_log<R: Source>(alloc: Global, reader: &mut R) -> Result<CheckedLog, Fault>
+    requires unfailed { R.has_failed reader.old ≡ false }
+    ensures listed { IfOk result (λ log. HasEntries (R.remaining reader.old) log.claims.items log.entries.items) }
+    ensures refused { IfErr result (TellsRefusal (R.remaining reader.old)) }
+    ensures read_fault { IsErrOf result ReadFault → R.has_failed reader.new ≡ true }
+    ensures too_long { IsErrOf result TooLong → IfSome (R.remaining reader.old) (λ told. TEXT_BYTES_LIMIT < length told) }
+    ensures unfailed { OnOk result (R.has_failed reader.new ≡ false) }
+    ensures refusals { IfErr result IsRefusal }
+{
+    accepted_logs_are_sound();
+    accepted_claims_hold();
+    let log = match read_log(alloc, reader) {
+        Ok(log) => Rc::new(alloc, log)?,
+        Err(fault) => return Err(fault),
+    };
+    let entries = match entries_of(alloc, log.clone()?) {
+        Ok(entries) => entries,
+        Err(fault) => return Err(fault),
+    };
+    match claims_of(alloc, log) {
+        Ok(claims) => Ok(CheckedLog { claims, entries }),
         Err(fault) => Err(fault),
     }
 }

@@ -89,12 +89,11 @@ impl Claim {
 }
 
 /// The claims of a log, in the order of their lines.
-pub(crate) fn claims_of(alloc: Global, log: Log) -> Result<Vec<Claim>, Fault>
-    ensures claims { IfOk result (λ claims. claims.items ≡ log.claims) }
+pub(crate) fn claims_of(alloc: Global, log: Rc<Log>) -> Result<Vec<Claim>, Fault>
+    ensures claims { IfOk result (λ claims. claims.items ≡ log.value.claims) }
     ensures refused { IfErr result (λ fault. fault ≡ Memory) }
 {
     let count = log.claims();
-    let log = Rc::new(alloc, log)?;
     let mut claims = Vec::new(alloc);
     let mut place = 0;
     while place < count {

@@ -3,6 +3,7 @@
 
 mod checker;
 mod claim;
+mod entry;
 mod laws;
 mod log_reader;
 mod migrating;
@@ -12,9 +13,10 @@ mod report;
 mod text_source;
 mod view;
 
-pub use checker::check;
+pub use checker::{CheckedLog, check, check_log};
 pub use claim::{Claim, text_of_claim};
+pub use entry::{EntryParts, LogEntry, text_of_entry};
 pub use laws::migration_keeps_claims;
 pub use migrating::migrate;
-pub use report::write_claims;
+pub use report::{write_claims, write_entries};
 pub use view::{TermParts, TermView, TypeParts, TypeView};

@@ -79,6 +79,8 @@ pub fn migrate<R: Source, W: Sink>(
     ensures read_fault { IsErrOf result ReadFault → R.has_failed reader.new ≡ true }
     ensures too_long { IsErrOf result TooLong → IfSome (R.remaining reader.old) (λ told. TEXT_BYTES_LIMIT < length told) }
     ensures write_fault { IsErrOf result WriteFault → W.has_failed writer.new ≡ true }
+    ensures reader_unfailed { OnOk result (R.has_failed reader.new ≡ false) }
+    ensures writer_unfailed { OnOk result (W.has_failed writer.new ≡ false) }
     ensures refusals { IfErr result IsMigrationRefusal }
 {
     let (claims, text) = match migration(alloc, reader) {

@@ -1,5 +1,5 @@
 // The texts of types and terms without bound names.
-ghost use Rattle.std.specs.Prelude.{◌≡◌, ◌<◌, ◌∷◌, ◌++◌, false, length, OnOk};
+ghost use Rattle.std.specs.Prelude.{◌<◌, ◌∷◌, ◌++◌, false, length, OnOk};
 ghost use Rattle.std.specs.List.{All};
 ghost use Rattle.hol_model.specs.Logs.LogClaims.{nameless_bytes, further_nameless, listed_nameless};
 ghost use Rattle.hol_logtext.specs.Writing.{Appends};
@@ -38,8 +38,8 @@ fn close(out: &mut Vec<u8>, wanted: bool) -> Result<(), AllocError>
     }
 }
 
-// Prints a type; on the left of an arrow a function type is in parentheses.
-fn print_type(
+/// Prints a type; on the left of an arrow a function type is in parentheses.
+pub(crate) fn print_type(
     table: &Terms,
     number: usize,
     on_left: bool,
@@ -62,8 +62,8 @@ fn print_type(
     }
 }
 
-// Prints a name with its type, between two brackets.
-fn print_typed(
+/// Prints a name with its type, between two brackets.
+pub(crate) fn print_typed(
     table: &Terms,
     before: &[u8],
     name: usize,

@@ -1,27 +1,25 @@
-// The claims of a log on a sink.
-ghost use Rattle.std.specs.Prelude.{◌≡◌, ◌∷◌, [], ◌++◌, true, false, OnOk, IfErr, IsErrOf, Contains};
+// The claims and the entries of a log on a sink.
+ghost use Rattle.std.specs.Prelude.{◌≡◌, ◌∷◌, [], ◌++◌, true, false, OnOk, OnErr, IfErr, IsErrOf, Contains};
 ghost use Rattle.std.specs.Io.KnownBytes.{Appends};
-ghost use Rattle.hol_model.specs.Logs.LogClaims.{claim_text};
 ghost use Rattle.hol_model.specs.declared.fault.Fault.TheVariants.{Memory, WriteFault};
-ghost use Rattle.hol_check.specs.Report.{claim_line, claim_lines};
+ghost use Rattle.hol_bytes.specs.Bytes.{AppendsFront};
+ghost use Rattle.hol_check.specs.Report.{claim_line, claim_lines, entry_line, entry_lines};
 
 use crate::claim::{Claim, text_of_claim};
+use crate::entry::{LogEntry, text_of_entry};
 use hol_bytes::write_all;
 use hol_model::{Fault, Sink};
 use std::alloc::Global;
 
-// Writes the text of a claim and a line feed.
-fn write_claim<W: Sink>(alloc: Global, claim: &Claim, writer: &mut W) -> Result<(), Fault>
+// Writes a text and a line feed.
+fn write_line<W: Sink>(mut text: Vec<u8>, writer: &mut W) -> Result<(), Fault>
     requires unfailed { W.has_failed writer.old ≡ false }
-    ensures ok { OnOk result (Appends (W.contents writer.old) (W.contents writer.new) (claim_line claim.now)) }
+    ensures ok { OnOk result (Appends (W.contents writer.old) (W.contents writer.new) (text.items ++ 10 ∷ [])) }
     ensures unfailed { OnOk result (W.has_failed writer.new ≡ false) }
+    ensures err { OnErr result (AppendsFront (W.contents writer.old) (W.contents writer.new) (text.items ++ 10 ∷ [])) }
     ensures write_fault { IsErrOf result WriteFault → W.has_failed writer.new ≡ true }
     ensures refusals { IfErr result (Contains (WriteFault ∷ Memory ∷ [])) }
 {
-    let mut text = match text_of_claim(alloc, claim) {
-        Ok(text) => text,
-        Err(fault) => return Err(fault),
-    };
     if text.push(b'\n').is_err() {
         return Err(Fault::Memory);
     }
@@ -31,16 +29,71 @@ fn write_claim<W: Sink>(alloc: Global, claim: &Claim, writer: &mut W) -> Result<
     }
 }
 
-/// Writes a line for each claim. Refusals: WriteFault, where the sink fails; Memory, for the text of a claim.
+// Writes the text of a claim and a line feed.
+fn write_claim<W: Sink>(alloc: Global, claim: &Claim, writer: &mut W) -> Result<(), Fault>
+    requires unfailed { W.has_failed writer.old ≡ false }
+    ensures ok { OnOk result (Appends (W.contents writer.old) (W.contents writer.new) (claim_line claim.now)) }
+    ensures unfailed { OnOk result (W.has_failed writer.new ≡ false) }
+    ensures err { OnErr result (AppendsFront (W.contents writer.old) (W.contents writer.new) (claim_line claim.now)) }
+    ensures write_fault { IsErrOf result WriteFault → W.has_failed writer.new ≡ true }
+    ensures refusals { IfErr result (Contains (WriteFault ∷ Memory ∷ [])) }
+{
+    match text_of_claim(alloc, claim) {
+        Ok(text) => write_line(text, writer),
+        Err(fault) => Err(fault),
+    }
+}
+
+/// Writes a line for each claim. Refusals: WriteFault, where the sink fails; Memory, for the text of a claim; a front of
+/// the lines is written then.
 pub fn write_claims<W: Sink>(alloc: Global, claims: &[Claim], writer: &mut W) -> Result<(), Fault>
     requires unfailed { W.has_failed writer.old ≡ false }
     ensures ok { OnOk result (Appends (W.contents writer.old) (W.contents writer.new) (claim_lines claims.now)) }
     ensures unfailed { OnOk result (W.has_failed writer.new ≡ false) }
+    ensures err { OnErr result (AppendsFront (W.contents writer.old) (W.contents writer.new) (claim_lines claims.now)) }
     ensures write_fault { IsErrOf result WriteFault → W.has_failed writer.new ≡ true }
     ensures refusals { IfErr result (Contains (WriteFault ∷ Memory ∷ [])) }
 {
     for claim in claims {
         match write_claim(alloc, claim, writer) {
+            Ok(()) => {}
+            Err(fault) => return Err(fault),
+        }
+    }
+    Ok(())
+}
+
+// Writes the text of an entry and a line feed.
+fn write_entry<W: Sink>(alloc: Global, entry: &LogEntry, writer: &mut W) -> Result<(), Fault>
+    requires unfailed { W.has_failed writer.old ≡ false }
+    ensures ok { OnOk result (Appends (W.contents writer.old) (W.contents writer.new) (entry_line entry.now)) }
+    ensures unfailed { OnOk result (W.has_failed writer.new ≡ false) }
+    ensures err { OnErr result (AppendsFront (W.contents writer.old) (W.contents writer.new) (entry_line entry.now)) }
+    ensures write_fault { IsErrOf result WriteFault → W.has_failed writer.new ≡ true }
+    ensures refusals { IfErr result (Contains (WriteFault ∷ Memory ∷ [])) }
+{
+    match text_of_entry(alloc, entry) {
+        Ok(text) => write_line(text, writer),
+        Err(fault) => Err(fault),
+    }
+}
+
+/// Writes a line for each entry. Refusals: WriteFault, where the sink fails; Memory, for the text of an entry; a front of
+/// the lines is written then.
+pub fn write_entries<W: Sink>(
+    alloc: Global,
+    entries: &[LogEntry],
+    writer: &mut W,
+) -> Result<(), Fault>
+    requires unfailed { W.has_failed writer.old ≡ false }
+    ensures ok { OnOk result (Appends (W.contents writer.old) (W.contents writer.new) (entry_lines entries.now)) }
+    ensures unfailed { OnOk result (W.has_failed writer.new ≡ false) }
+    ensures err { OnErr result (AppendsFront (W.contents writer.old) (W.contents writer.new) (entry_lines entries.now)) }
+    ensures write_fault { IsErrOf result WriteFault → W.has_failed writer.new ≡ true }
+    ensures refusals { IfErr result (Contains (WriteFault ∷ Memory ∷ [])) }
+{
+    for entry in entries {
+        match write_entry(alloc, entry, writer) {
             Ok(()) => {}
             Err(fault) => return Err(fault),
         }

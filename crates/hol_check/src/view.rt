@@ -40,8 +40,8 @@ pub enum TypeParts<'a> {
 }
 
 impl<'a> TypeView<'a> {
-    // A type of a table.
-    fn of(table: &'a Terms, number: usize) -> TypeView<'a>
+    /// A type of a table.
+    pub(crate) fn of(table: &'a Terms, number: usize) -> TypeView<'a>
         requires { number < length table.now.types }
         ensures { result ≡ type_at table.now.types number }
     {

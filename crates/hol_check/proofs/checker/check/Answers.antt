@@ -1,9 +1,12 @@
+use Rattle.std.proofs.Common.{ap, ◌∙◌}
 use Rattle.std.proofs.lemmas.Result.{IfOk-weaker}
+use Rattle.hol_model.specs.Logs.LogState.{LogState}
 use Rattle.hol_check.proofs.CheckingLemmas.{has_claims}
 use Rattle.hol_check.proofs.checker.check.Goals as goal
 
-pub returns-in-Ok-clause-claims : goal.returns-in-Ok-clause-claims
-returns-in-Ok-clause-claims g c =
+pub returns-clause-claims : goal.returns-clause-claims
+returns-clause-claims g c =
     IfOk-weaker c.claims_of.result _ _
-    (λ claims listed. has_claims (g.R.Source.remaining c.args.reader.now) c.in-Ok.log claims.items c.accepted_logs_are_sound.ensures c.accepted_claims_hold.ensures c.in-Ok.ensures.accepted listed)
+    (λ claims listed. has_claims (g.R.Source.remaining c.args.reader.now) c.in-Ok.log claims.items c.accepted_logs_are_sound.ensures c.accepted_claims_hold.ensures c.in-Ok.ensures.accepted
+    (listed ∙ ap (λ (log : LogState). log.claims) c.in_ok-log-in-Ok.ensures.ok))
     c.claims_of.ensures.claims

@@ -1,11 +1,17 @@
 use Rattle.std.proofs.Common.{subst}
 use Rattle.std.specs.Io.KnownBytes.{Appends}
 use Rattle.hol_model.specs.Logs.LogState.{LogClaim}
+use Rattle.hol_bytes.specs.Bytes.{AppendsFront}
 use Rattle.hol_check.specs.Report.{claim_line}
-use Rattle.hol_check.proofs.ReportLemmas.{line_written}
+use Rattle.hol_check.proofs.ReportLemmas.{line_written, line_broken}
 use Rattle.hol_check.proofs.report.write_claims.Goals as goal
 
 pub loop-claim-preserved : goal.loop-claim-preserved
 loop-claim-preserved g c =
     let line = subst (λ (claim : LogClaim). Appends (g.W.Sink.contents c.loop-claim.writer) (g.W.Sink.contents c.write_claim.new.writer) (claim_line claim)) c.claim-item.is c.in-Ok.ensures.ok in
-    (line_written _ _ _ c.args.claims.now c.loop-claim.claim-index c.claim-item.result c.loop-claim-test.true c.loop-claim.invariant.0 line, c.in-Ok.ensures.unfailed)
+    (line_written claim_line _ _ _ c.args.claims.now c.loop-claim.claim-index c.claim-item.result c.loop-claim-test.true c.loop-claim.invariant.0 line, c.in-Ok.ensures.unfailed)
+
+pub returns-in-Err-clause-err : goal.returns-in-Err-clause-err
+returns-in-Err-clause-err g c =
+    let line = subst (λ (claim : LogClaim). AppendsFront (g.W.Sink.contents c.loop-claim.writer) (g.W.Sink.contents c.write_claim.new.writer) (claim_line claim)) c.claim-item.is c.in-Err.ensures.err in
+    line_broken claim_line _ _ _ c.args.claims.now c.loop-claim.claim-index c.claim-item.result c.loop-claim-test.true c.loop-claim.invariant.0 line

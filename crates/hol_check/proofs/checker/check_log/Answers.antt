@@ -1,0 +1,13 @@
+use Rattle.std.proofs.Common.{ap, ◌∙◌}
+use Rattle.hol_model.specs.Logs.LogState.{LogState}
+use Rattle.hol_check.specs.Entries.{entries_in}
+use Rattle.hol_check.proofs.CheckingLemmas.{has_claims}
+use Rattle.hol_check.proofs.checker.check_log.Goals as goal
+
+pub returns-in-Ok-claims_of-clause-listed : goal.returns-in-Ok-claims_of-clause-listed
+returns-in-Ok-claims_of-clause-listed g c = record {
+  has_claims =
+      has_claims (g.R.Source.remaining c.args.reader.now) c.in-Ok.log c.in-Ok-claims_of.claims.items c.accepted_logs_are_sound.ensures c.accepted_claims_hold.ensures c.in-Ok.ensures.accepted
+      (c.in-Ok-claims_of.ensures.claims ∙ ap (λ (log : LogState). log.claims) c.in_ok-log-in-Ok.ensures.ok);
+  are_entries = c.in-Ok-entries_of.ensures.entries ∙ ap (λ (log : LogState). entries_in log.theory) (c.in_ok-clone.ensures.cases ∙ c.in_ok-log-in-Ok.ensures.ok);
+}

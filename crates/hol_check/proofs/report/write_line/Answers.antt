@@ -1,0 +1,5 @@
+use Rattle.hol_check.proofs.ReportLemmas.{nothing_written}
+use Rattle.hol_check.proofs.report.write_line.Goals as goal
+
+pub returns-then-is_err-clause-err : goal.returns-then-is_err-clause-err
+returns-then-is_err-clause-err g c = nothing_written _ _
