@@ -1,6 +1,7 @@
 -- How a run comes to its end, and what is left where it stops.
 use Rattle.std.proofs.Common.{◌≡◌, ℕ, zero, suc, ◌+◌, ◌≤◌, List, [], ◌∷◌, ◌++◌, length, refl, sym, ap, subst, ◌∙◌, ◌⊎◌, inl, inr, arith, Bool, true, false, ◌==◌, ◌&&◌, ◌||◌, Option, None, Some, Result, Ok, Err, append_assoc, append-nil, length-append, eqb-true}
 use Rattle.std.specs.Io.KnownBytes.{Appends}
+use Rattle.std.proofs.KnownBytes.{Appends-nil, Appends-trans}
 use Rattle.hol_model.specs.declared.fault.Fault.{Fault}
 use Rattle.hol_model.specs.declared.fault.Fault.TheVariants.{Memory, Syntax}
 use Rattle.hol_model.specs.Texts.Reading.{Scope}
@@ -12,7 +13,6 @@ use Rattle.hol_session.specs.declared.session.Printed.TheVariants.{Nothing, Line
 use Rattle.hol_bytes.specs.Bytes.{AppendsFront}
 use Rattle.hol_session.specs.Answers.{Says, Turns, answer_text}
 use Rattle.hol_script.specs.Runs.{counting_answer, names_in_answer, names_in, printed_names, Ends}
-use Rattle.hol_bytes.proofs.BytesLemmas.{Appends-none, Appends-more}
 
 -- ---- each text has pieces
 
@@ -178,7 +178,7 @@ module _ (script : List ℕ) where
     pub wrote : Appends written now out
 
   pub underway_begun : (written : Option (List ℕ)) → Underway written written start 1 script no_counts []
-  underway_begun written = record { out = []; so_far = begun; wrote = Appends-none written }
+  underway_begun written = record { out = []; so_far = begun; wrote = Appends-nil written }
 
   pub underway_passed : {written now : Option (List ℕ)} {state : State} {line : ℕ} {left : List ℕ} {counts : Counts} {names : List (List ℕ)} (piece behind : List ℕ) → Underway written now state line left counts names
       → IsCut left piece behind → is_blank_text piece ≡ true → Underway written now state (line + line_feeds piece) behind counts names
@@ -231,7 +231,7 @@ module _ (script : List ℕ) where
   underway_turned {written} {now} {next} {line = line} piece behind answer u cut filled turns wrote = record {
     out = u.out ++ answer_text (line + leading_line_feeds piece) answer;
     so_far = answered piece behind answer u cut filled turns;
-    wrote = Appends-more written now next u.out (answer_text (line + leading_line_feeds piece) answer) u.wrote wrote;
+    wrote = Appends-trans written now next u.out (answer_text (line + leading_line_feeds piece) answer) u.wrote wrote;
   }
 
   -- the line of an answer was written in part
@@ -241,7 +241,7 @@ module _ (script : List ℕ) where
   underway_broken {written} {now} {next} piece behind answer u cut filled turns wrote =
       stopped (u.out ++ wrote.front) wrote.rest (answered piece behind answer u cut filled turns)
       (ap (λ l. u.out ++ l) wrote.whole ∙ sym (append_assoc u.out wrote.front wrote.rest)) refl
-      (Appends-more written now next u.out wrote.front u.wrote wrote.taken)
+      (Appends-trans written now next u.out wrote.front u.wrote wrote.taken)
 
   pub underway_ended : {written now : Option (List ℕ)} {state : State} {line : ℕ} {left : List ℕ} {counts : Counts} {names : List (List ℕ)} → Underway written now state line left counts names → has_mark left ≡ false
       → is_blank_text left ≡ true → Ends (Some script) written now counts names state
@@ -259,7 +259,7 @@ module _ (script : List ℕ) where
           script = script;
           out = u.out ++ refusal_line (line + leading_line_feeds left) Syntax;
           read = refl;
-          wrote = Appends-more written now next u.out (refusal_line (line + leading_line_feeds left) Syntax) u.wrote wrote;
+          wrote = Appends-trans written now next u.out (refusal_line (line + leading_line_feeds left) Syntax) u.wrote wrote;
           is_run = run.is_run;
         };
         final = run.ends;
@@ -275,7 +275,7 @@ module _ (script : List ℕ) where
     rest = wrote.rest;
     counts = counting counts (refused Syntax);
     read = refl;
-    wrote = Appends-more written now next u.out wrote.front u.wrote wrote.taken;
+    wrote = Appends-trans written now next u.out wrote.front u.wrote wrote.taken;
     is_run =
         subst (λ (l : List ℕ). IsRun script l (counting counts (refused Syntax))) (ap (λ l. u.out ++ l) wrote.whole ∙ sym (append_assoc u.out wrote.front wrote.rest))
         (ended_within u.so_far none filled).is_run;
@@ -295,8 +295,8 @@ ends_by {known} text tells e =
 
 -- nothing was read, and nothing written
 pub unread : (known written : Option (List ℕ)) → Stops known written written
-unread None written = stopped [] [] [] (begun []) refl tt (Appends-none written)
-unread (Some script) written = stopped script [] [] (begun script) refl refl (Appends-none written)
+unread None written = stopped [] [] [] (begun []) refl tt (Appends-nil written)
+unread (Some script) written = stopped script [] [] (begun script) refl refl (Appends-nil written)
 
 -- ---- the same for numbers and counts that a call answered
 

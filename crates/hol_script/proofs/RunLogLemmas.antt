@@ -1,8 +1,8 @@
 -- The claims of a run are the theorems that it printed, and its log is theirs.
 use Rattle.std.proofs.Common.{◌≡◌, ℕ, List, [], ◌∷◌, ◌++◌, map, refl, sym, ap, subst, ◌∙◌, inl, inr, Option, None, Some, Ok, Err, Result, append-nil, lit<, arith, zero, suc}
-use Rattle.std.specs.Prelude.{IfErr, IsErrOf, Contains, true}
-use Rattle.indexmap.specs.IndexMap.{get_by_text}
+use Rattle.std.specs.Prelude.{IfErr, IsErrOf, Contains, Bool, true}
 use Rattle.hol_model.specs.Terms.Name.{is_identifier}
+use Rattle.hol_model.specs.Logic.Theory.{Theory}
 use Rattle.hol_model.specs.Logic.Derivable.{IsMember}
 use Rattle.hol_model.specs.Kernel.Theorem.{Theorem}
 use Rattle.hol_model.specs.declared.fault.Fault.{Fault}
@@ -18,10 +18,10 @@ use Rattle.hol_log.specs.LogAccepted.{log_claim}
 use Rattle.hol_log.specs.Pruning.{HaveIdentifiers}
 use Rattle.hol_script.specs.declared.progress.Progress.{Progress}
 use Rattle.hol_session.specs.SessionState.{state_of, theorem_of}
-use Rattle.hol_session.specs.SessionState as session
+use Rattle.hol_store.specs.Store.{stored_of}
 use Rattle.hol_script.specs.Runs.{names_of, printed_names, Ends}
-use Rattle.hol_script.specs.RunLogs.{claim_in, claims_in, WritesLog, WritesFront, CompletesLog, StopsInLog, HasLongLog, IsWhole, claims_stored}
-use Rattle.hol_session.specs.StoredClaims.{IsLongLog, stored_claim, stored_claims}
+use Rattle.hol_script.specs.RunLogs.{claim_in, claims_in, IsLongLogOver, WritesLog, WritesFront, CompletesLog, StopsInLog, HasLongLog, IsWhole, claims_stored}
+use Rattle.hol_session.specs.StoredClaims.{stored_claim, stored_claims}
 use Rattle.hol_script.proofs.StoredLemmas.{printed_theorems_stay}
 
 -- ---- claims of stored theorems
@@ -74,7 +74,7 @@ claims_are_named stored (refused fault ∷ replies) named claim member = claims_
 module _ {input written now : Option (List ℕ)} {counts : Counts} (progress : Progress) (ends : Ends input written now counts (names_of progress) (state_of progress.session)) where
   pub claims_of_run : map log_claim (claims_stored progress) ≡ claims_in ends.completes.is_run.replies
   claims_of_run =
-      let stored = get_by_text progress.session.theorems in
+      let stored = (stored_of progress.session.store).theorems in
       let is_run = ends.completes.is_run in
       ap (λ (names : List (List ℕ)). map log_claim (stored_claims stored names)) ends.named
       ∙ claims_are_printed stored is_run.replies
@@ -82,21 +82,26 @@ module _ {input written now : Option (List ℕ)} {counts : Counts} (progress : P
 
   pub run_is_named : HaveIdentifiers (claims_stored progress)
   run_is_named =
-      let stored = get_by_text progress.session.theorems in
+      let stored = (stored_of progress.session.store).theorems in
       let is_run = ends.completes.is_run in
       subst (λ (names : List (List ℕ)). HaveIdentifiers (stored_claims stored names)) (sym ends.named)
       (claims_are_named stored is_run.replies
       (λ name theorem member. printed_theorems_stay.named (requested 1 is_run.pieces is_run.last) is_run.replies ends.completes.out is_run.final is_run.session name theorem member))
 
-  pub completes_log : {logged new_logged : Option (List ℕ)} → WritesLog (map log_claim (claims_stored progress)) logged new_logged → CompletesLog input written now counts logged new_logged
-  completes_log {logged} {new_logged} writes = record { completes = ends.completes; writes = subst (λ (claims : List LogClaim). WritesLog claims logged new_logged) claims_of_run writes }
+  -- what is over the theory of the session is over that of the run's end
+  over_end : (Is : Theory → List LogClaim → Type 0) → Is progress.session.recorder.theory (map log_claim (claims_stored progress)) → Is ends.completes.is_run.final.theory (claims_in ends.completes.is_run.replies)
+  over_end Is is = subst (λ (state : State). Is state.theory (claims_in ends.completes.is_run.replies)) ends.final (subst (Is progress.session.recorder.theory) claims_of_run is)
 
-  pub stops_in_log : {logged new_logged : Option (List ℕ)} → WritesFront (map log_claim (claims_stored progress)) logged new_logged → StopsInLog input written now logged new_logged
+  pub completes_log : {wanted : Bool} {logged new_logged : Option (List ℕ)} → (wanted ≡ true → WritesLog progress.session.recorder.theory (map log_claim (claims_stored progress)) logged new_logged)
+      → CompletesLog input written now counts wanted logged new_logged
+  completes_log {wanted} {logged} {new_logged} writes = record { completes = ends.completes; writes = λ is. over_end (λ theory claims. WritesLog theory claims logged new_logged) (writes is) }
+
+  pub stops_in_log : {logged new_logged : Option (List ℕ)} → WritesFront progress.session.recorder.theory (map log_claim (claims_stored progress)) logged new_logged → StopsInLog input written now logged new_logged
   stops_in_log {logged} {new_logged} writes =
-      record { counts = counts; completes = ends.completes; writes = subst (λ (claims : List LogClaim). WritesFront claims logged new_logged) claims_of_run writes }
+      record { counts = counts; completes = ends.completes; writes = over_end (λ theory claims. WritesFront theory claims logged new_logged) writes }
 
-  pub has_long_log : IsLongLog (map log_claim (claims_stored progress)) → HasLongLog input written now
-  has_long_log long = record { counts = counts; completes = ends.completes; long = subst IsLongLog claims_of_run long }
+  pub has_long_log : IsLongLogOver progress.session.recorder.theory (map log_claim (claims_stored progress)) → HasLongLog input written now
+  has_long_log long = record { counts = counts; completes = ends.completes; long = over_end IsLongLogOver long }
 
   pub is_whole : IsWhole input written now
   is_whole = record { counts = counts; completes = ends.completes }

@@ -1,11 +1,13 @@
 -- The log of a run: it claims the theorems that the run prints.
-use Rattle.std.specs.Prelude.{ℕ, List, [], ◌∷◌, ◌++◌, Option}
+use Rattle.std.specs.Prelude.{◌≡◌, ℕ, List, [], ◌∷◌, ◌++◌, Bool, true, Option}
 use Rattle.std.specs.Io.KnownBytes.{Appends}
+use Rattle.hol_model.specs.Logic.Theory.{Theory}
 use Rattle.hol_model.specs.Logs.LogState.{LogClaim}
 use Rattle.hol_model.specs.Scripts.Sessions.{Reply, proves, accepts, refused, Counts, Completes}
-use Rattle.indexmap.specs.IndexMap.{get_by_text}
 use Rattle.hol_bytes.specs.Bytes.{AppendsFront}
+use Rattle.hol_journal.specs.Journal.{Journal}
 use Rattle.hol_journal.specs.Steps.{sequent_of_theorem}
+use Rattle.hol_store.specs.Store.{stored_of}
 use Rattle.hol_log.specs.LogWriting.{Claimed}
 use Rattle.hol_script.specs.declared.progress.Progress.{Progress}
 use Rattle.hol_script.specs.Runs.{names_of}
@@ -22,16 +24,29 @@ abbrev pub claims_in : List Reply → List LogClaim
 claims_in [] = []
 claims_in (reply ∷ replies) = claim_in reply ++ claims_in replies
 
--- the log of these claims was written
-pub record WritesLog (claims : List LogClaim) (logged new_logged : Option (List ℕ)) : Type 0 where
+-- The text is the log of these claims from a journal over this theory, within the limit on texts, and it is accepted with
+-- them.
+pub record IsLogOver (theory : Theory) (claims : List LogClaim) (text : List ℕ) : Type 0 where
+  pub journal : Journal
+  pub over : journal.theory ≡ theory
+  pub is_log : IsAcceptedLog journal claims text
+
+-- The log of these claims from a journal over this theory is past the limit on texts.
+pub record IsLongLogOver (theory : Theory) (claims : List LogClaim) : Type 0 where
+  pub journal : Journal
+  pub over : journal.theory ≡ theory
+  pub is_long : IsLongLog journal claims
+
+-- the log of these claims over the theory was written
+pub record WritesLog (theory : Theory) (claims : List LogClaim) (logged new_logged : Option (List ℕ)) : Type 0 where
   pub log : List ℕ
-  pub is_log : IsAcceptedLog claims log
+  pub is_log : IsLogOver theory claims log
   pub wrote : Appends logged new_logged log
 
--- the front of the log of these claims was written
-pub record WritesFront (claims : List LogClaim) (logged new_logged : Option (List ℕ)) : Type 0 where
+-- the front of the log of these claims over the theory was written
+pub record WritesFront (theory : Theory) (claims : List LogClaim) (logged new_logged : Option (List ℕ)) : Type 0 where
   pub log : List ℕ
-  pub is_log : IsAcceptedLog claims log
+  pub is_log : IsLogOver theory claims log
   pub wrote : AppendsFront logged new_logged log
 
 -- ---- runs
@@ -41,24 +56,25 @@ pub record IsWhole (input written new_written : Option (List ℕ)) : Type 0 wher
   pub counts : Counts
   pub completes : Completes input written new_written counts
 
--- What was read and written is a whole run, and its log was written.
-pub record CompletesLog (input written new_written : Option (List ℕ)) (counts : Counts) (logged new_logged : Option (List ℕ)) : Type 0 where
+-- What was read and written is a whole run, and where a log is wanted, that of the same run was written, over the theory at
+-- its end.
+pub record CompletesLog (input written new_written : Option (List ℕ)) (counts : Counts) (wanted : Bool) (logged new_logged : Option (List ℕ)) : Type 0 where
   pub completes : Completes input written new_written counts
-  pub writes : WritesLog (claims_in completes.is_run.replies) logged new_logged
+  pub writes : wanted ≡ true → WritesLog completes.is_run.final.theory (claims_in completes.is_run.replies) logged new_logged
 
 -- What was read and written is a whole run, and the front of its log was written.
 pub record StopsInLog (input written new_written logged new_logged : Option (List ℕ)) : Type 0 where
   pub counts : Counts
   pub completes : Completes input written new_written counts
-  pub writes : WritesFront (claims_in completes.is_run.replies) logged new_logged
+  pub writes : WritesFront completes.is_run.final.theory (claims_in completes.is_run.replies) logged new_logged
 
 -- What was read and written is a whole run, whose log is past the limit on texts.
 pub record HasLongLog (input written new_written : Option (List ℕ)) : Type 0 where
   pub counts : Counts
   pub completes : Completes input written new_written counts
-  pub long : IsLongLog (claims_in completes.is_run.replies)
+  pub long : IsLongLogOver completes.is_run.final.theory (claims_in completes.is_run.replies)
 
 -- ---- what the program claims
 
 abbrev pub claims_stored : Progress → List Claimed
-claims_stored progress = stored_claims (get_by_text progress.session.theorems) (names_of progress)
+claims_stored progress = stored_claims (stored_of progress.session.store).theorems (names_of progress)

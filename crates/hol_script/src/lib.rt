@@ -1,6 +1,7 @@
 //! Proof scripts: runs and their logs.
 #![tactic(auto, using(hol_model::proofs::Kernel::Refusals::refusals))]
 
+mod execute;
 mod laws;
 mod progress;
 mod runner;

@@ -11,7 +11,7 @@ ghost use Rattle.hol_session.specs.SessionState.{state_of, IsSession};
 ghost use Rattle.hol_session.specs.StoredClaims.{IsAcceptedLog, IsLongLog};
 
 use hol_model::Fault;
-use hol_session::execute::execute;
+use crate::execute::execute;
 use hol_session::session::{Printed, Session};
 use std::alloc::Global;
 
@@ -124,8 +124,8 @@ impl Progress {
     pub fn log_text(&self, alloc: Global) -> Result<Vec<u8>, Fault>
         requires session { IsSession self.now.session }
         requires named { HaveIdentifiers (claims_stored self.now) }
-        ensures ok { IfOk result (λ text. IsAcceptedLog (map log_claim (claims_stored self.now)) text.items) }
-        ensures too_long { IsErrOf result TooLong → IsLongLog (map log_claim (claims_stored self.now)) }
+        ensures ok { IfOk result (λ text. IsAcceptedLog self.now.session.recorder (map log_claim (claims_stored self.now)) text.items) }
+        ensures too_long { IsErrOf result TooLong → IsLongLog self.now.session.recorder (map log_claim (claims_stored self.now)) }
         ensures refusals { IfErr result (Contains (TooLong ∷ Memory ∷ [])) }
     {
         self.session.log_text(alloc, &self.names)

@@ -1,17 +1,16 @@
 // Runs a script from a source to a sink, and writes its log to another.
 ghost use Rattle.std.specs.Prelude.{◌≡◌, ◌⊎◌, ◌≤◌, ◌<◌, ◌∷◌, [], true, false, map, length, Some, OnOk, OnErr, IfOk, IfErr, IfSome, IsErrOf, Contains};
 ghost use Rattle.std.specs.Io.KnownBytes.{Appends};
-ghost use Rattle.hol_model.specs.Scripts.Sessions.{Completes, Stops, Tells};
+ghost use Rattle.hol_model.specs.Scripts.Sessions.{Stops};
 ghost use Rattle.hol_model.specs.Scripts.Sessions as spec;
 ghost use Rattle.hol_model.specs.declared.fault.Fault.TheVariants.{Memory, ReadFault, WriteFault, TooLong};
 ghost use Rattle.hol_log.specs.Pruning.{HaveIdentifiers};
 ghost use Rattle.hol_log.specs.LogAccepted.{log_claim};
-ghost use Rattle.hol_bytes.specs.Bytes.{AppendsFront, joined};
+ghost use Rattle.hol_bytes.specs.Bytes.{AppendsFront};
 ghost use Rattle.hol_session.specs.Answers.{answer_text};
 ghost use Rattle.hol_script.specs.Runs.{counts_of, names_of, Ends};
-ghost use Rattle.hol_script.specs.RunLogs.{claims_stored, WritesLog, WritesFront, CompletesLog, StopsInLog, HasLongLog, IsWhole};
+ghost use Rattle.hol_script.specs.RunLogs.{claims_stored, IsLongLogOver, WritesLog, WritesFront, CompletesLog, StopsInLog, HasLongLog, IsWhole};
 ghost use Rattle.hol_session.specs.SessionState.{state_of, IsSession};
-ghost use Rattle.hol_session.specs.StoredClaims.{IsLongLog};
 
 use crate::progress::{Progress, Summary};
 use hol_bytes::{read_all, write_all, write_pieces};
@@ -73,6 +72,7 @@ fn run_script<W: Sink>(alloc: Global, script: &[u8], writer: &mut W) -> Result<P
     ensures ok { IfOk result (λ progress. Ends (Some script.now) (W.contents writer.old) (W.contents writer.new) (counts_of progress.summary) (names_of progress) (state_of progress.session)) }
     ensures is_session { IfOk result (λ progress. IsSession progress.session) }
     ensures err { OnErr result (Stops (Some script.now) (W.contents writer.old) (W.contents writer.new)) }
+    ensures unfailed { OnOk result (W.has_failed writer.new ≡ false) }
     ensures failed { IsErrOf result WriteFault → W.has_failed writer.new ≡ true }
     ensures unwritten { IsErrOf result Memory → writer.new ≡ writer.old }
     ensures refusals { IfErr result (Contains (WriteFault ∷ Memory ∷ [])) }
@@ -114,9 +114,10 @@ fn write_log<L: Sink>(alloc: Global, progress: &Progress, log: &mut L) -> Result
     requires unfailed { L.has_failed log.old ≡ false }
     requires session { IsSession progress.now.session }
     requires named { HaveIdentifiers (claims_stored progress.now) }
-    ensures ok { OnOk result (WritesLog (map log_claim (claims_stored progress.now)) (L.contents log.old) (L.contents log.new)) }
-    ensures write_fault { IsErrOf result WriteFault → (L.has_failed log.new ≡ true) × WritesFront (map log_claim (claims_stored progress.now)) (L.contents log.old) (L.contents log.new) }
-    ensures too_long { IsErrOf result TooLong → IsLongLog (map log_claim (claims_stored progress.now)) }
+    ensures ok { OnOk result (WritesLog progress.now.session.recorder.theory (map log_claim (claims_stored progress.now)) (L.contents log.old) (L.contents log.new)) }
+    ensures unfailed { OnOk result (L.has_failed log.new ≡ false) }
+    ensures write_fault { IsErrOf result WriteFault → (L.has_failed log.new ≡ true) × WritesFront progress.now.session.recorder.theory (map log_claim (claims_stored progress.now)) (L.contents log.old) (L.contents log.new) }
+    ensures too_long { IsErrOf result TooLong → IsLongLogOver progress.now.session.recorder.theory (map log_claim (claims_stored progress.now)) }
     ensures unwritten { (IsErrOf result TooLong ⊎ IsErrOf result Memory) → log.new ≡ log.old }
     ensures refusals { IfErr result (Contains (WriteFault ∷ TooLong ∷ Memory ∷ [])) }
 {
@@ -130,8 +131,8 @@ fn write_log<L: Sink>(alloc: Global, progress: &Progress, log: &mut L) -> Result
 /// is the output of a session of that script, or of a front of it where the run stops: each theorem in it follows from
 /// the entries accepted before it, and holds in every finite standard model.
 ///
-/// Where a log is wanted, it is written after the last command: the pruned log of the theorems that were printed, which
-/// is accepted, with a claim for each line of a theorem, in order. Where none is wanted, `log` is left alone.
+/// Where a log is wanted, it is written after the last command: the pruned log of the theorems that were printed, over
+/// the theory at the end, which is accepted, with a claim for each line of a theorem, in order. Where none is wanted, `log` is left alone.
 ///
 /// ReadFault and TooLong come before anything is written: the source failed, or the script is longer than the limit on
 /// texts. Memory comes while the script is read, or while the session is begun and the theorems of the prelude are made: a
@@ -147,10 +148,12 @@ pub fn run<R: Source, W: Sink, L: Sink>(
     requires reader_unfailed { R.has_failed reader.old ≡ false }
     requires writer_unfailed { W.has_failed writer.old ≡ false }
     requires log_unfailed { L.has_failed log.old ≡ false }
-    ensures ok { IfOk result (λ summary. Completes (R.remaining reader.old) (W.contents writer.old) (W.contents writer.new) (counts_of summary)) }
-    ensures logged { wants_log ≡ true → IfOk result (λ summary. CompletesLog (R.remaining reader.old) (W.contents writer.old) (W.contents writer.new) (counts_of summary) (L.contents log.old) (L.contents log.new)) }
+    ensures ok { IfOk result (λ summary. CompletesLog (R.remaining reader.old) (W.contents writer.old) (W.contents writer.new) (counts_of summary) wants_log (L.contents log.old) (L.contents log.new)) }
     ensures unlogged { wants_log ≡ false → log.new ≡ log.old }
     ensures err { OnErr result (Stops (R.remaining reader.old) (W.contents writer.old) (W.contents writer.new)) }
+    ensures reader_unfailed { OnOk result (R.has_failed reader.new ≡ false) }
+    ensures writer_unfailed { OnOk result (W.has_failed writer.new ≡ false) }
+    ensures log_unfailed { OnOk result (L.has_failed log.new ≡ false) }
     ensures within_limit { IfOk result (λ _. IfSome (R.remaining reader.old) (λ told. length told ≤ TEXT_BYTES_LIMIT)) }
     ensures read_fault { IsErrOf result ReadFault → (R.has_failed reader.new ≡ true) × (writer.new ≡ writer.old) }
     ensures too_long { IsErrOf result TooLong → (IfSome (R.remaining reader.old) (λ told. TEXT_BYTES_LIMIT < length told) × (writer.new ≡ writer.old))

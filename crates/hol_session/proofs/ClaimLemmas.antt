@@ -6,14 +6,14 @@ use Rattle.hol_model.specs.Logic.Derivable.{IsMember}
 use Rattle.hol_model.specs.declared.fault.Fault.{Fault}
 use Rattle.hol_model.specs.declared.limits.TheConstants.{TEXT_BYTES_LIMIT}
 use Rattle.hol_model.proofs.Terms.Membership.{of_append}
-use Rattle.hol_journal.specs.Journal.{Journal, Recorded}
+use Rattle.hol_journal.specs.Journal.{Journal, IsJournal, Recorded}
 use Rattle.hol_log.specs.LogWriting.{Claimed}
 use Rattle.hol_log.specs.declared.claim.Claim.{Claim}
 use Rattle.hol_log.specs.Claims.{claim_of, claims_of}
 use Rattle.hol_log.specs.LogAccepted.{log_claim}
 use Rattle.hol_log.specs.Pruning.{AreMade}
 use Rattle.hol_log.specs.LogOf.{IsPrunedText, IsLogOf, IsPastLimit}
-use Rattle.hol_session.specs.SessionState as session
+use Rattle.hol_store.specs.Stored.{Stored, IsStoreOf}
 use Rattle.hol_session.specs.StoredClaims.{IsAcceptedLog, IsLongLog, stored_claim, stored_claims}
 
 member_of_stored_claim : (stored : List ℕ → Option Recorded) (name : List ℕ) (found : Option Recorded) (claim : Claimed) → stored name ≡ found → IsMember claim (stored_claim name found)
@@ -52,24 +52,24 @@ further_claims stored names at item name found before after within is named know
 pub pushed_claim : (claims pushed : List Claim) (claim : Claim) → pushed ≡ claims ++ claim ∷ [] → claims_of pushed ≡ claims_of claims ++ claim_of claim ∷ []
 pushed_claim claims pushed claim is = ap claims_of is ∙ map-append claim_of claims (claim ∷ [])
 
-pub stored_claims-made : (journal : Journal) (stored : List ℕ → Option Recorded) (names : List (List ℕ)) → session.AreMade journal stored → AreMade journal (stored_claims stored names)
-stored_claims-made journal stored names made claim member = made claim.name claim.made (member_of_stored_claims stored names claim member)
+pub stored_claims-made : (journal : Journal) (stored : Stored) (names : List (List ℕ)) → IsStoreOf journal stored → AreMade journal (stored_claims stored.theorems names)
+stored_claims-made journal stored names made claim member = made.theorems claim.name claim.made (member_of_stored_claims stored.theorems names claim member)
 
-pub log_answers : (result : Result (Vec ℕ Global) Fault) (journal : Journal) (given claimed : List Claimed) → given ≡ claimed → AreMade journal claimed
+pub log_answers : (result : Result (Vec ℕ Global) Fault) (journal : Journal) (given claimed : List Claimed) → IsJournal journal → given ≡ claimed → AreMade journal claimed
     → IfOk result (λ (text : Vec ℕ Global). IsPrunedText journal given text.items) → IfOk result (λ (text : Vec ℕ Global). IsLogOf text.items given) → IfOk result (λ (text : Vec ℕ Global). length text.items ≤ TEXT_BYTES_LIMIT)
-    → IfOk result (λ (text : Vec ℕ Global). IsAcceptedLog (map log_claim claimed) text.items)
-log_answers (Ok text) journal given claimed same made pruned accepted within = record {
-  is_log = record { journal = journal; claimed = claimed; made = made; are_claims = refl; pruned = subst (λ (cs : List Claimed). IsPrunedText journal cs text.items) same pruned };
+    → IfOk result (λ (text : Vec ℕ Global). IsAcceptedLog journal (map log_claim claimed) text.items)
+log_answers (Ok text) journal given claimed is_journal same made pruned accepted within = record {
+  is_log = record { is_journal = is_journal; claimed = claimed; made = made; are_claims = refl; pruned = subst (λ (cs : List Claimed). IsPrunedText journal cs text.items) same pruned };
   within_limit = within;
   state = accepted.state;
   accepted = accepted.accepted;
   claimed = accepted.claimed ∙ ap (map log_claim) same;
 }
-log_answers (Err fault) journal given claimed same made pruned accepted within = tt
+log_answers (Err fault) journal given claimed is_journal same made pruned accepted within = tt
 
-pub long_log : (journal : Journal) (given claimed : List Claimed) → given ≡ claimed → AreMade journal claimed → IsPastLimit journal given → IsLongLog (map log_claim claimed)
-long_log journal given claimed same made past = record {
+pub long_log : (journal : Journal) (given claimed : List Claimed) → IsJournal journal → given ≡ claimed → AreMade journal claimed → IsPastLimit journal given → IsLongLog journal (map log_claim claimed)
+long_log journal given claimed is_journal same made past = record {
   log = past.text;
-  is_log = record { journal = journal; claimed = claimed; made = made; are_claims = refl; pruned = subst (λ (cs : List Claimed). IsPrunedText journal cs past.text) same past.pruned };
+  is_log = record { is_journal = is_journal; claimed = claimed; made = made; are_claims = refl; pruned = subst (λ (cs : List Claimed). IsPrunedText journal cs past.text) same past.pruned };
   longer = past.longer;
 }

@@ -4,7 +4,6 @@ use Rattle.std.specs.Prelude.{Bool, true, false, not, ◌&&◌, ◌||◌, cond, 
 use Rattle.std.specs.Map.{update}
 use Rattle.std.specs.Str.{bytes_eq}
 use Rattle.std.proofs.lemmas.Slice.Eq.{bytes_eq-Decides}
-use Rattle.indexmap.specs.IndexMap.{get_by_text}
 use Rattle.hol_model.specs.declared.fault.Fault.{Fault}
 use Rattle.hol_model.specs.declared.fault.Fault.TheVariants.{Memory, TooLarge, TypeMismatch, UnknownType, BadName, NotClosed, TypeVarsNotReflected, AlreadyDefined}
 use Rattle.hol_model.specs.Terms.Name.{is_constant_name, is_declared_type_name}
@@ -41,7 +40,10 @@ use Rattle.hol_session.specs.SessionState.{state_of, theorem_of, IsSession}
 use Rattle.hol_session.specs.Growth.{IsRefused, LeavesNone, MakesEquation, Defines, KeepsSession}
 use Rattle.hol_session.specs.Answers.{IsLineOf, Turns}
 use Rattle.hol_session.proofs.RuleLemmas.{proved, same_is_earlier}
-use Rattle.hol_session.proofs.RecordingLemmas.{still_made, stored_made, stored_theorem}
+use Rattle.hol_store.specs.Stored.{Stored, IsStoreOf, KeepsStore}
+use Rattle.hol_store.specs.Store.{stored_of}
+use Rattle.hol_store.proofs.StoreLemmas.{stores-stay, stored-made}
+use Rattle.hol_session.proofs.RecordingLemmas.{kept-made, stored_theorem}
 use Rattle.hol_session.proofs.SessionLemmas.{scope_same, prints}
 
 -- ---- tests of outcomes
@@ -295,18 +297,21 @@ made session recorder scope = record session { recorder = recorder; scope = scop
 abbrev pub with_scope : Session → ScopeHere → Session
 with_scope session scope = record session { scope = scope }
 
--- a session with the journal, the names and the theorems of before
-pub kept_state : (old new : Session) → new.recorder ≡ old.recorder → KeepsScope (scope_of old.scope) (scope_of new.scope) → ((name : List ℕ) → get_by_text new.theorems name ≡ get_by_text old.theorems name)
-    → state_of new ≡ state_of old
-kept_state old new same keeps stored = λ i. record { theory = (same i).theory; variables = λ name. keeps.variables name i; theorems = λ name. theorem_of (stored name i) }
+pub same_store : (stored : Stored) → KeepsStore stored stored
+same_store stored = record { theorems = λ name. refl; lemmas = refl }
 
-pub kept_session : (old new : Session) → IsSession old → new.recorder ≡ old.recorder → KeepsScope (scope_of old.scope) (scope_of new.scope) → ((name : List ℕ) → get_by_text new.theorems name ≡ get_by_text old.theorems name)
+-- a session with the journal, the names and the theorems of before
+pub kept_state : (old new : Session) → new.recorder ≡ old.recorder → KeepsScope (scope_of old.scope) (scope_of new.scope) → KeepsStore (stored_of old.store) (stored_of new.store)
+    → state_of new ≡ state_of old
+kept_state old new same keeps stored = λ i. record { theory = (same i).theory; variables = λ name. keeps.variables name i; theorems = λ name. theorem_of (stored.theorems name i) }
+
+pub kept_session : (old new : Session) → IsSession old → new.recorder ≡ old.recorder → KeepsScope (scope_of old.scope) (scope_of new.scope) → KeepsStore (stored_of old.store) (stored_of new.store)
     → new.logic ≡ old.logic → IsSession new
 kept_session old new known same keeps stored logic = record {
   legal = subst (λ (j : Journal). IsLegal j.theory) (sym same) known.legal;
   constants = λ name. keeps.constants name ∙ known.constants name ∙ ap (λ (j : Journal). generic_type j.theory name) (sym same);
   types = λ name. keeps.types name ∙ known.types name ∙ ap (λ (j : Journal). is_declared j.theory name) (sym same);
-  made = λ name answer found. subst (λ (j : Journal). IsMade j answer) (sym same) (known.made name answer (sym (stored name) ∙ found));
+  made = subst (λ (j : Journal). IsStoreOf j (stored_of new.store)) (sym same) (kept-made old.recorder (stored_of old.store) (stored_of new.store) stored known.made);
   logic = subst (HasLogic new.recorder) (sym logic) (subst (λ (j : Journal). HasLogic j old.logic) (sym same) known.logic);
 }
 
@@ -356,7 +361,7 @@ not_some (Some x) none = absurd (none refl)
 
 pub var_state : (old : Session) (scope : ScopeHere) (name : List ℕ) (ty : HolType) → SetsVariable (scope_of old.scope) (scope_of scope) name ty
     → state_of (made old old.recorder scope) ≡ with_variable (state_of old) name ty
-var_state old scope name ty sets = λ i. record { theory = old.recorder.theory; variables = λ other. sets.variables other i; theorems = λ other. theorem_of (get_by_text old.theorems other) }
+var_state old scope name ty sets = λ i. record { theory = old.recorder.theory; variables = λ other. sets.variables other i; theorems = λ other. theorem_of ((stored_of old.store).theorems other) }
 
 pub var_session : (old : Session) (scope : ScopeHere) (name : List ℕ) (ty : HolType) → IsSession old → SetsVariable (scope_of old.scope) (scope_of scope) name ty
     → IsSession (made old old.recorder scope)
@@ -372,7 +377,7 @@ var_session old scope name ty known sets = record {
 
 pub grown_state : (old : Session) (grown : Journal) (scope : ScopeHere) → ((name : List ℕ) → (scope_of scope).variable_type name ≡ (scope_of old.scope).variable_type name)
     → state_of (made old grown scope) ≡ over_theory (state_of old) grown.theory
-grown_state old grown scope same = λ i. record { theory = grown.theory; variables = λ name. same name i; theorems = λ name. theorem_of (get_by_text old.theorems name) }
+grown_state old grown scope same = λ i. record { theory = grown.theory; variables = λ name. same name i; theorems = λ name. theorem_of ((stored_of old.store).theorems name) }
 
 either : (test known : Bool) → cond test true known ≡ (test || known)
 either true known = refl
@@ -388,7 +393,7 @@ type_session old grown scope name grow stay known sets outcome is_grown =
       constants = λ other. sets.constants other ∙ known.constants other ∙ ap (λ (t : Theory). generic_type t other) (sym accepted.grown);
       types = λ other. sets.types other ∙ ap (λ (b : Bool). cond (bytes_eq name other) true b) (known.types other) ∙ either (bytes_eq name other) (is_declared theory other)
           ∙ ap (λ (t : Theory). is_declared t other) (sym accepted.grown);
-      made = still_made old.recorder grown (get_by_text old.theorems) grow is_grown known.made;
+      made = stores-stay grow old.recorder grown (stored_of old.store) is_grown known.made;
       logic = stay old.recorder grown old.logic is_grown known.logic;
     }
 
@@ -404,7 +409,7 @@ const_session old grown scope name ty grow stay known sets outcome is_grown =
       constants = λ other. sets.constants other ∙ ap (λ (g : Option HolType). cond (bytes_eq name other) (Some ty) g) (known.constants other)
           ∙ ap (λ (t : Theory). generic_type t other) (sym accepted.grown);
       types = λ other. sets.types other ∙ known.types other ∙ ap (λ (t : Theory). is_declared t other) (sym accepted.grown);
-      made = still_made old.recorder grown (get_by_text old.theorems) grow is_grown known.made;
+      made = stores-stay grow old.recorder grown (stored_of old.store) is_grown known.made;
       logic = stay old.recorder grown old.logic is_grown known.logic;
     }
 
@@ -440,8 +445,8 @@ module _ (old new : Session) (scope : ScopeHere) (name : List ℕ) (term : Named
             ∙ ap (λ (t : HolType). cond (bytes_eq name other) (Some t) (generic_type theory other)) (sym own)
             ∙ ap (λ (t : Theory). generic_type t other) (sym whole);
         types = λ other. ap (λ (s : ScopeHere). (scope_of s).declares_type other) d.scope ∙ sets.types other ∙ known.types other ∙ ap (λ (t : Theory). is_declared t other) (sym whole);
-        made = stored_made new.recorder d.answer (definition_name name) (get_by_text old.theorems) (get_by_text new.theorems)
-            (still_made old.recorder new.recorder (get_by_text old.theorems) grow d.grown known.made) d.made d.stored;
+        made = stored-made new.recorder (stored_of old.store) (stored_of new.store) (definition_name name) d.answer d.stored
+            (stores-stay grow old.recorder new.recorder (stored_of old.store) d.grown known.made) d.made;
         logic = subst (HasLogic new.recorder) (sym d.logic) (stay old.recorder new.recorder old.logic d.grown known.logic);
       }
 
@@ -450,7 +455,7 @@ module _ (old new : Session) (scope : ScopeHere) (name : List ℕ) (term : Named
   def_state sets d =
       let variables : (other : List ℕ) → (scope_of new.scope).variable_type other ≡ (scope_of old.scope).variable_type other =
       λ other. ap (λ (s : ScopeHere). (scope_of s).variable_type other) d.scope ∙ sets.variables other in
-      let theorems = stored_theorem d.answer (definition_name name) (get_by_text old.theorems) (get_by_text new.theorems) d.stored in
+      let theorems = stored_theorem d.answer (definition_name name) (stored_of old.store) (stored_of new.store) d.stored in
       λ i. record { theory = d.theory i; variables = λ other. variables other i; theorems = λ other. theorems other i }
 
 pub def_turns : (old new : Session) (scope : ScopeHere) (text name : List ℕ) (tree : TermTree) (term : NamedTerm) (ty : HolType) (line : TheoremLine) → IsSound → JournalsGrow → LogicStays → IsSession old → SpellsCommand text (def_command name tree)

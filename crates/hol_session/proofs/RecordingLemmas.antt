@@ -1,9 +1,7 @@
 -- What was recorded stays made by the recorder, and what the rules answer stands on its theory.
 use Rattle.std.proofs.Common.{◌≡◌, ℕ, List, [], ◌∷◌, refl, sym, subst, ap, ◌∙◌, append-nil, Option, None, Some, Result, Ok, Err}
-use Rattle.std.specs.Prelude.{Bool, true, false, cond, IfOk, OnErr}
-use Rattle.std.specs.Map.{update}
+use Rattle.std.specs.Prelude.{Bool, true, false, cond, slice_get, IfOk, OnErr}
 use Rattle.std.specs.Str.{bytes_eq}
-use Rattle.indexmap.specs.IndexMap.{get_by_text}
 use Rattle.hol_model.specs.declared.fault.Fault.{Fault}
 use Rattle.hol_model.specs.declared.fault.Fault.TheVariants.{NotBool, NotTrivialBeta}
 use Rattle.hol_model.specs.declared.rule.TermRule.{TermRule}
@@ -22,30 +20,28 @@ use Rattle.hol_prelude.specs.HasLogic.{HasLogic, LogicStays}
 use Rattle.hol_syntax.specs.declared.scope.Scope.{Scope as ScopeHere}
 use Rattle.hol_syntax.specs.Scope.{scope_of}
 use Rattle.hol_session.specs.declared.session.Session.{Session}
-use Rattle.hol_session.specs.SessionState.{state_of, theorem_of, AreMade, IsSession}
+use Rattle.hol_store.specs.Stored.{Stored, IsStoreOf, StoresTheorem, KeepsStore}
+use Rattle.hol_store.specs.declared.store.Store.{Store}
+use Rattle.hol_store.specs.Store.{stored_of}
+use Rattle.hol_store.proofs.StoreLemmas.{stores-stay}
+use Rattle.hol_session.specs.SessionState.{state_of, theorem_of, IsSession}
 use Rattle.hol_session.specs.Recording.{Records, AppliesRule, GrowsJournal}
 
 -- ---- stored theorems
 
--- as the journal grows
-pub still_made : (old new : Journal) (stored : List ℕ → Option Recorded) → JournalsGrow → IsGrown old new → AreMade old stored → AreMade new stored
-still_made old new stored grow grown made name answer found = grow.stays old new answer grown (made name answer found)
+-- a store that keeps what another has
+pub kept-made : (journal : Journal) (old new : Stored) → KeepsStore old new → IsStoreOf journal old → IsStoreOf journal new
+kept-made journal old new keeps made = record {
+  theorems = λ name answer found. made.theorems name answer (sym (keeps.theorems name) ∙ found);
+  lemmas = λ number answer found. made.lemmas number answer (ap (λ lemmas. slice_get lemmas number) (sym keeps.lemmas) ∙ found);
+}
 
--- with one more
-pub stored_made : (journal : Journal) (answer : Recorded) (name : List ℕ) (old new : List ℕ → Option Recorded) → AreMade journal old → IsMade journal answer
-    → ((other : List ℕ) → new other ≡ update bytes_eq old name (Some answer) other) → AreMade journal new
-stored_made journal answer name old new made is_made stored other found same = go (bytes_eq name other) (sym (stored other) ∙ same)
+-- what the names stand for with one theorem more
+pub stored_theorem : (answer : Recorded) (name : List ℕ) (old new : Stored) → StoresTheorem old new name answer
+    → (other : List ℕ) → theorem_of (new.theorems other) ≡ cond (bytes_eq name other) (Some answer.theorem) (theorem_of (old.theorems other))
+stored_theorem answer name old new stores other = ap theorem_of (stores.theorems other) ∙ go (bytes_eq name other)
   where
-    go : (test : Bool) → cond test (Some answer) (old other) ≡ Some found → IsMade journal found
-    go true is = (let one : answer ≡ found = cc in subst (IsMade journal) one is_made)
-    go false is = made other found is
-
--- and what the names then stand for
-pub stored_theorem : (answer : Recorded) (name : List ℕ) (old new : List ℕ → Option Recorded) → ((other : List ℕ) → new other ≡ update bytes_eq old name (Some answer) other)
-    → (other : List ℕ) → theorem_of (new other) ≡ cond (bytes_eq name other) (Some answer.theorem) (theorem_of (old other))
-stored_theorem answer name old new stored other = ap theorem_of (stored other) ∙ go (bytes_eq name other)
-  where
-    go : (test : Bool) → theorem_of (cond test (Some answer) (old other)) ≡ cond test (Some answer.theorem) (theorem_of (old other))
+    go : (test : Bool) → theorem_of (cond test (Some answer) (old.theorems other)) ≡ cond test (Some answer.theorem) (theorem_of (old.theorems other))
     go true = refl
     go false = refl
 
@@ -97,7 +93,7 @@ term_rule-answered session new (Ok made) rule term answers records = record {
   records = records;
   stands_on = answer-stands session.recorder.theory (term_rule_outcome rule session.recorder.theory term) made.theorem (term_rule-stands rule session.recorder.theory term) answers;
   scope = refl;
-  theorems = refl;
+  store = refl;
   logic = refl;
 }
 term_rule-answered session new (Err fault) rule term answers records = tt
@@ -107,7 +103,7 @@ no_growth journal = record { added = []; entries = sym (append-nil journal.entri
 
 -- a refusal before any rule
 pub nothing-grows : (session : Session) (fault : Fault) → GrowsJournal session session (Err fault)
-nothing-grows session fault = record { continues = record { grown = no_growth session.recorder; theory = refl; held = tt }; scope = refl; theorems = refl; logic = refl }
+nothing-grows session fault = record { continues = record { grown = no_growth session.recorder; theory = refl; held = tt }; scope = refl; store = refl; logic = refl }
 
 -- one more entry is a growth
 pub rule-grows : (old new : Session) (result : Result Recorded Fault) → JournalsGrow → IfOk result (AppliesRule old new) → OnErr result (new ≡ old) → GrowsJournal old new result
@@ -118,7 +114,7 @@ rule-grows old new (Ok made) grow applies kept = record {
     held = record { made = grow.made old.recorder new.recorder applies.records.step made applies.records.is_recorded; stands_on = applies.records.is_recorded.stands_on };
   };
   scope = applies.scope;
-  theorems = applies.theorems;
+  store = applies.store;
   logic = applies.logic;
 }
 rule-grows old new (Err fault) grow applies kept = subst (λ (s : Session). GrowsJournal old s (Err fault)) (sym kept) (nothing-grows old fault)
@@ -128,7 +124,7 @@ pub axiom-grows : (session : Session) (new : Journal) (result : Result Recorded 
     → IfOk result (λ made. made.theorem ≡ theorem) → IfOk result (IsRecorded session.recorder new step) → OnErr result (new ≡ session.recorder) → GrowsJournal session (over_journal session new) result
 axiom-grows session new (Ok made) step theorem grow over is recorded kept =
     rule-grows session (over_journal session new) (Ok made) grow
-    (record { records = record { step = step; is_recorded = recorded }; stands_on = ap (λ (t : Theorem). t.theory) is ∙ over; scope = refl; theorems = refl; logic = refl }) tt
+    (record { records = record { step = step; is_recorded = recorded }; stands_on = ap (λ (t : Theorem). t.theory) is ∙ over; scope = refl; store = refl; logic = refl }) tt
 axiom-grows session new (Err fault) step theorem grow over is recorded kept =
     subst (λ (j : Journal). GrowsJournal session (over_journal session j) (Err fault)) (sym kept) (nothing-grows session fault)
 
@@ -138,7 +134,7 @@ module _ (old new : Session) (result : Result Recorded Fault) (grows : GrowsJour
   rule_state = λ i. record {
     theory = grows.continues.theory i;
     variables = (scope_of (grows.scope i)).variable_type;
-    theorems = λ name. theorem_of (get_by_text (grows.theorems i) name);
+    theorems = λ name. theorem_of ((stored_of (grows.store i)).theorems name);
   }
 
   pub rule_session : JournalsGrow → LogicStays → IsSession old → IsSession new
@@ -146,7 +142,6 @@ module _ (old new : Session) (result : Result Recorded Fault) (grows : GrowsJour
     legal = subst IsLegal (sym grows.continues.theory) known.legal;
     constants = λ name. ap (λ (s : ScopeHere). (scope_of s).generic_type name) grows.scope ∙ known.constants name ∙ ap (λ (t : Theory). generic_type t name) (sym grows.continues.theory);
     types = λ name. ap (λ (s : ScopeHere). (scope_of s).declares_type name) grows.scope ∙ known.types name ∙ ap (λ (t : Theory). is_declared t name) (sym grows.continues.theory);
-    made = still_made old.recorder new.recorder (get_by_text new.theorems) grow grows.continues.grown
-        (λ name answer found. known.made name answer (sym (ap (λ ts. get_by_text ts name) grows.theorems) ∙ found));
+    made = stores-stay grow old.recorder new.recorder (stored_of new.store) grows.continues.grown (subst (λ (store : Store). IsStoreOf old.recorder (stored_of store)) (sym grows.store) known.made);
     logic = subst (HasLogic new.recorder) (sym grows.logic) (stay old.recorder new.recorder old.logic grows.continues.grown known.logic);
   }

@@ -1,8 +1,5 @@
 -- What the calls that let a session's theory grow answer.
 use Rattle.std.specs.Prelude.{◌≡◌, ◌≢◌, ℕ, List, [], Option, Some, None, Result, Ok, Err}
-use Rattle.std.specs.Map.{update}
-use Rattle.std.specs.Str.{bytes_eq}
-use Rattle.indexmap.specs.IndexMap.{get_by_text}
 use Rattle.hol_model.specs.declared.fault.Fault.{Fault}
 use Rattle.hol_model.specs.declared.fault.Fault.TheVariants.{Memory}
 use Rattle.hol_model.specs.Terms.NamedTerm.{NamedTerm, constant, equation}
@@ -14,6 +11,8 @@ use Rattle.hol_model.specs.Texts.Reading.{Scope}
 use Rattle.hol_model.specs.Scripts.Sessions.{definition_name}
 use Rattle.hol_journal.specs.Journal.{Recorded, IsMade}
 use Rattle.hol_journal.specs.Growth.{IsGrown}
+use Rattle.hol_store.specs.Stored.{StoresTheorem, KeepsStore}
+use Rattle.hol_store.specs.Store.{stored_of}
 use Rattle.hol_syntax.specs.Scope.{scope_of}
 use Rattle.hol_session.specs.declared.lines.TheoremLine.{TheoremLine}
 use Rattle.hol_session.specs.declared.session.Session.{Session}
@@ -52,12 +51,12 @@ pub record Defines (old new : Session) (name : List ℕ) (term : NamedTerm) (lin
   pub grown : IsGrown old.recorder new.recorder
   pub scope : new.scope ≡ old.scope
   pub logic : new.logic ≡ old.logic
-  pub stored : (other : List ℕ) → get_by_text new.theorems other ≡ update bytes_eq (get_by_text old.theorems) (definition_name name) (Some answer) other
+  pub stored : StoresTheorem (stored_of old.store) (stored_of new.store) (definition_name name) answer
   pub line_is : IsLineOf line (scope_of old.scope) (definition_name name) answer.theorem
 
--- the journal, the scope, the stored theorems and those from which rules are made are those of before
+-- the journal, the scope, the store and the theorems from which rules are made are those of before
 pub record KeepsSession (old new : Session) : Type 0 where
   pub recorder : new.recorder ≡ old.recorder
   pub scope : new.scope ≡ old.scope
-  pub theorems : (name : List ℕ) → get_by_text new.theorems name ≡ get_by_text old.theorems name
+  pub store : KeepsStore (stored_of old.store) (stored_of new.store)
   pub logic : new.logic ≡ old.logic

@@ -16,12 +16,12 @@ pub record AppliesRule (old new : Session) (made : Recorded) : Type 0 where
   pub records : Records old.recorder new.recorder made
   pub stands_on : made.theorem.theory ≡ old.recorder.theory
   pub scope : new.scope ≡ old.scope
-  pub theorems : new.theorems ≡ old.theorems
+  pub store : new.store ≡ old.store
   pub logic : new.logic ≡ old.logic
 
 -- after a rule the journal has grown over the same theory, what the rule answers is held, and all else is as before
 pub record GrowsJournal (old new : Session) (result : Result Recorded Fault) : Type 0 where
   pub continues : Continues old.recorder new.recorder result
   pub scope : new.scope ≡ old.scope
-  pub theorems : new.theorems ≡ old.theorems
+  pub store : new.store ≡ old.store
   pub logic : new.logic ≡ old.logic

@@ -1,12 +1,13 @@
 -- What the fields of a session stand for, and what holds of them.
 use Rattle.std.specs.Prelude.{◌≡◌, ℕ, List, Option, Some}
 use Rattle.std.specs.Option.{option_map}
-use Rattle.indexmap.specs.IndexMap.{get_by_text}
 use Rattle.hol_model.specs.Logic.Theory.{IsLegal, generic_type}
 use Rattle.hol_model.specs.Logic.KnownTerm.{is_declared}
 use Rattle.hol_model.specs.Kernel.Theorem.{Theorem}
 use Rattle.hol_model.specs.Scripts.Sessions.{State}
-use Rattle.hol_journal.specs.Journal.{Journal, Recorded, IsMade}
+use Rattle.hol_journal.specs.Journal.{Recorded}
+use Rattle.hol_store.specs.Stored.{IsStoreOf}
+use Rattle.hol_store.specs.Store.{stored_of}
 use Rattle.hol_prelude.specs.HasLogic.{HasLogic}
 use Rattle.hol_syntax.specs.Scope.{scope_of}
 use Rattle.hol_session.specs.declared.session.Session.{Session}
@@ -20,17 +21,13 @@ abbrev pub state_of : Session → State
 state_of session = record {
   theory = session.recorder.theory;
   variables = (scope_of session.scope).variable_type;
-  theorems = λ name. theorem_of (get_by_text session.theorems name);
+  theorems = λ name. theorem_of ((stored_of session.store).theorems name);
 }
 
--- the recorder made each of the stored theorems
-abbrev pub AreMade : Journal → (List ℕ → Option Recorded) → Type 0
-AreMade journal stored = (name : List ℕ) (made : Recorded) → stored name ≡ Some made → IsMade journal made
-
--- the scope is that of the theory, and the recorder made each stored theorem and the theorems from which rules are made
+-- the scope is that of the theory, and the recorder made what is stored and the theorems from which rules are made
 pub record IsSession (session : Session) : Type 0 where
   pub legal : IsLegal session.recorder.theory
   pub constants : (name : List ℕ) → (scope_of session.scope).generic_type name ≡ generic_type session.recorder.theory name
   pub types : (name : List ℕ) → (scope_of session.scope).declares_type name ≡ is_declared session.recorder.theory name
-  pub made : AreMade session.recorder (get_by_text session.theorems)
+  pub made : IsStoreOf session.recorder (stored_of session.store)
   pub logic : HasLogic session.recorder session.logic

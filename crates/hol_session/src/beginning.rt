@@ -8,6 +8,7 @@ ghost use Rattle.hol_syntax.specs.Scope.{scope_of, SetsConstant};
 ghost use Rattle.hol_session.specs.Beginning.{IsScopeOf};
 
 use hol_model::Fault;
+use hol_prelude::numbers;
 use hol_syntax::Scope;
 use hol_types::Ty;
 use std::alloc::Global;
@@ -65,12 +66,12 @@ const TRUTH: StoredTheorem<'static> = StoredTheorem {
 
 const ETA_AX: StoredTheorem<'static> = StoredTheorem {
     name: "ETA_AX",
-    number: 32,
+    number: numbers::ETA_AX,
 };
 
 const SELECT_AX: StoredTheorem<'static> = StoredTheorem {
     name: "SELECT_AX",
-    number: 33,
+    number: numbers::SELECT_AX,
 };
 
 const EXCLUDED_MIDDLE: StoredTheorem<'static> = StoredTheorem {

@@ -3,7 +3,6 @@
 
 mod beginning;
 mod derivation;
-pub mod execute;
 mod lines;
 pub mod session;
-mod theorems;
+mod stored_claims;

@@ -1,8 +1,5 @@
 // Sessions: what the commands of a script have stored.
-ghost use Rattle.std.specs.Prelude.{◌≡◌, ◌⊎◌, ◌<◌, ◌++◌, ◌∷◌, ℕ, List, [], map, length, Some, OnOk, OnErr, IfOk, IfErr, IfSome, IsErrOf, Contains, codes, string_bytes};
-ghost use Rattle.std.specs.Map.{update};
-ghost use Rattle.std.specs.Str.{bytes_eq};
-ghost use Rattle.indexmap.specs.IndexMap.{get_by_text, spare};
+ghost use Rattle.std.specs.Prelude.{◌≡◌, ◌⊎◌, ◌<◌, ◌∷◌, ℕ, List, [], map, length, Some, OnOk, OnErr, IfOk, IfErr, IsErrOf, Contains, string_bytes};
 ghost use Rattle.hol_model.specs.Scripts.Commands.{DerivedTree, by_conversion, by_premise, by_premises, by_term_and_premise, by_cases, by_witness, by_choice, RuleTree, by_term, by_pair, by_abs, by_inst, by_inst_type, by_derived, thm_command, show_command, var_command, def_command, newtype_command, newconst_command, SpellsCommand};
 ghost use Rattle.hol_model.specs.Kernel.Outcome.{Answers};
 ghost use Rattle.hol_model.specs.Texts.Reading.{type_meaning, meaning};
@@ -13,26 +10,26 @@ ghost use Rattle.hol_model.specs.Scripts.Sessions as spec;
 ghost use Rattle.hol_model.specs.Texts.TermGrammar.{TermTree};
 ghost use Rattle.hol_model.specs.Texts.TypeGrammar.{TypeTree, type_steps};
 ghost use Rattle.hol_model.specs.declared.fault.Fault.TheVariants.{Memory, TooLong};
-ghost use Rattle.hol_syntax.specs.Scope.{scope_of};
 ghost use Rattle.hol_grammar.specs.Steps.{flat_steps_of};
 ghost use Rattle.hol_grammar.specs.TermSteps.{term_steps, flat_steps};
 ghost use Rattle.hol_grammar.specs.Views.{steps_of};
 ghost use Rattle.hol_session.specs.Answers.{Turns, AnswersRule, AnswersItems};
 ghost use Rattle.hol_prelude.specs.Prelude.{prelude_theorems};
-ghost use Rattle.hol_journal.specs.Journal.{Journal, Recorded, IsMade, theorem_in};
+ghost use Rattle.hol_journal.specs.Journal.{IsMade, theorem_in};
 ghost use Rattle.hol_log.specs.LogAccepted.{log_claim};
 ghost use Rattle.hol_log.specs.Pruning.{HaveIdentifiers};
 ghost use Rattle.hol_session.specs.Growth.{IsRefused, Defines, KeepsSession};
 ghost use Rattle.hol_session.specs.Recording.{AppliesRule, GrowsJournal};
 ghost use Rattle.hol_session.specs.Beginning.{logical_state, AreStoredTheorems, StoresNumbered};
-ghost use Rattle.hol_session.specs.SessionState.{state_of, IsSession, AreMade};
+ghost use Rattle.hol_store.specs.Store.{stored_of};
+ghost use Rattle.hol_session.specs.SessionState.{state_of, IsSession};
 ghost use Rattle.hol_session.specs.StoredClaims.{stored_claims, IsAcceptedLog, IsLongLog};
 ghost use Rattle.hol_command.specs.Views.{IsRule, IsDerived, IsTermPair, AreTermPairs, IsTypePair, AreTypePairs};
 
 use crate::beginning::{STORED, StoredTheorem, logical_scope};
 use crate::derivation::{on_premise, on_premises, on_term, on_term_and_premise, on_theorems};
 use crate::lines::{TheoremLine, definition_line, definition_name, is_theorem_name, theorem_line};
-use crate::theorems::{claims, stored};
+use crate::stored_claims::claims;
 use hol_bool::disj_cases;
 use hol_command::command::Rule;
 use hol_command::derived::Derived;
@@ -45,10 +42,10 @@ use hol_model::{Axiom, Fault, PairRule, PremiseRule, PremisesRule, TermPremiseRu
 use hol_prelude::{Bool, logic_stays, prelude, theorem_of};
 use hol_quant::{choose, exists};
 use hol_sound::sound;
+use hol_store::{Store, stores_stay};
 use hol_syntax::{Scope, build_type, term_of_steps};
 use hol_terms::Term;
 use hol_types::Ty;
-use indexmap::IndexMap;
 use std::alloc::Global;
 
 /// What an accepted command prints.
@@ -64,7 +61,7 @@ pub enum Printed {
 pub struct Session {
     recorder: Recorder,
     scope: Scope,
-    theorems: IndexMap<String, Rec>,
+    store: Store,
     logic: Bool,
 }
 
@@ -107,7 +104,7 @@ impl Session {
         Ok(Session {
             recorder,
             scope,
-            theorems: IndexMap::new(alloc),
+            store: Store::new(alloc),
             logic,
         })
     }
@@ -154,7 +151,7 @@ impl Session {
         if !is_theorem_name(name) {
             return Err(Fault::BadName);
         }
-        if stored(&self.theorems, name).is_some() {
+        if self.store.get(name).is_some() {
             return Err(Fault::NameTaken);
         }
         journals_grow();
@@ -188,10 +185,12 @@ impl Session {
         let Ok(key) = String::from_str(alloc, name) else {
             return Err(Fault::Memory);
         };
-        match self.theorems.insert(key, theorem) {
-            Ok(_) => Ok(()),
-            Err(_) => Err(Fault::Memory),
+        match self.store.room() {
+            Ok(()) => {}
+            Err(fault) => return Err(fault),
         }
+        self.store.put_made(key, theorem);
+        Ok(())
     }
 
     /// `show NAME`: prints a stored theorem again.
@@ -200,7 +199,7 @@ impl Session {
         ensures { (text : List ℕ) → SpellsCommand text (show_command name.now)
             → Turns (state_of self.now) (Some text) result (state_of self.now) }
     {
-        let Some(theorem) = stored(&self.theorems, name) else {
+        let Some(theorem) = self.store.get(name) else {
             return Err(Fault::UnknownName);
         };
         sound();
@@ -315,12 +314,13 @@ impl Session {
     /// and TooLong, where the text would be longer than the limit on texts.
     pub fn log_text<'a>(&'a self, alloc: Global, names: &'a [String]) -> Result<Vec<u8>, Fault>
         requires session { IsSession self.now }
-        requires named { HaveIdentifiers (stored_claims (get_by_text self.now.theorems) (map string_bytes names.now)) }
-        ensures ok { IfOk result (λ text. IsAcceptedLog (map log_claim (stored_claims (get_by_text self.now.theorems) (map string_bytes names.now))) text.items) }
-        ensures too_long { IsErrOf result TooLong → IsLongLog (map log_claim (stored_claims (get_by_text self.now.theorems) (map string_bytes names.now))) }
+        requires named { HaveIdentifiers (stored_claims ((stored_of self.now.store).theorems) (map string_bytes names.now)) }
+        ensures ok { IfOk result (λ text. IsAcceptedLog self.now.recorder (map log_claim (stored_claims ((stored_of self.now.store).theorems) (map string_bytes names.now))) text.items) }
+        ensures too_long { IsErrOf result TooLong → IsLongLog self.now.recorder (map log_claim (stored_claims ((stored_of self.now.store).theorems) (map string_bytes names.now))) }
         ensures refusals { IfErr result (Contains (TooLong ∷ Memory ∷ [])) }
     {
-        match claims(alloc, &self.theorems, names) {
+        let _entries = self.recorder.stored();
+        match claims(alloc, &self.store, names) {
             Ok(claims) => log_text(&self.recorder, alloc, &claims),
             Err(fault) => Err(fault),
         }
@@ -341,8 +341,9 @@ impl Session {
             Ok(None) => return Err(self.refusal_of_definition(alloc, name, term)),
             Err(fault) => return Err(fault),
         };
-        if self.theorems.reserve(1).is_err() {
-            return Err(Fault::Memory);
+        match self.store.room() {
+            Ok(()) => {}
+            Err(fault) => return Err(fault),
         }
         journals_grow();
         let theorem = match self.recorder.define(alloc, name, term) {
@@ -350,22 +351,8 @@ impl Session {
             Err(fault) => return Err(fault),
         };
         let _theorem = self.recorder.thm(&theorem).concl();
-        self.put(key, theorem);
+        self.store.put_made(key, theorem);
         Ok(line)
-    }
-
-    // Stores a theorem, for which there is room.
-    fn put(&mut self, key: String, theorem: Rec)
-        requires { 0 < spare self.old.theorems }
-        ensures stored { (other : List ℕ) → get_by_text self.new.theorems other ≡ update bytes_eq (get_by_text self.old.theorems) (string_bytes key) (Some theorem) other }
-        ensures recorder { self.new.recorder ≡ self.old.recorder }
-        ensures scope { self.new.scope ≡ self.old.scope }
-        ensures logic { self.new.logic ≡ self.old.logic }
-    {
-        match self.theorems.insert(key, theorem) {
-            Ok(_) => {}
-            Err(_) => unreachable!(),
-        }
     }
 
     // The refusal of a definition that the theory does not accept.
@@ -494,10 +481,10 @@ impl Session {
         ensures applies { IfOk result (AppliesRule self.old self.new) }
         ensures kept { OnErr result (self.new ≡ self.old) }
     {
-        let Some(first) = stored(&self.theorems, first) else {
+        let Some(first) = self.store.get(first) else {
             return Err(Fault::UnknownName);
         };
-        let Some(second) = stored(&self.theorems, second) else {
+        let Some(second) = self.store.get(second) else {
             return Err(Fault::UnknownName);
         };
         on_theorems(alloc, &mut self.recorder, rule, first, second)
@@ -515,7 +502,7 @@ impl Session {
             Ok(binder) => binder,
             Err(fault) => return Err(fault),
         };
-        match stored(&self.theorems, name) {
+        match self.store.get(name) {
             Some(theorem) => self.recorder.abs(alloc, &binder, theorem),
             None => Err(Fault::UnknownName),
         }
@@ -540,7 +527,7 @@ impl Session {
         ensures answers { AnswersRule (theorem_in result) (state_of self.old) (by_derived (by_premise rule name.now)) }
         ensures grows { GrowsJournal self.old self.new result }
     {
-        match stored(&self.theorems, name) {
+        match self.store.get(name) {
             Some(premise) => on_premise(alloc, &mut self.recorder, &self.logic, rule, premise),
             None => Err(Fault::UnknownName),
         }
@@ -558,10 +545,10 @@ impl Session {
         ensures answers { AnswersRule (theorem_in result) (state_of self.old) (by_derived (by_premises rule first.now second.now)) }
         ensures grows { GrowsJournal self.old self.new result }
     {
-        let Some(first) = stored(&self.theorems, first) else {
+        let Some(first) = self.store.get(first) else {
             return Err(Fault::UnknownName);
         };
-        let Some(second) = stored(&self.theorems, second) else {
+        let Some(second) = self.store.get(second) else {
             return Err(Fault::UnknownName);
         };
         on_premises(alloc, &mut self.recorder, &self.logic, rule, first, second)
@@ -584,7 +571,7 @@ impl Session {
             Ok(term) => term,
             Err(fault) => return Err(fault),
         };
-        match stored(&self.theorems, name) {
+        match self.store.get(name) {
             Some(premise) => on_term_and_premise(
                 alloc,
                 &mut self.recorder,
@@ -609,13 +596,13 @@ impl Session {
         ensures answers { AnswersRule (theorem_in result) (state_of self.old) (by_derived (by_cases disjunction.now first.now second.now)) }
         ensures grows { GrowsJournal self.old self.new result }
     {
-        let Some(disjunction) = stored(&self.theorems, disjunction) else {
+        let Some(disjunction) = self.store.get(disjunction) else {
             return Err(Fault::UnknownName);
         };
-        let Some(first) = stored(&self.theorems, first) else {
+        let Some(first) = self.store.get(first) else {
             return Err(Fault::UnknownName);
         };
-        let Some(second) = stored(&self.theorems, second) else {
+        let Some(second) = self.store.get(second) else {
             return Err(Fault::UnknownName);
         };
         disj_cases(
@@ -649,7 +636,7 @@ impl Session {
             Ok(witness) => witness,
             Err(fault) => return Err(fault),
         };
-        match stored(&self.theorems, name) {
+        match self.store.get(name) {
             Some(premise) => exists(
                 &mut self.recorder,
                 alloc,
@@ -679,10 +666,10 @@ impl Session {
             Ok(variable) => variable,
             Err(fault) => return Err(fault),
         };
-        let Some(first) = stored(&self.theorems, first) else {
+        let Some(first) = self.store.get(first) else {
             return Err(Fault::UnknownName);
         };
-        let Some(second) = stored(&self.theorems, second) else {
+        let Some(second) = self.store.get(second) else {
             return Err(Fault::UnknownName);
         };
         choose(
@@ -739,7 +726,7 @@ impl Session {
             Ok(theta) => theta,
             Err(fault) => return Err(fault),
         };
-        match stored(&self.theorems, name) {
+        match self.store.get(name) {
             Some(theorem) => self.recorder.inst(alloc, &theta, theorem),
             None => Err(Fault::UnknownName),
         }
@@ -789,7 +776,7 @@ impl Session {
             Ok(theta) => theta,
             Err(fault) => return Err(fault),
         };
-        match stored(&self.theorems, name) {
+        match self.store.get(name) {
             Some(theorem) => self.recorder.inst_type(alloc, &theta, theorem),
             None => Err(Fault::UnknownName),
         }

@@ -312,8 +312,8 @@ fn push_negations(script: &mut Vec<u8>, command: &[u8], negations: usize) -> Res
     Ok(())
 }
 
-/// A script on formulas of the greatest height under negations, and of one past it.
-pub(crate) fn negations(alloc: Global) -> Result<Vec<u8>, Fault> {
+// A script on formulas of the greatest height under negations, and of one past it.
+fn negations(alloc: Global) -> Result<Vec<u8>, Fault> {
     let mut script = Vec::new(alloc);
     push_negations(&mut script, b"thm a = ASSUME `", 1999)?;
     push_negations(&mut script, b"thm b = ASSUME `", 2000)?;

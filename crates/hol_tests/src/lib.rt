@@ -1,15 +1,11 @@
-//! Tests of scripts and logs: what no contract says. They stand here, beside none of the functions, since a crate with
+//! Tests of scripts: what no contract says. They stand here, beside none of the functions, since a crate with
 //! tests of its own is proved twice.
 #![tactic(auto)]
 
 #[cfg(test)]
 mod derived_script_tests;
 #[cfg(test)]
-mod log_tests;
-#[cfg(test)]
 mod replacement_tests;
-#[cfg(test)]
-mod run_log_tests;
 #[cfg(test)]
 mod script_tests;
 #[cfg(test)]

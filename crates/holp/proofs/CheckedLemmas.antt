@@ -14,10 +14,10 @@ never_both outcome state refusal is other = cc
 
 pub logs_are_checked : LogsAreChecked
 logs_are_checked = record {
-  claims = λ claims answered log is has.
+  claims = λ claims answered log journal is has.
       let same : log_answer log ≡ Ok has.state = ap log_answer has.read.whole ∙ has.accepted in
       has.listed ∙ ap (λ (state : LogState). state.claims) (same_state (log_answer log) has.state is.state same is.accepted) ∙ is.claimed;
-  no_refusal = λ claims log line cause is refused.
+  no_refusal = λ claims log line cause journal is refused.
       never_both (log_answer log) is.state (line, cause) is.accepted (ap log_answer refused.read.whole ∙ refused.refused);
-  within_limit = λ claims log is longer. absurd (omega (arith, is.within_limit, longer));
+  within_limit = λ claims log journal is longer. absurd (omega (arith, is.within_limit, longer));
 }

@@ -4,7 +4,7 @@ ghost use Rattle.std.specs.Prelude.{◌≡◌, false, IfOk};
 use crate::laws::logs_are_checked;
 use crate::new_file::NewFile;
 use crate::status::status;
-use hol_check::{check, migrate, write_claims};
+use hol_check::{Claim, check, check_log, migrate, write_claims, write_entries};
 use hol_model::{Fault, FromRead, IntoWrite};
 use hol_script::run;
 use std::fs::File;
@@ -56,7 +56,21 @@ pub(crate) fn check_file(rt: &HostRuntime, log: &str) -> Result<u64, Fault> {
     let alloc = rt.alloc();
     let mut reader = open(rt, log)?;
     let claims = check(alloc, &mut reader)?;
-    write_claims(alloc, &claims, &mut IntoWrite::new(io::writer(rt)))?;
+    print_claims(rt, &claims)
+}
+
+/// Checks a log, and prints the entries of its theory, then its claims and their number.
+pub(crate) fn check_file_with_theory(rt: &HostRuntime, log: &str) -> Result<u64, Fault> {
+    let alloc = rt.alloc();
+    let mut reader = open(rt, log)?;
+    let log = check_log(alloc, &mut reader)?;
+    write_entries(alloc, &log.entries, &mut IntoWrite::new(io::writer(rt)))?;
+    print_claims(rt, &log.claims)
+}
+
+// Prints claims and their number.
+fn print_claims(rt: &HostRuntime, claims: &[Claim]) -> Result<u64, Fault> {
+    write_claims(rt.alloc(), claims, &mut IntoWrite::new(io::writer(rt)))?;
     match println!(rt; "claims: {}", claims.len()) {
         Ok(()) => Ok(0),
         Err(_) => Err(Fault::WriteFault),

@@ -1,4 +1,4 @@
-//! Runs proof scripts and checks proof logs: `holp run SCRIPT [--log FILE]`, `holp check LOG`, `holp migrate LOG NEW`.
+//! Runs proof scripts and checks proof logs: `holp run SCRIPT [--log FILE]`, `holp check [--theory] LOG`, `holp migrate LOG NEW`.
 #![tactic(auto)]
 
 mod files;
@@ -7,7 +7,7 @@ mod new_file;
 mod status;
 
 use clap::{Arg, ArgAction, ArgMatches, Command};
-use files::{check_file, migrate_file, run_file, run_file_with_log, tell};
+use files::{check_file, check_file_with_theory, migrate_file, run_file, run_file_with_log, tell};
 use std::alloc::Global;
 use std::env;
 use std::process::ExitCode;
@@ -34,6 +34,12 @@ fn command_line<'a>(alloc: Global) -> anyhow::Result<Command<'a>> {
         )?;
     let check = Command::new(alloc, "check")
         .about("Checks a proof log and lists its claims")
+        .arg(
+            Arg::new(alloc, "theory")
+                .long("theory")
+                .help("Lists the definitions and declarations of the log too")
+                .action(ArgAction::SetTrue),
+        )?
         .arg(file_argument(alloc, "LOG", "The file of the proof log"))?;
     let migrate = Command::new(alloc, "migrate")
         .about("Checks a proof log and writes it in the second version")
@@ -77,7 +83,13 @@ fn run_command(rt: &HostRuntime) -> anyhow::Result<u8> {
         return Ok(tell(rt, answer)?);
     }
     if let Some(check) = matches.subcommand_matches("check") {
-        return Ok(tell(rt, check_file(rt, value(check, "LOG")))?);
+        let log = value(check, "LOG");
+        let answer = if check.get_flag("theory") {
+            check_file_with_theory(rt, log)
+        } else {
+            check_file(rt, log)
+        };
+        return Ok(tell(rt, answer)?);
     }
     if let Some(migrate) = matches.subcommand_matches("migrate") {
         let answer = migrate_file(rt, value(migrate, "LOG"), value(migrate, "NEW"));

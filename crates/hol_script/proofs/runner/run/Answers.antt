@@ -1,4 +1,4 @@
-use Rattle.std.proofs.Common.{List, ℕ, sym, subst, inr}
+use Rattle.std.proofs.Common.{◌≡◌, List, ℕ, false, sym, subst, inr}
 use Rattle.hol_model.specs.declared.fault.Fault.TheVariants.{TooLong, WriteFault}
 use Rattle.hol_model.specs.Scripts.Sessions.{Tells}
 use Rattle.hol_script.proofs.RunLemmas.{unread, ends_by}
@@ -14,10 +14,15 @@ returns-in-Err-run_script-clause-refusals g c = listed_of_session c.in-Err-run_s
 pub write_log-requires-clause-named : goal.write_log-requires-clause-named
 write_log-requires-clause-named g c = run_is_named c.in-Ok-run_script.progress c.in-Ok-run_script.ensures.ok
 
-pub returns-in-Ok-write_log-clause-logged : goal.returns-in-Ok-write_log-clause-logged
-returns-in-Ok-write_log-clause-logged g c = λ wanted.
+pub returns-then-not-wants_log-clause-ok : goal.returns-then-not-wants_log-clause-ok
+returns-then-not-wants_log-clause-ok g c =
     let told = subst (λ (bytes : List ℕ). Tells (g.R.Source.remaining c.args.reader.now) bytes) (sym c.as_slice.ensures.value) c.in-Ok.ensures.all in
-    completes_log c.in-Ok-run_script.progress (ends_by c.as_slice.result.now told c.in-Ok-run_script.ensures.ok) c.in-Ok-write_log.ensures.ok
+    completes_log c.in-Ok-run_script.progress (ends_by c.as_slice.result.now told c.in-Ok-run_script.ensures.ok) (λ is. (let not : c.args.wants_log ≡ false = c.if-not-wants_log.true in cc))
+
+pub returns-in-Ok-write_log-clause-ok : goal.returns-in-Ok-write_log-clause-ok
+returns-in-Ok-write_log-clause-ok g c =
+    let told = subst (λ (bytes : List ℕ). Tells (g.R.Source.remaining c.args.reader.now) bytes) (sym c.as_slice.ensures.value) c.in-Ok.ensures.all in
+    completes_log c.in-Ok-run_script.progress (ends_by c.as_slice.result.now told c.in-Ok-run_script.ensures.ok) (λ is. c.in-Ok-write_log.ensures.ok)
 
 pub returns-clause-err : goal.returns-clause-err
 returns-clause-err g c =

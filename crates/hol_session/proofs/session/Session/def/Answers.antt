@@ -6,7 +6,7 @@ use Rattle.hol_model.specs.Scripts.Sessions.{def_is_refused}
 use Rattle.hol_syntax.specs.Scope.{scope_of}
 use Rattle.hol_session.specs.SessionState.{state_of, IsSession}
 use Rattle.hol_session.proofs.SessionLemmas.{refuses_by, forgets_here}
-use Rattle.hol_session.proofs.GrowthLemmas.{made, with_scope, kept_state, kept_session, definition-not_new, not_some, never, removed_after, def_session, def_turns, def_outcome-is, def-argument_refused}
+use Rattle.hol_session.proofs.GrowthLemmas.{made, with_scope, kept_state, kept_session, definition-not_new, not_some, never, removed_after, def_session, def_turns, def_outcome-is, def-argument_refused, same_store}
 use Rattle.hol_session.proofs.session.Session.def.Goals as goal
 
 pub returns-in-Err-clause-turns : goal.returns-in-Err-clause-turns
@@ -24,24 +24,24 @@ pub returns-in-Err-NameTaken-clause-turns : goal.returns-in-Err-NameTaken-clause
 returns-in-Err-NameTaken-clause-turns c = λ text tree spelled steps.
     let old = c.args.self.now in
     refuses_by (state_of old) (state_of c.refusal_of_definition.new.self) (Some text) c.refusal_of_definition.result
-    (ap state_of c.refusal_of_definition.ensures.kept ∙ kept_state old (made old old.recorder c.add_const.new.self) refl c.in-Err-NameTaken.ensures.kept (λ name. refl)) c.refusal_of_definition.ensures.fault
+    (ap state_of c.refusal_of_definition.ensures.kept ∙ kept_state old (made old old.recorder c.add_const.new.self) refl c.in-Err-NameTaken.ensures.kept (same_store _)) c.refusal_of_definition.ensures.fault
     (λ refused. def_is_refused spelled (def_outcome-is (state_of old) c.args.name.now tree c.in-Ok.term (c.in-Ok.ensures tree steps) ∙ refused))
 
 pub returns-in-Err-NameTaken-clause-kept : goal.returns-in-Err-NameTaken-clause-kept
 returns-in-Err-NameTaken-clause-kept c =
     let old = c.args.self.now in
-    subst IsSession (sym c.refusal_of_definition.ensures.kept) (kept_session old (made old old.recorder c.add_const.new.self) c.requires refl c.in-Err-NameTaken.ensures.kept (λ name. refl) refl)
+    subst IsSession (sym c.refusal_of_definition.ensures.kept) (kept_session old (made old old.recorder c.add_const.new.self) c.requires refl c.in-Err-NameTaken.ensures.kept (same_store _) refl)
 
 pub returns-in-Err-add_const-clause-turns : goal.returns-in-Err-add_const-clause-turns
 returns-in-Err-add_const-clause-turns c = λ text tree spelled steps.
     let old = c.args.self.now in
     forgets_here (state_of old) (state_of (made old old.recorder c.add_const.new.self)) (Some text) Memory
-    (kept_state old (made old old.recorder c.add_const.new.self) refl c.in-Err-add_const.ensures.kept (λ name. refl)) refl
+    (kept_state old (made old old.recorder c.add_const.new.self) refl c.in-Err-add_const.ensures.kept (same_store _)) refl
 
 pub returns-in-Err-add_const-clause-kept : goal.returns-in-Err-add_const-clause-kept
 returns-in-Err-add_const-clause-kept c =
     let old = c.args.self.now in
-    kept_session old (made old old.recorder c.add_const.new.self) c.requires refl c.in-Err-add_const.ensures.kept (λ name. refl) refl
+    kept_session old (made old old.recorder c.add_const.new.self) c.requires refl c.in-Err-add_const.ensures.kept (same_store _) refl
 
 pub returns-in-Ok-define-clause-turns : goal.returns-in-Ok-define-clause-turns
 returns-in-Ok-define-clause-turns c = λ text tree spelled steps.
@@ -59,7 +59,7 @@ returns-clause-turns c = λ text tree spelled steps.
     let keeps = removed_after old c.add_const.new.self c.define.new.self c.remove_const.new.self c.args.name.now c.ty.result.now c.in-Ok-add_const.ensures.ok c.in-Err-define.ensures.kept c.remove_const.ensures
     (not_some ((scope_of old.scope).generic_type c.args.name.now) (λ known. never (c.in-Ok-add_const.ensures.taken.1 known))) in
     refuses_by (state_of old) (state_of new) (Some text) c.in-Err-define.fault
-    (kept_state old new c.in-Err-define.ensures.kept.recorder keeps c.in-Err-define.ensures.kept.theorems) c.in-Err-define.ensures.err
+    (kept_state old new c.in-Err-define.ensures.kept.recorder keeps c.in-Err-define.ensures.kept.store) c.in-Err-define.ensures.err
     (λ refused. def_is_refused spelled (def_outcome-is (state_of old) c.args.name.now tree c.in-Ok.term (c.in-Ok.ensures tree steps) ∙ refused))
 
 pub returns-clause-kept : goal.returns-clause-kept
@@ -68,4 +68,4 @@ returns-clause-kept c =
     let new = with_scope c.define.new.self c.remove_const.new.self in
     let keeps = removed_after old c.add_const.new.self c.define.new.self c.remove_const.new.self c.args.name.now c.ty.result.now c.in-Ok-add_const.ensures.ok c.in-Err-define.ensures.kept c.remove_const.ensures
     (not_some ((scope_of old.scope).generic_type c.args.name.now) (λ known. never (c.in-Ok-add_const.ensures.taken.1 known))) in
-    kept_session old new c.requires c.in-Err-define.ensures.kept.recorder keeps c.in-Err-define.ensures.kept.theorems c.in-Err-define.ensures.kept.logic
+    kept_session old new c.requires c.in-Err-define.ensures.kept.recorder keeps c.in-Err-define.ensures.kept.store c.in-Err-define.ensures.kept.logic

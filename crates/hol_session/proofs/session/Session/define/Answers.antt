@@ -1,14 +1,11 @@
-use Rattle.std.proofs.Common.{◌≡◌, ℕ, List, [], Some, ap, sym, subst, ◌∙◌, arith}
+use Rattle.std.proofs.Common.{ℕ, List, [], Some, ap, refl, sym, ◌∙◌}
 use Rattle.std.specs.Prelude.{cond}
 use Rattle.std.specs.Str.{bytes_eq}
-use Rattle.std.proofs.lemmas.Map.Text.{text_keys}
-use Rattle.indexmap.specs.IndexMap.{get_by_text}
 use Rattle.hol_model.specs.Terms.NamedTerm.{constant, equation}
 use Rattle.hol_model.specs.Logic.Legality.{own_type}
 use Rattle.hol_model.specs.Scripts.Sessions.{definition_name}
 use Rattle.hol_syntax.specs.Scope.{scope_of}
-use Rattle.hol_journal.specs.Journal.{Journal, IsMade}
-use Rattle.hol_journal.specs.Growth.{IsGrown}
+use Rattle.hol_store.specs.Store.{stored_of}
 use Rattle.hol_session.specs.Answers.{IsLineOf}
 use Rattle.hol_session.proofs.GrowthLemmas.{definition-line}
 use Rattle.hol_session.proofs.session.Session.define.Goals as goal
@@ -20,21 +17,23 @@ returns-clause-ok c =
     let grow = c.journals_grow.ensures in
     let before = c.args.self.now.recorder in
     let after = c.define.new.self in
-    let put = sym c.put.ensures.recorder in
-    let roomy : (other : List ℕ) → get_by_text c.reserve.new.self other ≡ get_by_text c.args.self.now.theorems other = λ other. grind (arith, text_keys) in
     let made : IsLineOf c.in-Ok-Some.line (scope_of c.args.self.now.scope) c.as_str.result.now (record { theory = []; hypotheses = []; conclusion = equation (constant c.args.name.now (own_type c.args.term.now)) c.args.term.now }) =
     rw c.in-Ok-Some.field-0-is at c.in-Ok-Some.ensures in
     record {
       answer = answer;
       outcome = c.in-Ok-define.ensures.outcome;
       is_theorem = rw c.thm.ensures at c.concl-theorem.ensures.theorem;
-      theory = ap (λ (j : Journal). j.theory) c.put.ensures.recorder ∙ sym recorded.stands_on;
-      made = subst (λ (j : Journal). IsMade j answer) put (grow.made before after _ answer recorded);
-      grown = subst (λ (j : Journal). IsGrown before j) put (grow.grown before after _ answer recorded);
-      scope = c.put.ensures.scope;
-      logic = c.put.ensures.logic;
-      stored = λ other. c.put.ensures.stored other ∙ ap (λ (key : List ℕ). cond (bytes_eq key other) (Some answer) (get_by_text c.reserve.new.self other)) c.in-Ok.ensures.ok
-          ∙ ap (λ found. cond (bytes_eq (definition_name c.args.name.now) other) (Some answer) found) (roomy other);
+      theory = sym recorded.stands_on;
+      made = grow.made before after _ answer recorded;
+      grown = grow.grown before after _ answer recorded;
+      scope = refl;
+      logic = refl;
+      stored = record {
+        theorems = λ other. c.put_made.ensures.stored.theorems other
+            ∙ ap (λ (key : List ℕ). cond (bytes_eq key other) (Some answer) ((stored_of c.room.new.self).theorems other)) c.in-Ok.ensures.ok
+            ∙ ap (λ found. cond (bytes_eq (definition_name c.args.name.now) other) (Some answer) found) (c.room.ensures.kept.theorems other);
+        lemmas = c.put_made.ensures.stored.lemmas ∙ c.room.ensures.kept.lemmas;
+      };
       line_is = definition-line before.theory (scope_of c.args.self.now.scope) c.args.name.now c.as_str.result.now c.args.term.now answer.theorem c.in-Ok-Some.line
           c.in-Ok-define.ensures.outcome (c.as_str.ensures.value ∙ c.in-Ok.ensures.ok) made;
     }

@@ -7,4 +7,4 @@ use Rattle.hol_session.proofs.session.Session.inst_type.Goals as goal
 pub returns-in-Some-clause-answers : goal.returns-in-Some-clause-answers
 returns-in-Some-clause-answers c = λ trees matched.
     inst_type-answers (theorem_in c.inst_type.result) (state_of c.args.self.now) trees c.args.name.now c.in-Ok.theta.items c.deref.result.now c.in-Some.theorem.now.theorem
-    (c.in-Ok.ensures trees matched) c.deref.ensures.value (ap theorem_of (sym c.in-Some.ensures)) c.inst_type.ensures.outcome
+    (c.in-Ok.ensures trees matched) c.deref.ensures.value (ap theorem_of (sym c.in-Some.ensures.found)) c.inst_type.ensures.outcome

@@ -1,5 +1,5 @@
 use Rattle.std.proofs.Common.{◌≡◌, ◌∙◌, ap, sym, subst, List, map, string_bytes}
-use Rattle.indexmap.specs.IndexMap.{get_by_text}
+use Rattle.hol_store.specs.Store.{stored_of}
 use Rattle.hol_log.specs.Claims.{claims_of}
 use Rattle.hol_log.specs.LogWriting.{Claimed}
 use Rattle.hol_log.specs.Pruning.{AreMade, HaveIdentifiers}
@@ -9,24 +9,24 @@ use Rattle.hol_session.specs.StoredClaims.{stored_claims}
 
 pub log_text-requires : goal.log_text-requires
 log_text-requires c =
-    let stored = get_by_text c.args.self.now.theorems in
-    let claimed = stored_claims stored (map string_bytes c.args.names.now) in
+    let stored = stored_of c.args.self.now.store in
+    let claimed = stored_claims stored.theorems (map string_bytes c.args.names.now) in
     let same : claims_of c.deref.result.now ≡ claimed = ap claims_of c.deref.ensures.value ∙ c.in-Ok.ensures.ok in
     subst (λ (cs : List Claimed). AreMade c.args.self.now.recorder cs) (sym same) (stored_claims-made c.args.self.now.recorder stored (map string_bytes c.args.names.now) c.requires.session.made)
 
 pub returns-in-Ok-clause-ok : goal.returns-in-Ok-clause-ok
 returns-in-Ok-clause-ok c =
-    let stored = get_by_text c.args.self.now.theorems in
-    let claimed = stored_claims stored (map string_bytes c.args.names.now) in
+    let stored = stored_of c.args.self.now.store in
+    let claimed = stored_claims stored.theorems (map string_bytes c.args.names.now) in
     let same : claims_of c.deref.result.now ≡ claimed = ap claims_of c.deref.ensures.value ∙ c.in-Ok.ensures.ok in
-    log_answers c.log_text.result c.args.self.now.recorder (claims_of c.deref.result.now) claimed same
+    log_answers c.log_text.result c.args.self.now.recorder (claims_of c.deref.result.now) claimed c.stored-entries.ensures.journal same
     (stored_claims-made c.args.self.now.recorder stored (map string_bytes c.args.names.now) c.requires.session.made)
     c.log_text.ensures.pruned (c.log_text.ensures.accepted (subst HaveIdentifiers (sym same) c.requires.named)) c.log_text.ensures.within_limit
 
 pub returns-in-Ok-clause-too_long : goal.returns-in-Ok-clause-too_long
 returns-in-Ok-clause-too_long c = λ is.
-    let stored = get_by_text c.args.self.now.theorems in
-    let claimed = stored_claims stored (map string_bytes c.args.names.now) in
+    let stored = stored_of c.args.self.now.store in
+    let claimed = stored_claims stored.theorems (map string_bytes c.args.names.now) in
     let same : claims_of c.deref.result.now ≡ claimed = ap claims_of c.deref.ensures.value ∙ c.in-Ok.ensures.ok in
-    long_log c.args.self.now.recorder (claims_of c.deref.result.now) claimed same
+    long_log c.args.self.now.recorder (claims_of c.deref.result.now) claimed c.stored-entries.ensures.journal same
     (stored_claims-made c.args.self.now.recorder stored (map string_bytes c.args.names.now) c.requires.session.made) (c.log_text.ensures.too_long is)

@@ -8,7 +8,7 @@ use Rattle.hol_session.specs.Answers.{Turns}
 use Rattle.hol_syntax.specs.Scope.{scope_of}
 use Rattle.hol_session.specs.SessionState.{state_of, IsSession}
 use Rattle.hol_session.proofs.SessionLemmas.{is_silent, refuses_by, forgets_here}
-use Rattle.hol_session.proofs.GrowthLemmas.{made, kept_state, kept_session, const-not_new, not_some, never, const_removed, grown_state, const_session, newconst_outcome-is, newconst-argument_refused}
+use Rattle.hol_session.proofs.GrowthLemmas.{made, kept_state, kept_session, const-not_new, not_some, never, const_removed, grown_state, const_session, newconst_outcome-is, newconst-argument_refused, same_store}
 use Rattle.hol_session.proofs.session.Session.newconst.Goals as goal
 
 pub returns-in-Err-clause-turns : goal.returns-in-Err-clause-turns
@@ -26,13 +26,13 @@ pub returns-in-Err-NameTaken-clause-turns : goal.returns-in-Err-NameTaken-clause
 returns-in-Err-NameTaken-clause-turns c = λ text tree spelled steps.
     let old = c.args.self.now in
     refuses_by (state_of old) (state_of c.refusal_of_const.new.self) (Some text) c.refusal_of_const.result
-    (ap state_of c.refusal_of_const.ensures.kept ∙ kept_state old (made old old.recorder c.add_const.new.self) refl c.in-Err-NameTaken.ensures.kept (λ name. refl)) c.refusal_of_const.ensures.fault
+    (ap state_of c.refusal_of_const.ensures.kept ∙ kept_state old (made old old.recorder c.add_const.new.self) refl c.in-Err-NameTaken.ensures.kept (same_store _)) c.refusal_of_const.ensures.fault
     (λ refused. newconst_is_refused spelled (newconst_outcome-is (state_of old) c.args.name.now tree c.in-Ok.ty (c.in-Ok.ensures tree steps) ∙ refused))
 
 pub returns-in-Err-NameTaken-clause-kept : goal.returns-in-Err-NameTaken-clause-kept
 returns-in-Err-NameTaken-clause-kept c =
     let old = c.args.self.now in
-    subst IsSession (sym c.refusal_of_const.ensures.kept) (kept_session old (made old old.recorder c.add_const.new.self) c.requires refl c.in-Err-NameTaken.ensures.kept (λ name. refl) refl)
+    subst IsSession (sym c.refusal_of_const.ensures.kept) (kept_session old (made old old.recorder c.add_const.new.self) c.requires refl c.in-Err-NameTaken.ensures.kept (same_store _) refl)
 
 pub returns-in-Ok-new_const-clause-turns : goal.returns-in-Ok-new_const-clause-turns
 returns-in-Ok-new_const-clause-turns c = λ text tree spelled steps.
@@ -52,7 +52,7 @@ returns-clause-turns c = λ text tree spelled steps.
     let keeps = const_removed (scope_of old.scope) (scope_of c.add_const.new.self) (scope_of c.remove_const.new.self) c.args.name.now c.in-Ok.ty c.in-Ok-add_const.ensures.ok c.remove_const.ensures
     (not_some ((scope_of old.scope).generic_type c.args.name.now) (λ known. never (c.in-Ok-add_const.ensures.taken.1 known))) in
     refuses_by (state_of old) (state_of (made old c.new_const.new.self c.remove_const.new.self)) (Some text) c.in-Err-new_const.fault
-    (kept_state old (made old c.new_const.new.self c.remove_const.new.self) c.in-Err-new_const.ensures.kept keeps (λ name. refl)) c.in-Err-new_const.ensures.outcome
+    (kept_state old (made old c.new_const.new.self c.remove_const.new.self) c.in-Err-new_const.ensures.kept keeps (same_store _)) c.in-Err-new_const.ensures.outcome
     (λ refused. newconst_is_refused spelled (newconst_outcome-is (state_of old) c.args.name.now tree c.in-Ok.ty (c.in-Ok.ensures tree steps) ∙ refused))
 
 pub returns-clause-kept : goal.returns-clause-kept
@@ -60,15 +60,15 @@ returns-clause-kept c =
     let old = c.args.self.now in
     let keeps = const_removed (scope_of old.scope) (scope_of c.add_const.new.self) (scope_of c.remove_const.new.self) c.args.name.now c.in-Ok.ty c.in-Ok-add_const.ensures.ok c.remove_const.ensures
     (not_some ((scope_of old.scope).generic_type c.args.name.now) (λ known. never (c.in-Ok-add_const.ensures.taken.1 known))) in
-    kept_session old (made old c.new_const.new.self c.remove_const.new.self) c.requires c.in-Err-new_const.ensures.kept keeps (λ name. refl) refl
+    kept_session old (made old c.new_const.new.self c.remove_const.new.self) c.requires c.in-Err-new_const.ensures.kept keeps (same_store _) refl
 
 pub returns-in-Err-add_const-clause-turns : goal.returns-in-Err-add_const-clause-turns
 returns-in-Err-add_const-clause-turns c = λ text tree spelled steps.
     let old = c.args.self.now in
     forgets_here (state_of old) (state_of (made old old.recorder c.add_const.new.self)) (Some text) Memory
-    (kept_state old (made old old.recorder c.add_const.new.self) refl c.in-Err-add_const.ensures.kept (λ name. refl)) refl
+    (kept_state old (made old old.recorder c.add_const.new.self) refl c.in-Err-add_const.ensures.kept (same_store _)) refl
 
 pub returns-in-Err-add_const-clause-kept : goal.returns-in-Err-add_const-clause-kept
 returns-in-Err-add_const-clause-kept c =
     let old = c.args.self.now in
-    kept_session old (made old old.recorder c.add_const.new.self) c.requires refl c.in-Err-add_const.ensures.kept (λ name. refl) refl
+    kept_session old (made old old.recorder c.add_const.new.self) c.requires refl c.in-Err-add_const.ensures.kept (same_store _) refl

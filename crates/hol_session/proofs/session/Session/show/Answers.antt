@@ -13,15 +13,15 @@ use Rattle.hol_session.proofs.session.Session.show.Goals as goal
 pub returns-in_default : goal.returns-in_default
 returns-in_default c = λ text spelled.
     refuses (state_of c.args.self.now) (Some text) UnknownName
-    (show_finds_none spelled (ap theorem_of (sym c.stored.ensures ∙ ap (option_map (λ (made : Bor Recorded). made.now)) c.in_default.is)))
+    (show_finds_none spelled (ap theorem_of (sym c.get.ensures.found ∙ ap (option_map (λ (made : Bor Recorded). made.now)) c.in_default.is)))
 
 pub returns-in-Ok : goal.returns-in-Ok
 returns-in-Ok c = λ text spelled.
     let session = c.args.self.now in
     let theorem = c.in-Some.theorem.now.theorem in
     prints (state_of session) (state_of session) (Some text) c.args.name.now theorem c.in-Ok.line
-    (show_prints spelled (ap theorem_of (sym c.in-Some.ensures)))
-    (proved session.recorder.theory theorem c.sound.ensures c.requires.legal (rw c.thm-thm.ensures at c.concl-theorem.ensures.theorem) (c.requires.made c.args.name.now c.in-Some.theorem.now (sym c.in-Some.ensures)).earlier)
+    (show_prints spelled (ap theorem_of (sym c.in-Some.ensures.found)))
+    (proved session.recorder.theory theorem c.sound.ensures c.requires.legal (rw c.thm-thm.ensures at c.concl-theorem.ensures.theorem) (c.requires.made.theorems c.args.name.now c.in-Some.theorem.now (sym c.in-Some.ensures.found)).earlier)
     (subst (λ (scope : Scope). IsLineOf c.in-Ok.line scope c.args.name.now theorem) (scope_same session c.requires) (rw c.thm-thm.ensures at c.in-Ok.ensures.ok))
 
 pub returns-in-Err : goal.returns-in-Err

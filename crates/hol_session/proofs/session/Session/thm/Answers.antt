@@ -15,7 +15,7 @@ returns-then-not-is_theorem_name-clause-turns c = λ text tree spelled rule.
 
 pub returns-then-is_some-clause-turns : goal.returns-then-is_some-clause-turns
 returns-then-is_some-clause-turns c = λ text tree spelled rule.
-    let there = taken c.stored.result _ c.stored.ensures c.if-is_some.ensures in
+    let there = taken c.get.result _ c.get.ensures.found c.if-is_some.ensures in
     refuses (state_of c.args.self.now) (Some text) NameTaken (thm_has_taken_name spelled (sym c.if-not-is_theorem_name.ensures) there.1)
 
 pub returns-in-Err-clause-turns : goal.returns-in-Err-clause-turns
@@ -23,7 +23,7 @@ returns-in-Err-clause-turns c = λ text tree spelled rule.
     let old = state_of c.args.self.now in
     subst (λ (state : State). Turns old (Some text) (Err c.in-Err.fault) state) (sym (rule_state c.args.self.now c.apply.new.self (Err c.in-Err.fault) c.in-Err.ensures.grows))
     (thm_refuses old text c.args.name.now tree c.in-Err.fault spelled (sym c.if-not-is_theorem_name.ensures)
-    (untaken c.stored.result _ c.stored.ensures c.if-is_some.ensures) (c.in-Err.ensures.answers tree rule))
+    (untaken c.get.result _ c.get.ensures.found c.if-is_some.ensures) (c.in-Err.ensures.answers tree rule))
 
 pub returns-in-Err-clause-kept : goal.returns-in-Err-clause-kept
 returns-in-Err-clause-kept c = rule_session c.args.self.now c.apply.new.self (Err c.in-Err.fault) c.in-Err.ensures.grows c.journals_grow.ensures c.logic_stays.ensures c.requires
@@ -52,7 +52,7 @@ returns-in-Ok-store-clause-turns c = λ text tree spelled rule.
     let earlier = grows.continues.held.made.earlier in
     thm_prints_after (state_of old) (state_of mid) (state_of c.store.new.self) text c.args.name.now tree answer.theorem c.in-Ok-theorem_line.line (rule_state old mid (Ok answer) grows)
     spelled (sym c.if-not-is_theorem_name.ensures)
-    (untaken c.stored.result _ c.stored.ensures c.if-is_some.ensures) (c.in-Ok.ensures.answers tree rule)
+    (untaken c.get.result _ c.get.ensures.found c.if-is_some.ensures) (c.in-Ok.ensures.answers tree rule)
     (proved mid.recorder.theory answer.theorem c.sound.ensures known.legal (rw c.thm-thm.ensures at c.concl-theorem.ensures.theorem) earlier)
     (subst (λ (scope : Scope). IsLineOf c.in-Ok-theorem_line.line scope c.args.name.now answer.theorem) (scope_same mid known) (rw c.thm-thm.ensures at c.in-Ok-theorem_line.ensures.ok))
     c.in-Ok-store.ensures.ok

@@ -4,7 +4,7 @@ use Rattle.hol_session.specs.declared.session.Printed.TheVariants.{Nothing}
 use Rattle.hol_session.specs.Answers.{Turns}
 use Rattle.hol_session.specs.SessionState.{state_of}
 use Rattle.hol_session.proofs.SessionLemmas.{is_silent, refuses_by, forgets_here}
-use Rattle.hol_session.proofs.GrowthLemmas.{made, kept_state, kept_session, var_state, var_session}
+use Rattle.hol_session.proofs.GrowthLemmas.{made, kept_state, kept_session, var_state, var_session, same_store}
 use Rattle.hol_session.proofs.session.Session.var.Goals as goal
 
 pub returns-in-Err-clause-turns : goal.returns-in-Err-clause-turns
@@ -24,9 +24,9 @@ pub returns-clause-turns : goal.returns-clause-turns
 returns-clause-turns c = λ text tree spelled steps.
     let old = c.args.self.now in
     forgets_here (state_of old) (state_of (made old old.recorder c.set_var.new.self)) (Some text) c.in-Err-set_var.fault
-    (kept_state old (made old old.recorder c.set_var.new.self) refl c.in-Err-set_var.ensures.kept (λ name. refl)) c.in-Err-set_var.ensures.err
+    (kept_state old (made old old.recorder c.set_var.new.self) refl c.in-Err-set_var.ensures.kept (same_store _)) c.in-Err-set_var.ensures.err
 
 pub returns-clause-kept : goal.returns-clause-kept
 returns-clause-kept c =
     let old = c.args.self.now in
-    kept_session old (made old old.recorder c.set_var.new.self) c.requires refl c.in-Err-set_var.ensures.kept (λ name. refl) refl
+    kept_session old (made old old.recorder c.set_var.new.self) c.requires refl c.in-Err-set_var.ensures.kept (same_store _) refl

@@ -1,7 +1,7 @@
 // Whole logs with the answers that they must have.
 ghost use Rattle.std.specs.Prelude.{◌≡◌, false};
 
-use crate::sinks::Compared;
+use crate::sinks::Kept;
 use hol_check::{TermParts, TermView, check, migrate, write_claims};
 use hol_model::{Cause, DeviceFail, Fault, FromRead, Source};
 use itoa::Buffer;
@@ -20,9 +20,9 @@ const CLAIM: &[u8] = b"a: |- (([=:bool->bool->bool] (x:bool)) (x:bool))\n";
 fn claims(alloc: Global, log: &[u8], lines: &[u8]) -> Result<bool, Fault> {
     let mut reader = FromRead::new(log);
     let claims = check(alloc, &mut reader)?;
-    let mut writer = Compared::new(lines);
+    let mut writer = Kept::new(alloc);
     write_claims(alloc, claims.as_slice(), &mut writer)?;
-    Ok(writer.is_whole())
+    Ok(writer.bytes.as_slice() == lines)
 }
 
 // Whether a log is refused at this line for this cause.
@@ -37,9 +37,9 @@ fn refuses(alloc: Global, log: &[u8], line: u64, cause: Cause) -> bool {
 // Whether a log is written as another.
 fn writes(alloc: Global, log: &[u8], expected: &[u8]) -> Result<bool, Fault> {
     let mut reader = FromRead::new(log);
-    let mut writer = Compared::new(expected);
+    let mut writer = Kept::new(alloc);
     migrate(alloc, &mut reader, &mut writer)?;
-    Ok(writer.is_whole())
+    Ok(writer.bytes.as_slice() == expected)
 }
 
 #[test]
@@ -171,13 +171,13 @@ fn migrates_to_the_second_version(rt: HostRuntime) -> Result<(), Fail> {
 #[test]
 fn migrates_no_refused_log(rt: HostRuntime) {
     let mut reader = FromRead::new(b"holp-log 1\ny b\n".as_slice());
-    let mut writer = Compared::new(b"");
+    let mut writer = Kept::new(rt.alloc());
     let refusal = Fault::LogFault {
         line: 3,
         cause: Cause::End,
     };
     assert!(rt; migrate(rt.alloc(), &mut reader, &mut writer).err() == Some(refusal));
-    assert!(rt; writer.is_whole());
+    assert!(rt; writer.bytes.is_empty());
 }
 
 // A log of abstractions, one round another, and the cause of its refusal if there is one.

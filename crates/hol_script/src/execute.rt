@@ -3,14 +3,14 @@ ghost use Rattle.std.specs.Prelude.{Some};
 ghost use Rattle.hol_session.specs.Answers.{Turns};
 ghost use Rattle.hol_session.specs.SessionState.{state_of, IsSession};
 
-use crate::session::{Printed, Session};
+use hol_session::session::{Printed, Session};
 use hol_command::command::{Command, parse_command};
 use hol_grammar::{ReadError, tokens_in};
 use hol_model::Fault;
 use std::alloc::Global;
 
 /// Answers a command: what it prints, or a refusal, which changes nothing.
-pub fn execute(session: &mut Session, alloc: Global, text: &[u8]) -> Result<Printed, Fault>
+pub(crate) fn execute(session: &mut Session, alloc: Global, text: &[u8]) -> Result<Printed, Fault>
     requires { IsSession session.old }
     ensures turns { Turns (state_of session.old) (Some text.now) result (state_of session.new) }
     ensures kept { IsSession session.new }

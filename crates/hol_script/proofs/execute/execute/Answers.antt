@@ -6,7 +6,7 @@ use Rattle.hol_grammar.specs.Views.{tokens_of, steps_of}
 use Rattle.hol_session.specs.SessionState.{state_of}
 use Rattle.hol_command.proofs.ReadingLemmas.{tokens-lexed}
 use Rattle.hol_session.proofs.SessionLemmas.{forgets, unlexed, unread_command, thm_turns, show_turns, var_turns, def_turns, newtype_turns, newconst_turns}
-use Rattle.hol_session.proofs.execute.execute.Goals as goal
+use Rattle.hol_script.proofs.execute.execute.Goals as goal
 
 pub returns-in-Err-Memory-clause-turns : goal.returns-in-Err-Memory-clause-turns
 returns-in-Err-Memory-clause-turns c = forgets (state_of c.args.session.now) (Some c.args.text.now) Memory refl

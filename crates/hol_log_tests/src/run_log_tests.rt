@@ -1,7 +1,6 @@
 // Logs of scripts, with the expected bytes by hand, and their claims as the checker prints them.
-use crate::derived_script_tests::negations;
 use crate::sinks::Kept;
-use hol_check::{check, write_claims};
+use hol_check::{check, check_log, write_claims, write_entries};
 use hol_model::{Fault, FromRead, IntoWrite};
 use hol_script::run;
 use std::alloc::Global;
@@ -23,6 +22,16 @@ fn claims(alloc: Global, script: &[u8], lines: &[u8]) -> Result<bool, Fault> {
     let claims = check(alloc, &mut reader)?;
     let mut writer = Kept::new(alloc);
     write_claims(alloc, claims.as_slice(), &mut writer)?;
+    Ok(writer.bytes.as_slice() == lines)
+}
+
+// Whether the log of a script is accepted, and the entries of its theory print as these lines.
+fn entries(alloc: Global, script: &[u8], lines: &[u8]) -> Result<bool, Fault> {
+    let log = log_of(alloc, script)?;
+    let mut reader = FromRead::new(log.as_slice());
+    let log = check_log(alloc, &mut reader)?;
+    let mut writer = Kept::new(alloc);
+    write_entries(alloc, log.entries.as_slice(), &mut writer)?;
     Ok(writer.bytes.as_slice() == lines)
 }
 
@@ -136,6 +145,17 @@ z: |- (([=:num->num->bool] [zero:num]) [zero:num])\n";
 }
 
 #[test]
+fn lists_the_entries(rt: HostRuntime) -> Result<(), Fail> {
+    let script = b"def c = `\\x:bool. x` ;; show c_def ;; newtype num ;; newconst zero : num ;;\n\
+thm z = REFL `zero` ;;";
+    let lines = b"DEF c: |- (([=:(bool->bool)->(bool->bool)->bool] [c:bool->bool]) (\\bool. #0))\n\
+TYPE num\n\
+CONST [zero:num]\n";
+    assert!(rt; entries(rt.alloc(), script, lines)?);
+    Ok(())
+}
+
+#[test]
 fn claims_instances(rt: HostRuntime) -> Result<(), Fail> {
     let script = b"thm a = ASSUME `(p:A->bool) (x:A)` ;; thm b = INST [`(y:A)`, `(x:A)`] a ;;\n\
 thm c = INST_TYPE [`bool`, `A`] b ;;";
@@ -196,10 +216,22 @@ thm c = REFL `\\T:bool. T` ;;";
     Ok(())
 }
 
+// Appends a rule of `(p:bool)` under so many negations as a command.
+fn push_negations(script: &mut Vec<u8>, command: &[u8], negations: usize) -> Result<(), Fault> {
+    script.extend_from_slice(command)?;
+    for _ in 0..negations {
+        script.extend_from_slice(b"~")?;
+    }
+    script.extend_from_slice(b"(p:bool)` ;;")?;
+    Ok(())
+}
+
 #[test]
 fn claims_high_negations(rt: HostRuntime) -> Result<(), Fail> {
     let alloc = rt.alloc();
-    let script = negations(alloc)?;
+    let mut script = Vec::new(alloc);
+    push_negations(&mut script, b"thm a = ASSUME `", 1999)?;
+    push_negations(&mut script, b"thm b = REFL `", 1997)?;
     assert!(rt; has_claims(alloc, &script, 2)?);
     Ok(())
 }
