@@ -1,0 +1,65 @@
+// What stands in front of a host's functions. What is above is generic in it.
+ghost use Rattle.std.specs.Prelude.{◌↔◌, Contains, IsSome, IfSome};
+ghost use Rattle.hol_model.specs.Refining.HostFunctions.{HostConversions, no_host_conversions};
+ghost use Rattle.hol_just.specs.Steps.{goal_of};
+ghost use Rattle.hol_host.specs.Host.{HostRefiners, no_host_refiners, equation_answered, step_answered};
+
+use hol_just::{Goal, Just, Step};
+use hol_terms::Term;
+use std::alloc::Global;
+
+/// A host's function fails.
+#[derive(Clone, Copy, Debug, PartialEq, Eq)]
+pub struct HostFail;
+
+/// Conversions under names. They may answer anything, and equal calls may answer differently.
+pub trait Converters {
+    /// Their names, and what the one of a name may answer.
+    ghost conversions: { Self → HostConversions };
+
+    /// What the conversion of this name answers on the term, where there is one: a term, and why the two are equal.
+    fn convert(
+        &self,
+        alloc: Global,
+        name: &str,
+        term: &Term,
+    ) -> Option<Result<(Term, Just), HostFail>>
+        ensures there { IsSome result ↔ Contains (conversions self.now).names name.now }
+        ensures answer { IfSome result (λ answer. (conversions self.now).converts name.now term.now (equation_answered answer)) };
+}
+
+/// Refiners and conversions under names. They may answer anything, and equal calls may answer differently.
+pub trait Refiners: Converters {
+    /// The refiners' names, and what the one of a name may answer.
+    ghost refiners: { Self → HostRefiners };
+
+    /// What the refiner of this name answers for the goal, where there is one.
+    fn refine(&self, alloc: Global, name: &str, goal: &Goal) -> Option<Result<Step, HostFail>>
+        ensures there { IsSome result ↔ Contains (refiners self.now).names name.now }
+        ensures answer { IfSome result (λ answer. (refiners self.now).refines name.now (goal_of goal.now) (step_answered answer)) };
+}
+
+/// No functions.
+#[derive(Clone, Copy, Debug, PartialEq, Eq)]
+pub struct NoHost;
+
+impl Converters for NoHost {
+    ghost conversions = { λ host. no_host_conversions };
+
+    fn convert(
+        &self,
+        _alloc: Global,
+        _name: &str,
+        _term: &Term,
+    ) -> Option<Result<(Term, Just), HostFail>> {
+        None
+    }
+}
+
+impl Refiners for NoHost {
+    ghost refiners = { λ host. no_host_refiners };
+
+    fn refine(&self, _alloc: Global, _name: &str, _goal: &Goal) -> Option<Result<Step, HostFail>> {
+        None
+    }
+}

@@ -1,0 +1,11 @@
+//! Functions that a host stores under names: refiners and conversions. Of what they answer nothing is assumed.
+#![tactic(auto)]
+
+mod conversions;
+mod functions;
+mod host;
+mod names;
+
+pub use conversions::{Converter, HostConvs};
+pub use functions::{Converters, HostFail, NoHost, Refiners};
+pub use host::{Host, Refiner};

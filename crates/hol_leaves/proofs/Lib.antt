@@ -1,0 +1,9 @@
+pub mod Depths
+pub mod Goals
+pub mod Among
+pub mod Fitting
+pub mod Instances
+pub mod TakenNames
+pub mod Primes
+pub mod FreshAnswers
+pub mod KnownGoals

@@ -1,0 +1,16 @@
+//! The table of refiners (HOL Light's tactics): what each leaves of a goal, with its justification as data. No theorem is
+//! made, and none is replayed.
+#![tactic(auto)]
+
+mod assumed;
+mod implications;
+mod making;
+mod names;
+mod parts;
+mod quantified;
+mod quantifiers;
+mod rows;
+mod table;
+mod theorems;
+
+pub use table::leaf_step;

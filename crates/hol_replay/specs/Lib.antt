@@ -1,0 +1,4 @@
+pub mod Named
+pub mod Lines
+pub mod Achieving
+pub mod Accepting

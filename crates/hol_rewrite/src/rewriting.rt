@@ -1,0 +1,99 @@
+// Rewriting at one place.
+ghost use Rattle.std.specs.Prelude.{◌≡◌, ◌⊎◌, true, false, Err, IfOk, IfErr};
+ghost use Rattle.std.specs.List.{list_all};
+ghost use Rattle.hol_model.specs.declared.fault.Fault.TheVariants.{Memory, TooLarge};
+ghost use Rattle.hol_model.specs.Terms.Measures.{nameless_within_limits};
+ghost use Rattle.hol_model.specs.Logic.KnownTerm.{is_known};
+ghost use Rattle.hol_model.specs.Derived.DerivedRules.{terms_of_theorem};
+ghost use Rattle.hol_model.specs.Rewrites.Rewriting.{Rewrites, Applies, IsRewritten, has_fitting_instance};
+ghost use Rattle.hol_journal.specs.Journal.{IsMade, theorem_in};
+ghost use Rattle.hol_derivations.specs.Derivations.{AreMade, theorems};
+ghost use Rattle.hol_equal.specs.Sequents.{Continues};
+ghost use Rattle.hol_rewrite.specs.RuleSides.{AreEquations, sides_of_rules};
+ghost use Rattle.hol_rewrite.specs.Instances.{replacements_of, image_fits};
+
+use crate::choice::Choice;
+use hol_equal::instance;
+use hol_journal::{Rec, Recorder};
+use hol_kernel::Thm;
+use hol_match::Match;
+use hol_model::Fault;
+use hol_terms::Term;
+use std::alloc::Global;
+
+/// Rewriting of a term, not of its parts, as REWRITES_CONV of HOL Light's simp.ml: the first rule in the list's order
+/// whose left side matches the term, as `term_match` with the free variables of its hypotheses fixed, answers its
+/// instance, `|- term = ..`, by INST_TYPE and then INST. A variable of the right side alone stays. The choice is that of
+/// these rules, which are equations, and the term is known.
+///
+/// Refused, in this order: no rule matches (`NoMatch`); the instance of the first that matches passes a limit
+/// (`TooLarge`), whatever later rules give.
+pub fn rewrite_at(
+    recorder: &mut Recorder,
+    alloc: Global,
+    rules: &[Rec],
+    choice: &Choice,
+    term: &Term,
+) -> Result<Rec, Fault>
+    requires made { AreMade recorder.old rules.now }
+    requires equations { AreEquations (theorems rules.now) }
+    requires choice { choice.now ≡ sides_of_rules rules.now }
+    requires known { is_known recorder.old.theory term.now ≡ true }
+    ensures continues { Continues recorder.old recorder.new result }
+    ensures rewrites { Rewrites (theorems rules.now) term.now (theorem_in result) ⊎ (theorem_in result ≡ Err Memory) }
+{
+    let (place, found) = match choice.first_match(alloc, term) {
+        Ok(first) => first,
+        Err(fault) => return Err(fault),
+    };
+    rule_instance(recorder, alloc, &rules[place], &found, term)
+}
+
+// The instance of a rule by a match.
+fn rule_instance(
+    recorder: &mut Recorder,
+    alloc: Global,
+    rule: &Rec,
+    found: &Match,
+    term: &Term,
+) -> Result<Rec, Fault>
+    requires made { IsMade recorder.old rule.now }
+    requires applies { Applies rule.now.theorem term.now (replacements_of found.now) }
+    requires known { is_known recorder.old.theory term.now ≡ true }
+    ensures continues { Continues recorder.old recorder.new result }
+    ensures rewritten { IfOk result (λ made. IsRewritten rule.now.theorem (replacements_of found.now) made.theorem) }
+    ensures fits { IfOk result (λ _. has_fitting_instance rule.now.theorem (replacements_of found.now) ≡ true) }
+    ensures err { IfErr result (λ fault. (fault ≡ Memory) ⊎ ((fault ≡ TooLarge) × (has_fitting_instance rule.now.theorem (replacements_of found.now) ≡ false))) }
+{
+    let _conclusion = recorder.thm(rule).concl();
+    let _type = term.ty();
+    let made = match instance(recorder, alloc, &found.types, &found.terms, rule) {
+        Ok(made) => made,
+        Err(fault) => return Err(fault),
+    };
+    within_limits(recorder.thm(&made));
+    Ok(made)
+}
+
+// A theorem's terms are within the limits. Nothing is computed: the clause is a law, for callers' proofs.
+fn within_limits(theorem: &Thm)
+    ensures { list_all nameless_within_limits (terms_of_theorem theorem.now) ≡ true }
+{
+    term_fits(theorem.concl());
+    terms_fit(theorem.hyps());
+}
+
+fn terms_fit(terms: &[Term])
+    ensures { list_all image_fits terms.now ≡ true }
+{
+    for term in terms {
+        term_fits(term);
+    }
+}
+
+fn term_fits(term: &Term)
+    ensures { image_fits term.now ≡ true }
+{
+    let _type = term.ty();
+    term.well_formed();
+}

@@ -1,0 +1,9 @@
+pub mod Denying
+pub mod FormLemmas
+pub mod Fresh
+pub mod JoinedRules
+pub mod Joining
+pub mod Reducing
+pub mod RoomSteps
+pub mod SmallParts
+pub mod Steps
