@@ -3,10 +3,10 @@ ghost use Rattle.std.specs.Prelude.{Some};
 ghost use Rattle.hol_session.specs.Answers.{Turns};
 ghost use Rattle.hol_session.specs.SessionState.{state_of, IsSession};
 
-use hol_session::session::{Printed, Session};
 use hol_command::command::{Command, parse_command};
 use hol_grammar::{ReadError, tokens_in};
 use hol_model::Fault;
+use hol_session::session::{Printed, Session};
 use std::alloc::Global;
 
 /// Answers a command: what it prints, or a refusal, which changes nothing.

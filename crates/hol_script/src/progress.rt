@@ -10,8 +10,8 @@ ghost use Rattle.hol_script.specs.RunLogs.{claims_stored};
 ghost use Rattle.hol_session.specs.SessionState.{state_of, IsSession};
 ghost use Rattle.hol_session.specs.StoredClaims.{IsAcceptedLog, IsLongLog};
 
-use hol_model::Fault;
 use crate::execute::execute;
+use hol_model::Fault;
 use hol_session::session::{Printed, Session};
 use std::alloc::Global;
 
