@@ -2,7 +2,7 @@
 ghost use Rattle.std.specs.Prelude.{◌≡◌, ◌≤◌, [], ◌∷◌, true, false, length, Ok, Err, IfOk, OnOk, OnErr, IsErrOf, IfErr, IfSome, Contains, ◌<◌};
 ghost use Rattle.std.specs.Io.KnownBytes.{Appends};
 ghost use Rattle.hol_model.specs.declared.fault.Fault.TheVariants.{Memory, ReadFault, WriteFault, TooLong};
-ghost use Rattle.hol_model.specs.Scripts.Sessions.{Tells};
+ghost use Rattle.hol_model.specs.Texts.KnownText.{Tells};
 ghost use Rattle.hol_bytes.specs.Bytes.{AppendsFront, joined};
 
 use hol_model::{Fault, Sink, Source, TEXT_BYTES_LIMIT};

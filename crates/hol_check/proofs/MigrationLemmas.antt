@@ -14,7 +14,7 @@ use Rattle.hol_logtext.specs.LineText.{line_text, line_bytes}
 use Rattle.hol_logtext.specs.LogBytes.{log_text}
 use Rattle.hol_check.specs.LogAnswers.{log_answer, answer_from}
 use Rattle.hol_model.specs.declared.limits.TheConstants.{TEXT_BYTES_LIMIT}
-use Rattle.hol_model.specs.Scripts.Sessions.{Tells}
+use Rattle.hol_model.specs.Texts.KnownText.{Tells}
 use Rattle.hol_check.specs.Checking.{HasClaims}
 use Rattle.hol_check.specs.Migration.{in_second, IsMigrated, IsMigration, MigrationKeepsClaims}
 use Rattle.hol_logtext.proofs.LogLemmas.{log_text_line}

@@ -1,7 +1,7 @@
 -- What is left of a log's text while it is read.
 use Rattle.std.specs.Prelude.{◌≡◌, ◌≤◌, ◌+◌, ℕ, List, [], ◌∷◌, ◌++◌, Bool, true, false, take, drop, length, Option, None, Some}
 use Rattle.std.specs.Io.KnownBytes.{Consumes}
-use Rattle.hol_model.specs.Scripts.Sessions.{Tells}
+use Rattle.hol_model.specs.Texts.KnownText.{Tells}
 use Rattle.hol_model.specs.declared.limits.TheConstants.{TEXT_BYTES_LIMIT}
 use Rattle.hol_logtext.specs.Fields.{line_feed}
 use Rattle.hol_check.specs.declared.reading.Reading.TheInside.{Inside}

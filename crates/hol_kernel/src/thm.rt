@@ -1,6 +1,8 @@
 // Theorems.
-ghost use Rattle.std.specs.Prelude.{◌≡◌, IfOk, IfErr, map};
-ghost use Rattle.std.specs.List.{All};
+ghost use Rattle.std.specs.Prelude.{◌≡◌, IfOk, IfErr, map, true};
+ghost use Rattle.std.specs.List.{All, list_all};
+ghost use Rattle.hol_model.specs.Terms.NamedTerm.{is_within_limits};
+ghost use Rattle.hol_model.specs.Terms.WellNamed.{is_well_named};
 ghost use Rattle.hol_kernel.specs.KnownFormula.{IsKnownFormula};
 ghost use Rattle.hol_model.specs.declared.fault.Fault.TheVariants.{Memory};
 
@@ -42,7 +44,7 @@ impl Model for Thm {
 }
 
 impl Thm {
-    ghost use Rattle.hol_model.specs.Kernel.Theorem.{Theorem, IsTheorem, AreOrdered};
+    ghost use Rattle.hol_model.specs.Kernel.Theorem.{Theorem, IsTheorem, IsWellFormed, AreOrdered};
     ghost use Rattle.hol_model.specs.Logic.Derivable.{Derivable};
     ghost use Rattle.hol_model.specs.Terms.Nameless.{image};
     ghost use Rattle.hol_model.specs.Models.Holds.{Holds};
@@ -100,5 +102,26 @@ impl Thm {
     {
         sound();
         &self.node.conclusion
+    }
+
+    /// A theorem's terms are within the limits, and each name in them is of its kind. Nothing is computed: the clause is the
+    /// law, for callers' proofs.
+    pub fn well_formed(&self)
+        ensures { IsWellFormed self.now }
+    {
+        let conclusion = self.concl();
+        conclusion.well_formed();
+        conclusion.well_named();
+        are_well_formed(self.hyps());
+    }
+}
+
+fn are_well_formed(terms: &[Term])
+    ensures within_limits { list_all is_within_limits terms.now ≡ true }
+    ensures well_named { list_all is_well_named terms.now ≡ true }
+{
+    for term in terms {
+        term.well_formed();
+        term.well_named();
     }
 }

@@ -3,3 +3,4 @@ pub mod Kernel
 pub mod Tests
 pub mod Logic
 pub mod Logs
+pub mod Texts

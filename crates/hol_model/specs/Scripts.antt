@@ -1,7 +1,9 @@
 -- Scripts, commands, sessions and runs.
 pub mod Script
 pub mod Commands
+pub mod Lines
 pub mod Sessions
+pub mod Headline
 pub mod ConversionGrammar
 pub mod TacticGrammar
 pub mod CommandGrammar

@@ -4,6 +4,7 @@ pub mod HolType
 pub mod HolTypeCode
 pub mod NamedTerm
 pub mod NamedTermCode
+pub mod WellNamed
 pub mod Nameless
 pub mod Measures
 pub mod Substitution

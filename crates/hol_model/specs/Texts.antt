@@ -8,3 +8,4 @@ pub mod Printing
 pub mod SequentGrammar
 pub mod Texts
 pub mod SequentTexts
+pub mod KnownText

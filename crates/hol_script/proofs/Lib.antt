@@ -1,3 +1,4 @@
 pub mod RunLemmas
 pub mod StoredLemmas
 pub mod RunLogLemmas
+pub mod HeadlineLemmas

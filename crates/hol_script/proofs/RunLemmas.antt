@@ -6,7 +6,8 @@ use Rattle.hol_model.specs.declared.fault.Fault.{Fault}
 use Rattle.hol_model.specs.declared.fault.Fault.TheVariants.{Memory, Syntax}
 use Rattle.hol_model.specs.Texts.Reading.{Scope}
 use Rattle.hol_model.specs.Scripts.Script.{begins_mark, has_mark, IsCut, Cuts, Request, line_feeds, leading_line_feeds, is_blank_text, request_and, requested}
-use Rattle.hol_model.specs.Scripts.Sessions.{State, start, scope_in, Reply, proves, accepts, refused, finds_no_memory, is_unfinished, Turn, Session, Counts, no_counts, counting, counts_after, reply_text, refusal_line, IsRun, Tells, Stops}
+use Rattle.hol_model.specs.Scripts.Sessions.{State, start, scope_in, Reply, proves, accepts, refused, Allows, finds_no_memory, is_unfinished, Turn, Session, Counts, no_counts, counting, counts_after, reply_text, refusal_line, IsRun, Stops}
+use Rattle.hol_model.specs.Texts.KnownText.{Tells}
 use Rattle.hol_model.proofs.Tests.{first_of_both, second_of_both}
 use Rattle.hol_session.specs.declared.session.Printed.{Printed}
 use Rattle.hol_session.specs.declared.session.Printed.TheVariants.{Nothing, Line}
@@ -70,20 +71,28 @@ pieces_within (suc fuel) bytes within = go (first_cut bytes) (λ rest less. piec
 has_pieces : (bytes : List ℕ) → HasPieces bytes
 has_pieces bytes = pieces_within (length bytes) bytes (omega arith)
 
--- ---- each command that is left may be refused for memory
+-- ---- each command that is left may be refused for memory, and an unfinished one is refused as it is
+
+abbrev fault_left : Option (List ℕ) → Fault
+fault_left None = Syntax
+fault_left (Some text) = Memory
+
+refused_left : (state : State) (text : Option (List ℕ)) → Allows state text (refused (fault_left text)) state
+refused_left state None = is_unfinished
+refused_left state (Some text) = finds_no_memory
 
 abbrev no_memory : List Request → List Reply
 no_memory [] = []
-no_memory (request ∷ requests) = refused Memory ∷ no_memory requests
+no_memory (request ∷ requests) = refused (fault_left request.text) ∷ no_memory requests
 
 abbrev no_memory_text : List Request → List ℕ
 no_memory_text [] = []
-no_memory_text (request ∷ requests) = refusal_line request.line Memory ++ no_memory_text requests
+no_memory_text (request ∷ requests) = refusal_line request.line (fault_left request.text) ++ no_memory_text requests
 
 no_memory_session : (state : State) (requests : List Request) → Session state requests (no_memory requests) (no_memory_text requests) state
 no_memory_session state [] = (refl, refl)
 no_memory_session state (request ∷ requests) =
-    (state, no_memory_text requests, record { allowed = finds_no_memory; proved = tt }, no_memory_session state requests, refl)
+    (state, no_memory_text requests, record { allowed = refused_left state request.text; proved = tt }, no_memory_session state requests, refl)
 
 -- ---- how far a run has come
 
@@ -292,6 +301,10 @@ pub ends_by : {known written now : Option (List ℕ)} {counts : Counts} {names :
 ends_by {known} text tells e =
     let c = e.completes in
     record { completes = record { script = c.script; out = c.out; read = Tells-by known text c.script tells c.read; wrote = c.wrote; is_run = c.is_run }; final = e.final; named = e.named }
+
+pub stops_by : {known written now : Option (List ℕ)} (text : List ℕ) → Tells known text → Stops (Some text) written now → Stops known written now
+stops_by {known} text tells s =
+    record { script = s.script; out = s.out; rest = s.rest; counts = s.counts; read = Tells-by known text s.script tells s.read; wrote = s.wrote; is_run = s.is_run }
 
 -- nothing was read, and nothing written
 pub unread : (known written : Option (List ℕ)) → Stops known written written

@@ -166,8 +166,8 @@ grown-follows state theory entry grown is_told = record {
 }
 
 -- the argument of a command that was accepted
-read_first : {A B : Type 0} (read : Result A Fault) (next : A → Result B Fault) (answer : B) → (read >>= next) ≡ Ok answer → (x : A) × (next x ≡ Ok answer)
-read_first (Ok x) next answer is = (x, is)
+pub read_first : {A B : Type 0} (read : Result A Fault) (next : A → Result B Fault) (answer : B) → (read >>= next) ≡ Ok answer → (x : A) × (next x ≡ Ok answer) × (read ≡ Ok x)
+read_first (Ok x) next answer is = (x, is, refl)
 read_first (Err fault) next answer is = cc
 
 def-follows : (state : State) (name : List ℕ) (tree : TermTree) (theorem : Theorem) → def_outcome state name tree ≡ Ok theorem → IsTold state
@@ -226,8 +226,8 @@ command-identifier : (text : List ℕ) (tree : CommandTree) (word name : List �
 command-identifier text tree word name more named spelled =
     token-identifier name (second_token text (Name word) (Name name) more (subst (λ (ts : List Token). Lexes text ts) (spelled.read.spelled ∙ named) spelled.lexed))
 
-record IsNamed (reply : Reply) : Type 0 where
-  named : (name : List ℕ) (theorem : Theorem) → reply ≡ proves name theorem → is_identifier name ≡ true
+pub record IsNamed (reply : Reply) : Type 0 where
+  pub named : (name : List ℕ) (theorem : Theorem) → reply ≡ proves name theorem → is_identifier name ≡ true
 
 proves-named : (name : List ℕ) (theorem : Theorem) → is_identifier name ≡ true → IsNamed (proves name theorem)
 proves-named name theorem is = record { named = λ other there same. (let one : name ≡ other = cc in ap is_identifier (sym one) ∙ is) }
@@ -238,7 +238,7 @@ refused-named fault = record { named = λ name theorem is. refused-is_no_proof f
 accepts-named : IsNamed accepts
 accepts-named = record { named = λ name theorem is. accepts-is_no_proof name theorem is }
 
-names : {old new : State} {text : Option (List ℕ)} {reply : Reply} → Allows old text reply new → IsNamed reply
+pub names : {old new : State} {text : Option (List ℕ)} {reply : Reply} → Allows old text reply new → IsNamed reply
 names finds_no_memory = refused-named _
 names is_unfinished = refused-named _
 names (is_no_command none) = refused-named _

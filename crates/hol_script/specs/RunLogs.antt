@@ -1,5 +1,5 @@
 -- The log of a run: it claims the theorems that the run prints.
-use Rattle.std.specs.Prelude.{◌≡◌, ℕ, List, [], ◌∷◌, ◌++◌, Bool, true, Option}
+use Rattle.std.specs.Prelude.{◌≡◌, ℕ, List, [], ◌∷◌, ◌++◌, map, Bool, true, Option}
 use Rattle.std.specs.Io.KnownBytes.{Appends}
 use Rattle.hol_model.specs.Logic.Theory.{Theory}
 use Rattle.hol_model.specs.Logs.LogState.{LogClaim}
@@ -8,6 +8,7 @@ use Rattle.hol_bytes.specs.Bytes.{AppendsFront}
 use Rattle.hol_journal.specs.Journal.{Journal}
 use Rattle.hol_journal.specs.Steps.{sequent_of_theorem}
 use Rattle.hol_store.specs.Store.{stored_of}
+use Rattle.hol_log.specs.LogAccepted.{log_claim}
 use Rattle.hol_log.specs.LogWriting.{Claimed}
 use Rattle.hol_script.specs.declared.progress.Progress.{Progress}
 use Rattle.hol_script.specs.Runs.{names_of}
@@ -78,3 +79,11 @@ pub record HasLongLog (input written new_written : Option (List ℕ)) : Type 0 w
 
 abbrev pub claims_stored : Progress → List Claimed
 claims_stored progress = stored_claims (stored_of progress.session.store).theorems (names_of progress)
+
+-- the claims of the theorems that a run printed, as the log lists them
+abbrev pub claims_listed : Progress → List LogClaim
+claims_listed progress = map log_claim (claims_stored progress)
+
+-- the theory that a run has come to
+abbrev pub theory_of : Progress → Theory
+theory_of progress = progress.session.recorder.theory

@@ -1,12 +1,11 @@
 // How far a run has come.
-ghost use Rattle.std.specs.Prelude.{◌≡◌, ◌≤◌, ◌<◌, ◌+◌, ◌^◌, ◌++◌, ◌∷◌, [], map, Some, OnOk, IfOk, IfErr, IsErrOf, Contains, vec_len, vec_capacity};
+ghost use Rattle.std.specs.Prelude.{◌≡◌, ◌≤◌, ◌<◌, ◌+◌, ◌^◌, ◌++◌, ◌∷◌, [], Some, OnOk, IfOk, IfErr, IsErrOf, Contains, vec_len, vec_capacity};
 ghost use Rattle.hol_model.specs.Scripts.Sessions.{start};
 ghost use Rattle.hol_model.specs.declared.fault.Fault.TheVariants.{Memory, TooLong};
 ghost use Rattle.hol_log.specs.Pruning.{HaveIdentifiers};
-ghost use Rattle.hol_log.specs.LogAccepted.{log_claim};
 ghost use Rattle.hol_session.specs.Answers.{Turns};
 ghost use Rattle.hol_script.specs.Runs.{counts_of, counting_answer, names_of, names_in_answer};
-ghost use Rattle.hol_script.specs.RunLogs.{claims_stored};
+ghost use Rattle.hol_script.specs.RunLogs.{claims_stored, claims_listed};
 ghost use Rattle.hol_session.specs.SessionState.{state_of, IsSession};
 ghost use Rattle.hol_session.specs.StoredClaims.{IsAcceptedLog, IsLongLog};
 
@@ -124,8 +123,8 @@ impl Progress {
     pub fn log_text(&self, alloc: Global) -> Result<Vec<u8>, Fault>
         requires session { IsSession self.now.session }
         requires named { HaveIdentifiers (claims_stored self.now) }
-        ensures ok { IfOk result (λ text. IsAcceptedLog self.now.session.recorder (map log_claim (claims_stored self.now)) text.items) }
-        ensures too_long { IsErrOf result TooLong → IsLongLog self.now.session.recorder (map log_claim (claims_stored self.now)) }
+        ensures ok { IfOk result (λ text. IsAcceptedLog self.now.session.recorder (claims_listed self.now) text.items) }
+        ensures too_long { IsErrOf result TooLong → IsLongLog self.now.session.recorder (claims_listed self.now) }
         ensures refusals { IfErr result (Contains (TooLong ∷ Memory ∷ [])) }
     {
         self.session.log_text(alloc, &self.names)

@@ -1,15 +1,15 @@
 // Runs a script from a source to a sink, and writes its log to another.
-ghost use Rattle.std.specs.Prelude.{◌≡◌, ◌⊎◌, ◌≤◌, ◌<◌, ◌∷◌, [], true, false, map, length, Some, OnOk, OnErr, IfOk, IfErr, IfSome, IsErrOf, Contains};
+ghost use Rattle.std.specs.Prelude.{◌≡◌, ◌⊎◌, ◌≤◌, ◌<◌, ◌∷◌, [], true, false, length, Some, OnOk, OnErr, IfOk, IfErr, IfSome, IsErrOf, Contains};
 ghost use Rattle.std.specs.Io.KnownBytes.{Appends};
 ghost use Rattle.hol_model.specs.Scripts.Sessions.{Stops};
 ghost use Rattle.hol_model.specs.Scripts.Sessions as spec;
+ghost use Rattle.hol_model.specs.Scripts.Headline.{TellsLines, TellsFront};
 ghost use Rattle.hol_model.specs.declared.fault.Fault.TheVariants.{Memory, ReadFault, WriteFault, TooLong};
 ghost use Rattle.hol_log.specs.Pruning.{HaveIdentifiers};
-ghost use Rattle.hol_log.specs.LogAccepted.{log_claim};
 ghost use Rattle.hol_bytes.specs.Bytes.{AppendsFront};
 ghost use Rattle.hol_session.specs.Answers.{answer_text};
 ghost use Rattle.hol_script.specs.Runs.{counts_of, names_of, Ends};
-ghost use Rattle.hol_script.specs.RunLogs.{claims_stored, IsLongLogOver, WritesLog, WritesFront, CompletesLog, StopsInLog, HasLongLog, IsWhole};
+ghost use Rattle.hol_script.specs.RunLogs.{claims_stored, claims_listed, theory_of, IsLongLogOver, WritesLog, WritesFront, CompletesLog, StopsInLog, HasLongLog, IsWhole};
 ghost use Rattle.hol_session.specs.SessionState.{state_of, IsSession};
 
 use crate::progress::{Progress, Summary};
@@ -114,10 +114,11 @@ fn write_log<L: Sink>(alloc: Global, progress: &Progress, log: &mut L) -> Result
     requires unfailed { L.has_failed log.old ≡ false }
     requires session { IsSession progress.now.session }
     requires named { HaveIdentifiers (claims_stored progress.now) }
-    ensures ok { OnOk result (WritesLog progress.now.session.recorder.theory (map log_claim (claims_stored progress.now)) (L.contents log.old) (L.contents log.new)) }
+    ensures ok { OnOk result (WritesLog (theory_of progress.now) (claims_listed progress.now) (L.contents log.old) (L.contents log.new)) }
     ensures unfailed { OnOk result (L.has_failed log.new ≡ false) }
-    ensures write_fault { IsErrOf result WriteFault → (L.has_failed log.new ≡ true) × WritesFront progress.now.session.recorder.theory (map log_claim (claims_stored progress.now)) (L.contents log.old) (L.contents log.new) }
-    ensures too_long { IsErrOf result TooLong → IsLongLogOver progress.now.session.recorder.theory (map log_claim (claims_stored progress.now)) }
+    ensures write_fault { IsErrOf result WriteFault
+        → (L.has_failed log.new ≡ true) × WritesFront (theory_of progress.now) (claims_listed progress.now) (L.contents log.old) (L.contents log.new) }
+    ensures too_long { IsErrOf result TooLong → IsLongLogOver (theory_of progress.now) (claims_listed progress.now) }
     ensures unwritten { (IsErrOf result TooLong ⊎ IsErrOf result Memory) → log.new ≡ log.old }
     ensures refusals { IfErr result (Contains (WriteFault ∷ TooLong ∷ Memory ∷ [])) }
 {
@@ -130,6 +131,10 @@ fn write_log<L: Sink>(alloc: Global, progress: &Progress, log: &mut L) -> Result
 /// Reads a whole script, runs its commands in order and writes a line for each theorem and each refusal. What is written
 /// is the output of a session of that script, or of a front of it where the run stops: each theorem in it follows from
 /// the entries accepted before it, and holds in every finite standard model.
+///
+/// The same told without sessions (`told`, `told_front`): what is written is lines, or the front of them where the run
+/// stops, each of them a refusal's or a name and the text of a sequent that reads back as itself, follows from a legal
+/// theory and holds. The theory has the logical definitions and what the script's own commands define and declare.
 ///
 /// Where a log is wanted, it is written after the last command: the pruned log of the theorems that were printed, over
 /// the theory at the end, which is accepted, with a claim for each line of a theorem, in order. Where none is wanted, `log` is left alone.
@@ -148,9 +153,12 @@ pub fn run<R: Source, W: Sink, L: Sink>(
     requires reader_unfailed { R.has_failed reader.old ≡ false }
     requires writer_unfailed { W.has_failed writer.old ≡ false }
     requires log_unfailed { L.has_failed log.old ≡ false }
-    ensures ok { IfOk result (λ summary. CompletesLog (R.remaining reader.old) (W.contents writer.old) (W.contents writer.new) (counts_of summary) wants_log (L.contents log.old) (L.contents log.new)) }
+    ensures ok { IfOk result (λ summary. CompletesLog (R.remaining reader.old) (W.contents writer.old) (W.contents writer.new) (counts_of summary)
+        wants_log (L.contents log.old) (L.contents log.new)) }
     ensures unlogged { wants_log ≡ false → log.new ≡ log.old }
     ensures err { OnErr result (Stops (R.remaining reader.old) (W.contents writer.old) (W.contents writer.new)) }
+    ensures told { OnOk result (TellsLines (R.remaining reader.old) (W.contents writer.old) (W.contents writer.new) []) }
+    ensures told_front { OnErr result (TellsFront (R.remaining reader.old) (W.contents writer.old) (W.contents writer.new)) }
     ensures reader_unfailed { OnOk result (R.has_failed reader.new ≡ false) }
     ensures writer_unfailed { OnOk result (W.has_failed writer.new ≡ false) }
     ensures log_unfailed { OnOk result (L.has_failed log.new ≡ false) }

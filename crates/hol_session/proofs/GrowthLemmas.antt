@@ -33,7 +33,7 @@ use Rattle.hol_syntax.specs.Scope.{scope_of, SetsConstant, SetsVariable, SetsTyp
 use Rattle.hol_session.specs.declared.lines.TheoremLine.{TheoremLine}
 use Rattle.hol_session.specs.declared.session.Session.{Session}
 use Rattle.hol_session.specs.declared.session.Printed.TheVariants.{Line}
-use Rattle.hol_journal.specs.Journal.{Journal, IsMade}
+use Rattle.hol_journal.specs.Journal.{Journal}
 use Rattle.hol_journal.specs.Growth.{IsGrown, JournalsGrow}
 use Rattle.hol_prelude.specs.HasLogic.{HasLogic, LogicStays}
 use Rattle.hol_session.specs.SessionState.{state_of, theorem_of, IsSession}
@@ -439,7 +439,7 @@ module _ (old new : Session) (scope : ScopeHere) (name : List ℕ) (term : Named
       let own : own_type term ≡ ty = rw typed refl in
       let whole : new.recorder.theory ≡ definition name (own_type term) (image term) ∷ theory = d.theory ∙ grown in
       record {
-        legal = subst IsLegal (sym d.theory) d.is_theorem.legal;
+        legal = subst IsLegal (sym d.theory) d.well_formed.is_theorem.legal;
         constants = λ other. ap (λ (s : ScopeHere). (scope_of s).generic_type other) d.scope ∙ sets.constants other
             ∙ ap (λ (g : Option HolType). cond (bytes_eq name other) (Some ty) g) (known.constants other)
             ∙ ap (λ (t : HolType). cond (bytes_eq name other) (Some t) (generic_type theory other)) (sym own)
@@ -469,4 +469,4 @@ def_turns old new scope text name tree term ty line sound grow stay known spelle
     let printed : IsLineOf line (scope_in (state_of new)) (definition_name name) d.answer.theorem =
     subst (λ (s : Scope). IsLineOf line s (definition_name name) d.answer.theorem) (ap scope_of (sym d.scope) ∙ scope_same new after) d.line_is in
     prints (state_of old) (state_of new) (Some text) (definition_name name) d.answer.theorem line allowed
-    (proved new.recorder.theory d.answer.theorem sound after.legal d.is_theorem (same_is_earlier new.recorder.theory d.answer.theorem.theory (sym d.theory))) printed
+    (proved (state_of new) d.answer.theorem sound after.legal d.well_formed (same_is_earlier new.recorder.theory d.answer.theorem.theory (sym d.theory))) printed

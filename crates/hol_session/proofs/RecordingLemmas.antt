@@ -13,7 +13,7 @@ use Rattle.hol_model.specs.Kernel.Theorem.{Theorem}
 use Rattle.hol_model.specs.Kernel.Outcome.{Answers, unless, given, refused}
 use Rattle.hol_model.specs.Kernel.Rules.{first_unknown, dest_trivial_redex, is_formula, concluded}
 use Rattle.hol_model.specs.Kernel.RuleOutcomes.{term_rule_outcome}
-use Rattle.hol_journal.specs.Journal.{Journal, Recorded, IsMade, IsRecorded, theorem_in}
+use Rattle.hol_journal.specs.Journal.{Journal, Recorded, IsRecorded, theorem_in}
 use Rattle.hol_journal.specs.Steps.{Step}
 use Rattle.hol_journal.specs.Growth.{IsGrown, JournalsGrow}
 use Rattle.hol_prelude.specs.HasLogic.{HasLogic, LogicStays}

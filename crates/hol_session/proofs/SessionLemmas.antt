@@ -40,11 +40,11 @@ scope_same session known = λ i. record {
 pub refuses : (state : State) (text : Option (List ℕ)) (fault : Fault) → Allows state text (refused fault) state → Turns state text (Err fault) state
 refuses state text fault allowed = record { reply = refused fault; says = refl; turn = record { allowed = allowed; proved = tt } }
 
-pub forgets : (state : State) (text : Option (List ℕ)) (fault : Fault) → fault ≡ Memory → Turns state text (Err fault) state
-forgets state text fault same = refuses state text fault (subst (λ f. Allows state text (refused f) state) (sym same) finds_no_memory)
+pub forgets : (state : State) (text : List ℕ) (fault : Fault) → fault ≡ Memory → Turns state (Some text) (Err fault) state
+forgets state text fault same = refuses state (Some text) fault (subst (λ f. Allows state (Some text) (refused f) state) (sym same) finds_no_memory)
 
 -- a theorem that is allowed and proved, and its line
-pub prints : (old new : State) (text : Option (List ℕ)) (name : List ℕ) (theorem : Theorem) (line : TheoremLine) → Allows old text (proves name theorem) new → IsProved new.theory theorem
+pub prints : (old new : State) (text : Option (List ℕ)) (name : List ℕ) (theorem : Theorem) (line : TheoremLine) → Allows old text (proves name theorem) new → IsProved new theorem
     → IsLineOf line (scope_in new) name theorem → Turns old text (Ok (Line line)) new
 prints old new text name theorem line allowed proved says = record { reply = proves name theorem; says = says; turn = record { allowed = allowed; proved = proved } }
 
@@ -53,13 +53,13 @@ pub is_silent : (old new : State) (text : Option (List ℕ)) → Allows old text
 is_silent old new text allowed = record { reply = accepts; says = tt; turn = record { allowed = allowed; proved = tt } }
 
 -- no memory, where the state is that of before
-pub forgets_here : (old new : State) (text : Option (List ℕ)) (fault : Fault) → new ≡ old → fault ≡ Memory → Turns old text (Err fault) new
-forgets_here old new text fault same memory = subst (λ (state : State). Turns old text (Err fault) state) (sym same) (forgets old text fault memory)
+pub forgets_here : (old new : State) (text : List ℕ) (fault : Fault) → new ≡ old → fault ≡ Memory → Turns old (Some text) (Err fault) new
+forgets_here old new text fault same memory = subst (λ (state : State). Turns old (Some text) (Err fault) state) (sym same) (forgets old text fault memory)
 
 -- a refusal that is allowed, or no memory, where the state is that of before
-pub refuses_by : {P : Type 0} (old new : State) (text : Option (List ℕ)) (fault : Fault) → new ≡ old → (fault ≡ Memory) ⊎ P → (P → Allows old text (refused fault) old) → Turns old text (Err fault) new
-refuses_by old new text fault same (inl memory) allowed = subst (λ (state : State). Turns old text (Err fault) state) (sym same) (forgets old text fault memory)
-refuses_by old new text fault same (inr because) allowed = subst (λ (state : State). Turns old text (Err fault) state) (sym same) (refuses old text fault (allowed because))
+pub refuses_by : {P : Type 0} (old new : State) (text : List ℕ) (fault : Fault) → new ≡ old → (fault ≡ Memory) ⊎ P → (P → Allows old (Some text) (refused fault) old) → Turns old (Some text) (Err fault) new
+refuses_by old new text fault same (inl memory) allowed = subst (λ (state : State). Turns old (Some text) (Err fault) state) (sym same) (forgets old text fault memory)
+refuses_by old new text fault same (inr because) allowed = subst (λ (state : State). Turns old (Some text) (Err fault) state) (sym same) (refuses old (Some text) fault (allowed because))
 
 -- a name that is taken, and one that is not
 pub taken : (found : Option (Bor Recorded)) (stored : Option Recorded) → option_map (λ (made : Bor Recorded). made.now) found ≡ stored → true ≡ is_some found
@@ -74,23 +74,34 @@ untaken (Some made) stored same is = cc
 -- a rule that is refused
 pub thm_refuses : (state : State) (text name : List ℕ) (tree : RuleTree) (fault : Fault) → SpellsCommand text (thm_command name tree) → is_theorem_name name ≡ true → state.theorems name ≡ None
     → (fault ≡ Memory) ⊎ (IsRuleAnswer state tree (Err fault)) → Turns state (Some text) (Err fault) state
-thm_refuses state text name tree fault spelled is_name new (inl memory) = forgets state (Some text) fault memory
+thm_refuses state text name tree fault spelled is_name new (inl memory) = forgets state text fault memory
 thm_refuses state text name tree fault spelled is_name new (inr outcome) = refuses state (Some text) fault (thm_is_refused spelled is_name new outcome)
+
+-- a theorem that is proved in a state is so once it is stored
+proved_with : (state : State) (name : List ℕ) (theorem : Theorem) → IsProved state theorem → IsProved (with_theorem state name theorem) theorem
+proved_with state name theorem p = record {
+  legal = p.legal;
+  derivable = p.derivable;
+  holds = p.holds;
+  ordered = p.ordered;
+  readable_hypotheses = p.readable_hypotheses;
+  readable_conclusion = p.readable_conclusion;
+}
 
 -- a theorem that is stored
 pub thm_prints : (old new : State) (text name : List ℕ) (tree : RuleTree) (theorem : Theorem) (line : TheoremLine) → SpellsCommand text (thm_command name tree) → is_theorem_name name ≡ true
-    → old.theorems name ≡ None → IsRuleAnswer old tree (Ok theorem) → IsProved old.theory theorem → IsLineOf line (scope_in old) name theorem
+    → old.theorems name ≡ None → IsRuleAnswer old tree (Ok theorem) → IsProved old theorem → IsLineOf line (scope_in old) name theorem
     → new ≡ with_theorem old name theorem → Turns old (Some text) (Ok (Line line)) new
 thm_prints old new text name tree theorem line spelled is_name none outcome proved says stored =
     subst (λ (state : State). Turns old (Some text) (Ok (Line line)) state) (sym stored)
-    (prints old (with_theorem old name theorem) (Some text) name theorem line (thm_stores spelled is_name none outcome) proved says)
+    (prints old (with_theorem old name theorem) (Some text) name theorem line (thm_stores spelled is_name none outcome) (proved_with old name theorem proved) says)
 
 -- the same after the rule, which leaves the state
 pub thm_prints_after : (old mid new : State) (text name : List ℕ) (tree : RuleTree) (theorem : Theorem) (line : TheoremLine) → mid ≡ old → SpellsCommand text (thm_command name tree) → is_theorem_name name ≡ true
-    → old.theorems name ≡ None → IsRuleAnswer old tree (Ok theorem) → IsProved mid.theory theorem → IsLineOf line (scope_in mid) name theorem
+    → old.theorems name ≡ None → IsRuleAnswer old tree (Ok theorem) → IsProved mid theorem → IsLineOf line (scope_in mid) name theorem
     → new ≡ with_theorem mid name theorem → Turns old (Some text) (Ok (Line line)) new
 thm_prints_after old mid new text name tree theorem line same spelled is_name none outcome proved says stored =
-    thm_prints old new text name tree theorem line spelled is_name none outcome (subst (λ (s : State). IsProved s.theory theorem) same proved)
+    thm_prints old new text name tree theorem line spelled is_name none outcome (subst (λ (s : State). IsProved s theorem) same proved)
     (subst (λ (s : State). IsLineOf line (scope_in s) name theorem) same says) (subst (λ (s : State). new ≡ with_theorem s name theorem) same stored)
 
 -- ---- commands

@@ -5,7 +5,7 @@ use Rattle.hol_model.specs.declared.fault.Fault.TheVariants.{Memory}
 use Rattle.hol_model.specs.Terms.NamedTerm.{NamedTerm, constant, equation}
 use Rattle.hol_model.specs.Logic.Legality.{own_type}
 use Rattle.hol_model.specs.Logic.Theory.{Theory}
-use Rattle.hol_model.specs.Kernel.Theorem.{IsTheorem}
+use Rattle.hol_model.specs.Kernel.Theorem.{IsWellFormed}
 use Rattle.hol_model.specs.Kernel.Rules.{define_outcome}
 use Rattle.hol_model.specs.Texts.Reading.{Scope}
 use Rattle.hol_model.specs.Scripts.Sessions.{definition_name}
@@ -45,7 +45,7 @@ MakesLine (Err fault) scope name stored term = fault ≡ Memory
 pub record Defines (old new : Session) (name : List ℕ) (term : NamedTerm) (line : TheoremLine) : Type 0 where
   pub answer : Recorded
   pub outcome : define_outcome old.recorder.theory name term ≡ Ok answer.theorem
-  pub is_theorem : IsTheorem answer.theorem
+  pub well_formed : IsWellFormed answer.theorem
   pub theory : new.recorder.theory ≡ answer.theorem.theory
   pub made : IsMade new.recorder answer
   pub grown : IsGrown old.recorder new.recorder

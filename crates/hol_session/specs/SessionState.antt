@@ -1,5 +1,5 @@
 -- What the fields of a session stand for, and what holds of them.
-use Rattle.std.specs.Prelude.{◌≡◌, ℕ, List, Option, Some}
+use Rattle.std.specs.Prelude.{◌≡◌, ℕ, List, Option}
 use Rattle.std.specs.Option.{option_map}
 use Rattle.hol_model.specs.Logic.Theory.{IsLegal, generic_type}
 use Rattle.hol_model.specs.Logic.KnownTerm.{is_declared}

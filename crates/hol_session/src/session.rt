@@ -42,7 +42,7 @@ use hol_model::{Axiom, Fault, PairRule, PremiseRule, PremisesRule, TermPremiseRu
 use hol_prelude::{Bool, logic_stays, prelude, theorem_of};
 use hol_quant::{choose, exists};
 use hol_sound::sound;
-use hol_store::{Store, stores_stay};
+use hol_store::Store;
 use hol_syntax::{Scope, build_type, term_of_steps};
 use hol_terms::Term;
 use hol_types::Ty;
@@ -162,7 +162,7 @@ impl Session {
         };
         sound();
         let thm = self.recorder.thm(&theorem);
-        let _theorem = thm.concl();
+        thm.well_formed();
         let line = match theorem_line(alloc, &self.scope, name, thm) {
             Ok(line) => line,
             Err(fault) => return Err(fault),
@@ -204,7 +204,7 @@ impl Session {
         };
         sound();
         let thm = self.recorder.thm(theorem);
-        let _theorem = thm.concl();
+        thm.well_formed();
         match theorem_line(alloc, &self.scope, name, thm) {
             Ok(line) => Ok(Printed::Line(line)),
             Err(fault) => Err(fault),
@@ -350,7 +350,7 @@ impl Session {
             Ok(theorem) => theorem,
             Err(fault) => return Err(fault),
         };
-        let _theorem = self.recorder.thm(&theorem).concl();
+        self.recorder.thm(&theorem).well_formed();
         self.store.put_made(key, theorem);
         Ok(line)
     }

@@ -1,6 +1,8 @@
 -- The proof of a goal stays sound.
 use Rattle.std.proofs.Common.{◌≡◌, ℕ, zero, suc, ◌-◌, List, [], ◌∷◌, ◌++◌, length, map, Bool, true, false, refl, sym, subst, ap, ◌⊎◌, inl, inr, arith, Option, None, Some, Result, Ok, Err, take}
-use Rattle.std.specs.Prelude.{slice_get}
+use Rattle.std.specs.Prelude.{◌≤◌, slice_get, nat_lt, if◌then◌else◌}
+use Rattle.std.proofs.lemmas.Option.{slice_get_past}
+use Rattle.std.proofs.lemmas.Bool.{ltb-false}
 use Rattle.hol_model.specs.declared.fault.Fault.{Fault}
 use Rattle.hol_model.specs.declared.fault.Fault.TheVariants.{Memory, TooLarge, NotBool}
 use Rattle.hol_model.specs.declared.limits.TheConstants.{KEPT_EXPANSIONS_LIMIT}
@@ -120,6 +122,18 @@ slice_get-last : (firsts : List Sequent) (last : Sequent) → slice_get (firsts 
 slice_get-last [] last = refl
 slice_get-last (sequent ∷ firsts) last = slice_get-last firsts last
 
+-- a subgoal behind the first finds its sequent one place earlier, and a number past the subgoals finds none
+later_place : (firsts : List Sequent) (last : Sequent) (i : ℕ)
+    → AnswersAsStrong (slice_get (firsts ++ last ∷ []) (if nat_lt (suc i) (suc (length firsts)) then i else suc i)) (slice_get firsts i)
+later_place firsts last i = go (nat_lt (suc i) (suc (length firsts))) refl
+  where
+    go : (b : Bool) → nat_lt (suc i) (suc (length firsts)) ≡ b
+        → AnswersAsStrong (slice_get (firsts ++ last ∷ []) (if b then i else suc i)) (slice_get firsts i)
+    go true is = slice_get-longer firsts (last ∷ []) i
+    go false is =
+        let past : length firsts ≤ i = omega (arith, ltb-false (suc i) (suc (length firsts)) is) in
+        subst (λ (found : Option Sequent). AnswersAsStrong (slice_get (firsts ++ last ∷ []) (suc i)) found) (sym (slice_get_past firsts i past)) tt
+
 -- each subgoal finds its sequent at its new number
 rotated_place : (firsts : List Sequent) (last : Sequent) (i : ℕ)
     → AnswersAsStrong (slice_get (firsts ++ last ∷ []) (rotated_number (suc (length firsts)) i)) (slice_get (last ∷ firsts) i)
@@ -127,7 +141,7 @@ rotated_place firsts last zero =
     let place : suc (length firsts) - 1 ≡ length firsts = omega arith in
     subst (λ (n : ℕ). AnswersAsStrong (slice_get (firsts ++ last ∷ []) n) (Some last)) (sym place)
     (subst (λ (found : Option Sequent). AnswersAsStrong found (Some last)) (sym (slice_get-last firsts last)) (IsAsStrong-self last))
-rotated_place firsts last (suc i) = slice_get-longer firsts (last ∷ []) i
+rotated_place firsts last (suc i) = later_place firsts last i
 
 no_sequents : (n i : ℕ) → AnswersAsStrong (slice_get {X = Sequent} [] (rotated_number n i)) (slice_get {X = Sequent} [] i)
 no_sequents n i = tt

@@ -12,7 +12,10 @@ ghost use Rattle.hol_session_laws.specs.Examples.{ExpressionsAreSpelled, GoalsAr
 ghost use Rattle.hol_session_laws.specs.ReadTerms.{ReadTermsAreKnown, VariablesStayKnown, ScopesAreOver};
 ghost use Rattle.hol_session_laws.specs.ValidSessions.{TurnsKeepValid, ExpansionsAreRefused};
 ghost use Rattle.hol_session_laws.specs.UniqueReadings.{QuotesAreUnambiguous, ConversionsAreUnambiguous, TacticsAreUnambiguous, PartsAreUnambiguous, CommandsAreUnambiguous};
+ghost use Rattle.hol_session_laws.specs.HeadlineLaws.{NoLineIsFalsity, RefusalsAreNoTheorems};
 ghost use Rattle.hol_session_laws.specs.SessionLaws.{MayLackMemory, RefusalsChangeNothing, TheoriesStayLegal, TheoriesGrow, PrintedTheoremsAreProved, NoSubgoalsMeansProved, PrintedTheoremsStay};
+
+use hol_sound::consistent;
 
 /// What refiners, conversions, the decision of tautologies and replays may answer.
 pub trait Toolbox {
@@ -192,4 +195,16 @@ pub fn tools_refine_validly<H: Hosted>()
 /// An expansion has cost a step, and leaves further lemmas alone.
 pub fn expansions_spend<H: Hosted>()
     ensures { ExpansionsSpend H.host }
+{}
+
+/// No line of a script's output tells falsity without hypotheses.
+pub fn no_line_is_falsity()
+    ensures { NoLineIsFalsity }
+{
+    consistent();
+}
+
+/// A line that tells a refusal is no theorem's.
+pub fn refusals_are_no_theorems()
+    ensures { RefusalsAreNoTheorems }
 {}

@@ -4,6 +4,7 @@ ghost use Rattle.std.specs.Option.{option_map};
 ghost use Rattle.hol_model.specs.Terms.NamedTerm as spec;
 ghost use Rattle.hol_model.specs.Terms.NamedTerm.{NamedTerm, variable, constant, combination, abstraction, height, nodes, type_of, is_within_limits, is_variable, abstract, dest_variable, dest_constant, dest_combination, dest_abstraction};
 ghost use Rattle.hol_model.specs.Terms.Name.{is_identifier, is_constant_name};
+ghost use Rattle.hol_model.specs.Terms.WellNamed.{is_well_named};
 ghost use Rattle.hol_model.specs.Kernel.Outcome.{Answers};
 ghost use Rattle.hol_model.specs.Kernel.Rules.{abstraction_outcome};
 ghost use Rattle.hol_model.specs.Kernel.Constructors.{variable_outcome, constant_outcome, combination_outcome};
@@ -139,6 +140,13 @@ impl Term {
         let _node = &self.node;
     }
 
+    /// Each name in the term is of its kind, bound names too. Nothing is computed: the clause is the law, for callers' proofs.
+    pub fn well_named(&self)
+        ensures { IsTrue (is_well_named self.now) }
+    {
+        let _node = &self.node;
+    }
+
     /// The type of the term.
     pub fn ty(&self) -> &Ty
         ensures { type_of self.now ≡ Some result.now }
@@ -185,6 +193,7 @@ impl Term {
         ensures err { IfErr result (λ fault. fault ≡ Memory) }
     {
         let _within_limit = ty.nodes();
+        ty.well_named();
         let ty = ty.copy(alloc)?;
         let has_tyvars = ty.has_tyvars();
         Term::from_node(

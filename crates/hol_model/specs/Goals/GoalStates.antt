@@ -1,5 +1,5 @@
 -- The proof of a goal under way, and what can be taken back (Edinburgh LCF's goals, HOL Light's `g`, `e`, `b`, `r`).
-use Rattle.std.specs.Prelude.{ℕ, zero, suc, ◌-◌, Bool, true, false, List, [], ◌∷◌, ◌++◌, length, map, take, Option, Some, None, Result, Ok, Err}
+use Rattle.std.specs.Prelude.{ℕ, zero, suc, ◌-◌, nat_lt, if◌then◌else◌, Bool, true, false, List, [], ◌∷◌, ◌++◌, length, map, take, Option, Some, None, Result, Ok, Err}
 use Rattle.hol_model.specs.declared.fault.Fault.{Fault}
 use Rattle.hol_model.specs.declared.fault.Fault.TheVariants.{TooLarge, NotBool, NoGoal, GoalsRemain, NothingToUndo, InvalidStep}
 use Rattle.hol_model.specs.declared.limits.TheConstants.{KEPT_EXPANSIONS_LIMIT}
@@ -74,10 +74,10 @@ abbrev pub rotated_goals : List Goal → List Goal
 rotated_goals [] = []
 rotated_goals (goal ∷ goals) = goals ++ goal ∷ []
 
--- the number that a subgoal has then, where there are so many
+-- the number that a subgoal has then, where there are so many: a number past them stays
 abbrev pub rotated_number : ℕ → ℕ → ℕ
 rotated_number goals zero = goals - 1
-rotated_number goals (suc i) = i
+rotated_number goals (suc i) = if nat_lt (suc i) goals then i else suc i
 
 abbrev pub rotated_once : Step → Step
 rotated_once step = record {

@@ -16,7 +16,7 @@ use Rattle.hol_model.specs.Derived.DerivedRules.{is_roomy}
 use Rattle.hol_model.specs.Goals.Goals.{Sequent, Goal}
 use Rattle.hol_model.specs.Derived.InferenceRules.{InferenceRule, rule_refl, rule_abs, rule_beta, rule_assume, rule_inst, rule_add_assum, rule_beta_conv, rule_disch, rule_spec, rule_gen, rule_disj1, rule_disj2, rule_contr, rule_exists, rule_choose}
 use Rattle.hol_model.specs.Goals.Justifications.{Justification, sub, named, lemma, by_rule, Parts, no_parts, part, NamedSequents, sequent_over, Subgoals, sequent_of}
-use Rattle.hol_model.specs.Goals.ValidSteps.{Step, supposed, false_twice, PassesReplays}
+use Rattle.hol_model.specs.Goals.ValidSteps.{Step, supposed, false_twice}
 
 -- ---- the theorems that a justification may name
 
@@ -151,9 +151,3 @@ has_room_for_step theory store step =
     list_all is_roomy (terms_of_goals step.goals)
     && (has_room theory (sequents_in store) (map (supposed false_term) step.goals) step.justification
     && has_room theory (sequents_in store) (map (supposed false_twice) step.goals) step.justification)
-
--- accepted are exactly the steps that pass both replays
-abbrev pub AnswersAccept : {A : Type 0} → Theory → Store → Goal → Step → Result A Fault → Type 0
-AnswersAccept theory store goal step (Ok x) = PassesReplays theory (sequents_in store) goal step
-AnswersAccept theory store goal step (Err fault) =
-    ((fault ≡ InvalidStep) × (¬ (PassesReplays theory (sequents_in store) goal step))) ⊎ IsWant fault (has_room_for_step theory store step)

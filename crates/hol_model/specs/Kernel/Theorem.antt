@@ -1,8 +1,10 @@
 -- Theorems: what stands on which entries, and in which order hypotheses stand.
-use Rattle.std.specs.Prelude.{◌≡◌, List, [], ◌∷◌, Bool, not, map, filter}
+use Rattle.std.specs.Prelude.{◌≡◌, List, [], ◌∷◌, Bool, true, not, map, filter}
+use Rattle.std.specs.List.{list_all}
 use Rattle.std.specs.declared.cmp.Ordering.{Ordering}
 use Rattle.std.specs.declared.cmp.Ordering.TheVariants.{Less, Equal, Greater}
-use Rattle.hol_model.specs.Terms.NamedTerm.{NamedTerm}
+use Rattle.hol_model.specs.Terms.NamedTerm.{NamedTerm, is_within_limits}
+use Rattle.hol_model.specs.Terms.WellNamed.{is_well_named}
 use Rattle.hol_model.specs.Terms.Nameless.{image, nameless_cmp, same_term}
 use Rattle.hol_model.specs.Logic.Theory.{Theory, IsLegal}
 use Rattle.hol_model.specs.Logic.Derivable.{Derivable}
@@ -29,6 +31,12 @@ pub record IsTheorem (theorem : Theorem) : Type 0 where
   pub legal : IsLegal theorem.theory
   pub derivable : Derivable theorem.theory (map image theorem.hypotheses) (image theorem.conclusion)
   pub ordered : AreOrdered theorem.hypotheses
+
+-- what every theorem of the program is besides: within the limits, and each name in it is of its kind
+pub record IsWellFormed (theorem : Theorem) : Type 0 where
+  pub is_theorem : IsTheorem theorem
+  pub within_limits : list_all is_within_limits (theorem.conclusion ∷ theorem.hypotheses) ≡ true
+  pub well_named : list_all is_well_named (theorem.conclusion ∷ theorem.hypotheses) ≡ true
 
 -- the same up to the names of bound variables
 abbrev pub are_alpha_equivalent : NamedTerm → NamedTerm → Bool

@@ -58,8 +58,13 @@ pub record IsAcceptable (theory : Theory) (store : Store) (goal : Goal) (step : 
   pub known : AreKnownGoals theory step.goals
   pub passes : PassesReplays theory (sequents_in store) goal step
 
+-- the test of a step: accepted are exactly the steps that are acceptable
+abbrev pub AnswersAccept : {A : Type 0} → Theory → Store → Goal → Step → Result A Fault → Type 0
+AnswersAccept theory store goal step (Ok x) = IsAcceptable theory store goal step
+AnswersAccept theory store goal step (Err fault) =
+    ((fault ≡ InvalidStep) × (¬ (IsAcceptable theory store goal step))) ⊎ IsWant fault (has_room_for_step theory store step)
+
 -- a host's step is taken as it is where it is acceptable, and else refused
 abbrev pub AnswersHostStep : Theory → Store → Goal → Step → Result Step Fault → Type 0
 AnswersHostStep theory store goal answered (Ok step) = IsAcceptable theory store goal answered × (step ≡ answered)
-AnswersHostStep theory store goal answered (Err fault) =
-    ((fault ≡ InvalidStep) × (¬ (IsAcceptable theory store goal answered))) ⊎ IsWant fault (has_room_for_step theory store answered)
+AnswersHostStep theory store goal answered (Err fault) = AnswersAccept {A = Step} theory store goal answered (Err fault)

@@ -1,5 +1,5 @@
 -- Which answers the commands of a script may have, and what a run writes.
-use Rattle.std.specs.Prelude.{◌≡◌, ℕ, ◌+◌, Bool, true, false, not, nat_eq, List, [], ◌∷◌, ◌++◌, map, Option, None, Some, IfSome, Result, Ok, Err, codes, decimal, if◌then◌else◌}
+use Rattle.std.specs.Prelude.{◌≡◌, ℕ, ◌+◌, Bool, true, false, not, nat_eq, List, [], ◌∷◌, ◌++◌, map, Option, None, Some, Result, Ok, Err, codes, if◌then◌else◌}
 use Rattle.std.specs.Str.{bytes_eq}
 use Rattle.std.specs.List.{ends_with}
 use Rattle.std.specs.Io.KnownBytes.{Appends}
@@ -11,7 +11,6 @@ use Rattle.hol_model.specs.declared.rule.PremisesRule.{PremisesRule}
 use Rattle.hol_model.specs.declared.rule.PremisesRule.TheVariants.{ProveHyp, Conj, Mp}
 use Rattle.hol_model.specs.declared.rule.TermPremiseRule.{TermPremiseRule}
 use Rattle.hol_model.specs.declared.rule.TermPremiseRule.TheVariants.{AddAssum, Disch, Spec, Gen, Disj1, Disj2, Contr}
-use Rattle.hol_model.specs.Kernel.Fault.{number_of, name_of}
 use Rattle.hol_model.specs.Terms.HolType.{HolType, type_variable}
 use Rattle.hol_model.specs.Terms.NamedTerm.{NamedTerm}
 use Rattle.hol_model.specs.Terms.Nameless.{Nameless, image}
@@ -20,7 +19,7 @@ use Rattle.hol_model.specs.Logic.KnownTerm.{is_declared}
 use Rattle.hol_model.specs.Logic.Derivable.{Derivable}
 use Rattle.hol_model.specs.Models.Holds.{Holds}
 use Rattle.hol_model.specs.Kernel.Outcome.{given}
-use Rattle.hol_model.specs.Kernel.Theorem.{Theorem}
+use Rattle.hol_model.specs.Kernel.Theorem.{Theorem, AreOrdered}
 use Rattle.hol_model.specs.Kernel.Rules.{abs_outcome, define_outcome, new_type_outcome, new_const_outcome}
 use Rattle.hol_model.specs.Kernel.Instantiation.{inst_refusal, IsInst, inst_type_refusal, IsInstType}
 use Rattle.hol_model.specs.Logic.Logic.{logical_definitions}
@@ -30,8 +29,10 @@ use Rattle.hol_model.specs.Derived.DerivedRules.{Stated, AnswersStated, terms_of
 use Rattle.hol_model.specs.Texts.TypeGrammar.{TypeTree}
 use Rattle.hol_model.specs.Texts.TermGrammar.{TermTree}
 use Rattle.hol_model.specs.Texts.Reading.{Scope, type_meaning, meaning, ◌>>=◌}
-use Rattle.hol_model.specs.Texts.Texts.{text_of_sequent}
+use Rattle.hol_model.specs.Texts.SequentTexts.{IsReadableFormula, AreReadableFormulas}
+use Rattle.hol_model.specs.Texts.KnownText.{Tells}
 use Rattle.hol_model.specs.Scripts.Script.{Request, Cuts, requested}
+pub use Rattle.hol_model.specs.Scripts.Lines.{theorem_line, refusal_line}
 use Rattle.hol_model.specs.Scripts.Commands.{DerivedTree, by_conversion, by_premise, by_premises, by_term_and_premise, by_cases, by_witness, by_choice, RuleTree, by_term, by_pair, by_abs, by_inst, by_inst_type, by_axiom, by_derived, CommandTree, thm_command, show_command, var_command, def_command, newtype_command, newconst_command, SpellsCommand}
 
 -- what a session keeps: the entries of its theory, the declared variables and the stored theorems
@@ -215,7 +216,7 @@ pub data Reply : Type 0 where
 -- In the old state the text, or what stands behind the last `;;`, may answer so and leave the new state. A refusal
 -- leaves the state as it was.
 pub data Allows : State → Option (List ℕ) → Reply → State → Type 0 where
-  finds_no_memory : {state : State} {text : Option (List ℕ)} → Allows state text (refused Memory) state
+  finds_no_memory : {state : State} {text : List ℕ} → Allows state (Some text) (refused Memory) state
   is_unfinished : {state : State} → Allows state None (refused Syntax) state
   is_no_command : {state : State} {text : List ℕ} → ((tree : CommandTree) → ¬ (SpellsCommand text tree)) → Allows state (Some text) (refused Syntax) state
   thm_has_bad_name : {state : State} {text name : List ℕ} {rule : RuleTree} → SpellsCommand text (thm_command name rule) → is_theorem_name name ≡ false → Allows state (Some text) (refused BadName) state
@@ -235,27 +236,23 @@ pub data Allows : State → Option (List ℕ) → Reply → State → Type 0 whe
 
 -- ---- theorems
 
--- the sequent follows from the entries of a legal theory, and holds in every finite standard model
-pub record IsProved (theory : Theory) (theorem : Theorem) : Type 0 where
-  pub legal : IsLegal theory
-  pub derivable : Derivable theory (map image theorem.hypotheses) (image theorem.conclusion)
-  pub holds : Holds theory (map image theorem.hypotheses) (image theorem.conclusion)
+-- The sequent follows from the entries of a legal theory, and holds in every finite standard model; its hypotheses stand in
+-- order, no two of them alpha-equivalent, and each of its terms is told by its text.
+pub record IsProved (state : State) (theorem : Theorem) : Type 0 where
+  pub legal : IsLegal state.theory
+  pub derivable : Derivable state.theory (map image theorem.hypotheses) (image theorem.conclusion)
+  pub holds : Holds state.theory (map image theorem.hypotheses) (image theorem.conclusion)
+  pub ordered : AreOrdered theorem.hypotheses
+  pub readable_hypotheses : AreReadableFormulas (scope_in state) theorem.hypotheses
+  pub readable_conclusion : IsReadableFormula (scope_in state) theorem.conclusion
 
 -- a theorem that is printed is proved from the entries accepted so far
-abbrev pub IsProvedReply : Theory → Reply → Type 0
-IsProvedReply theory (proves name theorem) = IsProved theory theorem
-IsProvedReply theory accepts = Unit {0}
-IsProvedReply theory (refused fault) = Unit {0}
+abbrev pub IsProvedReply : State → Reply → Type 0
+IsProvedReply state (proves name theorem) = IsProved state theorem
+IsProvedReply state accepts = Unit {0}
+IsProvedReply state (refused fault) = Unit {0}
 
 -- ---- what is printed
-
--- a theorem's line
-abbrev pub theorem_line : Scope → List ℕ → Theorem → List ℕ
-theorem_line scope name theorem = name ++ codes ": " ++ text_of_sequent scope theorem.hypotheses theorem.conclusion ++ codes "\n"
-
--- the line for a refusal
-abbrev pub refusal_line : ℕ → Fault → List ℕ
-refusal_line line fault = codes "line " ++ decimal line ++ codes ": E" ++ decimal (number_of fault) ++ codes " " ++ name_of fault ++ codes "\n"
 
 -- the text of a reply to the command in this line
 abbrev pub reply_text : ℕ → Scope → Reply → List ℕ
@@ -268,7 +265,7 @@ reply_text line scope (refused fault) = refusal_line line fault
 -- one command of a session
 pub record Turn (old : State) (text : Option (List ℕ)) (reply : Reply) (new : State) : Type 0 where
   pub allowed : Allows old text reply new
-  pub proved : IsProvedReply new.theory reply
+  pub proved : IsProvedReply new reply
 
 -- From the old state a session of these requests may give these replies, one for each, write this text and end in the new
 -- state.
@@ -311,10 +308,6 @@ pub record IsRun (script out : List ℕ) (counts : Counts) : Type 0 where
   pub final : State
   pub session : Session start (requested 1 pieces last) replies out final
   pub counted : counts ≡ counts_after no_counts replies
-
--- the bytes are those that a device tells, where it tells any
-abbrev pub Tells : Option (List ℕ) → List ℕ → Type 0
-Tells known bytes = IfSome known (λ told. told ≡ bytes)
 
 -- What was read and written is a whole run.
 pub record Completes (input written new_written : Option (List ℕ)) (counts : Counts) : Type 0 where

@@ -9,7 +9,7 @@ use Rattle.hol_session.proofs.SessionLemmas.{forgets, unlexed, unread_command, t
 use Rattle.hol_script.proofs.execute.execute.Goals as goal
 
 pub returns-in-Err-Memory-clause-turns : goal.returns-in-Err-Memory-clause-turns
-returns-in-Err-Memory-clause-turns c = forgets (state_of c.args.session.now) (Some c.args.text.now) Memory refl
+returns-in-Err-Memory-clause-turns c = forgets (state_of c.args.session.now) c.args.text.now Memory refl
 
 pub returns-in-Err-Syntax-clause-turns : goal.returns-in-Err-Syntax-clause-turns
 returns-in-Err-Syntax-clause-turns c =
@@ -55,7 +55,7 @@ returns-in-Ok-NewConst-clause-turns c =
     (rw c.in-Ok-NewConst.field-0-is at c.in-Ok-NewConst.ensures) (λ given tree spelled steps. c.newconst.ensures.turns given tree spelled (ap steps_of c.deref-in-Ok-NewConst.ensures.value ∙ steps))
 
 pub returns-in-Err-Memory-parse_command-clause-turns : goal.returns-in-Err-Memory-parse_command-clause-turns
-returns-in-Err-Memory-parse_command-clause-turns c = forgets (state_of c.args.session.now) (Some c.args.text.now) Memory refl
+returns-in-Err-Memory-parse_command-clause-turns c = forgets (state_of c.args.session.now) c.args.text.now Memory refl
 
 pub returns-clause-turns : goal.returns-clause-turns
 returns-clause-turns c =

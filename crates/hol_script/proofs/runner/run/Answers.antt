@@ -1,7 +1,8 @@
 use Rattle.std.proofs.Common.{◌≡◌, List, ℕ, false, sym, subst, inr}
 use Rattle.hol_model.specs.declared.fault.Fault.TheVariants.{TooLong, WriteFault}
-use Rattle.hol_model.specs.Scripts.Sessions.{Tells}
-use Rattle.hol_script.proofs.RunLemmas.{unread, ends_by}
+use Rattle.hol_model.specs.Texts.KnownText.{Tells}
+use Rattle.hol_script.proofs.HeadlineLemmas.{completes_told, stops_told}
+use Rattle.hol_script.proofs.RunLemmas.{unread, ends_by, stops_by}
 use Rattle.hol_script.proofs.RunLogLemmas.{run_is_named, completes_log, stops_in_log, has_long_log, stops_whole, listed_of_session, listed_of_log, same_refusal}
 use Rattle.hol_script.proofs.runner.run.Goals as goal
 
@@ -42,3 +43,26 @@ returns-clause-write_fault g c = λ is.
 
 pub returns-clause-refusals : goal.returns-clause-refusals
 returns-clause-refusals g c = listed_of_log c.in-Err-write_log.fault c.in-Err-write_log.ensures.refusals
+
+pub returns-in-Err-clause-told_front : goal.returns-in-Err-clause-told_front
+returns-in-Err-clause-told_front g c = stops_told (unread _ _)
+
+pub returns-clause-told_front : goal.returns-clause-told_front
+returns-clause-told_front g c =
+    let told = subst (λ (bytes : List ℕ). Tells (g.R.Source.remaining c.args.reader.now) bytes) (sym c.as_slice.ensures.value) c.in-Ok.ensures.all in
+    stops_told (stops_whole c.in-Ok-run_script.progress (ends_by c.as_slice.result.now told c.in-Ok-run_script.ensures.ok))
+
+pub returns-in-Err-run_script-clause-told_front : goal.returns-in-Err-run_script-clause-told_front
+returns-in-Err-run_script-clause-told_front g c =
+    let told = subst (λ (bytes : List ℕ). Tells (g.R.Source.remaining c.args.reader.now) bytes) (sym c.as_slice.ensures.value) c.in-Ok.ensures.all in
+    stops_told (stops_by c.as_slice.result.now told c.in-Err-run_script.ensures.err)
+
+pub returns-then-not-wants_log-clause-told : goal.returns-then-not-wants_log-clause-told
+returns-then-not-wants_log-clause-told g c =
+    let told = subst (λ (bytes : List ℕ). Tells (g.R.Source.remaining c.args.reader.now) bytes) (sym c.as_slice.ensures.value) c.in-Ok.ensures.all in
+    completes_told (ends_by c.as_slice.result.now told c.in-Ok-run_script.ensures.ok).completes
+
+pub returns-in-Ok-write_log-clause-told : goal.returns-in-Ok-write_log-clause-told
+returns-in-Ok-write_log-clause-told g c =
+    let told = subst (λ (bytes : List ℕ). Tells (g.R.Source.remaining c.args.reader.now) bytes) (sym c.as_slice.ensures.value) c.in-Ok.ensures.all in
+    completes_told (ends_by c.as_slice.result.now told c.in-Ok-run_script.ensures.ok).completes

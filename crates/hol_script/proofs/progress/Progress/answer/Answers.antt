@@ -5,4 +5,4 @@ use Rattle.hol_session.proofs.SessionLemmas.{forgets}
 use Rattle.hol_script.proofs.progress.Progress.answer.Goals as goal
 
 pub returns-then-is_err-clause-turns : goal.returns-then-is_err-clause-turns
-returns-then-is_err-clause-turns c = forgets (state_of c.args.self.now.session) (Some c.args.text.now) Memory refl
+returns-then-is_err-clause-turns c = forgets (state_of c.args.self.now.session) c.args.text.now Memory refl

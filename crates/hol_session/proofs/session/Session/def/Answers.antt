@@ -1,4 +1,4 @@
-use Rattle.std.proofs.Common.{refl, sym, subst, ap, ◌∙◌, Some, Err, Option}
+use Rattle.std.proofs.Common.{refl, sym, subst, ap, ◌∙◌, Err, Option}
 use Rattle.std.specs.Prelude.{is_some}
 use Rattle.hol_model.specs.declared.fault.Fault.TheVariants.{Memory}
 use Rattle.hol_model.specs.Terms.HolType.{HolType}
@@ -12,7 +12,7 @@ use Rattle.hol_session.proofs.session.Session.def.Goals as goal
 pub returns-in-Err-clause-turns : goal.returns-in-Err-clause-turns
 returns-in-Err-clause-turns c = λ text tree spelled steps.
     let old = c.args.self.now in
-    refuses_by (state_of old) (state_of old) (Some text) c.in-Err.fault refl (c.in-Err.ensures tree steps)
+    refuses_by (state_of old) (state_of old) text c.in-Err.fault refl (c.in-Err.ensures tree steps)
     (λ refused. def_is_refused spelled (def-argument_refused (state_of old) c.args.name.now tree c.in-Err.fault refused))
 
 pub refusal_of_definition-requires : goal.refusal_of_definition-requires
@@ -23,7 +23,7 @@ refusal_of_definition-requires c =
 pub returns-in-Err-NameTaken-clause-turns : goal.returns-in-Err-NameTaken-clause-turns
 returns-in-Err-NameTaken-clause-turns c = λ text tree spelled steps.
     let old = c.args.self.now in
-    refuses_by (state_of old) (state_of c.refusal_of_definition.new.self) (Some text) c.refusal_of_definition.result
+    refuses_by (state_of old) (state_of c.refusal_of_definition.new.self) text c.refusal_of_definition.result
     (ap state_of c.refusal_of_definition.ensures.kept ∙ kept_state old (made old old.recorder c.add_const.new.self) refl c.in-Err-NameTaken.ensures.kept (same_store _)) c.refusal_of_definition.ensures.fault
     (λ refused. def_is_refused spelled (def_outcome-is (state_of old) c.args.name.now tree c.in-Ok.term (c.in-Ok.ensures tree steps) ∙ refused))
 
@@ -35,7 +35,7 @@ returns-in-Err-NameTaken-clause-kept c =
 pub returns-in-Err-add_const-clause-turns : goal.returns-in-Err-add_const-clause-turns
 returns-in-Err-add_const-clause-turns c = λ text tree spelled steps.
     let old = c.args.self.now in
-    forgets_here (state_of old) (state_of (made old old.recorder c.add_const.new.self)) (Some text) Memory
+    forgets_here (state_of old) (state_of (made old old.recorder c.add_const.new.self)) text Memory
     (kept_state old (made old old.recorder c.add_const.new.self) refl c.in-Err-add_const.ensures.kept (same_store _)) refl
 
 pub returns-in-Err-add_const-clause-kept : goal.returns-in-Err-add_const-clause-kept
@@ -58,7 +58,7 @@ returns-clause-turns c = λ text tree spelled steps.
     let new = with_scope c.define.new.self c.remove_const.new.self in
     let keeps = removed_after old c.add_const.new.self c.define.new.self c.remove_const.new.self c.args.name.now c.ty.result.now c.in-Ok-add_const.ensures.ok c.in-Err-define.ensures.kept c.remove_const.ensures
     (not_some ((scope_of old.scope).generic_type c.args.name.now) (λ known. never (c.in-Ok-add_const.ensures.taken.1 known))) in
-    refuses_by (state_of old) (state_of new) (Some text) c.in-Err-define.fault
+    refuses_by (state_of old) (state_of new) text c.in-Err-define.fault
     (kept_state old new c.in-Err-define.ensures.kept.recorder keeps c.in-Err-define.ensures.kept.store) c.in-Err-define.ensures.err
     (λ refused. def_is_refused spelled (def_outcome-is (state_of old) c.args.name.now tree c.in-Ok.term (c.in-Ok.ensures tree steps) ∙ refused))
 

@@ -22,7 +22,7 @@ returns-clause-ok c =
     record {
       answer = answer;
       outcome = c.in-Ok-define.ensures.outcome;
-      is_theorem = rw c.thm.ensures at c.concl-theorem.ensures.theorem;
+      well_formed = rw c.thm.ensures at c.well_formed-2.ensures;
       theory = sym recorded.stands_on;
       made = grow.made before after _ answer recorded;
       grown = grow.grown before after _ answer recorded;

@@ -14,7 +14,7 @@ use Rattle.hol_session.proofs.session.Session.newconst.Goals as goal
 pub returns-in-Err-clause-turns : goal.returns-in-Err-clause-turns
 returns-in-Err-clause-turns c = λ text tree spelled steps.
     let old = c.args.self.now in
-    refuses_by (state_of old) (state_of old) (Some text) c.in-Err.fault refl (c.in-Err.ensures tree steps)
+    refuses_by (state_of old) (state_of old) text c.in-Err.fault refl (c.in-Err.ensures tree steps)
     (λ refused. newconst_is_refused spelled (newconst-argument_refused (state_of old) c.args.name.now tree c.in-Err.fault refused))
 
 pub refusal_of_const-requires : goal.refusal_of_const-requires
@@ -25,7 +25,7 @@ refusal_of_const-requires c =
 pub returns-in-Err-NameTaken-clause-turns : goal.returns-in-Err-NameTaken-clause-turns
 returns-in-Err-NameTaken-clause-turns c = λ text tree spelled steps.
     let old = c.args.self.now in
-    refuses_by (state_of old) (state_of c.refusal_of_const.new.self) (Some text) c.refusal_of_const.result
+    refuses_by (state_of old) (state_of c.refusal_of_const.new.self) text c.refusal_of_const.result
     (ap state_of c.refusal_of_const.ensures.kept ∙ kept_state old (made old old.recorder c.add_const.new.self) refl c.in-Err-NameTaken.ensures.kept (same_store _)) c.refusal_of_const.ensures.fault
     (λ refused. newconst_is_refused spelled (newconst_outcome-is (state_of old) c.args.name.now tree c.in-Ok.ty (c.in-Ok.ensures tree steps) ∙ refused))
 
@@ -51,7 +51,7 @@ returns-clause-turns c = λ text tree spelled steps.
     let old = c.args.self.now in
     let keeps = const_removed (scope_of old.scope) (scope_of c.add_const.new.self) (scope_of c.remove_const.new.self) c.args.name.now c.in-Ok.ty c.in-Ok-add_const.ensures.ok c.remove_const.ensures
     (not_some ((scope_of old.scope).generic_type c.args.name.now) (λ known. never (c.in-Ok-add_const.ensures.taken.1 known))) in
-    refuses_by (state_of old) (state_of (made old c.new_const.new.self c.remove_const.new.self)) (Some text) c.in-Err-new_const.fault
+    refuses_by (state_of old) (state_of (made old c.new_const.new.self c.remove_const.new.self)) text c.in-Err-new_const.fault
     (kept_state old (made old c.new_const.new.self c.remove_const.new.self) c.in-Err-new_const.ensures.kept keeps (same_store _)) c.in-Err-new_const.ensures.outcome
     (λ refused. newconst_is_refused spelled (newconst_outcome-is (state_of old) c.args.name.now tree c.in-Ok.ty (c.in-Ok.ensures tree steps) ∙ refused))
 
@@ -65,7 +65,7 @@ returns-clause-kept c =
 pub returns-in-Err-add_const-clause-turns : goal.returns-in-Err-add_const-clause-turns
 returns-in-Err-add_const-clause-turns c = λ text tree spelled steps.
     let old = c.args.self.now in
-    forgets_here (state_of old) (state_of (made old old.recorder c.add_const.new.self)) (Some text) Memory
+    forgets_here (state_of old) (state_of (made old old.recorder c.add_const.new.self)) text Memory
     (kept_state old (made old old.recorder c.add_const.new.self) refl c.in-Err-add_const.ensures.kept (same_store _)) refl
 
 pub returns-in-Err-add_const-clause-kept : goal.returns-in-Err-add_const-clause-kept

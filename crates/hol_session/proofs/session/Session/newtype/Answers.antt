@@ -16,7 +16,7 @@ refusal_of_type-requires c =
 pub returns-in-Err-NameTaken-clause-turns : goal.returns-in-Err-NameTaken-clause-turns
 returns-in-Err-NameTaken-clause-turns c = λ text spelled.
     let old = c.args.self.now in
-    refuses_by (state_of old) (state_of c.refusal_of_type.new.self) (Some text) c.refusal_of_type.result
+    refuses_by (state_of old) (state_of c.refusal_of_type.new.self) text c.refusal_of_type.result
     (ap state_of c.refusal_of_type.ensures.kept ∙ kept_state old (made old old.recorder c.add_type.new.self) refl c.in-Err-NameTaken.ensures.kept (same_store _)) c.refusal_of_type.ensures.fault (λ refused. newtype_is_refused spelled refused)
 
 pub returns-in-Err-NameTaken-clause-kept : goal.returns-in-Err-NameTaken-clause-kept
@@ -27,7 +27,7 @@ returns-in-Err-NameTaken-clause-kept c =
 pub returns-in-Err-clause-turns : goal.returns-in-Err-clause-turns
 returns-in-Err-clause-turns c = λ text spelled.
     let old = c.args.self.now in
-    forgets_here (state_of old) (state_of (made old old.recorder c.add_type.new.self)) (Some text) Memory
+    forgets_here (state_of old) (state_of (made old old.recorder c.add_type.new.self)) text Memory
     (kept_state old (made old old.recorder c.add_type.new.self) refl c.in-Err.ensures.kept (same_store _)) refl
 
 pub returns-in-Err-clause-kept : goal.returns-in-Err-clause-kept
@@ -51,7 +51,7 @@ returns-in-Err-new_type-clause-turns c = λ text spelled.
     let old = c.args.self.now in
     let keeps = type_removed (scope_of old.scope) (scope_of c.add_type.new.self) (scope_of c.remove_type.new.self) c.args.name.now c.in-Ok.ensures.ok c.remove_type.ensures
     (not_true ((scope_of old.scope).declares_type c.args.name.now) (λ known. never (c.in-Ok.ensures.taken.1 known))) in
-    refuses_by (state_of old) (state_of (made old c.new_type.new.self c.remove_type.new.self)) (Some text) c.in-Err-new_type.fault
+    refuses_by (state_of old) (state_of (made old c.new_type.new.self c.remove_type.new.self)) text c.in-Err-new_type.fault
     (kept_state old (made old c.new_type.new.self c.remove_type.new.self) c.in-Err-new_type.ensures.kept keeps (same_store _)) c.in-Err-new_type.ensures.outcome (λ refused. newtype_is_refused spelled refused)
 
 pub returns-in-Err-new_type-clause-kept : goal.returns-in-Err-new_type-clause-kept

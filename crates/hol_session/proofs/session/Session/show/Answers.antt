@@ -21,8 +21,8 @@ returns-in-Ok c = λ text spelled.
     let theorem = c.in-Some.theorem.now.theorem in
     prints (state_of session) (state_of session) (Some text) c.args.name.now theorem c.in-Ok.line
     (show_prints spelled (ap theorem_of (sym c.in-Some.ensures.found)))
-    (proved session.recorder.theory theorem c.sound.ensures c.requires.legal (rw c.thm-thm.ensures at c.concl-theorem.ensures.theorem) (c.requires.made.theorems c.args.name.now c.in-Some.theorem.now (sym c.in-Some.ensures.found)).earlier)
+    (proved (state_of session) theorem c.sound.ensures c.requires.legal (rw c.thm-thm.ensures at c.well_formed-2.ensures) (c.requires.made.theorems c.args.name.now c.in-Some.theorem.now (sym c.in-Some.ensures.found)).earlier)
     (subst (λ (scope : Scope). IsLineOf c.in-Ok.line scope c.args.name.now theorem) (scope_same session c.requires) (rw c.thm-thm.ensures at c.in-Ok.ensures.ok))
 
 pub returns-in-Err : goal.returns-in-Err
-returns-in-Err c = λ text spelled. forgets (state_of c.args.self.now) (Some text) c.in-Err.fault c.in-Err.ensures.err
+returns-in-Err c = λ text spelled. forgets (state_of c.args.self.now) text c.in-Err.fault c.in-Err.ensures.err

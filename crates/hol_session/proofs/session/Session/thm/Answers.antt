@@ -30,7 +30,7 @@ returns-in-Err-clause-kept c = rule_session c.args.self.now c.apply.new.self (Er
 
 pub returns-in-Err-theorem_line-clause-turns : goal.returns-in-Err-theorem_line-clause-turns
 returns-in-Err-theorem_line-clause-turns c = λ text tree spelled rule.
-    forgets_here (state_of c.args.self.now) (state_of c.apply.new.self) (Some text) c.in-Err-theorem_line.fault
+    forgets_here (state_of c.args.self.now) (state_of c.apply.new.self) text c.in-Err-theorem_line.fault
     (rule_state c.args.self.now c.apply.new.self (Ok c.in-Ok.theorem) c.in-Ok.ensures.grows) c.in-Err-theorem_line.ensures.err
 
 pub returns-in-Err-theorem_line-clause-kept : goal.returns-in-Err-theorem_line-clause-kept
@@ -53,11 +53,11 @@ returns-in-Ok-store-clause-turns c = λ text tree spelled rule.
     thm_prints_after (state_of old) (state_of mid) (state_of c.store.new.self) text c.args.name.now tree answer.theorem c.in-Ok-theorem_line.line (rule_state old mid (Ok answer) grows)
     spelled (sym c.if-not-is_theorem_name.ensures)
     (untaken c.get.result _ c.get.ensures.found c.if-is_some.ensures) (c.in-Ok.ensures.answers tree rule)
-    (proved mid.recorder.theory answer.theorem c.sound.ensures known.legal (rw c.thm-thm.ensures at c.concl-theorem.ensures.theorem) earlier)
+    (proved (state_of mid) answer.theorem c.sound.ensures known.legal (rw c.thm-thm.ensures at c.well_formed-2.ensures) earlier)
     (subst (λ (scope : Scope). IsLineOf c.in-Ok-theorem_line.line scope c.args.name.now answer.theorem) (scope_same mid known) (rw c.thm-thm.ensures at c.in-Ok-theorem_line.ensures.ok))
     c.in-Ok-store.ensures.ok
 
 pub returns-in-Err-store-clause-turns : goal.returns-in-Err-store-clause-turns
 returns-in-Err-store-clause-turns c = λ text tree spelled rule.
-    forgets_here (state_of c.args.self.now) (state_of c.store.new.self) (Some text) c.in-Err-store.fault
+    forgets_here (state_of c.args.self.now) (state_of c.store.new.self) text c.in-Err-store.fault
     (c.in-Err-store.ensures.err ∙ rule_state c.args.self.now c.apply.new.self (Ok c.in-Ok.theorem) c.in-Ok.ensures.grows) c.in-Err-store.ensures.memory

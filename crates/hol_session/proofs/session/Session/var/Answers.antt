@@ -9,7 +9,7 @@ use Rattle.hol_session.proofs.session.Session.var.Goals as goal
 
 pub returns-in-Err-clause-turns : goal.returns-in-Err-clause-turns
 returns-in-Err-clause-turns c = λ text tree spelled steps.
-    refuses_by (state_of c.args.self.now) (state_of c.args.self.now) (Some text) c.in-Err.fault refl (c.in-Err.ensures tree steps) (λ refused. var_is_refused spelled refused)
+    refuses_by (state_of c.args.self.now) (state_of c.args.self.now) text c.in-Err.fault refl (c.in-Err.ensures tree steps) (λ refused. var_is_refused spelled refused)
 
 pub returns-in-Ok-set_var-clause-turns : goal.returns-in-Ok-set_var-clause-turns
 returns-in-Ok-set_var-clause-turns c = λ text tree spelled steps.
@@ -23,7 +23,7 @@ returns-in-Ok-set_var-clause-kept c = var_session c.args.self.now c.set_var.new.
 pub returns-clause-turns : goal.returns-clause-turns
 returns-clause-turns c = λ text tree spelled steps.
     let old = c.args.self.now in
-    forgets_here (state_of old) (state_of (made old old.recorder c.set_var.new.self)) (Some text) c.in-Err-set_var.fault
+    forgets_here (state_of old) (state_of (made old old.recorder c.set_var.new.self)) text c.in-Err-set_var.fault
     (kept_state old (made old old.recorder c.set_var.new.self) refl c.in-Err-set_var.ensures.kept (same_store _)) c.in-Err-set_var.ensures.err
 
 pub returns-clause-kept : goal.returns-clause-kept

@@ -1,7 +1,0 @@
-use Rattle.std.proofs.Common.{◌≡◌, true, take}
-use Rattle.std.specs.List.{list_all}
-use Rattle.hol_model.specs.Terms.NamedTerm.{is_within_limits}
-use Rattle.hol_log.proofs.fitting.all_within_limits.Given as goal
-
-abbrev pub invariant-loop-term : goal.invariant-loop-term
-invariant-loop-term l = list_all is_within_limits (take l.term-index l.terms) ≡ true

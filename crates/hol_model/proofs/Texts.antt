@@ -1,0 +1,2 @@
+-- Readings and texts.
+pub mod KnownTexts

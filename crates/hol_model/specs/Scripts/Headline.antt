@@ -1,0 +1,123 @@
+-- What a script's output says to a reader who knows nothing of sessions: each of its lines is a theorem's, which follows
+-- and holds, or a refusal's.
+use Rattle.std.specs.Prelude.{◌≡◌, ◌⊎◌, ℕ, Bool, true, not, List, [], ◌∷◌, ◌++◌, map, nat_eq, Option, None, Ok}
+use Rattle.std.specs.List.{list_all}
+use Rattle.std.specs.Io.KnownBytes.{Appends}
+use Rattle.hol_model.specs.declared.fault.Fault.{Fault}
+use Rattle.hol_model.specs.Terms.Name.{is_identifier}
+use Rattle.hol_model.specs.Terms.HolType.{HolType}
+use Rattle.hol_model.specs.Terms.NamedTerm.{NamedTerm}
+use Rattle.hol_model.specs.Terms.Nameless.{Nameless, image}
+use Rattle.hol_model.specs.Logic.Theory.{Theory, Entry, definition, declaration_of_type, declaration_of_constant, generic_type, IsLegal}
+use Rattle.hol_model.specs.Logic.KnownTerm.{is_declared}
+use Rattle.hol_model.specs.Logic.Legality.{own_type}
+use Rattle.hol_model.specs.Logic.Derivable.{Derivable, IsMember}
+use Rattle.hol_model.specs.Logic.Logic.{logical_definitions}
+use Rattle.hol_model.specs.Models.Holds.{Holds}
+use Rattle.hol_model.specs.Kernel.Theorem.{Theorem, AreOrdered}
+use Rattle.hol_model.specs.Texts.TypeGrammar.{TypeTree}
+use Rattle.hol_model.specs.Texts.TermGrammar.{TermTree}
+use Rattle.hol_model.specs.Texts.Reading.{Scope, type_meaning, meaning}
+use Rattle.hol_model.specs.Texts.Texts.{text_of_sequent}
+use Rattle.hol_model.specs.Texts.SequentGrammar.{ReadsSequent}
+use Rattle.hol_model.specs.Texts.KnownText.{Tells}
+use Rattle.hol_model.specs.Scripts.Script.{Cuts}
+use Rattle.hol_model.specs.Scripts.Commands.{def_command, newtype_command, newconst_command, SpellsCommand}
+use Rattle.hol_model.specs.Scripts.Lines.{theorem_line, refusal_line}
+
+-- what the names of a text stand for over a theory, with these declared variables
+abbrev pub scope_with : Theory → (List ℕ → Option HolType) → Scope
+scope_with theory variables = record { generic_type = generic_type theory; variable_type = variables; declares_type = is_declared theory }
+
+-- the same where no variable is declared
+abbrev pub scope_over : Theory → Scope
+scope_over theory = scope_with theory (λ name. None)
+
+-- no line feed stands in the text
+abbrev pub is_one_line : List ℕ → Bool
+is_one_line = list_all (λ byte. not (nat_eq byte 10))
+
+-- The line is a name and the text of a sequent, which reads back as that sequent; the sequent follows by the rules from the
+-- entries of the theory, which is legal, and holds in every finite standard model. Its hypotheses stand in order, no two of
+-- them alpha-equivalent.
+pub record IsTheoremLine (theory : Theory) (line : List ℕ) : Type 0 where
+  pub name : List ℕ
+  pub theorem : Theorem
+  pub named : is_identifier name ≡ true
+  pub legal : IsLegal theory
+  pub spelled : line ≡ theorem_line (scope_over theory) name theorem
+  pub one_line : is_one_line (text_of_sequent (scope_over theory) theorem.hypotheses theorem.conclusion) ≡ true
+  pub reads_back : ReadsSequent (scope_over theory) (text_of_sequent (scope_over theory) theorem.hypotheses theorem.conclusion) (theorem.hypotheses, theorem.conclusion)
+  pub ordered : AreOrdered theorem.hypotheses
+  pub derivable : Derivable theory (map image theorem.hypotheses) (image theorem.conclusion)
+  pub holds : Holds theory (map image theorem.hypotheses) (image theorem.conclusion)
+
+-- the line tells a refusal of the command in some line of the script
+pub record IsRefusalLine (line : List ℕ) : Type 0 where
+  pub number : ℕ
+  pub fault : Fault
+  pub spelled : line ≡ refusal_line number fault
+
+-- The text is a command that defines the constant by this body: what the command's term is read as over the theory, where
+-- some variables are declared.
+pub record Defines (theory : Theory) (text name : List ℕ) (ty : HolType) (body : Nameless) : Type 0 where
+  pub tree : TermTree
+  pub variables : List ℕ → Option HolType
+  pub term : NamedTerm
+  pub spelled : SpellsCommand text (def_command name tree)
+  pub meant : meaning (scope_with theory variables) [] tree ≡ Ok term
+  pub typed : ty ≡ own_type term
+  pub is_body : body ≡ image term
+
+-- The text is a command that declares the constant at this type.
+pub record DeclaresConstant (theory : Theory) (text name : List ℕ) (ty : HolType) : Type 0 where
+  pub tree : TypeTree
+  pub variables : List ℕ → Option HolType
+  pub spelled : SpellsCommand text (newconst_command name tree)
+  pub meant : type_meaning (scope_with theory variables) tree ≡ Ok ty
+
+-- over the theory the text is a command for the entry
+abbrev pub Declares : Theory → List ℕ → Entry → Type 0
+Declares theory text (definition name ty body) = Defines theory text name ty body
+Declares theory text (declaration_of_type name) = SpellsCommand text (newtype_command name)
+Declares theory text (declaration_of_constant name ty) = DeclaresConstant theory text name ty
+
+-- each of the entries, put before a theory, is declared by one of the texts over what stands behind it
+abbrev pub AreDeclared : List (List ℕ) → List Entry → Theory → Type 0
+AreDeclared texts [] theory = Unit {0}
+AreDeclared texts (entry ∷ entries) theory = ((text : List ℕ) × IsMember text texts × Declares (entries ++ theory) text entry) × AreDeclared texts entries theory
+
+-- the later theory has the entries of the earlier one, and further ones that the texts declare
+pub record IsGrownBy (texts : List (List ℕ)) (earlier later : Theory) : Type 0 where
+  pub added : List Entry
+  pub is_added : later ≡ added ++ earlier
+  pub declared : AreDeclared texts added earlier
+
+-- From a theory on, the lines are told one after another, each over a theory that has the entries of the one before it and
+-- of the texts alone.
+abbrev pub AreTold : List (List ℕ) → Theory → List (List ℕ) → Type 0
+AreTold texts theory [] = Unit {0}
+AreTold texts theory (line ∷ lines) = (now : Theory) × IsGrownBy texts theory now × (IsTheoremLine now line ⊎ IsRefusalLine line) × AreTold texts now lines
+
+-- the lines, one after another
+abbrev pub text_of_lines : List (List ℕ) → List ℕ
+text_of_lines [] = []
+text_of_lines (line ∷ lines) = line ++ text_of_lines lines
+
+-- A script was read, and what was written is the front of lines which the commands between its `;;` tell over the logical
+-- definitions; the rest of the lines was not written.
+pub record TellsLines (input before after : Option (List ℕ)) (unwritten : List ℕ) : Type 0 where
+  pub script : List ℕ
+  pub pieces : List (List ℕ)
+  pub last : List ℕ
+  pub lines : List (List ℕ)
+  pub front : List ℕ
+  pub read : Tells input script
+  pub cuts : Cuts script pieces last
+  pub told : AreTold pieces logical_definitions lines
+  pub whole : text_of_lines lines ≡ front ++ unwritten
+  pub wrote : Appends before after front
+
+-- What was written is the front of such lines.
+abbrev pub TellsFront : Option (List ℕ) → Option (List ℕ) → Option (List ℕ) → Type 0
+TellsFront input before after = (unwritten : List ℕ) × TellsLines input before after unwritten
