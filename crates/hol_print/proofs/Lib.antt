@@ -5,3 +5,4 @@ pub mod TreesMean
 pub mod PrintedDepth
 pub mod TextsReadBack
 pub mod SequentTexts
+pub mod OneLine

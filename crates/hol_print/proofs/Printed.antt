@@ -6,12 +6,12 @@ use Rattle.std.proofs.lemmas.List.{append-nil}
 use Rattle.std.proofs.lemmas.Bool.Decides.{leb_tells}
 use Rattle.hol_model.specs.declared.fault.Fault.{Fault}
 use Rattle.hol_model.specs.Terms.Name.{is_identifier, is_symbol, is_constant_name}
-use Rattle.hol_model.specs.Terms.HolType.{HolType}
-use Rattle.hol_model.specs.Texts.TermGrammar.{Atom, Infix, Bare, Constant, TermTree, Leaf, Apply, Not, Join, Bind, Enclosed, infix_level, infix_symbol, Binder, binder_symbol, level}
+use Rattle.hol_model.specs.Terms.HolType.{HolType, type_eq}
+use Rattle.hol_model.specs.Texts.TermGrammar.{Atom, Infix, Bare, Variable, Constant, TermTree, Leaf, Apply, Not, Join, Bind, Enclosed, infix_level, infix_symbol, Binder, binder_symbol, level}
 use Rattle.hol_model.specs.Texts.Token.{Token, Name, Mark, token_text, symbol_text}
 use Rattle.hol_model.specs.declared.symbol.Symbol.TheVariants.{Implies, And, Or, Equal, Exclamation, Question, At, Tilde}
 use Rattle.hol_model.specs.Texts.Reading.{Scope, Bindings, bound_type, is_closed_type}
-use Rattle.hol_model.specs.Texts.Printing.{type_tree, enclose, name_token, typed_constant, bare_tree, constant_tree}
+use Rattle.hol_model.specs.Texts.Printing.{type_tree, enclose, apply_tree, variable_tree, name_token, typed_constant, bare_tree, constant_tree}
 use Rattle.hol_model.specs.Texts.Texts.{type_bytes, term_bytes}
 use Rattle.hol_print.specs.Output.{Appends, opening, closing}
 
@@ -88,7 +88,7 @@ not_below n m = go (ltb m n) (leb_tells (suc m) n) (nat_le n m) (leb_tells n m) 
     ]
 
 -- a whole term, by the tree of its form
-printed_form : (n m : ℕ) (tree whole : TermTree) (o1 o2 o3 o4 : List ℕ) → m ≡ level tree → tree ≡ whole
+pub printed_form : (n m : ℕ) (tree whole : TermTree) (o1 o2 o3 o4 : List ℕ) → m ≡ level tree → tree ≡ whole
     → Appends o1 o2 (opening (ltb m n)) → Appends o2 o3 (term_bytes tree) → Appends o3 o4 (closing (ltb m n)) → Appends o1 o4 (term_bytes (enclose n whole))
 printed_form n m tree whole o1 o2 o3 o4 l e h k c =
     subst (λ w. Appends o1 o4 (term_bytes (enclose n w))) e (enclosing n (ltb m n) tree o1 o2 o3 o4 (not_below n m ∙ ap (nat_le n) l) h k c)
@@ -115,37 +115,3 @@ constant_level scope bindings name ty = go (is_identifier name)
     go : (b : Bool) → 20 ≡ level (if b then bare_tree (scope.generic_type name) (bound_type bindings name) name ty else typed_constant name ty)
     go true = bare_level (scope.generic_type name) (bound_type bindings name) name ty
     go false = refl
-
-pub constant_printed : (n m : ℕ) (scope : Scope) (bindings : Bindings) (name : List ℕ) (ty : HolType) (whole : TermTree) (o1 o2 o3 o4 : List ℕ) → m ≡ 20
-    → constant_tree scope bindings name ty ≡ whole → Appends o1 o2 (opening (ltb m n))
-    → Appends o2 o3 (term_bytes (constant_tree scope bindings name ty)) → Appends o3 o4 (closing (ltb m n)) → Appends o1 o4 (term_bytes (enclose n whole))
-constant_printed n m scope bindings name ty whole o1 o2 o3 o4 l e h k c =
-    printed_form n m (constant_tree scope bindings name ty) whole o1 o2 o3 o4 (l ∙ constant_level scope bindings name ty) e h k c
-
-pub application_printed : (n m : ℕ) (f a whole : TermTree) (o1 o2 o3 o4 o5 o6 : List ℕ) → m ≡ 16 → Apply f a ≡ whole → Appends o1 o2 (opening (ltb m n))
-    → Appends o2 o3 (term_bytes f) → Appends o3 o4 (λ rest. 32 ∷ rest) → Appends o4 o5 (term_bytes a) → Appends o5 o6 (closing (ltb m n))
-    → Appends o1 o6 (term_bytes (enclose n whole))
-application_printed n m f a whole o1 o2 o3 o4 o5 o6 l e h p q r c = printed_form n m (Apply f a) whole o1 o2 o5 o6 l e h (joined p (joined q r)) c
-
-pub negation_printed : (n m : ℕ) (operand whole : TermTree) (o1 o2 o3 o4 o5 : List ℕ) → m ≡ 14 → Not operand ≡ whole → Appends o1 o2 (opening (ltb m n))
-    → Appends o2 o3 (λ rest. 126 ∷ rest) → Appends o3 o4 (term_bytes operand) → Appends o4 o5 (closing (ltb m n))
-    → Appends o1 o5 (term_bytes (enclose n whole))
-negation_printed n m operand whole o1 o2 o3 o4 o5 l e h p q c = printed_form n m (Not operand) whole o1 o2 o4 o5 l e h (joined p q) c
-
-pub infix_printed : (n m : ℕ) (operation : Infix) (text : List ℕ) (left right whole : TermTree) (o1 o2 o3 o4 o5 o6 : List ℕ) → m ≡ infix_level operation
-    → text ≡ 32 ∷ symbol_text (infix_symbol operation) ++ 32 ∷ [] → Join operation left right ≡ whole → Appends o1 o2 (opening (ltb m n))
-    → Appends o2 o3 (term_bytes left) → Appends o3 o4 (λ rest. text ++ rest) → Appends o4 o5 (term_bytes right) → Appends o5 o6 (closing (ltb m n))
-    → Appends o1 o6 (term_bytes (enclose n whole))
-infix_printed n m operation text left right whole o1 o2 o3 o4 o5 o6 l t e h p q r c =
-    printed_form n m (Join operation left right) whole o1 o2 o5 o6 l e h (joined p (joined spaced r)) c
-  where
-    spaced : Appends o3 o4 (λ rest. 32 ∷ (symbol_text (infix_symbol operation) ++ 32 ∷ rest))
-    spaced = record { appended = λ rest. q.appended rest ∙ ap (λ x. o3 ++ (x ++ rest)) t ∙ ap (λ x. o3 ++ 32 ∷ x) (append_assoc (symbol_text (infix_symbol operation)) (32 ∷ []) rest) }
-
-pub binder_printed : (n m : ℕ) (binder : Binder) (text name : List ℕ) (ty : HolType) (body whole : TermTree) (o1 o2 o3 o4 o5 : List ℕ) → m ≡ 0
-    → text ≡ symbol_text (binder_symbol binder) → Bind binder name (type_tree ty) body ≡ whole → Appends o1 o2 (opening (ltb m n))
-    → Appends o2 o3 (λ rest. text ++ (name ++ 58 ∷ type_bytes (type_tree ty) (46 ∷ 32 ∷ rest))) → Appends o3 o4 (term_bytes body) → Appends o4 o5 (closing (ltb m n))
-    → Appends o1 o5 (term_bytes (enclose n whole))
-binder_printed n m binder text name ty body whole o1 o2 o3 o4 o5 l t e h p q c =
-    printed_form n m (Bind binder name (type_tree ty) body) whole o1 o2 o4 o5 l e h
-    (joined (subst (λ x. Appends o2 o3 (λ rest. x ++ (name ++ 58 ∷ type_bytes (type_tree ty) (46 ∷ 32 ∷ rest)))) t p) q) c

@@ -1,5 +1,5 @@
 -- What is looked up before a term is printed: the binders round it, and the form that it is printed in.
-use Rattle.std.specs.Prelude.{◌≡◌, ℕ, ◌+◌, ◌<◌, List, ◌∷◌, Bool, true, false, ◌&&◌, Option, Some, None, is_none}
+use Rattle.std.specs.Prelude.{◌≡◌, ℕ, ◌+◌, List, ◌∷◌, Bool, true, false, ◌&&◌, Option, Some, None, is_none}
 use Rattle.std.specs.Option.{option_map_or}
 use Rattle.hol_model.specs.Terms.Name.{is_identifier, is_constant_name}
 use Rattle.hol_model.specs.Terms.HolType.{HolType, bool_type, function_type, type_eq}
@@ -39,6 +39,10 @@ prefix_here Negation = printing.NotPrefix
 prefix_here (Quantifier binder) = printing.BinderPrefix (binder_here binder)
 prefix_here Nothing = printing.NoPrefix
 
+-- two trees with an infix between them, each in parentheses where its level asks for them
+abbrev pub joined_tree : grammar.Infix → TermTree → TermTree → TermTree
+joined_tree operation left right = grammar.Join operation (enclose (infix_level operation + 1) left) (enclose (infix_level operation) right)
+
 -- the tree of a term of this form
 abbrev pub shape_tree : Scope → Bindings → Shape → TermTree
 shape_tree scope bindings (Variable name ty) = variable_tree (bound_type bindings name.now) name.now ty.now
@@ -46,8 +50,7 @@ shape_tree scope bindings (Constant name ty) = constant_tree scope bindings name
 shape_tree scope bindings (Apply function argument) = apply_tree (term_tree scope bindings function.now) (term_tree scope bindings argument.now)
 shape_tree scope bindings (Not operand) = grammar.Not (enclose 14 (term_tree scope bindings operand.now))
 shape_tree scope bindings (Join infix' left right) =
-    grammar.Join (infix_here infix') (enclose (infix_level (infix_here infix') + 1) (term_tree scope bindings left.now))
-    (enclose (infix_level (infix_here infix')) (term_tree scope bindings right.now))
+    joined_tree (infix_here infix') (term_tree scope bindings left.now) (term_tree scope bindings right.now)
 shape_tree scope bindings (Bind binder name ty body) =
     grammar.Bind (binder_here binder) name.now (type_tree ty.now) (term_tree scope ((name.now, ty.now) ∷ bindings) body.now)
 
@@ -64,11 +67,11 @@ abbrev pub IsNamed : Shape → Type 0
 IsNamed (Constant name ty) = is_constant_name name.now ≡ true
 IsNamed _ = Unit {0}
 
--- the terms in it are parts of a term of this weight
-abbrev pub HasPartsBelow : Shape → ℕ → Type 0
-HasPartsBelow (Variable name ty) n = Unit {0}
-HasPartsBelow (Constant name ty) n = Unit {0}
-HasPartsBelow (Apply function argument) n = (weight function.now < n) × (weight argument.now < n)
-HasPartsBelow (Not operand) n = weight operand.now < n
-HasPartsBelow (Join infix' left right) n = (weight left.now < n) × (weight right.now < n)
-HasPartsBelow (Bind binder name ty body) n = weight body.now < n
+-- what the terms in it weigh together
+abbrev pub weight_of_parts : Shape → ℕ
+weight_of_parts (Variable name ty) = 0
+weight_of_parts (Constant name ty) = 0
+weight_of_parts (Apply function argument) = weight function.now + weight argument.now
+weight_of_parts (Not operand) = weight operand.now
+weight_of_parts (Join infix' left right) = weight left.now + weight right.now
+weight_of_parts (Bind binder name ty body) = weight body.now

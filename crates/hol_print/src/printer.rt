@@ -1,9 +1,10 @@
 // The texts of types, terms and sequents.
-ghost use Rattle.std.specs.Prelude.{◌≡◌, [], IfOk, OnOk, IfErr, IsTrue};
+ghost use Rattle.std.specs.Prelude.{◌≡◌, ◌∷◌, [], IfOk, OnOk, IfErr, IsTrue};
 ghost use Rattle.std.specs.String.{string_bytes};
 ghost use Rattle.hol_model.specs.declared.fault.Fault.TheVariants.{Memory};
 ghost use Rattle.hol_model.specs.Terms.Name.{is_constant_name};
-ghost use Rattle.hol_model.specs.Texts.Printing.{enclose, variable_tree, constant_tree, term_tree};
+ghost use Rattle.hol_model.specs.Texts.Printing.{enclose, type_tree, apply_tree, variable_tree, constant_tree, term_tree};
+ghost use Rattle.hol_model.specs.Texts.TermGrammar as grammar;
 ghost use Rattle.hol_model.specs.Texts.Reading as reading;
 ghost use Rattle.hol_model.specs.Texts.Reading.{Bindings, bound_type};
 ghost use Rattle.hol_model.specs.Texts.SequentGrammar.{ReadsSequent};
@@ -12,13 +13,16 @@ ghost use Rattle.hol_model.specs.Texts.Texts.{term_bytes, further_bytes, listed_
 ghost use Rattle.hol_model.specs.Texts.Texts as texts;
 ghost use Rattle.hol_print.specs.Output.{Appends};
 ghost use Rattle.hol_syntax.specs.Scope.{scope_of};
+ghost use Rattle.hol_grammar.specs.Grammar.{infix_here, binder_here};
 ghost use Rattle.hol_print.specs.Innermost.{IsInnermost};
+ghost use Rattle.hol_print.specs.Shape.{shape_tree, joined_tree, IsNamed};
 
 use crate::innermost::Innermost;
 use crate::output::{append, close, open, print_type, print_typed};
 use crate::shape::{
     Shape, binder_text, infix_level, infix_text, is_bare_constant, is_bound, level, shape_of,
 };
+use hol_grammar::grammar::{Binder, Infix};
 use hol_model::Fault;
 use hol_syntax::Scope;
 use hol_terms::Term;
@@ -59,6 +63,7 @@ fn print_constant(
 }
 
 // Prints a term that stands under binders, in parentheses where its form is below the level.
+#[cycle(print_term)]
 fn print_term(
     term: &Term,
     alloc: Global,
@@ -75,40 +80,118 @@ fn print_term(
     let shape = shape_of(term);
     let enclosed = level(shape) < min_level;
     open(out, enclosed)?;
+    print_shape(shape, alloc, scope, binders, out)?;
+    close(out, enclosed)
+}
+
+// Prints a term of this form.
+#[cycle(print_term)]
+fn print_shape(
+    shape: Shape<'_>,
+    alloc: Global,
+    scope: &Scope,
+    binders: &mut Innermost,
+    out: &mut String,
+) -> Result<(), Fault>
+    requires { IsNamed shape }
+    ensures ok { (bindings : Bindings) → IsInnermost binders.old bindings → OnOk result (Appends (string_bytes out.old) (string_bytes out.new)
+        (term_bytes (shape_tree (scope_of scope.now) bindings shape.entry))) }
+    ensures kept { (bindings : Bindings) → IsInnermost binders.old bindings → OnOk result (IsInnermost binders.new bindings) }
+    ensures err { IfErr result (λ fault. fault ≡ Memory) }
+{
     match shape {
-        Shape::Variable(name, ty) => {
-            print_variable(binders, name, ty, out)?;
-            close(out, enclosed)
-        }
-        Shape::Constant(name, ty) => {
-            print_constant(scope, binders, name, ty, out)?;
-            close(out, enclosed)
-        }
+        Shape::Variable(name, ty) => print_variable(binders, name, ty, out),
+        Shape::Constant(name, ty) => print_constant(scope, binders, name, ty, out),
         Shape::Apply(function, argument) => {
-            print_term(function, alloc, scope, 16, binders, out)?;
-            append(out, " ")?;
-            print_term(argument, alloc, scope, 20, binders, out)?;
-            close(out, enclosed)
+            print_application(function, argument, alloc, scope, binders, out)
         }
-        Shape::Not(operand) => {
-            append(out, "~")?;
-            print_term(operand, alloc, scope, 14, binders, out)?;
-            close(out, enclosed)
-        }
+        Shape::Not(operand) => print_negation(operand, alloc, scope, binders, out),
         Shape::Join(operation, left, right) => {
-            print_term(left, alloc, scope, infix_level(operation) + 1, binders, out)?;
-            append(out, infix_text(operation))?;
-            print_term(right, alloc, scope, infix_level(operation), binders, out)?;
-            close(out, enclosed)
+            print_infix(operation, left, right, alloc, scope, binders, out)
         }
         Shape::Bind(binder, name, ty, body) => {
-            print_typed(binder_text(binder), name, ty, ". ", out)?;
-            let hidden = binders.enter(alloc, name, ty)?;
-            print_term(body, alloc, scope, 0, binders, out)?;
-            binders.leave(alloc, name, hidden)?;
-            close(out, enclosed)
+            print_binding(binder, name, ty, body, alloc, scope, binders, out)
         }
     }
+}
+
+#[cycle(print_term)]
+fn print_application(
+    function: &Term,
+    argument: &Term,
+    alloc: Global,
+    scope: &Scope,
+    binders: &mut Innermost,
+    out: &mut String,
+) -> Result<(), Fault>
+    ensures ok { (bindings : Bindings) → IsInnermost binders.old bindings → OnOk result (Appends (string_bytes out.old) (string_bytes out.new)
+        (term_bytes (apply_tree (term_tree (scope_of scope.now) bindings function.now) (term_tree (scope_of scope.now) bindings argument.now)))) }
+    ensures kept { (bindings : Bindings) → IsInnermost binders.old bindings → OnOk result (IsInnermost binders.new bindings) }
+    ensures err { IfErr result (λ fault. fault ≡ Memory) }
+{
+    print_term(function, alloc, scope, 16, binders, out)?;
+    append(out, " ")?;
+    print_term(argument, alloc, scope, 20, binders, out)
+}
+
+#[cycle(print_term)]
+fn print_negation(
+    operand: &Term,
+    alloc: Global,
+    scope: &Scope,
+    binders: &mut Innermost,
+    out: &mut String,
+) -> Result<(), Fault>
+    ensures ok { (bindings : Bindings) → IsInnermost binders.old bindings → OnOk result (Appends (string_bytes out.old) (string_bytes out.new)
+        (term_bytes (grammar.Not (enclose 14 (term_tree (scope_of scope.now) bindings operand.now))))) }
+    ensures kept { (bindings : Bindings) → IsInnermost binders.old bindings → OnOk result (IsInnermost binders.new bindings) }
+    ensures err { IfErr result (λ fault. fault ≡ Memory) }
+{
+    append(out, "~")?;
+    print_term(operand, alloc, scope, 14, binders, out)
+}
+
+#[cycle(print_term)]
+fn print_infix(
+    operation: Infix,
+    left: &Term,
+    right: &Term,
+    alloc: Global,
+    scope: &Scope,
+    binders: &mut Innermost,
+    out: &mut String,
+) -> Result<(), Fault>
+    ensures ok { (bindings : Bindings) → IsInnermost binders.old bindings → OnOk result (Appends (string_bytes out.old) (string_bytes out.new)
+        (term_bytes (joined_tree (infix_here operation) (term_tree (scope_of scope.now) bindings left.now) (term_tree (scope_of scope.now) bindings right.now)))) }
+    ensures kept { (bindings : Bindings) → IsInnermost binders.old bindings → OnOk result (IsInnermost binders.new bindings) }
+    ensures err { IfErr result (λ fault. fault ≡ Memory) }
+{
+    let level = infix_level(operation);
+    print_term(left, alloc, scope, level + 1, binders, out)?;
+    append(out, infix_text(operation))?;
+    print_term(right, alloc, scope, level, binders, out)
+}
+
+#[cycle(print_term)]
+fn print_binding(
+    binder: Binder,
+    name: &str,
+    ty: &Ty,
+    body: &Term,
+    alloc: Global,
+    scope: &Scope,
+    binders: &mut Innermost,
+    out: &mut String,
+) -> Result<(), Fault>
+    ensures ok { (bindings : Bindings) → IsInnermost binders.old bindings → OnOk result (Appends (string_bytes out.old) (string_bytes out.new)
+        (term_bytes (grammar.Bind (binder_here binder) name.now (type_tree ty.now) (term_tree (scope_of scope.now) ((name.now, ty.now) ∷ bindings) body.now)))) }
+    ensures kept { (bindings : Bindings) → IsInnermost binders.old bindings → OnOk result (IsInnermost binders.new bindings) }
+    ensures err { IfErr result (λ fault. fault ≡ Memory) }
+{
+    print_typed(binder_text(binder), name, ty, ". ", out)?;
+    let hidden = binders.enter(alloc, name, ty)?;
+    print_term(body, alloc, scope, 0, binders, out)?;
+    binders.leave(alloc, name, hidden)
 }
 
 // Prints a term that stands under no binder.

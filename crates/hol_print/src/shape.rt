@@ -14,7 +14,7 @@ ghost use Rattle.hol_grammar.specs.Grammar.{infix_here, binder_here};
 ghost use Rattle.hol_syntax.specs.Scope.{scope_of};
 ghost use Rattle.hol_print.specs.Shape as spec;
 ghost use Rattle.hol_print.specs.Innermost.{IsInnermost};
-ghost use Rattle.hol_print.specs.Shape.{is_bound_at, prefix_here, shape_tree, shape_level, IsNamed, HasPartsBelow};
+ghost use Rattle.hol_print.specs.Shape.{is_bound_at, prefix_here, shape_tree, shape_level, IsNamed, weight_of_parts};
 
 use crate::innermost::Innermost;
 use hol_grammar::grammar::{Binder, Infix};
@@ -184,7 +184,7 @@ fn prefix_shape<'a>(prefix: Prefix, function: &'a Term, argument: &'a Term) -> S
     ensures tree { (scope : reading.Scope) (bindings : Bindings) → shape_tree scope bindings result
         ≡ printing.prefix_tree (prefix_here prefix) (term_tree scope bindings function.now) (term_tree scope bindings argument.now) }
     ensures named { IsNamed result }
-    ensures parts { HasPartsBelow result (weight function.now + weight argument.now + 1) }
+    ensures parts { weight_of_parts result < weight function.now + weight argument.now + 1 }
 {
     match prefix {
         Prefix::Negation => Shape::Not(argument),
@@ -201,7 +201,7 @@ fn combination_shape<'a>(function: &'a Term, argument: &'a Term) -> Shape<'a>
     ensures tree { (scope : reading.Scope) (bindings : Bindings) → shape_tree scope bindings result
         ≡ term_tree scope bindings (combination function.now argument.now) }
     ensures named { IsNamed result }
-    ensures parts { HasPartsBelow result (weight function.now + weight argument.now + 1) }
+    ensures parts { weight_of_parts result < weight function.now + weight argument.now + 1 }
 {
     match function.parts() {
         Parts::Variable(_, _) => Shape::Apply(function, argument),
@@ -221,7 +221,7 @@ fn combination_shape<'a>(function: &'a Term, argument: &'a Term) -> Shape<'a>
 pub fn shape_of(term: &Term) -> Shape<'_>
     ensures tree { (scope : reading.Scope) (bindings : Bindings) → shape_tree scope bindings result ≡ term_tree scope bindings term.now }
     ensures named { IsNamed result }
-    ensures parts { HasPartsBelow result (weight term.now) }
+    ensures parts { weight_of_parts result < weight term.now }
 {
     match term.parts() {
         Parts::Variable(name, ty) => Shape::Variable(name, ty),

@@ -1,22 +1,16 @@
-//! Tests of the public calls of the crates up to the derived rules: what no contract says. They stand here, beside none of
-//! the functions, since a crate with tests of its own is proved twice.
+//! Tests of substitution and of the kernel, of what their contracts leave open: which bound names an instance has, and that
+//! ample memory is enough. They stand here, beside none of the functions, since a crate with tests of its own is proved twice.
 #![tactic(auto)]
 
 #[cfg(test)]
-mod definition_tests;
-#[cfg(test)]
-mod kernel_tests;
-#[cfg(test)]
-mod prelude_tests;
+mod binder_tests;
 #[cfg(test)]
 mod proof_trees;
 #[cfg(test)]
-mod recorder_tests;
-#[cfg(test)]
 mod rule_tests;
 #[cfg(test)]
-mod shadowing_tests;
+mod size_tests;
 #[cfg(test)]
-mod substitution_tests;
+mod theory_tests;
 #[cfg(test)]
-mod walk_tests;
+mod trees;

@@ -1,34 +1,13 @@
-// Terms and proofs of the tests, as data, and texts that show each name of a theorem.
+// Proofs of the tests as data, and texts that show each name of a theorem.
 ghost use Rattle.std.specs.Prelude.{◌≡◌, IfOk};
 ghost use Rattle.hol_model.specs.Logic.Theory.{IsEarlier};
 
+use crate::trees::{Tree, term, terms, type_variables};
 use hol_kernel::{Theory, Thm};
 use hol_model::Fault;
-use hol_terms::{Parts, Term, mk_eq};
+use hol_terms::{Parts, Term};
 use hol_types::{Ty, TypeParts};
 use std::alloc::{AllocError, Global};
-
-/// A term.
-#[derive(Clone, Copy)]
-pub enum Tree<'a> {
-    /// A variable of type `bool`.
-    Formula(&'a str),
-    /// A variable of type `bool->bool`.
-    Connective(&'a str),
-    /// A variable whose type is a type variable.
-    Element(&'a str, &'a str),
-    /// A variable of a type that was not declared.
-    Undeclared,
-    /// A constant that is not there, of type `bool`.
-    Unknown,
-    /// The choice at `bool`, which is no instance of its generic type.
-    NoInstance,
-    Apply(&'a Tree<'a>, &'a Tree<'a>),
-    Bind(&'a Tree<'a>, &'a Tree<'a>),
-    Equal(&'a Tree<'a>, &'a Tree<'a>),
-    /// `f` applied to `p` as many times, a term of a height that is one more.
-    Tower(u16),
-}
 
 /// A proof by rules, on a theory without definitions.
 #[derive(Clone, Copy)]
@@ -45,10 +24,8 @@ pub enum Proof<'a> {
     Abs(&'a Tree<'a>, &'a Proof<'a>),
     /// Pairs (new, old).
     Inst(&'a [(Tree<'a>, Tree<'a>)], &'a Proof<'a>),
-    /// Pairs (new, old) of names of types.
+    /// Pairs (new, old) of type variables.
     InstType(&'a [(&'a str, &'a str)], &'a Proof<'a>),
-    /// INST_TYPE of `A` by a function type with so many arrows.
-    InstArrows(u16, &'a Proof<'a>),
 }
 
 /// Whether the proof gives a theorem of this text.
@@ -59,22 +36,6 @@ pub(crate) fn gives(alloc: Global, proof: &Proof<'_>, text: &str) -> bool {
             Err(_) => false,
         },
         Err(_) => false,
-    }
-}
-
-/// Whether the proof gives a theorem.
-pub(crate) fn succeeds(alloc: Global, proof: &Proof<'_>) -> bool {
-    match attempt(alloc, proof) {
-        Ok(_) => true,
-        Err(_) => false,
-    }
-}
-
-/// Whether the proof is refused in this way.
-pub(crate) fn refuses(alloc: Global, proof: &Proof<'_>, fault: Fault) -> bool {
-    match attempt(alloc, proof) {
-        Ok(_) => false,
-        Err(found) => found == fault,
     }
 }
 
@@ -128,10 +89,6 @@ pub(crate) fn prove(alloc: Global, theory: &Theory, proof: &Proof<'_>) -> Result
             let theorem = prove(alloc, theory, theorem)?;
             inst_type(alloc, theory, pairs, &theorem)
         }
-        Proof::InstArrows(arrows, theorem) => {
-            let theorem = prove(alloc, theory, theorem)?;
-            inst_arrows(alloc, theory, *arrows, &theorem)
-        }
     }
 }
 
@@ -182,100 +139,8 @@ fn inst_type(
     requires { IsEarlier theorem.now.theory theory.now }
     ensures { IfOk result (λ theorem. theorem.theory ≡ theory.now) }
 {
-    let theta = types(alloc, pairs)?;
+    let theta = type_variables(alloc, pairs)?;
     theory.inst_type(alloc, &theta, theorem)
-}
-
-fn inst_arrows(alloc: Global, theory: &Theory, arrows: u16, theorem: &Thm) -> Result<Thm, Fault>
-    requires { IsEarlier theorem.now.theory theory.now }
-    ensures { IfOk result (λ theorem. theorem.theory ≡ theory.now) }
-{
-    let mut theta = Vec::new(alloc);
-    theta.push((function_type(alloc, arrows)?, Ty::tyvar(alloc, "A")?))?;
-    theory.inst_type(alloc, &theta, theorem)
-}
-
-// `bool->bool->..` with so many arrows.
-fn function_type(alloc: Global, arrows: u16) -> Result<Ty, Fault> {
-    let truth = Ty::boolean(alloc)?;
-    let mut ty = Ty::boolean(alloc)?;
-    for _ in 0..arrows {
-        ty = Ty::fun(alloc, &truth, &ty)?;
-    }
-    Ok(ty)
-}
-
-fn terms(alloc: Global, pairs: &[(Tree<'_>, Tree<'_>)]) -> Result<Vec<(Term, Term)>, Fault> {
-    let mut theta = Vec::new(alloc);
-    for (new, old) in pairs {
-        theta.push((term(alloc, new)?, term(alloc, old)?))?;
-    }
-    Ok(theta)
-}
-
-fn types(alloc: Global, pairs: &[(&str, &str)]) -> Result<Vec<(Ty, Ty)>, Fault> {
-    let mut theta = Vec::new(alloc);
-    for (new, old) in pairs {
-        theta.push((named_type(alloc, new)?, named_type(alloc, old)?))?;
-    }
-    Ok(theta)
-}
-
-// `bool`, `num`, or the type variable of the name.
-fn named_type(alloc: Global, name: &str) -> Result<Ty, Fault> {
-    if name == "bool" {
-        Ty::boolean(alloc)
-    } else if name == "num" {
-        Ty::declared(alloc, name)
-    } else {
-        Ty::tyvar(alloc, name)
-    }
-}
-
-/// A variable of type `bool`.
-pub(crate) fn formula(alloc: Global, name: &str) -> Result<Term, Fault> {
-    let boolean = Ty::boolean(alloc)?;
-    Term::mk_var(alloc, name, &boolean)
-}
-
-/// The term of the tree.
-pub(crate) fn term(alloc: Global, tree: &Tree<'_>) -> Result<Term, Fault> {
-    match tree {
-        Tree::Formula(name) => formula(alloc, name),
-        Tree::Connective(name) => connective(alloc, name),
-        Tree::Element(name, ty) => Term::mk_var(alloc, name, &Ty::tyvar(alloc, ty)?),
-        Tree::Undeclared => Term::mk_var(alloc, "n", &Ty::declared(alloc, "num")?),
-        Tree::Unknown => Term::mk_const(alloc, "k", &Ty::boolean(alloc)?),
-        Tree::NoInstance => Term::mk_const(alloc, "@", &Ty::boolean(alloc)?),
-        Tree::Apply(function, argument) => {
-            Term::mk_comb(alloc, &term(alloc, function)?, &term(alloc, argument)?)
-        }
-        Tree::Bind(binder, body) => Term::mk_abs(alloc, &term(alloc, binder)?, &term(alloc, body)?),
-        Tree::Equal(left, right) => mk_eq(alloc, &term(alloc, left)?, &term(alloc, right)?),
-        Tree::Tower(count) => tower(alloc, *count),
-    }
-}
-
-fn connective(alloc: Global, name: &str) -> Result<Term, Fault> {
-    let truth = Ty::boolean(alloc)?;
-    Term::mk_var(alloc, name, &Ty::fun(alloc, &truth, &truth)?)
-}
-
-fn tower(alloc: Global, count: u16) -> Result<Term, Fault> {
-    let function = connective(alloc, "f")?;
-    let mut tower = Term::mk_var(alloc, "p", &Ty::boolean(alloc)?)?;
-    for _ in 0..count {
-        tower = Term::mk_comb(alloc, &function, &tower)?;
-    }
-    Ok(tower)
-}
-
-/// The refusal, if there is one.
-pub(crate) fn refusal<T: Drop>(answer: Result<T, Fault>) -> Option<Fault> {
-    match answer {
-        Ok(_) => None,
-        Err(fault) => Some(fault),
-    }
 }
 
 /// Whether the theorem has this text: its hypotheses, each with a comma behind it, and `|- ` with the conclusion.

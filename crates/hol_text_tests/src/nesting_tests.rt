@@ -1,178 +1,161 @@
 // Texts that are nested as deep as the limit, and one deeper: 2,000 for types, 4,000 for terms. The deepest terms are
 // higher than a term may be, so they are refused for that, behind the grammar.
-use crate::texts::{
-    joined, nested, refusal, sequent_refusal, type_refusal, with_negation, with_variables,
-};
+use crate::texts::{Names, Text, joined, nested, read};
 use hol_model::Fault;
-use hol_syntax::Scope;
-use std::alloc::{AllocError, Global};
-use std::test::Fail;
+use std::alloc::Global;
 
-#[test]
-fn parentheses_of_types(rt: HostRuntime) -> Result<(), Fail> {
-    let alloc = rt.alloc();
-    let scope = Scope::new(alloc)?;
-    let deepest = nested(alloc, 2000, "(", "A", ")")?;
-    assert_eq!(rt; type_refusal(alloc, &scope, &deepest), None);
-    let deeper = nested(alloc, 2001, "(", "A", ")")?;
-    assert_eq!(rt; type_refusal(alloc, &scope, &deeper), Some(Fault::Syntax));
-    Ok(())
+// Reads a type of so many openings and closings, between two texts.
+fn read_type_between(
+    alloc: Global,
+    before: &str,
+    count: u16,
+    open: &str,
+    close: &str,
+    after: &str,
+) -> Result<(), Fault> {
+    let text = joined(
+        alloc,
+        before,
+        &nested(alloc, count, open, "A", close)?,
+        after,
+    )?;
+    read(alloc, Names::None, Text::Type(&text))
+}
+
+fn read_nested_type(alloc: Global, count: u16, open: &str, close: &str) -> Result<(), Fault> {
+    read_type_between(alloc, "", count, open, close, "")
 }
 
 #[test]
-fn arrows(rt: HostRuntime) -> Result<(), Fail> {
+fn parentheses_and_arrows_of_types(rt: HostRuntime) {
     let alloc = rt.alloc();
-    let scope = Scope::new(alloc)?;
-    let largest = nested(alloc, 1999, "A->", "A", "")?;
-    assert_eq!(rt; type_refusal(alloc, &scope, &largest), None);
-    let deepest = nested(alloc, 2000, "A->", "A", "")?;
-    assert_eq!(rt;
-        type_refusal(alloc, &scope, &deepest),
-        Some(Fault::TooLarge)
-    );
-    let deeper = nested(alloc, 2001, "A->", "A", "")?;
-    assert_eq!(rt; type_refusal(alloc, &scope, &deeper), Some(Fault::Syntax));
-    Ok(())
+    assert!(rt; read_nested_type(alloc, 2000, "(", ")") == Ok(()));
+    assert!(rt; read_nested_type(alloc, 2001, "(", ")") == Err(Fault::Syntax));
+    assert!(rt; read_nested_type(alloc, 1999, "A->", "") == Ok(()));
+    assert!(rt; read_nested_type(alloc, 2000, "A->", "") == Err(Fault::TooLarge));
+    assert!(rt; read_nested_type(alloc, 2001, "A->", "") == Err(Fault::Syntax));
 }
 
 #[test]
-fn arrows_and_parentheses_count_together(rt: HostRuntime) -> Result<(), Fail> {
+fn arrows_and_parentheses_count_together(rt: HostRuntime) {
     let alloc = rt.alloc();
-    let scope = Scope::new(alloc)?;
-    let deepest = nested(alloc, 1000, "(A->", "A", ")")?;
-    assert_eq!(rt; type_refusal(alloc, &scope, &deepest), None);
-    let deeper = joined(alloc, "(", &deepest, ")")?;
-    assert_eq!(rt; type_refusal(alloc, &scope, &deeper), Some(Fault::Syntax));
-    Ok(())
+    assert!(rt; read_nested_type(alloc, 1000, "(A->", ")") == Ok(()));
+    assert!(rt; read_type_between(alloc, "(", 1000, "(A->", ")", ")") == Err(Fault::Syntax));
+}
+
+// Reads a type behind a thousand arrows in parentheses.
+fn read_behind_arrows(alloc: Global, count: u16) -> Result<(), Fault> {
+    let domain = joined(alloc, "(", &nested(alloc, 1000, "A->", "A", "")?, ")->")?;
+    read_type_between(alloc, &domain, count, "(", ")", "")
 }
 
 // A closing parenthesis closes the arrows inside it.
 #[test]
-fn closed_arrows_count_no_more(rt: HostRuntime) -> Result<(), Fail> {
+fn closed_arrows_count_no_more(rt: HostRuntime) {
     let alloc = rt.alloc();
-    let scope = Scope::new(alloc)?;
-    let domain = joined(alloc, "(", &nested(alloc, 1000, "A->", "A", "")?, ")->")?;
-    let deepest = joined(alloc, &domain, &nested(alloc, 1999, "(", "A", ")")?, "")?;
-    assert_eq!(rt; type_refusal(alloc, &scope, &deepest), None);
-    let deeper = joined(alloc, &domain, &nested(alloc, 2000, "(", "A", ")")?, "")?;
-    assert_eq!(rt; type_refusal(alloc, &scope, &deeper), Some(Fault::Syntax));
-    Ok(())
+    assert!(rt; read_behind_arrows(alloc, 1999) == Ok(()));
+    assert!(rt; read_behind_arrows(alloc, 2000) == Err(Fault::Syntax));
 }
 
-// What a term of these openings and closings is refused for, at the limit and one past it.
-fn at_the_limit(
+// Whether a term of these openings and closings answers so at the limit, and one past it is refused by the grammar.
+fn answers_at_the_limit(
     alloc: Global,
-    scope: &Scope,
+    names: Names<'_>,
     open: &str,
     middle: &str,
     close: &str,
-) -> Result<(Option<Fault>, Option<Fault>), AllocError> {
-    let deepest = nested(alloc, 4000, open, middle, close)?;
-    let deeper = nested(alloc, 4001, open, middle, close)?;
-    Ok((
-        refusal(alloc, scope, &deepest),
-        refusal(alloc, scope, &deeper),
-    ))
+    answer: Result<(), Fault>,
+) -> bool {
+    read_nested(alloc, names, 4000, open, middle, close) == answer
+        && read_nested(alloc, names, 4001, open, middle, close) == Err(Fault::Syntax)
+}
+
+fn read_nested(
+    alloc: Global,
+    names: Names<'_>,
+    count: u16,
+    open: &str,
+    middle: &str,
+    close: &str,
+) -> Result<(), Fault> {
+    let text = nested(alloc, count, open, middle, close)?;
+    read(alloc, names, Text::Term(&text))
 }
 
 #[test]
-fn parentheses_of_terms(rt: HostRuntime) -> Result<(), Fail> {
+fn parentheses_and_arguments(rt: HostRuntime) {
     let alloc = rt.alloc();
-    let scope = Scope::new(alloc)?;
-    let (deepest, deeper) = at_the_limit(alloc, &scope, "(", "(x:A)", ")")?;
-    assert_eq!(rt; deepest, None);
-    assert_eq!(rt; deeper, Some(Fault::Syntax));
-    Ok(())
+    let too_large = Err(Fault::TooLarge);
+    assert!(rt; answers_at_the_limit(alloc, Names::None, "(", "(x:A)", ")", Ok(())));
+    assert!(rt; answers_at_the_limit(alloc, Names::Variables, "f (", "x", ")", too_large));
 }
 
 #[test]
-fn arguments(rt: HostRuntime) -> Result<(), Fail> {
+fn binders(rt: HostRuntime) {
     let alloc = rt.alloc();
-    let scope = with_variables(alloc)?;
-    let (deepest, deeper) = at_the_limit(alloc, &scope, "f (", "x", ")")?;
-    assert_eq!(rt; deepest, Some(Fault::TooLarge));
-    assert_eq!(rt; deeper, Some(Fault::Syntax));
-    Ok(())
+    let too_large = Err(Fault::TooLarge);
+    let mismatch = Err(Fault::TypeMismatch);
+    assert!(rt; answers_at_the_limit(alloc, Names::None, "\\x:A. ", "(x:B)", "", too_large));
+    assert!(rt; answers_at_the_limit(alloc, Names::None, "@x:A. ", "(x:A)", "", mismatch));
 }
 
 #[test]
-fn binders(rt: HostRuntime) -> Result<(), Fail> {
+fn operators(rt: HostRuntime) {
     let alloc = rt.alloc();
-    let scope = Scope::new(alloc)?;
-    let (deepest, deeper) = at_the_limit(alloc, &scope, "\\x:A. ", "(x:B)", "")?;
-    assert_eq!(rt; deepest, Some(Fault::TooLarge));
-    assert_eq!(rt; deeper, Some(Fault::Syntax));
-    Ok(())
+    let too_large = Err(Fault::TooLarge);
+    assert!(rt; answers_at_the_limit(alloc, Names::Negation, "~", "(p:bool)", "", too_large));
+    assert!(rt;
+        answers_at_the_limit(
+            alloc,
+            Names::None,
+            "(p:bool) <=> ",
+            "(p:bool)",
+            "",
+            too_large
+        )
+    );
 }
 
-#[test]
-fn choices(rt: HostRuntime) -> Result<(), Fail> {
-    let alloc = rt.alloc();
-    let scope = Scope::new(alloc)?;
-    let (deepest, deeper) = at_the_limit(alloc, &scope, "@x:A. ", "(x:A)", "")?;
-    assert_eq!(rt; deepest, Some(Fault::TypeMismatch));
-    assert_eq!(rt; deeper, Some(Fault::Syntax));
-    Ok(())
-}
-
-#[test]
-fn negations(rt: HostRuntime) -> Result<(), Fail> {
-    let alloc = rt.alloc();
-    let scope = with_negation(alloc)?;
-    let (deepest, deeper) = at_the_limit(alloc, &scope, "~", "(p:bool)", "")?;
-    assert_eq!(rt; deepest, Some(Fault::TooLarge));
-    assert_eq!(rt; deeper, Some(Fault::Syntax));
-    Ok(())
-}
-
-#[test]
-fn right_operands(rt: HostRuntime) -> Result<(), Fail> {
-    let alloc = rt.alloc();
-    let scope = Scope::new(alloc)?;
-    let (deepest, deeper) = at_the_limit(alloc, &scope, "(p:bool) <=> ", "(p:bool)", "")?;
-    assert_eq!(rt; deepest, Some(Fault::TooLarge));
-    assert_eq!(rt; deeper, Some(Fault::Syntax));
-    Ok(())
+fn read_behind(alloc: Global, before: &str) -> Result<(), Fault> {
+    let inner = nested(alloc, 3999, "(", "(p:bool)", ")")?;
+    let text = joined(alloc, before, &inner, "")?;
+    read(alloc, Names::None, Text::Term(&text))
 }
 
 // A left operand takes no place: the infixes of the lower level close the higher one first.
 #[test]
-fn left_operands_take_no_place(rt: HostRuntime) -> Result<(), Fail> {
+fn left_operands_take_no_place(rt: HostRuntime) {
     let alloc = rt.alloc();
-    let scope = Scope::new(alloc)?;
-    let inner = nested(alloc, 3999, "(", "(p:bool)", ")")?;
-    let deepest = joined(alloc, "(p:bool) = (p:bool) <=> ", &inner, "")?;
-    assert_eq!(rt; refusal(alloc, &scope, &deepest), None);
-    let deeper = joined(alloc, "(p:bool) <=> (p:bool) = ", &inner, "")?;
-    assert_eq!(rt; refusal(alloc, &scope, &deeper), Some(Fault::Syntax));
-    Ok(())
+    assert!(rt; read_behind(alloc, "(p:bool) = (p:bool) <=> ") == Ok(()));
+    assert!(rt; read_behind(alloc, "(p:bool) <=> (p:bool) = ") == Err(Fault::Syntax));
+}
+
+// Reads a variable in so many parentheses, with a type in so many.
+fn read_typed(alloc: Global, count: u16, of_type: u16) -> Result<(), Fault> {
+    let variable = joined(alloc, "(x:", &nested(alloc, of_type, "(", "A", ")")?, ")")?;
+    read_nested(alloc, Names::None, count, "(", &variable, ")")
 }
 
 // A type in a term counts by itself.
 #[test]
-fn types_in_terms_count_by_themselves(rt: HostRuntime) -> Result<(), Fail> {
+fn types_in_terms_count_by_themselves(rt: HostRuntime) {
     let alloc = rt.alloc();
-    let scope = Scope::new(alloc)?;
-    let variable = joined(alloc, "(x:", &nested(alloc, 2000, "(", "A", ")")?, ")")?;
-    let deepest = nested(alloc, 4000, "(", &variable, ")")?;
-    assert_eq!(rt; refusal(alloc, &scope, &deepest), None);
-    let variable = joined(alloc, "(x:", &nested(alloc, 2001, "(", "A", ")")?, ")")?;
-    assert_eq!(rt; refusal(alloc, &scope, &variable), Some(Fault::Syntax));
-    Ok(())
+    assert!(rt; read_typed(alloc, 4000, 2000) == Ok(()));
+    assert!(rt; read_typed(alloc, 0, 2001) == Err(Fault::Syntax));
+}
+
+// Reads a sequent of formulas in so many parentheses.
+fn read_formulas(alloc: Global, of_first: u16, of_second: u16) -> Result<(), Fault> {
+    let first = nested(alloc, of_first, "(", "(p:bool)", ")")?;
+    let second = nested(alloc, of_second, "(", "(p:bool)", ")")?;
+    let text = joined(alloc, &first, " |- ", &second)?;
+    read(alloc, Names::None, Text::Sequent(&text))
 }
 
 // Each term of a sequent counts by itself.
 #[test]
-fn terms_of_sequents_count_by_themselves(rt: HostRuntime) -> Result<(), Fail> {
+fn terms_of_sequents_count_by_themselves(rt: HostRuntime) {
     let alloc = rt.alloc();
-    let scope = Scope::new(alloc)?;
-    let deepest = nested(alloc, 4000, "(", "(p:bool)", ")")?;
-    let both = joined(alloc, &deepest, " |- ", &deepest)?;
-    assert_eq!(rt; sequent_refusal(alloc, &scope, &both), None);
-    let deeper = joined(alloc, "|- (", &deepest, ")")?;
-    assert_eq!(rt;
-        sequent_refusal(alloc, &scope, &deeper),
-        Some(Fault::Syntax)
-    );
-    Ok(())
+    assert!(rt; read_formulas(alloc, 4000, 4000) == Ok(()));
+    assert!(rt; read_formulas(alloc, 0, 4001) == Err(Fault::Syntax));
 }

@@ -1,56 +1,106 @@
-// What the tests share: answers to texts, and scopes.
+// What the tests share: texts as data, what they are read over, and whether they read and print so.
 use hol_model::Fault;
 use hol_print::{text_of_sequent, text_of_term};
 use hol_syntax::{Scope, read_sequent, read_term, read_type};
 use hol_types::Ty;
 use std::alloc::{AllocError, Global};
 
-/// The refusal of a text as a type, if it is refused.
-pub fn type_refusal(alloc: Global, scope: &Scope, text: &str) -> Option<Fault> {
-    match read_type(alloc, scope, text.as_bytes()) {
-        Ok(_) => None,
-        Err(fault) => Some(fault),
+/// The names that a text is read over, beside `=` and `@`.
+#[derive(Clone, Copy)]
+pub enum Names<'a> {
+    None,
+    /// A constant of type `bool`.
+    Truth(&'a str),
+    /// A constant of type `A->A`.
+    Map(&'a str),
+    /// A connective between truth values.
+    Connective(&'a str),
+    Negation,
+    Quantifier(&'a str),
+    /// The variables `f:A->A`, `g:bool->bool`, `x:A` and `p:bool`.
+    Variables,
+}
+
+/// A text, as what it is read.
+#[derive(Clone, Copy)]
+pub enum Text<'a> {
+    Type(&'a str),
+    Term(&'a str),
+    Sequent(&'a str),
+}
+
+fn scope_of(alloc: Global, names: Names<'_>) -> Result<Scope, Fault> {
+    match names {
+        Names::None => Scope::new(alloc),
+        Names::Truth(name) => with_const(alloc, name, &Ty::boolean(alloc)?),
+        Names::Map(name) => with_const(alloc, name, &map_of_a(alloc)?),
+        Names::Connective(name) => with_connective(alloc, name),
+        Names::Negation => with_const(alloc, "~", &map_of_truth(alloc)?),
+        Names::Quantifier(name) => with_quantifier(alloc, name),
+        Names::Variables => with_variables(alloc),
     }
 }
 
-/// The refusal of a text as a term, if it is refused.
-pub fn refusal(alloc: Global, scope: &Scope, text: &str) -> Option<Fault> {
-    match read_term(alloc, scope, text.as_bytes()) {
-        Ok(_) => None,
-        Err(fault) => Some(fault),
+fn read_over(alloc: Global, scope: &Scope, text: Text<'_>) -> Option<Fault> {
+    match text {
+        Text::Type(text) => read_type(alloc, scope, text.as_bytes()).err(),
+        Text::Term(text) => read_term(alloc, scope, text.as_bytes()).err(),
+        Text::Sequent(text) => read_sequent(alloc, scope, text.as_bytes()).err(),
     }
 }
 
-/// The refusal of a text as a sequent, if it is refused.
-pub fn sequent_refusal(alloc: Global, scope: &Scope, text: &str) -> Option<Fault> {
-    match read_sequent(alloc, scope, text.as_bytes()) {
-        Ok(_) => None,
-        Err(fault) => Some(fault),
+/// Reads a text.
+pub fn read(alloc: Global, names: Names<'_>, text: Text<'_>) -> Result<(), Fault> {
+    let scope = scope_of(alloc, names)?;
+    match read_over(alloc, &scope, text) {
+        Some(fault) => Err(fault),
+        None => Ok(()),
+    }
+}
+
+/// Whether a text is read.
+pub fn reads(alloc: Global, names: Names<'_>, text: Text<'_>) -> bool {
+    read(alloc, names, text) == Ok(())
+}
+
+/// Whether a text is refused in this way.
+pub fn refuses(alloc: Global, names: Names<'_>, text: Text<'_>, fault: Fault) -> bool {
+    read(alloc, names, text) == Err(fault)
+}
+
+fn term_printed(alloc: Global, names: Names<'_>, text: &str) -> Result<String, Fault> {
+    let scope = scope_of(alloc, names)?;
+    let term = read_term(alloc, &scope, text.as_bytes())?;
+    text_of_term(alloc, &scope, &term)
+}
+
+fn sequent_printed(alloc: Global, names: Names<'_>, text: &str) -> Result<String, Fault> {
+    let scope = scope_of(alloc, names)?;
+    let (hypotheses, conclusion) = read_sequent(alloc, &scope, text.as_bytes())?;
+    text_of_sequent(alloc, &scope, &hypotheses, &conclusion)
+}
+
+/// Whether a text was made that is this one.
+pub fn is_text(printed: &Result<String, Fault>, wanted: &str) -> bool {
+    match printed {
+        Ok(printed) => printed.as_str() == wanted,
+        Err(_) => false,
     }
 }
 
 /// Whether the term that a text is read as is printed as another text.
-pub fn prints_as(alloc: Global, scope: &Scope, text: &str, wanted: &str) -> Result<bool, Fault> {
-    let term = read_term(alloc, scope, text.as_bytes())?;
-    let printed = text_of_term(alloc, scope, &term)?;
-    Ok(printed.as_str() == wanted)
+pub fn prints_as(alloc: Global, names: Names<'_>, text: &str, wanted: &str) -> bool {
+    is_text(&term_printed(alloc, names, text), wanted)
 }
 
 /// Whether the term that a text is read as is printed as the text.
-pub fn prints_back(alloc: Global, scope: &Scope, text: &str) -> Result<bool, Fault> {
-    prints_as(alloc, scope, text, text)
+pub fn prints_back(alloc: Global, names: Names<'_>, text: &str) -> bool {
+    prints_as(alloc, names, text, text)
 }
 
 /// Whether the sequent that a text is read as is printed as another text.
-pub fn sequent_prints_as(
-    alloc: Global,
-    scope: &Scope,
-    text: &str,
-    wanted: &str,
-) -> Result<bool, Fault> {
-    let (hypotheses, conclusion) = read_sequent(alloc, scope, text.as_bytes())?;
-    let printed = text_of_sequent(alloc, scope, &hypotheses, &conclusion)?;
-    Ok(printed.as_str() == wanted)
+pub fn sequent_prints_as(alloc: Global, names: Names<'_>, text: &str, wanted: &str) -> bool {
+    is_text(&sequent_printed(alloc, names, text), wanted)
 }
 
 /// A text between as many openings and closings.
@@ -81,51 +131,37 @@ pub fn joined(alloc: Global, first: &str, second: &str, third: &str) -> Result<S
     Ok(text)
 }
 
-/// The type `A->A`.
-pub fn map_of_a(alloc: Global) -> Result<Ty, Fault> {
+// The type `A->A`.
+fn map_of_a(alloc: Global) -> Result<Ty, Fault> {
     let a = Ty::tyvar(alloc, "A")?;
     Ty::fun(alloc, &a, &a)
 }
 
-/// The type `bool->bool`.
-pub fn map_of_truth(alloc: Global) -> Result<Ty, Fault> {
+// The type `bool->bool`.
+fn map_of_truth(alloc: Global) -> Result<Ty, Fault> {
     let truth = Ty::boolean(alloc)?;
     Ty::fun(alloc, &truth, &truth)
 }
 
-/// A scope with one more constant, of type `bool`.
-pub fn with_truth(alloc: Global, name: &str) -> Result<Scope, Fault> {
+// A scope with one more constant.
+fn with_const(alloc: Global, name: &str, ty: &Ty) -> Result<Scope, Fault> {
     let mut scope = Scope::new(alloc)?;
-    scope.add_const(alloc, name, &Ty::boolean(alloc)?)?;
+    scope.add_const(alloc, name, ty)?;
     Ok(scope)
 }
 
-/// A scope with a connective between truth values.
-pub fn with_connective(alloc: Global, name: &str) -> Result<Scope, Fault> {
-    let mut scope = Scope::new(alloc)?;
+fn with_connective(alloc: Global, name: &str) -> Result<Scope, Fault> {
     let truth = Ty::boolean(alloc)?;
-    scope.add_const(alloc, name, &Ty::fun(alloc, &truth, &map_of_truth(alloc)?)?)?;
-    Ok(scope)
+    with_const(alloc, name, &Ty::fun(alloc, &truth, &map_of_truth(alloc)?)?)
 }
 
-/// A scope with `~`.
-pub fn with_negation(alloc: Global) -> Result<Scope, Fault> {
-    let mut scope = Scope::new(alloc)?;
-    scope.add_const(alloc, "~", &map_of_truth(alloc)?)?;
-    Ok(scope)
-}
-
-/// A scope with a quantifier.
-pub fn with_quantifier(alloc: Global, name: &str) -> Result<Scope, Fault> {
-    let mut scope = Scope::new(alloc)?;
+fn with_quantifier(alloc: Global, name: &str) -> Result<Scope, Fault> {
     let truth = Ty::boolean(alloc)?;
     let predicate = Ty::fun(alloc, &Ty::tyvar(alloc, "A")?, &truth)?;
-    scope.add_const(alloc, name, &Ty::fun(alloc, &predicate, &truth)?)?;
-    Ok(scope)
+    with_const(alloc, name, &Ty::fun(alloc, &predicate, &truth)?)
 }
 
-/// A scope with the variables `f:A->A`, `g:bool->bool`, `x:A` and `p:bool`.
-pub fn with_variables(alloc: Global) -> Result<Scope, Fault> {
+fn with_variables(alloc: Global) -> Result<Scope, Fault> {
     let mut scope = Scope::new(alloc)?;
     scope.set_var(alloc, "f", &map_of_a(alloc)?)?;
     scope.set_var(alloc, "g", &map_of_truth(alloc)?)?;

@@ -1,11 +1,9 @@
 // Tokens beside one another without white space, and bytes that no token has.
-use crate::texts::{joined, prints_as, refusal, sequent_prints_as, with_connective};
+use crate::texts::{Names, Text, joined, prints_as, refuses, sequent_prints_as};
 use hol_grammar::Token;
 use hol_grammar::lexer::{text, tokens_in};
 use hol_model::Fault;
-use hol_syntax::Scope;
 use std::alloc::{AllocError, Global};
-use std::test::Fail;
 
 // One token of each kind.
 const TOKENS: [&str; 23] = [
@@ -54,36 +52,54 @@ fn stands_beside(alloc: Global, first: &str, table: &[&str]) -> Result<bool, All
     Ok(true)
 }
 
-#[test]
-fn each_token_stands_beside_each(rt: HostRuntime) -> Result<(), Fail> {
-    let alloc = rt.alloc();
-    for first in &TOKENS {
-        assert!(rt; stands_beside(alloc, first, &TOKENS)?);
+// Whether each token of the table beside each is read as itself, unless the two run on.
+fn stand_beside(alloc: Global, table: &[&str]) -> Result<bool, AllocError> {
+    for first in table {
+        if !stands_beside(alloc, first, table)? {
+            return Ok(false);
+        }
     }
-    Ok(())
+    Ok(true)
 }
 
 #[test]
-fn longest_token_is_taken(rt: HostRuntime) -> Result<(), Fail> {
+fn each_token_stands_beside_each(rt: HostRuntime) {
+    assert!(rt; stand_beside(rt.alloc(), &TOKENS) == Ok(true));
+}
+
+// Whether a text is one of tokens.
+fn has_tokens(alloc: Global, bytes: &str) -> bool {
+    tokens_in(alloc, bytes.as_bytes()).is_ok()
+}
+
+#[test]
+fn parts_of_tokens_are_refused(rt: HostRuntime) {
+    let alloc = rt.alloc();
+    assert!(rt; !has_tokens(alloc, "<="));
+    assert!(rt; !has_tokens(alloc, "-"));
+    assert!(rt; !has_tokens(alloc, "/"));
+    assert!(rt; !has_tokens(alloc, "|"));
+    assert!(rt; !has_tokens(alloc, ">"));
+    assert!(rt; !has_tokens(alloc, "_x"));
+}
+
+// Numbers have 32 bits, and no zero before them.
+#[test]
+fn large_numbers_are_refused(rt: HostRuntime) {
+    let alloc = rt.alloc();
+    assert!(rt; has_two(alloc, "4294967295 0", "4294967295", "0"));
+    assert!(rt; !has_tokens(alloc, "4294967296"));
+    assert!(rt; !has_tokens(alloc, "01"));
+}
+
+#[test]
+fn longest_token_is_taken(rt: HostRuntime) {
     let alloc = rt.alloc();
     assert!(rt; has_two(alloc, "\\/\\", "\\/", "\\"));
     assert!(rt; has_two(alloc, "===>", "=", "==>"));
     assert!(rt; has_two(alloc, "<=>=", "<=>", "="));
     assert!(rt; has_two(alloc, "x7'_x 7", "x7'_x", "7"));
     assert!(rt; has_two(alloc, "7x", "7", "x"));
-    Ok(())
-}
-
-#[test]
-fn parts_of_tokens_are_refused(rt: HostRuntime) -> Result<(), Fail> {
-    let alloc = rt.alloc();
-    assert!(rt; tokens_in(alloc, b"<=").is_err());
-    assert!(rt; tokens_in(alloc, b"-").is_err());
-    assert!(rt; tokens_in(alloc, b"/").is_err());
-    assert!(rt; tokens_in(alloc, b"|").is_err());
-    assert!(rt; tokens_in(alloc, b">").is_err());
-    assert!(rt; tokens_in(alloc, b"_x").is_err());
-    Ok(())
 }
 
 // Whether the byte is refused between two names, and so in a text.
@@ -103,7 +119,7 @@ fn are_refused(alloc: Global, first: u8, last: u8) -> bool {
 
 // White space is tab, line feed, carriage return and space; other control bytes are refused.
 #[test]
-fn control_bytes(rt: HostRuntime) -> Result<(), Fail> {
+fn control_bytes(rt: HostRuntime) {
     let alloc = rt.alloc();
     assert!(rt; are_refused(alloc, 0, 8));
     assert!(rt; !is_refused(alloc, 9));
@@ -112,60 +128,90 @@ fn control_bytes(rt: HostRuntime) -> Result<(), Fail> {
     assert!(rt; !is_refused(alloc, 13));
     assert!(rt; are_refused(alloc, 14, 31));
     assert!(rt; !is_refused(alloc, 32));
-    Ok(())
 }
 
 #[test]
-fn bytes_outside_ascii(rt: HostRuntime) -> Result<(), Fail> {
+fn bytes_outside_ascii(rt: HostRuntime) {
     let alloc = rt.alloc();
     assert!(rt; are_refused(alloc, 127, 255));
-    let scope = Scope::new(alloc)?;
-    assert_eq!(rt;
-        refusal(alloc, &scope, "\u{3bb}x:A. x"),
-        Some(Fault::Syntax)
+    assert!(rt;
+        refuses(
+            alloc,
+            Names::None,
+            Text::Term("\u{3bb}x:A. x"),
+            Fault::Syntax
+        )
     );
-    assert_eq!(rt; refusal(alloc, &scope, "(x:A)\u{a0}"), Some(Fault::Syntax));
-    assert_eq!(rt;
-        refusal(alloc, &scope, "y = (\u{e9}:A)"),
-        Some(Fault::Syntax)
+    assert!(rt; refuses(alloc, Names::None, Text::Term("(x:A)\u{a0}"), Fault::Syntax));
+    assert!(rt;
+        refuses(
+            alloc,
+            Names::None,
+            Text::Term("y = (\u{e9}:A)"),
+            Fault::Syntax
+        )
     );
-    Ok(())
 }
 
 #[test]
-fn terms_without_white_space(rt: HostRuntime) -> Result<(), Fail> {
+fn terms_without_white_space(rt: HostRuntime) {
     let alloc = rt.alloc();
-    let scope = with_connective(alloc, "==>")?;
-    let text = "\\x:bool->bool.x(y:bool)==>[=:bool->bool->bool](y:bool)(z:bool)";
-    let printed = "\\x:bool->bool. x (y:bool) ==> ((y:bool) <=> (z:bool))";
-    assert!(rt; prints_as(alloc, &scope, text, printed)?);
-    let text = "(a:A)=@a:A.(a:A)=(a:A)";
-    assert_eq!(rt; refusal(alloc, &scope, text), Some(Fault::Syntax));
-    let text = "(a:A)=(@a:A.a=a)<=>(p:bool)";
-    let printed = "(a:A) = (@a:A. a = a) <=> (p:bool)";
-    assert!(rt; prints_as(alloc, &scope, text, printed)?);
-    Ok(())
-}
-
-#[test]
-fn terms_with_much_white_space(rt: HostRuntime) -> Result<(), Fail> {
-    let alloc = rt.alloc();
-    let scope = Scope::new(alloc)?;
-    let text = "\t\\\r\nx : A  ->\tB .\n( y : A )\t";
-    assert!(rt; prints_as(alloc, &scope, text, "\\x:A->B. (y:A)")?);
-    assert_eq!(rt;
-        refusal(alloc, &scope, "\\x:A - > B. x"),
-        Some(Fault::Syntax)
+    assert!(rt;
+        prints_as(
+            alloc,
+            Names::Connective("==>"),
+            "\\x:bool->bool.x(y:bool)==>[=:bool->bool->bool](y:bool)(z:bool)",
+            "\\x:bool->bool. x (y:bool) ==> ((y:bool) <=> (z:bool))"
+        )
     );
-    Ok(())
+    assert!(rt;
+        refuses(
+            alloc,
+            Names::Connective("==>"),
+            Text::Term("(a:A)=@a:A.(a:A)=(a:A)"),
+            Fault::Syntax
+        )
+    );
+    assert!(rt;
+        prints_as(
+            alloc,
+            Names::Connective("==>"),
+            "(a:A)=(@a:A.a=a)<=>(p:bool)",
+            "(a:A) = (@a:A. a = a) <=> (p:bool)"
+        )
+    );
 }
 
 #[test]
-fn sequents_without_white_space(rt: HostRuntime) -> Result<(), Fail> {
+fn terms_with_much_white_space(rt: HostRuntime) {
     let alloc = rt.alloc();
-    let scope = Scope::new(alloc)?;
-    let text = "(p:bool),(q:bool)|-(r:bool)";
-    let printed = "(p:bool), (q:bool) |- (r:bool)";
-    assert!(rt; sequent_prints_as(alloc, &scope, text, printed)?);
-    Ok(())
+    assert!(rt;
+        prints_as(
+            alloc,
+            Names::None,
+            "\t\\\r\nx : A ->\tB .\n(y : A)\t",
+            "\\x:A->B. (y:A)"
+        )
+    );
+    assert!(rt;
+        refuses(
+            alloc,
+            Names::None,
+            Text::Term("\\x:A - > B. x"),
+            Fault::Syntax
+        )
+    );
+}
+
+#[test]
+fn sequents_without_white_space(rt: HostRuntime) {
+    let alloc = rt.alloc();
+    assert!(rt;
+        sequent_prints_as(
+            alloc,
+            Names::None,
+            "(p:bool),(q:bool)|-(r:bool)",
+            "(p:bool), (q:bool) |- (r:bool)"
+        )
+    );
 }

@@ -13,5 +13,5 @@ returns-in_default c = record {
       (binder_here c.in-Quantifier.binder) (term_tree scope bindings c.args.function.now)
       ∙ ap (λ p. prefix_tree (prefix_here p) (term_tree scope bindings c.args.function.now) (term_tree scope bindings c.args.argument.now)) (sym c.in-Quantifier.is);
   named = tt;
-  parts = (omega arith, omega arith);
+  parts = omega arith;
 }
