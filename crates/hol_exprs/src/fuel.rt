@@ -28,7 +28,7 @@ impl Fuel {
         Fuel { left }
     }
 
-    /// Spends a step, where one is left.
+    /// Spends a step, where one is left; whether there was one.
     pub fn spend(&mut self) -> bool
         ensures spent { OnTrue result (self.old.left ≡ suc self.new.left) }
         ensures none { OnFalse result ((self.old.left ≡ 0) × (self.new.left ≡ 0)) }

@@ -7,6 +7,7 @@ use crate::leaf::Leaf;
 #[cycle(tac)]
 #[derive(Drop)]
 pub enum Tac<Quote> {
+    /// A refiner without parts.
     Leaf(Leaf<Quote>),
     /// The host's refiner of this name.
     Host(String),

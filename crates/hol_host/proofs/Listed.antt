@@ -1,5 +1,6 @@
 -- Lemmas on the names in a table.
-use Rattle.std.proofs.Common.{◌≡◌, ℕ, zero, suc, ◌<◌, List, [], ◌∷◌, length, map, get_or, Contains, Bool, true, false, ◌||◌, refl, sym, ap, ◌∙◌, arith}
+use Rattle.std.proofs.Common.{◌≡◌, ℕ, zero, suc, ◌<◌, List, [], ◌∷◌, length, map, get_or, Contains, Bool, true, false, ◌||◌, refl, sym, ap, ◌∙◌, arith, Option, Some, None, IfSome, IfNone}
+use Rattle.std.specs.Option.{is_some}
 use Rattle.std.proofs.lemmas.List.{get_or-map, length-map}
 use Rattle.std.specs.Str.{bytes_eq}
 use Rattle.std.proofs.lemmas.Slice.Eq.{bytes_eq-Decides}
@@ -35,3 +36,9 @@ not_listed (first ∷ names) name none = go (bytes_eq name first) refl (not_list
     go : (test : Bool) → bytes_eq name first ≡ test → ((Contains names name → ⊥) → is_listed name names ≡ false) → (test || is_listed name names) ≡ false
     go true is later = absurd (none (0, omega arith, sym ((bytes_eq-Decides name first).0 is)))
     go false is later = later (λ there. let within = there.1 in none (suc there.0, omega (arith, within), there.2))
+
+-- whether a place was found tells whether the name is listed
+pub listed_where_found : (names : List (List ℕ)) (name : List ℕ) (found : Option ℕ) → IfSome found (λ place. IsPlace names name place)
+    → IfNone found (Contains names name → ⊥) → is_some found ≡ is_listed name names
+listed_where_found names name (Some place) there none = sym (listed_at names name place there)
+listed_where_found names name None there none = sym (not_listed names name none)

@@ -101,10 +101,7 @@ impl HostConvs {
     pub(crate) fn has(&self, name: &str) -> bool
         ensures { result ≡ is_listed name.now (conversion_names self.now) }
     {
-        match self.place(name) {
-            Some(_) => true,
-            None => false,
-        }
+        self.place(name).is_some()
     }
 
     // The conversion of this name.

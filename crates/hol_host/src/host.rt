@@ -95,10 +95,7 @@ impl Host {
     fn has(&self, name: &str) -> bool
         ensures { result ≡ is_listed name.now (refiner_names self.now) }
     {
-        match self.place(name) {
-            Some(_) => true,
-            None => false,
-        }
+        self.place(name).is_some()
     }
 
     // The refiner of this name.

@@ -1,4 +1,4 @@
-// First-order matching of a pattern with a term: which types and terms make the one the other.
+//! First-order matching of a pattern with a term: which types and terms make the one the other.
 #![tactic(auto)]
 
 mod frames;

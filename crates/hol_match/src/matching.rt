@@ -1,8 +1,8 @@
 // First-order matching of terms: pattern and term are gone through side by side, each part once.
-ghost use Rattle.std.specs.Prelude.{◌≡◌, ◌⊎◌, Some, None, IfOk, IfErr, IsTrue, if◌then◌else◌, find};
+ghost use Rattle.std.specs.Prelude.{◌≡◌, ◌⊎◌, [], ◌∷◌, ◌++◌, Some, None, IfOk, OnOk, IfErr, IsTrue, if◌then◌else◌, find};
 ghost use Rattle.std.specs.Option.{option_map};
 ghost use Rattle.hol_model.specs.Terms.Name.{is_identifier};
-ghost use Rattle.hol_model.specs.Terms.NamedTerm.{type_of};
+ghost use Rattle.hol_model.specs.Terms.NamedTerm.{variable, type_of};
 ghost use Rattle.hol_model.specs.Terms.Substitution as substitution;
 ghost use Rattle.hol_model.specs.declared.fault.Fault.TheVariants.{Memory, NoMatch};
 ghost use Rattle.hol_model.specs.Rewrites.Matching.{HasNoMatch, Matches};
@@ -34,7 +34,7 @@ pub struct Match {
 /// Each pair is for a type variable of the pattern, or for a variable that is free in it once types are put in, and is the
 /// first for it. Variables that become one as types are put in have one pair.
 ///
-/// Refused: `NoMatch` exactly where there is no match.
+/// Refused: NoMatch, exactly where there is no match, and Memory.
 #[tactic(auto, using(crate::proofs::Completeness::matching))]
 pub fn term_match(
     alloc: Global,
@@ -45,18 +45,12 @@ pub fn term_match(
     ensures ok { IfOk result (λ found. Matches fixed.now pattern.now term.now found.types.items found.terms.items) }
     ensures err { IfErr result (λ fault. (fault ≡ Memory) ⊎ ((fault ≡ NoMatch) × HasNoMatch fixed.now pattern.now term.now)) }
 {
-    let mut types = Vec::new(alloc);
-    let mut terms = Vec::new(alloc);
-    if match_part(
-        alloc,
-        fixed,
-        &Frames::Outermost,
-        pattern,
-        term,
-        &mut types,
-        &mut terms,
-    )? {
-        Ok(Match { types, terms })
+    let mut found = Match {
+        types: Vec::new(alloc),
+        terms: Vec::new(alloc),
+    };
+    if match_part(alloc, fixed, &Frames::Outermost, pattern, term, &mut found)? {
+        Ok(found)
     } else {
         Err(Fault::NoMatch)
     }
@@ -70,38 +64,37 @@ fn match_part(
     frames: &Frames<'_>,
     pattern: &Term,
     term: &Term,
-    types: &mut Vec<(Ty, Ty)>,
-    terms: &mut Vec<(Term, Term)>,
+    found: &mut Match,
 ) -> Result<bool, Fault>
-    ensures ok { IfOk result (λ fits. spec.match_part fixed.now (sides_of frames.now) (types.old.items, terms.old.items) pattern.now term.now
-        ≡ (if fits then Some (types.new.items, terms.new.items) else None)) }
+    ensures ok { IfOk result (λ fits. spec.match_part fixed.now (sides_of frames.now) (found.old.types.items, found.old.terms.items) pattern.now term.now
+        ≡ (if fits then Some (found.new.types.items, found.new.terms.items) else None)) }
     ensures err { IfErr result (λ fault. fault ≡ Memory) }
 {
     match (pattern.parts(), term.parts()) {
         (Parts::Variable(name, ty), _) => match bound_alike(&*frames, name, ty, term) {
             Some(alike) => Ok(alike),
-            None => match_free(alloc, fixed, &*frames, name, ty, term, types, terms),
+            None => match_free(alloc, fixed, &*frames, name, ty, term, found),
         },
         (Parts::Constant(name, ty), Parts::Constant(other, s)) => {
             if name != other {
                 return Ok(false);
             }
-            match_type(alloc, fixed, ty, s, types)
+            match_type(alloc, fixed, ty, s, &mut found.types)
         }
         (Parts::Combination(f, x), Parts::Combination(g, y)) => {
-            if !match_part(alloc, fixed, &*frames, f, g, types, terms)? {
+            if !match_part(alloc, fixed, &*frames, f, g, found)? {
                 return Ok(false);
             }
-            match_part(alloc, fixed, &*frames, x, y, types, terms)
+            match_part(alloc, fixed, &*frames, x, y, found)
         }
         (Parts::Abstraction(name, ty, body), Parts::Abstraction(other, s, other_body)) => {
-            if !match_type(alloc, fixed, ty, s, types)? {
+            if !match_type(alloc, fixed, ty, s, &mut found.types)? {
                 return Ok(false);
             }
             let left = Named { name, ty };
             let right = Named { name: other, ty: s };
             let under = Frames::Under(left, right, &*frames);
-            match_part(alloc, fixed, &under, body, other_body, types, terms)
+            match_part(alloc, fixed, &under, body, other_body, found)
         }
         _ => Ok(false),
     }
@@ -115,22 +108,21 @@ fn match_free(
     name: &str,
     ty: &Ty,
     term: &Term,
-    types: &mut Vec<(Ty, Ty)>,
-    terms: &mut Vec<(Term, Term)>,
+    found: &mut Match,
 ) -> Result<bool, Fault>
     requires { IsTrue (is_identifier name.now) }
-    ensures ok { IfOk result (λ fits. spec.match_free fixed.now (spec.right_of (sides_of frames.now)) (types.old.items, terms.old.items) name.now ty.now term.now (type_of term.now)
-        ≡ (if fits then Some (types.new.items, terms.new.items) else None)) }
+    ensures ok { IfOk result (λ fits. spec.match_free fixed.now (spec.right_of (sides_of frames.now)) (found.old.types.items, found.old.terms.items) name.now ty.now term.now (type_of term.now)
+        ≡ (if fits then Some (found.new.types.items, found.new.terms.items) else None)) }
     ensures err { IfErr result (λ fault. fault ≡ Memory) }
 {
     let s = term.ty();
-    if !match_type(alloc, fixed, ty, s, types)? {
+    if !match_type(alloc, fixed, ty, s, &mut found.types)? {
         return Ok(false);
     }
     if !is_closed(&*frames, term) {
         return Ok(false);
     }
-    with_term(alloc, fixed, name, s, term, terms)
+    with_term(alloc, fixed, name, s, term, &mut found.terms)
 }
 
 // Whether the term stands for the variable of this name and type, by the pairs that were found or a further one.
@@ -152,11 +144,27 @@ fn with_term(
     match known_term(terms, name, ty) {
         Some(known) => Ok(aconv(known, term)),
         None => {
-            let variable = Term::mk_var(alloc, name, ty)?;
-            terms.push((term.copy(alloc)?, variable))?;
+            add_term(alloc, name, ty, term, terms)?;
             Ok(true)
         }
     }
+}
+
+// Puts the pair of the term and of the variable that it stands for at the end of a list.
+fn add_term(
+    alloc: Global,
+    name: &str,
+    ty: &Ty,
+    term: &Term,
+    terms: &mut Vec<(Term, Term)>,
+) -> Result<(), Fault>
+    requires { IsTrue (is_identifier name.now) }
+    ensures ok { OnOk result (terms.new.items ≡ terms.old.items ++ (term.now, variable name.now ty.now) ∷ []) }
+    ensures err { IfErr result (λ fault. fault ≡ Memory) }
+{
+    let variable = Term::mk_var(alloc, name, ty)?;
+    terms.push((term.copy(alloc)?, variable))?;
+    Ok(())
 }
 
 // Whether the variable of this name and type is fixed.

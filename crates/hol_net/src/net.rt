@@ -36,7 +36,7 @@ impl Model for Net {
 }
 
 impl Net {
-    /// The net of no patterns.
+    /// The net of no patterns. Refused: Memory.
     pub fn new(alloc: Global) -> Result<Net, Fault>
         ensures ok { IfOk result (λ net. net ≡ []) }
         ensures err { IfErr result (λ fault. fault ≡ Memory) }
@@ -48,7 +48,7 @@ impl Net {
         })
     }
 
-    /// Puts a pattern behind those of the net. A refusal leaves the net as it was.
+    /// Puts a pattern behind those of the net. Refused, where the net stays as it was: Memory.
     pub fn insert(&mut self, alloc: Global, pattern: &Term) -> Result<(), Fault>
         ensures ok { OnOk result (self.new ≡ self.old ++ pattern.now ∷ []) }
         ensures unchanged { OnErr result (self.new ≡ self.old) }
@@ -62,7 +62,7 @@ impl Net {
     }
 
     /// The places, ascending, of the patterns that fit a term. The cost is that of the way through the term along the
-    /// patterns that agree with it so far, and of the patterns that are found.
+    /// patterns that agree with it so far, and of the patterns that are found. Refused: Memory.
     pub fn candidates(&self, alloc: Global, term: &Term) -> Result<Vec<usize>, Fault>
         ensures ok { IfOk result (λ places. places.items ≡ places_where (λ pattern. fits pattern term.now) self.now) }
         ensures err { IfErr result (λ fault. fault ≡ Memory) }

@@ -86,7 +86,7 @@ impl Store {
         }
     }
 
-    /// Stores a theorem, for which there is room, in place of an earlier one of the name.
+    /// Stores a theorem under a name, in place of an earlier one there. It takes no memory: the room was made before.
     pub fn put_made(&mut self, name: String, theorem: Rec)
         requires room { HasRoom self.old }
         ensures stored { StoresTheorem (stored_of self.old) (stored_of self.new) (string_bytes name) theorem }
@@ -123,7 +123,7 @@ impl Store {
         self.lemmas.clear();
     }
 
-    /// Forgets all lemmas but the first ones.
+    /// Forgets all lemmas but the first `count`.
     pub fn keep_lemmas(&mut self, count: usize)
         ensures lemmas { (stored_of self.new).lemmas ≡ take count (stored_of self.old).lemmas }
         ensures theorems { KeepsTheorems (stored_of self.old) (stored_of self.new) }

@@ -1,0 +1,339 @@
+// Functions of a host. Which one answered is told by the lemma that its answer names.
+use hol_host::{Converters, Host, HostConvs, HostFail, NoHost, Refiners};
+use hol_just::{Goal, Just, Line, Step, lemma};
+use hol_model::{Fault, HOST_FUNCTIONS_LIMIT};
+use hol_terms::Term;
+use hol_types::Ty;
+use std::alloc::Global;
+
+// A list of a host's functions.
+#[derive(Clone, Copy)]
+enum Kind {
+    Refiner,
+    Conversion,
+}
+
+// The variable `x` of type `bool`.
+fn variable(alloc: Global) -> Result<Term, Fault> {
+    Term::mk_var(alloc, "x", &Ty::boolean(alloc)?)
+}
+
+// The goal `x` from so many assumptions `x`.
+fn goal(alloc: Global, assumptions: usize) -> Result<Goal, Fault> {
+    let mut asms = Vec::new(alloc);
+    for _ in 0..assumptions {
+        asms.push(variable(alloc)?)?;
+    }
+    Ok(Goal {
+        asms,
+        concl: variable(alloc)?,
+    })
+}
+
+// A step without subgoals, by a lemma.
+fn step_by(alloc: Global, number: usize) -> Result<Step, HostFail> {
+    match lemma(alloc, number) {
+        Ok(just) => Ok(Step {
+            goals: Vec::new(alloc),
+            just,
+        }),
+        Err(_) => Err(HostFail),
+    }
+}
+
+// A term, equal by a lemma.
+fn equal_by(alloc: Global, term: &Term, number: usize) -> Result<(Term, Just), HostFail> {
+    match (term.copy(alloc), lemma(alloc, number)) {
+        (Ok(term), Ok(just)) => Ok((term, just)),
+        _ => Err(HostFail),
+    }
+}
+
+// The lemma that a justification names.
+fn lemma_of(just: &Just) -> Option<usize> {
+    match just.lines().get(just.root()) {
+        Some(Line::Lemma(number)) => Some(*number),
+        _ => None,
+    }
+}
+
+// What a host answers to the last of these names, put into their lists one after another.
+fn last_answer(alloc: Global, names: &[(Kind, &str)]) -> Result<(), Fault> {
+    let mut host = Host::new(alloc);
+    let mut answer = Ok(());
+    for (kind, name) in names {
+        answer = match kind {
+            Kind::Refiner => {
+                let fails = Box::new(alloc, |_alloc: Global, _goal: &Goal| Err(HostFail))?;
+                host.refiner(alloc, name, fails)
+            }
+            Kind::Conversion => {
+                let fails = Box::new(alloc, |_alloc: Global, _term: &Term| Err(HostFail))?;
+                host.conv(alloc, name, fails)
+            }
+        };
+    }
+    answer
+}
+
+#[test]
+fn a_name_stands_once_in_each_list(rt: HostRuntime) {
+    let alloc = rt.alloc();
+    let both = [(Kind::Refiner, "swap"), (Kind::Conversion, "swap")];
+    assert_eq!(rt; last_answer(alloc, &both), Ok(()));
+    let refiners = [(Kind::Refiner, "peel"), (Kind::Refiner, "peel")];
+    assert_eq!(rt; last_answer(alloc, &refiners), Err(Fault::NameTaken));
+    let conversions = [(Kind::Conversion, "swap"), (Kind::Conversion, "swap")];
+    assert_eq!(rt; last_answer(alloc, &conversions), Err(Fault::NameTaken));
+}
+
+// A name is an identifier, and this is asked before the name is looked up.
+#[test]
+fn names_are_identifiers(rt: HostRuntime) {
+    let alloc = rt.alloc();
+    for name in ["a b", "", "1a", "_a", "/\\"] {
+        assert_eq!(rt;
+            last_answer(alloc, &[(Kind::Refiner, name)]),
+            Err(Fault::BadName)
+        );
+        assert_eq!(rt;
+            last_answer(alloc, &[(Kind::Conversion, name)]),
+            Err(Fault::BadName)
+        );
+    }
+    assert_eq!(rt; last_answer(alloc, &[(Kind::Refiner, "a_1'")]), Ok(()));
+}
+
+// What a host with so many refiners and conversions `f0`, `f1` and so on answers to one function more.
+fn answer_to_one_more(
+    alloc: Global,
+    refiners: usize,
+    conversions: usize,
+    kind: Kind,
+    name: &str,
+) -> Result<(), Fault> {
+    let mut host = Host::new(alloc);
+    for number in 0..refiners {
+        let fails = Box::new(alloc, |_alloc: Global, _goal: &Goal| Err(HostFail))?;
+        host.refiner(alloc, format!(in alloc; "f{number}")?.as_str(), fails)?;
+    }
+    for number in 0..conversions {
+        let fails = Box::new(alloc, |_alloc: Global, _term: &Term| Err(HostFail))?;
+        host.conv(alloc, format!(in alloc; "f{number}")?.as_str(), fails)?;
+    }
+    match kind {
+        Kind::Refiner => {
+            let fails = Box::new(alloc, |_alloc: Global, _goal: &Goal| Err(HostFail))?;
+            host.refiner(alloc, name, fails)
+        }
+        Kind::Conversion => {
+            let fails = Box::new(alloc, |_alloc: Global, _term: &Term| Err(HostFail))?;
+            host.conv(alloc, name, fails)
+        }
+    }
+}
+
+#[test]
+fn sixty_four_stand_together(rt: HostRuntime) {
+    let alloc = rt.alloc();
+    for (refiners, conversions) in [(63, 0), (0, 63), (31, 32)] {
+        assert_eq!(rt;
+            answer_to_one_more(alloc, refiners, conversions, Kind::Refiner, "g"),
+            Ok(())
+        );
+        assert_eq!(rt;
+            answer_to_one_more(alloc, refiners, conversions, Kind::Conversion, "g"),
+            Ok(())
+        );
+    }
+}
+
+#[test]
+fn a_sixty_fifth_is_refused(rt: HostRuntime) {
+    let alloc = rt.alloc();
+    for (refiners, conversions) in [(64, 0), (0, 64), (32, 32)] {
+        assert_eq!(rt;
+            answer_to_one_more(alloc, refiners, conversions, Kind::Refiner, "g"),
+            Err(Fault::TooLong)
+        );
+        assert_eq!(rt;
+            answer_to_one_more(alloc, refiners, conversions, Kind::Conversion, "g"),
+            Err(Fault::TooLong)
+        );
+    }
+}
+
+// A name is refused before the number of functions is.
+#[test]
+fn names_are_refused_first(rt: HostRuntime) {
+    let alloc = rt.alloc();
+    assert_eq!(rt;
+        answer_to_one_more(alloc, 32, 32, Kind::Refiner, "f31"),
+        Err(Fault::NameTaken)
+    );
+    assert_eq!(rt;
+        answer_to_one_more(alloc, 32, 32, Kind::Conversion, "f31"),
+        Err(Fault::NameTaken)
+    );
+    assert_eq!(rt;
+        answer_to_one_more(alloc, 32, 32, Kind::Conversion, "f 31"),
+        Err(Fault::BadName)
+    );
+}
+
+// What the conversions alone answer to one more, where there are so many.
+fn answer_to_one_more_alone(alloc: Global, count: usize) -> Result<(), Fault> {
+    let mut host = HostConvs::new(alloc);
+    for number in 0..count {
+        let fails = Box::new(alloc, |_alloc: Global, _term: &Term| Err(HostFail))?;
+        host.add(alloc, format!(in alloc; "f{number}")?.as_str(), fails)?;
+    }
+    let fails = Box::new(alloc, |_alloc: Global, _term: &Term| Err(HostFail))?;
+    host.add(alloc, "g", fails)
+}
+
+#[test]
+fn sixty_four_conversions_stand_alone(rt: HostRuntime) {
+    let alloc = rt.alloc();
+    assert_eq!(rt; HOST_FUNCTIONS_LIMIT, 64);
+    assert_eq!(rt; answer_to_one_more_alone(alloc, 63), Ok(()));
+    assert_eq!(rt; answer_to_one_more_alone(alloc, 64), Err(Fault::TooLong));
+}
+
+// What refiners `zero`, `one` and `two`, which go by the lemmas 0, 1 and 2, answer under a name: the lemma.
+fn refined_under(alloc: Global, name: &str) -> Result<Option<usize>, Fault> {
+    let mut host = Host::new(alloc);
+    for (number, name) in ["zero", "one", "two"].iter().enumerate() {
+        let refiner = Box::new(
+            alloc,
+            move |alloc: Global, _goal: &Goal| step_by(alloc, number),
+        )?;
+        host.refiner(alloc, name, refiner)?;
+    }
+    match host.refine(alloc, name, &goal(alloc, 0)?) {
+        Some(Ok(step)) => Ok(lemma_of(&step.just)),
+        _ => Ok(None),
+    }
+}
+
+#[test]
+fn the_refiner_of_the_name_is_called(rt: HostRuntime) {
+    let alloc = rt.alloc();
+    assert_eq!(rt; refined_under(alloc, "zero"), Ok(Some(0)));
+    assert_eq!(rt; refined_under(alloc, "one"), Ok(Some(1)));
+    assert_eq!(rt; refined_under(alloc, "two"), Ok(Some(2)));
+    assert_eq!(rt; refined_under(alloc, "three"), Ok(None));
+}
+
+// The same for conversions.
+fn converted_under(alloc: Global, name: &str) -> Result<Option<usize>, Fault> {
+    let mut host = HostConvs::new(alloc);
+    for (number, name) in ["zero", "one", "two"].iter().enumerate() {
+        let conversion = Box::new(
+            alloc,
+            move |alloc: Global, term: &Term| equal_by(alloc, term, number),
+        )?;
+        host.add(alloc, name, conversion)?;
+    }
+    match host.convert(alloc, name, &variable(alloc)?) {
+        Some(Ok((_term, just))) => Ok(lemma_of(&just)),
+        _ => Ok(None),
+    }
+}
+
+#[test]
+fn the_conversion_of_the_name_is_called(rt: HostRuntime) {
+    let alloc = rt.alloc();
+    assert_eq!(rt; converted_under(alloc, "zero"), Ok(Some(0)));
+    assert_eq!(rt; converted_under(alloc, "one"), Ok(Some(1)));
+    assert_eq!(rt; converted_under(alloc, "two"), Ok(Some(2)));
+    assert_eq!(rt; converted_under(alloc, "three"), Ok(None));
+}
+
+// Whether a host with a refiner and a conversion of one name, that go by the lemmas 0 and 1, calls the one of the kind that is asked for.
+fn tells_kinds_apart(alloc: Global) -> Result<bool, Fault> {
+    let mut host = Host::new(alloc);
+    let refiner = Box::new(alloc, |alloc: Global, _goal: &Goal| step_by(alloc, 0))?;
+    host.refiner(alloc, "f", refiner)?;
+    let conversion = Box::new(alloc, |alloc: Global, term: &Term| equal_by(alloc, term, 1))?;
+    host.conv(alloc, "f", conversion)?;
+    let refined = match host.refine(alloc, "f", &goal(alloc, 0)?) {
+        Some(Ok(step)) => lemma_of(&step.just),
+        _ => None,
+    };
+    let converted = match host.convert(alloc, "f", &variable(alloc)?) {
+        Some(Ok((_term, just))) => lemma_of(&just),
+        _ => None,
+    };
+    Ok(refined == Some(0) && converted == Some(1))
+}
+
+#[test]
+fn one_name_is_a_refiner_and_a_conversion(rt: HostRuntime) {
+    assert_eq!(rt; tells_kinds_apart(rt.alloc()), Ok(true));
+}
+
+// Whether a refiner is given the goal: it goes by the lemma of the number of the goal's assumptions.
+fn is_given_the_goal(alloc: Global) -> Result<bool, Fault> {
+    let mut host = Host::new(alloc);
+    let refiner = Box::new(
+        alloc,
+        |alloc: Global, goal: &Goal| step_by(alloc, goal.asms.len()),
+    )?;
+    host.refiner(alloc, "f", refiner)?;
+    match host.refine(alloc, "f", &goal(alloc, 2)?) {
+        Some(Ok(step)) => Ok(lemma_of(&step.just) == Some(2)),
+        _ => Ok(false),
+    }
+}
+
+// Whether a refiner's failure is answered as such.
+fn fails_as_it_does(alloc: Global) -> Result<bool, Fault> {
+    let mut host = Host::new(alloc);
+    let fails = Box::new(alloc, |_alloc: Global, _goal: &Goal| Err(HostFail))?;
+    host.refiner(alloc, "f", fails)?;
+    Ok(matches!(
+        host.refine(alloc, "f", &goal(alloc, 0)?),
+        Some(Err(HostFail))
+    ))
+}
+
+#[test]
+fn a_refiner_is_given_the_goal_and_may_fail(rt: HostRuntime) {
+    assert_eq!(rt; is_given_the_goal(rt.alloc()), Ok(true));
+    assert_eq!(rt; fails_as_it_does(rt.alloc()), Ok(true));
+}
+
+// Whether a host without functions has none of a name.
+fn has_none(alloc: Global) -> Result<bool, Fault> {
+    let has_refiner = NoHost.refine(alloc, "f", &goal(alloc, 0)?).is_some();
+    let has_conversion = NoHost.convert(alloc, "f", &variable(alloc)?).is_some();
+    Ok(!has_refiner && !has_conversion)
+}
+
+#[test]
+fn no_host_has_no_functions(rt: HostRuntime) {
+    assert_eq!(rt; has_none(rt.alloc()), Ok(true));
+}
+
+// Whether a host whose second refiner was refused has the first one alone, and has both where it was not.
+fn keeps_what_it_had(alloc: Global) -> Result<bool, Fault> {
+    let goal = goal(alloc, 0)?;
+    let mut host = Host::new(alloc);
+    let first = Box::new(alloc, |alloc: Global, _goal: &Goal| step_by(alloc, 1))?;
+    host.refiner(alloc, "first", first)?;
+    let second = Box::new(alloc, |alloc: Global, _goal: &Goal| step_by(alloc, 2))?;
+    let stored = host.refiner(alloc, "second", second).is_ok();
+    let has_first = host.refine(alloc, "first", &goal).is_some();
+    let has_second = host.refine(alloc, "second", &goal).is_some();
+    Ok(has_first && has_second == stored)
+}
+
+// Each growth that this takes may be refused in turn.
+#[test]
+fn a_refused_growth_leaves_the_host(rt: HostRuntime) {
+    match keeps_what_it_had(rt.alloc()) {
+        Ok(kept) => assert!(rt; kept),
+        Err(fault) => assert_eq!(rt; fault, Fault::Memory),
+    }
+}
