@@ -1,9 +1,10 @@
 -- The test of a step by replays over its subgoals.
-use Rattle.std.proofs.Common.{◌≡◌, List, [], ◌∷◌, ◌++◌, map, Bool, true, false, ◌||◌, refl, sym, ap, ◌∙◌, subst, inl, inr, Option, Some, None, Result, Ok, Err}
+use Rattle.std.proofs.Common.{◌≡◌, zero, suc, ◌&&◌, List, [], ◌∷◌, ◌++◌, map, Bool, true, false, ◌||◌, refl, sym, ap, ◌∙◌, subst, inl, inr, Option, Some, None, Result, Ok, Err}
 use Rattle.std.specs.Bool.{Decides}
-use Rattle.std.proofs.lemmas.List.Folds.{list_any-append}
+use Rattle.std.specs.Prelude.{slice_get}
+use Rattle.std.proofs.lemmas.List.Folds.{list_any-append, list_all-append}
 use Rattle.hol_model.specs.declared.fault.Fault.{Fault}
-use Rattle.hol_model.specs.declared.fault.Fault.TheVariants.{InvalidStep}
+use Rattle.hol_model.specs.declared.fault.Fault.TheVariants.{TooLarge, InvalidStep}
 use Rattle.hol_model.specs.Terms.HolType.{bool_type}
 use Rattle.hol_model.specs.Terms.NamedTerm.{NamedTerm}
 use Rattle.hol_model.specs.Terms.Nameless.{Nameless, image}
@@ -17,20 +18,23 @@ use Rattle.hol_model.proofs.Tests.{first_of_both, second_of_both, both}
 use Rattle.hol_model.proofs.Logic.Checks.{knows_nameless-Decides}
 use Rattle.hol_model.proofs.Terms.Membership.{of_append, IsMember-append_left, IsMember-append_right}
 use Rattle.hol_model.specs.Goals.Strength.{AreAsStrong}
-use Rattle.hol_model.specs.Goals.Justifications.{NamedSequents, sequent_of}
+use Rattle.hol_model.specs.Goals.Justifications.{Justification, sub, named, lemma, by_rule, Parts, no_parts, part, NamedSequents, Subgoals, sequent_over, sequent_of}
 use Rattle.hol_model.specs.Goals.ValidSteps.{Step, supposed, false_twice, AchievesUnder}
-use Rattle.hol_valid.proofs.FewerHypotheses.{justifications-monotone}
+use Rattle.hol_valid.proofs.FewerHypotheses.{justifications-monotone, SubgoalsStronger, sequent_over-stronger}
 use Rattle.hol_journal.specs.Journal.{Recorded}
 use Rattle.hol_journal.specs.Steps.{sequent_of_theorem}
 use Rattle.hol_equal.specs.Inferred.{IsDrawn}
-use Rattle.hol_replay.specs.Named.{sequents_of}
-use Rattle.hol_replay.specs.Lines.{IsReplayRefusal}
+use Rattle.hol_store.specs.Stored.{Stored}
+use Rattle.hol_replay.specs.Named.{named_sequents, sequents_of}
+use Rattle.hol_replay.specs.Lines.{Meets, expected_in, IsReplayRefusal}
 use Rattle.hol_replay.specs.Achieving.{is_assumed, achieves}
-use Rattle.hol_replay.specs.Accepting.{are_known_formulas, is_known_goal, are_known_goals, falsity_from, supposed_from, AreSupposed, IsUnsupposed, PassesUnder, sequent_under, goal_under}
-use Rattle.hol_model.specs.Goals.Replays.{Store, sequents_in, IsKnownGoal, AreKnownGoals}
-use Rattle.hol_model.specs.Refining.HostFunctions.{IsAcceptable}
+use Rattle.hol_replay.specs.Accepting.{are_known_formulas, is_known_goal, are_known_goals, falsity_from, supposed_from, AreSupposed, IsUnsupposed, HasRoomUnder, IsReplayedUnder, AnswersUnder, PassesUnder, sequent_under, goal_under}
+use Rattle.hol_model.specs.Goals.Replays.{Store, sequents_in, IsKnownGoal, AreKnownGoals, terms_of_rule, terms_of_sequent, terms_of_goals, has_room_over, have_room_over, has_room, has_room_for_step}
+use Rattle.hol_model.specs.Derived.DerivedRules.{is_roomy, terms_of_theorem}
+use Rattle.hol_replay.specs.Room.{are_roomy}
+use Rattle.hol_model.specs.Refining.HostFunctions.{IsAcceptable, AnswersAccept}
 use Rattle.hol_replay.proofs.AchievingLemmas.{achieves-decides}
-use Rattle.hol_replay.proofs.Replaying.{alike-drawn, stronger, weaker, store-stays}
+use Rattle.hol_replay.proofs.Replaying.{alike-drawn, stronger, weaker, roomy-alike, theorem-roomy, store-stays}
 
 -- ---- goals of known terms
 
@@ -113,9 +117,8 @@ test-decides falsity extra goal theorem result is shows = (
 -- ---- the replay
 
 pub unsupposed-refusal : (known : Bool) (fault : Fault) → IsUnsupposed known fault → IsReplayRefusal fault
-unsupposed-refusal known fault (inl (is, unknown)) = subst (λ (f : Fault). IsReplayRefusal f) (sym is) tt
-unsupposed-refusal known fault (inr (inl is)) = subst (λ (f : Fault). IsReplayRefusal f) (sym is) tt
-unsupposed-refusal known fault (inr (inr is)) = subst (λ (f : Fault). IsReplayRefusal f) (sym is) tt
+unsupposed-refusal known fault (inl (is, unknown)) = inl is
+unsupposed-refusal known fault (inr want) = inr want
 
 pub unsupposed-drawn : (known : Bool) (found : Option Sequent) (fault : Fault) → IsUnsupposed known fault → IsDrawn (require known found) (Err fault)
 unsupposed-drawn false found fault refused = tt
@@ -186,6 +189,53 @@ replay-under theory store falsity extra step all result shows are drawn =
     (justifications-monotone theory store goals made (all-strong theory falsity extra shows step.goals all are) step.justification) drawn in
     subst (λ (known : Bool). IsDrawn (require known (sequent_of theory store goals step.justification)) result) (sym (all-known theory (map image falsity.hypotheses) step.goals all are)) same
 
+-- ---- room
+
+stronger-at : (strongs weaks : List Sequent) → AreAsStrong strongs weaks → SubgoalsStronger (slice_get strongs) (slice_get weaks)
+stronger-at [] [] stronger i = tt
+stronger-at [] (weak ∷ weaks) stronger i = absurd stronger
+stronger-at (strong ∷ strongs) [] stronger i = absurd stronger
+stronger-at (strong ∷ strongs) (weak ∷ weaks) stronger zero = stronger.0
+stronger-at (strong ∷ strongs) (weak ∷ weaks) stronger (suc i) = stronger-at strongs weaks stronger.1 i
+
+-- subgoals that are the same as sets leave the same room
+module _ (theory : Theory) (store : NamedSequents) (first second : Subgoals) (one : SubgoalsStronger first second) (two : SubgoalsStronger second first) where
+  mutual
+    room-alike : (tree : Justification) → has_room_over theory store first tree ≡ true → has_room_over theory store second tree ≡ true
+    room-alike (sub i) room = roomy-alike (first i) (second i) (one i) (two i) room
+    room-alike (named name) room = room
+    room-alike (lemma k) room = room
+    room-alike (by_rule rule parts) room =
+        let found = sequent_over theory store first (by_rule rule parts) in
+        let other = sequent_over theory store second (by_rule rule parts) in
+        let terms : (are_roomy (terms_of_rule rule) && are_roomy (terms_of_sequent found)) ≡ true =
+        sym (list_all-append is_roomy (terms_of_rule rule) (terms_of_sequent found)) ∙ first_of_both (are_roomy (terms_of_rule rule ++ terms_of_sequent found)) (have_room_over theory store first parts) room in
+        both (are_roomy (terms_of_rule rule ++ terms_of_sequent other)) (have_room_over theory store second parts)
+        (list_all-append is_roomy (terms_of_rule rule) (terms_of_sequent other)
+        ∙ both (are_roomy (terms_of_rule rule)) (are_roomy (terms_of_sequent other)) (first_of_both (are_roomy (terms_of_rule rule)) (are_roomy (terms_of_sequent found)) terms)
+        (roomy-alike found other (sequent_over-stronger theory store first second one (by_rule rule parts)) (sequent_over-stronger theory store second first two (by_rule rule parts))
+        (second_of_both (are_roomy (terms_of_rule rule)) (are_roomy (terms_of_sequent found)) terms)))
+        (rooms-alike parts (second_of_both (are_roomy (terms_of_rule rule ++ terms_of_sequent found)) (have_room_over theory store first parts) room))
+
+    rooms-alike : (parts : Parts) → have_room_over theory store first parts ≡ true → have_room_over theory store second parts ≡ true
+    rooms-alike no_parts room = room
+    rooms-alike (part tree rest) room =
+        both (has_room_over theory store second tree) (have_room_over theory store second rest)
+        (room-alike tree (first_of_both (has_room_over theory store first tree) (have_room_over theory store first rest) room))
+        (rooms-alike rest (second_of_both (has_room_over theory store first tree) (have_room_over theory store first rest) room))
+
+pub room-under : (theory : Theory) (store : NamedSequents) (falsity : Theorem) (extra : Nameless) (step : Step) (all : List Recorded) → IsDrawn (Some (falsity_from extra)) (Ok falsity)
+    → AreSupposed theory (map image falsity.hypotheses) step.goals all → has_room theory store (map (supposed extra) step.goals) step.justification ≡ true → has_room theory store (sequents_of all) step.justification ≡ true
+room-under theory store falsity extra step all shows are room =
+    room-alike theory store (slice_get (map (supposed extra) step.goals)) (slice_get (sequents_of all))
+    (stronger-at (map (supposed extra) step.goals) (sequents_of all) (all-strong theory falsity extra shows step.goals all are))
+    (stronger-at (sequents_of all) (map (supposed extra) step.goals) (all-weak theory falsity extra shows step.goals all are)) step.justification room
+
+-- a theorem that says `F` from a formula that leaves room
+pub falsity-roomy : (falsity : Theorem) (extra : Nameless) → IsDrawn (Some (falsity_from extra)) (Ok falsity) → is_roomy extra ≡ true → are_roomy (terms_of_theorem falsity) ≡ true
+falsity-roomy falsity extra shows roomy =
+    theorem-roomy (Some (falsity_from extra)) falsity shows (both (is_roomy false_term) (are_roomy (extra ∷ [])) refl (both (is_roomy extra) true roomy refl))
+
 -- ---- steps that pass
 
 pub passes-under : (theory : Theory) (store : NamedSequents) (extra : Nameless) (goal : Goal) (step : Step) (theorem : Theorem) → IsDrawn (sequent_under theory store extra step) (Ok theorem)
@@ -231,10 +281,59 @@ failed-under theory store extra goal step theorem result drawn decides fails pas
     let passed : result ≡ true = decides.1 (passed-under theory store extra goal step theorem drawn passes) in cc
 
 pub want-refusal : (found : Sequent) (fault : Fault) → IsDrawn (Some found) (Err fault) → IsReplayRefusal fault
-want-refusal found fault (inl is) = subst (λ (f : Fault). IsReplayRefusal f) (sym is) tt
-want-refusal found fault (inr is) = subst (λ (f : Fault). IsReplayRefusal f) (sym is) tt
+want-refusal found fault want = inr want
+
+-- what comes of a replay under the formula
+
+pub supposes-not : (theory : Theory) (store : NamedSequents) (falsity : Theorem) (extra : Nameless) (step : Step) (fault : Fault) → IsDrawn (Some (falsity_from extra)) (Ok falsity) → IsUnsupposed (are_known_goals theory step.goals) fault
+    → (are_roomy (terms_of_theorem falsity) ≡ true → are_roomy (terms_of_goals step.goals) ≡ true → fault ≡ TooLarge → ⊥) → IsReplayedUnder theory store step (Err fault) extra
+supposes-not theory store falsity extra step fault shows refused fits = record {
+  drawn = unsupposed-drawn (are_known_goals theory step.goals) (sequent_of theory store (map (supposed extra) step.goals) step.justification) fault refused;
+  fits = λ room. fits (falsity-roomy falsity extra shows room.extra_roomy) room.goals_roomy;
+}
+
+pub replays-under : (theory : Theory) (stored : Stored) (falsity : Theorem) (extra : Nameless) (step : Step) (all : List Recorded) (result : Result Theorem Fault) → IsDrawn (Some (falsity_from extra)) (Ok falsity)
+    → AreSupposed theory (map image falsity.hypotheses) step.goals all → Meets (expected_in theory stored all step.justification) result → IsReplayedUnder theory (named_sequents stored) step result extra
+replays-under theory stored falsity extra step all result shows are met = record {
+  drawn = replay-under theory (named_sequents stored) falsity extra step all result shows are met.drawn;
+  fits = λ room. met.fits (room-under theory (named_sequents stored) falsity extra step all shows are room.replay_roomy);
+}
+
+pub unreplayed : (theory : Theory) (store : NamedSequents) (extra : Nameless) (goal : Goal) (step : Step) (fault : Fault) → IsReplayedUnder theory store step (Err fault) extra → IsReplayRefusal fault
+    → AnswersUnder {A = Unit {0}} theory store goal step (Err fault) extra
+unreplayed theory store extra goal step fault replayed (inl invalid) = inl (invalid, refused-under theory store extra goal step fault replayed.drawn invalid)
+unreplayed theory store extra goal step fault replayed (inr (inl memory)) = inr (inl memory)
+unreplayed theory store extra goal step fault replayed (inr (inr large)) = inr (inr (large, λ room. replayed.fits room large))
+
+-- what the formula's theorem lacks is memory
+pub unassumed : (theory : Theory) (store : NamedSequents) (sequent : Sequent) (extra : Nameless) (goal : Goal) (step : Step) (fault : Fault) → IsDrawn (Some sequent) (Err fault) → (fault ≡ TooLarge → ⊥)
+    → AnswersUnder {A = Unit {0}} theory store goal step (Err fault) extra
+unassumed theory store sequent extra goal step fault (inl memory) fits = inr (inl memory)
+unassumed theory store sequent extra goal step fault (inr large) fits = absurd (fits large)
 
 -- ---- both replays
+
+-- there is no room for the step where there is none under one of the formulas
+no-room : (theory : Theory) (store : Store) (step : Step) → ((has_room_for_step theory store step ≡ true) → ⊥) → has_room_for_step theory store step ≡ false
+no-room theory store step none = go (has_room_for_step theory store step) none
+  where
+    go : (room : Bool) → (room ≡ true → ⊥) → room ≡ false
+    go true none = absurd (none refl)
+    go false none = refl
+
+room-once : (theory : Theory) (store : Store) (step : Step) → has_room_for_step theory store step ≡ true → HasRoomUnder theory (sequents_in store) false_term step
+room-once theory store step room =
+    let goals = are_roomy (terms_of_goals step.goals) in
+    let once = has_room theory (sequents_in store) (map (supposed false_term) step.goals) step.justification in
+    let twice = has_room theory (sequents_in store) (map (supposed false_twice) step.goals) step.justification in
+    record { extra_roomy = refl; goals_roomy = first_of_both goals (once && twice) room; replay_roomy = first_of_both once twice (second_of_both goals (once && twice) room) }
+
+room-twice : (theory : Theory) (store : Store) (step : Step) → has_room_for_step theory store step ≡ true → HasRoomUnder theory (sequents_in store) false_twice step
+room-twice theory store step room =
+    let goals = are_roomy (terms_of_goals step.goals) in
+    let once = has_room theory (sequents_in store) (map (supposed false_term) step.goals) step.justification in
+    let twice = has_room theory (sequents_in store) (map (supposed false_twice) step.goals) step.justification in
+    record { extra_roomy = refl; goals_roomy = first_of_both goals (once && twice) room; replay_roomy = second_of_both once twice (second_of_both goals (once && twice) room) }
 
 pub acceptable : (theory : Theory) (store : Store) (goal : Goal) (step : Step) → PassesUnder theory (sequents_in store) false_term goal step → PassesUnder theory (sequents_in store) false_twice goal step → IsAcceptable theory store goal step
 acceptable theory store goal step once twice = record { known = once.known; passes = record { once = once.passes; twice = twice.passes } }
@@ -244,6 +343,18 @@ acceptable-once theory store goal step is = record { known = is.known; passes = 
 
 pub acceptable-twice : (theory : Theory) (store : Store) (goal : Goal) (step : Step) → IsAcceptable theory store goal step → PassesUnder theory (sequents_in store) false_twice goal step
 acceptable-twice theory store goal step is = record { known = is.known; passes = is.passes.twice }
+
+pub fails-once : (theory : Theory) (store : Store) (goal : Goal) (step : Step) (fault : Fault) → AnswersUnder {A = Unit {0}} theory (sequents_in store) goal step (Err fault) false_term
+    → AnswersAccept {A = Unit {0}} theory store goal step (Err fault)
+fails-once theory store goal step fault (inl (invalid, apart)) = inl (invalid, λ is. apart (acceptable-once theory store goal step is))
+fails-once theory store goal step fault (inr (inl memory)) = inr (inl memory)
+fails-once theory store goal step fault (inr (inr large)) = inr (inr (large.0, no-room theory store step (λ room. large.1 (room-once theory store step room))))
+
+pub fails-twice : (theory : Theory) (store : Store) (goal : Goal) (step : Step) (fault : Fault) → AnswersUnder {A = Unit {0}} theory (sequents_in store) goal step (Err fault) false_twice
+    → AnswersAccept {A = Unit {0}} theory store goal step (Err fault)
+fails-twice theory store goal step fault (inl (invalid, apart)) = inl (invalid, λ is. apart (acceptable-twice theory store goal step is))
+fails-twice theory store goal step fault (inr (inl memory)) = inr (inl memory)
+fails-twice theory store goal step fault (inr (inr large)) = inr (inr (large.0, no-room theory store step (λ room. large.1 (room-twice theory store step room))))
 
 pub ruleset testing = (supposed-first, supposed-second, test-decides)
 

@@ -1,6 +1,11 @@
 pub mod Axioms
 pub mod Growing
 pub mod Premises
+pub mod RoomLemmas
+pub mod KernelRooms
+pub mod DerivedRooms
+pub mod QuantifierRooms
+pub mod InstanceRooms
 pub mod Replaying
 pub mod AchievingLemmas
 pub mod SupposingLemmas

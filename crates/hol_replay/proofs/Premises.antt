@@ -13,6 +13,7 @@ use Rattle.hol_journal.specs.Steps.{sequent_of_theorem}
 use Rattle.hol_journal.specs.Journal.{Journal, Recorded, IsMade, theorem_in}
 use Rattle.hol_derivations.specs.Derivations.{AreMade, theorems}
 use Rattle.hol_equal.specs.Inferred.{Infers}
+use Rattle.hol_replay.specs.Room.{FindsRoom}
 
 pub none_of_four : (theory : Theory) (rule : InferenceRule) (a b c d : Nameless) (rest : List Nameless) → infer theory rule (a ∷ b ∷ c ∷ d ∷ rest) ≡ None
 none_of_four theory (rule_refl t) a b c d rest = refl
@@ -89,4 +90,8 @@ pub ruleset premise_made = (premise-made)
 
 pub ruleset too_many_made = (too_many-made)
 
-pub ruleset premises_are = (one-premise, two-premises, three-premises)
+pub two-rooms : (theory : Theory) (rule : InferenceRule) (all : List Recorded) (a b : Recorded) (result : Result Theorem Fault) → length all ≡ 2 → slice_get all 0 ≡ Some a → slice_get all 1 ≡ Some b
+    → FindsRoom theory rule (a.theorem ∷ b.theorem ∷ []) result → FindsRoom theory rule (theorems all) result
+two-rooms theory rule all a b result many first second room = rw (two-premises all a b many first second) room
+
+pub ruleset premises_are = (one-premise, two-premises, three-premises, two-rooms)

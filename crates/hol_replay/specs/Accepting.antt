@@ -1,5 +1,5 @@
 -- Subgoals supposed under one more hypothesis, and the test of a step by replays over them.
-use Rattle.std.specs.Prelude.{◌≡◌, ◌⊎◌, List, [], ◌∷◌, ◌++◌, map, Bool, false, ◌&&◌, Option, Some, Result, Ok}
+use Rattle.std.specs.Prelude.{◌≡◌, ◌⊎◌, List, [], ◌∷◌, ◌++◌, map, Bool, true, false, ◌&&◌, Option, Some, Result, Ok, Err}
 use Rattle.std.specs.List.{list_all}
 use Rattle.hol_model.specs.declared.fault.Fault.{Fault}
 use Rattle.hol_model.specs.declared.fault.Fault.TheVariants.{Memory, TooLarge, InvalidStep}
@@ -9,15 +9,17 @@ use Rattle.hol_model.specs.Logic.Theory.{Theory}
 use Rattle.hol_model.specs.Kernel.Theorem.{Theorem}
 use Rattle.hol_model.specs.Logic.Logic.{false_term}
 use Rattle.hol_model.specs.Goals.Goals.{Sequent, Goal}
+use Rattle.hol_model.specs.Derived.DerivedRules.{is_roomy, terms_of_theorem}
 use Rattle.hol_model.specs.Derived.Inference.{require, is_known_formula}
 use Rattle.hol_model.specs.Goals.Justifications.{NamedSequents, sequent_of}
 use Rattle.hol_model.specs.Goals.ValidSteps.{Step, supposed, PassesReplay}
-use Rattle.hol_model.specs.Goals.Replays.{AreKnownGoals}
+use Rattle.hol_model.specs.Goals.Replays.{AreKnownGoals, terms_of_goals, has_room}
 use Rattle.hol_journal.specs.Journal.{Journal, Recorded}
 use Rattle.hol_journal.specs.Growth.{IsGrown}
 use Rattle.hol_equal.specs.Sequents.{IsHeld}
 use Rattle.hol_equal.specs.Inferred.{IsDrawn}
 use Rattle.hol_derivations.specs.Derivations.{AreMade}
+use Rattle.hol_replay.specs.Room.{IsNotLarge, are_roomy}
 
 -- ---- goals of known terms, as a test
 
@@ -56,6 +58,11 @@ AreSupposed theory hypotheses _ _ = ⊥
 abbrev pub IsUnsupposed : Bool → Fault → Type 0
 IsUnsupposed known fault = ((fault ≡ InvalidStep) × (known ≡ false)) ⊎ ((fault ≡ Memory) ⊎ (fault ≡ TooLarge))
 
+-- the terms of a theorem that says `F`, and of a goal, leave room
+pub record HasGoalRoom (falsity : Theorem) (goal : Goal) : Type 0 where
+  pub falsity_roomy : are_roomy (terms_of_theorem falsity) ≡ true
+  pub goal_roomy : are_roomy (image goal.target ∷ map image goal.assumptions) ≡ true
+
 -- a theorem under some assumptions, where others are left: what comes of these comes of all
 pub record IsAssuming (old now : Journal) (hypotheses : List Nameless) (conclusion : Nameless) (all left : List NamedTerm) (made : Recorded) : Type 0 where
   pub grown : IsGrown old now
@@ -63,6 +70,7 @@ pub record IsAssuming (old now : Journal) (hypotheses : List Nameless) (conclusi
   pub held : IsHeld now made
   pub leads : (result : Result Theorem Fault) → IsDrawn (with_assumptions old.theory (map image made.theorem.hypotheses) (image made.theorem.conclusion) left) result
       → IsDrawn (with_assumptions old.theory hypotheses conclusion all) result
+  pub room : are_roomy (conclusion ∷ hypotheses) ≡ true → are_roomy (map image all) ≡ true → (are_roomy (terms_of_theorem made.theorem) ≡ true) × (are_roomy (map image left) ≡ true)
 
 -- theorems for some goals, where others are left
 pub record IsSupposing (old now : Journal) (hypotheses : List Nameless) (all left : List Goal) (made : List Recorded) : Type 0 where
@@ -70,6 +78,7 @@ pub record IsSupposing (old now : Journal) (hypotheses : List Nameless) (all lef
   pub grown : IsGrown old now
   pub theory : now.theory ≡ old.theory
   pub known : are_known_goals old.theory all ≡ are_known_goals old.theory left
+  pub room : are_roomy (terms_of_goals all) ≡ true → are_roomy (terms_of_goals left) ≡ true
   pub leads : (others : List Recorded) → AreSupposed old.theory hypotheses left others → AreSupposed old.theory hypotheses all (made ++ others)
 
 -- ---- steps that pass
@@ -87,3 +96,24 @@ sequent_under theory store extra step =
 -- the goal with further assumptions
 abbrev pub goal_under : List NamedTerm → Goal → Goal
 goal_under extra goal = record { assumptions = extra ++ goal.assumptions; target = goal.target }
+
+-- what holds of the one formula from which a theorem says `F`
+abbrev pub UnderFormula : Theorem → (Nameless → Type 0) → Type 0
+UnderFormula falsity holds = (extra : Nameless) → IsDrawn (Some (falsity_from extra)) (Ok falsity) → holds extra
+
+-- the formula, the step's subgoals, and the replay over these under the formula leave room
+pub record HasRoomUnder (theory : Theory) (store : NamedSequents) (extra : Nameless) (step : Step) : Type 0 where
+  pub extra_roomy : is_roomy extra ≡ true
+  pub goals_roomy : are_roomy (terms_of_goals step.goals) ≡ true
+  pub replay_roomy : has_room theory store (map (supposed extra) step.goals) step.justification ≡ true
+
+-- the step's theorem under the formula; too large only where there is no room
+pub record IsReplayedUnder (theory : Theory) (store : NamedSequents) (step : Step) (result : Result Theorem Fault) (extra : Nameless) : Type 0 where
+  pub drawn : IsDrawn (sequent_under theory store extra step) result
+  pub fits : HasRoomUnder theory store extra step → IsNotLarge result
+
+-- whether the step passes under the formula; or there is no memory, or no room
+abbrev pub AnswersUnder : {A : Type 0} → Theory → NamedSequents → Goal → Step → Result A Fault → Nameless → Type 0
+AnswersUnder theory store goal step (Ok x) extra = PassesUnder theory store extra goal step
+AnswersUnder theory store goal step (Err fault) extra =
+    ((fault ≡ InvalidStep) × (PassesUnder theory store extra goal step → ⊥)) ⊎ ((fault ≡ Memory) ⊎ ((fault ≡ TooLarge) × (HasRoomUnder theory store extra step → ⊥)))

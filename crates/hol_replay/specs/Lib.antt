@@ -1,4 +1,5 @@
 pub mod Named
+pub mod Room
 pub mod Lines
 pub mod Achieving
 pub mod Accepting

@@ -1,26 +1,24 @@
 // The test of a step by two replays over its subgoals.
 ghost use Rattle.std.specs.Bool.{Decides};
 ghost use Rattle.std.specs.Prelude.{◌≡◌, ◌++◌, Some, Ok, OnOk, IfErr};
-ghost use Rattle.hol_model.specs.declared.fault.Fault.TheVariants.{InvalidStep};
 ghost use Rattle.hol_model.specs.Terms.Nameless.{Nameless, image};
 ghost use Rattle.hol_model.specs.Logic.Logic.{false_term};
 ghost use Rattle.hol_model.specs.Goals.ValidSteps.{false_twice, AchievesUnder, IsValid};
+ghost use Rattle.hol_model.specs.Refining.HostFunctions.{AnswersAccept};
 ghost use Rattle.hol_journal.specs.Journal.{IsMade, theorem_in};
 ghost use Rattle.hol_journal.specs.Growth.{IsGrown};
 ghost use Rattle.hol_prelude.specs.HasLogic.{HasLogic};
 ghost use Rattle.hol_equal.specs.Inferred.{IsDrawn};
 ghost use Rattle.hol_just.specs.Steps.{goal_of, step_of};
-ghost use Rattle.hol_store.specs.Stored.{IsStoreOf};
+ghost use Rattle.hol_store.specs.Stored.{IsStoreOf, theorems_in};
 ghost use Rattle.hol_store.specs.Store.{stored_of};
 ghost use Rattle.hol_replay.specs.Named.{named_sequents, sequent_of_recorded};
 ghost use Rattle.hol_replay.specs.Lines.{IsReplayRefusal};
 ghost use Rattle.hol_replay.specs.Achieving.{is_assumed, are_assumed, achieves};
-ghost use Rattle.hol_replay.specs.Accepting.{falsity_from, goal_under, sequent_under, PassesUnder};
-ghost use Rattle.hol_model.specs.Refining.HostFunctions.{IsAcceptable};
-ghost use Rattle.hol_store.specs.Stored.{theorems_in};
+ghost use Rattle.hol_replay.specs.Accepting.{falsity_from, goal_under, UnderFormula, IsReplayedUnder, AnswersUnder};
 
 use crate::achieving::is_assumed;
-use crate::replays::replay;
+use crate::replays::replayed;
 use crate::supposing::{falsity_once, falsity_twice, suppose_all};
 use hol_alpha::aconv;
 use hol_journal::{Rec, Recorder};
@@ -85,7 +83,7 @@ fn replayed_under(
     requires concludes { image falsity.now.theorem.conclusion ≡ false_term }
     ensures grown { IsGrown recorder.old recorder.new }
     ensures theory { recorder.new.theory ≡ recorder.old.theory }
-    ensures drawn { (extra : Nameless) → IsDrawn (Some (falsity_from extra)) (Ok falsity.now.theorem) → IsDrawn (sequent_under recorder.old.theory (named_sequents (stored_of store.now)) extra (step_of step.now)) (theorem_in result) }
+    ensures replayed { UnderFormula falsity.now.theorem (IsReplayedUnder recorder.old.theory (named_sequents (stored_of store.now)) (step_of step.now) (theorem_in result)) }
     ensures refusals { IfErr result IsReplayRefusal }
 {
     logic_stays();
@@ -93,7 +91,7 @@ fn replayed_under(
         Ok(subgoals) => subgoals,
         Err(fault) => return Err(fault),
     };
-    replay(recorder, alloc, logic, store, &step.just, &subgoals)
+    replayed(recorder, alloc, logic, store, &step.just, &subgoals)
 }
 
 // Whether the step makes the goal, where its subgoals are supposed under the hypothesis of a theorem that says `F`.
@@ -112,9 +110,7 @@ fn replay_passes(
     requires concludes { image falsity.now.theorem.conclusion ≡ false_term }
     ensures grown { IsGrown recorder.old recorder.new }
     ensures theory { recorder.new.theory ≡ recorder.old.theory }
-    ensures ok { (extra : Nameless) → IsDrawn (Some (falsity_from extra)) (Ok falsity.now.theorem) → OnOk result (PassesUnder recorder.old.theory (named_sequents (stored_of store.now)) extra (goal_of goal.now) (step_of step.now)) }
-    ensures refused { (extra : Nameless) → IsDrawn (Some (falsity_from extra)) (Ok falsity.now.theorem) → IfErr result (λ fault. fault ≡ InvalidStep → PassesUnder recorder.old.theory (named_sequents (stored_of store.now)) extra (goal_of goal.now) (step_of step.now) → ⊥) }
-    ensures refusals { IfErr result IsReplayRefusal }
+    ensures answer { UnderFormula falsity.now.theorem (AnswersUnder recorder.old.theory (named_sequents (stored_of store.now)) (goal_of goal.now) (step_of step.now) result) }
 {
     let theorem = match replayed_under(recorder, alloc, logic, store, step, falsity) {
         Ok(theorem) => theorem,
@@ -140,9 +136,7 @@ fn passes_once(
     requires store { IsStoreOf recorder.old (stored_of store.now) }
     ensures grown { IsGrown recorder.old recorder.new }
     ensures theory { recorder.new.theory ≡ recorder.old.theory }
-    ensures ok { OnOk result (PassesUnder recorder.old.theory (named_sequents (stored_of store.now)) false_term (goal_of goal.now) (step_of step.now)) }
-    ensures refused { IfErr result (λ fault. fault ≡ InvalidStep → PassesUnder recorder.old.theory (named_sequents (stored_of store.now)) false_term (goal_of goal.now) (step_of step.now) → ⊥) }
-    ensures refusals { IfErr result IsReplayRefusal }
+    ensures answer { AnswersUnder recorder.old.theory (named_sequents (stored_of store.now)) (goal_of goal.now) (step_of step.now) result false_term }
 {
     logic_stays();
     let falsity = match falsity_once(recorder, alloc, logic) {
@@ -166,9 +160,7 @@ fn passes_twice(
     requires store { IsStoreOf recorder.old (stored_of store.now) }
     ensures grown { IsGrown recorder.old recorder.new }
     ensures theory { recorder.new.theory ≡ recorder.old.theory }
-    ensures ok { OnOk result (PassesUnder recorder.old.theory (named_sequents (stored_of store.now)) false_twice (goal_of goal.now) (step_of step.now)) }
-    ensures refused { IfErr result (λ fault. fault ≡ InvalidStep → PassesUnder recorder.old.theory (named_sequents (stored_of store.now)) false_twice (goal_of goal.now) (step_of step.now) → ⊥) }
-    ensures refusals { IfErr result IsReplayRefusal }
+    ensures answer { AnswersUnder recorder.old.theory (named_sequents (stored_of store.now)) (goal_of goal.now) (step_of step.now) result false_twice }
 {
     logic_stays();
     let falsity = match falsity_twice(recorder, alloc, logic) {
@@ -180,7 +172,8 @@ fn passes_twice(
 
 /// The test of a step (HOL Light's `VALID`, tactics.ml, which makes one theorem up for each subgoal): its subgoals are of
 /// known formulas, and it makes the goal of them where they are supposed under `F`, and again under `F /\ F`. Such a step is
-/// valid. Refused: InvalidStep where it is not so; TooLarge where a term on the way is; Memory.
+/// valid. Refused: InvalidStep exactly where it is not so; TooLarge only where a term of a subgoal or of one of the two
+/// replays leaves no room; Memory.
 #[tactic(auto, using(crate::proofs::AcceptingLemmas::accepting))]
 pub fn accept(
     recorder: &mut Recorder,
@@ -194,10 +187,8 @@ pub fn accept(
     requires store { IsStoreOf recorder.old (stored_of store.now) }
     ensures grown { IsGrown recorder.old recorder.new }
     ensures theory { recorder.new.theory ≡ recorder.old.theory }
-    ensures ok { OnOk result (IsAcceptable recorder.old.theory (theorems_in (stored_of store.now)) (goal_of goal.now) (step_of step.now)) }
+    ensures answer { AnswersAccept recorder.old.theory (theorems_in (stored_of store.now)) (goal_of goal.now) (step_of step.now) result }
     ensures valid { OnOk result (IsValid recorder.old.theory (named_sequents (stored_of store.now)) (goal_of goal.now) (step_of step.now)) }
-    ensures refused { IfErr result (λ fault. fault ≡ InvalidStep → IsAcceptable recorder.old.theory (theorems_in (stored_of store.now)) (goal_of goal.now) (step_of step.now) → ⊥) }
-    ensures refusals { IfErr result IsReplayRefusal }
 {
     logic_stays();
     replays_show_valid();

@@ -7,13 +7,14 @@ ghost use Rattle.hol_prelude.specs.HasLogic.{HasLogic};
 ghost use Rattle.hol_equal.specs.Sequents.{Continues};
 ghost use Rattle.hol_equal.specs.Inferred.{Infers};
 ghost use Rattle.hol_just.specs.Rules.{rule_of};
+ghost use Rattle.hol_replay.specs.Room.{FindsRoom};
 
 use crate::primitive;
 use hol_bool::{
     conj, conjunct1, conjunct2, contr, disch, disj_cases, disj1, disj2, eqt_elim, eqt_intro, mp,
     not_elim, not_intro, undisch,
 };
-use hol_equal::{add_assum, beta_conv, prove_hyp, sym};
+use hol_equal::{add_assum, beta_conv, conclusion_of, prove_hyp, sym};
 use hol_journal::{Rec, Recorder};
 use hol_just::Rule;
 use hol_model::Fault;
@@ -30,7 +31,8 @@ fn refuse(recorder: &mut Recorder) -> Result<Rec, Fault>
     Err(Fault::InvalidStep)
 }
 
-// A rule without premises.
+// A rule without premises. Here and below a term's type and a premise's conclusion are read for what is known of them.
+#[tactic(auto, using(crate::proofs::DerivedRooms::equality_rooms))]
 pub(crate) fn on_none(
     recorder: &mut Recorder,
     alloc: Global,
@@ -40,6 +42,7 @@ pub(crate) fn on_none(
     requires logic { HasLogic recorder.old logic.now }
     ensures continues { Continues recorder.old recorder.new result }
     ensures inferred { Infers recorder.old.theory (rule_of rule.now) [] (theorem_in result) }
+    ensures room { FindsRoom recorder.old.theory (rule_of rule.now) [] (theorem_in result) }
 {
     match rule {
         Rule::Refl(t) => primitive::refl(recorder, alloc, t),
@@ -47,12 +50,16 @@ pub(crate) fn on_none(
         Rule::Assume(p) => primitive::assume(recorder, alloc, p),
         Rule::EtaAxiom => primitive::eta(recorder, alloc),
         Rule::SelectAxiom => primitive::select(recorder, alloc),
-        Rule::BetaConv(t) => beta_conv(recorder, alloc, t),
+        Rule::BetaConv(t) => {
+            let _type = t.ty();
+            beta_conv(recorder, alloc, t)
+        }
         _ => refuse(recorder),
     }
 }
 
 // A rule of one premise.
+#[tactic(auto, using(crate::proofs::DerivedRooms::connective_rooms, crate::proofs::QuantifierRooms::quantifier_rooms))]
 pub(crate) fn on_one(
     recorder: &mut Recorder,
     alloc: Global,
@@ -64,32 +71,57 @@ pub(crate) fn on_one(
     requires premise { IsMade recorder.old premise.now }
     ensures continues { Continues recorder.old recorder.new result }
     ensures inferred { Infers recorder.old.theory (rule_of rule.now) (premise.now.theorem ∷ []) (theorem_in result) }
+    ensures room { FindsRoom recorder.old.theory (rule_of rule.now) (premise.now.theorem ∷ []) (theorem_in result) }
 {
+    let _premise = conclusion_of(recorder, premise);
     match rule {
         Rule::Abs(x) => primitive::abs(recorder, alloc, x, premise),
         Rule::Inst(theta) => primitive::inst(recorder, alloc, theta, premise),
         Rule::InstType(theta) => primitive::inst_type(recorder, alloc, theta, premise),
         Rule::Sym => sym(recorder, alloc, premise),
-        Rule::AddAssum(p) => add_assum(recorder, alloc, p, premise),
+        Rule::AddAssum(p) => {
+            let _type = p.ty();
+            add_assum(recorder, alloc, p, premise)
+        }
         Rule::EqtIntro => eqt_intro(recorder, alloc, logic, premise),
         Rule::EqtElim => eqt_elim(recorder, alloc, logic, premise),
         Rule::Conjunct1 => conjunct1(recorder, alloc, logic, premise),
         Rule::Conjunct2 => conjunct2(recorder, alloc, logic, premise),
-        Rule::Disch(p) => disch(recorder, alloc, logic, p, premise),
+        Rule::Disch(p) => {
+            let _type = p.ty();
+            disch(recorder, alloc, logic, p, premise)
+        }
         Rule::Undisch => undisch(recorder, alloc, logic, premise),
-        Rule::Spec(t) => spec(recorder, alloc, logic, t, premise),
+        Rule::Spec(t) => {
+            let _type = t.ty();
+            spec(recorder, alloc, logic, t, premise)
+        }
         Rule::Gen(x) => generalize(recorder, alloc, logic, x, premise),
-        Rule::Disj1(q) => disj1(recorder, alloc, logic, q, premise),
-        Rule::Disj2(p) => disj2(recorder, alloc, logic, p, premise),
-        Rule::Contr(p) => contr(recorder, alloc, logic, p, premise),
+        Rule::Disj1(q) => {
+            let _type = q.ty();
+            disj1(recorder, alloc, logic, q, premise)
+        }
+        Rule::Disj2(p) => {
+            let _type = p.ty();
+            disj2(recorder, alloc, logic, p, premise)
+        }
+        Rule::Contr(p) => {
+            let _type = p.ty();
+            contr(recorder, alloc, logic, p, premise)
+        }
         Rule::NotIntro => not_intro(recorder, alloc, logic, premise),
         Rule::NotElim => not_elim(recorder, alloc, logic, premise),
-        Rule::Exists(formula, witness) => exists(recorder, alloc, logic, formula, witness, premise),
+        Rule::Exists(formula, witness) => {
+            let _formula = formula.ty();
+            let _witness = witness.ty();
+            exists(recorder, alloc, logic, formula, witness, premise)
+        }
         _ => refuse(recorder),
     }
 }
 
 // A rule of two premises.
+#[tactic(auto, using(crate::proofs::DerivedRooms::connective_rooms, crate::proofs::QuantifierRooms::quantifier_rooms))]
 pub(crate) fn on_two(
     recorder: &mut Recorder,
     alloc: Global,
@@ -103,7 +135,9 @@ pub(crate) fn on_two(
     requires second { IsMade recorder.old second.now }
     ensures continues { Continues recorder.old recorder.new result }
     ensures inferred { Infers recorder.old.theory (rule_of rule.now) (first.now.theorem ∷ second.now.theorem ∷ []) (theorem_in result) }
+    ensures room { FindsRoom recorder.old.theory (rule_of rule.now) (first.now.theorem ∷ second.now.theorem ∷ []) (theorem_in result) }
 {
+    let _first = conclusion_of(recorder, first);
     match rule {
         Rule::Trans => primitive::trans(recorder, alloc, first, second),
         Rule::MkComb => primitive::mk_comb(recorder, alloc, first, second),
@@ -118,6 +152,7 @@ pub(crate) fn on_two(
 }
 
 // A rule of three premises.
+#[tactic(auto, using(crate::proofs::DerivedRooms::connective_rooms))]
 pub(crate) fn on_three(
     recorder: &mut Recorder,
     alloc: Global,
@@ -133,7 +168,9 @@ pub(crate) fn on_three(
     requires third { IsMade recorder.old third.now }
     ensures continues { Continues recorder.old recorder.new result }
     ensures inferred { Infers recorder.old.theory (rule_of rule.now) (first.now.theorem ∷ second.now.theorem ∷ third.now.theorem ∷ []) (theorem_in result) }
+    ensures room { FindsRoom recorder.old.theory (rule_of rule.now) (first.now.theorem ∷ second.now.theorem ∷ third.now.theorem ∷ []) (theorem_in result) }
 {
+    let _first = conclusion_of(recorder, first);
     match rule {
         Rule::DisjCases => disj_cases(recorder, alloc, logic, first, second, third),
         _ => refuse(recorder),
@@ -153,11 +190,12 @@ fn premise_at<'a>(recorder: &Recorder, premises: &'a [Rec], at: usize) -> &'a Re
 }
 
 // The refusal of too many premises.
-#[tactic(auto, using(crate::proofs::Premises::too_many_made))]
+#[tactic(auto, using(crate::proofs::Premises::too_many_made, crate::proofs::KernelRooms::refused_rooms))]
 fn refuse_many(recorder: &mut Recorder, rule: &Rule, premises: &[Rec]) -> Result<Rec, Fault>
     requires { 3 < length premises.now }
     ensures continues { Continues recorder.old recorder.new result }
     ensures inferred { Infers recorder.old.theory (rule_of rule.now) (theorems premises.now) (theorem_in result) }
+    ensures room { FindsRoom recorder.old.theory (rule_of rule.now) (theorems premises.now) (theorem_in result) }
 {
     let _rule = rule;
     let _premises = premises.len();
@@ -165,7 +203,8 @@ fn refuse_many(recorder: &mut Recorder, rule: &Rule, premises: &[Rec]) -> Result
 }
 
 /// A rule on theorems that the recorder made, one for each premise (fusion.ml, equal.ml and bool.ml of HOL Light). The
-/// theorem has the sequent that the table of rules draws; where it draws none, the rule is refused.
+/// theorem has the sequent that the table of rules draws; where it draws none, the rule is refused. TooLarge comes only where
+/// a term that the rule takes, of a premise, or of what is drawn leaves no room.
 #[tactic(auto, using(crate::proofs::Premises::premises_are))]
 pub fn apply_rule(
     recorder: &mut Recorder,
@@ -178,6 +217,7 @@ pub fn apply_rule(
     requires premises { AreMade recorder.old premises.now }
     ensures continues { Continues recorder.old recorder.new result }
     ensures inferred { Infers recorder.old.theory (rule_of rule.now) (theorems premises.now) (theorem_in result) }
+    ensures room { FindsRoom recorder.old.theory (rule_of rule.now) (theorems premises.now) (theorem_in result) }
 {
     let count = premises.len();
     if count > 3 {

@@ -1,25 +1,23 @@
 // Replaying a justification: each line once.
-ghost use Rattle.std.specs.Prelude.{◌≡◌, ◌<◌, ◌++◌, [], ◌∷◌, map, length, slice_get, true, List, Option, Some, Ok, Err, IfOk, IfErr, IfSome, OnOk};
-ghost use Rattle.hol_model.specs.declared.fault.Fault.TheVariants.{Memory, InvalidStep};
+ghost use Rattle.std.specs.Prelude.{◌≡◌, ◌<◌, ◌++◌, [], ◌∷◌, map, length, slice_get, true, List, Option, Ok, Err, IfOk, IfErr, IfSome, OnOk};
 ghost use Rattle.std.specs.Option.{option_map};
-ghost use Rattle.hol_model.specs.Goals.Goals.{Sequent};
-ghost use Rattle.hol_model.specs.Derived.Inference.{rule_sequent};
-ghost use Rattle.hol_model.specs.Goals.Justifications.{Justification, sequent_of};
-ghost use Rattle.hol_journal.specs.Steps.{sequent_of_theorem};
+ghost use Rattle.hol_model.specs.declared.fault.Fault.TheVariants.{Memory, InvalidStep};
+ghost use Rattle.hol_model.specs.Goals.Justifications.{Justification};
+ghost use Rattle.hol_model.specs.Goals.Replays.{IsReplay};
 ghost use Rattle.hol_journal.specs.Journal.{Journal, IsMade, theorem_in};
 ghost use Rattle.hol_journal.specs.Growth.{IsGrown};
 ghost use Rattle.hol_derivations.specs.Derivations.{AreMade};
 ghost use Rattle.hol_prelude.specs.HasLogic.{HasLogic};
 ghost use Rattle.hol_equal.specs.Sequents.{Continues, IsHeld};
-ghost use Rattle.hol_equal.specs.Inferred.{IsDrawn};
-ghost use Rattle.hol_just.specs.Flat.{tree_of_line, cites_below, cite_earlier, are_below, cited};
+ghost use Rattle.hol_just.specs.Flat.{cites_below, cite_earlier, are_below, cited};
 ghost use Rattle.hol_just.specs.Lines.{flat_line, flat_lines};
 ghost use Rattle.hol_just.specs.Rules.{rule_of};
 ghost use Rattle.hol_just.specs.Steps.{tree_of};
-ghost use Rattle.hol_store.specs.Stored.{IsStoreOf};
+ghost use Rattle.hol_store.specs.Stored.{IsStoreOf, theorems_in};
 ghost use Rattle.hol_store.specs.Store.{stored_of};
-ghost use Rattle.hol_replay.specs.Named.{named_sequents, sequent_of_recorded, sequents_of};
-ghost use Rattle.hol_replay.specs.Lines.{result_of, sequent_in, AreDrawn, AreHeldLines, IsHeldLine, IsBroken, IsPremise, IsDrawnFrom, premise_result, ContinuesLine, IsReplaying, IsReplayRefusal};
+ghost use Rattle.hol_replay.specs.Named.{sequents_of};
+ghost use Rattle.hol_replay.specs.Lines.{Expected, Meets, expected_in, AreMet, AreHeldLines, IsHeldLine, ContinuesLine};
+ghost use Rattle.hol_replay.specs.Lines.{Applies, AppliesAs, IsNamed, IsBroken, IsPremise, MeetsFrom, MeetsLine, premise_result, IsReplaying, IsReplayRefusal};
 
 use crate::apply::{on_none, on_one, on_three, on_two};
 use hol_journal::{Rec, Recorder};
@@ -40,7 +38,7 @@ enum LineAnswer {
 // What a rule came to.
 #[tactic(auto, using(crate::proofs::Replaying::answering))]
 fn answered(outcome: Result<Rec, Fault>) -> Result<LineAnswer, Fault>
-    ensures drawn { (found : Option Sequent) → IsDrawn found (theorem_in outcome) → IfOk result (λ answer. IsDrawn found (result_of answer)) }
+    ensures applied { AppliesAs (theorem_in outcome) result }
     ensures held { (journal : Journal) → IfOk outcome (IsHeld journal) → IfOk result (IsHeldLine journal) }
     ensures err { IfErr result (λ fault. fault ≡ Memory) }
 {
@@ -67,7 +65,7 @@ fn kept(recorder: &mut Recorder, answer: LineAnswer) -> Result<LineAnswer, Fault
 fn premise(answers: &[LineAnswer], place: usize) -> Result<&Rec, LineAnswer>
     requires { place < length answers.now }
     ensures held { (journal : Journal) → AreHeldLines journal answers.now → IfOk result (λ made. IsMade journal made.now) }
-    ensures drawn { (sequent : Justification → Option Sequent) (trees : List Justification) → AreDrawn sequent trees answers.now → IsPremise sequent trees place (premise_result result) }
+    ensures met { (expects : Justification → Expected) (trees : List Justification) → AreMet expects trees answers.now → IsPremise expects trees place (premise_result result) }
     ensures broken { IfErr result IsBroken }
 {
     match &answers[place] {
@@ -87,7 +85,7 @@ fn of_none(
 ) -> Result<LineAnswer, Fault>
     requires logic { HasLogic recorder.old logic.now }
     ensures continues { ContinuesLine recorder.old recorder.new result }
-    ensures drawn { IfOk result (λ answer. IsDrawn (rule_sequent recorder.old.theory (rule_of rule.now) []) (result_of answer)) }
+    ensures applied { IfOk result (Applies recorder.old.theory (rule_of rule.now) []) }
     ensures err { IfErr result (λ fault. fault ≡ Memory) }
 {
     let outcome = on_none(recorder, alloc, logic, rule);
@@ -106,7 +104,7 @@ fn of_one(
     requires logic { HasLogic recorder.old logic.now }
     requires premise { IsMade recorder.old premise.now }
     ensures continues { ContinuesLine recorder.old recorder.new result }
-    ensures drawn { IfOk result (λ answer. IsDrawn (rule_sequent recorder.old.theory (rule_of rule.now) (sequent_of_theorem premise.now.theorem ∷ [])) (result_of answer)) }
+    ensures applied { IfOk result (Applies recorder.old.theory (rule_of rule.now) (premise.now.theorem ∷ [])) }
     ensures err { IfErr result (λ fault. fault ≡ Memory) }
 {
     let outcome = on_one(recorder, alloc, logic, rule, premise);
@@ -127,7 +125,7 @@ fn of_two(
     requires first { IsMade recorder.old first.now }
     requires second { IsMade recorder.old second.now }
     ensures continues { ContinuesLine recorder.old recorder.new result }
-    ensures drawn { IfOk result (λ answer. IsDrawn (rule_sequent recorder.old.theory (rule_of rule.now) (sequent_of_theorem first.now.theorem ∷ sequent_of_theorem second.now.theorem ∷ [])) (result_of answer)) }
+    ensures applied { IfOk result (Applies recorder.old.theory (rule_of rule.now) (first.now.theorem ∷ second.now.theorem ∷ [])) }
     ensures err { IfErr result (λ fault. fault ≡ Memory) }
 {
     let outcome = on_two(recorder, alloc, logic, rule, first, second);
@@ -150,7 +148,7 @@ fn of_three(
     requires second { IsMade recorder.old second.now }
     requires third { IsMade recorder.old third.now }
     ensures continues { ContinuesLine recorder.old recorder.new result }
-    ensures drawn { IfOk result (λ answer. IsDrawn (rule_sequent recorder.old.theory (rule_of rule.now) (sequent_of_theorem first.now.theorem ∷ sequent_of_theorem second.now.theorem ∷ sequent_of_theorem third.now.theorem ∷ [])) (result_of answer)) }
+    ensures applied { IfOk result (Applies recorder.old.theory (rule_of rule.now) (first.now.theorem ∷ second.now.theorem ∷ third.now.theorem ∷ [])) }
     ensures err { IfErr result (λ fault. fault ≡ Memory) }
 {
     let outcome = on_three(recorder, alloc, logic, rule, first, second, third);
@@ -170,7 +168,7 @@ fn rule_answer(
     requires held { AreHeldLines recorder.old answers.now }
     requires places { are_below (length answers.now) places.now ≡ true }
     ensures continues { ContinuesLine recorder.old recorder.new result }
-    ensures drawn { (sequent : Justification → Option Sequent) (trees : List Justification) → AreDrawn sequent trees answers.now → IfOk result (IsDrawnFrom recorder.old.theory (rule_of rule.now) sequent trees places.now) }
+    ensures met { MeetsFrom recorder.old.theory (rule_of rule.now) answers.now places.now result }
     ensures err { IfErr result (λ fault. fault ≡ Memory) }
 {
     let count = places.len();
@@ -213,7 +211,7 @@ fn subgoal_at(subgoals: &[Rec], number: usize) -> Option<&Rec>
 }
 
 // A line that names a theorem.
-#[tactic(auto, using(crate::proofs::Replaying::keeping))]
+#[tactic(auto, using(crate::proofs::Replaying::naming))]
 fn named_answer(
     recorder: &mut Recorder,
     alloc: Global,
@@ -221,7 +219,7 @@ fn named_answer(
 ) -> Result<LineAnswer, Fault>
     requires { IfSome found (λ theorem. IsMade recorder.old theorem.now) }
     ensures continues { ContinuesLine recorder.old recorder.new result }
-    ensures drawn { IfOk result (λ answer. IsDrawn (option_map sequent_of_theorem (option_map (λ made. made.theorem) (option_map (λ theorem. theorem.now) found.entry))) (result_of answer)) }
+    ensures named { IfOk result (IsNamed (option_map (λ theorem. theorem.now) found.entry)) }
     ensures err { IfErr result (λ fault. fault ≡ Memory) }
 {
     let _entries = recorder.entries();
@@ -250,7 +248,7 @@ fn line_answer(
     requires held { AreHeldLines recorder.old answers.now }
     requires places { cites_below (length answers.now) (flat_line line.now) ≡ true }
     ensures continues { ContinuesLine recorder.old recorder.new result }
-    ensures drawn { (trees : List Justification) → AreDrawn (sequent_in recorder.old.theory (stored_of store.now) subgoals.now) trees answers.now → IfOk result (λ answer. IsDrawn (sequent_in recorder.old.theory (stored_of store.now) subgoals.now (tree_of_line trees (flat_line line.now))) (result_of answer)) }
+    ensures met { MeetsLine (expected_in recorder.old.theory (stored_of store.now) subgoals.now) answers.now (flat_line line.now) result }
     ensures err { IfErr result (λ fault. fault ≡ Memory) }
 {
     match line {
@@ -285,7 +283,7 @@ fn line_answers(
     requires cite { cite_earlier 0 (flat_lines lines.now) ≡ true }
     ensures grown { IsGrown recorder.old recorder.new }
     ensures theory { recorder.new.theory ≡ recorder.old.theory }
-    ensures replayed { IfOk result (λ answers. IsReplaying recorder.old recorder.new (sequent_in recorder.old.theory (stored_of store.now) subgoals.now) [] (flat_lines lines.now) answers.items) }
+    ensures replayed { IfOk result (λ answers. IsReplaying recorder.old recorder.new (expected_in recorder.old.theory (stored_of store.now) subgoals.now) [] (flat_lines lines.now) answers.items) }
     ensures err { IfErr result (λ fault. fault ≡ Memory) }
 {
     logic_stays();
@@ -300,10 +298,8 @@ fn line_answers(
     Ok(answers)
 }
 
-/// The theorem of a justification over what is stored and theorems for its subgoals: each line is done once. Its sequent
-/// is that of the tree (HOL Light's `justification`, tactics.ml, as data). Refused: InvalidStep where the tree has none;
-/// TooLarge where a term is; Memory.
-pub fn replay(
+// The theorem of a justification, or why there is none.
+pub(crate) fn replayed(
     recorder: &mut Recorder,
     alloc: Global,
     logic: &Bool,
@@ -317,7 +313,7 @@ pub fn replay(
     ensures grown { IsGrown recorder.old recorder.new }
     ensures theory { recorder.new.theory ≡ recorder.old.theory }
     ensures made { IfOk result (IsMade recorder.new) }
-    ensures drawn { IsDrawn (sequent_of recorder.old.theory (named_sequents (stored_of store.now)) (sequents_of subgoals.now) (tree_of just.now)) (theorem_in result) }
+    ensures met { Meets (expected_in recorder.old.theory (stored_of store.now) subgoals.now (tree_of just.now)) (theorem_in result) }
     ensures refusals { IfErr result IsReplayRefusal }
 {
     let lines = just.lines();
@@ -333,7 +329,7 @@ pub fn replay(
 fn finished(alloc: Global, answers: &[LineAnswer], root: usize) -> Result<Rec, Fault>
     requires { root < length answers.now }
     ensures made { (journal : Journal) → AreHeldLines journal answers.now → IfOk result (IsMade journal) }
-    ensures drawn { (sequent : Justification → Option Sequent) (trees : List Justification) → AreDrawn sequent trees answers.now → IsDrawn (sequent (cited trees root)) (theorem_in result) }
+    ensures met { (expects : Justification → Expected) (trees : List Justification) → AreMet expects trees answers.now → Meets (expects (cited trees root)) (theorem_in result) }
     ensures refusals { IfErr result IsReplayRefusal }
 {
     match premise(answers, root) {
@@ -341,4 +337,26 @@ fn finished(alloc: Global, answers: &[LineAnswer], root: usize) -> Result<Rec, F
         Err(LineAnswer::Large) => Err(Fault::TooLarge),
         Err(_) => Err(Fault::InvalidStep),
     }
+}
+
+/// The theorem of a justification over what is stored and theorems for its subgoals: each line is done once. Its sequent
+/// is that of the tree (HOL Light's `justification`, tactics.ml, as data). Refused: InvalidStep where the tree has none;
+/// TooLarge only where a term that the tree's rules take, or of the sequent of a part, leaves no room; Memory.
+pub fn replay(
+    recorder: &mut Recorder,
+    alloc: Global,
+    logic: &Bool,
+    store: &Store,
+    just: &Just,
+    subgoals: &[Rec],
+) -> Result<Rec, Fault>
+    requires logic { HasLogic recorder.old logic.now }
+    requires store { IsStoreOf recorder.old (stored_of store.now) }
+    requires subgoals { AreMade recorder.old subgoals.now }
+    ensures grown { IsGrown recorder.old recorder.new }
+    ensures theory { recorder.new.theory ≡ recorder.old.theory }
+    ensures made { IfOk result (IsMade recorder.new) }
+    ensures answer { IsReplay recorder.old.theory (theorems_in (stored_of store.now)) (sequents_of subgoals.now) (tree_of just.now) (theorem_in result) }
+{
+    replayed(recorder, alloc, logic, store, just, subgoals)
 }

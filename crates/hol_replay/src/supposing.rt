@@ -1,12 +1,15 @@
 // Subgoals supposed under one more hypothesis.
-ghost use Rattle.std.specs.Prelude.{◌≡◌, [], ◌∷◌, ◌++◌, map, Bool as Truth, Some, Ok, Err, IfOk, IfErr, OnOk};
-ghost use Rattle.hol_model.specs.declared.fault.Fault.TheVariants.{Memory};
+ghost use Rattle.std.specs.Prelude.{◌≡◌, [], ◌∷◌, ◌++◌, map, Bool as Truth, true, Some, Ok, Err, IfOk, IfErr, OnOk};
+ghost use Rattle.hol_model.specs.declared.fault.Fault.TheVariants.{Memory, TooLarge};
 ghost use Rattle.hol_model.specs.Terms.Nameless.{image};
 ghost use Rattle.hol_model.specs.Logic.NamedLogic.{false_term as named_false};
 ghost use Rattle.hol_model.specs.Logic.Logic.{false_term};
 ghost use Rattle.hol_model.specs.Goals.Goals.{Sequent};
 ghost use Rattle.hol_model.specs.Derived.Inference.{require};
 ghost use Rattle.hol_model.specs.Goals.ValidSteps.{false_twice};
+ghost use Rattle.hol_model.specs.Goals.Replays.{terms_of_goals};
+ghost use Rattle.hol_model.specs.Derived.DerivedRules.{terms_of_theorem};
+ghost use Rattle.hol_replay.specs.Room.{IsNotLarge, are_roomy};
 ghost use Rattle.hol_journal.specs.Journal.{IsMade, theorem_in};
 ghost use Rattle.hol_journal.specs.Growth.{IsGrown};
 ghost use Rattle.hol_derivations.specs.Derivations.{AreMade};
@@ -14,7 +17,7 @@ ghost use Rattle.hol_prelude.specs.HasLogic.{HasLogic};
 ghost use Rattle.hol_equal.specs.Sequents.{Continues, IsHeld};
 ghost use Rattle.hol_equal.specs.Inferred.{IsDrawn};
 ghost use Rattle.hol_just.specs.Steps.{goal_of, goals_of};
-ghost use Rattle.hol_replay.specs.Accepting.{falsity_from, with_assumptions, supposed_from, is_known_goal, are_known_goals, AreSupposed, IsUnsupposed};
+ghost use Rattle.hol_replay.specs.Accepting.{falsity_from, with_assumptions, supposed_from, is_known_goal, are_known_goals, AreSupposed, IsUnsupposed, HasGoalRoom};
 
 use hol_bool::{conj, conjunct1, contr};
 use hol_equal::{add_assum, assume, conclusion_of};
@@ -45,6 +48,7 @@ pub(crate) fn falsity_once(
     requires logic { HasLogic recorder.old logic.now }
     ensures continues { Continues recorder.old recorder.new result }
     ensures drawn { IsDrawn (Some (falsity_from false_term)) (theorem_in result) }
+    ensures fits { IsNotLarge (theorem_in result) }
 {
     let _logic = logic;
     recorder.theory_is_legal();
@@ -61,6 +65,7 @@ fn conjoined(recorder: &mut Recorder, alloc: Global, logic: &Bool) -> Result<Rec
     requires logic { HasLogic recorder.old logic.now }
     ensures continues { Continues recorder.old recorder.new result }
     ensures drawn { IsDrawn (Some (record { hypotheses = false_term ∷ []; conclusion = false_twice })) (theorem_in result) }
+    ensures fits { IsNotLarge (theorem_in result) }
 {
     logic_stays();
     let once = match falsity_once(recorder, alloc, logic) {
@@ -76,6 +81,7 @@ fn conjunction_assumed(recorder: &mut Recorder, alloc: Global, logic: &Bool) -> 
     requires logic { HasLogic recorder.old logic.now }
     ensures continues { Continues recorder.old recorder.new result }
     ensures drawn { IsDrawn (Some (record { hypotheses = false_twice ∷ []; conclusion = false_twice })) (theorem_in result) }
+    ensures fits { IsNotLarge (theorem_in result) }
 {
     let conjoined = match conjoined(recorder, alloc, logic) {
         Ok(conjoined) => conjoined,
@@ -95,12 +101,14 @@ pub(crate) fn falsity_twice(
     requires logic { HasLogic recorder.old logic.now }
     ensures continues { Continues recorder.old recorder.new result }
     ensures drawn { IsDrawn (Some (falsity_from false_twice)) (theorem_in result) }
+    ensures fits { IsNotLarge (theorem_in result) }
 {
     logic_stays();
     let assumed = match conjunction_assumed(recorder, alloc, logic) {
         Ok(assumed) => assumed,
         Err(fault) => return Err(fault),
     };
+    let _conclusion = conclusion_of(recorder, &assumed);
     conjunct1(recorder, alloc, logic, &assumed)
 }
 
@@ -114,6 +122,7 @@ fn with_assumptions(
     requires { IsHeld recorder.old theorem }
     ensures continues { Continues recorder.old recorder.new result }
     ensures drawn { IsDrawn (with_assumptions recorder.old.theory (map image theorem.theorem.hypotheses) (image theorem.theorem.conclusion) assumptions.now) (theorem_in result) }
+    ensures fits { are_roomy (terms_of_theorem theorem.theorem) ≡ true → are_roomy (map image assumptions.now) ≡ true → IsNotLarge (theorem_in result) }
 {
     for p in assumptions {
         theorem = match add_assum(recorder, alloc, p, &theorem) {
@@ -138,6 +147,7 @@ fn supposed_from(
     requires concludes { image falsity.now.theorem.conclusion ≡ false_term }
     ensures continues { Continues recorder.old recorder.new result }
     ensures drawn { IsDrawn (supposed_from recorder.old.theory (map image falsity.now.theorem.hypotheses) (goal_of goal.now)) (theorem_in result) }
+    ensures fits { HasGoalRoom falsity.now.theorem (goal_of goal.now) → IsNotLarge (theorem_in result) }
 {
     let theorem = match contr(recorder, alloc, logic, &goal.concl, falsity) {
         Ok(theorem) => theorem,
@@ -149,7 +159,8 @@ fn supposed_from(
 // A refusal of a goal's sequent, as one of the step.
 #[tactic(auto, using(crate::proofs::SupposingLemmas::unsupposing))]
 fn refusal(fault: Fault) -> Fault
-    ensures { (known : Truth) (sequent : Sequent) → IsDrawn (require known (Some sequent)) (Err fault) → IsUnsupposed known result }
+    ensures unsupposed { (known : Truth) (sequent : Sequent) → IsDrawn (require known (Some sequent)) (Err fault) → IsUnsupposed known result }
+    ensures fits { (fault ≡ TooLarge → ⊥) → result ≡ TooLarge → ⊥ }
 {
     match fault {
         Fault::Memory => Fault::Memory,
@@ -174,6 +185,7 @@ fn suppose_one(
     ensures made { IfOk result (IsMade recorder.new) }
     ensures ok { IfOk result (λ made. IsDrawn (supposed_from recorder.old.theory (map image falsity.now.theorem.hypotheses) (goal_of goal.now)) (Ok made.theorem)) }
     ensures err { IfErr result (IsUnsupposed (is_known_goal recorder.old.theory (goal_of goal.now))) }
+    ensures fits { HasGoalRoom falsity.now.theorem (goal_of goal.now) → IsNotLarge result }
 {
     match supposed_from(recorder, alloc, logic, falsity, goal) {
         Ok(made) => Ok(made),
@@ -206,6 +218,7 @@ pub(crate) fn suppose_all(
     ensures made { IfOk result (λ theorems. AreMade recorder.new theorems.items) }
     ensures ok { IfOk result (λ theorems. AreSupposed recorder.old.theory (map image falsity.now.theorem.hypotheses) (goals_of goals.now) theorems.items) }
     ensures err { IfErr result (IsUnsupposed (are_known_goals recorder.old.theory (goals_of goals.now))) }
+    ensures fits { are_roomy (terms_of_theorem falsity.now.theorem) ≡ true → are_roomy (terms_of_goals (goals_of goals.now)) ≡ true → IsNotLarge result }
 {
     logic_stays();
     let mut theorems = Vec::new(alloc);

@@ -2,6 +2,7 @@ use Rattle.hol_model.specs.Kernel.Rules.{refl_outcome}
 use Rattle.hol_journal.specs.Steps.{by_refl}
 use Rattle.hol_journal.specs.Journal.{theorem_in}
 use Rattle.hol_equal.proofs.StepLemmas.{continues, refl-stands}
+use Rattle.hol_replay.proofs.KernelRooms.{room-refl}
 use Rattle.hol_replay.proofs.primitive.refl.Goals as goal
 
 pub returns-clause-continues : goal.returns-clause-continues
@@ -12,3 +13,6 @@ returns-clause-continues c =
 pub returns-clause-inferred : goal.returns-clause-inferred
 returns-clause-inferred c =
     (c.primitive_rules_infer.ensures c.args.recorder.now.theory c.theory_is_legal.ensures).refl c.args.term.now c.ty-type.result.now c.ty-type.ensures (theorem_in c.refl.result) c.refl.ensures.outcome
+
+pub returns-clause-room : goal.returns-clause-room
+returns-clause-room c = room-refl c.ty-type.ensures c.refl.ensures.outcome

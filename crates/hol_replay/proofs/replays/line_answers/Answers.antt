@@ -1,5 +1,5 @@
 use Rattle.hol_store.specs.Store.{stored_of}
-use Rattle.hol_replay.specs.Lines.{sequent_in}
+use Rattle.hol_replay.specs.Lines.{expected_in}
 use Rattle.hol_replay.proofs.Growing.{made-stay}
 use Rattle.hol_replay.proofs.Replaying.{store-stays, line-cites, line-next}
 use Rattle.hol_replay.proofs.replays.line_answers.Goals as goal
@@ -15,11 +15,11 @@ line_answer-requires-clause-subgoals c = made-stay c.args.recorder.now c.loop-li
 
 pub line_answer-requires-clause-places : goal.line_answer-requires-clause-places
 line_answer-requires-clause-places c =
-    rw c.deref.ensures.value (line-cites c.args.recorder.now c.loop-line.recorder (sequent_in c.args.recorder.now.theory (stored_of c.args.store.now) c.args.subgoals.now) c.args.lines.now c.loop-line.line-index c.line-item.result
+    rw c.deref.ensures.value (line-cites c.args.recorder.now c.loop-line.recorder (expected_in c.args.recorder.now.theory (stored_of c.args.store.now) c.args.subgoals.now) c.args.lines.now c.loop-line.line-index c.line-item.result
     c.loop-line.answers.items c.loop-line-test.true c.line-item.is c.loop-line.invariant)
 
 pub loop-line-preserved : goal.loop-line-preserved
 loop-line-preserved c =
     line-next c.args.recorder.now c.loop-line.recorder c.line_answer.new.recorder (stored_of c.args.store.now) c.args.subgoals.now c.args.lines.now c.loop-line.line-index c.line-item.result
     c.loop-line.answers.items c.pushed.new.answers.items c.in-Ok.answer c.loop-line-test.true c.line-item.is c.loop-line.invariant c.in-Ok.ensures.continues
-    (rw c.deref.ensures.value at c.in-Ok.ensures.drawn) c.in_ok-pushed.ensures.ok
+    (rw c.deref.ensures.value at c.in-Ok.ensures.met) c.in_ok-pushed.ensures.ok

@@ -1,9 +1,9 @@
+use Rattle.hol_just.specs.Steps.{tree_of}
 use Rattle.hol_store.specs.Store.{stored_of}
-use Rattle.hol_replay.specs.Lines.{sequent_in}
-use Rattle.hol_replay.proofs.Replaying.{root-there}
+use Rattle.hol_replay.specs.Lines.{expected_in}
+use Rattle.hol_replay.proofs.Replaying.{replay-answers}
 use Rattle.hol_replay.proofs.replays.replay.Goals as goal
 
-pub finished-requires : goal.finished-requires
-finished-requires c =
-    rw (c.root-root.ensures, c.deref.ensures.value) (root-there c.args.recorder.now c.line_answers.new.recorder (sequent_in c.args.recorder.now.theory (stored_of c.args.store.now) c.args.subgoals.now) c.args.just.now
-    c.lines-lines.result.now c.in-Ok.answers.items c.lines-lines.ensures c.in-Ok.ensures.replayed)
+pub returns-clause-answer : goal.returns-clause-answer
+returns-clause-answer c =
+    replay-answers (expected_in c.args.recorder.now.theory (stored_of c.args.store.now) c.args.subgoals.now (tree_of c.args.just.now)) c.replayed.result c.replayed.ensures.met c.replayed.ensures.refusals

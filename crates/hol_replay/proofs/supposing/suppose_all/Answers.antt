@@ -3,6 +3,8 @@ use Rattle.hol_model.specs.Terms.Nameless.{image}
 use Rattle.hol_journal.proofs.GrowthLemmas.{journals-grow}
 use Rattle.hol_just.specs.Steps.{goals_of}
 use Rattle.hol_replay.proofs.SupposingLemmas.{supposes-next, supposes-all}
+use Rattle.std.proofs.Common.{Err}
+use Rattle.hol_replay.proofs.SupposingLemmas.{supposes-fits}
 use Rattle.hol_replay.proofs.supposing.suppose_all.Goals as goal
 
 pub suppose_one-requires-clause-logic : goal.suppose_one-requires-clause-logic
@@ -22,3 +24,8 @@ loop-goal-preserved c =
 pub returns-clause-ok : goal.returns-clause-ok
 returns-clause-ok c =
     supposes-all c.args.recorder.now c.loop-goal.recorder (map image c.args.falsity.now.theorem.hypotheses) (goals_of c.args.goals.now) c.args.goals.now c.loop-goal.goal-index c.loop-goal.theorems.items c.loop-goal-test.false c.loop-goal.invariant
+
+pub returns-in-Err-clause-fits : goal.returns-in-Err-clause-fits
+returns-in-Err-clause-fits c =
+    supposes-fits c.args.recorder.now c.loop-goal.recorder (map image c.args.falsity.now.theorem.hypotheses) (goals_of c.args.goals.now) c.args.goals.now c.loop-goal.goal-index c.goal-item.result
+    c.loop-goal.theorems.items c.args.falsity.now.theorem (Err c.in-Err.fault) c.loop-goal-test.true c.goal-item.is c.loop-goal.invariant c.in-Err.ensures.fits
