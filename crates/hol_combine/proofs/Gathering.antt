@@ -1,0 +1,46 @@
+-- Lemmas on the subgoals of several steps, and on spliced steps.
+use Rattle.std.proofs.Common.{◌≡◌, List, [], ◌∷◌, ◌++◌, map, true, Ok, Err, inl, inr, refl, sym, ap, ◌∙◌, subst, append_assoc, append-nil}
+use Rattle.std.proofs.lemmas.List.{map-append}
+use Rattle.hol_model.specs.Goals.Goals.{Goal}
+use Rattle.hol_model.specs.declared.fault.Fault.{Fault}
+use Rattle.hol_model.specs.Goals.Justifications.{Justification}
+use Rattle.hol_model.specs.Goals.ValidSteps.{Step}
+use Rattle.hol_model.specs.Goals.Splicing.{goals_of_steps, splice, portion_of}
+use Rattle.hol_model.specs.Goals.Replays.{is_within_depth}
+use Rattle.hol_just.specs.Steps.{goal_of, goals_of, step_of, IsRefused}
+use Rattle.hol_just.specs.declared.goal.Goal as code_goal
+use Rattle.hol_just.specs.declared.goal.Step as code
+use Rattle.hol_combine.specs.Answers.{AnswersSpliced}
+
+pub gathered : (all grown : List code_goal.Goal) (step : code.Step) (items rest : List code.Step) (whole : List Goal) → goals_of all ++ goals_of_steps (map step_of items) ≡ whole
+    → items ≡ step ∷ rest → grown ≡ all ++ step.goals.items → goals_of grown ++ goals_of_steps (map step_of rest) ≡ whole
+gathered all grown step items rest whole so_far goes is =
+    let moved : goals_of (all ++ step.goals.items) ≡ goals_of all ++ goals_of step.goals.items = map-append goal_of all step.goals.items in
+    ap (λ goals. goals_of goals ++ goals_of_steps (map step_of rest)) is
+    ∙ ap (λ goals. goals ++ goals_of_steps (map step_of rest)) moved
+    ∙ append_assoc (goals_of all) (goals_of step.goals.items) (goals_of_steps (map step_of rest))
+    ∙ ap (λ items. goals_of all ++ goals_of_steps (map step_of items)) (sym goes)
+    ∙ so_far
+
+pub refused_splice : (step : Step) (steps : List Step) (fault : Fault) → IsRefused (splice step.justification (map portion_of steps)) fault → AnswersSpliced step steps (Err fault)
+refused_splice step steps fault (inl memory) = inl memory
+refused_splice step steps fault (inr deep) = inr deep
+
+pub all_gathered : (all : List code_goal.Goal) (items : List code.Step) (whole : List Goal) → goals_of all ++ goals_of_steps (map step_of items) ≡ whole → items ≡ [] → goals_of all ≡ whole
+all_gathered all items whole so_far none = sym (append-nil (goals_of all)) ∙ ap (λ items. goals_of all ++ goals_of_steps (map step_of items)) (sym none) ∙ so_far
+
+-- ---- splicing
+
+portions : (parts : List code.Step) → map (λ part. portion_of (step_of part)) parts ≡ map portion_of (map step_of parts)
+portions [] = refl
+portions (first ∷ parts) = ap (λ rest. portion_of (step_of first) ∷ rest) (portions parts)
+
+pub refused_parts : (step : Step) (parts : List code.Step) (fault : Fault) → IsRefused (splice step.justification (map (λ part. portion_of (step_of part)) parts)) fault
+    → AnswersSpliced step (map step_of parts) (Err fault)
+refused_parts step parts fault refused = refused_splice step (map step_of parts) fault (subst (λ all. IsRefused (splice step.justification all) fault) (portions parts) refused)
+
+pub made_parts : (step : Step) (parts : List code.Step) (goals : List Goal) (tree : Justification) → tree ≡ splice step.justification (map (λ part. portion_of (step_of part)) parts)
+    → is_within_depth tree ≡ true → goals ≡ goals_of_steps (map step_of parts) → AnswersSpliced step (map step_of parts) (Ok (record { goals = goals; justification = tree }))
+made_parts step parts goals tree is within all =
+    let same : tree ≡ splice step.justification (map portion_of (map step_of parts)) = is ∙ ap (λ all. splice step.justification all) (portions parts) in
+    (ap (λ goals. record { goals = goals; justification = tree }) all ∙ ap (λ tree. record { goals = goals_of_steps (map step_of parts); justification = tree }) same, within)

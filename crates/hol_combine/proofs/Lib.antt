@@ -1,0 +1,5 @@
+pub mod Runs
+pub mod Gathering
+pub mod Moves
+pub mod Repeats
+pub mod Posing

@@ -1,0 +1,23 @@
+use Rattle.std.proofs.Common.{rules}
+use Rattle.hol_combine.proofs.Runs.{host-starves, host-unknown, host-fails, host-refines, host-rejected}
+use Rattle.hol_just.specs.Steps.{goal_of, step_of}
+use Rattle.hol_combine.proofs.running.run_host.Goals as goal
+
+pub returns-then-not-spend-clause-outcome : goal.returns-then-not-spend-clause-outcome
+returns-then-not-spend-clause-outcome g c = host-starves _ _ c.args.name.now (goal_of c.args.goal.now) c.if-not-spend.ensures.none.0 c.if-not-spend.ensures.none.1
+
+pub returns-in_default-clause-outcome : goal.returns-in_default-clause-outcome
+returns-in_default-clause-outcome g c = host-unknown _ _ c.args.name.now (goal_of c.args.goal.now) c.if-not-spend.ensures.spent (search rules)
+
+pub returns-in_default-answer-clause-outcome : goal.returns-in_default-answer-clause-outcome
+returns-in_default-answer-clause-outcome g c = host-fails _ _ c.args.name.now (goal_of c.args.goal.now) c.if-not-spend.ensures.spent (search rules) (search rules)
+
+pub returns-in-Ok-accept-clause-outcome : goal.returns-in-Ok-accept-clause-outcome
+returns-in-Ok-accept-clause-outcome g c =
+    rw c.in-Ok-accept.ensures.store
+    (host-refines _ _ c.args.name.now (goal_of c.args.goal.now) (step_of c.in-Ok.step) c.if-not-spend.ensures.spent (search rules) (search rules) c.in-Ok-accept.ensures.outcome)
+
+pub returns-in-Err-clause-outcome : goal.returns-in-Err-clause-outcome
+returns-in-Err-clause-outcome g c =
+    rw c.in-Err.ensures.store
+    (host-rejected _ _ c.args.name.now (goal_of c.args.goal.now) (step_of c.in-Ok.step) c.in-Err.fault c.if-not-spend.ensures.spent (search rules) (search rules) c.in-Err.ensures.outcome)

@@ -1,0 +1,3 @@
+pub mod Posed
+pub mod Answers
+pub mod Repeating

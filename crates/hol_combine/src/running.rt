@@ -1,0 +1,333 @@
+// Runs refiner expressions.
+ghost use Rattle.std.specs.Prelude.{◌≡◌, ◌∷◌, [], length};
+ghost use Rattle.hol_model.specs.Goals.Replays.{IsKnownGoal};
+ghost use Rattle.hol_model.specs.Refining.RefinerConditions.{HaveKnownWitnesses, HasKnownWitnesses, HasKnownWitnessesInLink, HaveKnownWitnessesInLinks};
+ghost use Rattle.hol_exprs.specs.Expressions.{tactic_of, tactics_of, link_of, links_of};
+ghost use Rattle.hol_just.specs.Steps.{goal_of, goals_of};
+ghost use Rattle.hol_combine.specs.Posed.{IsPosed, ArePosed};
+ghost use Rattle.hol_combine.specs.Answers.{Refines, HostRefines, Repeats, GoesOn, Chains, LinkRefines, AllRefine, EachRefines};
+ghost use Rattle.hol_combine.specs.Repeating.{OnceRefines};
+
+use crate::frames::{Frame, begin, descend, pop, resume};
+use crate::leaves::Leaves;
+use crate::splicing::{keep, spliced};
+use hol_exprs::{Fuel, Leaf, Link, Tac, is_caught};
+use hol_host::Refiners;
+use hol_just::{Goal, Step};
+use hol_model::Fault;
+use hol_terms::Term;
+use std::alloc::Global;
+
+// Runs a host's refiner, and takes its step only where it is accepted.
+fn run_host<H: Refiners, L: Leaves>(
+    alloc: Global,
+    name: &str,
+    goal: &Goal,
+    host: &H,
+    leaves: &mut L,
+    fuel: &mut Fuel,
+) -> Result<Step, Fault>
+    requires ready { L.is_ready leaves.old }
+    ensures outcome { HostRefines (H.refiners host.now) (H.conversions host.now) (L.theory leaves.old) (L.store leaves.old) fuel.old.left name.now goal.now result (L.store leaves.new) fuel.new.left }
+    ensures theory { L.theory leaves.new ≡ L.theory leaves.old }
+    ensures ready { L.is_ready leaves.new }
+    ensures extends { L.extends leaves.old leaves.new }
+{
+    if !fuel.spend() {
+        return Err(Fault::StepLimit);
+    }
+    let Some(answer) = host.refine(alloc, name, goal) else {
+        return Err(Fault::UnknownName);
+    };
+    let Ok(step) = answer else {
+        return Err(Fault::RefineFails);
+    };
+    match leaves.accept(alloc, goal, &step) {
+        Ok(()) => Ok(step),
+        Err(fault) => Err(fault),
+    }
+}
+
+/// Runs an expression on a goal.
+#[cycle(run)]
+pub(crate) fn run<H: Refiners, L: Leaves>(
+    alloc: Global,
+    tac: &Tac<Term>,
+    goal: &Goal,
+    host: &H,
+    leaves: &mut L,
+    fuel: &mut Fuel,
+) -> Result<Step, Fault>
+    requires ready { L.is_ready leaves.old }
+    requires posed { IsPosed (L.theory leaves.old) (L.store leaves.old) (tactic_of tac.now) (goal_of goal.now) }
+    ensures outcome { Refines (H.refiners host.now) (H.conversions host.now) (L.theory leaves.old) (L.store leaves.old) fuel.old.left tac.now goal.now result (L.store leaves.new) fuel.new.left }
+    ensures theory { L.theory leaves.new ≡ L.theory leaves.old }
+    ensures ready { L.is_ready leaves.new }
+    ensures extends { L.extends leaves.old leaves.new }
+{
+    match tac {
+        Tac::Leaf(leaf) => leaves.refine(alloc, leaf, goal, host, fuel),
+        Tac::Host(name) => run_host(alloc, name, goal, host, leaves, fuel),
+        Tac::Chain(first, links) => match run(alloc, first, goal, host, leaves, fuel) {
+            Ok(step) => run_links(alloc, step, links, host, leaves, fuel),
+            Err(fault) => Err(fault),
+        },
+        Tac::OrElse(first, others) => match run(alloc, first, goal, host, leaves, fuel) {
+            Ok(step) => Ok(step),
+            Err(fault) => run_others(alloc, fault, others, goal, host, leaves, fuel),
+        },
+        Tac::Repeat(again) => run_repeat(alloc, again, goal, host, leaves, fuel),
+        Tac::Try(first) => match run(alloc, first, goal, host, leaves, fuel) {
+            Ok(step) => Ok(step),
+            Err(fault) => {
+                if !is_caught(&fault) {
+                    return Err(fault);
+                }
+                leaves.refine(alloc, &Leaf::All, goal, host, fuel)
+            }
+        },
+    }
+}
+
+// What a step of REPEAT leaves: subgoals on which it goes on, the goal as it was, or a refusal that is not caught.
+#[derive(Drop)]
+enum Once {
+    Refined(Step),
+    Stays(Step),
+    Refused(Fault),
+}
+
+// Runs an expression on a goal once for REPEAT.
+#[cycle(run)]
+fn run_once<H: Refiners, L: Leaves>(
+    alloc: Global,
+    again: &Tac<Term>,
+    goal: &Goal,
+    host: &H,
+    leaves: &mut L,
+    fuel: &mut Fuel,
+) -> Once
+    requires ready { L.is_ready leaves.old }
+    requires posed { IsPosed (L.theory leaves.old) (L.store leaves.old) (tactic_of again.now) (goal_of goal.now) }
+    ensures outcome { OnceRefines (H.refiners host.now) (H.conversions host.now) (L.theory leaves.old) (L.store leaves.old) fuel.old.left again.now goal.now result (L.store leaves.new) fuel.new.left }
+    ensures theory { L.theory leaves.new ≡ L.theory leaves.old }
+    ensures ready { L.is_ready leaves.new }
+    ensures extends { L.extends leaves.old leaves.new }
+{
+    match run(alloc, again, goal, host, leaves, fuel) {
+        Ok(step) => Once::Refined(step),
+        Err(fault) => {
+            if !is_caught(&fault) {
+                return Once::Refused(fault);
+            }
+            match leaves.refine(alloc, &Leaf::All, goal, host, fuel) {
+                Ok(step) => Once::Stays(step),
+                Err(fault) => Once::Refused(fault),
+            }
+        }
+    }
+}
+
+// Runs an expression on a goal, and on what is left of it, until it is refused there.
+#[cycle(run)]
+fn run_repeat<H: Refiners, L: Leaves>(
+    alloc: Global,
+    again: &Tac<Term>,
+    goal: &Goal,
+    host: &H,
+    leaves: &mut L,
+    fuel: &mut Fuel,
+) -> Result<Step, Fault>
+    requires ready { L.is_ready leaves.old }
+    requires posed { IsPosed (L.theory leaves.old) (L.store leaves.old) (tactic_of again.now) (goal_of goal.now) }
+    ensures outcome { Repeats (H.refiners host.now) (H.conversions host.now) (L.theory leaves.old) (L.store leaves.old) fuel.old.left again.now goal.now result (L.store leaves.new) fuel.new.left }
+    ensures theory { L.theory leaves.new ≡ L.theory leaves.old }
+    ensures ready { L.is_ready leaves.new }
+    ensures extends { L.extends leaves.old leaves.new }
+{
+    let mut stack = Vec::new(alloc);
+    match run_once(alloc, again, goal, host, leaves, fuel) {
+        Once::Refined(step) => begin(alloc, &mut stack, step)?,
+        Once::Stays(step) => return Ok(step),
+        Once::Refused(fault) => return Err(fault),
+    }
+    while let Some(frame) = pop(&mut stack) {
+        if frame.done.len() < frame.step.goals.len() {
+            match run_once(
+                alloc,
+                again,
+                &frame.step.goals[frame.done.len()],
+                host,
+                leaves,
+                fuel,
+            ) {
+                Once::Refined(next) => descend(alloc, &mut stack, frame, next)?,
+                Once::Stays(next) => resume(&mut stack, frame, next)?,
+                Once::Refused(fault) => return Err(fault),
+            }
+        } else {
+            let Frame { step, done } = frame;
+            let made = match spliced(alloc, &step, done) {
+                Ok(made) => made,
+                Err(fault) => return Err(fault),
+            };
+            let Some(below) = pop(&mut stack) else {
+                return Ok(made);
+            };
+            resume(&mut stack, below, made)?;
+        }
+    }
+    unreachable!()
+}
+
+// Goes on after a refusal with the first of the others that is not refused so that it is caught.
+#[cycle(run)]
+fn run_others<H: Refiners, L: Leaves>(
+    alloc: Global,
+    fault: Fault,
+    rest: &[Tac<Term>],
+    goal: &Goal,
+    host: &H,
+    leaves: &mut L,
+    fuel: &mut Fuel,
+) -> Result<Step, Fault>
+    requires ready { L.is_ready leaves.old }
+    requires posed { ArePosed (L.theory leaves.old) (L.store leaves.old) (λ theory. HaveKnownWitnesses theory (tactics_of rest.now)) (goal_of goal.now ∷ []) }
+    ensures outcome { GoesOn (H.refiners host.now) (H.conversions host.now) (L.theory leaves.old) (L.store leaves.old) fuel.old.left fault rest.now goal.now result (L.store leaves.new) fuel.new.left }
+    ensures theory { L.theory leaves.new ≡ L.theory leaves.old }
+    ensures ready { L.is_ready leaves.new }
+    ensures extends { L.extends leaves.old leaves.new }
+{
+    let mut fault = fault;
+    for other in rest {
+        if !is_caught(&fault) {
+            return Err(fault);
+        }
+        match run(alloc, other, goal, host, leaves, fuel) {
+            Ok(step) => return Ok(step),
+            Err(next) => fault = next,
+        }
+    }
+    Err(fault)
+}
+
+// Refines a step's subgoals by one link after another.
+#[cycle(run)]
+fn run_links<H: Refiners, L: Leaves>(
+    alloc: Global,
+    step: Step,
+    links: &[Link<Term>],
+    host: &H,
+    leaves: &mut L,
+    fuel: &mut Fuel,
+) -> Result<Step, Fault>
+    requires ready { L.is_ready leaves.old }
+    requires posed { ArePosed (L.theory leaves.old) (L.store leaves.old) (λ theory. HaveKnownWitnessesInLinks theory (links_of links.now)) (goals_of step.goals.items) }
+    ensures outcome { Chains (H.refiners host.now) (H.conversions host.now) (L.theory leaves.old) (L.store leaves.old) fuel.old.left step links.now result (L.store leaves.new) fuel.new.left }
+    ensures theory { L.theory leaves.new ≡ L.theory leaves.old }
+    ensures ready { L.is_ready leaves.new }
+    ensures extends { L.extends leaves.old leaves.new }
+{
+    let mut step = step;
+    for link in links {
+        let steps = match run_link(alloc, link, &step.goals, host, leaves, fuel) {
+            Ok(steps) => steps,
+            Err(fault) => return Err(fault),
+        };
+        step = match spliced(alloc, &step, steps) {
+            Ok(step) => step,
+            Err(fault) => return Err(fault),
+        };
+    }
+    Ok(step)
+}
+
+// Refines goals by a link. Where there are none, a list of any length will do.
+#[cycle(run)]
+fn run_link<H: Refiners, L: Leaves>(
+    alloc: Global,
+    link: &Link<Term>,
+    goals: &[Goal],
+    host: &H,
+    leaves: &mut L,
+    fuel: &mut Fuel,
+) -> Result<Vec<Step>, Fault>
+    requires ready { L.is_ready leaves.old }
+    requires posed { ArePosed (L.theory leaves.old) (L.store leaves.old) (λ theory. HasKnownWitnessesInLink theory (link_of link.now)) (goals_of goals.now) }
+    ensures outcome { LinkRefines (H.refiners host.now) (H.conversions host.now) (L.theory leaves.old) (L.store leaves.old) fuel.old.left link.now goals.now result (L.store leaves.new) fuel.new.left }
+    ensures theory { L.theory leaves.new ≡ L.theory leaves.old }
+    ensures ready { L.is_ready leaves.new }
+    ensures extends { L.extends leaves.old leaves.new }
+{
+    match link {
+        Link::Then(tac) => run_on_all(alloc, tac, goals, host, leaves, fuel),
+        Link::Thenl(tacs) => {
+            if goals.is_empty() {
+                return Ok(Vec::new(alloc));
+            }
+            if tacs.len() != goals.len() {
+                return Err(Fault::LengthMismatch);
+            }
+            run_on_each(alloc, tacs, goals, host, leaves, fuel)
+        }
+    }
+}
+
+// Runs an expression on each goal in turn.
+#[cycle(run)]
+fn run_on_all<H: Refiners, L: Leaves>(
+    alloc: Global,
+    tac: &Tac<Term>,
+    goals: &[Goal],
+    host: &H,
+    leaves: &mut L,
+    fuel: &mut Fuel,
+) -> Result<Vec<Step>, Fault>
+    requires ready { L.is_ready leaves.old }
+    requires posed { ArePosed (L.theory leaves.old) (L.store leaves.old) (λ theory. HasKnownWitnesses theory (tactic_of tac.now)) (goals_of goals.now) }
+    ensures outcome { AllRefine (H.refiners host.now) (H.conversions host.now) (L.theory leaves.old) (L.store leaves.old) fuel.old.left tac.now goals.now result (L.store leaves.new) fuel.new.left }
+    ensures theory { L.theory leaves.new ≡ L.theory leaves.old }
+    ensures ready { L.is_ready leaves.new }
+    ensures extends { L.extends leaves.old leaves.new }
+{
+    let mut steps = Vec::new(alloc);
+    for goal in goals {
+        let step = match run(alloc, tac, goal, host, leaves, fuel) {
+            Ok(step) => step,
+            Err(fault) => return Err(fault),
+        };
+        keep(&mut steps, step)?;
+    }
+    Ok(steps)
+}
+
+// Runs the first expression on the first goal, and so on.
+#[cycle(run)]
+fn run_on_each<H: Refiners, L: Leaves>(
+    alloc: Global,
+    tacs: &[Tac<Term>],
+    goals: &[Goal],
+    host: &H,
+    leaves: &mut L,
+    fuel: &mut Fuel,
+) -> Result<Vec<Step>, Fault>
+    requires ready { L.is_ready leaves.old }
+    requires posed { ArePosed (L.theory leaves.old) (L.store leaves.old) (λ theory. HaveKnownWitnesses theory (tactics_of tacs.now)) (goals_of goals.now) }
+    requires lengths { length tacs.now ≡ length goals.now }
+    ensures outcome { EachRefines (H.refiners host.now) (H.conversions host.now) (L.theory leaves.old) (L.store leaves.old) fuel.old.left tacs.now goals.now result (L.store leaves.new) fuel.new.left }
+    ensures theory { L.theory leaves.new ≡ L.theory leaves.old }
+    ensures ready { L.is_ready leaves.new }
+    ensures extends { L.extends leaves.old leaves.new }
+{
+    let mut steps = Vec::new(alloc);
+    for i in 0..tacs.len() {
+        let tac = &tacs[i];
+        let goal = &goals[i];
+        let step = match run(alloc, tac, goal, host, leaves, fuel) {
+            Ok(step) => step,
+            Err(fault) => return Err(fault),
+        };
+        keep(&mut steps, step)?;
+    }
+    Ok(steps)
+}
