@@ -1,0 +1,6 @@
+pub mod FormLemmas
+mod NewTerms
+mod Bits
+pub mod Rows
+mod RowWords
+mod FalsityLemmas

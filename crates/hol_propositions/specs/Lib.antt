@@ -1,0 +1,3 @@
+pub mod FalseRows
+pub mod Forms
+pub mod Words

@@ -1,0 +1,51 @@
+// The refusal of a formula that is no tautology.
+ghost use Rattle.std.specs.Prelude.{◌≡◌, get_or, false};
+ghost use Rattle.hol_model.specs.Kernel.Outcome.{AnswersSuch};
+ghost use Rattle.hol_model.specs.Propositional.Propositions.{atoms_of};
+ghost use Rattle.hol_model.specs.Propositional.Tautologies.{falsity_of, row_in_full};
+
+use crate::decision::first_false;
+use crate::occurrences::add_atoms;
+use hol_model::{ATOMS_LIMIT, Fault};
+use hol_terms::Term;
+use std::alloc::Global;
+
+/// The atoms of a tautology. Refused where there are too many, and then where the formula is false in a row of their
+/// values.
+pub fn atoms_of_tautology(alloc: Global, term: &Term) -> Result<Vec<Term>, Fault>
+    ensures { AnswersSuch result (falsity_of term.now) (λ atoms. atoms.items ≡ atoms_of term.now) }
+{
+    let mut atoms = Vec::new(alloc);
+    add_atoms(alloc, term, &mut atoms)?;
+    if atoms.len() > ATOMS_LIMIT {
+        return Err(Fault::TooManyAtoms);
+    }
+    match first_false(alloc, term, &atoms, &[])? {
+        Some(row) => Err(Fault::NotTautology {
+            atoms: atoms.len(),
+            row: in_full(&row),
+        }),
+        None => Ok(atoms),
+    }
+}
+
+// The values of a row, and then `false`.
+fn in_full(row: &[bool]) -> [bool; ATOMS_LIMIT]
+    ensures { result ≡ row_in_full row.now }
+{
+    let mut full = [false; ATOMS_LIMIT];
+    for at in 0..ATOMS_LIMIT {
+        full[at] = is_true_at(row, at);
+    }
+    full
+}
+
+// The value at a place, or `false`.
+fn is_true_at(row: &[bool], at: usize) -> bool
+    ensures { result ≡ get_or row.now at false }
+{
+    match row.get(at) {
+        Some(value) => *value,
+        None => false,
+    }
+}

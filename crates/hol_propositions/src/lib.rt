@@ -1,0 +1,14 @@
+//! Formulas of the connectives over atoms: their forms, their atoms, and the first row of values in which one is false.
+#![tactic(auto)]
+
+mod connective;
+mod decision;
+mod falsity_test;
+mod form;
+mod occurrences;
+mod values;
+
+pub use connective::Connective;
+pub use falsity_test::atoms_of_tautology;
+pub use form::{Form, form_of};
+pub use occurrences::atoms;

@@ -1,0 +1,13 @@
+mod LawLemmas
+mod KnownValues
+mod WayLemmas
+mod ProvedLemmas
+mod FormLemmas
+mod LeafLemmas
+mod ShownLemmas
+mod ShownSteps
+mod RefutedLemmas
+mod AtomLemmas
+mod TautologyLemmas
+mod SmallLemmas
+mod TautAnswers

@@ -1,0 +1,44 @@
+use Rattle.std.proofs.Common.{[], ◌∷◌, Ok, Err, subst}
+use Rattle.hol_model.specs.Terms.HolType.{bool_type}
+use Rattle.hol_model.specs.Terms.NamedTerm.{NamedTerm}
+use Rattle.hol_model.specs.Terms.Nameless.{image}
+use Rattle.hol_model.specs.Logic.Logic as nameless
+use Rattle.hol_model.specs.Logic.Theory.{IsKnown}
+use Rattle.hol_bool.proofs.PreludeSteps.{still_formula}
+use Rattle.hol_equal.proofs.StepLemmas.{continues-twice}
+use Rattle.hol_equal.specs.Sequents.{Gives}
+use Rattle.hol_taut.proofs.LawLemmas.{still_lawful}
+use Rattle.hol_taut.proofs.LeafLemmas.{false-known}
+use Rattle.hol_taut.proofs.WayLemmas.{falsity-fits}
+use Rattle.hol_taut.proofs.RefutedLemmas.{contradiction-leads, assumed-proves, memory-past}
+use Rattle.hol_taut.proofs.denial.from_falsity.Goals as goal
+
+pub returns-in-Err-assume-clause-continues : goal.returns-in-Err-assume-clause-continues
+returns-in-Err-assume-clause-continues c = c.in-Err-assume.ensures.continues
+
+pub returns-in-Err-assume-clause-proves : goal.returns-in-Err-assume-clause-proves
+returns-in-Err-assume-clause-proves c = λ allowed room fits.
+    let known = false-known c.args.recorder.now c.args.laws.now c.requires.laws c.theory_is_legal.ensures in
+    memory-past c.in-Err-assume.fault (nameless.false_term ∷ []) nameless.false_term room
+    (subst (λ (t : NamedTerm). IsKnown c.args.recorder.now.theory (image t) bool_type → Gives (Err c.in-Err-assume.fault) (image t ∷ []) (image t)) c.in-Ok.ensures.ok
+    c.in-Err-assume.ensures.gives known)
+
+pub by_one-requires-clause-laws : goal.by_one-requires-clause-laws
+by_one-requires-clause-laws c = still_lawful c.args.recorder.now c.assume.new.recorder c.assume.result c.args.laws.now c.assume.ensures.continues c.requires.laws
+
+pub by_one-requires-clause-premise : goal.by_one-requires-clause-premise
+by_one-requires-clause-premise c = c.in-Ok-assume.ensures.continues.held.made
+
+pub returns-clause-continues : goal.returns-clause-continues
+returns-clause-continues c = continues-twice c.args.recorder.now c.assume.new.recorder c.by_one.new.recorder c.assume.result c.by_one.result c.assume.ensures.continues c.by_one.ensures.continues
+
+pub returns-clause-proves : goal.returns-clause-proves
+returns-clause-proves c = λ allowed room fits.
+    let known = false-known c.args.recorder.now c.args.laws.now c.requires.laws c.theory_is_legal.ensures in
+    let p = c.args.p.now in
+    let later = c.assume.new.recorder.theory in
+    c.by_one.ensures.proves (nameless.false_term ∷ allowed) nameless.false_term (image p) room
+    (contradiction-leads later p room (still_formula c.args.recorder.now c.assume.new.recorder c.assume.result p c.assume.ensures.continues c.requires.formula) (falsity-fits room) fits)
+    (assumed-proves c.in-Ok-assume.assumed nameless.false_term allowed
+    (subst (λ (t : NamedTerm). IsKnown c.args.recorder.now.theory (image t) bool_type → Gives (Ok c.in-Ok-assume.assumed) (image t ∷ []) (image t)) c.in-Ok.ensures.ok
+    c.in-Ok-assume.ensures.gives known))

@@ -1,0 +1,35 @@
+use Rattle.std.proofs.Common.{[], ◌∷◌, Bool, Ok, Err, sym, subst}
+use Rattle.hol_model.specs.Terms.HolType.{bool_type}
+use Rattle.hol_model.specs.Terms.NamedTerm.{NamedTerm}
+use Rattle.hol_model.specs.Terms.Nameless.{image}
+use Rattle.hol_model.specs.Logic.Logic as nameless
+use Rattle.hol_model.specs.Logic.Theory.{IsKnown}
+use Rattle.hol_model.specs.Propositional.Connectives.{constant_fact}
+use Rattle.hol_equal.specs.Sequents.{Gives}
+use Rattle.hol_taut.specs.Proved.{ProvesIf}
+use Rattle.hol_taut.proofs.LeafLemmas.{truth-proved, false-known}
+use Rattle.hol_taut.proofs.RefutedLemmas.{assumed-proves, memory-past}
+use Rattle.hol_taut.proofs.WayLemmas.{falsity-equation-fits}
+use Rattle.hol_taut.proofs.leaves.constantly.Goals as goal
+
+pub returns-then-value-clause-proves : goal.returns-then-value-clause-proves
+returns-then-value-clause-proves c allowed room =
+    subst (λ (v : Bool). ProvesIf room c.named.result allowed (constant_fact v)) (sym c.if-value.true)
+    (truth-proved c.named.result c.law_theorem-truth.result.now.theorem c.conclusion_of-conclusion.result.now c.law_theorem-truth.ensures.theorem
+    c.conclusion_of-conclusion.ensures.value c.named.ensures.derives allowed room)
+
+pub returns-in-Err-assume-clause-proves : goal.returns-in-Err-assume-clause-proves
+returns-in-Err-assume-clause-proves c allowed room =
+    let journal = c.args.recorder.now in
+    let known = false-known journal c.args.laws.now c.requires c.theory_is_legal.ensures in
+    memory-past c.in-Err-assume.fault (nameless.false_term ∷ []) nameless.false_term room
+    (subst (λ (t : NamedTerm). IsKnown journal.theory (image t) bool_type → Gives (Err c.in-Err-assume.fault) (image t ∷ []) (image t)) c.in-Ok.ensures.ok c.in-Err-assume.ensures.gives known)
+
+pub returns-clause-proves : goal.returns-clause-proves
+returns-clause-proves c allowed room =
+    let journal = c.args.recorder.now in
+    let known = false-known journal c.args.laws.now c.requires c.theory_is_legal.ensures in
+    let one = assumed-proves c.in-Ok-assume.assumed nameless.false_term allowed
+    (subst (λ (t : NamedTerm). IsKnown journal.theory (image t) bool_type → Gives (Ok c.in-Ok-assume.assumed) (image t ∷ []) (image t)) c.in-Ok.ensures.ok c.in-Ok-assume.ensures.gives known) in
+    subst (λ (v : Bool). ProvesIf room c.by_both.result allowed (constant_fact v)) (sym c.if-value.false)
+    (c.by_both.ensures.proves allowed nameless.false_term nameless.false_term room (falsity-equation-fits room) one one)

@@ -1,0 +1,226 @@
+use Rattle.std.proofs.Common.{◌∙◌, List, [], ◌∷◌, true, false, Err, refl, sym, subst}
+use Rattle.hol_model.specs.Terms.NamedTerm.{NamedTerm}
+use Rattle.hol_model.specs.Terms.Nameless.{image}
+use Rattle.hol_model.specs.Logic.Logic as nameless
+use Rattle.hol_model.specs.Logic.Theory.{Theory}
+use Rattle.hol_bool.proofs.PreludeSteps.{still_formula}
+use Rattle.hol_equal.proofs.StepLemmas.{continues-twice, still_made}
+use Rattle.hol_taut.proofs.LawLemmas.{still_lawful}
+use Rattle.hol_model.specs.Propositional.Connectives.{fact}
+use Rattle.hol_taut.specs.FactLists.{value_of, known_by}
+use Rattle.hol_model.specs.Propositional.Propositions.{proposition}
+use Rattle.hol_taut.specs.Refuted.{AreTold, AreAllFormulas, AreAllSmall}
+use Rattle.hol_taut.proofs.ShownLemmas.{still_held, still_all_held}
+use Rattle.hol_taut.proofs.WayLemmas.{fact-fits}
+use Rattle.hol_taut.proofs.RefutedLemmas.{assumed-proves, memory-past, proves-more, all-proved-more, value-true, told-more}
+use Rattle.hol_taut.proofs.RefutedLemmas.{rest-formulas, first-is-formula, rest-small, first-is-small, rest-lower, no-atom-left}
+use Rattle.hol_taut.proofs.refuted.+refuted.Goals as goal
+
+pub shown-requires-clause-laws : goal.shown-requires-clause-laws
+shown-requires-clause-laws t c =
+    c.requires.laws
+
+pub shown-requires-clause-formula : goal.shown-requires-clause-formula
+shown-requires-clause-formula t c =
+    c.requires.formula
+
+pub shown-requires-clause-known : goal.shown-requires-clause-known
+shown-requires-clause-known t c =
+    value-true (known_by (value_of c.args.facts.now) (proposition c.args.term.now)) (sym c.is_told_true.ensures ∙ c.if-is_told_true.true)
+
+pub shown-requires-clause-held : goal.shown-requires-clause-held
+shown-requires-clause-held t c =
+    c.requires.held
+
+pub returns-in-Err-clause-continues : goal.returns-in-Err-clause-continues
+returns-in-Err-clause-continues t c =
+    c.in-Err.ensures.continues
+
+pub returns-in-Err-clause-proves : goal.returns-in-Err-clause-proves
+returns-in-Err-clause-proves t c = λ allowed room denial proved small smalls.
+    c.in-Err.ensures.shows allowed room proved small
+
+pub by_equation-requires-clause-first : goal.by_equation-requires-clause-first
+by_equation-requires-clause-first t c =
+    still_made c.args.recorder.now c.shown.new.recorder c.shown.result c.args.denied.now c.shown.ensures.continues c.requires.denied.made
+
+pub by_equation-requires-clause-second : goal.by_equation-requires-clause-second
+by_equation-requires-clause-second t c =
+    c.in-Ok.ensures.continues.held.made
+
+pub returns-then-is_told_true-clause-continues : goal.returns-then-is_told_true-clause-continues
+returns-then-is_told_true-clause-continues t c =
+    continues-twice c.args.recorder.now c.shown.new.recorder c.by_equation.new.recorder c.shown.result c.by_equation.result c.shown.ensures.continues c.by_equation.ensures.continues
+
+pub returns-then-is_told_true-clause-proves : goal.returns-then-is_told_true-clause-proves
+returns-then-is_told_true-clause-proves t c = λ allowed room denial proved small smalls.
+    c.by_equation.ensures.proves allowed (image c.args.term.now) nameless.false_term room denial (c.in-Ok.ensures.shows allowed room proved small)
+
+pub unreachable-requires : goal.unreachable-requires
+unreachable-requires t c =
+    no-atom-left c.args.facts.now c.args.atoms.now (proposition c.args.term.now) c.is_told_true.result c.in_default.ensures.cases c.requires.always c.requires.told
+    c.is_told_true.ensures c.if-is_told_true.false
+
+pub unreachable-unreachable : goal.unreachable-unreachable
+unreachable-unreachable t c =
+    no-atom-left c.args.facts.now c.args.atoms.now (proposition c.args.term.now) c.is_told_true.result c.in_default.ensures.cases c.requires.always c.requires.told
+    c.is_told_true.ensures c.if-is_told_true.false
+
+pub returns-in-Err-assume-clause-continues : goal.returns-in-Err-assume-clause-continues
+returns-in-Err-assume-clause-continues t c =
+    c.in-Err-assume.ensures.continues
+
+pub returns-in-Err-assume-clause-proves : goal.returns-in-Err-assume-clause-proves
+returns-in-Err-assume-clause-proves t c = λ allowed room denial proved small smalls.
+    memory-past c.in-Err-assume.fault (image c.in-Some.atom.now ∷ []) (image c.in-Some.atom.now) room
+    (c.in-Err-assume.ensures.gives (first-is-formula c.args.recorder.now.theory c.in-Some.atom.now c.in-Some.atoms.now
+    (subst (λ (l : List NamedTerm). AreAllFormulas c.args.recorder.now.theory l) c.in-Some.ensures.cases.0 c.requires.atoms)).known)
+
+pub refuted-requires : goal.refuted-requires
+refuted-requires t c = (
+  rest-lower c.args.atoms.now c.in-Some.atom.now c.in-Some.atoms.now t c.in-Some.ensures.cases.0 c.decreases,
+  (
+    still_lawful c.args.recorder.now c.assume.new.recorder c.assume.result c.args.laws.now c.assume.ensures.continues c.requires.laws,
+    (
+      still_formula c.args.recorder.now c.assume.new.recorder c.assume.result c.args.term.now c.assume.ensures.continues c.requires.formula,
+      (
+        c.requires.always,
+        (
+          still_held c.args.recorder.now c.assume.new.recorder c.assume.result c.args.denied.now c.assume.ensures.continues c.requires.denied,
+          (
+            (subst (λ (y : Theory). AreAllFormulas y c.in-Some.atoms.now) (sym c.assume.ensures.continues.theory)
+                (rest-formulas c.args.recorder.now.theory c.in-Some.atom.now c.in-Some.atoms.now
+                (subst (λ (l : List NamedTerm). AreAllFormulas c.args.recorder.now.theory l) c.in-Some.ensures.cases.0 c.requires.atoms))),
+            (
+              told-more c.args.facts.now _ c.in-Some.atom.now c.in-Some.atoms.now true (proposition c.args.term.now) (λ place. refl)
+                  (subst (λ (l : List NamedTerm). AreTold c.args.facts.now l (proposition c.args.term.now)) c.in-Some.ensures.cases.0 c.requires.told),
+              (c.in-Ok-assume.ensures.continues.held, still_all_held c.args.recorder.now c.assume.new.recorder c.assume.result c.args.facts.now c.assume.ensures.continues c.requires.held),
+            ),
+          ),
+        ),
+      ),
+    ),
+  ),
+)
+
+pub returns-in-Err-refuted-clause-continues : goal.returns-in-Err-refuted-clause-continues
+returns-in-Err-refuted-clause-continues t c =
+    continues-twice c.args.recorder.now c.assume.new.recorder c.refuted.new.recorder c.assume.result (Err c.in-Err-refuted.fault) c.assume.ensures.continues c.in-Err-refuted.ensures.continues
+
+pub returns-in-Err-refuted-clause-proves : goal.returns-in-Err-refuted-clause-proves
+returns-in-Err-refuted-clause-proves t c = λ allowed room denial proved small smalls.
+    c.in-Err-refuted.ensures.proves (image c.in-Some.atom.now ∷ allowed) room (proves-more c.args.denied.now.theorem (image c.in-Some.atom.now) allowed (fact false (image c.args.term.now)) denial) (
+      (assumed-proves c.in-Ok-assume.assumed (image c.in-Some.atom.now) allowed
+          (c.in-Ok-assume.ensures.gives (first-is-formula c.args.recorder.now.theory c.in-Some.atom.now c.in-Some.atoms.now
+          (subst (λ (l : List NamedTerm). AreAllFormulas c.args.recorder.now.theory l) c.in-Some.ensures.cases.0 c.requires.atoms)).known)),
+      all-proved-more c.args.facts.now
+          (image c.in-Some.atom.now) allowed proved,
+    ) small (rest-small room c.in-Some.atom.now c.in-Some.atoms.now (subst (λ (l : List NamedTerm). AreAllSmall room l) c.in-Some.ensures.cases.0 smalls))
+
+pub denied_by-requires-clause-laws : goal.denied_by-requires-clause-laws
+denied_by-requires-clause-laws t c =
+    still_lawful c.args.recorder.now c.refuted.new.recorder c.refuted.result c.args.laws.now
+    (continues-twice c.args.recorder.now c.assume.new.recorder c.refuted.new.recorder c.assume.result c.refuted.result c.assume.ensures.continues c.refuted.ensures.continues) c.requires.laws
+
+pub denied_by-requires-clause-formula : goal.denied_by-requires-clause-formula
+denied_by-requires-clause-formula t c =
+    still_formula c.args.recorder.now c.refuted.new.recorder c.refuted.result c.in-Some.atom.now
+    (continues-twice c.args.recorder.now c.assume.new.recorder c.refuted.new.recorder c.assume.result c.refuted.result c.assume.ensures.continues c.refuted.ensures.continues)
+    (first-is-formula c.args.recorder.now.theory c.in-Some.atom.now c.in-Some.atoms.now
+    (subst (λ (l : List NamedTerm). AreAllFormulas c.args.recorder.now.theory l) c.in-Some.ensures.cases.0 c.requires.atoms))
+
+pub denied_by-requires-clause-absurd : goal.denied_by-requires-clause-absurd
+denied_by-requires-clause-absurd t c =
+    c.in-Ok-refuted.ensures.continues.held
+
+pub returns-in-Err-denied_by-clause-continues : goal.returns-in-Err-denied_by-clause-continues
+returns-in-Err-denied_by-clause-continues t c =
+    continues-twice c.args.recorder.now c.refuted.new.recorder c.denied_by.new.recorder c.refuted.result (Err c.in-Err-denied_by.fault)
+    (continues-twice c.args.recorder.now c.assume.new.recorder c.refuted.new.recorder c.assume.result c.refuted.result c.assume.ensures.continues c.refuted.ensures.continues)
+    c.in-Err-denied_by.ensures.continues
+
+pub returns-in-Err-denied_by-clause-proves : goal.returns-in-Err-denied_by-clause-proves
+returns-in-Err-denied_by-clause-proves t c = λ allowed room denial proved small smalls.
+    c.in-Err-denied_by.ensures.proves allowed room (fact-fits true room (image c.in-Some.atom.now)
+    (first-is-small room c.in-Some.atom.now c.in-Some.atoms.now (subst (λ (l : List NamedTerm). AreAllSmall room l) c.in-Some.ensures.cases.0 smalls)))
+    (fact-fits false room (image c.in-Some.atom.now) (first-is-small room c.in-Some.atom.now c.in-Some.atoms.now
+    (subst (λ (l : List NamedTerm). AreAllSmall room l) c.in-Some.ensures.cases.0 smalls)))
+    (c.in-Ok-refuted.ensures.proves (image c.in-Some.atom.now ∷ allowed) room (proves-more c.args.denied.now.theorem (image c.in-Some.atom.now) allowed (fact false (image c.args.term.now)) denial) (
+      (assumed-proves c.in-Ok-assume.assumed (image c.in-Some.atom.now) allowed
+          (c.in-Ok-assume.ensures.gives (first-is-formula c.args.recorder.now.theory c.in-Some.atom.now c.in-Some.atoms.now
+          (subst (λ (l : List NamedTerm). AreAllFormulas c.args.recorder.now.theory l) c.in-Some.ensures.cases.0 c.requires.atoms)).known)),
+      all-proved-more c.args.facts.now
+          (image c.in-Some.atom.now) allowed proved,
+    ) small (rest-small room c.in-Some.atom.now c.in-Some.atoms.now
+    (subst (λ (l : List NamedTerm). AreAllSmall room l) c.in-Some.ensures.cases.0 smalls)))
+
+pub refuted-requires-2 : goal.refuted-requires-2
+refuted-requires-2 t c = (
+  rest-lower c.args.atoms.now c.in-Some.atom.now c.in-Some.atoms.now t c.in-Some.ensures.cases.0 c.decreases,
+  (
+    still_lawful c.args.recorder.now c.denied_by.new.recorder c.denied_by.result c.args.laws.now
+        (continues-twice c.args.recorder.now c.refuted.new.recorder c.denied_by.new.recorder c.refuted.result c.denied_by.result
+        (continues-twice c.args.recorder.now c.assume.new.recorder c.refuted.new.recorder c.assume.result c.refuted.result c.assume.ensures.continues c.refuted.ensures.continues)
+        c.denied_by.ensures.continues) c.requires.laws,
+    (
+      still_formula c.args.recorder.now c.denied_by.new.recorder c.denied_by.result c.args.term.now
+          (continues-twice c.args.recorder.now c.refuted.new.recorder c.denied_by.new.recorder c.refuted.result c.denied_by.result
+          (continues-twice c.args.recorder.now c.assume.new.recorder c.refuted.new.recorder c.assume.result c.refuted.result c.assume.ensures.continues c.refuted.ensures.continues)
+          c.denied_by.ensures.continues) c.requires.formula,
+      (
+        c.requires.always,
+        (
+          still_held c.args.recorder.now c.denied_by.new.recorder c.denied_by.result c.args.denied.now
+              (continues-twice c.args.recorder.now c.refuted.new.recorder c.denied_by.new.recorder c.refuted.result c.denied_by.result
+              (continues-twice c.args.recorder.now c.assume.new.recorder c.refuted.new.recorder c.assume.result c.refuted.result c.assume.ensures.continues c.refuted.ensures.continues)
+              c.denied_by.ensures.continues) c.requires.denied,
+          (
+            (subst (λ (y : Theory). AreAllFormulas y c.in-Some.atoms.now)
+                (sym (continues-twice c.args.recorder.now c.refuted.new.recorder c.denied_by.new.recorder c.refuted.result c.denied_by.result
+                (continues-twice c.args.recorder.now c.assume.new.recorder c.refuted.new.recorder c.assume.result c.refuted.result c.assume.ensures.continues
+                c.refuted.ensures.continues) c.denied_by.ensures.continues).theory)
+                (rest-formulas c.args.recorder.now.theory c.in-Some.atom.now c.in-Some.atoms.now
+                (subst (λ (l : List NamedTerm). AreAllFormulas c.args.recorder.now.theory l) c.in-Some.ensures.cases.0 c.requires.atoms))),
+            (
+              told-more c.args.facts.now _ c.in-Some.atom.now c.in-Some.atoms.now false (proposition c.args.term.now) (λ place. refl)
+                  (subst (λ (l : List NamedTerm). AreTold c.args.facts.now l (proposition c.args.term.now)) c.in-Some.ensures.cases.0 c.requires.told),
+              (
+                c.in-Ok-denied_by.ensures.continues.held,
+                still_all_held c.args.recorder.now c.denied_by.new.recorder c.denied_by.result c.args.facts.now
+                    (continues-twice c.args.recorder.now c.refuted.new.recorder c.denied_by.new.recorder c.refuted.result c.denied_by.result
+                    (continues-twice c.args.recorder.now c.assume.new.recorder c.refuted.new.recorder c.assume.result c.refuted.result c.assume.ensures.continues
+                    c.refuted.ensures.continues) c.denied_by.ensures.continues) c.requires.held,
+              ),
+            ),
+          ),
+        ),
+      ),
+    ),
+  ),
+)
+
+pub returns-clause-continues : goal.returns-clause-continues
+returns-clause-continues t c =
+    continues-twice c.args.recorder.now c.denied_by.new.recorder c.refuted-2.new.recorder c.denied_by.result c.refuted-2.result
+    (continues-twice c.args.recorder.now c.refuted.new.recorder c.denied_by.new.recorder c.refuted.result c.denied_by.result
+    (continues-twice c.args.recorder.now c.assume.new.recorder c.refuted.new.recorder c.assume.result c.refuted.result c.assume.ensures.continues c.refuted.ensures.continues)
+    c.denied_by.ensures.continues) c.refuted-2.ensures.continues
+
+pub returns-clause-proves : goal.returns-clause-proves
+returns-clause-proves t c = λ allowed room denial proved small smalls.
+    c.refuted-2.ensures.proves allowed room denial (
+      c.in-Ok-denied_by.ensures.proves allowed room (fact-fits true room (image c.in-Some.atom.now)
+          (first-is-small room c.in-Some.atom.now c.in-Some.atoms.now (subst (λ (l : List NamedTerm). AreAllSmall room l) c.in-Some.ensures.cases.0 smalls)))
+          (fact-fits false room (image c.in-Some.atom.now) (first-is-small room c.in-Some.atom.now c.in-Some.atoms.now
+          (subst (λ (l : List NamedTerm). AreAllSmall room l) c.in-Some.ensures.cases.0 smalls)))
+          (c.in-Ok-refuted.ensures.proves (image c.in-Some.atom.now ∷ allowed) room
+          (proves-more c.args.denied.now.theorem (image c.in-Some.atom.now) allowed (fact false (image c.args.term.now)) denial) (
+            (assumed-proves c.in-Ok-assume.assumed (image c.in-Some.atom.now) allowed
+                (c.in-Ok-assume.ensures.gives (first-is-formula c.args.recorder.now.theory c.in-Some.atom.now c.in-Some.atoms.now
+                (subst (λ (l : List NamedTerm). AreAllFormulas c.args.recorder.now.theory l) c.in-Some.ensures.cases.0 c.requires.atoms)).known)),
+            all-proved-more c.args.facts.now
+                (image c.in-Some.atom.now) allowed proved,
+          ) small
+          (rest-small room c.in-Some.atom.now c.in-Some.atoms.now (subst (λ (l : List NamedTerm). AreAllSmall room l) c.in-Some.ensures.cases.0 smalls))),
+      proved,
+    ) small (rest-small room c.in-Some.atom.now c.in-Some.atoms.now (subst (λ (l : List NamedTerm). AreAllSmall room l) c.in-Some.ensures.cases.0 smalls))

@@ -1,0 +1,241 @@
+use Rattle.std.proofs.Common.{◌≡◌, ◌∙◌, Some, Ok, Err, sym, ap}
+use Rattle.hol_bool.proofs.PreludeSteps.{still_formula}
+use Rattle.hol_equal.proofs.StepLemmas.{continues-twice}
+use Rattle.hol_taut.proofs.LawLemmas.{still_lawful}
+use Rattle.hol_taut.specs.FactLists.{value_of, known_by}
+use Rattle.hol_taut.proofs.ShownLemmas.{is-known, still_held, still_all_held}
+use Rattle.hol_taut.proofs.ShownSteps.{taken, lower-first, first-formula, first-side-known, first-side-small, first-gives, first-only, lower-second, second-formula}
+use Rattle.hol_taut.proofs.ShownSteps.{second-side-known, second-side-small, second-gives, lower-part, negated-formula, negated-known, negated-small, negated-gives, atom-shown, constant-shown}
+use Rattle.hol_propositions.specs.Forms.{meant}
+use Rattle.hol_taut.proofs.shown.+shown.Goals as goal
+
+pub from_fact-requires-clause-known : goal.from_fact-requires-clause-known
+from_fact-requires-clause-known t c =
+    is-known (value_of c.args.facts.now c.args.term.now) c.args.value (sym (ap (known_by (value_of c.args.facts.now)) c.in-Atom.ensures.meaning) ∙ c.requires.known)
+
+pub from_fact-requires-clause-held : goal.from_fact-requires-clause-held
+from_fact-requires-clause-held t c =
+    c.requires.held
+
+pub constantly-requires : goal.constantly-requires
+constantly-requires t c =
+    c.requires.laws
+
+pub shown-requires : goal.shown-requires
+shown-requires t c = (
+  lower-part t c.args.term.now c.in-Negated.part.now c.in-Negated.ensures.lower c.decreases,
+  (
+    c.requires.laws,
+    (
+      negated-formula c.args.recorder.now.theory c.args.term.now c.in-Negated.part.now c.in-Negated.ensures.whole c.requires.formula,
+      (negated-known c.args.facts.now c.args.term.now c.in-Negated.part.now c.args.value c.in-Negated.ensures.meaning c.requires.known, c.requires.held),
+    ),
+  ),
+)
+
+pub returns-in-Err-clause-continues : goal.returns-in-Err-clause-continues
+returns-in-Err-clause-continues t c =
+    c.in-Err.ensures.continues
+
+pub returns-in-Err-clause-shows : goal.returns-in-Err-clause-shows
+returns-in-Err-clause-shows t c = λ allowed room proved small.
+    c.in-Err.ensures.shows allowed room proved (negated-small c.args.term.now c.in-Negated.part.now room c.in-Negated.ensures.whole small)
+
+pub denial-requires-clause-laws : goal.denial-requires-clause-laws
+denial-requires-clause-laws t c =
+    still_lawful c.args.recorder.now c.shown.new.recorder c.shown.result c.args.laws.now c.shown.ensures.continues c.requires.laws
+
+pub denial-requires-clause-formula : goal.denial-requires-clause-formula
+denial-requires-clause-formula t c =
+    still_formula c.args.recorder.now c.shown.new.recorder c.shown.result c.in-Negated.part.now c.shown.ensures.continues
+    (negated-formula c.args.recorder.now.theory c.args.term.now c.in-Negated.part.now c.in-Negated.ensures.whole c.requires.formula)
+
+pub denial-requires-clause-premise : goal.denial-requires-clause-premise
+denial-requires-clause-premise t c =
+    c.in-Ok.ensures.continues.held
+
+pub shown-requires-in-Connected : goal.shown-requires-in-Connected
+shown-requires-in-Connected t c =
+    let is_taken = taken c.args.recorder.now.theory c.args.facts.now c.args.term.now c.in-Connected.left.now c.in-Connected.right.now (meant c.in-Connected.connective) c.args.value
+    c.way_to-way.result c.known_value-left_value.result c.known_value-right_value.result
+    c.requires.formula c.requires.known c.in-Connected.ensures.meaning c.in-Connected.ensures.whole c.known_value-left_value.ensures c.known_value-right_value.ensures c.way_to-way.ensures in (
+      lower-first c.way_to-way.result t c.args.term.now c.in-Connected.left.now c.in-Connected.right.now c.first_side-side.result.now c.in-Connected.ensures.lower
+          c.first_side-side.ensures c.decreases,
+      (
+        c.requires.laws,
+        (
+          first-formula c.args.recorder.now.theory c.way_to-way.result c.in-Connected.left.now c.in-Connected.right.now c.first_side-side.result.now is_taken.sides c.first_side-side.ensures,
+          (
+            first-side-known c.args.recorder.now.theory c.args.facts.now c.args.term.now c.in-Connected.left.now c.in-Connected.right.now (meant c.in-Connected.connective) c.args.value
+                c.way_to-way.result c.first_side-side.result.now c.first_value.result is_taken c.first_side-side.ensures c.first_value.ensures,
+            c.requires.held,
+          ),
+        ),
+      ),
+    )
+
+pub returns-in-Err-shown-clause-continues : goal.returns-in-Err-shown-clause-continues
+returns-in-Err-shown-clause-continues t c =
+    c.in-Err-shown.ensures.continues
+
+pub returns-in-Err-shown-clause-shows : goal.returns-in-Err-shown-clause-shows
+returns-in-Err-shown-clause-shows t c = λ allowed room proved small.
+    let is_taken = taken c.args.recorder.now.theory c.args.facts.now c.args.term.now c.in-Connected.left.now c.in-Connected.right.now (meant c.in-Connected.connective) c.args.value
+    c.way_to-way.result c.known_value-left_value.result c.known_value-right_value.result
+    c.requires.formula c.requires.known c.in-Connected.ensures.meaning c.in-Connected.ensures.whole c.known_value-left_value.ensures c.known_value-right_value.ensures c.way_to-way.ensures in
+    c.in-Err-shown.ensures.shows allowed room proved (first-side-small c.args.recorder.now.theory c.args.facts.now c.args.term.now c.in-Connected.left.now c.in-Connected.right.now
+    (meant c.in-Connected.connective) c.args.value c.way_to-way.result c.first_side-side.result.now room is_taken c.first_side-side.ensures small)
+
+pub by_first-requires-clause-laws : goal.by_first-requires-clause-laws
+by_first-requires-clause-laws t c =
+    still_lawful c.args.recorder.now c.shown-in-Connected.new.recorder c.shown-in-Connected.result c.args.laws.now c.shown-in-Connected.ensures.continues c.requires.laws
+
+pub by_first-requires-clause-premise : goal.by_first-requires-clause-premise
+by_first-requires-clause-premise t c =
+    c.in-Ok-shown.ensures.continues.held
+
+pub returns-in-Err-by_first-clause-continues : goal.returns-in-Err-by_first-clause-continues
+returns-in-Err-by_first-clause-continues t c =
+    continues-twice c.args.recorder.now c.shown-in-Connected.new.recorder c.by_first.new.recorder c.shown-in-Connected.result (Err c.in-Err-by_first.fault)
+    c.shown-in-Connected.ensures.continues c.in-Err-by_first.ensures.continues
+
+pub returns-in-Err-by_first-clause-shows : goal.returns-in-Err-by_first-clause-shows
+returns-in-Err-by_first-clause-shows t c = λ allowed room proved small.
+    let is_taken = taken c.args.recorder.now.theory c.args.facts.now c.args.term.now c.in-Connected.left.now c.in-Connected.right.now (meant c.in-Connected.connective) c.args.value
+    c.way_to-way.result c.known_value-left_value.result c.known_value-right_value.result
+    c.requires.formula c.requires.known c.in-Connected.ensures.meaning c.in-Connected.ensures.whole c.known_value-left_value.ensures c.known_value-right_value.ensures c.way_to-way.ensures in
+    first-gives c.args.recorder.now.theory c.shown-in-Connected.new.recorder.theory c.args.facts.now c.args.term.now c.in-Connected.left.now c.in-Connected.right.now
+    (meant c.in-Connected.connective) c.args.value c.way_to-way.result c.first_side-side.result.now c.first_value.result c.law_of.result room
+    is_taken c.shown-in-Connected.ensures.continues.theory c.first_side-side.ensures c.first_value.ensures c.law_of.ensures small (Err c.in-Err-by_first.fault) c.in-Ok-shown.premise.theorem allowed
+    (c.in-Ok-shown.ensures.shows allowed room proved (first-side-small c.args.recorder.now.theory c.args.facts.now c.args.term.now c.in-Connected.left.now c.in-Connected.right.now
+    (meant c.in-Connected.connective) c.args.value c.way_to-way.result c.first_side-side.result.now room is_taken c.first_side-side.ensures small))
+    (λ from to. c.in-Err-by_first.ensures.proves allowed room from to)
+
+pub returns-then-not-takes_second-clause-continues : goal.returns-then-not-takes_second-clause-continues
+returns-then-not-takes_second-clause-continues t c =
+    continues-twice c.args.recorder.now c.shown-in-Connected.new.recorder c.by_first.new.recorder c.shown-in-Connected.result (Ok c.in-Ok-by_first.first)
+    c.shown-in-Connected.ensures.continues c.in-Ok-by_first.ensures.continues
+
+pub returns-then-not-takes_second-clause-shows : goal.returns-then-not-takes_second-clause-shows
+returns-then-not-takes_second-clause-shows t c = λ allowed room proved small.
+    let is_taken = taken c.args.recorder.now.theory c.args.facts.now c.args.term.now c.in-Connected.left.now c.in-Connected.right.now (meant c.in-Connected.connective) c.args.value
+    c.way_to-way.result c.known_value-left_value.result c.known_value-right_value.result
+    c.requires.formula c.requires.known c.in-Connected.ensures.meaning c.in-Connected.ensures.whole c.known_value-left_value.ensures c.known_value-right_value.ensures c.way_to-way.ensures in
+    first-only c.args.recorder.now.theory c.args.facts.now c.args.term.now c.in-Connected.left.now c.in-Connected.right.now (meant c.in-Connected.connective) c.args.value
+    c.way_to-way.result c.in-Ok-by_first.first.theorem allowed is_taken (sym c.takes_second.ensures ∙ c.if-not-takes_second.true)
+    (first-gives c.args.recorder.now.theory c.shown-in-Connected.new.recorder.theory c.args.facts.now c.args.term.now c.in-Connected.left.now c.in-Connected.right.now
+    (meant c.in-Connected.connective) c.args.value c.way_to-way.result c.first_side-side.result.now c.first_value.result c.law_of.result room
+    is_taken c.shown-in-Connected.ensures.continues.theory c.first_side-side.ensures c.first_value.ensures c.law_of.ensures small (Ok c.in-Ok-by_first.first) c.in-Ok-shown.premise.theorem allowed
+    (c.in-Ok-shown.ensures.shows allowed room proved (first-side-small c.args.recorder.now.theory c.args.facts.now c.args.term.now c.in-Connected.left.now c.in-Connected.right.now
+    (meant c.in-Connected.connective) c.args.value c.way_to-way.result c.first_side-side.result.now room is_taken c.first_side-side.ensures small))
+    (λ from to. c.in-Ok-by_first.ensures.proves allowed room from to))
+
+pub shown-requires-in-Connected-2 : goal.shown-requires-in-Connected-2
+shown-requires-in-Connected-2 t c =
+    let is_taken = taken c.args.recorder.now.theory c.args.facts.now c.args.term.now c.in-Connected.left.now c.in-Connected.right.now (meant c.in-Connected.connective) c.args.value
+    c.way_to-way.result c.known_value-left_value.result c.known_value-right_value.result
+    c.requires.formula c.requires.known c.in-Connected.ensures.meaning c.in-Connected.ensures.whole c.known_value-left_value.ensures c.known_value-right_value.ensures c.way_to-way.ensures in (
+      lower-second c.way_to-way.result t c.args.term.now c.in-Connected.left.now c.in-Connected.right.now c.second_side-other.result.now c.in-Connected.ensures.lower
+          c.second_side-other.ensures c.decreases,
+      (
+        still_lawful c.args.recorder.now c.by_first.new.recorder c.by_first.result c.args.laws.now
+            (continues-twice c.args.recorder.now c.shown-in-Connected.new.recorder c.by_first.new.recorder c.shown-in-Connected.result c.by_first.result
+            c.shown-in-Connected.ensures.continues c.by_first.ensures.continues) c.requires.laws,
+        (
+          still_formula c.args.recorder.now c.by_first.new.recorder c.by_first.result c.second_side-other.result.now
+              (continues-twice c.args.recorder.now c.shown-in-Connected.new.recorder c.by_first.new.recorder c.shown-in-Connected.result c.by_first.result
+              c.shown-in-Connected.ensures.continues c.by_first.ensures.continues)
+              (second-formula c.args.recorder.now.theory c.way_to-way.result c.in-Connected.left.now c.in-Connected.right.now c.second_side-other.result.now is_taken.sides
+              c.second_side-other.ensures),
+          (
+            second-side-known c.args.recorder.now.theory c.args.facts.now c.args.term.now c.in-Connected.left.now c.in-Connected.right.now (meant c.in-Connected.connective)
+                c.args.value c.way_to-way.result c.second_side-other.result.now c.second_value.result is_taken (sym c.takes_second.ensures ∙ c.if-not-takes_second.false)
+                c.second_side-other.ensures c.second_value.ensures,
+            still_all_held c.args.recorder.now c.by_first.new.recorder c.by_first.result c.args.facts.now
+                (continues-twice c.args.recorder.now c.shown-in-Connected.new.recorder c.by_first.new.recorder c.shown-in-Connected.result c.by_first.result
+                c.shown-in-Connected.ensures.continues c.by_first.ensures.continues) c.requires.held,
+          ),
+        ),
+      ),
+    )
+
+pub returns-in-Err-shown-2-clause-continues : goal.returns-in-Err-shown-2-clause-continues
+returns-in-Err-shown-2-clause-continues t c =
+    continues-twice c.args.recorder.now c.by_first.new.recorder c.shown-in-Connected-2.new.recorder c.by_first.result (Err c.in-Err-shown-2.fault)
+    (continues-twice c.args.recorder.now c.shown-in-Connected.new.recorder c.by_first.new.recorder c.shown-in-Connected.result c.by_first.result
+    c.shown-in-Connected.ensures.continues c.by_first.ensures.continues) c.in-Err-shown-2.ensures.continues
+
+pub returns-in-Err-shown-2-clause-shows : goal.returns-in-Err-shown-2-clause-shows
+returns-in-Err-shown-2-clause-shows t c = λ allowed room proved small.
+    let is_taken = taken c.args.recorder.now.theory c.args.facts.now c.args.term.now c.in-Connected.left.now c.in-Connected.right.now (meant c.in-Connected.connective) c.args.value
+    c.way_to-way.result c.known_value-left_value.result c.known_value-right_value.result
+    c.requires.formula c.requires.known c.in-Connected.ensures.meaning c.in-Connected.ensures.whole c.known_value-left_value.ensures c.known_value-right_value.ensures c.way_to-way.ensures in
+    c.in-Err-shown-2.ensures.shows allowed room proved (second-side-small c.args.recorder.now.theory c.args.facts.now c.args.term.now c.in-Connected.left.now c.in-Connected.right.now
+    (meant c.in-Connected.connective) c.args.value c.way_to-way.result c.second_side-other.result.now room is_taken c.second_side-other.ensures small)
+
+pub with_second-requires-clause-takes : goal.with_second-requires-clause-takes
+with_second-requires-clause-takes t c =
+    (sym c.takes_second.ensures ∙ c.if-not-takes_second.false)
+
+pub with_second-requires-clause-first : goal.with_second-requires-clause-first
+with_second-requires-clause-first t c =
+    still_held c.by_first.new.recorder c.shown-in-Connected-2.new.recorder c.shown-in-Connected-2.result c.in-Ok-by_first.first c.shown-in-Connected-2.ensures.continues
+    c.in-Ok-by_first.ensures.continues.held
+
+pub with_second-requires-clause-second : goal.with_second-requires-clause-second
+with_second-requires-clause-second t c =
+    c.in-Ok-shown-2.ensures.continues.held
+
+pub returns-in-Atom-clause-continues : goal.returns-in-Atom-clause-continues
+returns-in-Atom-clause-continues t c =
+    c.from_fact.ensures.continues
+
+pub returns-in-Atom-clause-shows : goal.returns-in-Atom-clause-shows
+returns-in-Atom-clause-shows t c = λ allowed room proved small.
+    atom-shown c.from_fact.result c.args.facts.now c.args.term.now c.args.value room allowed c.from_fact.ensures.err
+    (sym (ap (known_by (value_of c.args.facts.now)) c.in-Atom.ensures.meaning) ∙ c.requires.known) (c.from_fact.ensures.proves allowed proved)
+
+pub returns-in-Constantly-clause-continues : goal.returns-in-Constantly-clause-continues
+returns-in-Constantly-clause-continues t c =
+    c.constantly.ensures.continues
+
+pub returns-in-Constantly-clause-shows : goal.returns-in-Constantly-clause-shows
+returns-in-Constantly-clause-shows t c = λ allowed room proved small.
+    let both : Some c.in-Constantly.field-0 ≡ Some c.args.value = sym (ap (known_by (value_of c.args.facts.now)) c.in-Constantly.ensures.meaning) ∙ c.requires.known in
+    let same : c.in-Constantly.field-0 ≡ c.args.value = cc in
+    constant-shown c.constantly.result c.args.term.now c.in-Constantly.field-0 c.args.value room allowed c.in-Constantly.ensures.whole c.requires.formula.typed same
+    (c.constantly.ensures.proves allowed room)
+
+pub returns-in-Ok-clause-continues : goal.returns-in-Ok-clause-continues
+returns-in-Ok-clause-continues t c =
+    continues-twice c.args.recorder.now c.shown.new.recorder c.denial.new.recorder c.shown.result c.denial.result c.shown.ensures.continues c.denial.ensures.continues
+
+pub returns-in-Ok-clause-shows : goal.returns-in-Ok-clause-shows
+returns-in-Ok-clause-shows t c = λ allowed room proved small.
+    negated-gives c.args.term.now c.in-Negated.part.now c.args.value room c.in-Negated.ensures.whole small c.denial.result allowed
+    (λ whole. c.denial.ensures.proves allowed room whole (c.in-Ok.ensures.shows allowed room proved (negated-small c.args.term.now c.in-Negated.part.now room c.in-Negated.ensures.whole small)))
+
+pub returns-in-Ok-shown-2-clause-continues : goal.returns-in-Ok-shown-2-clause-continues
+returns-in-Ok-shown-2-clause-continues t c =
+    continues-twice c.args.recorder.now c.shown-in-Connected-2.new.recorder c.with_second.new.recorder c.shown-in-Connected-2.result c.with_second.result
+    (continues-twice c.args.recorder.now c.by_first.new.recorder c.shown-in-Connected-2.new.recorder c.by_first.result c.shown-in-Connected-2.result
+    (continues-twice c.args.recorder.now c.shown-in-Connected.new.recorder c.by_first.new.recorder c.shown-in-Connected.result c.by_first.result
+    c.shown-in-Connected.ensures.continues c.by_first.ensures.continues) c.shown-in-Connected-2.ensures.continues) c.with_second.ensures.continues
+
+pub returns-in-Ok-shown-2-clause-shows : goal.returns-in-Ok-shown-2-clause-shows
+returns-in-Ok-shown-2-clause-shows t c = λ allowed room proved small.
+    let is_taken = taken c.args.recorder.now.theory c.args.facts.now c.args.term.now c.in-Connected.left.now c.in-Connected.right.now (meant c.in-Connected.connective) c.args.value
+    c.way_to-way.result c.known_value-left_value.result c.known_value-right_value.result
+    c.requires.formula c.requires.known c.in-Connected.ensures.meaning c.in-Connected.ensures.whole c.known_value-left_value.ensures c.known_value-right_value.ensures c.way_to-way.ensures in
+    second-gives c.args.recorder.now.theory c.args.facts.now c.args.term.now c.in-Connected.left.now c.in-Connected.right.now (meant c.in-Connected.connective) c.args.value
+    c.way_to-way.result c.second_side-other.result.now c.second_value.result room is_taken (sym c.takes_second.ensures ∙ c.if-not-takes_second.false) c.second_side-other.ensures
+    c.second_value.ensures small c.with_second.result c.in-Ok-by_first.first.theorem c.in-Ok-shown-2.second.theorem allowed
+    (first-gives c.args.recorder.now.theory c.shown-in-Connected.new.recorder.theory c.args.facts.now c.args.term.now c.in-Connected.left.now c.in-Connected.right.now
+    (meant c.in-Connected.connective) c.args.value c.way_to-way.result c.first_side-side.result.now c.first_value.result c.law_of.result room
+    is_taken c.shown-in-Connected.ensures.continues.theory c.first_side-side.ensures c.first_value.ensures c.law_of.ensures small (Ok c.in-Ok-by_first.first) c.in-Ok-shown.premise.theorem allowed
+    (c.in-Ok-shown.ensures.shows allowed room proved (first-side-small c.args.recorder.now.theory c.args.facts.now c.args.term.now c.in-Connected.left.now c.in-Connected.right.now
+    (meant c.in-Connected.connective) c.args.value c.way_to-way.result c.first_side-side.result.now room is_taken c.first_side-side.ensures small))
+    (λ from to. c.in-Ok-by_first.ensures.proves allowed room from to))
+    (c.in-Ok-shown-2.ensures.shows allowed room proved (second-side-small c.args.recorder.now.theory c.args.facts.now c.args.term.now c.in-Connected.left.now c.in-Connected.right.now
+    (meant c.in-Connected.connective) c.args.value c.way_to-way.result c.second_side-other.result.now room is_taken c.second_side-other.ensures small))
+    (λ p q whole. c.with_second.ensures.proves allowed room p q whole)

@@ -1,0 +1,61 @@
+// What follows where a formula gives `F`.
+ghost use Rattle.std.specs.Prelude.{List, ◌∷◌, false};
+ghost use Rattle.hol_model.specs.Terms.Nameless.{Nameless, image};
+ghost use Rattle.hol_model.specs.Logic.Logic as nameless;
+ghost use Rattle.hol_equal.specs.Formulas.{IsFormula};
+ghost use Rattle.hol_equal.specs.Room.{Room, FitsIf};
+ghost use Rattle.hol_equal.specs.Sequents.{Continues, IsHeld};
+ghost use Rattle.hol_taut_laws.specs.HasLaws.{HasLaws};
+ghost use Rattle.hol_model.specs.Propositional.Connectives.{fact};
+ghost use Rattle.hol_taut.specs.Proved.{Proves, ProvesIf};
+ghost use Rattle.hol_taut.specs.Steps.{FalsityDenies};
+
+use crate::formula_terms::false_formula;
+use crate::steps::{by_both, by_one};
+use hol_equal::assume;
+use hol_journal::{Rec, Recorder};
+use hol_model::Fault;
+use hol_taut_laws::{Law, Laws};
+use hol_terms::Term;
+use std::alloc::Global;
+
+// A formula, from `F` as a hypothesis.
+fn from_falsity(recorder: &mut Recorder, alloc: Global, laws: &Laws, p: &Term) -> Result<Rec, Fault>
+    requires laws { HasLaws recorder.old laws.now }
+    requires formula { IsFormula recorder.old.theory p.now }
+    ensures continues { Continues recorder.old recorder.new result }
+    ensures proves { (allowed : List Nameless) (room : Room) → FitsIf room (image p.now) → ProvesIf room result (nameless.false_term ∷ allowed) (image p.now) }
+{
+    recorder.theory_is_legal();
+    let falsity = match false_formula(alloc) {
+        Ok(falsity) => falsity,
+        Err(fault) => return Err(fault),
+    };
+    let assumed = match assume(recorder, alloc, &falsity) {
+        Ok(assumed) => assumed,
+        Err(fault) => return Err(fault),
+    };
+    by_one(recorder, alloc, laws, Law::Contr, p, p, &assumed)
+}
+
+/// From what gives `F`, `p <=> F` without the hypothesis `p`.
+#[tactic(none)]
+pub(crate) fn denied_by(
+    recorder: &mut Recorder,
+    alloc: Global,
+    laws: &Laws,
+    p: &Term,
+    absurd: &Rec,
+) -> Result<Rec, Fault>
+    requires laws { HasLaws recorder.old laws.now }
+    requires formula { IsFormula recorder.old.theory p.now }
+    requires absurd { IsHeld recorder.old absurd.now }
+    ensures continues { Continues recorder.old recorder.new result }
+    ensures proves { FalsityDenies (image p.now) absurd.now.theorem result }
+{
+    let given = match from_falsity(recorder, alloc, laws, p) {
+        Ok(given) => given,
+        Err(fault) => return Err(fault),
+    };
+    by_both(recorder, alloc, &given, absurd)
+}

@@ -1,0 +1,17 @@
+//! TAUT: formulas that are true in every row of values of their atoms, proved by a recorder. A tautology is proved by
+//! refuting its denial: a formula is proved as soon as the known atoms tell its value, and else the next atom is split.
+#![tactic(auto)]
+
+mod denial;
+mod facts;
+mod formula_terms;
+mod known;
+mod leaves;
+mod refuted;
+mod shown;
+mod steps;
+mod taken;
+mod tautology;
+mod way;
+
+pub use tautology::taut;

@@ -1,0 +1,85 @@
+// `F` from the denial of a tautology.
+ghost use Rattle.std.specs.Prelude.{◌≡◌, List, false, unwrap_or};
+ghost use Rattle.hol_model.specs.Terms.Nameless.{Nameless, image};
+ghost use Rattle.hol_model.specs.Logic.Logic as nameless;
+ghost use Rattle.hol_equal.specs.Formulas.{IsFormula};
+ghost use Rattle.hol_equal.specs.Room.{Room};
+ghost use Rattle.hol_equal.specs.Sequents.{Continues, IsHeld};
+ghost use Rattle.hol_taut_laws.specs.HasLaws.{HasLaws};
+ghost use Rattle.hol_model.specs.Propositional.Connectives.{fact};
+ghost use Rattle.hol_taut.specs.FactLists.{value_of, known_by, AreHeld, AreProved};
+ghost use Rattle.hol_model.specs.Propositional.Propositions.{proposition};
+ghost use Rattle.hol_taut.specs.Proved.{Proves, ProvesIf};
+ghost use Rattle.hol_taut.specs.Refuted.{IsAlwaysTrue, AreTold, AreAllFormulas, AreAllSmall};
+ghost use Rattle.hol_taut.specs.Ways.{IsSmallIf};
+ghost use Rattle.hol_taut.specs.Steps.{DenialRefutes};
+
+use crate::denial::denied_by;
+use crate::facts::Facts;
+use crate::known::known_value;
+use crate::shown::shown;
+use crate::steps::by_equation;
+use hol_equal::assume;
+use hol_journal::{Rec, Recorder};
+use hol_model::Fault;
+use hol_taut_laws::Laws;
+use hol_terms::Term;
+use std::alloc::Global;
+
+// Whether the facts tell that the formula is true.
+fn is_told_true(term: &Term, facts: &Facts<'_>) -> bool
+    ensures { result ≡ unwrap_or (known_by (value_of facts.now) (proposition term.now)) false }
+{
+    match known_value(term, &*facts) {
+        Some(value) => value,
+        None => false,
+    }
+}
+
+/// `F`, from the denial of a tautology and the facts of some of its atoms, where these atoms have none.
+#[tactic(none)]
+pub(crate) fn refuted(
+    recorder: &mut Recorder,
+    alloc: Global,
+    laws: &Laws,
+    term: &Term,
+    denied: &Rec,
+    atoms: &[Term],
+    facts: &Facts<'_>,
+) -> Result<Rec, Fault>
+    requires laws { HasLaws recorder.old laws.now }
+    requires formula { IsFormula recorder.old.theory term.now }
+    requires always { IsAlwaysTrue (proposition term.now) }
+    requires denied { IsHeld recorder.old denied.now }
+    requires atoms { AreAllFormulas recorder.old.theory atoms.now }
+    requires told { AreTold facts.now atoms.now (proposition term.now) }
+    requires held { AreHeld recorder.old facts.now }
+    ensures continues { Continues recorder.old recorder.new result }
+    ensures proves { DenialRefutes term.now denied.now.theorem atoms.now facts.now result }
+{
+    if is_told_true(term, &*facts) {
+        let holds = match shown(recorder, alloc, laws, term, true, &*facts) {
+            Ok(holds) => holds,
+            Err(fault) => return Err(fault),
+        };
+        return by_equation(recorder, alloc, denied, &holds);
+    }
+    let Some((atom, atoms)) = atoms.split_first() else {
+        unreachable!();
+    };
+    let assumed = match assume(recorder, alloc, atom) {
+        Ok(assumed) => assumed,
+        Err(fault) => return Err(fault),
+    };
+    let with_true = Facts::Fact(atom, true, &assumed, &*facts);
+    let absurd = match refuted(recorder, alloc, laws, term, denied, atoms, &with_true) {
+        Ok(absurd) => absurd,
+        Err(fault) => return Err(fault),
+    };
+    let fact = match denied_by(recorder, alloc, laws, atom, &absurd) {
+        Ok(fact) => fact,
+        Err(fault) => return Err(fault),
+    };
+    let with_false = Facts::Fact(atom, false, &fact, &*facts);
+    refuted(recorder, alloc, laws, term, denied, atoms, &with_false)
+}

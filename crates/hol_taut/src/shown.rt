@@ -1,0 +1,76 @@
+// A formula or its falsity, from the facts of its atoms.
+ghost use Rattle.std.specs.Prelude.{◌≡◌, Some};
+ghost use Rattle.hol_equal.specs.Formulas.{IsFormula};
+ghost use Rattle.hol_equal.specs.Sequents.{Continues};
+ghost use Rattle.hol_taut_laws.specs.HasLaws.{HasLaws};
+ghost use Rattle.hol_model.specs.Propositional.Propositions.{proposition};
+ghost use Rattle.hol_taut.specs.FactLists.{value_of, known_by, AreHeld};
+ghost use Rattle.hol_taut.specs.Shown.{ShowsFact};
+
+use crate::facts::Facts;
+use crate::known::known_value;
+use crate::leaves::{constantly, from_fact};
+use crate::taken::{
+    by_first, denial, first_side, first_value, law_of, second_side, second_value, takes_second,
+    with_second,
+};
+use crate::way::way_to;
+use hol_journal::{Rec, Recorder};
+use hol_model::Fault;
+use hol_propositions::{Form, form_of};
+use hol_taut_laws::Laws;
+use hol_terms::Term;
+use std::alloc::Global;
+
+/// A formula that the facts make true, or its equation with `F`, where they make it false.
+#[tactic(none)]
+pub(crate) fn shown(
+    recorder: &mut Recorder,
+    alloc: Global,
+    laws: &Laws,
+    term: &Term,
+    value: bool,
+    facts: &Facts<'_>,
+) -> Result<Rec, Fault>
+    requires laws { HasLaws recorder.old laws.now }
+    requires formula { IsFormula recorder.old.theory term.now }
+    requires known { known_by (value_of facts.now) (proposition term.now) ≡ Some value }
+    requires held { AreHeld recorder.old facts.now }
+    ensures continues { Continues recorder.old recorder.new result }
+    ensures shows { ShowsFact facts.now term.now value result }
+{
+    match form_of(term) {
+        Form::Atom => from_fact(recorder, alloc, term, &*facts),
+        Form::Constantly(_) => constantly(recorder, alloc, laws, value),
+        Form::Negated(part) => {
+            let premise = match shown(recorder, alloc, laws, part, !value, &*facts) {
+                Ok(premise) => premise,
+                Err(fault) => return Err(fault),
+            };
+            denial(recorder, alloc, laws, part, value, &premise)
+        }
+        Form::Connected(connective, left, right) => {
+            let left_value = known_value(left, &*facts);
+            let right_value = known_value(right, &*facts);
+            let way = way_to(connective, value, left_value, right_value);
+            let side = first_side(way, left, right);
+            let premise = match shown(recorder, alloc, laws, side, first_value(way), &*facts) {
+                Ok(premise) => premise,
+                Err(fault) => return Err(fault),
+            };
+            let first = match by_first(recorder, alloc, laws, law_of(way), left, right, premise) {
+                Ok(first) => first,
+                Err(fault) => return Err(fault),
+            };
+            if !takes_second(way) {
+                return Ok(first);
+            }
+            let other = second_side(way, left, right);
+            let second = match shown(recorder, alloc, laws, other, second_value(way), &*facts) {
+                Ok(second) => second,
+                Err(fault) => return Err(fault),
+            };
+            with_second(recorder, alloc, way, &first, &second)
+        }
+    }
+}

@@ -1,0 +1,2 @@
+pub mod LawTheorems
+pub mod HasLaws

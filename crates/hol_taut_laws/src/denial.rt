@@ -1,0 +1,343 @@
+// The law of a formula whose falsity is false, as data.
+use crate::discharged::P_IMP_P;
+use crate::disjunction::DECIDES;
+use crate::negations::P_FOLLOWS_P;
+use crate::sides::{P_FROM_F, P_IS_F};
+use hol_derivations::conjunction::{FIRST, TRUE_AT_FIRST};
+use hol_derivations::derivation::Derivation;
+use hol_derivations::formulas::{F, IMP, P, P_CASE, Q, R, TEST, TESTED_TRUE};
+use hol_derivations::logic::NOT_P;
+use hol_derivations::sketch::TermSketch;
+use hol_derivations::truth::EARLIER_TRUTH;
+use hol_laws::disjunction::P_OR;
+use hol_laws::laws::{DISCHARGE, FIRST_OF_TESTS, FROM_TRUE, T_IMP, U, V};
+use hol_model::{PairRule, TermRule};
+
+// (p <=> F) <=> F |- p
+const TEST_NOT_P: TermSketch<'static> = TermSketch::Combination(&TEST, &NOT_P);
+
+const NOT_P_OPEN_TEST: TermSketch<'static> = TermSketch::Combination(&TEST_NOT_P, &V);
+
+const NOT_P_OPEN_TESTED: TermSketch<'static> = TermSketch::Abstraction(&TEST, &NOT_P_OPEN_TEST);
+
+const NOT_P_OPEN_TESTS: TermSketch<'static> = TermSketch::Equation(
+    &NOT_P_OPEN_TESTED,
+    &TESTED_TRUE,
+);
+
+const NOT_P_OPEN_ABSORBS: TermSketch<'static> = TermSketch::Equation(&NOT_P_OPEN_TESTS, &NOT_P);
+
+const NOT_P_IMP: TermSketch<'static> = TermSketch::Combination(&IMP, &NOT_P);
+
+const NOT_P_OPEN_IMP: TermSketch<'static> = TermSketch::Combination(&NOT_P_IMP, &V);
+
+const NOT_P_OPEN_MEANS: TermSketch<'static> = TermSketch::Equation(
+    &NOT_P_OPEN_ABSORBS,
+    &NOT_P_OPEN_IMP,
+);
+
+const NOT_P_OPEN_DISCHARGE: Derivation<'static> = Derivation::Inst(
+    &NOT_P,
+    &U,
+    &DISCHARGE,
+    &NOT_P_OPEN_MEANS,
+);
+
+const NOT_P_TEST: TermSketch<'static> = TermSketch::Combination(&TEST_NOT_P, &P);
+
+const NOT_P_TESTED: TermSketch<'static> = TermSketch::Abstraction(&TEST, &NOT_P_TEST);
+
+const NOT_P_TESTS: TermSketch<'static> = TermSketch::Equation(&NOT_P_TESTED, &TESTED_TRUE);
+
+const NOT_P_ABSORBS: TermSketch<'static> = TermSketch::Equation(&NOT_P_TESTS, &NOT_P);
+
+const NOT_P_IMP_P: TermSketch<'static> = TermSketch::Combination(&NOT_P_IMP, &P);
+
+const NOT_P_MEANS: TermSketch<'static> = TermSketch::Equation(&NOT_P_ABSORBS, &NOT_P_IMP_P);
+
+const NOT_P_DISCHARGE: Derivation<'static> = Derivation::Inst(
+    &P,
+    &V,
+    &NOT_P_OPEN_DISCHARGE,
+    &NOT_P_MEANS,
+);
+
+const ASSUME_NOT_P: Derivation<'static> = Derivation::Term(TermRule::Assume, &NOT_P);
+
+const NOT_P_PREMISE_HOLDS: Derivation<'static> = Derivation::Pair(
+    PairRule::DeductAntisym,
+    &ASSUME_NOT_P,
+    &EARLIER_TRUTH,
+);
+
+const NOT_P_PREMISE_TESTED: Derivation<'static> = Derivation::ApTerm(&TEST, &NOT_P_PREMISE_HOLDS);
+
+const P_IS_F_DENIED: TermSketch<'static> = TermSketch::Equation(&P_IS_F, &F);
+
+const ASSUME_P_IS_F_DENIED: Derivation<'static> = Derivation::Term(
+    TermRule::Assume,
+    &P_IS_F_DENIED,
+);
+
+const NOT_P_IS_F: Derivation<'static> = Derivation::Earlier(46);
+
+const F_FROM_NOT_P_AND_P: Derivation<'static> = Derivation::Pair(
+    PairRule::EqMp,
+    &NOT_P_IS_F,
+    &ASSUME_NOT_P,
+);
+
+const P_IS_F_FROM_NOT_P: Derivation<'static> = Derivation::Pair(
+    PairRule::DeductAntisym,
+    &P_FROM_F,
+    &F_FROM_NOT_P_AND_P,
+);
+
+const F_FROM_NOT_P: Derivation<'static> = Derivation::Pair(
+    PairRule::EqMp,
+    &ASSUME_P_IS_F_DENIED,
+    &P_IS_F_FROM_NOT_P,
+);
+
+const P_FROM_NOT_P_EQUATED: Derivation<'static> = Derivation::Pair(
+    PairRule::DeductAntisym,
+    &F_FROM_NOT_P,
+    &P_FROM_F,
+);
+
+const P_FROM_NOT_P: Derivation<'static> = Derivation::Pair(
+    PairRule::EqMp,
+    &P_FROM_NOT_P_EQUATED,
+    &F_FROM_NOT_P,
+);
+
+const NOT_P_CONCLUSION_HOLDS: Derivation<'static> = Derivation::Pair(
+    PairRule::DeductAntisym,
+    &P_FROM_NOT_P,
+    &EARLIER_TRUTH,
+);
+
+const NOT_P_TEST_TRUE: Derivation<'static> = Derivation::Pair(
+    PairRule::MkComb,
+    &NOT_P_PREMISE_TESTED,
+    &NOT_P_CONCLUSION_HOLDS,
+);
+
+const NOT_P_TESTS_TRUE: Derivation<'static> = Derivation::Abs(&TEST, &NOT_P_TEST_TRUE);
+
+const NOT_P_OPEN_AT_FIRST: TermSketch<'static> = TermSketch::Combination(
+    &NOT_P_OPEN_TESTED,
+    &FIRST,
+);
+
+const NOT_P_OPEN_AGREE: TermSketch<'static> = TermSketch::Equation(
+    &NOT_P_OPEN_AT_FIRST,
+    &TRUE_AT_FIRST,
+);
+
+const NOT_P_OPEN_AGREE_IS: TermSketch<'static> = TermSketch::Equation(&NOT_P_OPEN_AGREE, &NOT_P);
+
+const NOT_P_OPEN_FIRST: Derivation<'static> = Derivation::Inst(
+    &NOT_P,
+    &U,
+    &FIRST_OF_TESTS,
+    &NOT_P_OPEN_AGREE_IS,
+);
+
+const NOT_P_AT_FIRST: TermSketch<'static> = TermSketch::Combination(&NOT_P_TESTED, &FIRST);
+
+const NOT_P_AGREE: TermSketch<'static> = TermSketch::Equation(&NOT_P_AT_FIRST, &TRUE_AT_FIRST);
+
+const NOT_P_AGREE_IS: TermSketch<'static> = TermSketch::Equation(&NOT_P_AGREE, &NOT_P);
+
+const NOT_P_FIRST: Derivation<'static> = Derivation::Inst(
+    &P,
+    &V,
+    &NOT_P_OPEN_FIRST,
+    &NOT_P_AGREE_IS,
+);
+
+const ASSUME_NOT_P_TESTS: Derivation<'static> = Derivation::Term(TermRule::Assume, &NOT_P_TESTS);
+
+const NOT_P_AT_FIRST_TRUE: Derivation<'static> = Derivation::ApThm(&ASSUME_NOT_P_TESTS, &FIRST);
+
+const NOT_P_PREMISE: Derivation<'static> = Derivation::Pair(
+    PairRule::EqMp,
+    &NOT_P_FIRST,
+    &NOT_P_AT_FIRST_TRUE,
+);
+
+const NOT_P_IS_PREMISE: Derivation<'static> = Derivation::Pair(
+    PairRule::DeductAntisym,
+    &NOT_P_TESTS_TRUE,
+    &NOT_P_PREMISE,
+);
+
+const NOT_P_IMPLIES_P: Derivation<'static> = Derivation::Pair(
+    PairRule::EqMp,
+    &NOT_P_DISCHARGE,
+    &NOT_P_IS_PREMISE,
+);
+
+const NOT_P_CASE_HOLDS: Derivation<'static> = Derivation::Pair(
+    PairRule::DeductAntisym,
+    &NOT_P_IMPLIES_P,
+    &EARLIER_TRUTH,
+);
+
+const NOT_P_CASE_IMP: Derivation<'static> = Derivation::ApTerm(&IMP, &NOT_P_CASE_HOLDS);
+
+const NOT_P_CASE_FOLLOWS: Derivation<'static> = Derivation::ApThm(&NOT_P_CASE_IMP, &P);
+
+const T_IMP_P: TermSketch<'static> = TermSketch::Combination(&T_IMP, &P);
+
+const T_IMP_P_IS_P: TermSketch<'static> = TermSketch::Equation(&T_IMP_P, &P);
+
+const NOT_P_CASE_FROM_TRUE: Derivation<'static> = Derivation::Inst(
+    &P,
+    &Q,
+    &FROM_TRUE,
+    &T_IMP_P_IS_P,
+);
+
+const NOT_P_CASE_IS: Derivation<'static> = Derivation::Pair(
+    PairRule::Trans,
+    &NOT_P_CASE_FOLLOWS,
+    &NOT_P_CASE_FROM_TRUE,
+);
+
+const P_CASE_HOLDS: Derivation<'static> = Derivation::Pair(
+    PairRule::DeductAntisym,
+    &P_FOLLOWS_P,
+    &EARLIER_TRUTH,
+);
+
+const P_CASE_IMP: Derivation<'static> = Derivation::ApTerm(&IMP, &P_CASE_HOLDS);
+
+const MIDDLE_P_RIGHT_CASE_IMP: TermSketch<'static> = TermSketch::Combination(&IMP, &NOT_P_IMP_P);
+
+const MIDDLE_P_RIGHT_CASE: TermSketch<'static> = TermSketch::Combination(
+    &MIDDLE_P_RIGHT_CASE_IMP,
+    &P,
+);
+
+const P_CASE_FOLLOWS: Derivation<'static> = Derivation::ApThm(&P_CASE_IMP, &MIDDLE_P_RIGHT_CASE);
+
+const T_IMP_MIDDLE_P_RIGHT_CASE: TermSketch<'static> = TermSketch::Combination(
+    &T_IMP,
+    &MIDDLE_P_RIGHT_CASE,
+);
+
+const T_IMP_MIDDLE_P_RIGHT_CASE_MEANS: TermSketch<'static> = TermSketch::Equation(
+    &T_IMP_MIDDLE_P_RIGHT_CASE,
+    &MIDDLE_P_RIGHT_CASE,
+);
+
+const P_CASE_FROM_TRUE: Derivation<'static> = Derivation::Inst(
+    &MIDDLE_P_RIGHT_CASE,
+    &Q,
+    &FROM_TRUE,
+    &T_IMP_MIDDLE_P_RIGHT_CASE_MEANS,
+);
+
+const P_CASE_IS: Derivation<'static> = Derivation::Pair(
+    PairRule::Trans,
+    &P_CASE_FOLLOWS,
+    &P_CASE_FROM_TRUE,
+);
+
+const MIDDLE: Derivation<'static> = Derivation::Earlier(38);
+
+const MIDDLE_HOLDS: Derivation<'static> = Derivation::Pair(
+    PairRule::DeductAntisym,
+    &MIDDLE,
+    &EARLIER_TRUTH,
+);
+
+const MIDDLE_IMP: Derivation<'static> = Derivation::ApTerm(&IMP, &MIDDLE_HOLDS);
+
+const MIDDLE_P_LEFT_CASE_IMP: TermSketch<'static> = TermSketch::Combination(&IMP, &P_IMP_P);
+
+const MIDDLE_P_CASES: TermSketch<'static> = TermSketch::Combination(
+    &MIDDLE_P_LEFT_CASE_IMP,
+    &MIDDLE_P_RIGHT_CASE,
+);
+
+const MIDDLE_FOLLOWS: Derivation<'static> = Derivation::ApThm(&MIDDLE_IMP, &MIDDLE_P_CASES);
+
+const T_IMP_MIDDLE_P_CASES: TermSketch<'static> = TermSketch::Combination(&T_IMP, &MIDDLE_P_CASES);
+
+const T_IMP_MIDDLE_P_CASES_MEANS: TermSketch<'static> = TermSketch::Equation(
+    &T_IMP_MIDDLE_P_CASES,
+    &MIDDLE_P_CASES,
+);
+
+const MIDDLE_FROM_TRUE: Derivation<'static> = Derivation::Inst(
+    &MIDDLE_P_CASES,
+    &Q,
+    &FROM_TRUE,
+    &T_IMP_MIDDLE_P_CASES_MEANS,
+);
+
+const MIDDLE_IS: Derivation<'static> = Derivation::Pair(
+    PairRule::Trans,
+    &MIDDLE_FOLLOWS,
+    &MIDDLE_FROM_TRUE,
+);
+
+const P_OR_NOT_P: TermSketch<'static> = TermSketch::Combination(&P_OR, &NOT_P);
+
+const P_OR_NOT_P_IMP: TermSketch<'static> = TermSketch::Combination(&IMP, &P_OR_NOT_P);
+
+const NOT_P_IMP_R: TermSketch<'static> = TermSketch::Combination(&NOT_P_IMP, &R);
+
+const MIDDLE_R_RIGHT_CASE_IMP: TermSketch<'static> = TermSketch::Combination(&IMP, &NOT_P_IMP_R);
+
+const MIDDLE_R_RIGHT_CASE: TermSketch<'static> = TermSketch::Combination(
+    &MIDDLE_R_RIGHT_CASE_IMP,
+    &R,
+);
+
+const MIDDLE_R_CASES: TermSketch<'static> = TermSketch::Combination(&P_CASE, &MIDDLE_R_RIGHT_CASE);
+
+const MIDDLE_R_DECIDES: TermSketch<'static> = TermSketch::Combination(
+    &P_OR_NOT_P_IMP,
+    &MIDDLE_R_CASES,
+);
+
+const MIDDLE_DECIDES_R: Derivation<'static> = Derivation::Inst(
+    &NOT_P,
+    &Q,
+    &DECIDES,
+    &MIDDLE_R_DECIDES,
+);
+
+const MIDDLE_P_DECIDES: TermSketch<'static> = TermSketch::Combination(
+    &P_OR_NOT_P_IMP,
+    &MIDDLE_P_CASES,
+);
+
+const MIDDLE_DECIDES_P: Derivation<'static> = Derivation::Inst(
+    &P,
+    &R,
+    &MIDDLE_DECIDES_R,
+    &MIDDLE_P_DECIDES,
+);
+
+const P_FROM_MIDDLE_CASES: Derivation<'static> = Derivation::Pair(
+    PairRule::EqMp,
+    &MIDDLE_IS,
+    &MIDDLE_DECIDES_P,
+);
+
+const P_FROM_NOT_P_CASE: Derivation<'static> = Derivation::Pair(
+    PairRule::EqMp,
+    &P_CASE_IS,
+    &P_FROM_MIDDLE_CASES,
+);
+
+pub(crate) const NOT_FALSE_ELIM: Derivation<'static> = Derivation::Pair(
+    PairRule::EqMp,
+    &NOT_P_CASE_IS,
+    &P_FROM_NOT_P_CASE,
+);
