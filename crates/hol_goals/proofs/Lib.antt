@@ -1,0 +1,11 @@
+pub mod Stacks
+pub mod Setting
+pub mod Tops
+pub mod Refinements
+pub mod Focusing
+pub mod Turns
+pub mod TurnedNumbers
+pub mod NumberedSteps
+pub mod Rotating
+pub mod Closings
+pub mod Expansions

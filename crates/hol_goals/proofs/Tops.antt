@@ -1,0 +1,43 @@
+-- What the stage at hand tells of the proof.
+use Rattle.std.proofs.Common.{◌≡◌, refl, ap, Option, None, Some, [], Ok, Err}
+use Rattle.std.specs.Option.{option_map}
+use Rattle.hol_model.specs.declared.fault.Fault.TheVariants.{NoGoal}
+use Rattle.hol_model.specs.Goals.Goals.{Goal}
+use Rattle.hol_model.specs.Goals.GoalStates.{Stage, Proof, stage_theorem, open_goals, top_outcome, goals_of_proof, underway, proved, focus_outcome, stage_focus, step_focus}
+use Rattle.std.proofs.Common.{List, ◌∷◌, sym, ◌∙◌}
+use Rattle.hol_model.specs.Kernel.Theorem.{Theorem}
+use Rattle.hol_model.specs.Goals.ValidSteps.{Step}
+use Rattle.hol_goals.specs.Refinements.{goal_in_focus}
+
+pub no_top : (found : Option Proof) → None ≡ option_map (λ (proof : Proof). proof.stage) found → Err NoGoal ≡ top_outcome found
+no_top None same = refl
+no_top (Some proof) same = cc
+
+pub top_of : (found : Option Proof) (stage : Stage) → Some stage ≡ option_map (λ (proof : Proof). proof.stage) found → stage_theorem stage ≡ top_outcome found
+top_of None stage same = cc
+top_of (Some proof) stage same = let one : stage ≡ proof.stage = cc in ap stage_theorem one
+
+pub no_goals : (found : Option Proof) → None ≡ option_map (λ (proof : Proof). proof.stage) found → [] ≡ goals_of_proof found
+no_goals None same = refl
+no_goals (Some proof) same = cc
+
+pub goals_at : (found : Option Proof) (stage : Stage) → Some stage ≡ option_map (λ (proof : Proof). proof.stage) found → open_goals stage ≡ goals_of_proof found
+goals_at None stage same = cc
+goals_at (Some proof) stage same = let one : stage ≡ proof.stage = cc in ap open_goals one
+
+pub no_focus : (found : Option Proof) → None ≡ option_map (λ (proof : Proof). proof.stage) found → Err NoGoal ≡ goal_in_focus (focus_outcome found)
+no_focus None same = refl
+no_focus (Some proof) same = cc
+
+pub done_focus : (found : Option Proof) (theorem : Theorem) → Some (proved theorem) ≡ option_map (λ (proof : Proof). proof.stage) found → Err NoGoal ≡ goal_in_focus (focus_outcome found)
+done_focus None theorem same = cc
+done_focus (Some proof) theorem same =
+    let one : proved theorem ≡ proof.stage = cc in
+    ap (λ stage. goal_in_focus (stage_focus proof stage)) one
+
+pub focus_at : (found : Option Proof) (step : Step) (goal : Goal) (others : List Goal) → Some (underway step) ≡ option_map (λ (proof : Proof). proof.stage) found
+    → step.goals ≡ goal ∷ others → Ok goal ≡ goal_in_focus (focus_outcome found)
+focus_at None step goal others same at = cc
+focus_at (Some proof) step goal others same at =
+    let one : underway step ≡ proof.stage = cc in
+    ap (λ (l : List Goal). goal_in_focus (step_focus proof step l)) (sym at) ∙ ap (λ stage. goal_in_focus (stage_focus proof stage)) one

@@ -1,0 +1,20 @@
+use Rattle.std.proofs.Common.{◌-◌, sym, ap, ◌∙◌, length, drop, take}
+use Rattle.std.proofs.lemmas.List.{drop-map, take_rest}
+use Rattle.hol_just.specs.Steps.{goal_of, goals_of, step_of, tree_of}
+use Rattle.hol_goals.specs.Stages.{opening_of}
+use Rattle.hol_goals.proofs.Refinements.{spliced_is, refused_is}
+use Rattle.hol_goals.proofs.refining.refined.Goals as goal
+
+pub returns-in-Err-clause-err : goal.returns-in-Err-clause-err
+returns-in-Err-clause-err c =
+    let all = c.deref.result.now in
+    refused_is (opening_of c.args.opening.now) (step_of c.args.refinement) (take (length all - 1) (drop 1 all)) c.in_ok-parts.parts.items (drop 1 (goals_of c.args.opening.now.goals.items)) c.in-Err.fault
+    (ap goals_of (take_rest all 1 ∙ ap (drop 1) c.deref.ensures.value) ∙ sym (drop-map goal_of 1 c.args.opening.now.goals.items)) c.in_ok-parts.ensures.ok (rw c.deref-3.ensures.value at c.in-Err.ensures.err)
+
+pub returns-clause-ok : goal.returns-clause-ok
+returns-clause-ok c =
+    let all = c.deref.result.now in
+    spliced_is (opening_of c.args.opening.now) (step_of c.args.refinement) (take (length all - 1) (drop 1 all)) c.append_goals-2.new.all.items c.append_goals.new.all.items c.in_ok-parts.parts.items
+    (tree_of c.in-Ok.just) (drop 1 (goals_of c.args.opening.now.goals.items))
+    (ap goals_of (take_rest all 1 ∙ ap (drop 1) c.deref.ensures.value) ∙ sym (drop-map goal_of 1 c.args.opening.now.goals.items))
+    (rw c.new-goals.ensures.items at (rw c.deref-2.ensures.value at c.in_ok-append_goals.ensures.ok)) c.in_ok-append_goals-2.ensures.ok c.in_ok-parts.ensures.ok (rw c.deref-3.ensures.value at c.in-Ok.ensures.tree)

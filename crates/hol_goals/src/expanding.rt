@@ -1,0 +1,129 @@
+// The first open goal refined, and the stage that this reaches.
+ghost use Rattle.std.specs.Prelude.{◌≡◌, ◌<◌, length, true, IfOk, IfErr};
+ghost use Rattle.hol_model.specs.declared.fault.Fault.TheVariants.{Memory};
+ghost use Rattle.hol_model.specs.Goals.GoalStates as states;
+ghost use Rattle.hol_model.specs.Goals.Replays.{is_within_depth};
+ghost use Rattle.hol_just.specs.Steps.{goal_of, step_of, tree_of};
+ghost use Rattle.hol_goals.specs.Refinements.{goal_told, goal_in_focus, Refines};
+ghost use Rattle.hol_goals.specs.Stages.{attempt_of};
+ghost use Rattle.hol_goals.specs.Expansions.{Reaches, Finishes, IsExpandedBy};
+ghost use Rattle.hol_goals.specs.Made.{StaysMade};
+
+use crate::attempt::Attempt;
+use crate::proving::Prover;
+use crate::refining::refined;
+use crate::stage::{Opening, Stage};
+use hol_journal::Rec;
+use hol_just::{Goal, Just, Step};
+use hol_model::Fault;
+use std::alloc::Global;
+
+/// What is told of the stage that a refined proof reaches: how many goals are open, or the theorem of the goal.
+#[derive(Drop)]
+pub enum Expansion {
+    Open(usize),
+    NoSubgoals(Rec),
+}
+
+impl Attempt {
+    /// The first open goal.
+    #[tactic(auto, using(crate::proofs::Tops::no_focus, crate::proofs::Tops::done_focus, crate::proofs::Tops::focus_at))]
+    pub(crate) fn focus(&self) -> Result<&Goal, Fault>
+        ensures { goal_told result ≡ goal_in_focus (states.focus_outcome (attempt_of self.now).proof) }
+    {
+        let Some(stage) = self.stage() else {
+            return Err(Fault::NoGoal);
+        };
+        match stage {
+            Stage::Underway(opening) => Ok(&opening.goals[0]),
+            Stage::Proved(_) => Err(Fault::NoGoal),
+        }
+    }
+
+    // The step to the open goals with the first of them refined.
+    #[tactic(auto, using(crate::proofs::Focusing::nothing_set, crate::proofs::Focusing::is_done))]
+    fn refined(&self, alloc: Global, refinement: Step) -> Result<Step, Fault>
+        ensures { Refines (states.focus_outcome (attempt_of self.now).proof) (step_of refinement) result }
+    {
+        let Some(stage) = self.stage() else {
+            return Err(Fault::NoGoal);
+        };
+        match stage {
+            Stage::Underway(opening) => refined(alloc, opening, refinement),
+            Stage::Proved(_) => Err(Fault::NoGoal),
+        }
+    }
+
+    // Keeps the goals that are left open as the next stage.
+    fn proceed(&mut self, step: Step) -> Result<Expansion, Fault>
+        requires open { 0 < length step.goals.items }
+        requires within { is_within_depth (tree_of step.just) ≡ true }
+        ensures reaches { Reaches (attempt_of self.old) (attempt_of self.new) (states.underway (step_of step)) result }
+    {
+        let Step { goals, just } = step;
+        let count = goals.len();
+        match self.advance(Stage::Underway(Opening { goals, just })) {
+            Ok(()) => Ok(Expansion::Open(count)),
+            Err(fault) => Err(fault),
+        }
+    }
+
+    // Keeps the theorem of the goal as the next stage.
+    fn conclude(&mut self, alloc: Global, theorem: Rec) -> Result<Expansion, Fault>
+        ensures reaches { Reaches (attempt_of self.old) (attempt_of self.new) (states.proved theorem.theorem) result }
+    {
+        let told = match theorem.copy(alloc) {
+            Ok(told) => told,
+            Err(fault) => return Err(fault),
+        };
+        match self.advance(Stage::Proved(theorem)) {
+            Ok(()) => Ok(Expansion::NoSubgoals(told)),
+            Err(fault) => Err(fault),
+        }
+    }
+
+    // Proves the goal by a justification without subgoals.
+    fn finish<P: Prover>(
+        &mut self,
+        alloc: Global,
+        prover: &mut P,
+        just: &Just,
+    ) -> Result<Expansion, Fault>
+        requires ready { P.is_ready prover.old }
+        ensures outcome { Finishes (P.theory prover.old) (P.store prover.old) (goal_of self.old.goal) (tree_of just.now) (attempt_of self.old) (attempt_of self.new) result }
+        ensures theory { P.theory prover.new ≡ P.theory prover.old }
+        ensures store { P.store prover.new ≡ P.store prover.old }
+        ensures ready { P.is_ready prover.new }
+        ensures stays { StaysMade (P.journal prover.old) (P.journal prover.new) }
+    {
+        let theorem = match prover.prove(alloc, &self.goal, just) {
+            Ok(theorem) => theorem,
+            Err(fault) => return Err(fault),
+        };
+        self.conclude(alloc, theorem)
+    }
+
+    /// Refines the first open goal by a step that was found for it.
+    pub(crate) fn expand_by<P: Prover>(
+        &mut self,
+        alloc: Global,
+        prover: &mut P,
+        refinement: Step,
+    ) -> Result<Expansion, Fault>
+        requires ready { P.is_ready prover.old }
+        ensures outcome { IsExpandedBy (P.theory prover.old) (P.store prover.old) (step_of refinement) (attempt_of self.old) (attempt_of self.new) result }
+        ensures theory { P.theory prover.new ≡ P.theory prover.old }
+        ensures store { P.store prover.new ≡ P.store prover.old }
+        ensures ready { P.is_ready prover.new }
+        ensures stays { StaysMade (P.journal prover.old) (P.journal prover.new) }
+    {
+        let step = match self.refined(alloc, refinement) {
+            Ok(step) => step,
+            Err(fault) => return Err(fault),
+        };
+        if step.goals.is_empty() {
+            return self.finish(alloc, prover, &step.just);
+        }
+        self.proceed(step)
+    }
+}

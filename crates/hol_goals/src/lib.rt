@@ -1,0 +1,17 @@
+//! The proof of a goal under way: a stack of stages, each of which can be taken back.
+#![tactic(auto)]
+
+mod attempt;
+mod closing;
+mod copying;
+mod expanding;
+mod proving;
+mod refining;
+mod stack;
+mod stage;
+mod turning;
+
+pub use closing::closed;
+pub use expanding::Expansion;
+pub use proving::Prover;
+pub use stack::Stack;

@@ -1,0 +1,238 @@
+// The stack.
+ghost use Rattle.std.specs.Prelude.{◌≡◌, Result, Some, None, IfOk, IfErr};
+ghost use Rattle.hol_model.specs.declared.fault.Fault.{Fault};
+ghost use Rattle.hol_model.specs.declared.fault.Fault.TheVariants.{Memory};
+ghost use Rattle.hol_model.specs.Kernel.Rules.{is_formula};
+ghost use Rattle.hol_just.specs.Steps.{goal_of};
+ghost use Rattle.hol_model.specs.Goals.GoalStates as states;
+ghost use Rattle.hol_goals.specs.Settings.{IsDecided};
+ghost use Rattle.hol_goals.specs.Stages.{stage_of, attempt_of, stack_of};
+
+use crate::attempt::{Attempt, Change};
+use crate::expanding::Expansion;
+use crate::proving::Prover;
+use crate::stage::{Opening, Stage};
+use hol_journal::{Rec, Recorder};
+use hol_just::{Goal, Step, sub};
+use hol_kernel::Thm;
+use hol_model::Fault;
+use hol_terms::Term;
+use std::alloc::Global;
+use std::collections::VecDeque;
+
+/// The proof of a goal under way, if one was set.
+#[derive(Drop)]
+pub struct Stack {
+    attempt: Option<Attempt>,
+}
+
+// A term as a goal without assumptions.
+fn goal_of_term(alloc: Global, term: &Term) -> Result<Goal, Fault>
+    ensures ok { IfOk result (λ goal. goal_of goal ≡ states.goal_of term.now) }
+    ensures err { IfErr result (λ fault. fault ≡ Memory) }
+{
+    Ok(Goal {
+        asms: Vec::new(alloc),
+        concl: term.copy(alloc)?,
+    })
+}
+
+// The stage at which nothing was done to a goal.
+fn untouched(alloc: Global, term: &Term) -> Result<Stage, Fault>
+    ensures ok { IfOk result (λ stage. stage_of stage ≡ states.underway (states.untouched (states.goal_of term.now))) }
+    ensures err { IfErr result (λ fault. fault ≡ Memory) }
+{
+    let mut goals = Vec::new(alloc);
+    goals.push(goal_of_term(alloc, term)?)?;
+    Ok(Stage::Underway(Opening {
+        goals,
+        just: sub(alloc, 0)?,
+    }))
+}
+
+// The proof of a term that nothing was done to.
+fn begun(alloc: Global, term: &Term) -> Result<Attempt, Fault>
+    ensures ok { IfOk result (λ attempt. attempt_of attempt ≡ record { proof = Some (states.begun (states.goal_of term.now)); before = None }) }
+    ensures err { IfErr result (λ fault. fault ≡ Memory) }
+{
+    let goal = goal_of_term(alloc, term)?;
+    let stage = untouched(alloc, term)?;
+    let mut stages = VecDeque::new(alloc);
+    if stages.push_front(stage).is_err() {
+        return Err(Fault::Memory);
+    }
+    Ok(Attempt {
+        goal,
+        stages,
+        change: Change::Nothing,
+    })
+}
+
+// Whether a call succeeded.
+fn decided(answer: Result<Thm, Fault>) -> Result<(), Fault>
+    ensures { (outcome : Result states.Proof Fault) (proof : states.Proof) → IsDecided outcome proof answer → IsDecided outcome proof result }
+{
+    let _theorem = match answer {
+        Ok(theorem) => theorem,
+        Err(fault) => return Err(fault),
+    };
+    Ok(())
+}
+
+// Whether a term is a formula.
+fn is_formula(term: &Term) -> bool
+    ensures { result ≡ is_formula term.now }
+{
+    term.ty().is_bool()
+}
+
+// Whether a goal can be set: a known formula, whose equation with itself is within the limits.
+fn settable(alloc: Global, recorder: &Recorder, term: &Term) -> Result<(), Fault>
+    ensures { IsDecided (states.set_outcome recorder.now.theory term.now) (states.begun (states.goal_of term.now)) result }
+{
+    if !is_formula(term) {
+        return Err(Fault::NotBool);
+    }
+    let equation = recorder.theory().refl(alloc, term);
+    decided(equation)
+}
+
+impl Stack {
+    ghost use Rattle.std.specs.Option.{option_map};
+    ghost use Rattle.hol_just.specs.Steps.{goals_of};
+    ghost use Rattle.std.specs.Prelude.{◌≡◌, ◌⊎◌, IfErr};
+    ghost use Rattle.hol_model.specs.declared.fault.Fault.TheVariants.{Memory, NoGoal, NothingToUndo};
+    ghost use Rattle.hol_just.specs.Steps.{step_of};
+    ghost use Rattle.hol_goals.specs.Refinements.{goal_told, goal_in_focus};
+    ghost use Rattle.hol_goals.specs.Expansions.{IsExpandedBy};
+    ghost use Rattle.hol_goals.specs.Made.{StaysMade};
+    ghost use Rattle.hol_goals.specs.Stages.{opening_of, stage_of, stack_of, theorem_told};
+    ghost use Rattle.hol_model.specs.Goals.GoalStates as states;
+    ghost use Rattle.hol_model.specs.Goals.StackCalls.{Changes};
+
+    /// The stack without a goal.
+    pub fn new() -> Stack
+        ensures { stack_of result ≡ states.empty_stack }
+    {
+        Stack { attempt: None }
+    }
+
+    /// Sets a goal, and forgets the proof that was under way.
+    pub fn set(&mut self, alloc: Global, recorder: &Recorder, term: &Term) -> Result<(), Fault>
+        ensures { Changes result (states.set_outcome recorder.now.theory term.now) (states.set_stack (stack_of self.old)) (stack_of self.old) (stack_of self.new) }
+    {
+        match settable(alloc, recorder, term) {
+            Ok(()) => {}
+            Err(fault) => return Err(fault),
+        }
+        match begun(alloc, term) {
+            Ok(attempt) => {
+                self.attempt = Some(attempt);
+                Ok(())
+            }
+            Err(fault) => Err(fault),
+        }
+    }
+
+    /// Takes the last change of the proof back: the stage before it is at hand again.
+    pub fn back(&mut self) -> Result<(), Fault>
+        ensures outcome { Changes result (states.back_outcome (stack_of self.old).proof) (states.changed_stack (stack_of self.old)) (stack_of self.old) (stack_of self.new) }
+        ensures err { IfErr result (λ fault. (fault ≡ NoGoal) ⊎ (fault ≡ NothingToUndo)) }
+    {
+        match &mut self.attempt {
+            Some(attempt) => attempt.back(),
+            None => Err(Fault::NoGoal),
+        }
+    }
+
+    /// Moves the first open goal behind the others, so many times.
+    pub fn rotate(&mut self, alloc: Global, turns: u32) -> Result<(), Fault>
+        ensures { Changes result (states.rotate_outcome (stack_of self.old).proof turns) (states.changed_stack (stack_of self.old)) (stack_of self.old) (stack_of self.new) }
+    {
+        match &mut self.attempt {
+            Some(attempt) => attempt.rotate(alloc, turns as usize),
+            None => Err(Fault::NoGoal),
+        }
+    }
+
+    /// Undoes the last change of the proof, where it was a further stage or a stage taken back.
+    pub fn revert(&mut self)
+        ensures { stack_of self.new ≡ states.reverted (stack_of self.old) }
+    {
+        match &mut self.attempt {
+            Some(attempt) => attempt.revert(),
+            None => {}
+        }
+    }
+
+    /// The stage at hand.
+    fn stage(&self) -> Option<&Stage>
+        ensures { option_map (λ stage. stage_of stage.now) result ≡ option_map (λ proof. proof.stage) (stack_of self.now).proof }
+    {
+        match &self.attempt {
+            Some(attempt) => attempt.stage(),
+            None => None,
+        }
+    }
+
+    /// The theorem of the goal, once no goal is open.
+    #[tactic(auto, using(crate::proofs::Tops::no_top, crate::proofs::Tops::top_of))]
+    pub fn top_thm(&self) -> Result<&Rec, Fault>
+        ensures { theorem_told result ≡ states.top_outcome (stack_of self.now).proof }
+    {
+        let Some(stage) = self.stage() else {
+            return Err(Fault::NoGoal);
+        };
+        match stage {
+            Stage::Underway(_) => Err(Fault::GoalsRemain),
+            Stage::Proved(made) => Ok(made),
+        }
+    }
+
+    /// The goals that are open; none where no goal is set.
+    #[tactic(auto, using(crate::proofs::Tops::no_goals, crate::proofs::Tops::goals_at))]
+    pub fn open_goals(&self) -> &[Goal]
+        ensures { goals_of result.now ≡ states.goals_of_proof (stack_of self.now).proof }
+    {
+        let Some(stage) = self.stage() else {
+            return &[];
+        };
+        match stage {
+            Stage::Underway(opening) => &opening.goals,
+            Stage::Proved(_) => &[],
+        }
+    }
+
+    /// The first open goal, if one is.
+    pub fn focus(&self) -> Result<&Goal, Fault>
+        ensures { goal_told result ≡ goal_in_focus (states.focus_outcome (stack_of self.now).proof) }
+    {
+        match &self.attempt {
+            Some(attempt) => attempt.focus(),
+            None => Err(Fault::NoGoal),
+        }
+    }
+
+    /// Refines the first open goal by a step that was found for it (HOL Light's `by`, tactics.ml). Its subgoals stand before the
+    /// other goals. Where none is left, the justification is replayed, and the theorem of the goal's own term is the next stage.
+    /// Refused, where nothing changes: NoGoal where no goal is open; TooLarge where the justification is deeper than the limit;
+    /// where no goal is left, what the replay is refused for, InvalidStep where its theorem does not achieve the goal; Memory.
+    pub fn expand_by<P: Prover>(
+        &mut self,
+        alloc: Global,
+        prover: &mut P,
+        refinement: Step,
+    ) -> Result<Expansion, Fault>
+        requires ready { P.is_ready prover.old }
+        ensures outcome { IsExpandedBy (P.theory prover.old) (P.store prover.old) (step_of refinement) (stack_of self.old) (stack_of self.new) result }
+        ensures theory { P.theory prover.new ≡ P.theory prover.old }
+        ensures store { P.store prover.new ≡ P.store prover.old }
+        ensures ready { P.is_ready prover.new }
+        ensures stays { StaysMade (P.journal prover.old) (P.journal prover.new) }
+    {
+        match &mut self.attempt {
+            Some(attempt) => attempt.expand_by(alloc, prover, refinement),
+            None => Err(Fault::NoGoal),
+        }
+    }
+}
