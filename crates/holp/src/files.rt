@@ -10,11 +10,12 @@ use hol_script::run;
 use std::fs::File;
 use std::{fs, io};
 
-// The file of this name, to be read.
+// The file of this name, to be read; `-` names standard input.
 fn open(rt: &HostRuntime, name: &str) -> Result<FromRead<File>, Fault>
     ensures { IfOk result (λ reader. reader.failed ≡ false) }
 {
-    match fs::open(rt, name) {
+    let path = if name == "-" { "/dev/stdin" } else { name };
+    match fs::open(rt, path) {
         Ok(file) => Ok(FromRead::new(file)),
         Err(_) => Err(Fault::ReadFault),
     }

@@ -24,7 +24,11 @@ fn file_argument<'a>(alloc: Global, name: &'a str, help: &'a str) -> Arg<'a> {
 fn command_line<'a>(alloc: Global) -> anyhow::Result<Command<'a>> {
     let run = Command::new(alloc, "run")
         .about("Runs a proof script")
-        .arg(file_argument(alloc, "SCRIPT", "The file of the proof script"))?
+        .arg(file_argument(
+            alloc,
+            "SCRIPT",
+            "The file of the proof script; - is standard input",
+        ))?
         .arg(
             Arg::new(alloc, "log")
                 .long("log")
@@ -40,13 +44,22 @@ fn command_line<'a>(alloc: Global) -> anyhow::Result<Command<'a>> {
                 .help("Lists the definitions and declarations of the log too")
                 .action(ArgAction::SetTrue),
         )?
-        .arg(file_argument(alloc, "LOG", "The file of the proof log"))?;
+        .arg(file_argument(
+            alloc,
+            "LOG",
+            "The file of the proof log; - is standard input",
+        ))?;
     let migrate = Command::new(alloc, "migrate")
         .about("Checks a proof log and writes it in the second version")
-        .arg(file_argument(alloc, "LOG", "The file of the proof log"))?
+        .arg(file_argument(
+            alloc,
+            "LOG",
+            "The file of the proof log; - is standard input",
+        ))?
         .arg(file_argument(alloc, "NEW", "The file to write"))?;
     Ok(
         Command::new(alloc, "holp")
+            .version("0.1.0")
             .about("A theorem prover for higher-order logic")
             .subcommand(run)?
             .subcommand(check)?
