@@ -42,7 +42,7 @@ map-append [] ys = refl
 map-append (x ∷ xs) ys = ap (λ rest. sequent_of_theorem x ∷ rest) (map-append xs ys)
 
 module _ (theory : Theory) where
-  later-store : (before after : Stage) → IsLater theory before after → IsLaterStore (sequents_in before.store) (sequents_in after.store)
+  pub later-store : (before after : Stage) → IsLater theory before after → IsLaterStore (sequents_in before.store) (sequents_in after.store)
   later-store before after later = record {
     named = λ name. as_strong-same _ _ (ap (λ named. option_map sequent_of_theorem (named name)) later.named);
     lemmas = λ k. subst (λ (xs : List Sequent). AnswersAsStrong (slice_get xs k) (slice_get (map sequent_of_theorem before.store.lemmas) k))

@@ -8,6 +8,7 @@ use Rattle.hol_model.specs.Logic.Theory.{Theory, IsLegal}
 use Rattle.hol_model.specs.Logic.Derivable.{Derivable}
 use Rattle.hol_model.specs.Logic.Logic.{false_term}
 use Rattle.hol_model.specs.Texts.Texts.{text_of_sequent}
+use Rattle.hol_model.specs.Scripts.Replies.{row_text}
 use Rattle.hol_model.specs.Scripts.Headline.{scope_over}
 use Rattle.hol_model.proofs.Tests.{first_of_both, second_of_both}
 use Rattle.hol_sound.specs.Laws.{IsConsistent}
@@ -43,13 +44,14 @@ theorem-begins : (name text : List ℕ) → name ++ codes ": " ++ text ++ codes 
 theorem-begins name text = append_assoc (name ++ codes ": ") text (codes "\n") ∙ append_assoc name (codes ": ") (text ++ codes "\n")
 
 -- a refusal's line begins with a word and a space
-refusal-begins : (a b c d e f : List ℕ) → codes "line " ++ a ++ b ++ c ++ d ++ e ++ f ≡ codes "line " ++ (a ++ (b ++ (c ++ (d ++ (e ++ f)))))
-refusal-begins a b c d e f =
-    append_assoc (codes "line " ++ a ++ b ++ c ++ d) e f
-    ∙ append_assoc (codes "line " ++ a ++ b ++ c) d (e ++ f)
-    ∙ append_assoc (codes "line " ++ a ++ b) c (d ++ (e ++ f))
-    ∙ append_assoc (codes "line " ++ a) b (c ++ (d ++ (e ++ f)))
-    ∙ append_assoc (codes "line ") a (b ++ (c ++ (d ++ (e ++ f))))
+refusal-begins : (a b c d e f g : List ℕ) → codes "line " ++ a ++ b ++ c ++ d ++ e ++ f ++ g ≡ codes "line " ++ (a ++ (b ++ (c ++ (d ++ (e ++ (f ++ g))))))
+refusal-begins a b c d e f g =
+    append_assoc (codes "line " ++ a ++ b ++ c ++ d ++ e) f g
+    ∙ append_assoc (codes "line " ++ a ++ b ++ c ++ d) e (f ++ g)
+    ∙ append_assoc (codes "line " ++ a ++ b ++ c) d (e ++ (f ++ g))
+    ∙ append_assoc (codes "line " ++ a ++ b) c (d ++ (e ++ (f ++ g)))
+    ∙ append_assoc (codes "line " ++ a) b (c ++ (d ++ (e ++ (f ++ g))))
+    ∙ append_assoc (codes "line ") a (b ++ (c ++ (d ++ (e ++ (f ++ g)))))
 
 abbrev first_byte : List ℕ → ℕ
 first_byte [] = 0
@@ -59,10 +61,11 @@ pub refusals-no_theorems : RefusalsAreNoTheorems
 refusals-no_theorems theory line told refused =
     let text = text_of_sequent (scope_over theory) told.theorem.hypotheses told.theorem.conclusion in
     let number = decimal refused.number in
-    let fault = decimal (number_of refused.fault) in
-    let rest = number ++ (codes ": E" ++ (fault ++ (codes " " ++ (name_of refused.fault ++ codes "\n")))) in
+    let fault = decimal (number_of refused.refusal.fault) in
+    let row = row_text (scope_over theory) refused.refusal.row in
+    let rest = number ++ (codes ": E" ++ (fault ++ (codes " " ++ (name_of refused.refusal.fault ++ (row ++ codes "\n"))))) in
     let one : line ≡ told.name ++ 58 ∷ (32 ∷ (text ++ codes "\n")) = told.spelled ∙ theorem-begins told.name text in
-    let two : line ≡ codes "line " ++ rest = refused.spelled ∙ refusal-begins number (codes ": E") fault (codes " ") (name_of refused.fault) (codes "\n") in
+    let two : line ≡ codes "line " ++ rest = refused.spelled ∙ refusal-begins number (codes ": E") fault (codes " ") (name_of refused.refusal.fault) row (codes "\n") in
     let same : 58 ∷ (32 ∷ (text ++ codes "\n")) ≡ behind_name (codes "line " ++ rest) =
     sym (behind-identifier told.name (32 ∷ (text ++ codes "\n")) told.named) ∙ ap behind_name (sym one ∙ two) in
     differ same

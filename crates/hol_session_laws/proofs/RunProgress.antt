@@ -33,17 +33,18 @@ map-adds : {A B : Type 0} (f : A → B) (xs ys : List A) → map f (xs ++ ys) �
 map-adds f [] ys = refl
 map-adds f (x ∷ xs) ys = ap (λ l. f x ∷ l) (map-adds f xs ys)
 
+last-adds : (state : State) (turns : List Turn) (turn : Turn) → last_state state (turns ++ turn ∷ []) ≡ turn.after
+last-adds state [] turn = refl
+last-adds state (first ∷ turns) turn = last-adds first.after turns turn
+
 pub turns-add : TurnsAdd
 turns-add = record {
   text = text-adds;
   counts = counts-add;
   theorems = theorems-add;
   claims = λ turns more. ap (map claim_of) (theorems-add turns more) ∙ map-adds claim_of (theorems_in_turns turns) (theorems_in_turns more);
+  last = last-adds;
 }
-
-last-adds : (state : State) (turns : List Turn) (turn : Turn) → last_state state (turns ++ turn ∷ []) ≡ turn.after
-last-adds state [] turn = refl
-last-adds state (first ∷ turns) turn = last-adds first.after turns turn
 
 -- ---- the run
 

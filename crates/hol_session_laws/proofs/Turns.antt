@@ -2,7 +2,7 @@
 use Rattle.std.proofs.Common.{◌≡◌, ℕ, List, [], ◌∷◌, Bool, true, false, inl, inr, refl, sym, subst, ap, ◌∙◌, Option, None, Some, Result, Ok, Err}
 use Rattle.std.specs.Prelude.{not, is_some, IfSome}
 use Rattle.hol_model.specs.declared.fault.Fault.{Fault}
-use Rattle.hol_model.specs.declared.fault.Fault.TheVariants.{Memory, BadName, NameTaken, NoGoal, UnknownName}
+use Rattle.hol_model.specs.declared.fault.Fault.TheVariants.{BadName, NameTaken, NoGoal, UnknownName}
 use Rattle.hol_model.specs.Logic.Theory.{Theory, IsLegal, IsEarlier}
 use Rattle.hol_model.specs.Logic.Derivable.{IsMember}
 use Rattle.hol_model.specs.Kernel.Outcome.{given}
@@ -21,16 +21,27 @@ use Rattle.hol_model.specs.Scripts.Answers.{Is, Unless, Then, goes_on, stops}
 use Rattle.hol_model.specs.Goals.GoalStates.{Proof, open_goals, set_outcome, back_outcome, rotate_outcome, top_outcome}
 use Rattle.hol_model.specs.Scripts.Replies.{goal_lines, refusal_of, NamedTheorem, theorem_in, goals_in}
 use Rattle.hol_model.specs.Scripts.ScriptSessions.{State, scope_in, with_library, with_goal, Tools, Accepted, Outcome, Plainly, state_after, says_nothing, says_theorem, stores, says_goals, var_outcome, newtype_outcome, newconst_accepted, def_accepted, show_outcome, goal_outcome, p_outcome, save_outcome, with_lemmas, IsTheoremAnswer, NamesTheorem, IsExpansion, IsRefined, May, Allows, finds_no_memory, is_unfinished, is_no_command, is_refused, is_done, Turn, Takes, Session, last_state, AreShown, IsProved, IsFinished}
-use Rattle.hol_session_laws.specs.SessionLaws.{all_without_memory, IsTold}
+use Rattle.hol_session_laws.specs.SessionLaws.{fault_left, all_without_memory, IsTold}
 use Rattle.hol_session_laws.proofs.Growth.{GrowsLegally, stays, grows_twice, type-grows, const-grows, definition-grows, followed}
 use Rattle.hol_session_laws.proofs.ReadTerms.{read-typed}
 
 -- ---- no memory
 
+refused-left : (tools : Tools) (state : State) (text : Option (List ℕ)) → Allows tools state text (Err (refusal_of (fault_left text)))
+refused-left tools state None = is_unfinished
+refused-left tools state (Some text) = finds_no_memory
+
 pub may-lack-memory : (tools : Tools) (state : State) (requests : List Request) → Session tools state requests (all_without_memory state requests)
 may-lack-memory tools state [] = tt
-may-lack-memory tools state (request ∷ requests) =
-    (record { outcome = Err (refusal_of Memory); is_turn = refl; allowed = finds_no_memory; is_true = record { theorem = tt; goals = tt; row = tt } }, may-lack-memory tools state requests)
+may-lack-memory tools state (request ∷ requests) = (
+  record {
+    outcome = Err (refusal_of (fault_left request.text));
+    is_turn = refl;
+    allowed = refused-left tools state request.text;
+    is_true = record { theorem = tt; goals = tt; row = tt };
+  },
+  may-lack-memory tools state requests,
+)
 
 -- ---- what a command makes of the theory
 
@@ -165,8 +176,8 @@ outcome-grows : (tools : Tools) (state : State) (text : Option (List ℕ)) (outc
 outcome-grows tools state text outcome finds_no_memory = stays state.library.theory state.library.theory refl
 outcome-grows tools state text outcome is_unfinished = stays state.library.theory state.library.theory refl
 outcome-grows tools state text outcome (is_no_command none) = stays state.library.theory state.library.theory refl
-outcome-grows tools state text outcome (is_refused tree spelled may) = stays state.library.theory state.library.theory refl
-outcome-grows tools state text outcome (is_done {accepted} tree spelled may) = command-grows tools state tree accepted may
+outcome-grows tools state text outcome (is_refused tree served spelled may) = stays state.library.theory state.library.theory refl
+outcome-grows tools state text outcome (is_done {accepted} tree served spelled may) = command-grows tools state tree accepted may
 
 pub turn-grows : (tools : Tools) (state : State) (request : Request) (turn : Turn) → Takes tools state request turn → TheoryGrows state turn.after
 turn-grows tools state request turn takes =

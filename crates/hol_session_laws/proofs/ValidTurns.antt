@@ -64,7 +64,7 @@ later_library old new told keeps same = record {
   lemmas = λ k. subst (λ (l : List Theorem). AnswersAsStrong (slice_get (map sequent_of_theorem l) k) (slice_get (map sequent_of_theorem old.lemmas) k)) (sym same) (self (slice_get (map sequent_of_theorem old.lemmas) k));
 }
 
-if_any-stays : (earlier now : Theory) (old new : Store) → IsEarlier earlier now → IsLegal now → IsLaterStore (sequents_in old) (sequents_in new) → (found : Option Proof) → IsValidIfAny earlier old found → IsValidIfAny now new found
+pub if_any-stays : (earlier now : Theory) (old new : Store) → IsEarlier earlier now → IsLegal now → IsLaterStore (sequents_in old) (sequents_in new) → (found : Option Proof) → IsValidIfAny earlier old found → IsValidIfAny now new found
 if_any-stays earlier now old new is_earlier legal stored None valid = tt
 if_any-stays earlier now old new is_earlier legal stored (Some proof) valid = proofs-stay earlier now old new is_earlier legal stored proof valid
 
@@ -249,8 +249,8 @@ outcome-valid : (tools : Tools) (state : State) (text : Option (List ℕ)) (outc
 outcome-valid tools state text outcome legal told sound valid keeps is_earlier now_legal finds_no_memory = valid
 outcome-valid tools state text outcome legal told sound valid keeps is_earlier now_legal is_unfinished = valid
 outcome-valid tools state text outcome legal told sound valid keeps is_earlier now_legal (is_no_command none) = valid
-outcome-valid tools state text outcome legal told sound valid keeps is_earlier now_legal (is_refused tree spelled may) = valid
-outcome-valid tools state text outcome legal told sound valid keeps is_earlier now_legal (is_done {accepted} tree spelled may) =
+outcome-valid tools state text outcome legal told sound valid keeps is_earlier now_legal (is_refused tree served spelled may) = valid
+outcome-valid tools state text outcome legal told sound valid keeps is_earlier now_legal (is_done {accepted} tree served spelled may) =
     elim (command-fares tools state legal sound valid tree accepted may) [
       | inl kept ↦ fared tools state accepted.after told valid keeps is_earlier now_legal kept.proof kept.lemmas
       | inr good ↦ good

@@ -1,9 +1,15 @@
 -- Laws on the lines of a script's output.
-use Rattle.std.specs.Prelude.{◌≡◌, ℕ, List, []}
+use Rattle.std.specs.Prelude.{◌≡◌, ℕ, true, List, []}
+use Rattle.hol_model.specs.Terms.NamedTerm.{NamedTerm}
 use Rattle.hol_model.specs.Terms.Nameless.{image}
 use Rattle.hol_model.specs.Logic.Theory.{Theory, IsEarlier}
 use Rattle.hol_model.specs.Logic.Logic.{logical_definitions, false_term}
-use Rattle.hol_model.specs.Scripts.Headline.{IsTheoremLine, IsRefusalLine}
+use Rattle.hol_model.specs.Texts.Reading.{Scope}
+use Rattle.hol_model.specs.Texts.Texts.{text_of_sequent}
+use Rattle.hol_model.specs.Texts.SequentTexts.{IsReadableFormula, AreReadableFormulas, SequentsReadBack}
+use Rattle.hol_model.specs.Scripts.ScriptSessions.{Tools, Turn, text_of_turns}
+use Rattle.hol_model.specs.Scripts.Runs.{IsRun}
+use Rattle.hol_model.specs.Scripts.Headline.{is_one_line, IsTheoremLine, IsRefusalLine, AreTold, text_of_lines}
 
 -- no line tells falsity without hypotheses, whatever the script added to the logical definitions
 abbrev pub NoLineIsFalsity : Type 0
@@ -12,4 +18,35 @@ NoLineIsFalsity = (theory : Theory) (line : List ℕ) → IsEarlier logical_defi
 
 -- a line that tells a refusal is no theorem's
 abbrev pub RefusalsAreNoTheorems : Type 0
-RefusalsAreNoTheorems = (theory : Theory) (line : List ℕ) → IsTheoremLine theory line → IsRefusalLine line → ⊥
+RefusalsAreNoTheorems = (theory : Theory) (line : List ℕ) → IsTheoremLine theory line → IsRefusalLine theory line → ⊥
+
+-- ---- runs are told in lines
+
+-- the text of a sequent that can be read back is one line
+abbrev pub SequentsAreLines : Type 0
+SequentsAreLines =
+    (scope : Scope) (hypotheses : List NamedTerm) (conclusion : NamedTerm) → AreReadableFormulas scope hypotheses → IsReadableFormula scope conclusion
+    → is_one_line (text_of_sequent scope hypotheses conclusion) ≡ true
+
+-- the text of a sequent does not depend on the declared variables
+abbrev pub SequentsIgnoreVariables : Type 0
+SequentsIgnoreVariables =
+    (scope other : Scope) → scope.generic_type ≡ other.generic_type → (hypotheses : List NamedTerm) (conclusion : NamedTerm)
+    → text_of_sequent scope hypotheses conclusion ≡ text_of_sequent other hypotheses conclusion
+
+-- what is known of the texts of sequents
+pub record SequentsArePrinted : Type 0 where
+  pub read_back : SequentsReadBack
+  pub are_lines : SequentsAreLines
+  pub ignore_variables : SequentsIgnoreVariables
+
+-- The text is that of lines which the texts tell from the theory on.
+pub record IsToldFrom (theory : Theory) (texts : List (List ℕ)) (text : List ℕ) : Type 0 where
+  pub lines : List (List ℕ)
+  pub told : AreTold texts theory lines
+  pub whole : text_of_lines lines ≡ text
+
+-- What a run writes is told by the pieces of its script.
+abbrev pub RunsAreTold : Tools → Type 0
+RunsAreTold tools =
+    SequentsArePrinted → (script : List ℕ) (turns : List Turn) (is_run : IsRun tools script turns) → IsToldFrom logical_definitions is_run.pieces (text_of_turns turns)

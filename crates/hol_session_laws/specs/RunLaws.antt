@@ -1,7 +1,7 @@
 -- The statements of the laws on runs: how a run begins, goes on and ends.
 use Rattle.std.specs.Prelude.{◌≡◌, ℕ, ◌+◌, true, false, List, [], ◌∷◌, ◌++◌, Some}
 use Rattle.hol_model.specs.Scripts.Script.{has_mark, IsCut, line_feeds, leading_line_feeds, is_blank_text}
-use Rattle.hol_model.specs.Scripts.ScriptSessions.{State, start, Tools, Turn, Takes, text_of_turns, theorems_in_turns}
+use Rattle.hol_model.specs.Scripts.ScriptSessions.{State, start, Tools, Turn, Takes, last_state, text_of_turns, theorems_in_turns}
 use Rattle.hol_model.specs.Scripts.Runs.{Counts, counting, counts_after, claims_of_turns, IsRun}
 use Rattle.hol_model.specs.Scripts.Running.{SoFar, unfinished, BeginsRun}
 
@@ -44,3 +44,4 @@ pub record TurnsAdd : Type 0 where
   pub counts : (counts : Counts) (turns : List Turn) (turn : Turn) → counts_after counts (turns ++ turn ∷ []) ≡ counting (counts_after counts turns) turn.reply
   pub theorems : (turns more : List Turn) → theorems_in_turns (turns ++ more) ≡ theorems_in_turns turns ++ theorems_in_turns more
   pub claims : (turns more : List Turn) → claims_of_turns (turns ++ more) ≡ claims_of_turns turns ++ claims_of_turns more
+  pub last : (state : State) (turns : List Turn) (turn : Turn) → last_state state (turns ++ turn ∷ []) ≡ turn.after

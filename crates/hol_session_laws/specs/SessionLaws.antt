@@ -1,6 +1,7 @@
 -- The statements of the laws on sessions.
-use Rattle.std.specs.Prelude.{◌≡◌, true, List, [], ◌∷◌, Some, Err}
-use Rattle.hol_model.specs.declared.fault.Fault.TheVariants.{Memory}
+use Rattle.std.specs.Prelude.{◌≡◌, ℕ, true, List, [], ◌∷◌, Option, None, Some, Err}
+use Rattle.hol_model.specs.declared.fault.Fault.{Fault}
+use Rattle.hol_model.specs.declared.fault.Fault.TheVariants.{Memory, Syntax}
 use Rattle.hol_model.specs.Terms.Name.{is_identifier}
 use Rattle.hol_model.specs.Logic.Theory.{IsLegal, IsEarlier}
 use Rattle.hol_model.specs.Logic.Derivable.{IsMember}
@@ -12,15 +13,20 @@ use Rattle.hol_model.specs.Texts.Texts.{text_of_sequent}
 use Rattle.hol_model.specs.Scripts.Replies.{Refusal, refusal_of, NamedTheorem, theorem_in, goals_in}
 use Rattle.hol_model.specs.Scripts.ScriptSessions.{State, start, scope_in, Tools, Turn, Takes, Session, last_state, theorems_in_turns, IsProved, IsFinished}
 
--- the turn in which a request finds no memory
+-- why a text may be refused in any state: for memory, or as it is unfinished
+abbrev pub fault_left : Option (List ℕ) → Fault
+fault_left None = Syntax
+fault_left (Some text) = Memory
+
+-- the turn in which a request finds no memory; a text behind the last `;;` is refused as it is
 abbrev pub without_memory : State → Request → Turn
-without_memory state request = record { line = request.line; reply = Err (refusal_of Memory); after = state }
+without_memory state request = record { line = request.line; reply = Err (refusal_of (fault_left request.text)); after = state }
 
 abbrev pub all_without_memory : State → List Request → List Turn
 all_without_memory state [] = []
 all_without_memory state (request ∷ requests) = without_memory state request ∷ all_without_memory state requests
 
--- in each state each of the commands that are left may find no memory
+-- in each state each of the commands that are left may find no memory, and then a text behind the last `;;` is refused
 abbrev pub MayLackMemory : Tools → Type 0
 MayLackMemory tools = (state : State) (requests : List Request) → Session tools state requests (all_without_memory state requests)
 

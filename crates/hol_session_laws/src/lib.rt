@@ -12,7 +12,7 @@ ghost use Rattle.hol_session_laws.specs.Examples.{ExpressionsAreSpelled, GoalsAr
 ghost use Rattle.hol_session_laws.specs.ReadTerms.{ReadTermsAreKnown, VariablesStayKnown, ScopesAreOver};
 ghost use Rattle.hol_session_laws.specs.ValidSessions.{TurnsKeepValid, ExpansionsAreRefused};
 ghost use Rattle.hol_session_laws.specs.UniqueReadings.{QuotesAreUnambiguous, ConversionsAreUnambiguous, TacticsAreUnambiguous, PartsAreUnambiguous, CommandsAreUnambiguous};
-ghost use Rattle.hol_session_laws.specs.HeadlineLaws.{NoLineIsFalsity, RefusalsAreNoTheorems};
+ghost use Rattle.hol_session_laws.specs.HeadlineLaws.{NoLineIsFalsity, RefusalsAreNoTheorems, RunsAreTold};
 ghost use Rattle.hol_session_laws.specs.SessionLaws.{MayLackMemory, RefusalsChangeNothing, TheoriesStayLegal, TheoriesGrow, PrintedTheoremsAreProved, NoSubgoalsMeansProved, PrintedTheoremsStay};
 
 use hol_sound::consistent;
@@ -22,7 +22,7 @@ pub trait Toolbox {
     ghost tools: { Tools };
 }
 
-/// Each of the commands that are left may find no memory.
+/// Each of the commands that are left may find no memory; a text behind the last `;;` is refused as it is.
 pub fn may_lack_memory<T: Toolbox>()
     ensures { MayLackMemory T.tools }
 {}
@@ -207,4 +207,9 @@ pub fn no_line_is_falsity()
 /// A line that tells a refusal is no theorem's.
 pub fn refusals_are_no_theorems()
     ensures { RefusalsAreNoTheorems }
+{}
+
+/// What a run writes is told by the pieces of its script, in lines of theorems and of refusals.
+pub fn runs_are_told<T: Toolbox>()
+    ensures { RunsAreTold T.tools }
 {}

@@ -3,7 +3,6 @@
 use Rattle.std.specs.Prelude.{◌≡◌, ◌⊎◌, ℕ, Bool, true, not, List, [], ◌∷◌, ◌++◌, map, nat_eq, Option, None, Ok}
 use Rattle.std.specs.List.{list_all}
 use Rattle.std.specs.Io.KnownBytes.{Appends}
-use Rattle.hol_model.specs.declared.fault.Fault.{Fault}
 use Rattle.hol_model.specs.Terms.Name.{is_identifier}
 use Rattle.hol_model.specs.Terms.HolType.{HolType}
 use Rattle.hol_model.specs.Terms.NamedTerm.{NamedTerm}
@@ -23,7 +22,8 @@ use Rattle.hol_model.specs.Texts.SequentGrammar.{ReadsSequent}
 use Rattle.hol_model.specs.Texts.KnownText.{Tells}
 use Rattle.hol_model.specs.Scripts.Script.{Cuts}
 use Rattle.hol_model.specs.Scripts.Commands.{def_command, newtype_command, newconst_command, SpellsCommand}
-use Rattle.hol_model.specs.Scripts.Lines.{theorem_line, refusal_line}
+use Rattle.hol_model.specs.Scripts.Lines.{theorem_line}
+use Rattle.hol_model.specs.Scripts.Replies.{Refusal, row_text, text_of_refusal}
 
 -- what the names of a text stand for over a theory, with these declared variables
 abbrev pub scope_with : Theory → (List ℕ → Option HolType) → Scope
@@ -52,11 +52,13 @@ pub record IsTheoremLine (theory : Theory) (line : List ℕ) : Type 0 where
   pub derivable : Derivable theory (map image theorem.hypotheses) (image theorem.conclusion)
   pub holds : Holds theory (map image theorem.hypotheses) (image theorem.conclusion)
 
--- the line tells a refusal of the command in some line of the script
-pub record IsRefusalLine (line : List ℕ) : Type 0 where
+-- The line tells a refusal of the command in some line of the script; of a proposition that is no tautology, with values of
+-- its atoms that make it false.
+pub record IsRefusalLine (theory : Theory) (line : List ℕ) : Type 0 where
   pub number : ℕ
-  pub fault : Fault
-  pub spelled : line ≡ refusal_line number fault
+  pub refusal : Refusal
+  pub spelled : line ≡ text_of_refusal number (scope_over theory) refusal
+  pub one_line : is_one_line (row_text (scope_over theory) refusal.row) ≡ true
 
 -- The text is a command that defines the constant by this body: what the command's term is read as over the theory, where
 -- some variables are declared.
@@ -97,7 +99,7 @@ pub record IsGrownBy (texts : List (List ℕ)) (earlier later : Theory) : Type 0
 -- of the texts alone.
 abbrev pub AreTold : List (List ℕ) → Theory → List (List ℕ) → Type 0
 AreTold texts theory [] = Unit {0}
-AreTold texts theory (line ∷ lines) = (now : Theory) × IsGrownBy texts theory now × (IsTheoremLine now line ⊎ IsRefusalLine line) × AreTold texts now lines
+AreTold texts theory (line ∷ lines) = (now : Theory) × IsGrownBy texts theory now × (IsTheoremLine now line ⊎ IsRefusalLine now line) × AreTold texts now lines
 
 -- the lines, one after another
 abbrev pub text_of_lines : List (List ℕ) → List ℕ
