@@ -29,7 +29,10 @@ use Rattle.hol_model.specs.Texts.Lexing.{Lexes, IsToken, IsIdentifier, Every, is
 use Rattle.hol_model.specs.Texts.TypeGrammar.{TypeTree, Named, Enclosed, Function, type_tokens}
 use Rattle.hol_model.specs.Texts.TermGrammar.{Bare, Variable, Constant, TermTree, Leaf, Apply, Not, Join, Bind, IsConstantName, IsTermTree, Infix, IffInfix, ImpliesInfix, OrInfix, AndInfix, EqualInfix, Binder, Lambda, ForAll, Exists, Choice, Lexeme, InfixPiece, BinderPiece, pieces, all_tokens, IsReadTerm}
 use Rattle.hol_model.specs.Texts.TermGrammar.{Enclosed as EnclosedTerm}
-use Rattle.hol_model.specs.Scripts.Commands.{DerivedTree, by_conversion, by_premise, by_premises, by_term_and_premise, by_cases, by_witness, by_choice, derived_kind_of, derived_word, derived_tokens, IsDerivedTree, CommandTree, thm_command, show_command, var_command, def_command, newtype_command, newconst_command, kind_of, rule_word, quoted, quote_tokens, argument_tokens, rule_tokens, command_tokens, IsQuotable, IsCommandTree}
+use Rattle.hol_model.specs.Scripts.Commands.{DerivedTree, by_conversion, by_premise, by_premises, by_term_and_premise, by_cases, by_witness, by_choice, derived_kind_of, derived_word, derived_tokens, IsDerivedTree, kind_of, rule_word, quoted, quote_tokens, argument_tokens, rule_tokens, IsQuotable, IsRuleTree, RuleTree}
+use Rattle.hol_model.specs.Scripts.CommandGrammar.{TheoremTree, by_rule, by_tautology, by_conversion as converting, theorem_tokens, IsTheoremTree, CommandTree, command_tokens, IsCommandTree, IsReadCommand}
+use Rattle.hol_model.specs.Scripts.CommandGrammar.{var_command, newtype_command, newconst_command, def_command, thm_command, show_command, goal_command, e_command, b_command, p_command, r_command, save_command}
+use Rattle.hol_model.specs.Scripts.ScriptSessions.{is_served_theorem, is_served}
 use Rattle.hol_model.proofs.Tests.{both}
 use Rattle.hol_grammar.specs.declared.token.Token.{Token as TokenHere}
 use Rattle.hol_grammar.specs.declared.token.Token.TheVariants.{Name as NameHere}
@@ -37,10 +40,13 @@ use Rattle.hol_grammar.specs.Views.{token_of, tokens_of}
 use Rattle.hol_grammar.specs.declared.type_reader.ReadError.{ReadError}
 use Rattle.hol_grammar.specs.declared.type_reader.ReadError.TheVariants.{Memory, Syntax}
 use Rattle.hol_grammar.specs.declared.type_reader.TypeStep.{TypeStep}
+use Rattle.hol_grammar.specs.declared.steps.TermStep.{TermStep}
 use Rattle.hol_grammar.specs.TermStates.{Parses}
 use Rattle.hol_grammar.specs.TypeStates.{ParsesType}
-use Rattle.hol_command.specs.Reading.{AreTokens, is_quote, HasNoQuote, premise_rule_of, premises_rule_of, term_premise_rule_of, single_rule_of, derived_kind_of_word, term_rule_of, pair_rule_of, kernel_rule_of, rule_kind_of, kind_of_command, command_word, command_kind_of, name_in_command, body_tokens, ParsesQuote, ParsesOnlyQuote, ParsesQuoteAndName, ParsesTyping, ParsesDerived, ParsesArguments, ParsesRule, ParsesBody, ParsesCommand}
+use Rattle.hol_command.specs.Reading.{AreTokens, is_quote, HasNoQuote, premise_rule_of, premises_rule_of, term_premise_rule_of, single_rule_of, derived_kind_of_word, term_rule_of, pair_rule_of, kernel_rule_of, rule_kind_of, kind_of_command, command_word, command_kind_of, name_in_command, body_tokens, ParsesQuote, ParsesOnlyQuote, ParsesQuoteAndName, ParsesTyping, ParsesDerived, ParsesArguments, ParsesRule, ParsesAsked, IsBody, ParsesBody, ParsesCommand}
 use Rattle.hol_command.specs.declared.command.Rule.{Rule}
+use Rattle.hol_command.specs.declared.command.Asked.{Asked}
+use Rattle.hol_command.specs.declared.command.Asked.TheVariants.{Rule as AsksRule, Tautology}
 use Rattle.hol_command.specs.declared.command.Command.{Command}
 use Rattle.hol_command.specs.declared.command.CommandKind.{CommandKind}
 use Rattle.hol_command.specs.declared.command.CommandKind.TheVariants.{Thm, Show, Var, Def, NewType, NewConst}
@@ -449,30 +455,72 @@ kind-command word kind found =
     chosen command_word word (codes "newtype") NewType kind _ refl found (λ found.
     chosen command_word word (codes "newconst") NewConst kind None refl found (λ found. cc))))))
 
--- a command is its word, its name and what follows them
-pub command-parts : (tree : CommandTree) → command_tokens tree ≡ Name (command_word (kind_of_command tree)) ∷ Name (name_in_command tree) ∷ body_tokens tree
-command-parts (thm_command name rule) = refl
-command-parts (show_command name) = refl
-command-parts (var_command name tree) = refl
-command-parts (def_command name tree) = refl
-command-parts (newtype_command name) = refl
-command-parts (newconst_command name tree) = refl
+same_kind : {A : Type 0} {x y : A} → Some x ≡ Some y → x ≡ y
+same_kind is = cc
+
+-- a command that is carried out is its word, its name and what follows them
+pub command-parts : (tree : CommandTree) (kind : CommandKind) → kind_of_command tree ≡ Some kind
+    → command_tokens tree ≡ Name (command_word kind) ∷ Name (name_in_command tree) ∷ body_tokens tree
+command-parts (thm_command name theorem) kind is = ap (λ (k : CommandKind). Name (command_word k) ∷ Name name ∷ Mark Equal ∷ theorem_tokens theorem) (same_kind is)
+command-parts (show_command name) kind is = ap (λ (k : CommandKind). Name (command_word k) ∷ Name name ∷ []) (same_kind is)
+command-parts (var_command name tree) kind is = ap (λ (k : CommandKind). Name (command_word k) ∷ Name name ∷ Mark Colon ∷ type_tokens tree []) (same_kind is)
+command-parts (def_command name tree) kind is = ap (λ (k : CommandKind). Name (command_word k) ∷ Name name ∷ Mark Equal ∷ quote_tokens tree []) (same_kind is)
+command-parts (newtype_command name) kind is = ap (λ (k : CommandKind). Name (command_word k) ∷ Name name ∷ []) (same_kind is)
+command-parts (newconst_command name tree) kind is = ap (λ (k : CommandKind). Name (command_word k) ∷ Name name ∷ Mark Colon ∷ type_tokens tree []) (same_kind is)
+command-parts (goal_command tree) kind is = cc
+command-parts (e_command tactic) kind is = cc
+command-parts b_command kind is = cc
+command-parts p_command kind is = cc
+command-parts (r_command digits) kind is = cc
+command-parts (save_command name) kind is = cc
+
+-- and it has a kind
+served-kind : (tree : CommandTree) → is_served tree ≡ true → (kind : CommandKind) × (kind_of_command tree ≡ Some kind)
+served-kind (thm_command name theorem) served = (Thm, refl)
+served-kind (show_command name) served = (Show, refl)
+served-kind (var_command name tree) served = (Var, refl)
+served-kind (def_command name tree) served = (Def, refl)
+served-kind (newtype_command name) served = (NewType, refl)
+served-kind (newconst_command name tree) served = (NewConst, refl)
+served-kind (goal_command tree) served = cc
+served-kind (e_command tactic) served = cc
+served-kind b_command served = cc
+served-kind p_command served = cc
+served-kind (r_command digits) served = cc
+served-kind (save_command name) served = cc
+
+-- so no command that is carried out has other tokens in front
+pub no-command : (tokens : List Token) → ((word name : List ℕ) (rest : List Token) → tokens ≢ Name word ∷ Name name ∷ rest) → ParsesCommand (Err Syntax) tokens
+no-command tokens none = λ tree served read.
+    let known = served-kind tree served in
+    none (command_word known.0) (name_in_command tree) (body_tokens tree) (read.spelled ∙ command-parts tree known.0 known.1)
+
+pub unknown-command : (tokens rest body : List Token) (word name : List ℕ) → tokens ≡ Name word ∷ rest → rest ≡ Name name ∷ body → command_kind_of word ≡ None → ParsesCommand (Err Syntax) tokens
+unknown-command tokens rest body word name begins goes unknown = λ tree served read.
+    let known = served-kind tree served in
+    let both : Name word ∷ rest ≡ Name (command_word known.0) ∷ Name (name_in_command tree) ∷ body_tokens tree = sym begins ∙ read.spelled ∙ command-parts tree known.0 known.1 in
+    let spelled : word ≡ command_word known.0 = cc in
+    let found : Some known.0 ≡ None = sym (command-kind known.0) ∙ ap command_kind_of (sym spelled) ∙ unknown in
+    cc
 
 pub command-parsed : (result : Result Command ReadError) (kind : CommandKind) (tokens rest body : List Token) (word name : List ℕ) → tokens ≡ Name word ∷ rest → rest ≡ Name name ∷ body
     → command_kind_of word ≡ Some kind → ParsesBody result kind name body → ParsesCommand result tokens
-command-parsed (Ok command) kind tokens rest body word name begins goes known (tree, grammatical, same_kind, same_name, same_body, is_command) =
-    let spelled : word ≡ command_word (kind_of_command tree) = kind-command word kind known ∙ ap command_word (sym same_kind) in
-    let parts = command-parts tree in
-    (tree, record { grammatical = grammatical; spelled = begins ∙ (λ i. Name (spelled i) ∷ goes i) ∙ (λ i. Name (command_word (kind_of_command tree)) ∷ Name (sym same_name i) ∷ same_body i) ∙ sym parts }, is_command)
+command-parsed (Ok command) kind tokens rest body word name begins goes known (tree, is_body, is_command) =
+    let spelled : word ≡ command_word kind = kind-command word kind known in
+    let parts = command-parts tree kind is_body.kind_is in
+    let whole : tokens ≡ command_tokens tree =
+    begins ∙ (λ i. Name (spelled i) ∷ goes i) ∙ (λ i. Name (command_word kind) ∷ Name (sym is_body.name_is i) ∷ is_body.spelled i) ∙ sym parts in
+    (tree, is_body.served, record { grammatical = is_body.grammatical; spelled = whole }, is_command)
 command-parsed (Err Memory) kind tokens rest body word name begins goes known parsed = tt
-command-parsed (Err Syntax) kind tokens rest body word name begins goes known refused = λ tree read.
-    let both : Name word ∷ Name name ∷ body ≡ Name (command_word (kind_of_command tree)) ∷ Name (name_in_command tree) ∷ body_tokens tree =
-    (λ i. Name word ∷ sym goes i) ∙ sym begins ∙ read.spelled ∙ command-parts tree in
-    let spelled : word ≡ command_word (kind_of_command tree) = cc in
+command-parsed (Err Syntax) kind tokens rest body word name begins goes known refused = λ tree served read.
+    let other = served-kind tree served in
+    let both : Name word ∷ Name name ∷ body ≡ Name (command_word other.0) ∷ Name (name_in_command tree) ∷ body_tokens tree =
+    (λ i. Name word ∷ sym goes i) ∙ sym begins ∙ read.spelled ∙ command-parts tree other.0 other.1 in
+    let spelled : word ≡ command_word other.0 = cc in
+    let named : name ≡ name_in_command tree = cc in
     let further : body ≡ body_tokens tree = cc in
-    let found : Some (kind_of_command tree) ≡ Some kind = sym (command-kind (kind_of_command tree)) ∙ ap command_kind_of (sym spelled) ∙ known in
-    let same_kind : kind_of_command tree ≡ kind = cc in
-    refused tree read.grammatical same_kind further
+    let found : Some other.0 ≡ Some kind = sym (command-kind other.0) ∙ ap command_kind_of (sym spelled) ∙ known in
+    refused tree (record { served = served; grammatical = read.grammatical; kind_is = other.1 ∙ found; name_is = sym named; spelled = further })
 
 -- ---- bodies of commands
 
@@ -484,65 +532,123 @@ typing-parsed (Err Syntax) tokens rest begins refused = λ tree within same.
     let further : rest ≡ type_tokens tree [] = cc in
     refused tree (record { grammatical = within.0; depth = within.1; spelled = further })
 
+-- what a command of a kind is
+abbrev IsOfKind : CommandKind → CommandTree → Type 0
+IsOfKind Thm tree = (name : List ℕ) × (theorem : TheoremTree) × (tree ≡ thm_command name theorem)
+IsOfKind Show tree = (name : List ℕ) × (tree ≡ show_command name)
+IsOfKind Var tree = (name : List ℕ) × (ty : TypeTree) × (tree ≡ var_command name ty)
+IsOfKind Def tree = (name : List ℕ) × (term : TermTree) × (tree ≡ def_command name term)
+IsOfKind NewType tree = (name : List ℕ) × (tree ≡ newtype_command name)
+IsOfKind NewConst tree = (name : List ℕ) × (ty : TypeTree) × (tree ≡ newconst_command name ty)
+
+of-kind : (kind : CommandKind) (tree : CommandTree) → kind_of_command tree ≡ Some kind → IsOfKind kind tree
+of-kind kind (thm_command name theorem) is = subst (λ (k : CommandKind). IsOfKind k (thm_command name theorem)) (same_kind is) (name, theorem, refl)
+of-kind kind (show_command name) is = subst (λ (k : CommandKind). IsOfKind k (show_command name)) (same_kind is) (name, refl)
+of-kind kind (var_command name tree) is = subst (λ (k : CommandKind). IsOfKind k (var_command name tree)) (same_kind is) (name, tree, refl)
+of-kind kind (def_command name tree) is = subst (λ (k : CommandKind). IsOfKind k (def_command name tree)) (same_kind is) (name, tree, refl)
+of-kind kind (newtype_command name) is = subst (λ (k : CommandKind). IsOfKind k (newtype_command name)) (same_kind is) (name, refl)
+of-kind kind (newconst_command name tree) is = subst (λ (k : CommandKind). IsOfKind k (newconst_command name tree)) (same_kind is) (name, tree, refl)
+of-kind kind (goal_command tree) is = cc
+of-kind kind (e_command tactic) is = cc
+of-kind kind b_command is = cc
+of-kind kind p_command is = cc
+of-kind kind (r_command digits) is = cc
+of-kind kind (save_command name) is = cc
+
+-- a command without a body
+pub show-bodiless : (name : List ℕ) (tokens : List Token) → tokens ≢ [] → ParsesBody (Err Syntax) Show name tokens
+show-bodiless name tokens some = λ tree body. (let (other, is) = of-kind Show tree body.kind_is in some (body.spelled ∙ ap body_tokens is))
+
+pub newtype-bodiless : (name : List ℕ) (tokens : List Token) → tokens ≢ [] → ParsesBody (Err Syntax) NewType name tokens
+newtype-bodiless name tokens some = λ tree body. (let (other, is) = of-kind NewType tree body.kind_is in some (body.spelled ∙ ap body_tokens is))
+
 -- a refusal of the type is one of the command
 pub var-refused : (error : ReadError) (name : List ℕ) (tokens : List Token) → ParsesTyping (Err error) tokens → ParsesBody (Err error) Var name tokens
 var-refused Memory name tokens refused = tt
-var-refused Syntax name tokens refused = go
-  where
-    go : (tree : CommandTree) → IsCommandTree tree → kind_of_command tree ≡ Var → tokens ≢ body_tokens tree
-    go (var_command other tree) grammatical kind same = refused tree grammatical same
-    go (thm_command other rule) grammatical kind same = cc
-    go (show_command other) grammatical kind same = cc
-    go (def_command other tree) grammatical kind same = cc
-    go (newtype_command other) grammatical kind same = cc
-    go (newconst_command other tree) grammatical kind same = cc
+var-refused Syntax name tokens refused = λ tree body.
+    let (other, ty, is) = of-kind Var tree body.kind_is in
+    refused ty (subst IsCommandTree is body.grammatical) (body.spelled ∙ ap body_tokens is)
 
 pub newconst-refused : (error : ReadError) (name : List ℕ) (tokens : List Token) → ParsesTyping (Err error) tokens → ParsesBody (Err error) NewConst name tokens
 newconst-refused Memory name tokens refused = tt
-newconst-refused Syntax name tokens refused = go
-  where
-    go : (tree : CommandTree) → IsCommandTree tree → kind_of_command tree ≡ NewConst → tokens ≢ body_tokens tree
-    go (newconst_command other tree) grammatical kind same = refused tree grammatical same
-    go (thm_command other rule) grammatical kind same = cc
-    go (show_command other) grammatical kind same = cc
-    go (def_command other tree) grammatical kind same = cc
-    go (newtype_command other) grammatical kind same = cc
-    go (var_command other tree) grammatical kind same = cc
+newconst-refused Syntax name tokens refused = λ tree body.
+    let (other, ty, is) = of-kind NewConst tree body.kind_is in
+    refused ty (subst IsCommandTree is body.grammatical) (body.spelled ∙ ap body_tokens is)
 
 -- what stands behind the equals sign of `thm` and `def`
-pub thm-refused : (error : ReadError) (name : List ℕ) (tokens rest : List Token) → tokens ≡ Mark Equal ∷ rest → ParsesRule (Err error) rest → ParsesBody (Err error) Thm name tokens
-thm-refused Memory name tokens rest begins refused = tt
-thm-refused Syntax name tokens rest begins refused = go
-  where
-    go : (tree : CommandTree) → IsCommandTree tree → kind_of_command tree ≡ Thm → tokens ≢ body_tokens tree
-    go (thm_command other rule) grammatical kind same =
-        let both : Mark Equal ∷ rest ≡ Mark Equal ∷ rule_tokens rule = sym begins ∙ same in
-        let further : rest ≡ rule_tokens rule = cc in
-        refused rule grammatical further
-    go (show_command other) grammatical kind same = cc
-    go (var_command other tree) grammatical kind same = cc
-    go (def_command other tree) grammatical kind same = cc
-    go (newtype_command other) grammatical kind same = cc
-    go (newconst_command other tree) grammatical kind same = cc
+pub thm-unequal : (name : List ℕ) (tokens : List Token) → ((rest : List Token) → tokens ≢ Mark Equal ∷ rest) → ParsesBody (Err Syntax) Thm name tokens
+thm-unequal name tokens none = λ tree body. (let (other, theorem, is) = of-kind Thm tree body.kind_is in none (theorem_tokens theorem) (body.spelled ∙ ap body_tokens is))
 
--- no quoted term alone stands behind it
-pub def-unquoted : (name : List ℕ) (tokens rest : List Token) → tokens ≡ Mark Equal ∷ rest → ((tree : TermTree) → IsQuotable tree → rest ≢ quote_tokens tree []) → ParsesBody (Err Syntax) Def name tokens
-def-unquoted name tokens rest begins none = go
-  where
-    go : (tree : CommandTree) → IsCommandTree tree → kind_of_command tree ≡ Def → tokens ≢ body_tokens tree
-    go (def_command other tree) grammatical kind same =
-        let both : Mark Equal ∷ rest ≡ Mark Equal ∷ quote_tokens tree [] = sym begins ∙ same in
-        let further : rest ≡ quote_tokens tree [] = cc in
-        none tree grammatical further
-    go (thm_command other rule) grammatical kind same = cc
-    go (show_command other) grammatical kind same = cc
-    go (var_command other tree) grammatical kind same = cc
-    go (newtype_command other) grammatical kind same = cc
-    go (newconst_command other tree) grammatical kind same = cc
+pub def-unequal : (name : List ℕ) (tokens : List Token) → ((rest : List Token) → tokens ≢ Mark Equal ∷ rest) → ParsesBody (Err Syntax) Def name tokens
+def-unequal name tokens none = λ tree body. (let (other, term, is) = of-kind Def tree body.kind_is in none (quote_tokens term []) (body.spelled ∙ ap body_tokens is))
+
+pub thm-refused : (error : ReadError) (name : List ℕ) (tokens rest : List Token) → tokens ≡ Mark Equal ∷ rest → ParsesAsked (Err error) rest → ParsesBody (Err error) Thm name tokens
+thm-refused Memory name tokens rest begins refused = tt
+thm-refused Syntax name tokens rest begins refused = λ tree body.
+    let (other, theorem, is) = of-kind Thm tree body.kind_is in
+    let both : Mark Equal ∷ rest ≡ Mark Equal ∷ theorem_tokens theorem = sym begins ∙ body.spelled ∙ ap body_tokens is in
+    let further : rest ≡ theorem_tokens theorem = cc in
+    refused theorem (sym (ap is_served is) ∙ body.served) (subst IsCommandTree is body.grammatical) further
 
 pub def-refused : (error : ReadError) (name : List ℕ) (tokens rest : List Token) → tokens ≡ Mark Equal ∷ rest → ParsesOnlyQuote (Err error) rest → ParsesBody (Err error) Def name tokens
 def-refused Memory name tokens rest begins refused = tt
-def-refused Syntax name tokens rest begins refused = def-unquoted name tokens rest begins refused
+def-refused Syntax name tokens rest begins refused = λ tree body.
+    let (other, term, is) = of-kind Def tree body.kind_is in
+    let both : Mark Equal ∷ rest ≡ Mark Equal ∷ quote_tokens term [] = sym begins ∙ body.spelled ∙ ap body_tokens is in
+    let further : rest ≡ quote_tokens term [] = cc in
+    refused term (subst IsCommandTree is body.grammatical) further
+
+-- ---- what `thm` asks for
+
+-- no rule has the word TAUT
+taut-no_rule : (kind : RuleKind) → codes "TAUT" ≡ rule_word kind → ⊥
+taut-no_rule kind same = (let found : Some kind ≡ None = sym (word-kind kind) ∙ ap rule_kind_of (sym same) in cc)
+
+pub taut-parsed : (steps : Vec TermStep Global) (tokens arguments : List Token) (word : List ℕ) → tokens ≡ Name word ∷ arguments → word ≡ codes "TAUT" → ParsesOnlyQuote (Ok steps) arguments
+    → ParsesAsked (Ok (Tautology steps)) tokens
+taut-parsed steps tokens arguments word begins named (tree, quotable, spelled, are_steps) =
+    (by_tautology tree, refl, quotable, begins ∙ (λ i. Name (named i) ∷ spelled i), are_steps)
+
+pub taut-refused : (error : ReadError) (tokens arguments : List Token) (word : List ℕ) → tokens ≡ Name word ∷ arguments → word ≡ codes "TAUT" → ParsesOnlyQuote (Err error) arguments
+    → ParsesAsked (Err error) tokens
+taut-refused Memory tokens arguments word begins named refused = tt
+taut-refused Syntax tokens arguments word begins named refused = go
+  where
+    go : (tree : TheoremTree) → is_served_theorem tree ≡ true → IsTheoremTree tree → tokens ≢ theorem_tokens tree
+    go (by_rule rule) served grammatical same =
+        let both : Name word ∷ arguments ≡ Name (rule_word (kind_of rule)) ∷ argument_tokens rule = sym begins ∙ same in
+        let spelled : word ≡ rule_word (kind_of rule) = cc in
+        taut-no_rule (kind_of rule) (sym named ∙ spelled)
+    go (by_tautology tree) served grammatical same =
+        let both : Name word ∷ arguments ≡ Name (codes "TAUT") ∷ quote_tokens tree [] = sym begins ∙ same in
+        let further : arguments ≡ quote_tokens tree [] = cc in
+        refused tree grammatical further
+    go (converting conversion tree) served grammatical same = cc
+
+pub rule-asked : (rule : Rule) (tokens : List Token) → ParsesRule (Ok rule) tokens → ParsesAsked (Ok (AsksRule rule)) tokens
+rule-asked rule tokens (tree, grammatical, spelled, is_rule) = (by_rule tree, refl, grammatical, spelled, is_rule)
+
+pub rule-refused : (error : ReadError) (tokens arguments : List Token) (word : List ℕ) → tokens ≡ Name word ∷ arguments → word ≢ codes "TAUT" → ParsesRule (Err error) tokens
+    → ParsesAsked (Err error) tokens
+rule-refused Memory tokens arguments word begins other refused = tt
+rule-refused Syntax tokens arguments word begins other refused = go
+  where
+    go : (tree : TheoremTree) → is_served_theorem tree ≡ true → IsTheoremTree tree → tokens ≢ theorem_tokens tree
+    go (by_rule rule) served grammatical same = refused rule grammatical same
+    go (by_tautology tree) served grammatical same =
+        let both : Name word ∷ arguments ≡ Name (codes "TAUT") ∷ quote_tokens tree [] = sym begins ∙ same in
+        let spelled : word ≡ codes "TAUT" = cc in
+        other spelled
+    go (converting conversion tree) served grammatical same = cc
+
+-- what begins with no name asks for nothing
+pub unnamed-asked : (tokens : List Token) → ((word : List ℕ) (rest : List Token) → tokens ≢ Name word ∷ rest) → ParsesAsked (Err Syntax) tokens
+unnamed-asked tokens none = go
+  where
+    go : (tree : TheoremTree) → is_served_theorem tree ≡ true → IsTheoremTree tree → tokens ≢ theorem_tokens tree
+    go (by_rule rule) served grammatical same = none (rule_word (kind_of rule)) (argument_tokens rule) same
+    go (by_tautology tree) served grammatical same = none (codes "TAUT") (quote_tokens tree []) same
+    go (converting conversion tree) served grammatical same = cc
 
 -- what follows a mark
 pub behind-mark : (symbol : Symbol) (tokens rest : List Token) → tokens ≡ Mark symbol ∷ rest → AreTokens tokens → AreTokens rest

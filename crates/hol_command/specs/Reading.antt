@@ -24,7 +24,10 @@ use Rattle.hol_model.specs.Texts.Token.{Token, Name, Mark}
 use Rattle.hol_model.specs.Texts.Lexing.{IsToken}
 use Rattle.hol_model.specs.Texts.TypeGrammar.{TypeTree, type_tokens, type_steps}
 use Rattle.hol_model.specs.Texts.TermGrammar.{TermTree, IsWithin}
-use Rattle.hol_model.specs.Scripts.Commands.{DerivedTree, derived_kind_of, derived_tokens, IsDerivedTree, RuleTree, CommandTree, thm_command, show_command, var_command, def_command, newtype_command, newconst_command, kind_of, quoted, quote_tokens, argument_tokens, rule_tokens, IsQuotable, IsRuleTree, IsCommandTree, IsReadCommand}
+use Rattle.hol_model.specs.Scripts.Commands.{DerivedTree, derived_kind_of, derived_tokens, IsDerivedTree, RuleTree, kind_of, quoted, quote_tokens, argument_tokens, rule_tokens, IsQuotable, IsRuleTree}
+use Rattle.hol_model.specs.Scripts.CommandGrammar.{TheoremTree, theorem_tokens, IsTheoremTree, CommandTree, IsCommandTree, IsReadCommand}
+use Rattle.hol_model.specs.Scripts.CommandGrammar.{var_command, newtype_command, newconst_command, def_command, thm_command, show_command, goal_command, e_command, b_command, p_command, r_command, save_command}
+use Rattle.hol_model.specs.Scripts.ScriptSessions.{is_served_theorem, is_served}
 use Rattle.hol_grammar.specs.declared.token.Token.{Token as TokenHere}
 use Rattle.hol_grammar.specs.declared.type_reader.ReadError.{ReadError}
 use Rattle.hol_grammar.specs.declared.type_reader.ReadError.TheVariants.{Memory, Syntax}
@@ -35,10 +38,11 @@ use Rattle.hol_grammar.specs.Steps.{flat_steps_of}
 use Rattle.hol_grammar.specs.TermSteps.{term_steps, flat_steps}
 use Rattle.hol_command.specs.declared.derived.Derived.{Derived as OfDerived}
 use Rattle.hol_command.specs.declared.command.Rule.{Rule}
+use Rattle.hol_command.specs.declared.command.Asked.{Asked}
 use Rattle.hol_command.specs.declared.command.Command.{Command}
 use Rattle.hol_command.specs.declared.command.CommandKind.{CommandKind}
 use Rattle.hol_command.specs.declared.command.CommandKind.TheVariants.{Thm, Show, Var, Def, NewType, NewConst}
-use Rattle.hol_command.specs.Views.{IsDerived, IsRule, IsCommand}
+use Rattle.hol_command.specs.Views.{IsDerived, IsRule, IsAsked, IsCommand}
 
 -- each of them is a token
 abbrev pub AreTokens : List Token → Type 0
@@ -188,20 +192,33 @@ ParsesRule (Ok rule) tokens = (tree : RuleTree) × IsRuleTree tree × (tokens �
 ParsesRule (Err Memory) tokens = Unit {0}
 ParsesRule (Err Syntax) tokens = (tree : RuleTree) → IsRuleTree tree → tokens ≢ rule_tokens tree
 
+-- what `thm` may ask for, so far as it is carried out
+abbrev pub ParsesAsked : Result Asked ReadError → List Token → Type 0
+ParsesAsked (Ok asked) tokens =
+    (tree : TheoremTree) × (is_served_theorem tree ≡ true) × IsTheoremTree tree × (tokens ≡ theorem_tokens tree) × IsAsked asked tree
+ParsesAsked (Err Memory) tokens = Unit {0}
+ParsesAsked (Err Syntax) tokens = (tree : TheoremTree) → is_served_theorem tree ≡ true → IsTheoremTree tree → tokens ≢ theorem_tokens tree
+
 -- a colon, and then a type that is not nested too deep
 abbrev pub ParsesTyping : Result (Vec TypeStep Global) ReadError → List Token → Type 0
 ParsesTyping (Ok steps) tokens = (tree : TypeTree) × IsWithin tree × (tokens ≡ Mark Colon ∷ type_tokens tree []) × (steps_of steps.items ≡ type_steps tree)
 ParsesTyping (Err Memory) tokens = Unit {0}
 ParsesTyping (Err Syntax) tokens = (tree : TypeTree) → IsWithin tree → tokens ≢ Mark Colon ∷ type_tokens tree []
 
--- the kind of a command
-abbrev pub kind_of_command : CommandTree → CommandKind
-kind_of_command (thm_command name rule) = Thm
-kind_of_command (show_command name) = Show
-kind_of_command (var_command name tree) = Var
-kind_of_command (def_command name tree) = Def
-kind_of_command (newtype_command name) = NewType
-kind_of_command (newconst_command name tree) = NewConst
+-- the kind of a command, of those that are carried out
+abbrev pub kind_of_command : CommandTree → Option CommandKind
+kind_of_command (thm_command name theorem) = Some Thm
+kind_of_command (show_command name) = Some Show
+kind_of_command (var_command name tree) = Some Var
+kind_of_command (def_command name tree) = Some Def
+kind_of_command (newtype_command name) = Some NewType
+kind_of_command (newconst_command name tree) = Some NewConst
+kind_of_command (goal_command tree) = None
+kind_of_command (e_command tactic) = None
+kind_of_command b_command = None
+kind_of_command p_command = None
+kind_of_command (r_command digits) = None
+kind_of_command (save_command name) = None
 
 abbrev pub command_word : CommandKind → List ℕ
 command_word Thm = codes "thm"
@@ -221,31 +238,41 @@ command_kind_of word =
     (if bytes_eq word (codes "newtype") then Some NewType else
     (if bytes_eq word (codes "newconst") then Some NewConst else None)))))
 
--- the name that a command gives or shows
+-- the name that such a command gives or shows
 abbrev pub name_in_command : CommandTree → List ℕ
-name_in_command (thm_command name rule) = name
+name_in_command (thm_command name theorem) = name
 name_in_command (show_command name) = name
 name_in_command (var_command name tree) = name
 name_in_command (def_command name tree) = name
 name_in_command (newtype_command name) = name
 name_in_command (newconst_command name tree) = name
+name_in_command _ = []
 
 -- what follows the name
 abbrev pub body_tokens : CommandTree → List Token
-body_tokens (thm_command name rule) = Mark Equal ∷ rule_tokens rule
+body_tokens (thm_command name theorem) = Mark Equal ∷ theorem_tokens theorem
 body_tokens (show_command name) = []
 body_tokens (var_command name tree) = Mark Colon ∷ type_tokens tree []
 body_tokens (def_command name tree) = Mark Equal ∷ quote_tokens tree []
 body_tokens (newtype_command name) = []
 body_tokens (newconst_command name tree) = Mark Colon ∷ type_tokens tree []
+body_tokens _ = []
+
+-- the tree is of a command of this kind with this name, and these tokens follow the name
+pub record IsBody (kind : CommandKind) (name : List ℕ) (tokens : List Token) (tree : CommandTree) : Type 0 where
+  pub served : is_served tree ≡ true
+  pub grammatical : IsCommandTree tree
+  pub kind_is : kind_of_command tree ≡ Some kind
+  pub name_is : name_in_command tree ≡ name
+  pub spelled : tokens ≡ body_tokens tree
 
 abbrev pub ParsesBody : Result Command ReadError → CommandKind → List ℕ → List Token → Type 0
-ParsesBody (Ok command) kind name tokens =
-    (tree : CommandTree) × IsCommandTree tree × (kind_of_command tree ≡ kind) × (name_in_command tree ≡ name) × (tokens ≡ body_tokens tree) × IsCommand command tree
+ParsesBody (Ok command) kind name tokens = (tree : CommandTree) × IsBody kind name tokens tree × IsCommand command tree
 ParsesBody (Err Memory) kind name tokens = Unit {0}
-ParsesBody (Err Syntax) kind name tokens = (tree : CommandTree) → IsCommandTree tree → kind_of_command tree ≡ kind → tokens ≢ body_tokens tree
+ParsesBody (Err Syntax) kind name tokens = (tree : CommandTree) → ¬ (IsBody kind name tokens tree)
 
+-- the tokens are those of a command that is carried out, or of none
 abbrev pub ParsesCommand : Result Command ReadError → List Token → Type 0
-ParsesCommand (Ok command) tokens = (tree : CommandTree) × IsReadCommand tokens tree × IsCommand command tree
+ParsesCommand (Ok command) tokens = (tree : CommandTree) × (is_served tree ≡ true) × IsReadCommand tokens tree × IsCommand command tree
 ParsesCommand (Err Memory) tokens = Unit {0}
-ParsesCommand (Err Syntax) tokens = (tree : CommandTree) → ¬ (IsReadCommand tokens tree)
+ParsesCommand (Err Syntax) tokens = (tree : CommandTree) → is_served tree ≡ true → ¬ (IsReadCommand tokens tree)

@@ -1,9 +1,13 @@
 -- The commands of the code as those of the grammar.
 use Rattle.std.specs.Prelude.{◌≡◌, ℕ, true, List, [], ◌∷◌}
 use Rattle.hol_model.specs.Terms.Name.{is_type_variable_name}
-use Rattle.hol_model.specs.Scripts.Commands.{DerivedTree, by_conversion, by_premise, by_premises, by_term_and_premise, by_cases, by_witness, by_choice, RuleTree, by_term, by_pair, by_abs, by_inst, by_inst_type, by_axiom, by_derived, CommandTree, thm_command, show_command, var_command, def_command, newtype_command, newconst_command}
+use Rattle.hol_model.specs.Scripts.Commands.{DerivedTree, by_conversion, by_premise, by_premises, by_term_and_premise, by_cases, by_witness, by_choice, RuleTree, by_term, by_pair, by_abs, by_inst, by_inst_type, by_axiom, by_derived}
+use Rattle.hol_model.specs.Scripts.CommandGrammar.{TheoremTree, by_rule, by_tautology, CommandTree, thm_command, show_command, var_command, def_command, newtype_command, newconst_command}
 use Rattle.hol_model.specs.Texts.TypeGrammar.{TypeTree, type_steps}
 use Rattle.hol_model.specs.Texts.TermGrammar.{TermTree}
+use Rattle.std.proofs.Common.{Vec, Bor, Global}
+use Rattle.hol_grammar.specs.declared.type_reader.TypeStep.{TypeStep}
+use Rattle.hol_grammar.specs.declared.steps.TermStep.{TermStep}
 use Rattle.hol_grammar.specs.TermSteps.{term_steps, flat_steps}
 use Rattle.hol_grammar.specs.Views.{steps_of}
 use Rattle.hol_grammar.specs.Steps.{flat_steps_of}
@@ -13,6 +17,8 @@ use Rattle.hol_command.specs.declared.derived.Derived.{Derived}
 use Rattle.hol_command.specs.declared.derived.Derived.TheVariants.{OfTerm as OfConversion, OfPremise, OfPremises, OfTermAndPremise, Cases, Witness, Choice}
 use Rattle.hol_command.specs.declared.pairs.TermPair.{TermPair}
 use Rattle.hol_command.specs.declared.pairs.TypePair.{TypePair}
+use Rattle.hol_command.specs.declared.command.Asked.{Asked}
+use Rattle.hol_command.specs.declared.command.Asked.TheVariants.{Rule as AsksRule, Tautology}
 use Rattle.hol_command.specs.declared.command.Command.{Command}
 use Rattle.hol_command.specs.declared.command.Command.TheVariants.{Thm, Show, Var, Def, NewType, NewConst}
 
@@ -59,11 +65,45 @@ IsRule (OfAxiom rule) (by_axiom other) = rule ≡ other
 IsRule (OfDerived derived) (by_derived tree) = IsDerived derived tree
 IsRule _ _ = ⊥
 
+-- what `thm` asks for has the arguments of the tree
+abbrev pub IsAsked : Asked → TheoremTree → Type 0
+IsAsked (AsksRule rule) (by_rule tree) = IsRule rule tree
+IsAsked (Tautology steps) (by_tautology tree) = flat_steps_of steps.items ≡ flat_steps (term_steps tree)
+IsAsked _ _ = ⊥
+
+-- ---- commands
+
+pub record IsThm (name : List ℕ) (asked : Asked) (tree : CommandTree) : Type 0 where
+  pub theorem : TheoremTree
+  pub is : tree ≡ thm_command name theorem
+  pub asks : IsAsked asked theorem
+
+pub record IsShow (name : List ℕ) (tree : CommandTree) : Type 0 where
+  pub is : tree ≡ show_command name
+
+pub record IsVar (name : List ℕ) (steps : List TypeStep) (tree : CommandTree) : Type 0 where
+  pub ty : TypeTree
+  pub is : tree ≡ var_command name ty
+  pub spelled : steps_of steps ≡ type_steps ty
+
+pub record IsDef (name : List ℕ) (steps : List TermStep) (tree : CommandTree) : Type 0 where
+  pub term : TermTree
+  pub is : tree ≡ def_command name term
+  pub spelled : flat_steps_of steps ≡ flat_steps (term_steps term)
+
+pub record IsNewType (name : List ℕ) (tree : CommandTree) : Type 0 where
+  pub is : tree ≡ newtype_command name
+
+pub record IsNewConst (name : List ℕ) (steps : List TypeStep) (tree : CommandTree) : Type 0 where
+  pub ty : TypeTree
+  pub is : tree ≡ newconst_command name ty
+  pub spelled : steps_of steps ≡ type_steps ty
+
+-- the command has the arguments of the tree, its types and terms by their steps
 abbrev pub IsCommand : Command → CommandTree → Type 0
-IsCommand (Thm name rule) (thm_command other tree) = (name.now ≡ other) × IsRule rule tree
-IsCommand (Show name) (show_command other) = name.now ≡ other
-IsCommand (Var name steps) (var_command other tree) = (name.now ≡ other) × (steps_of steps.items ≡ type_steps tree)
-IsCommand (Def name steps) (def_command other tree) = (name.now ≡ other) × (flat_steps_of steps.items ≡ flat_steps (term_steps tree))
-IsCommand (NewType name) (newtype_command other) = name.now ≡ other
-IsCommand (NewConst name steps) (newconst_command other tree) = (name.now ≡ other) × (steps_of steps.items ≡ type_steps tree)
-IsCommand _ _ = ⊥
+IsCommand (Thm name asked) tree = IsThm name.now asked tree
+IsCommand (Show name) tree = IsShow name.now tree
+IsCommand (Var name steps) tree = IsVar name.now steps.items tree
+IsCommand (Def name steps) tree = IsDef name.now steps.items tree
+IsCommand (NewType name) tree = IsNewType name.now tree
+IsCommand (NewConst name steps) tree = IsNewConst name.now steps.items tree

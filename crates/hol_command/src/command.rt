@@ -1,7 +1,7 @@
 // Commands, read from the tokens of a text.
 ghost use Rattle.std.specs.Prelude.{◌≡◌};
 ghost use Rattle.hol_grammar.specs.Views.{tokens_of};
-ghost use Rattle.hol_command.specs.Reading.{AreTokens, term_rule_of, pair_rule_of, kernel_rule_of, rule_kind_of, command_kind_of, ParsesTyping, ParsesArguments, ParsesRule, ParsesBody, ParsesCommand};
+ghost use Rattle.hol_command.specs.Reading.{AreTokens, term_rule_of, pair_rule_of, kernel_rule_of, rule_kind_of, command_kind_of, ParsesTyping, ParsesArguments, ParsesRule, ParsesAsked, ParsesBody, ParsesCommand};
 ghost use Rattle.hol_command.specs.Pairs.{ParsesPairs};
 
 use crate::derived::{Derived, derived_kind, parse_derived};
@@ -27,10 +27,17 @@ pub enum Rule<'a> {
     Derived(Derived<'a>),
 }
 
+/// What `thm` asks for: what a rule gives, or a tautology.
+#[derive(Drop)]
+pub enum Asked<'a> {
+    Rule(Rule<'a>),
+    Tautology(Vec<TermStep<'a>>),
+}
+
 /// A command with its arguments: terms and types by their steps.
 #[derive(Drop)]
 pub enum Command<'a> {
-    Thm(&'a str, Rule<'a>),
+    Thm(&'a str, Asked<'a>),
     Show(&'a str),
     Var(&'a str, Vec<TypeStep<'a>>),
     Def(&'a str, Vec<TermStep<'a>>),
@@ -248,6 +255,27 @@ fn parse_rule<'a>(alloc: Global, tokens: &'a [Token<'a>]) -> Result<Rule<'a>, Re
     }
 }
 
+// A rule, or TAUT, with its arguments.
+fn parse_asked<'a>(alloc: Global, tokens: &'a [Token<'a>]) -> Result<Asked<'a>, ReadError>
+    requires { AreTokens (tokens_of tokens.now) }
+    ensures { ParsesAsked result (tokens_of tokens.now) }
+{
+    let Some((word, arguments)) = take_name(tokens) else {
+        return Err(ReadError::Syntax);
+    };
+    if word == "TAUT" {
+        match parse_only_quote(alloc, arguments) {
+            Ok(steps) => Ok(Asked::Tautology(steps)),
+            Err(error) => Err(error),
+        }
+    } else {
+        match parse_rule(alloc, tokens) {
+            Ok(rule) => Ok(Asked::Rule(rule)),
+            Err(error) => Err(error),
+        }
+    }
+}
+
 // The type behind a colon and nothing else.
 fn parse_typing<'a>(alloc: Global, tokens: &'a [Token<'a>]) -> Result<Vec<TypeStep<'a>>, ReadError>
     ensures { ParsesTyping result (tokens_of tokens.now) }
@@ -266,11 +294,11 @@ fn parse_thm<'a>(
     requires { AreTokens (tokens_of tokens.now) }
     ensures { ParsesBody result CommandKind.Thm name.now (tokens_of tokens.now) }
 {
-    let Some(rule) = take_mark(tokens, Symbol::Equal) else {
+    let Some(asked) = take_mark(tokens, Symbol::Equal) else {
         return Err(ReadError::Syntax);
     };
-    match parse_rule(alloc, rule) {
-        Ok(rule) => Ok(Command::Thm(name, rule)),
+    match parse_asked(alloc, asked) {
+        Ok(asked) => Ok(Command::Thm(name, asked)),
         Err(error) => Err(error),
     }
 }
@@ -356,7 +384,7 @@ fn command_kind(word: &str) -> Option<CommandKind>
     }
 }
 
-/// The command that the tokens are.
+/// The command that the tokens are: one that is carried out.
 pub fn parse_command<'a>(alloc: Global, tokens: &'a [Token<'a>]) -> Result<Command<'a>, ReadError>
     requires { AreTokens (tokens_of tokens.now) }
     ensures { ParsesCommand result (tokens_of tokens.now) }

@@ -1,4 +1,4 @@
 pub mod RunLemmas
-pub mod StoredLemmas
 pub mod RunLogLemmas
 pub mod HeadlineLemmas
+pub mod EndLemmas

@@ -1,43 +1,81 @@
 -- What a run has come to.
-use Rattle.std.specs.Prelude.{◌≡◌, ◌+◌, ◌++◌, ℕ, List, [], ◌∷◌, map, Option, Result, Ok, Err, string_bytes}
+use Rattle.std.specs.Prelude.{◌≡◌, ◌+◌, ◌++◌, ℕ, List, [], Bool, map, Option, Result, Ok, Err, codes, string_bytes}
+use Rattle.std.specs.Io.KnownBytes.{Appends}
 use Rattle.hol_model.specs.declared.fault.Fault.{Fault}
-use Rattle.hol_model.specs.Scripts.Sessions.{State, Reply, proves, accepts, refused, Counts, Completes}
+use Rattle.hol_model.specs.Scripts.Sessions.{State as Library}
+use Rattle.hol_model.specs.Scripts.ScriptSessions.{State, start, Turn, last_state, text_of_turns, as_list, theorems_in_turns}
+use Rattle.hol_model.specs.Scripts.Runs.{Counts, no_counts, counts_after, IsRun, SourceUse, SinkUse, Devices}
+use Rattle.hol_bytes.specs.Bytes.{AppendsFront}
 use Rattle.hol_script.specs.declared.progress.Summary.{Summary}
 use Rattle.hol_script.specs.declared.progress.Progress.{Progress}
-use Rattle.hol_session.specs.declared.session.Printed.{Printed}
-use Rattle.hol_session.specs.declared.session.Printed.TheVariants.{Nothing, Line}
+use Rattle.hol_session.specs.declared.reply.Printed.{Printed}
+use Rattle.hol_session.specs.declared.reply.Printed.TheVariants.{Nothing, Line}
+use Rattle.hol_session.specs.declared.reply.Refused.{Refused}
+use Rattle.hol_session.specs.Answers.{Beside, with_beside, session_tools, printed_name}
+
+-- ---- answers
+
+-- the line of a refusal, by its parts
+abbrev pub refusal_of_parts : List ℕ → List ℕ → List ℕ → List ℕ → List ℕ
+refusal_of_parts line number name row = codes "line " ++ line ++ codes ": E" ++ number ++ codes " " ++ name ++ row ++ codes "\n"
 
 abbrev pub counts_of : Summary → Counts
 counts_of summary = record { accepted_commands = summary.accepted; refused_commands = summary.refused; theorem_lines = summary.printed }
 
 -- the counts after one more answer
-abbrev pub counting_answer : Counts → Result Printed Fault → Counts
+abbrev pub counting_answer : Counts → Result Printed Refused → Counts
 counting_answer counts (Ok Nothing) = record { accepted_commands = counts.accepted_commands + 1; refused_commands = counts.refused_commands; theorem_lines = counts.theorem_lines }
 counting_answer counts (Ok (Line line)) = record { accepted_commands = counts.accepted_commands + 1; refused_commands = counts.refused_commands; theorem_lines = counts.theorem_lines + 1 }
-counting_answer counts (Err fault) = record { accepted_commands = counts.accepted_commands; refused_commands = counts.refused_commands + 1; theorem_lines = counts.theorem_lines }
+counting_answer counts (Err refused) = record { accepted_commands = counts.accepted_commands; refused_commands = counts.refused_commands + 1; theorem_lines = counts.theorem_lines }
 
 -- the names that a run keeps
 abbrev pub names_of : Progress → List (List ℕ)
 names_of progress = map string_bytes progress.names.items
 
 -- the name in the line of a theorem
-abbrev pub names_in_answer : Result Printed Fault → List (List ℕ)
-names_in_answer (Ok Nothing) = []
-names_in_answer (Ok (Line line)) = string_bytes line.name ∷ []
-names_in_answer (Err fault) = []
-
-abbrev pub names_in : Reply → List (List ℕ)
-names_in (proves name theorem) = name ∷ []
-names_in accepts = []
-names_in (refused fault) = []
+abbrev pub names_in_answer : Result Printed Refused → List (List ℕ)
+names_in_answer (Ok printed) = as_list (printed_name printed)
+names_in_answer (Err refused) = []
 
 -- the names in the lines of theorems, in order
-abbrev pub printed_names : List Reply → List (List ℕ)
-printed_names [] = []
-printed_names (reply ∷ replies) = names_in reply ++ printed_names replies
+abbrev pub printed_names : List Turn → List (List ℕ)
+printed_names turns = map (λ shown. shown.name) (theorems_in_turns turns)
 
--- What was read and written is a whole run, which printed theorems under these names and ended in this state.
-pub record Ends (input written new_written : Option (List ℕ)) (counts : Counts) (names : List (List ℕ)) (state : State) : Type 0 where
-  pub completes : Completes input written new_written counts
-  pub final : state ≡ completes.is_run.final
-  pub named : names ≡ printed_names completes.is_run.replies
+-- ---- runs
+
+-- a script sets no goals
+abbrev pub no_goals : Beside
+no_goals = record { lemmas = []; proof = Option.None }
+
+abbrev pub state_in : Library → State
+state_in library = with_beside no_goals library
+
+-- What a run of the script writes was written; it printed theorems under these names and ended in this state.
+pub record Finishes (script : List ℕ) (written new_written : Option (List ℕ)) (counts : Counts) (names : List (List ℕ)) (state : State) : Type 0 where
+  pub turns : List Turn
+  pub is_run : IsRun session_tools script turns
+  pub wrote : Appends written new_written (text_of_turns turns)
+  pub counted : counts ≡ counts_after no_counts turns
+  pub named : names ≡ printed_names turns
+  pub ends : last_state start turns ≡ state
+
+-- The front of what a run of the script writes was written.
+pub record Breaks (script : List ℕ) (written new_written : Option (List ℕ)) : Type 0 where
+  pub turns : List Turn
+  pub is_run : IsRun session_tools script turns
+  pub wrote : AppendsFront written new_written (text_of_turns turns)
+
+-- ---- what a run answers, and its devices
+
+abbrev pub answer_of : Result Summary Fault → Result Counts Fault
+answer_of (Ok summary) = Ok (counts_of summary)
+answer_of (Err fault) = Err fault
+
+abbrev pub source_use : Option (List ℕ) → Bool → SourceUse
+source_use told has_failed = record { told = told; has_failed = has_failed }
+
+abbrev pub sink_use : Option (List ℕ) → Option (List ℕ) → Bool → Type 0 → SinkUse
+sink_use before after has_failed IsUntouched = record { before = before; after = after; has_failed = has_failed; IsUntouched = IsUntouched }
+
+abbrev pub devices : SourceUse → SinkUse → SinkUse → Devices
+devices script out log = record { script = script; out = out; log = log }

@@ -11,7 +11,8 @@ ghost use Rattle.hol_session.specs.StoredClaims.{IsAcceptedLog, IsLongLog};
 
 use crate::execute::execute;
 use hol_model::Fault;
-use hol_session::session::{Printed, Session};
+use hol_session::reply::{Printed, Refused};
+use hol_session::session::Session;
 use std::alloc::Global;
 
 /// How many commands were accepted and refused, and how many theorems were printed.
@@ -32,7 +33,7 @@ pub struct Progress {
 
 impl Summary {
     // The summary after one more answer.
-    fn counting(&self, answer: &Result<Printed, Fault>) -> Summary
+    fn counting(&self, answer: &Result<Printed, Refused>) -> Summary
         requires accepted { self.now.accepted < 2 ^ 63 }
         requires refused { self.now.refused < 2 ^ 63 }
         requires printed { self.now.printed < 2 ^ 63 }
@@ -85,7 +86,7 @@ impl Progress {
     }
 
     /// Answers a command. Where the name of a theorem would find no room, the command is refused.
-    pub fn answer(&mut self, alloc: Global, text: &[u8]) -> Result<Printed, Fault>
+    pub fn answer(&mut self, alloc: Global, text: &[u8]) -> Result<Printed, Refused>
         requires { IsSession self.old.session }
         ensures turns { Turns (state_of self.old.session) (Some text.now) result (state_of self.new.session) }
         ensures kept { IsSession self.new.session }
@@ -94,13 +95,13 @@ impl Progress {
         ensures summary { self.new.summary ≡ self.old.summary }
     {
         if self.names.reserve(1).is_err() {
-            return Err(Fault::Memory);
+            return Err(Refused::plain(Fault::Memory));
         }
         execute(&mut self.session, alloc, text)
     }
 
     /// Counts an answer and keeps the name of its theorem, for which there is room.
-    pub fn keep(&mut self, answer: Result<Printed, Fault>)
+    pub fn keep(&mut self, answer: Result<Printed, Refused>)
         requires room { OnOk answer (vec_len self.old.names < vec_capacity self.old.names) }
         requires accepted { self.old.summary.accepted < 2 ^ 63 }
         requires refused { self.old.summary.refused < 2 ^ 63 }
@@ -113,8 +114,10 @@ impl Progress {
         ensures printed { self.new.summary.printed ≤ self.old.summary.printed + 1 }
     {
         self.summary = self.summary.counting(&answer);
-        if let Ok(Printed::Line(line)) = answer {
-            self.names.push_reserved(line.name);
+        match answer {
+            Ok(Printed::Line(line)) => self.names.push_reserved(line.name),
+            Ok(Printed::Nothing) => {}
+            Err(_refused) => {}
         }
     }
 
@@ -123,8 +126,8 @@ impl Progress {
     pub fn log_text(&self, alloc: Global) -> Result<Vec<u8>, Fault>
         requires session { IsSession self.now.session }
         requires named { HaveIdentifiers (claims_stored self.now) }
-        ensures ok { IfOk result (λ text. IsAcceptedLog self.now.session.recorder (claims_listed self.now) text.items) }
-        ensures too_long { IsErrOf result TooLong → IsLongLog self.now.session.recorder (claims_listed self.now) }
+        ensures ok { IfOk result (λ text. IsAcceptedLog self.now.session.library.recorder (claims_listed self.now) text.items) }
+        ensures too_long { IsErrOf result TooLong → IsLongLog self.now.session.library.recorder (claims_listed self.now) }
         ensures refusals { IfErr result (Contains (TooLong ∷ Memory ∷ [])) }
     {
         self.session.log_text(alloc, &self.names)

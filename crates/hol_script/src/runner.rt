@@ -1,47 +1,73 @@
 // Runs a script from a source to a sink, and writes its log to another.
-ghost use Rattle.std.specs.Prelude.{◌≡◌, ◌⊎◌, ◌≤◌, ◌<◌, ◌∷◌, [], true, false, length, Some, OnOk, OnErr, IfOk, IfErr, IfSome, IsErrOf, Contains};
+ghost use Rattle.std.specs.Prelude.{◌≡◌, ◌⊎◌, ◌≤◌, ◌∷◌, [], true, false, length, Err, OnOk, OnErr, IfOk, IfErr, IsErrOf, Contains};
 ghost use Rattle.std.specs.Io.KnownBytes.{Appends};
-ghost use Rattle.hol_model.specs.Scripts.Sessions.{Stops};
-ghost use Rattle.hol_model.specs.Scripts.Sessions as spec;
 ghost use Rattle.hol_model.specs.Scripts.Headline.{TellsLines, TellsFront};
-ghost use Rattle.hol_model.specs.declared.fault.Fault.TheVariants.{Memory, ReadFault, WriteFault, TooLong};
+ghost use Rattle.hol_model.specs.Scripts.Runs.{Ends};
+ghost use Rattle.hol_model.specs.declared.fault.Fault.TheVariants.{Memory, WriteFault, TooLong};
 ghost use Rattle.hol_log.specs.Pruning.{HaveIdentifiers};
 ghost use Rattle.hol_bytes.specs.Bytes.{AppendsFront};
-ghost use Rattle.hol_session.specs.Answers.{answer_text};
-ghost use Rattle.hol_script.specs.Runs.{counts_of, names_of, Ends};
-ghost use Rattle.hol_script.specs.RunLogs.{claims_stored, claims_listed, theory_of, IsLongLogOver, WritesLog, WritesFront, CompletesLog, StopsInLog, HasLongLog, IsWhole};
+ghost use Rattle.hol_session.specs.Answers.{session_tools, row_bytes, answer_text};
 ghost use Rattle.hol_session.specs.SessionState.{state_of, IsSession};
+ghost use Rattle.hol_script.specs.Runs.{refusal_of_parts, counts_of, names_of, state_in, Finishes, Breaks, answer_of, source_use, sink_use, devices};
+ghost use Rattle.hol_script.specs.RunLogs.{claims_stored, claims_listed, theory_of, IsLogOver, IsLongLogOver, WritesLog, WritesFront};
 
 use crate::progress::{Progress, Summary};
 use hol_bytes::{read_all, write_all, write_pieces};
 use hol_command::cut::{cut, is_blank_text, leading_line_feeds, line_feeds};
 use hol_model::{Fault, Sink, Source, TEXT_BYTES_LIMIT};
-use hol_session::session::Printed;
+use hol_session::reply::{Printed, Refused};
 use itoa::Buffer;
 use std::alloc::Global;
 
-// Writes the line of a refusal, without memory.
-fn write_refusal<W: Sink>(writer: &mut W, line: u64, fault: Fault) -> Result<(), Fault>
+// The text of a refusal's row; of a refusal without one it is empty.
+fn row_of(refused: &Refused) -> &[u8]
+    ensures { result.now ≡ row_bytes refused.now }
+{
+    match &refused.row {
+        Some(row) => row.as_bytes(),
+        None => b"",
+    }
+}
+
+// Writes the line of a refusal by its parts.
+fn write_parts<'a, W: Sink>(
+    writer: &mut W,
+    line: &'a [u8],
+    number: &'a [u8],
+    name: &'a [u8],
+    row: &'a [u8],
+) -> Result<(), Fault>
     requires { W.has_failed writer.old ≡ false }
-    ensures ok { OnOk result (Appends (W.contents writer.old) (W.contents writer.new) (spec.refusal_line line fault)) }
+    ensures ok { OnOk result (Appends (W.contents writer.old) (W.contents writer.new) (refusal_of_parts line.now number.now name.now row.now)) }
     ensures unfailed { OnOk result (W.has_failed writer.new ≡ false) }
-    ensures err { OnErr result (AppendsFront (W.contents writer.old) (W.contents writer.new) (spec.refusal_line line fault)) }
+    ensures err { OnErr result (AppendsFront (W.contents writer.old) (W.contents writer.new) (refusal_of_parts line.now number.now name.now row.now)) }
+    ensures failed { OnErr result (W.has_failed writer.new ≡ true) }
+    ensures kinds { IfErr result (λ e. e ≡ WriteFault) }
+{
+    write_pieces(
+        writer,
+        &[b"line ", line, b": E", number, b" ", name, row, b"\n"],
+    )
+}
+
+// Writes the line of a refusal, without memory.
+fn write_refusal<W: Sink>(writer: &mut W, line: u64, refused: &Refused) -> Result<(), Fault>
+    requires { W.has_failed writer.old ≡ false }
+    ensures ok { OnOk result (Appends (W.contents writer.old) (W.contents writer.new) (answer_text line (Err refused.now))) }
+    ensures unfailed { OnOk result (W.has_failed writer.new ≡ false) }
+    ensures err { OnErr result (AppendsFront (W.contents writer.old) (W.contents writer.new) (answer_text line (Err refused.now))) }
     ensures failed { OnErr result (W.has_failed writer.new ≡ true) }
     ensures kinds { IfErr result (λ e. e ≡ WriteFault) }
 {
     let mut line_digits = Buffer::new();
     let mut number_digits = Buffer::new();
-    write_pieces(
+    let number = number_digits.format(refused.fault.number());
+    write_parts(
         writer,
-        &[
-            b"line ",
-            line_digits.format(line).as_bytes(),
-            b": E",
-            number_digits.format(fault.number()).as_bytes(),
-            b" ",
-            fault.name().as_bytes(),
-            b"\n",
-        ],
+        line_digits.format(line).as_bytes(),
+        number.as_bytes(),
+        refused.fault.name().as_bytes(),
+        row_of(refused),
     )
 }
 
@@ -49,7 +75,7 @@ fn write_refusal<W: Sink>(writer: &mut W, line: u64, fault: Fault) -> Result<(),
 fn write_answer<W: Sink>(
     writer: &mut W,
     line: u64,
-    answer: &Result<Printed, Fault>,
+    answer: &Result<Printed, Refused>,
 ) -> Result<(), Fault>
     requires { W.has_failed writer.old ≡ false }
     ensures ok { OnOk result (Appends (W.contents writer.old) (W.contents writer.new) (answer_text line answer.now)) }
@@ -61,7 +87,7 @@ fn write_answer<W: Sink>(
     match answer {
         Ok(Printed::Nothing) => Ok(()),
         Ok(Printed::Line(line)) => write_all(writer, line.text.as_bytes()),
-        Err(fault) => write_refusal(writer, line, *fault),
+        Err(refused) => write_refusal(writer, line, refused),
     }
 }
 
@@ -69,9 +95,10 @@ fn write_answer<W: Sink>(
 fn run_script<W: Sink>(alloc: Global, script: &[u8], writer: &mut W) -> Result<Progress, Fault>
     requires unfailed { W.has_failed writer.old ≡ false }
     requires within_limit { length script.now ≤ TEXT_BYTES_LIMIT }
-    ensures ok { IfOk result (λ progress. Ends (Some script.now) (W.contents writer.old) (W.contents writer.new) (counts_of progress.summary) (names_of progress) (state_of progress.session)) }
+    ensures ok { IfOk result (λ progress. Finishes script.now (W.contents writer.old) (W.contents writer.new)
+        (counts_of progress.summary) (names_of progress) (state_in (state_of progress.session))) }
     ensures is_session { IfOk result (λ progress. IsSession progress.session) }
-    ensures err { OnErr result (Stops (Some script.now) (W.contents writer.old) (W.contents writer.new)) }
+    ensures err { OnErr result (Breaks script.now (W.contents writer.old) (W.contents writer.new)) }
     ensures unfailed { OnOk result (W.has_failed writer.new ≡ false) }
     ensures failed { IsErrOf result WriteFault → W.has_failed writer.new ≡ true }
     ensures unwritten { IsErrOf result Memory → writer.new ≡ writer.old }
@@ -100,9 +127,10 @@ fn run_script<W: Sink>(alloc: Global, script: &[u8], writer: &mut W) -> Result<P
         return Ok(progress);
     }
     let here = line + leading_line_feeds(rest) as u64;
-    match write_refusal(writer, here, Fault::Syntax) {
+    let refused = Refused::plain(Fault::Syntax);
+    match write_refusal(writer, here, &refused) {
         Ok(()) => {
-            progress.keep(Err(Fault::Syntax));
+            progress.keep(Err(refused));
             Ok(progress)
         }
         Err(fault) => Err(fault),
@@ -128,21 +156,22 @@ fn write_log<L: Sink>(alloc: Global, progress: &Progress, log: &mut L) -> Result
     }
 }
 
-/// Reads a whole script, runs its commands in order and writes a line for each theorem and each refusal. What is written
-/// is the output of a session of that script, or of a front of it where the run stops: each theorem in it follows from
-/// the entries accepted before it, and holds in every finite standard model.
+/// Reads a whole script, runs its commands in order and writes a line for each theorem and each refusal (`ends`): what is
+/// written is what a session of that script writes, or the front of it where the output breaks off. Each theorem in it follows
+/// from the entries accepted before it, and holds in every finite standard model. The summary counts that session's replies.
 ///
 /// The same told without sessions (`told`, `told_front`): what is written is lines, or the front of them where the run
 /// stops, each of them a refusal's or a name and the text of a sequent that reads back as itself, follows from a legal
 /// theory and holds. The theory has the logical definitions and what the script's own commands define and declare.
 ///
-/// Where a log is wanted, it is written after the last command: the pruned log of the theorems that were printed, over
-/// the theory at the end, which is accepted, with a claim for each line of a theorem, in order. Where none is wanted, `log` is left alone.
+/// Where a log is wanted, it is written after the last command: the pruned log of the theorems that were printed, over the
+/// theory at the end, which is accepted, with a claim for each line of a theorem, in order. Where none is wanted, `log` is left
+/// alone.
 ///
 /// ReadFault and TooLong come before anything is written: the source failed, or the script is longer than the limit on
 /// texts. Memory comes while the script is read, or while the session is begun and the theorems of the prelude are made: a
-/// growth refused in a command refuses that command. After the last command Memory and TooLong come where the log finds no memory or is longer than the limit,
-/// and then none of it is written. WriteFault: a sink failed.
+/// growth refused in a command refuses that command. After the last command Memory and TooLong come where the log finds no
+/// memory or is longer than the limit, and then none of it is written. WriteFault: a sink failed.
 pub fn run<R: Source, W: Sink, L: Sink>(
     alloc: Global,
     reader: &mut R,
@@ -153,24 +182,16 @@ pub fn run<R: Source, W: Sink, L: Sink>(
     requires reader_unfailed { R.has_failed reader.old ≡ false }
     requires writer_unfailed { W.has_failed writer.old ≡ false }
     requires log_unfailed { L.has_failed log.old ≡ false }
-    ensures ok { IfOk result (λ summary. CompletesLog (R.remaining reader.old) (W.contents writer.old) (W.contents writer.new) (counts_of summary)
-        wants_log (L.contents log.old) (L.contents log.new)) }
-    ensures unlogged { wants_log ≡ false → log.new ≡ log.old }
-    ensures err { OnErr result (Stops (R.remaining reader.old) (W.contents writer.old) (W.contents writer.new)) }
+    ensures ends { Ends session_tools IsLogOver
+        (devices (source_use (R.remaining reader.old) (R.has_failed reader.new))
+        (sink_use (W.contents writer.old) (W.contents writer.new) (W.has_failed writer.new) (writer.new ≡ writer.old))
+        (sink_use (L.contents log.old) (L.contents log.new) (L.has_failed log.new) (log.new ≡ log.old)))
+        (answer_of result) wants_log }
     ensures told { OnOk result (TellsLines (R.remaining reader.old) (W.contents writer.old) (W.contents writer.new) []) }
     ensures told_front { OnErr result (TellsFront (R.remaining reader.old) (W.contents writer.old) (W.contents writer.new)) }
     ensures reader_unfailed { OnOk result (R.has_failed reader.new ≡ false) }
     ensures writer_unfailed { OnOk result (W.has_failed writer.new ≡ false) }
     ensures log_unfailed { OnOk result (L.has_failed log.new ≡ false) }
-    ensures within_limit { IfOk result (λ _. IfSome (R.remaining reader.old) (λ told. length told ≤ TEXT_BYTES_LIMIT)) }
-    ensures read_fault { IsErrOf result ReadFault → (R.has_failed reader.new ≡ true) × (writer.new ≡ writer.old) }
-    ensures too_long { IsErrOf result TooLong → (IfSome (R.remaining reader.old) (λ told. TEXT_BYTES_LIMIT < length told) × (writer.new ≡ writer.old))
-        ⊎ ((wants_log ≡ true) × HasLongLog (R.remaining reader.old) (W.contents writer.old) (W.contents writer.new)) }
-    ensures memory { IsErrOf result Memory → (writer.new ≡ writer.old) ⊎ ((wants_log ≡ true) × IsWhole (R.remaining reader.old) (W.contents writer.old) (W.contents writer.new)) }
-    ensures write_fault { IsErrOf result WriteFault → ((W.has_failed writer.new ≡ true) × (log.new ≡ log.old))
-        ⊎ ((L.has_failed log.new ≡ true) × StopsInLog (R.remaining reader.old) (W.contents writer.old) (W.contents writer.new) (L.contents log.old) (L.contents log.new)) }
-    ensures unwritten { (IsErrOf result ReadFault ⊎ (IsErrOf result TooLong ⊎ IsErrOf result Memory)) → log.new ≡ log.old }
-    ensures refusals { IfErr result (Contains (ReadFault ∷ TooLong ∷ WriteFault ∷ Memory ∷ [])) }
 {
     let script = match read_all(alloc, reader) {
         Ok(script) => script,

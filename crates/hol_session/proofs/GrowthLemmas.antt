@@ -20,9 +20,10 @@ use Rattle.hol_model.specs.Kernel.Rules.{first_unknown, is_full, with_definition
 use Rattle.hol_model.specs.Texts.Reading.{Scope, meaning, type_meaning, ◌>>=◌}
 use Rattle.hol_model.specs.Texts.TermGrammar.{TermTree}
 use Rattle.hol_model.specs.Texts.TypeGrammar.{TypeTree}
-use Rattle.hol_model.specs.Scripts.Commands.{SpellsCommand, def_command}
-use Rattle.hol_model.specs.Scripts.Sessions.{State, scope_in, with_variable, over_theory, definition_name, def_outcome, newconst_outcome, theorem_line, Allows, proves, def_defines}
+use Rattle.hol_model.specs.Scripts.CommandGrammar.{SpellsCommand, def_command}
+use Rattle.hol_model.specs.Scripts.Sessions.{State, scope_in, with_variable, over_theory, definition_name, def_outcome, newconst_outcome}
 use Rattle.hol_model.specs.Scripts.Sessions as sessions
+use Rattle.hol_model.specs.Scripts.Replies.{theorem_line, text_of_theorem}
 use Rattle.hol_model.proofs.Kernel.Outcomes.{passed_value}
 use Rattle.hol_kernel.proofs.LimitLemmas.{equation-limited}
 use Rattle.hol_model.proofs.Logic.KnownTerms.{knows_type-IsKnownType}
@@ -32,18 +33,22 @@ use Rattle.hol_syntax.specs.declared.scope.Scope.{Scope as ScopeHere}
 use Rattle.hol_syntax.specs.Scope.{scope_of, SetsConstant, SetsVariable, SetsType, KeepsScope}
 use Rattle.hol_session.specs.declared.lines.TheoremLine.{TheoremLine}
 use Rattle.hol_session.specs.declared.session.Session.{Session}
-use Rattle.hol_session.specs.declared.session.Printed.TheVariants.{Line}
+use Rattle.hol_session.specs.declared.reply.Printed.TheVariants.{Line}
 use Rattle.hol_journal.specs.Journal.{Journal}
-use Rattle.hol_journal.specs.Growth.{IsGrown, JournalsGrow}
-use Rattle.hol_prelude.specs.HasLogic.{HasLogic, LogicStays}
-use Rattle.hol_session.specs.SessionState.{state_of, theorem_of, IsSession}
-use Rattle.hol_session.specs.Growth.{IsRefused, LeavesNone, MakesEquation, Defines, KeepsSession}
-use Rattle.hol_session.specs.Answers.{IsLineOf, Turns}
+use Rattle.hol_journal.specs.Growth.{IsGrown}
+use Rattle.hol_prelude.specs.HasLogic.{HasLogic}
+use Rattle.hol_taut_laws.specs.HasLaws.{HasLaws}
+use Rattle.hol_library.specs.declared.library.Library.{Library}
+use Rattle.hol_library.specs.Library.{IsLibrary}
+use Rattle.hol_session.specs.SessionState.{state_of, theorem_of, IsSession, LibrariesGrow}
+use Rattle.hol_session.specs.Growth.{IsRefused, LeavesNone, MakesEquation, KeepsLaws, Defines, KeepsSession}
+use Rattle.hol_session.specs.Answers.{with_beside, IsLineOf, Turns}
 use Rattle.hol_session.proofs.RuleLemmas.{proved, same_is_earlier}
 use Rattle.hol_store.specs.Stored.{Stored, IsStoreOf, KeepsStore}
 use Rattle.hol_store.specs.Store.{stored_of}
 use Rattle.hol_store.proofs.StoreLemmas.{stores-stay, stored-made}
-use Rattle.hol_session.proofs.RecordingLemmas.{kept-made, stored_theorem}
+use Rattle.hol_session.proofs.RecordingLemmas.{kept-made, stored_theorem, libraries-stay, store-stays}
+use Rattle.hol_session.proofs.AllowedLemmas.{AllowsMessage, def_defines}
 use Rattle.hol_session.proofs.SessionLemmas.{scope_same, prints}
 
 -- ---- tests of outcomes
@@ -205,8 +210,8 @@ definition-line theory scope name stored term theorem line same named made = rec
   named = made.named ∙ named;
   spelled =
       made.spelled
-      ∙ ap (λ (n : List ℕ). theorem_line scope n (record { theory = []; hypotheses = []; conclusion = equation (constant name (own_type term)) term })) named
-      ∙ ap (λ (t : Theorem). theorem_line scope (definition_name name) t) (sym (definition-theorem theory name term theorem same));
+      ∙ ap (λ (n : List ℕ). text_of_theorem scope (record { name = n; theorem = record { theory = []; hypotheses = []; conclusion = equation (constant name (own_type term)) term } })) named
+      ∙ ap (λ (t : Theorem). text_of_theorem scope (record { name = definition_name name; theorem = t })) (sym (definition-theorem theory name term theorem same));
 }
 
 -- ---- declarations
@@ -292,7 +297,7 @@ const-legal theory new name ty legal accepted =
 
 -- the session with another journal and another scope
 abbrev pub made : Session → Journal → ScopeHere → Session
-made session recorder scope = record session { recorder = recorder; scope = scope }
+made session recorder scope = record session { library = record session.library { recorder = recorder }; scope = scope }
 
 abbrev pub with_scope : Session → ScopeHere → Session
 with_scope session scope = record session { scope = scope }
@@ -301,19 +306,26 @@ pub same_store : (stored : Stored) → KeepsStore stored stored
 same_store stored = record { theorems = λ name. refl; lemmas = refl }
 
 -- a session with the journal, the names and the theorems of before
-pub kept_state : (old new : Session) → new.recorder ≡ old.recorder → KeepsScope (scope_of old.scope) (scope_of new.scope) → KeepsStore (stored_of old.store) (stored_of new.store)
-    → state_of new ≡ state_of old
+pub kept_state : (old new : Session) → new.library.recorder ≡ old.library.recorder → KeepsScope (scope_of old.scope) (scope_of new.scope)
+    → KeepsStore (stored_of old.library.store) (stored_of new.library.store) → state_of new ≡ state_of old
 kept_state old new same keeps stored = λ i. record { theory = (same i).theory; variables = λ name. keeps.variables name i; theorems = λ name. theorem_of (stored.theorems name i) }
 
-pub kept_session : (old new : Session) → IsSession old → new.recorder ≡ old.recorder → KeepsScope (scope_of old.scope) (scope_of new.scope) → KeepsStore (stored_of old.store) (stored_of new.store)
-    → new.logic ≡ old.logic → IsSession new
-kept_session old new known same keeps stored logic = record {
+pub kept_session : (old new : Session) → IsSession old → new.library.recorder ≡ old.library.recorder → KeepsScope (scope_of old.scope) (scope_of new.scope)
+    → KeepsStore (stored_of old.library.store) (stored_of new.library.store) → KeepsLaws old.library new.library → IsSession new
+kept_session old new known same keeps stored laws = record {
   legal = subst (λ (j : Journal). IsLegal j.theory) (sym same) known.legal;
   constants = λ name. keeps.constants name ∙ known.constants name ∙ ap (λ (j : Journal). generic_type j.theory name) (sym same);
   types = λ name. keeps.types name ∙ known.types name ∙ ap (λ (j : Journal). is_declared j.theory name) (sym same);
-  made = subst (λ (j : Journal). IsStoreOf j (stored_of new.store)) (sym same) (kept-made old.recorder (stored_of old.store) (stored_of new.store) stored known.made);
-  logic = subst (HasLogic new.recorder) (sym logic) (subst (λ (j : Journal). HasLogic j old.logic) (sym same) known.logic);
+  library = record {
+    has_logic = subst (HasLogic new.library.recorder) (sym laws.logic) (subst (λ (j : Journal). HasLogic j old.library.logic) (sym same) known.library.has_logic);
+    has_laws = subst (HasLaws new.library.recorder) (sym laws.laws) (subst (λ (j : Journal). HasLaws j old.library.laws) (sym same) known.library.has_laws);
+    stored = subst (λ (j : Journal). IsStoreOf j (stored_of new.library.store)) (sym same)
+        (kept-made old.library.recorder (stored_of old.library.store) (stored_of new.library.store) stored known.library.stored);
+  };
 }
+
+pub same_laws : (library : Library) → KeepsLaws library library
+same_laws library = record { logic = refl; laws = refl }
 
 -- a scope from which a name was taken that was put in before
 pub const_removed : (old mid new : Scope) (name : List ℕ) (ty : HolType) → SetsConstant old mid name (Some ty) → SetsConstant mid new name None → old.generic_type name ≡ None → KeepsScope old new
@@ -329,7 +341,7 @@ const_removed old mid new name ty added removed none = record {
 
 -- the same where a definition was refused in between
 pub removed_after : (old : Session) (mid : ScopeHere) (after : Session) (new : ScopeHere) (name : List ℕ) (ty : HolType) → SetsConstant (scope_of old.scope) (scope_of mid) name (Some ty)
-    → KeepsSession (made old old.recorder mid) after → SetsConstant (scope_of after.scope) (scope_of new) name None → (scope_of old.scope).generic_type name ≡ None → KeepsScope (scope_of old.scope) (scope_of new)
+    → KeepsSession (made old old.library.recorder mid) after → SetsConstant (scope_of after.scope) (scope_of new) name None → (scope_of old.scope).generic_type name ≡ None → KeepsScope (scope_of old.scope) (scope_of new)
 removed_after old mid after new name ty added keeps removed none =
     const_removed (scope_of old.scope) (scope_of mid) (scope_of new) name ty added
     (subst (λ (s : ScopeHere). SetsConstant (scope_of s) (scope_of new) name None) keeps.scope removed) none
@@ -360,57 +372,54 @@ not_some (Some x) none = absurd (none refl)
 -- ---- variables
 
 pub var_state : (old : Session) (scope : ScopeHere) (name : List ℕ) (ty : HolType) → SetsVariable (scope_of old.scope) (scope_of scope) name ty
-    → state_of (made old old.recorder scope) ≡ with_variable (state_of old) name ty
-var_state old scope name ty sets = λ i. record { theory = old.recorder.theory; variables = λ other. sets.variables other i; theorems = λ other. theorem_of ((stored_of old.store).theorems other) }
+    → state_of (made old old.library.recorder scope) ≡ with_variable (state_of old) name ty
+var_state old scope name ty sets = λ i. record { theory = old.library.recorder.theory; variables = λ other. sets.variables other i; theorems = λ other. theorem_of ((stored_of old.library.store).theorems other) }
 
 pub var_session : (old : Session) (scope : ScopeHere) (name : List ℕ) (ty : HolType) → IsSession old → SetsVariable (scope_of old.scope) (scope_of scope) name ty
-    → IsSession (made old old.recorder scope)
+    → IsSession (made old old.library.recorder scope)
 var_session old scope name ty known sets = record {
   legal = known.legal;
   constants = λ other. sets.constants other ∙ known.constants other;
   types = λ other. sets.types other ∙ known.types other;
-  made = known.made;
-  logic = known.logic;
+  library = known.library;
 }
 
 -- ---- declared types
 
 pub grown_state : (old : Session) (grown : Journal) (scope : ScopeHere) → ((name : List ℕ) → (scope_of scope).variable_type name ≡ (scope_of old.scope).variable_type name)
     → state_of (made old grown scope) ≡ over_theory (state_of old) grown.theory
-grown_state old grown scope same = λ i. record { theory = grown.theory; variables = λ name. same name i; theorems = λ name. theorem_of ((stored_of old.store).theorems name) }
+grown_state old grown scope same = λ i. record { theory = grown.theory; variables = λ name. same name i; theorems = λ name. theorem_of ((stored_of old.library.store).theorems name) }
 
 either : (test known : Bool) → cond test true known ≡ (test || known)
 either true known = refl
 either false known = refl
 
-pub type_session : (old : Session) (grown : Journal) (scope : ScopeHere) (name : List ℕ) → JournalsGrow → LogicStays → IsSession old → SetsType (scope_of old.scope) (scope_of scope) name true
-    → new_type_outcome old.recorder.theory name ≡ Ok grown.theory → IsGrown old.recorder grown → IsSession (made old grown scope)
-type_session old grown scope name grow stay known sets outcome is_grown =
-    let theory = old.recorder.theory in
+pub type_session : (old : Session) (grown : Journal) (scope : ScopeHere) (name : List ℕ) → LibrariesGrow → IsSession old → SetsType (scope_of old.scope) (scope_of scope) name true
+    → new_type_outcome old.library.recorder.theory name ≡ Ok grown.theory → IsGrown old.library.recorder grown → IsSession (made old grown scope)
+type_session old grown scope name stay known sets outcome is_grown =
+    let theory = old.library.recorder.theory in
     let accepted = type-accepted theory grown.theory name outcome in
     record {
       legal = type-legal theory grown.theory name known.legal accepted;
       constants = λ other. sets.constants other ∙ known.constants other ∙ ap (λ (t : Theory). generic_type t other) (sym accepted.grown);
       types = λ other. sets.types other ∙ ap (λ (b : Bool). cond (bytes_eq name other) true b) (known.types other) ∙ either (bytes_eq name other) (is_declared theory other)
           ∙ ap (λ (t : Theory). is_declared t other) (sym accepted.grown);
-      made = stores-stay grow old.recorder grown (stored_of old.store) is_grown known.made;
-      logic = stay old.recorder grown old.logic is_grown known.logic;
+      library = store-stays stay old.library (made old grown scope).library known.library is_grown refl refl refl;
     }
 
 -- ---- declared constants
 
-pub const_session : (old : Session) (grown : Journal) (scope : ScopeHere) (name : List ℕ) (ty : HolType) → JournalsGrow → LogicStays → IsSession old → SetsConstant (scope_of old.scope) (scope_of scope) name (Some ty)
-    → new_const_outcome old.recorder.theory name ty ≡ Ok grown.theory → IsGrown old.recorder grown → IsSession (made old grown scope)
-const_session old grown scope name ty grow stay known sets outcome is_grown =
-    let theory = old.recorder.theory in
+pub const_session : (old : Session) (grown : Journal) (scope : ScopeHere) (name : List ℕ) (ty : HolType) → LibrariesGrow → IsSession old → SetsConstant (scope_of old.scope) (scope_of scope) name (Some ty)
+    → new_const_outcome old.library.recorder.theory name ty ≡ Ok grown.theory → IsGrown old.library.recorder grown → IsSession (made old grown scope)
+const_session old grown scope name ty stay known sets outcome is_grown =
+    let theory = old.library.recorder.theory in
     let accepted = const-accepted theory grown.theory name ty outcome in
     record {
       legal = const-legal theory grown.theory name ty known.legal accepted;
       constants = λ other. sets.constants other ∙ ap (λ (g : Option HolType). cond (bytes_eq name other) (Some ty) g) (known.constants other)
           ∙ ap (λ (t : Theory). generic_type t other) (sym accepted.grown);
       types = λ other. sets.types other ∙ known.types other ∙ ap (λ (t : Theory). is_declared t other) (sym accepted.grown);
-      made = stores-stay grow old.recorder grown (stored_of old.store) is_grown known.made;
-      logic = stay old.recorder grown old.logic is_grown known.logic;
+      library = store-stays stay old.library (made old grown scope).library known.library is_grown refl refl refl;
     }
 
 pub newconst_outcome-is : (state : State) (name : List ℕ) (tree : TypeTree) (ty : HolType) → type_meaning (scope_in state) tree ≡ Ok ty
@@ -432,12 +441,12 @@ def-argument_refused state name tree fault meant = ap (λ (r : Result NamedTerm 
 
 -- the session of a definition: the old one, the scope with the constant, and what `define` made of them
 module _ (old new : Session) (scope : ScopeHere) (name : List ℕ) (term : NamedTerm) (ty : HolType) (line : TheoremLine) where
-  pub def_session : JournalsGrow → LogicStays → IsSession old → type_of term ≡ Some ty → SetsConstant (scope_of old.scope) (scope_of scope) name (Some ty) → Defines (made old old.recorder scope) new name term line → IsSession new
-  def_session grow stay known typed sets d =
-      let theory = old.recorder.theory in
+  pub def_session : LibrariesGrow → IsSession old → type_of term ≡ Some ty → SetsConstant (scope_of old.scope) (scope_of scope) name (Some ty) → Defines (made old old.library.recorder scope) new name term line → IsSession new
+  def_session stay known typed sets d =
+      let theory = old.library.recorder.theory in
       let grown : d.answer.theorem.theory ≡ definition name (own_type term) (image term) ∷ theory = definition-accepted theory name term d.answer.theorem d.outcome in
       let own : own_type term ≡ ty = rw typed refl in
-      let whole : new.recorder.theory ≡ definition name (own_type term) (image term) ∷ theory = d.theory ∙ grown in
+      let whole : new.library.recorder.theory ≡ definition name (own_type term) (image term) ∷ theory = d.theory ∙ grown in
       record {
         legal = subst IsLegal (sym d.theory) d.well_formed.is_theorem.legal;
         constants = λ other. ap (λ (s : ScopeHere). (scope_of s).generic_type other) d.scope ∙ sets.constants other
@@ -445,28 +454,28 @@ module _ (old new : Session) (scope : ScopeHere) (name : List ℕ) (term : Named
             ∙ ap (λ (t : HolType). cond (bytes_eq name other) (Some t) (generic_type theory other)) (sym own)
             ∙ ap (λ (t : Theory). generic_type t other) (sym whole);
         types = λ other. ap (λ (s : ScopeHere). (scope_of s).declares_type other) d.scope ∙ sets.types other ∙ known.types other ∙ ap (λ (t : Theory). is_declared t other) (sym whole);
-        made = stored-made new.recorder (stored_of old.store) (stored_of new.store) (definition_name name) d.answer d.stored
-            (stores-stay grow old.recorder new.recorder (stored_of old.store) d.grown known.made) d.made;
-        logic = subst (HasLogic new.recorder) (sym d.logic) (stay old.recorder new.recorder old.logic d.grown known.logic);
+        library = libraries-stay stay old.library new.library known.library d.grown d.kept.logic d.kept.laws
+            (stored-made new.library.recorder (stored_of old.library.store) (stored_of new.library.store) (definition_name name) d.answer d.stored
+            (stores-stay stay.grow old.library.recorder new.library.recorder (stored_of old.library.store) d.grown known.library.stored) d.made);
       }
 
-  pub def_state : SetsConstant (scope_of old.scope) (scope_of scope) name (Some ty) → (d : Defines (made old old.recorder scope) new name term line)
+  pub def_state : SetsConstant (scope_of old.scope) (scope_of scope) name (Some ty) → (d : Defines (made old old.library.recorder scope) new name term line)
       → state_of new ≡ sessions.with_definition (state_of old) name d.answer.theorem
   def_state sets d =
       let variables : (other : List ℕ) → (scope_of new.scope).variable_type other ≡ (scope_of old.scope).variable_type other =
       λ other. ap (λ (s : ScopeHere). (scope_of s).variable_type other) d.scope ∙ sets.variables other in
-      let theorems = stored_theorem d.answer (definition_name name) (stored_of old.store) (stored_of new.store) d.stored in
+      let theorems = stored_theorem d.answer (definition_name name) (stored_of old.library.store) (stored_of new.library.store) d.stored in
       λ i. record { theory = d.theory i; variables = λ other. variables other i; theorems = λ other. theorems other i }
 
-pub def_turns : (old new : Session) (scope : ScopeHere) (text name : List ℕ) (tree : TermTree) (term : NamedTerm) (ty : HolType) (line : TheoremLine) → IsSound → JournalsGrow → LogicStays → IsSession old → SpellsCommand text (def_command name tree)
+pub def_turns : (old new : Session) (scope : ScopeHere) (text name : List ℕ) (tree : TermTree) (term : NamedTerm) (ty : HolType) (line : TheoremLine) → IsSound → LibrariesGrow → IsSession old → SpellsCommand text (def_command name tree)
     → meaning (scope_in (state_of old)) [] tree ≡ Ok term → type_of term ≡ Some ty → SetsConstant (scope_of old.scope) (scope_of scope) name (Some ty)
-    → Defines (made old old.recorder scope) new name term line → Turns (state_of old) (Some text) (Ok (Line line)) (state_of new)
-def_turns old new scope text name tree term ty line sound grow stay known spelled meant typed sets d =
-    let after : IsSession new = def_session old new scope name term ty line grow stay known typed sets d in
+    → Defines (made old old.library.recorder scope) new name term line → Turns (state_of old) (Some text) (Ok (Line line)) (state_of new)
+def_turns old new scope text name tree term ty line sound stay known spelled meant typed sets d =
+    let after : IsSession new = def_session old new scope name term ty line stay known typed sets d in
     let outcome : def_outcome (state_of old) name tree ≡ Ok d.answer.theorem = def_outcome-is (state_of old) name tree term meant ∙ d.outcome in
-    let allowed : Allows (state_of old) (Some text) (proves (definition_name name) d.answer.theorem) (state_of new) =
-    subst (λ (state : State). Allows (state_of old) (Some text) (proves (definition_name name) d.answer.theorem) state) (sym (def_state old new scope name term ty line sets d)) (def_defines spelled outcome) in
+    let allowed : AllowsMessage (state_of old) text (theorem_line (definition_name name) d.answer.theorem) (state_of new) =
+    subst (λ (state : State). AllowsMessage (state_of old) text (theorem_line (definition_name name) d.answer.theorem) state) (sym (def_state old new scope name term ty line sets d)) (def_defines spelled outcome) in
     let printed : IsLineOf line (scope_in (state_of new)) (definition_name name) d.answer.theorem =
     subst (λ (s : Scope). IsLineOf line s (definition_name name) d.answer.theorem) (ap scope_of (sym d.scope) ∙ scope_same new after) d.line_is in
-    prints (state_of old) (state_of new) (Some text) (definition_name name) d.answer.theorem line allowed
-    (proved (state_of new) d.answer.theorem sound after.legal d.well_formed (same_is_earlier new.recorder.theory d.answer.theorem.theory (sym d.theory))) printed
+    prints (state_of old) (state_of new) text (definition_name name) d.answer.theorem line allowed
+    (λ beside. proved (with_beside beside (state_of new)) d.answer.theorem sound after.legal d.well_formed (same_is_earlier new.library.recorder.theory d.answer.theorem.theory (sym d.theory))) printed

@@ -3,6 +3,9 @@ pub mod BeginningLemmas
 pub mod RecordingLemmas
 pub mod ReplacementLemmas
 pub mod DerivedLemmas
+pub mod RowLemmas
+pub mod AllowedLemmas
 pub mod SessionLemmas
 pub mod GrowthLemmas
 pub mod ClaimLemmas
+pub mod TautologyLemmas

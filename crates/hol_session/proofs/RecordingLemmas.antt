@@ -16,7 +16,11 @@ use Rattle.hol_model.specs.Kernel.RuleOutcomes.{term_rule_outcome}
 use Rattle.hol_journal.specs.Journal.{Journal, Recorded, IsRecorded, theorem_in}
 use Rattle.hol_journal.specs.Steps.{Step}
 use Rattle.hol_journal.specs.Growth.{IsGrown, JournalsGrow}
-use Rattle.hol_prelude.specs.HasLogic.{HasLogic, LogicStays}
+use Rattle.hol_prelude.specs.HasLogic.{HasLogic}
+use Rattle.hol_taut_laws.specs.HasLaws.{HasLaws}
+use Rattle.hol_equal.specs.Sequents.{Continues}
+use Rattle.hol_library.specs.declared.library.Library.{Library}
+use Rattle.hol_library.specs.Library.{IsLibrary}
 use Rattle.hol_syntax.specs.declared.scope.Scope.{Scope as ScopeHere}
 use Rattle.hol_syntax.specs.Scope.{scope_of}
 use Rattle.hol_session.specs.declared.session.Session.{Session}
@@ -24,8 +28,8 @@ use Rattle.hol_store.specs.Stored.{Stored, IsStoreOf, StoresTheorem, KeepsStore}
 use Rattle.hol_store.specs.declared.store.Store.{Store}
 use Rattle.hol_store.specs.Store.{stored_of}
 use Rattle.hol_store.proofs.StoreLemmas.{stores-stay}
-use Rattle.hol_session.specs.SessionState.{state_of, theorem_of, IsSession}
-use Rattle.hol_session.specs.Recording.{Records, AppliesRule, GrowsJournal}
+use Rattle.hol_session.specs.SessionState.{state_of, theorem_of, IsSession, LibrariesGrow}
+use Rattle.hol_session.specs.Recording.{Records, over_journal, AppliesRule, GrowsJournal}
 
 -- ---- stored theorems
 
@@ -81,21 +85,37 @@ term_rule-stands Assume theory term =
 answer-stands : (theory : Theory) (outcome : Result Theorem Fault) (theorem : Theorem) → StandsOn theory outcome → outcome ≡ Ok theorem → theorem.theory ≡ theory
 answer-stands theory outcome theorem stands is = subst (StandsOn theory) is stands
 
+-- ---- libraries
+
+-- a library whose journal has grown, with what the new recorder made stored
+pub libraries-stay : (stay : LibrariesGrow) (old new : Library) → IsLibrary old → IsGrown old.recorder new.recorder → new.logic ≡ old.logic → new.laws ≡ old.laws
+    → IsStoreOf new.recorder (stored_of new.store) → IsLibrary new
+libraries-stay stay old new known grown logic laws stored = record {
+  has_logic = subst (HasLogic new.recorder) (sym logic) (stay.logic old.recorder new.recorder old.logic grown known.has_logic);
+  has_laws = subst (HasLaws new.recorder) (sym laws) (stay.laws old.recorder new.recorder old.laws grown known.has_laws);
+  stored = stored;
+}
+
+-- the same store
+pub store-stays : (stay : LibrariesGrow) (old new : Library) → IsLibrary old → IsGrown old.recorder new.recorder → new.logic ≡ old.logic → new.laws ≡ old.laws
+    → new.store ≡ old.store → IsLibrary new
+store-stays stay old new known grown logic laws same =
+    libraries-stay stay old new known grown logic laws
+    (stores-stay stay.grow old.recorder new.recorder (stored_of new.store) grown (subst (λ (store : Store). IsStoreOf old.recorder (stored_of store)) (sym same) known.stored))
+
 -- ---- what a rule leaves
 
-abbrev pub over_journal : Session → Journal → Session
-over_journal session recorder = record session { recorder = recorder }
-
 -- what the recorder answered for a rule on a term
-pub term_rule-answered : (session : Session) (new : Journal) (result : Result Recorded Fault) (rule : TermRule) (term : NamedTerm) → Answers (theorem_in result) (term_rule_outcome rule session.recorder.theory term)
-    → IfOk result (Records session.recorder new) → IfOk result (AppliesRule session (over_journal session new))
-term_rule-answered session new (Ok made) rule term answers records = record {
-  records = records;
-  stands_on = answer-stands session.recorder.theory (term_rule_outcome rule session.recorder.theory term) made.theorem (term_rule-stands rule session.recorder.theory term) answers;
-  scope = refl;
-  store = refl;
-  logic = refl;
-}
+pub term_rule-answered : (session : Session) (new : Journal) (result : Result Recorded Fault) (rule : TermRule) (term : NamedTerm)
+    → Answers (theorem_in result) (term_rule_outcome rule session.library.recorder.theory term)
+    → IfOk result (Records session.library.recorder new) → IfOk result (AppliesRule session (over_journal session new))
+term_rule-answered session new (Ok made) rule term answers records =
+    let theory = session.library.recorder.theory in
+    record {
+      records = records;
+      stands_on = answer-stands theory (term_rule_outcome rule theory term) made.theorem (term_rule-stands rule theory term) answers;
+      kept = refl;
+    }
 term_rule-answered session new (Err fault) rule term answers records = tt
 
 no_growth : (journal : Journal) → IsGrown journal journal
@@ -103,45 +123,63 @@ no_growth journal = record { added = []; entries = sym (append-nil journal.entri
 
 -- a refusal before any rule
 pub nothing-grows : (session : Session) (fault : Fault) → GrowsJournal session session (Err fault)
-nothing-grows session fault = record { continues = record { grown = no_growth session.recorder; theory = refl; held = tt }; scope = refl; store = refl; logic = refl }
+nothing-grows session fault = record { continues = record { grown = no_growth session.library.recorder; theory = refl; held = tt }; kept = refl }
+
+-- it does not matter for which fault a rule is refused
+pub refused-grows : (session : Session) (new : Journal) (fault other : Fault) → Continues session.library.recorder new (Err fault) → GrowsJournal session (over_journal session new) (Err other)
+refused-grows session new fault other continues = record { continues = record { grown = continues.grown; theory = continues.theory; held = tt }; kept = refl }
+
+pub still-grows : (old new : Session) (fault other : Fault) → GrowsJournal old new (Err fault) → GrowsJournal old new (Err other)
+still-grows old new fault other grows = record { continues = record { grown = grows.continues.grown; theory = grows.continues.theory; held = tt }; kept = grows.kept }
 
 -- one more entry is a growth
 pub rule-grows : (old new : Session) (result : Result Recorded Fault) → JournalsGrow → IfOk result (AppliesRule old new) → OnErr result (new ≡ old) → GrowsJournal old new result
-rule-grows old new (Ok made) grow applies kept = record {
-  continues = record {
-    grown = grow.grown old.recorder new.recorder applies.records.step made applies.records.is_recorded;
-    theory = sym applies.records.is_recorded.stands_on ∙ applies.stands_on;
-    held = record { made = grow.made old.recorder new.recorder applies.records.step made applies.records.is_recorded; stands_on = applies.records.is_recorded.stands_on };
-  };
-  scope = applies.scope;
-  store = applies.store;
-  logic = applies.logic;
-}
+rule-grows old new (Ok made) grow applies kept =
+    let before = old.library.recorder in
+    let after = new.library.recorder in
+    let recorded = applies.records.is_recorded in
+    record {
+      continues = record {
+        grown = grow.grown before after applies.records.step made recorded;
+        theory = sym recorded.stands_on ∙ applies.stands_on;
+        held = record { made = grow.made before after applies.records.step made recorded; stands_on = recorded.stands_on };
+      };
+      kept = applies.kept;
+    }
 rule-grows old new (Err fault) grow applies kept = subst (λ (s : Session). GrowsJournal old s (Err fault)) (sym kept) (nothing-grows old fault)
 
 -- so is the entry of an axiom
-pub axiom-grows : (session : Session) (new : Journal) (result : Result Recorded Fault) (step : Step) (theorem : Theorem) → JournalsGrow → theorem.theory ≡ session.recorder.theory
-    → IfOk result (λ made. made.theorem ≡ theorem) → IfOk result (IsRecorded session.recorder new step) → OnErr result (new ≡ session.recorder) → GrowsJournal session (over_journal session new) result
+pub axiom-grows : (session : Session) (new : Journal) (result : Result Recorded Fault) (step : Step) (theorem : Theorem) → JournalsGrow → theorem.theory ≡ session.library.recorder.theory
+    → IfOk result (λ made. made.theorem ≡ theorem) → IfOk result (IsRecorded session.library.recorder new step) → OnErr result (new ≡ session.library.recorder)
+    → GrowsJournal session (over_journal session new) result
 axiom-grows session new (Ok made) step theorem grow over is recorded kept =
     rule-grows session (over_journal session new) (Ok made) grow
-    (record { records = record { step = step; is_recorded = recorded }; stands_on = ap (λ (t : Theorem). t.theory) is ∙ over; scope = refl; store = refl; logic = refl }) tt
+    (record { records = record { step = step; is_recorded = recorded }; stands_on = ap (λ (t : Theorem). t.theory) is ∙ over; kept = refl }) tt
 axiom-grows session new (Err fault) step theorem grow over is recorded kept =
     subst (λ (j : Journal). GrowsJournal session (over_journal session j) (Err fault)) (sym kept) (nothing-grows session fault)
 
 -- the session after a rule
 module _ (old new : Session) (result : Result Recorded Fault) (grows : GrowsJournal old new result) where
+  scope_kept : new.scope ≡ old.scope
+  scope_kept = ap (λ (s : Session). s.scope) grows.kept
+
+  store_kept : new.library.store ≡ old.library.store
+  store_kept = ap (λ (s : Session). s.library.store) grows.kept
+
   pub rule_state : state_of new ≡ state_of old
   rule_state = λ i. record {
     theory = grows.continues.theory i;
-    variables = (scope_of (grows.scope i)).variable_type;
-    theorems = λ name. theorem_of ((stored_of (grows.store i)).theorems name);
+    variables = (scope_of (scope_kept i)).variable_type;
+    theorems = λ name. theorem_of ((stored_of (store_kept i)).theorems name);
   }
 
-  pub rule_session : JournalsGrow → LogicStays → IsSession old → IsSession new
-  rule_session grow stay known = record {
-    legal = subst IsLegal (sym grows.continues.theory) known.legal;
-    constants = λ name. ap (λ (s : ScopeHere). (scope_of s).generic_type name) grows.scope ∙ known.constants name ∙ ap (λ (t : Theory). generic_type t name) (sym grows.continues.theory);
-    types = λ name. ap (λ (s : ScopeHere). (scope_of s).declares_type name) grows.scope ∙ known.types name ∙ ap (λ (t : Theory). is_declared t name) (sym grows.continues.theory);
-    made = stores-stay grow old.recorder new.recorder (stored_of new.store) grows.continues.grown (subst (λ (store : Store). IsStoreOf old.recorder (stored_of store)) (sym grows.store) known.made);
-    logic = subst (HasLogic new.recorder) (sym grows.logic) (stay old.recorder new.recorder old.logic grows.continues.grown known.logic);
-  }
+  pub rule_session : LibrariesGrow → IsSession old → IsSession new
+  rule_session stay known =
+      let theory = grows.continues.theory in
+      record {
+        legal = subst IsLegal (sym theory) known.legal;
+        constants = λ name. ap (λ (s : ScopeHere). (scope_of s).generic_type name) scope_kept ∙ known.constants name ∙ ap (λ (t : Theory). generic_type t name) (sym theory);
+        types = λ name. ap (λ (s : ScopeHere). (scope_of s).declares_type name) scope_kept ∙ known.types name ∙ ap (λ (t : Theory). is_declared t name) (sym theory);
+        library = store-stays stay old.library new.library known.library grows.continues.grown (ap (λ (s : Session). s.library.logic) grows.kept)
+            (ap (λ (s : Session). s.library.laws) grows.kept) store_kept;
+      }

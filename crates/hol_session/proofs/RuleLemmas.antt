@@ -10,7 +10,7 @@ use Rattle.hol_model.specs.Logic.KnownTerm.{knows_types, knows_constants, has_in
 use Rattle.hol_model.specs.Logic.Derivable.{AreKnown}
 use Rattle.hol_model.specs.Kernel.Theorem.{Theorem, IsWellFormed}
 use Rattle.hol_model.specs.Texts.SequentTexts.{IsReadableFormula, AreReadableFormulas}
-use Rattle.hol_model.specs.Scripts.Sessions.{State, scope_in, IsProved}
+use Rattle.hol_model.specs.Scripts.ScriptSessions.{State, scope_in, IsProved}
 use Rattle.hol_model.proofs.Tests.{first_of_both, second_of_both}
 use Rattle.hol_model.proofs.Terms.Images.{image-type}
 use Rattle.hol_model.proofs.Terms.NamedTests.{is_known-Decides}
@@ -24,21 +24,21 @@ pub same_is_earlier : (theory other : Theory) → other ≡ theory → IsEarlier
 same_is_earlier theory other same = record { added = []; is_added = sym same }
 
 -- a well named formula that is known is told by its text
-readable : (state : State) (term : NamedTerm) → IsKnown state.theory (image term) bool_type → is_within_limits term ≡ true → is_well_named term ≡ true
+pub readable : (state : State) (term : NamedTerm) → IsKnown state.library.theory (image term) bool_type → is_within_limits term ≡ true → is_well_named term ≡ true
     → IsReadableFormula (scope_in state) term
 readable state term known within named =
-    let theory = state.theory in
+    let theory = state.library.theory in
     let typed : type_of term ≡ Some bool_type = image-type term bool_type known.typed in
     let passed : is_known theory term ≡ true = (is_known-Decides theory term bool_type typed).1 known in
     let types : knows_types theory term ≡ true =
     first_of_both (knows_types theory term) (knows_constants theory term) (first_of_both _ (has_instances theory term) passed) in
     let instances : has_instances theory term ≡ true = second_of_both _ (has_instances theory term) passed in
     record {
-      readable = known_readable (scope_in state) term (rw typed refl) within (known_text theory state.variables term types instances named);
+      readable = known_readable (scope_in state) term (rw typed refl) within (known_text theory state.library.variables term types instances named);
       is_formula = rw typed refl;
     }
 
-are_readable : (state : State) (terms : List NamedTerm) → AreKnown state.theory (map image terms) → list_all is_within_limits terms ≡ true
+are_readable : (state : State) (terms : List NamedTerm) → AreKnown state.library.theory (map image terms) → list_all is_within_limits terms ≡ true
     → list_all is_well_named terms ≡ true → AreReadableFormulas (scope_in state) terms
 are_readable state [] known within named = tt
 are_readable state (term ∷ terms) known within named = (
@@ -48,9 +48,9 @@ are_readable state (term ∷ terms) known within named = (
       (second_of_both (is_well_named term) (list_all is_well_named terms) named),
 )
 
-pub proved : (state : State) (theorem : Theorem) → IsSound → IsLegal state.theory → IsWellFormed theorem → IsEarlier theorem.theory state.theory → IsProved state theorem
+pub proved : (state : State) (theorem : Theorem) → IsSound → IsLegal state.library.theory → IsWellFormed theorem → IsEarlier theorem.theory state.library.theory → IsProved state theorem
 proved state theorem sound legal formed earlier =
-    let theory = state.theory in
+    let theory = state.library.theory in
     let hypotheses = map image theorem.hypotheses in
     let conclusion = image theorem.conclusion in
     let derivable = Derivable-earlier theorem.theory theory earlier legal hypotheses conclusion formed.is_theorem.derivable in

@@ -11,6 +11,7 @@ use Rattle.hol_model.specs.Texts.Reading.{Scope}
 use Rattle.hol_model.specs.Scripts.Sessions.{definition_name}
 use Rattle.hol_journal.specs.Journal.{Recorded, IsMade}
 use Rattle.hol_journal.specs.Growth.{IsGrown}
+use Rattle.hol_library.specs.declared.library.Library.{Library}
 use Rattle.hol_store.specs.Stored.{StoresTheorem, KeepsStore}
 use Rattle.hol_store.specs.Store.{stored_of}
 use Rattle.hol_syntax.specs.Scope.{scope_of}
@@ -41,22 +42,27 @@ MakesLine (Ok (Some line)) scope name stored term =
 MakesLine (Ok None) scope name stored term = (theory : Theory) → IsRefused (define_outcome theory name term)
 MakesLine (Err fault) scope name stored term = fault ≡ Memory
 
+-- the theorems from which rules are made are those of before
+pub record KeepsLaws (old new : Library) : Type 0 where
+  pub logic : new.logic ≡ old.logic
+  pub laws : new.laws ≡ old.laws
+
 -- the theory has the definition, its theorem is stored, and the line is the theorem's
 pub record Defines (old new : Session) (name : List ℕ) (term : NamedTerm) (line : TheoremLine) : Type 0 where
   pub answer : Recorded
-  pub outcome : define_outcome old.recorder.theory name term ≡ Ok answer.theorem
+  pub outcome : define_outcome old.library.recorder.theory name term ≡ Ok answer.theorem
   pub well_formed : IsWellFormed answer.theorem
-  pub theory : new.recorder.theory ≡ answer.theorem.theory
-  pub made : IsMade new.recorder answer
-  pub grown : IsGrown old.recorder new.recorder
+  pub theory : new.library.recorder.theory ≡ answer.theorem.theory
+  pub made : IsMade new.library.recorder answer
+  pub grown : IsGrown old.library.recorder new.library.recorder
   pub scope : new.scope ≡ old.scope
-  pub logic : new.logic ≡ old.logic
-  pub stored : StoresTheorem (stored_of old.store) (stored_of new.store) (definition_name name) answer
+  pub kept : KeepsLaws old.library new.library
+  pub stored : StoresTheorem (stored_of old.library.store) (stored_of new.library.store) (definition_name name) answer
   pub line_is : IsLineOf line (scope_of old.scope) (definition_name name) answer.theorem
 
 -- the journal, the scope, the store and the theorems from which rules are made are those of before
 pub record KeepsSession (old new : Session) : Type 0 where
-  pub recorder : new.recorder ≡ old.recorder
+  pub recorder : new.library.recorder ≡ old.library.recorder
   pub scope : new.scope ≡ old.scope
-  pub store : KeepsStore (stored_of old.store) (stored_of new.store)
-  pub logic : new.logic ≡ old.logic
+  pub store : KeepsStore (stored_of old.library.store) (stored_of new.library.store)
+  pub kept : KeepsLaws old.library new.library

@@ -4,3 +4,4 @@ pub mod Growth
 pub mod Beginning
 pub mod Recording
 pub mod StoredClaims
+pub mod Rows

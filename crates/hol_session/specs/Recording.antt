@@ -1,9 +1,11 @@
 -- What the rules add to the journal of a session.
-use Rattle.std.specs.Prelude.{◌≡◌, Result}
+use Rattle.std.specs.Prelude.{◌≡◌, Result, Ok, Err}
 use Rattle.hol_model.specs.declared.fault.Fault.{Fault}
+use Rattle.hol_model.specs.Kernel.Theorem.{Theorem}
 use Rattle.hol_journal.specs.Steps.{Step}
 use Rattle.hol_journal.specs.Journal.{Journal, Recorded, IsRecorded}
 use Rattle.hol_equal.specs.Sequents.{Continues}
+use Rattle.hol_session.specs.declared.reply.Refused.{Refused}
 use Rattle.hol_session.specs.declared.session.Session.{Session}
 
 -- the theorem was recorded as one more entry
@@ -11,17 +13,27 @@ pub record Records (old new : Journal) (made : Recorded) : Type 0 where
   pub step : Step
   pub is_recorded : IsRecorded old new step made
 
+-- the session with this journal
+abbrev pub over_journal : Session → Journal → Session
+over_journal session recorder = record session { library = record session.library { recorder = recorder } }
+
 -- the theorem of a rule of the kernel was recorded, over the same theory, and all else is as before
 pub record AppliesRule (old new : Session) (made : Recorded) : Type 0 where
-  pub records : Records old.recorder new.recorder made
-  pub stands_on : made.theorem.theory ≡ old.recorder.theory
-  pub scope : new.scope ≡ old.scope
-  pub store : new.store ≡ old.store
-  pub logic : new.logic ≡ old.logic
+  pub records : Records old.library.recorder new.library.recorder made
+  pub stands_on : made.theorem.theory ≡ old.library.recorder.theory
+  pub kept : new ≡ over_journal old new.library.recorder
 
 -- after a rule the journal has grown over the same theory, what the rule answers is held, and all else is as before
 pub record GrowsJournal (old new : Session) (result : Result Recorded Fault) : Type 0 where
-  pub continues : Continues old.recorder new.recorder result
-  pub scope : new.scope ≡ old.scope
-  pub store : new.store ≡ old.store
-  pub logic : new.logic ≡ old.logic
+  pub continues : Continues old.library.recorder new.library.recorder result
+  pub kept : new ≡ over_journal old new.library.recorder
+
+-- the theorem of what was recorded
+abbrev pub theorem_given : Result Recorded Refused → Result Theorem Refused
+theorem_given (Ok made) = Ok made.theorem
+theorem_given (Err refused) = Err refused
+
+-- the refusal without its row
+abbrev pub without_row : Result Recorded Refused → Result Recorded Fault
+without_row (Ok made) = Ok made
+without_row (Err refused) = Err refused.fault

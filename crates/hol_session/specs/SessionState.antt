@@ -6,9 +6,11 @@ use Rattle.hol_model.specs.Logic.KnownTerm.{is_declared}
 use Rattle.hol_model.specs.Kernel.Theorem.{Theorem}
 use Rattle.hol_model.specs.Scripts.Sessions.{State}
 use Rattle.hol_journal.specs.Journal.{Recorded}
-use Rattle.hol_store.specs.Stored.{IsStoreOf}
+use Rattle.hol_journal.specs.Growth.{JournalsGrow}
 use Rattle.hol_store.specs.Store.{stored_of}
-use Rattle.hol_prelude.specs.HasLogic.{HasLogic}
+use Rattle.hol_prelude.specs.HasLogic.{LogicStays}
+use Rattle.hol_taut_laws.specs.HasLaws.{LawsStay}
+use Rattle.hol_library.specs.Library.{IsLibrary}
 use Rattle.hol_syntax.specs.Scope.{scope_of}
 use Rattle.hol_session.specs.declared.session.Session.{Session}
 
@@ -16,18 +18,23 @@ use Rattle.hol_session.specs.declared.session.Session.{Session}
 abbrev pub theorem_of : Option Recorded → Option Theorem
 theorem_of found = option_map (λ (stored : Recorded). stored.theorem) found
 
--- the state that a session of the program is in
+-- the library that a session of the program keeps
 abbrev pub state_of : Session → State
 state_of session = record {
-  theory = session.recorder.theory;
+  theory = session.library.recorder.theory;
   variables = (scope_of session.scope).variable_type;
-  theorems = λ name. theorem_of ((stored_of session.store).theorems name);
+  theorems = λ name. theorem_of ((stored_of session.library.store).theorems name);
 }
 
--- the scope is that of the theory, and the recorder made what is stored and the theorems from which rules are made
+-- the theory is legal, the scope is that of the theory, and the recorder made what the library keeps
 pub record IsSession (session : Session) : Type 0 where
-  pub legal : IsLegal session.recorder.theory
-  pub constants : (name : List ℕ) → (scope_of session.scope).generic_type name ≡ generic_type session.recorder.theory name
-  pub types : (name : List ℕ) → (scope_of session.scope).declares_type name ≡ is_declared session.recorder.theory name
-  pub made : IsStoreOf session.recorder (stored_of session.store)
-  pub logic : HasLogic session.recorder session.logic
+  pub legal : IsLegal session.library.recorder.theory
+  pub constants : (name : List ℕ) → (scope_of session.scope).generic_type name ≡ generic_type session.library.recorder.theory name
+  pub types : (name : List ℕ) → (scope_of session.scope).declares_type name ≡ is_declared session.library.recorder.theory name
+  pub library : IsLibrary session.library
+
+-- what a recorder made stays its own while its theory grows
+pub record LibrariesGrow : Type 0 where
+  pub grow : JournalsGrow
+  pub logic : LogicStays
+  pub laws : LawsStay

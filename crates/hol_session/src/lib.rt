@@ -3,6 +3,9 @@
 
 mod beginning;
 mod derivation;
+mod growth;
 mod lines;
+pub mod reply;
+mod rows;
 pub mod session;
 mod stored_claims;

@@ -1,6 +1,7 @@
 // Sessions: what the commands of a script have stored.
 ghost use Rattle.std.specs.Prelude.{◌≡◌, ◌⊎◌, ◌<◌, ◌∷◌, ℕ, List, [], map, length, Some, OnOk, OnErr, IfOk, IfErr, IsErrOf, Contains, string_bytes};
-ghost use Rattle.hol_model.specs.Scripts.Commands.{DerivedTree, by_conversion, by_premise, by_premises, by_term_and_premise, by_cases, by_witness, by_choice, RuleTree, by_term, by_pair, by_abs, by_inst, by_inst_type, by_derived, thm_command, show_command, var_command, def_command, newtype_command, newconst_command, SpellsCommand};
+ghost use Rattle.hol_model.specs.Scripts.Commands.{DerivedTree, by_conversion, by_premise, by_premises, by_term_and_premise, by_cases, by_witness, by_choice, RuleTree, by_term, by_pair, by_abs, by_inst, by_inst_type, by_derived};
+ghost use Rattle.hol_model.specs.Scripts.CommandGrammar.{TheoremTree, by_tautology, thm_command, show_command, var_command, def_command, newtype_command, newconst_command, SpellsCommand};
 ghost use Rattle.hol_model.specs.Kernel.Outcome.{Answers};
 ghost use Rattle.hol_model.specs.Texts.Reading.{type_meaning, meaning};
 ghost use Rattle.hol_model.specs.Kernel.Rules.{define_outcome, new_type_outcome, new_const_outcome};
@@ -13,56 +14,50 @@ ghost use Rattle.hol_model.specs.declared.fault.Fault.TheVariants.{Memory, TooLo
 ghost use Rattle.hol_grammar.specs.Steps.{flat_steps_of};
 ghost use Rattle.hol_grammar.specs.TermSteps.{term_steps, flat_steps};
 ghost use Rattle.hol_grammar.specs.Views.{steps_of};
-ghost use Rattle.hol_session.specs.Answers.{Turns, AnswersRule, AnswersItems};
+ghost use Rattle.hol_session.specs.Answers.{plainly, Turns, AnswersRule, AnswersItems, AnswersTheorem};
 ghost use Rattle.hol_prelude.specs.Prelude.{prelude_theorems};
 ghost use Rattle.hol_journal.specs.Journal.{IsMade, theorem_in};
 ghost use Rattle.hol_log.specs.LogAccepted.{log_claim};
 ghost use Rattle.hol_log.specs.Pruning.{HaveIdentifiers};
 ghost use Rattle.hol_session.specs.Growth.{IsRefused, Defines, KeepsSession};
-ghost use Rattle.hol_session.specs.Recording.{AppliesRule, GrowsJournal};
+ghost use Rattle.hol_session.specs.Recording.{AppliesRule, GrowsJournal, theorem_given, without_row};
 ghost use Rattle.hol_session.specs.Beginning.{logical_state, AreStoredTheorems, StoresNumbered};
 ghost use Rattle.hol_store.specs.Store.{stored_of};
 ghost use Rattle.hol_session.specs.SessionState.{state_of, IsSession};
 ghost use Rattle.hol_session.specs.StoredClaims.{stored_claims, IsAcceptedLog, IsLongLog};
-ghost use Rattle.hol_command.specs.Views.{IsRule, IsDerived, IsTermPair, AreTermPairs, IsTypePair, AreTypePairs};
+ghost use Rattle.hol_command.specs.Views.{IsAsked, IsRule, IsDerived, IsTermPair, AreTermPairs, IsTypePair, AreTypePairs};
 
 use crate::beginning::{STORED, StoredTheorem, logical_scope};
 use crate::derivation::{on_premise, on_premises, on_term, on_term_and_premise, on_theorems};
+use crate::growth::libraries_grow;
 use crate::lines::{TheoremLine, definition_line, definition_name, is_theorem_name, theorem_line};
+use crate::reply::{Printed, Refused};
+use crate::rows::refusal_with_row;
 use crate::stored_claims::claims;
 use hol_bool::disj_cases;
-use hol_command::command::Rule;
+use hol_command::command::{Asked, Rule};
 use hol_command::derived::Derived;
 use hol_command::pairs::{TermPair, TypePair};
 use hol_equal::beta_conv;
 use hol_grammar::{TermStep, TypeStep};
-use hol_journal::{Rec, Recorder, journals_grow};
+use hol_journal::{Rec, journals_grow};
+use hol_library::Library;
 use hol_log::log_text;
 use hol_model::{Axiom, Fault, PairRule, PremiseRule, PremisesRule, TermPremiseRule, TermRule};
-use hol_prelude::{Bool, logic_stays, prelude, theorem_of};
+use hol_prelude::theorem_of;
 use hol_quant::{choose, exists};
 use hol_sound::sound;
-use hol_store::Store;
 use hol_syntax::{Scope, build_type, term_of_steps};
+use hol_taut::taut;
 use hol_terms::Term;
 use hol_types::Ty;
 use std::alloc::Global;
 
-/// What an accepted command prints.
-#[derive(Drop)]
-pub enum Printed {
-    Nothing,
-    Line(TheoremLine),
-}
-
-/// A theory with its journal, what the names of texts stand for, the stored theorems, and those from which rules are
-/// made.
+/// A library, which is a theory with its journal and the stored theorems, and what the names of texts stand for.
 #[derive(Drop)]
 pub struct Session {
-    recorder: Recorder,
+    library: Library,
     scope: Scope,
-    store: Store,
-    logic: Bool,
 }
 
 impl Session {
@@ -92,21 +87,12 @@ impl Session {
             Ok(scope) => scope,
             Err(fault) => return Err(fault),
         };
-        let mut recorder = match Recorder::new(alloc) {
-            Ok(recorder) => recorder,
+        let library = match Library::new(alloc) {
+            Ok(library) => library,
             Err(fault) => return Err(fault),
         };
-        let logic = match prelude(&mut recorder, alloc) {
-            Ok(logic) => logic,
-            Err(fault) => return Err(fault),
-        };
-        recorder.theory_is_legal();
-        Ok(Session {
-            recorder,
-            scope,
-            store: Store::new(alloc),
-            logic,
-        })
+        library.recorder.theory_is_legal();
+        Ok(Session { library, scope })
     }
 
     // Stores the theorems of a table, which are those of the prelude.
@@ -135,48 +121,54 @@ impl Session {
         ensures err { IfErr result (λ fault. fault ≡ Memory) }
         ensures kept { IsSession self.new }
     {
-        match theorem_of(&self.recorder, &self.logic, number).copy(alloc) {
+        match theorem_of(&self.library.recorder, &self.library.logic, number).copy(alloc) {
             Ok(theorem) => self.store(alloc, name, theorem),
             Err(fault) => Err(fault),
         }
     }
 
-    /// `thm NAME = RULE ..`: stores what the rule gives. A refusal changes nothing.
-    pub fn thm(&mut self, alloc: Global, name: &str, rule: &Rule) -> Result<Printed, Fault>
+    /// `thm NAME = RULE ..` and `thm NAME = TAUT "p"`: stores and prints the theorem that is asked for. A refusal changes
+    /// nothing.
+    pub fn thm(&mut self, alloc: Global, name: &str, asked: &Asked) -> Result<Printed, Refused>
         requires { IsSession self.old }
-        ensures turns { (text : List ℕ) (tree : RuleTree) → SpellsCommand text (thm_command name.now tree) → IsRule rule.now tree
+        ensures turns { (text : List ℕ) (tree : TheoremTree) → SpellsCommand text (thm_command name.now tree) → IsAsked asked.now tree
             → Turns (state_of self.old) (Some text) result (state_of self.new) }
         ensures kept { IsSession self.new }
     {
         if !is_theorem_name(name) {
-            return Err(Fault::BadName);
+            return Err(Refused {
+                fault: Fault::BadName,
+                row: None,
+            });
         }
-        if self.store.get(name).is_some() {
-            return Err(Fault::NameTaken);
+        if self.library.store.get(name).is_some() {
+            return Err(Refused {
+                fault: Fault::NameTaken,
+                row: None,
+            });
         }
-        journals_grow();
-        logic_stays();
-        let theorem = match self.apply(alloc, rule) {
+        libraries_grow();
+        let theorem = match self.theorem(alloc, asked) {
             Ok(theorem) => theorem,
-            Err(fault) => return Err(fault),
+            Err(refused) => return Err(refused),
         };
         sound();
-        let thm = self.recorder.thm(&theorem);
+        let thm = self.library.recorder.thm(&theorem);
         thm.well_formed();
         let line = match theorem_line(alloc, &self.scope, name, thm) {
             Ok(line) => line,
-            Err(fault) => return Err(fault),
+            Err(fault) => return Err(Refused { fault, row: None }),
         };
         match self.store(alloc, name, theorem) {
             Ok(()) => Ok(Printed::Line(line)),
-            Err(fault) => Err(fault),
+            Err(fault) => Err(Refused { fault, row: None }),
         }
     }
 
     // Stores a theorem. A refusal changes nothing.
     fn store(&mut self, alloc: Global, name: &str, theorem: Rec) -> Result<(), Fault>
         requires session { IsSession self.old }
-        requires made { IsMade self.old.recorder theorem }
+        requires made { IsMade self.old.library.recorder theorem }
         ensures ok { OnOk result (state_of self.new ≡ with_theorem (state_of self.old) name.now theorem.theorem) }
         ensures err { OnErr result (state_of self.new ≡ state_of self.old) }
         ensures memory { IfErr result (λ fault. fault ≡ Memory) }
@@ -185,11 +177,11 @@ impl Session {
         let Ok(key) = String::from_str(alloc, name) else {
             return Err(Fault::Memory);
         };
-        match self.store.room() {
+        match self.library.store.room() {
             Ok(()) => {}
             Err(fault) => return Err(fault),
         }
-        self.store.put_made(key, theorem);
+        self.library.store.put_made(key, theorem);
         Ok(())
     }
 
@@ -197,13 +189,13 @@ impl Session {
     pub fn show(&self, alloc: Global, name: &str) -> Result<Printed, Fault>
         requires { IsSession self.now }
         ensures { (text : List ℕ) → SpellsCommand text (show_command name.now)
-            → Turns (state_of self.now) (Some text) result (state_of self.now) }
+            → Turns (state_of self.now) (Some text) (plainly result) (state_of self.now) }
     {
-        let Some(theorem) = self.store.get(name) else {
+        let Some(theorem) = self.library.store.get(name) else {
             return Err(Fault::UnknownName);
         };
         sound();
-        let thm = self.recorder.thm(theorem);
+        let thm = self.library.recorder.thm(theorem);
         thm.well_formed();
         match theorem_line(alloc, &self.scope, name, thm) {
             Ok(line) => Ok(Printed::Line(line)),
@@ -215,7 +207,7 @@ impl Session {
     pub fn var(&mut self, alloc: Global, name: &str, steps: &[TypeStep]) -> Result<Printed, Fault>
         requires { IsSession self.old }
         ensures turns { (text : List ℕ) (tree : TypeTree) → SpellsCommand text (var_command name.now tree) → steps_of steps.now ≡ type_steps tree
-            → Turns (state_of self.old) (Some text) result (state_of self.new) }
+            → Turns (state_of self.old) (Some text) (plainly result) (state_of self.new) }
         ensures kept { IsSession self.new }
     {
         let ty = match self.ty(alloc, steps) {
@@ -232,7 +224,7 @@ impl Session {
     pub fn def(&mut self, alloc: Global, name: &str, steps: &[TermStep]) -> Result<Printed, Fault>
         requires { IsSession self.old }
         ensures turns { (text : List ℕ) (tree : TermTree) → SpellsCommand text (def_command name.now tree) → flat_steps_of steps.now ≡ flat_steps (term_steps tree)
-            → Turns (state_of self.old) (Some text) result (state_of self.new) }
+            → Turns (state_of self.old) (Some text) (plainly result) (state_of self.new) }
         ensures kept { IsSession self.new }
     {
         let term = match self.term(alloc, steps) {
@@ -245,8 +237,7 @@ impl Session {
             Err(_) => return Err(Fault::Memory),
         }
         sound();
-        journals_grow();
-        logic_stays();
+        libraries_grow();
         match self.define(alloc, name, &term) {
             Ok(line) => Ok(Printed::Line(line)),
             Err(fault) => {
@@ -259,7 +250,7 @@ impl Session {
     /// `newtype NAME`: declares a type. A refusal changes nothing.
     pub fn newtype(&mut self, alloc: Global, name: &str) -> Result<Printed, Fault>
         requires { IsSession self.old }
-        ensures turns { (text : List ℕ) → SpellsCommand text (newtype_command name.now) → Turns (state_of self.old) (Some text) result (state_of self.new) }
+        ensures turns { (text : List ℕ) → SpellsCommand text (newtype_command name.now) → Turns (state_of self.old) (Some text) (plainly result) (state_of self.new) }
         ensures kept { IsSession self.new }
     {
         match self.scope.add_type(alloc, name) {
@@ -267,9 +258,8 @@ impl Session {
             Err(Fault::NameTaken) => return Err(self.refusal_of_type(alloc, name)),
             Err(_) => return Err(Fault::Memory),
         }
-        journals_grow();
-        logic_stays();
-        match self.recorder.new_type(alloc, name) {
+        libraries_grow();
+        match self.library.recorder.new_type(alloc, name) {
             Ok(()) => Ok(Printed::Nothing),
             Err(fault) => {
                 self.scope.remove_type(name);
@@ -287,7 +277,7 @@ impl Session {
     ) -> Result<Printed, Fault>
         requires { IsSession self.old }
         ensures turns { (text : List ℕ) (tree : TypeTree) → SpellsCommand text (newconst_command name.now tree) → steps_of steps.now ≡ type_steps tree
-            → Turns (state_of self.old) (Some text) result (state_of self.new) }
+            → Turns (state_of self.old) (Some text) (plainly result) (state_of self.new) }
         ensures kept { IsSession self.new }
     {
         let ty = match self.ty(alloc, steps) {
@@ -299,9 +289,8 @@ impl Session {
             Err(Fault::NameTaken) => return Err(self.refusal_of_const(alloc, name, &ty)),
             Err(_) => return Err(Fault::Memory),
         }
-        journals_grow();
-        logic_stays();
-        match self.recorder.new_const(alloc, name, &ty) {
+        libraries_grow();
+        match self.library.recorder.new_const(alloc, name, &ty) {
             Ok(()) => Ok(Printed::Nothing),
             Err(fault) => {
                 self.scope.remove_const(name);
@@ -314,14 +303,14 @@ impl Session {
     /// and TooLong, where the text would be longer than the limit on texts.
     pub fn log_text<'a>(&'a self, alloc: Global, names: &'a [String]) -> Result<Vec<u8>, Fault>
         requires session { IsSession self.now }
-        requires named { HaveIdentifiers (stored_claims ((stored_of self.now.store).theorems) (map string_bytes names.now)) }
-        ensures ok { IfOk result (λ text. IsAcceptedLog self.now.recorder (map log_claim (stored_claims ((stored_of self.now.store).theorems) (map string_bytes names.now))) text.items) }
-        ensures too_long { IsErrOf result TooLong → IsLongLog self.now.recorder (map log_claim (stored_claims ((stored_of self.now.store).theorems) (map string_bytes names.now))) }
+        requires named { HaveIdentifiers (stored_claims ((stored_of self.now.library.store).theorems) (map string_bytes names.now)) }
+        ensures ok { IfOk result (λ text. IsAcceptedLog self.now.library.recorder (map log_claim (stored_claims ((stored_of self.now.library.store).theorems) (map string_bytes names.now))) text.items) }
+        ensures too_long { IsErrOf result TooLong → IsLongLog self.now.library.recorder (map log_claim (stored_claims ((stored_of self.now.library.store).theorems) (map string_bytes names.now))) }
         ensures refusals { IfErr result (Contains (TooLong ∷ Memory ∷ [])) }
     {
-        let _entries = self.recorder.stored();
-        match claims(alloc, &self.store, names) {
-            Ok(claims) => log_text(&self.recorder, alloc, &claims),
+        let _entries = self.library.recorder.stored();
+        match claims(alloc, &self.library.store, names) {
+            Ok(claims) => log_text(&self.library.recorder, alloc, &claims),
             Err(fault) => Err(fault),
         }
     }
@@ -330,7 +319,7 @@ impl Session {
     fn define(&mut self, alloc: Global, name: &str, term: &Term) -> Result<TheoremLine, Fault>
         ensures ok { IfOk result (Defines self.old self.new name.now term.now) }
         ensures kept { OnErr result (KeepsSession self.old self.new) }
-        ensures err { IfErr result (λ fault. (fault ≡ Memory) ⊎ (define_outcome self.old.recorder.theory name.now term.now ≡ Err fault)) }
+        ensures err { IfErr result (λ fault. (fault ≡ Memory) ⊎ (define_outcome self.old.library.recorder.theory name.now term.now ≡ Err fault)) }
     {
         let key = match definition_name(alloc, name) {
             Ok(key) => key,
@@ -341,27 +330,27 @@ impl Session {
             Ok(None) => return Err(self.refusal_of_definition(alloc, name, term)),
             Err(fault) => return Err(fault),
         };
-        match self.store.room() {
+        match self.library.store.room() {
             Ok(()) => {}
             Err(fault) => return Err(fault),
         }
         journals_grow();
-        let theorem = match self.recorder.define(alloc, name, term) {
+        let theorem = match self.library.recorder.define(alloc, name, term) {
             Ok(theorem) => theorem,
             Err(fault) => return Err(fault),
         };
-        self.recorder.thm(&theorem).well_formed();
-        self.store.put_made(key, theorem);
+        self.library.recorder.thm(&theorem).well_formed();
+        self.library.store.put_made(key, theorem);
         Ok(line)
     }
 
     // The refusal of a definition that the theory does not accept.
     fn refusal_of_definition(&mut self, alloc: Global, name: &str, term: &Term) -> Fault
-        requires { IsRefused (define_outcome self.old.recorder.theory name.now term.now) }
-        ensures fault { (result ≡ Memory) ⊎ (define_outcome self.old.recorder.theory name.now term.now ≡ Err result) }
+        requires { IsRefused (define_outcome self.old.library.recorder.theory name.now term.now) }
+        ensures fault { (result ≡ Memory) ⊎ (define_outcome self.old.library.recorder.theory name.now term.now ≡ Err result) }
         ensures kept { self.new ≡ self.old }
     {
-        match self.recorder.define(alloc, name, term) {
+        match self.library.recorder.define(alloc, name, term) {
             Ok(_) => unreachable!(),
             Err(fault) => fault,
         }
@@ -369,11 +358,11 @@ impl Session {
 
     // The refusal of a type that the theory does not accept.
     fn refusal_of_type(&mut self, alloc: Global, name: &str) -> Fault
-        requires { IsRefused (new_type_outcome self.old.recorder.theory name.now) }
-        ensures fault { (result ≡ Memory) ⊎ (new_type_outcome self.old.recorder.theory name.now ≡ Err result) }
+        requires { IsRefused (new_type_outcome self.old.library.recorder.theory name.now) }
+        ensures fault { (result ≡ Memory) ⊎ (new_type_outcome self.old.library.recorder.theory name.now ≡ Err result) }
         ensures kept { self.new ≡ self.old }
     {
-        match self.recorder.new_type(alloc, name) {
+        match self.library.recorder.new_type(alloc, name) {
             Ok(()) => unreachable!(),
             Err(fault) => fault,
         }
@@ -381,13 +370,48 @@ impl Session {
 
     // The refusal of a constant that the theory does not accept.
     fn refusal_of_const(&mut self, alloc: Global, name: &str, ty: &Ty) -> Fault
-        requires { IsRefused (new_const_outcome self.old.recorder.theory name.now ty.now) }
-        ensures fault { (result ≡ Memory) ⊎ (new_const_outcome self.old.recorder.theory name.now ty.now ≡ Err result) }
+        requires { IsRefused (new_const_outcome self.old.library.recorder.theory name.now ty.now) }
+        ensures fault { (result ≡ Memory) ⊎ (new_const_outcome self.old.library.recorder.theory name.now ty.now ≡ Err result) }
         ensures kept { self.new ≡ self.old }
     {
-        match self.recorder.new_const(alloc, name, ty) {
+        match self.library.recorder.new_const(alloc, name, ty) {
             Ok(()) => unreachable!(),
             Err(fault) => fault,
+        }
+    }
+
+    // What `thm` asks for. The state stays.
+    fn theorem(&mut self, alloc: Global, asked: &Asked) -> Result<Rec, Refused>
+        requires { IsSession self.old }
+        ensures answers { (tree : TheoremTree) → IsAsked asked.now tree → AnswersTheorem (theorem_given result) (state_of self.old) tree }
+        ensures grows { GrowsJournal self.old self.new (without_row result) }
+    {
+        match asked {
+            Asked::Rule(rule) => match self.apply(alloc, rule) {
+                Ok(theorem) => Ok(theorem),
+                Err(fault) => Err(Refused::plain(fault)),
+            },
+            Asked::Tautology(steps) => self.tautology(alloc, steps),
+        }
+    }
+
+    // TAUT: a tautology. A proposition that is none is refused with the first row of values of its atoms that makes it
+    // false. The state stays.
+    fn tautology(&mut self, alloc: Global, steps: &[TermStep]) -> Result<Rec, Refused>
+        requires { IsSession self.old }
+        ensures answers { (tree : TermTree) → flat_steps_of steps.now ≡ flat_steps (term_steps tree)
+            → AnswersTheorem (theorem_given result) (state_of self.old) (by_tautology tree) }
+        ensures grows { GrowsJournal self.old self.new (without_row result) }
+    {
+        let term = match self.term(alloc, steps) {
+            Ok(term) => term,
+            Err(fault) => return Err(Refused::plain(fault)),
+        };
+        term.well_formed();
+        term.well_named();
+        match taut(&mut self.library.recorder, alloc, &self.library.laws, &term) {
+            Ok(theorem) => Ok(theorem),
+            Err(fault) => Err(refusal_with_row(alloc, &self.scope, &term, fault)),
         }
     }
 
@@ -404,8 +428,8 @@ impl Session {
             Rule::Abs(steps, name) => self.abs(alloc, steps, name),
             Rule::Inst(pairs, name) => self.inst(alloc, pairs, name),
             Rule::InstType(pairs, name) => self.inst_type(alloc, pairs, name),
-            Rule::OfAxiom(Axiom::Eta) => self.recorder.eta(alloc),
-            Rule::OfAxiom(Axiom::Select) => self.recorder.select(alloc),
+            Rule::OfAxiom(Axiom::Eta) => self.library.recorder.eta(alloc),
+            Rule::OfAxiom(Axiom::Select) => self.library.recorder.select(alloc),
             Rule::Derived(rule) => self.derive(alloc, rule),
         }
     }
@@ -463,7 +487,7 @@ impl Session {
         ensures kept { OnErr result (self.new ≡ self.old) }
     {
         match self.term(alloc, steps) {
-            Ok(term) => on_term(alloc, &mut self.recorder, rule, &term),
+            Ok(term) => on_term(alloc, &mut self.library.recorder, rule, &term),
             Err(fault) => Err(fault),
         }
     }
@@ -481,13 +505,13 @@ impl Session {
         ensures applies { IfOk result (AppliesRule self.old self.new) }
         ensures kept { OnErr result (self.new ≡ self.old) }
     {
-        let Some(first) = self.store.get(first) else {
+        let Some(first) = self.library.store.get(first) else {
             return Err(Fault::UnknownName);
         };
-        let Some(second) = self.store.get(second) else {
+        let Some(second) = self.library.store.get(second) else {
             return Err(Fault::UnknownName);
         };
-        on_theorems(alloc, &mut self.recorder, rule, first, second)
+        on_theorems(alloc, &mut self.library.recorder, rule, first, second)
     }
 
     // ABS
@@ -502,8 +526,8 @@ impl Session {
             Ok(binder) => binder,
             Err(fault) => return Err(fault),
         };
-        match self.store.get(name) {
-            Some(theorem) => self.recorder.abs(alloc, &binder, theorem),
+        match self.library.store.get(name) {
+            Some(theorem) => self.library.recorder.abs(alloc, &binder, theorem),
             None => Err(Fault::UnknownName),
         }
     }
@@ -516,7 +540,7 @@ impl Session {
         ensures grows { GrowsJournal self.old self.new result }
     {
         match self.term(alloc, steps) {
-            Ok(term) => beta_conv(&mut self.recorder, alloc, &term),
+            Ok(term) => beta_conv(&mut self.library.recorder, alloc, &term),
             Err(fault) => Err(fault),
         }
     }
@@ -527,8 +551,14 @@ impl Session {
         ensures answers { AnswersRule (theorem_in result) (state_of self.old) (by_derived (by_premise rule name.now)) }
         ensures grows { GrowsJournal self.old self.new result }
     {
-        match self.store.get(name) {
-            Some(premise) => on_premise(alloc, &mut self.recorder, &self.logic, rule, premise),
+        match self.library.store.get(name) {
+            Some(premise) => on_premise(
+                alloc,
+                &mut self.library.recorder,
+                &self.library.logic,
+                rule,
+                premise,
+            ),
             None => Err(Fault::UnknownName),
         }
     }
@@ -545,13 +575,20 @@ impl Session {
         ensures answers { AnswersRule (theorem_in result) (state_of self.old) (by_derived (by_premises rule first.now second.now)) }
         ensures grows { GrowsJournal self.old self.new result }
     {
-        let Some(first) = self.store.get(first) else {
+        let Some(first) = self.library.store.get(first) else {
             return Err(Fault::UnknownName);
         };
-        let Some(second) = self.store.get(second) else {
+        let Some(second) = self.library.store.get(second) else {
             return Err(Fault::UnknownName);
         };
-        on_premises(alloc, &mut self.recorder, &self.logic, rule, first, second)
+        on_premises(
+            alloc,
+            &mut self.library.recorder,
+            &self.library.logic,
+            rule,
+            first,
+            second,
+        )
     }
 
     // A derived rule on a term and a stored theorem.
@@ -571,11 +608,11 @@ impl Session {
             Ok(term) => term,
             Err(fault) => return Err(fault),
         };
-        match self.store.get(name) {
+        match self.library.store.get(name) {
             Some(premise) => on_term_and_premise(
                 alloc,
-                &mut self.recorder,
-                &self.logic,
+                &mut self.library.recorder,
+                &self.library.logic,
                 rule,
                 &term,
                 premise,
@@ -596,19 +633,19 @@ impl Session {
         ensures answers { AnswersRule (theorem_in result) (state_of self.old) (by_derived (by_cases disjunction.now first.now second.now)) }
         ensures grows { GrowsJournal self.old self.new result }
     {
-        let Some(disjunction) = self.store.get(disjunction) else {
+        let Some(disjunction) = self.library.store.get(disjunction) else {
             return Err(Fault::UnknownName);
         };
-        let Some(first) = self.store.get(first) else {
+        let Some(first) = self.library.store.get(first) else {
             return Err(Fault::UnknownName);
         };
-        let Some(second) = self.store.get(second) else {
+        let Some(second) = self.library.store.get(second) else {
             return Err(Fault::UnknownName);
         };
         disj_cases(
-            &mut self.recorder,
+            &mut self.library.recorder,
             alloc,
-            &self.logic,
+            &self.library.logic,
             disjunction,
             first,
             second,
@@ -636,11 +673,11 @@ impl Session {
             Ok(witness) => witness,
             Err(fault) => return Err(fault),
         };
-        match self.store.get(name) {
+        match self.library.store.get(name) {
             Some(premise) => exists(
-                &mut self.recorder,
+                &mut self.library.recorder,
                 alloc,
-                &self.logic,
+                &self.library.logic,
                 &formula,
                 &witness,
                 premise,
@@ -666,16 +703,16 @@ impl Session {
             Ok(variable) => variable,
             Err(fault) => return Err(fault),
         };
-        let Some(first) = self.store.get(first) else {
+        let Some(first) = self.library.store.get(first) else {
             return Err(Fault::UnknownName);
         };
-        let Some(second) = self.store.get(second) else {
+        let Some(second) = self.library.store.get(second) else {
             return Err(Fault::UnknownName);
         };
         choose(
-            &mut self.recorder,
+            &mut self.library.recorder,
             alloc,
-            &self.logic,
+            &self.library.logic,
             &variable,
             first,
             second,
@@ -726,8 +763,8 @@ impl Session {
             Ok(theta) => theta,
             Err(fault) => return Err(fault),
         };
-        match self.store.get(name) {
-            Some(theorem) => self.recorder.inst(alloc, &theta, theorem),
+        match self.library.store.get(name) {
+            Some(theorem) => self.library.recorder.inst(alloc, &theta, theorem),
             None => Err(Fault::UnknownName),
         }
     }
@@ -776,8 +813,8 @@ impl Session {
             Ok(theta) => theta,
             Err(fault) => return Err(fault),
         };
-        match self.store.get(name) {
-            Some(theorem) => self.recorder.inst_type(alloc, &theta, theorem),
+        match self.library.store.get(name) {
+            Some(theorem) => self.library.recorder.inst_type(alloc, &theta, theorem),
             None => Err(Fault::UnknownName),
         }
     }

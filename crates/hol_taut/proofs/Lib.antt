@@ -7,7 +7,7 @@ mod LeafLemmas
 mod ShownLemmas
 mod ShownSteps
 mod RefutedLemmas
-mod AtomLemmas
+pub mod AtomLemmas
 mod TautologyLemmas
 mod SmallLemmas
 mod TautAnswers

@@ -7,6 +7,8 @@ mod derived_script_tests;
 #[cfg(test)]
 mod replacement_tests;
 #[cfg(test)]
+mod rows;
+#[cfg(test)]
 mod script_tests;
 #[cfg(test)]
 mod sinks;

@@ -1,93 +1,159 @@
 // INST and INST_TYPE in scripts.
-use crate::script_tests::writes;
+use crate::rows::{Row, first_wrong, push_times, writes};
 use hol_model::Fault;
 use std::alloc::Global;
-use std::test::Fail;
 
-#[test]
-fn inst_renames_a_binder(rt: HostRuntime) -> Result<(), Fail> {
-    let alloc = rt.alloc();
-    let script = b"thm a = REFL `\\y:A. (x:A)` ;; thm b = INST [`(y:A)`, `(x:A)`] a ;;";
-    let expected = b"a: |- (\\y:A. (x:A)) = (\\y:A. (x:A))\n\
-b: |- (\\y':A. (y:A)) = (\\y':A. (y:A))\n";
-    assert!(rt; writes(alloc, script, expected)?);
-    Ok(())
-}
-
-#[test]
-fn inst_type_renames_a_binder(rt: HostRuntime) -> Result<(), Fail> {
-    let alloc = rt.alloc();
-    let script = b"thm a = REFL `\\x:A. (x:B)` ;; thm b = INST_TYPE [`A`, `B`] a ;;";
-    let expected = b"a: |- (\\x:A. (x:B)) = (\\x:A. (x:B))\n\
-b: |- (\\x':A. (x:A)) = (\\x':A. (x:A))\n";
-    assert!(rt; writes(alloc, script, expected)?);
-    Ok(())
-}
-
-#[test]
-fn the_first_pair_counts(rt: HostRuntime) -> Result<(), Fail> {
-    let alloc = rt.alloc();
-    let script = b"thm h = ASSUME `(x:bool)` ;;
+// What is replaced.
+const REPLACEMENTS: [Row<'static>; 7] = [
+    // INST renames a binder that would capture
+    Row {
+        script: "thm a = REFL `\\y:A. (x:A)` ;; thm b = INST [`(y:A)`, `(x:A)`] a ;;",
+        output: "a: |- (\\y:A. (x:A)) = (\\y:A. (x:A))\n\
+b: |- (\\y':A. (y:A)) = (\\y':A. (y:A))\n",
+    },
+    // so does INST_TYPE
+    Row {
+        script: "thm a = REFL `\\x:A. (x:B)` ;; thm b = INST_TYPE [`A`, `B`] a ;;",
+        output: "a: |- (\\x:A. (x:B)) = (\\x:A. (x:B))\n\
+b: |- (\\x':A. (x:A)) = (\\x':A. (x:A))\n",
+    },
+    // the first pair for a variable counts
+    Row {
+        script: "thm h = ASSUME `(x:bool)` ;;
 thm k = INST [`(y:bool)`, `(x:bool)`; `(z:bool)`, `(x:bool)`] h ;;
-thm a = REFL `(x:A)` ;; thm b = INST_TYPE [`C`, `A`; `B`, `A`] a ;;";
-    let expected = b"h: (x:bool) |- (x:bool)\n\
+thm a = REFL `(x:A)` ;; thm b = INST_TYPE [`C`, `A`; `B`, `A`] a ;;",
+        output: "h: (x:bool) |- (x:bool)\n\
 k: (y:bool) |- (y:bool)\n\
 a: |- (x:A) = (x:A)\n\
-b: |- (x:C) = (x:C)\n";
-    assert!(rt; writes(alloc, script, expected)?);
-    Ok(())
-}
-
-#[test]
-fn replacements_are_made_at_once(rt: HostRuntime) -> Result<(), Fail> {
-    let alloc = rt.alloc();
-    let script = b"thm a = ASSUME `(x:A) = (y:A)` ;;
+b: |- (x:C) = (x:C)\n",
+    },
+    // all are made at once
+    Row {
+        script: "thm a = ASSUME `(x:A) = (y:A)` ;;
 thm b = INST [`(y:A)`, `(x:A)`; `(x:A)`, `(y:A)`] a ;;
-thm f = REFL `(f:A->B)` ;; thm g = INST_TYPE [`B`, `A`; `A`, `B`] f ;;";
-    let expected = b"a: (x:A) = (y:A) |- (x:A) = (y:A)\n\
+thm f = REFL `(f:A->B)` ;; thm g = INST_TYPE [`B`, `A`; `A`, `B`] f ;;",
+        output: "a: (x:A) = (y:A) |- (x:A) = (y:A)\n\
 b: (y:A) = (x:A) |- (y:A) = (x:A)\n\
 f: |- (f:A->B) = (f:A->B)\n\
-g: |- (f:B->A) = (f:B->A)\n";
-    assert!(rt; writes(alloc, script, expected)?);
-    Ok(())
-}
-
-#[test]
-fn an_empty_list_replaces_nothing(rt: HostRuntime) -> Result<(), Fail> {
-    let alloc = rt.alloc();
-    let script = b"thm a = ASSUME `(x:bool)` ;; thm b = INST [] a ;; thm c = INST_TYPE [ ] b ;;";
-    let expected = b"a: (x:bool) |- (x:bool)\n\
+g: |- (f:B->A) = (f:B->A)\n",
+    },
+    // an empty list replaces nothing
+    Row {
+        script: "thm a = ASSUME `(x:bool)` ;; thm b = INST [] a ;; thm c = INST_TYPE [ ] b ;;",
+        output: "a: (x:bool) |- (x:bool)\n\
 b: (x:bool) |- (x:bool)\n\
-c: (x:bool) |- (x:bool)\n";
-    assert!(rt; writes(alloc, script, expected)?);
-    Ok(())
-}
-
-#[test]
-fn hypotheses_that_become_alike_are_merged(rt: HostRuntime) -> Result<(), Fail> {
-    let alloc = rt.alloc();
-    let script = b"thm p = ASSUME `(p:bool)` ;; thm q = ASSUME `(q:bool)` ;;
-thm r = DEDUCT_ANTISYM_RULE p q ;; thm s = INST [`(q:bool)`, `(p:bool)`] r ;;";
-    let expected = b"p: (p:bool) |- (p:bool)\n\
+c: (x:bool) |- (x:bool)\n",
+    },
+    // hypotheses that become alike are merged
+    Row {
+        script: "thm p = ASSUME `(p:bool)` ;; thm q = ASSUME `(q:bool)` ;;
+thm r = DEDUCT_ANTISYM_RULE p q ;; thm s = INST [`(q:bool)`, `(p:bool)`] r ;;",
+        output: "p: (p:bool) |- (p:bool)\n\
 q: (q:bool) |- (q:bool)\n\
 r: (p:bool), (q:bool) |- (p:bool) <=> (q:bool)\n\
-s: (q:bool) |- (q:bool) <=> (q:bool)\n";
-    assert!(rt; writes(alloc, script, expected)?);
-    Ok(())
-}
+s: (q:bool) |- (q:bool) <=> (q:bool)\n",
+    },
+    // INST_TYPE changes hypotheses
+    Row {
+        script: "newtype num ;; thm a = ASSUME `(x:A) = (y:A)` ;;
+thm b = INST_TYPE [`num->bool`, `A`] a ;;",
+        output: "a: (x:A) = (y:A) |- (x:A) = (y:A)\n\
+b: (x:num->bool) = (y:num->bool) |- (x:num->bool) = (y:num->bool)\n",
+    },
+];
 
 #[test]
-fn inst_type_changes_hypotheses(rt: HostRuntime) -> Result<(), Fail> {
-    let alloc = rt.alloc();
-    let script = b"newtype num ;; thm a = ASSUME `(x:A) = (y:A)` ;;
-thm b = INST_TYPE [`num->bool`, `A`] a ;;";
-    let expected = b"a: (x:A) = (y:A) |- (x:A) = (y:A)\n\
-b: (x:num->bool) = (y:num->bool) |- (x:num->bool) = (y:num->bool)\n";
-    assert!(rt; writes(alloc, script, expected)?);
-    Ok(())
+fn replacements(rt: HostRuntime) {
+    assert!(rt; first_wrong(rt.alloc(), &REPLACEMENTS).is_none());
 }
 
-// Whether a rule with these arguments is refused, on the second line, behind `|- (x:A) = (x:A)`.
+// A rule with its arguments, and how it is refused.
+struct Refused<'a> {
+    rule: &'a str,
+    refusal: &'a str,
+}
+
+// Rules that are refused behind `|- (x:A) = (x:A)`, the theorem `a`.
+const REFUSALS: [Refused<'static>; 18] = [
+    // each part is read before the next, and all before the theorem is looked up
+    Refused {
+        rule: "INST [`(y:num)`, `[k:A]`] nil",
+        refusal: "E35 UnknownType",
+    },
+    Refused {
+        rule: "INST [`(y:A)`, `[k:A]`; `x`, `x`] nil",
+        refusal: "E5 UnknownConst",
+    },
+    Refused {
+        rule: "INST [`[=:A->B->bool]`, `x`] nil",
+        refusal: "E6 NotInstance",
+    },
+    Refused {
+        rule: "INST [`(y:A)`, `x`; `[k:A]`, `x`] nil",
+        refusal: "E21 UnknownName",
+    },
+    // the list is read, then the theorem is looked up, then the rule refuses
+    Refused {
+        rule: "INST [`(y:B)`, `\\x:A. x`] nil",
+        refusal: "E21 UnknownName",
+    },
+    Refused {
+        rule: "INST [`(y:B)`, `(x:A)`; `(y:A)`, `\\x:A. x`] a",
+        refusal: "E10 NotVariable",
+    },
+    Refused {
+        rule: "INST [`(y:B)`, `(x:A)`] a",
+        refusal: "E4 TypeMismatch",
+    },
+    Refused {
+        rule: "INST_TYPE [`num`, `A`] nil",
+        refusal: "E35 UnknownType",
+    },
+    Refused {
+        rule: "INST_TYPE [`B`, `A`] nil",
+        refusal: "E21 UnknownName",
+    },
+    // the old part of a pair of INST_TYPE is a type variable
+    Refused {
+        rule: "INST_TYPE [`B`, `bool`] a",
+        refusal: "E28 Syntax",
+    },
+    Refused {
+        rule: "INST_TYPE [`B`, `A->A`] a",
+        refusal: "E28 Syntax",
+    },
+    Refused {
+        rule: "INST_TYPE [`B`, `A`; `B`, `num`] nil",
+        refusal: "E28 Syntax",
+    },
+    // how lists are spelled
+    Refused {
+        rule: "INST [`x` `x`] a",
+        refusal: "E28 Syntax",
+    },
+    Refused {
+        rule: "INST [`x`, `x`;] a",
+        refusal: "E28 Syntax",
+    },
+    Refused {
+        rule: "INST [`x`, `x` a",
+        refusal: "E28 Syntax",
+    },
+    Refused {
+        rule: "INST [`x`, `x`]",
+        refusal: "E28 Syntax",
+    },
+    Refused {
+        rule: "INST `x`, `x` a",
+        refusal: "E28 Syntax",
+    },
+    Refused {
+        rule: "INST [`x`, `x`; `x`, `)`] a",
+        refusal: "E28 Syntax",
+    },
+];
+
+// Whether a rule with these arguments is refused, on the second line.
 fn refuses(alloc: Global, rule: &[u8], refusal: &[u8]) -> Result<bool, Fault> {
     let mut script = Vec::new(alloc);
     script.extend_from_slice(b"thm a = REFL `(x:A)` ;;\nthm b = ")?;
@@ -100,115 +166,48 @@ fn refuses(alloc: Global, rule: &[u8], refusal: &[u8]) -> Result<bool, Fault> {
     writes(alloc, &script, &expected)
 }
 
-// Each part is read before the next, and all of them before the theorem is looked up.
-#[test]
-fn inst_refuses_arguments(rt: HostRuntime) -> Result<(), Fail> {
-    let alloc = rt.alloc();
-    assert!(rt; refuses(alloc, b"INST [`(y:num)`, `[k:A]`] nil", b"E35 UnknownType")?);
-    assert!(rt;
-        refuses(
-            alloc,
-            b"INST [`(y:A)`, `[k:A]`; `x`, `x`] nil",
-            b"E5 UnknownConst"
-        )?
-    );
-    assert!(rt;
-        refuses(
-            alloc,
-            b"INST [`[=:A->B->bool]`, `x`] nil",
-            b"E6 NotInstance"
-        )?
-    );
-    assert!(rt;
-        refuses(
-            alloc,
-            b"INST [`(y:A)`, `x`; `[k:A]`, `x`] nil",
-            b"E21 UnknownName"
-        )?
-    );
-    Ok(())
-}
-
-// The list is read, then the theorem is looked up, then the rule refuses.
-#[test]
-fn inst_refuses(rt: HostRuntime) -> Result<(), Fail> {
-    let alloc = rt.alloc();
-    assert!(rt; refuses(alloc, b"INST [`(y:B)`, `\\x:A. x`] nil", b"E21 UnknownName")?);
-    assert!(rt;
-        refuses(
-            alloc,
-            b"INST [`(y:B)`, `(x:A)`; `(y:A)`, `\\x:A. x`] a",
-            b"E10 NotVariable"
-        )?
-    );
-    assert!(rt; refuses(alloc, b"INST [`(y:B)`, `(x:A)`] a", b"E4 TypeMismatch")?);
-    Ok(())
+// The number of the first that is not refused so, if any.
+fn first_unrefused(alloc: Global, rows: &[Refused<'_>]) -> Option<usize> {
+    for at in 0..rows.len() {
+        let row = &rows[at];
+        if refuses(alloc, row.rule.as_bytes(), row.refusal.as_bytes()) != Ok(true) {
+            return Some(at);
+        }
+    }
+    None
 }
 
 #[test]
-fn inst_type_refuses(rt: HostRuntime) -> Result<(), Fail> {
-    let alloc = rt.alloc();
-    assert!(rt; refuses(alloc, b"INST_TYPE [`num`, `A`] nil", b"E35 UnknownType")?);
-    assert!(rt; refuses(alloc, b"INST_TYPE [`B`, `A`] nil", b"E21 UnknownName")?);
-    Ok(())
+fn refused_arguments(rt: HostRuntime) {
+    assert!(rt; first_unrefused(rt.alloc(), &REFUSALS).is_none());
 }
 
-// The old part of a pair of INST_TYPE is a type variable.
-#[test]
-fn inst_type_reads_variables(rt: HostRuntime) -> Result<(), Fail> {
-    let alloc = rt.alloc();
-    assert!(rt; refuses(alloc, b"INST_TYPE [`B`, `bool`] a", b"E28 Syntax")?);
-    assert!(rt; refuses(alloc, b"INST_TYPE [`B`, `A->A`] a", b"E28 Syntax")?);
-    assert!(rt;
-        refuses(
-            alloc,
-            b"INST_TYPE [`B`, `A`; `B`, `num`] nil",
-            b"E28 Syntax"
-        )?
-    );
-    Ok(())
-}
-
-#[test]
-fn lists_are_spelled(rt: HostRuntime) -> Result<(), Fail> {
-    let alloc = rt.alloc();
-    assert!(rt; refuses(alloc, b"INST [`x` `x`] a", b"E28 Syntax")?);
-    assert!(rt; refuses(alloc, b"INST [`x`, `x`;] a", b"E28 Syntax")?);
-    assert!(rt; refuses(alloc, b"INST [`x`, `x` a", b"E28 Syntax")?);
-    assert!(rt; refuses(alloc, b"INST [`x`, `x`]", b"E28 Syntax")?);
-    assert!(rt; refuses(alloc, b"INST `x`, `x` a", b"E28 Syntax")?);
-    assert!(rt; refuses(alloc, b"INST [`x`, `x`; `x`, `)`] a", b"E28 Syntax")?);
-    Ok(())
-}
-
-// A term of height 1,999 for both sides of an equation.
-#[test]
-fn inst_at_the_height_limit(rt: HostRuntime) -> Result<(), Fail> {
-    let alloc = rt.alloc();
+// Whether INST of a term of height 1,999 for both sides of an equation is too large.
+fn refuses_height(alloc: Global) -> Result<bool, Fault> {
     let mut rule = Vec::new(alloc);
     rule.extend_from_slice(b"INST [`")?;
-    for _ in 0..1998 {
-        rule.extend_from_slice(b"((f:A->A) ")?;
-    }
+    push_times(&mut rule, b"((f:A->A) ", 1998)?;
     rule.extend_from_slice(b"(x:A)")?;
-    for _ in 0..1998 {
-        rule.extend_from_slice(b")")?;
-    }
+    push_times(&mut rule, b")", 1998)?;
     rule.extend_from_slice(b"`, `(x:A)`] a")?;
-    assert!(rt; refuses(alloc, &rule, b"E2 TooLarge")?);
-    Ok(())
+    refuses(alloc, &rule, b"E2 TooLarge")
 }
 
-// A type of 2,001 nodes for both operands of `=`.
-#[test]
-fn inst_type_at_the_limit_of_types(rt: HostRuntime) -> Result<(), Fail> {
-    let alloc = rt.alloc();
+// Whether INST_TYPE to a type of 2,001 nodes for both operands of `=` is too large.
+fn refuses_type(alloc: Global) -> Result<bool, Fault> {
     let mut rule = Vec::new(alloc);
     rule.extend_from_slice(b"INST_TYPE [`")?;
-    for _ in 0..1000 {
-        rule.extend_from_slice(b"B->")?;
-    }
+    push_times(&mut rule, b"B->", 1000)?;
     rule.extend_from_slice(b"B`, `A`] a")?;
-    assert!(rt; refuses(alloc, &rule, b"E2 TooLarge")?);
-    Ok(())
+    refuses(alloc, &rule, b"E2 TooLarge")
+}
+
+#[test]
+fn inst_at_the_height_limit(rt: HostRuntime) {
+    assert!(rt; refuses_height(rt.alloc()) == Ok(true));
+}
+
+#[test]
+fn inst_type_at_the_limit_of_types(rt: HostRuntime) {
+    assert!(rt; refuses_type(rt.alloc()) == Ok(true));
 }

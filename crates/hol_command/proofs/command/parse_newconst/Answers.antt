@@ -1,5 +1,5 @@
 use Rattle.std.proofs.Common.{refl}
-use Rattle.hol_model.specs.Scripts.Commands.{newconst_command}
+use Rattle.hol_model.specs.Scripts.CommandGrammar.{newconst_command}
 use Rattle.hol_grammar.specs.Views.{tokens_of}
 use Rattle.hol_command.proofs.ReadingLemmas.{newconst-refused}
 use Rattle.hol_command.proofs.command.parse_newconst.Goals as goal
@@ -7,7 +7,8 @@ use Rattle.hol_command.proofs.command.parse_newconst.Goals as goal
 pub returns-in-Ok : goal.returns-in-Ok
 returns-in-Ok c =
     let read = c.in-Ok.ensures in
-    (newconst_command c.args.name.now read.0, read.1, refl, refl, read.2, (refl, read.3))
+    let tree = newconst_command c.args.name.now read.0 in
+    (tree, record { served = refl; grammatical = read.1; kind_is = refl; name_is = refl; spelled = read.2 }, record { ty = read.0; is = refl; spelled = read.3 })
 
 pub returns-in-Err : goal.returns-in-Err
 returns-in-Err c = newconst-refused c.in-Err.error c.args.name.now (tokens_of c.args.tokens.now) c.in-Err.ensures

@@ -15,7 +15,7 @@ returns-clause-ok c =
     let answer = c.in-Ok-define.theorem in
     let recorded = c.in-Ok-define.ensures.recorded in
     let grow = c.journals_grow.ensures in
-    let before = c.args.self.now.recorder in
+    let before = c.args.self.now.library.recorder in
     let after = c.define.new.self in
     let made : IsLineOf c.in-Ok-Some.line (scope_of c.args.self.now.scope) c.as_str.result.now (record { theory = []; hypotheses = []; conclusion = equation (constant c.args.name.now (own_type c.args.term.now)) c.args.term.now }) =
     rw c.in-Ok-Some.field-0-is at c.in-Ok-Some.ensures in
@@ -27,7 +27,7 @@ returns-clause-ok c =
       made = grow.made before after _ answer recorded;
       grown = grow.grown before after _ answer recorded;
       scope = refl;
-      logic = refl;
+      kept = record { logic = refl; laws = refl };
       stored = record {
         theorems = λ other. c.put_made.ensures.stored.theorems other
             ∙ ap (λ (key : List ℕ). cond (bytes_eq key other) (Some answer) ((stored_of c.room.new.self).theorems other)) c.in-Ok.ensures.ok

@@ -2,13 +2,14 @@ use Rattle.std.proofs.Common.{refl, sym, subst, ap, ◌∙◌, Some, Ok, Err, Op
 use Rattle.std.specs.Prelude.{is_some}
 use Rattle.hol_model.specs.declared.fault.Fault.TheVariants.{Memory}
 use Rattle.hol_model.specs.Terms.HolType.{HolType}
-use Rattle.hol_model.specs.Scripts.Sessions.{State, over_theory, newconst_is_refused, newconst_declares}
-use Rattle.hol_session.specs.declared.session.Printed.TheVariants.{Nothing}
+use Rattle.hol_model.specs.Scripts.Sessions.{State, over_theory}
+use Rattle.hol_session.proofs.AllowedLemmas.{newconst_is_refused, newconst_declares}
+use Rattle.hol_session.specs.declared.reply.Printed.TheVariants.{Nothing}
 use Rattle.hol_session.specs.Answers.{Turns}
 use Rattle.hol_syntax.specs.Scope.{scope_of}
 use Rattle.hol_session.specs.SessionState.{state_of, IsSession}
 use Rattle.hol_session.proofs.SessionLemmas.{is_silent, refuses_by, forgets_here}
-use Rattle.hol_session.proofs.GrowthLemmas.{made, kept_state, kept_session, const-not_new, not_some, never, const_removed, grown_state, const_session, newconst_outcome-is, newconst-argument_refused, same_store}
+use Rattle.hol_session.proofs.GrowthLemmas.{made, kept_state, kept_session, const-not_new, not_some, never, const_removed, grown_state, const_session, newconst_outcome-is, newconst-argument_refused, same_store, same_laws}
 use Rattle.hol_session.proofs.session.Session.newconst.Goals as goal
 
 pub returns-in-Err-clause-turns : goal.returns-in-Err-clause-turns
@@ -19,32 +20,32 @@ returns-in-Err-clause-turns c = λ text tree spelled steps.
 
 pub refusal_of_const-requires : goal.refusal_of_const-requires
 refusal_of_const-requires c =
-    const-not_new c.args.self.now.recorder.theory c.args.name.now c.in-Ok.ty
+    const-not_new c.args.self.now.library.recorder.theory c.args.name.now c.in-Ok.ty
     (ap (λ (g : Option HolType). is_some g) (sym (c.requires.constants c.args.name.now)) ∙ c.in-Err-NameTaken.ensures.taken.0 (ap (λ e. Err e) c.in-Err-NameTaken.field-0-is))
 
 pub returns-in-Err-NameTaken-clause-turns : goal.returns-in-Err-NameTaken-clause-turns
 returns-in-Err-NameTaken-clause-turns c = λ text tree spelled steps.
     let old = c.args.self.now in
     refuses_by (state_of old) (state_of c.refusal_of_const.new.self) text c.refusal_of_const.result
-    (ap state_of c.refusal_of_const.ensures.kept ∙ kept_state old (made old old.recorder c.add_const.new.self) refl c.in-Err-NameTaken.ensures.kept (same_store _)) c.refusal_of_const.ensures.fault
+    (ap state_of c.refusal_of_const.ensures.kept ∙ kept_state old (made old old.library.recorder c.add_const.new.self) refl c.in-Err-NameTaken.ensures.kept (same_store _)) c.refusal_of_const.ensures.fault
     (λ refused. newconst_is_refused spelled (newconst_outcome-is (state_of old) c.args.name.now tree c.in-Ok.ty (c.in-Ok.ensures tree steps) ∙ refused))
 
 pub returns-in-Err-NameTaken-clause-kept : goal.returns-in-Err-NameTaken-clause-kept
 returns-in-Err-NameTaken-clause-kept c =
     let old = c.args.self.now in
-    subst IsSession (sym c.refusal_of_const.ensures.kept) (kept_session old (made old old.recorder c.add_const.new.self) c.requires refl c.in-Err-NameTaken.ensures.kept (same_store _) refl)
+    subst IsSession (sym c.refusal_of_const.ensures.kept) (kept_session old (made old old.library.recorder c.add_const.new.self) c.requires refl c.in-Err-NameTaken.ensures.kept (same_store _) (same_laws _))
 
 pub returns-in-Ok-new_const-clause-turns : goal.returns-in-Ok-new_const-clause-turns
 returns-in-Ok-new_const-clause-turns c = λ text tree spelled steps.
     let old = c.args.self.now in
     subst (λ (state : State). Turns (state_of old) (Some text) (Ok Nothing) state)
     (sym (grown_state old c.new_const.new.self c.add_const.new.self c.in-Ok-add_const.ensures.ok.variables))
-    (is_silent (state_of old) (over_theory (state_of old) c.new_const.new.self.theory) (Some text)
+    (is_silent (state_of old) (over_theory (state_of old) c.new_const.new.self.theory) text
     (newconst_declares spelled (newconst_outcome-is (state_of old) c.args.name.now tree c.in-Ok.ty (c.in-Ok.ensures tree steps) ∙ c.in-Ok-new_const.ensures.outcome)))
 
 pub returns-in-Ok-new_const-clause-kept : goal.returns-in-Ok-new_const-clause-kept
 returns-in-Ok-new_const-clause-kept c =
-    const_session c.args.self.now c.new_const.new.self c.add_const.new.self c.args.name.now c.in-Ok.ty c.journals_grow.ensures c.logic_stays.ensures c.requires c.in-Ok-add_const.ensures.ok c.in-Ok-new_const.ensures.outcome c.in-Ok-new_const.ensures.grown
+    const_session c.args.self.now c.new_const.new.self c.add_const.new.self c.args.name.now c.in-Ok.ty c.libraries_grow.ensures c.requires c.in-Ok-add_const.ensures.ok c.in-Ok-new_const.ensures.outcome c.in-Ok-new_const.ensures.grown
 
 pub returns-clause-turns : goal.returns-clause-turns
 returns-clause-turns c = λ text tree spelled steps.
@@ -60,15 +61,15 @@ returns-clause-kept c =
     let old = c.args.self.now in
     let keeps = const_removed (scope_of old.scope) (scope_of c.add_const.new.self) (scope_of c.remove_const.new.self) c.args.name.now c.in-Ok.ty c.in-Ok-add_const.ensures.ok c.remove_const.ensures
     (not_some ((scope_of old.scope).generic_type c.args.name.now) (λ known. never (c.in-Ok-add_const.ensures.taken.1 known))) in
-    kept_session old (made old c.new_const.new.self c.remove_const.new.self) c.requires c.in-Err-new_const.ensures.kept keeps (same_store _) refl
+    kept_session old (made old c.new_const.new.self c.remove_const.new.self) c.requires c.in-Err-new_const.ensures.kept keeps (same_store _) (record { logic = refl; laws = refl })
 
 pub returns-in-Err-add_const-clause-turns : goal.returns-in-Err-add_const-clause-turns
 returns-in-Err-add_const-clause-turns c = λ text tree spelled steps.
     let old = c.args.self.now in
-    forgets_here (state_of old) (state_of (made old old.recorder c.add_const.new.self)) text Memory
-    (kept_state old (made old old.recorder c.add_const.new.self) refl c.in-Err-add_const.ensures.kept (same_store _)) refl
+    forgets_here (state_of old) (state_of (made old old.library.recorder c.add_const.new.self)) text Memory
+    (kept_state old (made old old.library.recorder c.add_const.new.self) refl c.in-Err-add_const.ensures.kept (same_store _)) refl
 
 pub returns-in-Err-add_const-clause-kept : goal.returns-in-Err-add_const-clause-kept
 returns-in-Err-add_const-clause-kept c =
     let old = c.args.self.now in
-    kept_session old (made old old.recorder c.add_const.new.self) c.requires refl c.in-Err-add_const.ensures.kept (same_store _) refl
+    kept_session old (made old old.library.recorder c.add_const.new.self) c.requires refl c.in-Err-add_const.ensures.kept (same_store _) (same_laws _)

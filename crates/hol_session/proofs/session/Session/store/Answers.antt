@@ -9,7 +9,7 @@ use Rattle.hol_session.proofs.session.Session.store.Goals as goal
 
 pub returns-clause-ok : goal.returns-clause-ok
 returns-clause-ok c =
-    let old = stored_of c.args.self.now.store in
+    let old = stored_of c.args.self.now.library.store in
     let new = stored_of c.put_made.new.self in
     let stores : StoresTheorem old new c.args.name.now c.args.theorem = record {
       theorems = λ other. c.put_made.ensures.stored.theorems other
@@ -18,7 +18,7 @@ returns-clause-ok c =
       lemmas = c.put_made.ensures.stored.lemmas ∙ c.room.ensures.kept.lemmas;
     } in
     λ i. record {
-      theory = c.args.self.now.recorder.theory;
+      theory = c.args.self.now.library.recorder.theory;
       variables = (scope_of c.args.self.now.scope).variable_type;
       theorems = λ other. stored_theorem c.args.theorem c.args.name.now old new stores other i;
     }

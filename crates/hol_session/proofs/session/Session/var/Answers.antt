@@ -1,10 +1,11 @@
 use Rattle.std.proofs.Common.{refl, sym, subst, Some, Ok}
-use Rattle.hol_model.specs.Scripts.Sessions.{State, with_variable, var_is_refused, var_declares}
-use Rattle.hol_session.specs.declared.session.Printed.TheVariants.{Nothing}
+use Rattle.hol_model.specs.Scripts.Sessions.{State, with_variable}
+use Rattle.hol_session.proofs.AllowedLemmas.{var_is_refused, var_declares}
+use Rattle.hol_session.specs.declared.reply.Printed.TheVariants.{Nothing}
 use Rattle.hol_session.specs.Answers.{Turns}
 use Rattle.hol_session.specs.SessionState.{state_of}
 use Rattle.hol_session.proofs.SessionLemmas.{is_silent, refuses_by, forgets_here}
-use Rattle.hol_session.proofs.GrowthLemmas.{made, kept_state, kept_session, var_state, var_session, same_store}
+use Rattle.hol_session.proofs.GrowthLemmas.{made, kept_state, kept_session, var_state, var_session, same_store, same_laws}
 use Rattle.hol_session.proofs.session.Session.var.Goals as goal
 
 pub returns-in-Err-clause-turns : goal.returns-in-Err-clause-turns
@@ -15,7 +16,7 @@ pub returns-in-Ok-set_var-clause-turns : goal.returns-in-Ok-set_var-clause-turns
 returns-in-Ok-set_var-clause-turns c = λ text tree spelled steps.
     subst (λ (state : State). Turns (state_of c.args.self.now) (Some text) (Ok Nothing) state)
     (sym (var_state c.args.self.now c.set_var.new.self c.args.name.now c.in-Ok.ty c.in-Ok-set_var.ensures.ok))
-    (is_silent (state_of c.args.self.now) (with_variable (state_of c.args.self.now) c.args.name.now c.in-Ok.ty) (Some text) (var_declares spelled (c.in-Ok.ensures tree steps)))
+    (is_silent (state_of c.args.self.now) (with_variable (state_of c.args.self.now) c.args.name.now c.in-Ok.ty) text (var_declares spelled (c.in-Ok.ensures tree steps)))
 
 pub returns-in-Ok-set_var-clause-kept : goal.returns-in-Ok-set_var-clause-kept
 returns-in-Ok-set_var-clause-kept c = var_session c.args.self.now c.set_var.new.self c.args.name.now c.in-Ok.ty c.requires c.in-Ok-set_var.ensures.ok
@@ -23,10 +24,10 @@ returns-in-Ok-set_var-clause-kept c = var_session c.args.self.now c.set_var.new.
 pub returns-clause-turns : goal.returns-clause-turns
 returns-clause-turns c = λ text tree spelled steps.
     let old = c.args.self.now in
-    forgets_here (state_of old) (state_of (made old old.recorder c.set_var.new.self)) text c.in-Err-set_var.fault
-    (kept_state old (made old old.recorder c.set_var.new.self) refl c.in-Err-set_var.ensures.kept (same_store _)) c.in-Err-set_var.ensures.err
+    forgets_here (state_of old) (state_of (made old old.library.recorder c.set_var.new.self)) text c.in-Err-set_var.fault
+    (kept_state old (made old old.library.recorder c.set_var.new.self) refl c.in-Err-set_var.ensures.kept (same_store _)) c.in-Err-set_var.ensures.err
 
 pub returns-clause-kept : goal.returns-clause-kept
 returns-clause-kept c =
     let old = c.args.self.now in
-    kept_session old (made old old.recorder c.set_var.new.self) c.requires refl c.in-Err-set_var.ensures.kept (same_store _) refl
+    kept_session old (made old old.library.recorder c.set_var.new.self) c.requires refl c.in-Err-set_var.ensures.kept (same_store _) (same_laws _)

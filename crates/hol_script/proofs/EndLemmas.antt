@@ -1,0 +1,124 @@
+-- How a run ends.
+use Rattle.std.proofs.Common.{◌≡◌, ℕ, zero, suc, ◌≤◌, ◌<◌, List, [], ◌∷◌, length, refl, sym, ap, subst, ◌⊎◌, inl, inr, arith, Bool, true, false, Ok, Err, Result}
+use Rattle.std.specs.Prelude.{IfSome, IsErrOf, Contains}
+use Rattle.hol_model.specs.declared.fault.Fault.{Fault}
+use Rattle.hol_model.specs.declared.fault.Fault.TheVariants.{Memory, ReadFault, TooLong, WriteFault}
+use Rattle.hol_model.specs.declared.limits.TheConstants.{TEXT_BYTES_LIMIT}
+use Rattle.hol_model.specs.Scripts.ScriptSessions.{text_of_turns}
+use Rattle.hol_model.specs.Scripts.Runs.{Counts, no_counts, counts_after, SourceUse, SinkUse, Tells, BreaksOff, CannotBegin, IsWhole, Ends, unread, in_output, before_log, in_log, logged, unlogged}
+use Rattle.hol_bytes.specs.Bytes.{AppendsFront}
+use Rattle.hol_session.specs.Answers.{session_tools}
+use Rattle.hol_session.specs.SessionState.{state_of}
+use Rattle.hol_script.specs.declared.progress.Progress.{Progress}
+use Rattle.hol_script.specs.Runs.{counts_of, names_of, state_in, Finishes, Breaks, devices}
+use Rattle.hol_script.specs.RunLogs.{IsLogOver, IsLongLogOver, WritesLog, WritesFront, claims_listed, theory_of}
+use Rattle.hol_script.proofs.RunLogLemmas.{over-end}
+
+same_fault : (fault other : Fault) {A : Type 0} → fault ≡ other → IsErrOf {T = A} (Err fault) other
+same_fault fault other same = ap (λ (e : Fault). Err e) same
+
+-- the front of the text, as a broken sink has it
+breaks_off : (sink : SinkUse) (text : List ℕ) → AppendsFront sink.before sink.after text → sink.has_failed ≡ true → BreaksOff sink text
+breaks_off sink text front failed = record { front = front.front; rest = front.rest; whole = front.whole; wrote = front.taken; failed = failed }
+
+module _ (source : SourceUse) (out log : SinkUse) where
+  abbrev EndsSo : Result Counts Fault → Bool → Type 0
+  EndsSo answer wants_log = Ends session_tools IsLogOver (devices source out log) answer wants_log
+
+  -- ---- nothing is run
+
+  cannot_begin : {A : Type 0} (fault : Fault) → Contains (ReadFault ∷ TooLong ∷ Memory ∷ []) fault → (IsErrOf {T = A} (Err fault) ReadFault → source.has_failed ≡ true)
+      → (IsErrOf {T = A} (Err fault) TooLong → IfSome source.told (λ told. TEXT_BYTES_LIMIT < length told)) → CannotBegin source fault
+  cannot_begin fault (zero, within, is) failed long = inl (sym is, failed (same_fault fault ReadFault (sym is)))
+  cannot_begin fault (suc zero, within, is) failed long = inr (inl (sym is, long (same_fault fault TooLong (sym is))))
+  cannot_begin fault (suc (suc zero), within, is) failed long = inr (inr (sym is))
+  cannot_begin fault (suc (suc (suc place)), within, is) failed long = absurd (omega (arith, within))
+
+  pub ends-unread : {A : Type 0} {wants_log : Bool} (fault : Fault) → Contains (ReadFault ∷ TooLong ∷ Memory ∷ []) fault → (IsErrOf {T = A} (Err fault) ReadFault → source.has_failed ≡ true)
+      → (IsErrOf {T = A} (Err fault) TooLong → IfSome source.told (λ told. TEXT_BYTES_LIMIT < length told)) → out.IsUntouched → log.IsUntouched → EndsSo (Err fault) wants_log
+  ends-unread fault listed failed long out_untouched log_untouched =
+      unread (record { fault = fault; answers = refl; cannot_begin = cannot_begin fault listed failed long; out = out_untouched; log = log_untouched })
+
+  module _ (script : List ℕ) (read : Tells source script) (within_limit : length script ≤ TEXT_BYTES_LIMIT) where
+    -- ---- the output breaks off, or there is no memory to begin
+
+    pub ends-in_output : {A : Type 0} {wants_log : Bool} (fault : Fault) → Contains (WriteFault ∷ Memory ∷ []) fault → Breaks script out.before out.after
+        → (IsErrOf {T = A} (Err fault) WriteFault → out.has_failed ≡ true) → (IsErrOf {T = A} (Err fault) Memory → out.IsUntouched) → log.IsUntouched → EndsSo (Err fault) wants_log
+    ends-in_output {wants_log = wants_log} fault (zero, within, is) b failed untouched log_untouched =
+        subst (λ (f : Fault). EndsSo (Err f) wants_log) is (in_output (record {
+          turns = b.turns;
+          answers = refl;
+          broken = record {
+            script = script;
+            read = read;
+            within_limit = within_limit;
+            is_run = b.is_run;
+            breaks_off = breaks_off out (text_of_turns b.turns) b.wrote (failed (same_fault fault WriteFault (sym is)));
+          };
+          log = log_untouched;
+        }))
+    ends-in_output fault (suc zero, within, is) b failed untouched log_untouched =
+        unread (record { fault = fault; answers = refl; cannot_begin = inr (inr (sym is)); out = untouched (same_fault fault Memory (sym is)); log = log_untouched })
+    ends-in_output fault (suc (suc place), within, is) b failed untouched log_untouched = absurd (omega (arith, within))
+
+    module _ (progress : Progress) (f : Finishes script out.before out.after (counts_of progress.summary) (names_of progress) (state_in (state_of progress.session))) where
+      -- ---- the output is whole
+
+      whole : IsWhole session_tools (devices source out log) f.turns
+      whole = record { script = script; read = read; within_limit = within_limit; is_run = f.is_run; wrote = f.wrote }
+
+      counted : ◌≡◌ {A = Result Counts Fault} (Ok (counts_of progress.summary)) (Ok (counts_after no_counts f.turns))
+      counted = ap (λ (counts : Counts). Ok counts) f.counted
+
+      pub ends-unlogged : {wants_log : Bool} → wants_log ≡ false → log.IsUntouched → EndsSo (Ok (counts_of progress.summary)) wants_log
+      ends-unlogged unwanted untouched =
+          subst (λ (w : Bool). EndsSo (Ok (counts_of progress.summary)) w) (sym unwanted) (unlogged (record { turns = f.turns; answers = counted; whole = whole; log = untouched }))
+
+      pub ends-logged : {wants_log : Bool} → wants_log ≡ true → WritesLog (theory_of progress) (claims_listed progress) log.before log.after → EndsSo (Ok (counts_of progress.summary)) wants_log
+      ends-logged wanted writes =
+          let here = over-end progress f (λ theory claims. WritesLog theory claims log.before log.after) writes in
+          subst (λ (w : Bool). EndsSo (Ok (counts_of progress.summary)) w) (sym wanted) (logged (record {
+            turns = f.turns;
+            text = here.log;
+            answers = counted;
+            whole = whole;
+            is_log = record { is_log = here.is_log.is_log; within_limit = here.is_log.within_limit };
+            wrote = here.wrote;
+          }))
+
+      -- the log breaks off, or there is none
+      log_fails : {A : Type 0} (fault : Fault) → Contains (WriteFault ∷ TooLong ∷ Memory ∷ []) fault
+          → (IsErrOf {T = A} (Err fault) WriteFault → (log.has_failed ≡ true) × WritesFront (theory_of progress) (claims_listed progress) log.before log.after)
+          → (IsErrOf {T = A} (Err fault) TooLong → IsLongLogOver (theory_of progress) (claims_listed progress))
+          → ((IsErrOf {T = A} (Err fault) TooLong ⊎ IsErrOf {T = A} (Err fault) Memory) → log.IsUntouched) → EndsSo (Err fault) true
+      log_fails fault (zero, within, is) broken long untouched =
+          let (failed, writes) = broken (same_fault fault WriteFault (sym is)) in
+          let here = over-end progress f (λ theory claims. WritesFront theory claims log.before log.after) writes in
+          subst (λ (e : Fault). EndsSo (Err e) true) is (in_log (record {
+            turns = f.turns;
+            text = here.log;
+            answers = refl;
+            whole = whole;
+            is_log = record { is_log = here.is_log.is_log; within_limit = here.is_log.within_limit };
+            breaks_off = breaks_off log here.log here.wrote failed;
+          }))
+      log_fails fault (suc zero, within, is) broken long untouched =
+          let here = over-end progress f IsLongLogOver (long (same_fault fault TooLong (sym is))) in
+          before_log (record {
+            turns = f.turns;
+            fault = fault;
+            answers = refl;
+            whole = whole;
+            has_none = inl (sym is, (here.log, here.is_log, here.longer));
+            log = untouched (inl (same_fault fault TooLong (sym is)));
+          })
+      log_fails fault (suc (suc zero), within, is) broken long untouched =
+          before_log (record { turns = f.turns; fault = fault; answers = refl; whole = whole; has_none = inr (sym is); log = untouched (inr (same_fault fault Memory (sym is))) })
+      log_fails fault (suc (suc (suc place)), within, is) broken long untouched = absurd (omega (arith, within))
+
+      pub ends-in_log : {A : Type 0} {wants_log : Bool} (fault : Fault) → wants_log ≡ true → Contains (WriteFault ∷ TooLong ∷ Memory ∷ []) fault
+          → (IsErrOf {T = A} (Err fault) WriteFault → (log.has_failed ≡ true) × WritesFront (theory_of progress) (claims_listed progress) log.before log.after)
+          → (IsErrOf {T = A} (Err fault) TooLong → IsLongLogOver (theory_of progress) (claims_listed progress))
+          → ((IsErrOf {T = A} (Err fault) TooLong ⊎ IsErrOf {T = A} (Err fault) Memory) → log.IsUntouched) → EndsSo (Err fault) wants_log
+      ends-in_log fault wanted listed broken long untouched =
+          subst (λ (w : Bool). EndsSo (Err fault) w) (sym wanted) (log_fails fault listed broken long untouched)
