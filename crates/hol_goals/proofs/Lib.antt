@@ -9,3 +9,4 @@ pub mod NumberedSteps
 pub mod Rotating
 pub mod Closings
 pub mod Expansions
+pub mod Running

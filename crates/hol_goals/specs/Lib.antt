@@ -5,3 +5,4 @@ pub mod Turning
 pub mod Expansions
 pub mod Made
 pub mod Closing
+pub mod Running

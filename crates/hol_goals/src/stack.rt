@@ -12,6 +12,9 @@ use crate::attempt::{Attempt, Change};
 use crate::expanding::Expansion;
 use crate::proving::Prover;
 use crate::stage::{Opening, Stage};
+use hol_combine::refine_goal;
+use hol_exprs::{Fuel, Tac};
+use hol_host::Refiners;
 use hol_journal::{Rec, Recorder};
 use hol_just::{Goal, Step, sub};
 use hol_kernel::Thm;
@@ -109,6 +112,13 @@ impl Stack {
     ghost use Rattle.hol_goals.specs.Stages.{opening_of, stage_of, stack_of, theorem_told};
     ghost use Rattle.hol_model.specs.Goals.GoalStates as states;
     ghost use Rattle.hol_model.specs.Goals.StackCalls.{Changes};
+    ghost use Rattle.hol_model.specs.Goals.GoalLaws.{IsValidStack};
+    ghost use Rattle.hol_model.specs.Logic.Theory.{IsLegal};
+    ghost use Rattle.hol_model.specs.Refining.Combinators.{IsLater, at};
+    ghost use Rattle.hol_model.specs.Refining.RefinerConditions.{HasKnownWitnesses};
+    ghost use Rattle.hol_exprs.specs.Expressions.{tactic_of};
+    ghost use Rattle.hol_combine.specs.Posed.{IsGrounded};
+    ghost use Rattle.hol_goals.specs.Running.{RefinesFirst, IsGoodFirst, IsExpandedTo};
 
     /// The stack without a goal.
     pub fn new() -> Stack
@@ -234,5 +244,65 @@ impl Stack {
             Some(attempt) => attempt.expand_by(alloc, prover, refinement),
             None => Err(Fault::NoGoal),
         }
+    }
+
+    // Runs an expression on the first open goal.
+    fn refine_first<P: Prover, H: Refiners>(
+        &self,
+        alloc: Global,
+        prover: &mut P,
+        tac: &Tac<Term>,
+        host: &H,
+        fuel: &mut Fuel,
+    ) -> Result<Step, Fault>
+        requires ready { P.is_ready prover.old }
+        requires grounded { IsGrounded (P.theory prover.old) (P.store prover.old) }
+        requires witnesses { HasKnownWitnesses (P.theory prover.old) (tactic_of tac.now) }
+        requires valid { IsValidStack (P.theory prover.old) (P.store prover.old) (stack_of self.now) }
+        ensures runs { RefinesFirst (H.refiners host.now) (H.conversions host.now) (P.theory prover.old) (P.store prover.old) fuel.old.left tac.now (stack_of self.now) result (P.store prover.new) fuel.new.left }
+        ensures good { IfOk result (IsGoodFirst (P.theory prover.old) (P.store prover.new) (stack_of self.now)) }
+        ensures later { IsLater (P.theory prover.old) (at (P.store prover.old) fuel.old.left) (at (P.store prover.new) fuel.new.left) }
+        ensures theory { P.theory prover.new ≡ P.theory prover.old }
+        ensures ready { P.is_ready prover.new }
+        ensures stays { StaysMade (P.journal prover.old) (P.journal prover.new) }
+    {
+        let goal = match self.focus() {
+            Ok(goal) => goal,
+            Err(fault) => return Err(fault),
+        };
+        refine_goal(alloc, tac, goal, host, prover, fuel)
+    }
+
+    /// Refines the first open goal by an expression (HOL Light's `e`, tactics.ml), whose witnesses are known terms. Its subgoals
+    /// stand before the other goals. Where none is left, the whole justification is replayed, and the theorem of the goal's own
+    /// term is the next stage. Lemmas are added to what is stored, also where it is refused.
+    ///
+    /// Refused, where nothing of the stack changes: NoGoal where no goal is open; what the expression is refused for, StepLimit
+    /// only where no step is left; TooLarge where the justification is deeper than the limit, or the replay has no room; Memory.
+    pub fn expand<P: Prover, H: Refiners>(
+        &mut self,
+        alloc: Global,
+        prover: &mut P,
+        tac: &Tac<Term>,
+        host: &H,
+        fuel: &mut Fuel,
+    ) -> Result<Expansion, Fault>
+        requires ready { P.is_ready prover.old }
+        requires legal { IsLegal (P.theory prover.old) }
+        requires grounded { IsGrounded (P.theory prover.old) (P.store prover.old) }
+        requires witnesses { HasKnownWitnesses (P.theory prover.old) (tactic_of tac.now) }
+        requires valid { IsValidStack (P.theory prover.old) (P.store prover.old) (stack_of self.old) }
+        ensures expanded { IsExpandedTo (H.refiners host.now) (H.conversions host.now) (P.theory prover.old) (P.store prover.old) fuel.old.left tac.now (stack_of self.old) (stack_of self.new) result (P.store prover.new) fuel.new.left }
+        ensures later { IsLater (P.theory prover.old) (at (P.store prover.old) fuel.old.left) (at (P.store prover.new) fuel.new.left) }
+        ensures valid { IsValidStack (P.theory prover.old) (P.store prover.new) (stack_of self.new) }
+        ensures theory { P.theory prover.new ≡ P.theory prover.old }
+        ensures ready { P.is_ready prover.new }
+        ensures stays { StaysMade (P.journal prover.old) (P.journal prover.new) }
+    {
+        let refinement = match self.refine_first(alloc, prover, tac, host, fuel) {
+            Ok(refinement) => refinement,
+            Err(fault) => return Err(fault),
+        };
+        self.expand_by(alloc, prover, refinement)
     }
 }

@@ -6,14 +6,14 @@ use Rattle.hol_goals.proofs.attempt.Attempt.expand_by.Goals as goal
 
 pub returns-in-Err-clause-outcome : goal.returns-in-Err-clause-outcome
 returns-in-Err-clause-outcome g c =
-    is_refused (g.P.Prover.theory c.args.prover.now) (g.P.Prover.store c.args.prover.now) (step_of c.args.refinement) (attempt_of c.args.self.now) c.in-Err.fault c.in-Err.ensures
+    is_refused (g.P.Leaves.theory c.args.prover.now) (g.P.Leaves.store c.args.prover.now) (step_of c.args.refinement) (attempt_of c.args.self.now) c.in-Err.fault c.in-Err.ensures
 
 pub returns-then-is_empty-clause-outcome : goal.returns-then-is_empty-clause-outcome
 returns-then-is_empty-clause-outcome g c =
-    closes_goal (g.P.Prover.theory c.args.prover.now) (g.P.Prover.store c.args.prover.now) (step_of c.args.refinement) c.args.self.now (attempt_of c.finish.new.self) c.in-Ok.step c.finish.result
+    closes_goal (g.P.Leaves.theory c.args.prover.now) (g.P.Leaves.store c.args.prover.now) (step_of c.args.refinement) c.args.self.now (attempt_of c.finish.new.self) c.in-Ok.step c.finish.result
     (search rules) c.in-Ok.ensures c.finish.ensures.outcome
 
 pub returns-clause-outcome : goal.returns-clause-outcome
 returns-clause-outcome g c =
-    proceeds (g.P.Prover.theory c.args.prover.now) (g.P.Prover.store c.args.prover.now) (step_of c.args.refinement) c.args.self.now (attempt_of c.proceed.new.self) c.in-Ok.step c.proceed.result
+    proceeds (g.P.Leaves.theory c.args.prover.now) (g.P.Leaves.store c.args.prover.now) (step_of c.args.refinement) c.args.self.now (attempt_of c.proceed.new.self) c.in-Ok.step c.proceed.result
     (search rules) c.in-Ok.ensures c.proceed.ensures.reaches

@@ -1,0 +1,21 @@
+use Rattle.std.proofs.Common.{refl}
+use Rattle.hol_model.specs.Refining.Combinators.{at}
+use Rattle.hol_model.specs.Goals.GoalStates.{focus_outcome}
+use Rattle.hol_exprs.specs.Expressions.{tactic_of}
+use Rattle.hol_host.specs.Host.{host_of}
+use Rattle.hol_just.specs.Steps.{goal_of}
+use Rattle.hol_combine.specs.Answers.{answer_of}
+use Rattle.hol_goals.specs.Stages.{stack_of}
+use Rattle.hol_goals.specs.Running.{none_is_open}
+use Rattle.hol_goals.proofs.Running.{no_focus, runs-first}
+use Rattle.hol_goals.proofs.stack.Stack.refine_first.Goals as goal
+
+pub returns-in-Err-clause-runs : goal.returns-in-Err-clause-runs
+returns-in-Err-clause-runs g c = none_is_open c.in-Err.fault (no_focus (focus_outcome (stack_of c.args.self.now).proof) c.in-Err.fault c.in-Err.ensures) refl
+
+pub returns-clause-runs : goal.returns-clause-runs
+returns-clause-runs g c =
+    runs-first (g.P.Leaves.theory c.args.prover.now) (host_of (g.H.Refiners.refiners c.args.host.now) (g.H.Converters.conversions c.args.host.now))
+    (at (g.P.Leaves.store c.args.prover.now) c.args.fuel.now.left) (at (g.P.Leaves.store c.refine_goal.new.leaves) c.refine_goal.new.fuel.left)
+    (tactic_of c.args.tac.now) (focus_outcome (stack_of c.args.self.now).proof) (goal_of c.in-Ok.goal.now) (answer_of c.refine_goal.result)
+    c.in-Ok.ensures c.refine_goal.ensures.outcome
