@@ -1,0 +1,179 @@
+// Refiners without parts, read from tokens.
+ghost use Rattle.std.specs.Prelude.{◌≡◌, ℕ};
+ghost use Rattle.std.specs.String.{string_bytes};
+ghost use Rattle.hol_model.specs.Texts.Token.{Name};
+ghost use Rattle.hol_model.specs.Scripts.TacticGrammar.{plain_word, named_word, quoted_word};
+ghost use Rattle.hol_grammar.specs.Steps.{flat_steps_of};
+ghost use Rattle.hol_grammar.specs.Views.{tokens_of};
+ghost use Rattle.hol_tactic_grammar.specs.Tokens.{AreTokens, IsAt};
+ghost use Rattle.hol_tactic_grammar.specs.TacticWords.{plain_of, named_of, quoted_of, other_word};
+ghost use Rattle.hol_tactic_grammar.specs.declared.tactic_words.Other.TheVariants.{Conv, Rewrite};
+ghost use Rattle.hol_tactic_grammar.specs.Expressions.{simple, plain, by_name, by_quote, expression_here};
+ghost use Rattle.hol_tactic_grammar.specs.Tactics.{ReadsNames, ReadsUnit};
+
+use crate::conversions::read_unit;
+use crate::quotes::read_quote;
+use crate::tactic_words::{Named, Plain, Quoted};
+use crate::tokens::{is_mark, read_name};
+use hol_exprs::{Leaf, Tac};
+use hol_grammar::{ReadError, TermStep, Token};
+use hol_model::Symbol;
+use std::alloc::Global;
+
+fn plain_tactic<'a>(tactic: Plain) -> Tac<Vec<TermStep<'a>>>
+    ensures { expression_here result ≡ simple (plain (plain_of tactic)) }
+{
+    match tactic {
+        Plain::All => Tac::Leaf(Leaf::All),
+        Plain::No => Tac::Leaf(Leaf::No),
+        Plain::Assumption => Tac::Leaf(Leaf::Assumption),
+        Plain::Refl => Tac::Leaf(Leaf::Refl),
+        Plain::Conj => Tac::Leaf(Leaf::Conj),
+        Plain::Eq => Tac::Leaf(Leaf::Eq),
+        Plain::Disj1 => Tac::Leaf(Leaf::Disj1),
+        Plain::Disj2 => Tac::Leaf(Leaf::Disj2),
+        Plain::Disch => Tac::Leaf(Leaf::Disch),
+        Plain::Gen => Tac::Leaf(Leaf::Gen),
+        Plain::Taut => Tac::Leaf(Leaf::Taut),
+    }
+}
+
+fn named_tactic<'a>(tactic: Named, name: String) -> Tac<Vec<TermStep<'a>>>
+    ensures { expression_here result ≡ simple (by_name (named_of tactic) (string_bytes name)) }
+{
+    match tactic {
+        Named::Accept => Tac::Leaf(Leaf::Accept(name)),
+        Named::Assume => Tac::Leaf(Leaf::Assume(name)),
+        Named::Mp => Tac::Leaf(Leaf::Mp(name)),
+        Named::DisjCases => Tac::Leaf(Leaf::DisjCases(name)),
+        Named::Choose => Tac::Leaf(Leaf::Choose(name)),
+        Named::Host => Tac::Host(name),
+    }
+}
+
+fn quoted_tactic<'a>(tactic: Quoted, steps: Vec<TermStep<'a>>) -> Tac<Vec<TermStep<'a>>>
+    ensures { expression_here result ≡ simple (by_quote (quoted_of tactic) (flat_steps_of steps.entry.items)) }
+{
+    match tactic {
+        Quoted::Exists => Tac::Leaf(Leaf::Exists(steps)),
+        Quoted::Undisch => Tac::Leaf(Leaf::Undisch(steps)),
+    }
+}
+
+/// A refiner without arguments.
+pub fn read_plain<'a>(
+    tokens: &[Token<'a>],
+    at: usize,
+    tactic: Plain,
+) -> Result<(Tac<Vec<TermStep<'a>>>, usize), ReadError>
+    requires { IsAt (Name (plain_word (plain_of tactic))) at tokens.now }
+    ensures { (room : ℕ) → ReadsUnit result at room tokens.now }
+{
+    Ok((plain_tactic(tactic), at + 1))
+}
+
+/// A refiner and the name behind it.
+pub fn read_by_name<'a>(
+    alloc: Global,
+    tokens: &[Token<'a>],
+    at: usize,
+    tactic: Named,
+) -> Result<(Tac<Vec<TermStep<'a>>>, usize), ReadError>
+    requires tokens { AreTokens (tokens_of tokens.now) }
+    requires front { IsAt (Name (named_word (named_of tactic))) at tokens.now }
+    ensures { (room : ℕ) → ReadsUnit result at room tokens.now }
+{
+    match read_name(alloc, tokens, at + 1) {
+        Ok(name) => Ok((named_tactic(tactic, name), at + 2)),
+        Err(error) => Err(error),
+    }
+}
+
+/// A refiner and the quoted term behind it.
+pub fn read_by_quote<'a>(
+    alloc: Global,
+    tokens: &[Token<'a>],
+    at: usize,
+    tactic: Quoted,
+) -> Result<(Tac<Vec<TermStep<'a>>>, usize), ReadError>
+    requires { IsAt (Name (quoted_word (quoted_of tactic))) at tokens.now }
+    ensures { (room : ℕ) → ReadsUnit result at room tokens.now }
+{
+    match read_quote(alloc, tokens, at + 1) {
+        Ok((steps, next)) => Ok((quoted_tactic(tactic, steps), next)),
+        Err(error) => Err(error),
+    }
+}
+
+/// CONV_TAC and the conversion behind it.
+pub fn read_conv_tac<'a>(
+    alloc: Global,
+    tokens: &[Token<'a>],
+    at: usize,
+    room: usize,
+) -> Result<(Tac<Vec<TermStep<'a>>>, usize), ReadError>
+    requires tokens { AreTokens (tokens_of tokens.now) }
+    requires front { IsAt (Name (other_word Conv)) at tokens.now }
+    ensures { ReadsUnit result at room tokens.now }
+{
+    match read_unit(alloc, tokens, at + 1, room) {
+        Ok((conv, next)) => Ok((Tac::Leaf(Leaf::Conv(conv)), next)),
+        Err(error) => Err(error),
+    }
+}
+
+// The names of a list in brackets, and the place behind it.
+fn read_names(
+    alloc: Global,
+    tokens: &[Token<'_>],
+    at: usize,
+) -> Result<(Vec<String>, usize), ReadError>
+    requires { AreTokens (tokens_of tokens.now) }
+    ensures { ReadsNames result at tokens.now }
+{
+    if !is_mark(tokens, at, Symbol::OpenBracket) {
+        return Err(ReadError::Syntax);
+    }
+    let mut names = Vec::new(alloc);
+    if is_mark(tokens, at + 1, Symbol::CloseBracket) {
+        return Ok((names, at + 2));
+    }
+    let first = match read_name(alloc, tokens, at + 1) {
+        Ok(name) => name,
+        Err(error) => return Err(error),
+    };
+    names.push(first)?;
+    let mut next = at + 2;
+    while is_mark(tokens, next, Symbol::Semicolon) {
+        let name = match read_name(alloc, tokens, next + 1) {
+            Ok(name) => name,
+            Err(error) => return Err(error),
+        };
+        names.push(name)?;
+        next += 2;
+    }
+    if !is_mark(tokens, next, Symbol::CloseBracket) {
+        return Err(ReadError::Syntax);
+    }
+    Ok((names, next + 1))
+}
+
+/// REWRITE_TAC and the names behind it.
+pub fn read_rewrite_tac<'a>(
+    alloc: Global,
+    tokens: &[Token<'a>],
+    at: usize,
+    room: usize,
+) -> Result<(Tac<Vec<TermStep<'a>>>, usize), ReadError>
+    requires tokens { AreTokens (tokens_of tokens.now) }
+    requires front { IsAt (Name (other_word Rewrite)) at tokens.now }
+    ensures { ReadsUnit result at room tokens.now }
+{
+    if room == 0 {
+        return Err(ReadError::Syntax);
+    }
+    match read_names(alloc, tokens, at + 1) {
+        Ok((names, next)) => Ok((Tac::Leaf(Leaf::Rewrite(names)), next)),
+        Err(error) => Err(error),
+    }
+}

@@ -1,0 +1,13 @@
+//! From tokens to conversions and refiner expressions, as data.
+#![tactic(auto)]
+
+mod conversion_words;
+mod conversions;
+mod leaves;
+mod quotes;
+mod tactic_words;
+mod tactics;
+mod tokens;
+
+pub use conversions::conversion_of;
+pub use tactics::tactic_of;
