@@ -24,7 +24,7 @@ pub(crate) fn is_assumed(term: &Term, goal: &Goal) -> bool
 }
 
 /// Whether each of the terms is among the assumptions.
-pub(crate) fn are_assumed(terms: &[Term], goal: &Goal) -> bool
+pub fn are_assumed(terms: &[Term], goal: &Goal) -> bool
     ensures { result ≡ achieving.are_assumed terms.now (goal_of goal.now) }
 {
     terms.iter().all(|term| is_assumed(term, goal))

@@ -13,4 +13,6 @@ mod rows;
 mod table;
 mod theorems;
 
+pub use assumed::are_assumed;
+pub use making::{by_one, by_two, closed, to_target};
 pub use table::leaf_step;

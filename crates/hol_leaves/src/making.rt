@@ -23,16 +23,16 @@ pub(crate) fn by_none(alloc: Global, rule: Rule) -> Result<Just, Fault>
     step(alloc, rule, &[])
 }
 
-/// What a rule draws from one premise.
-pub(crate) fn by_one(alloc: Global, rule: Rule, part: Just) -> Result<Just, Fault>
+/// What a rule draws from one premise. Refused: Memory.
+pub fn by_one(alloc: Global, rule: Rule, part: Just) -> Result<Just, Fault>
     ensures { (t : Justification) → tree_of part ≡ t → is_shallow t ≡ true → Makes result (by_rule (rule_of rule) (one_part t)) }
 {
     let parts = [part];
     step(alloc, rule, &parts)
 }
 
-/// What a rule draws from two premises.
-pub(crate) fn by_two(alloc: Global, rule: Rule, first: Just, second: Just) -> Result<Just, Fault>
+/// What a rule draws from two premises. Refused: Memory.
+pub fn by_two(alloc: Global, rule: Rule, first: Just, second: Just) -> Result<Just, Fault>
     ensures { (t u : Justification) → tree_of first ≡ t → tree_of second ≡ u → is_shallow t ≡ true → is_shallow u ≡ true → Makes result (by_rule (rule_of rule) (two_parts t u)) }
 {
     let parts = [first, second];
@@ -96,8 +96,8 @@ pub(crate) fn assuming(
     })
 }
 
-/// A step that closes the goal.
-pub(crate) fn closed(alloc: Global, just: Just) -> Result<Step, Fault>
+/// A step that closes the goal. Refused: Memory.
+pub fn closed(alloc: Global, just: Just) -> Result<Step, Fault>
     ensures { (t : Justification) → tree_of just ≡ t → AnswersStep (leaves [] t) (step_in result) }
 {
     Ok(Step {
@@ -186,13 +186,8 @@ pub(crate) fn by_itself(alloc: Global, rule: Rule) -> Result<Step, Fault>
     closed(alloc, just)
 }
 
-/// A step to a subgoal with this target.
-pub(crate) fn to_target(
-    alloc: Global,
-    goal: &Goal,
-    target: &Term,
-    just: Just,
-) -> Result<Step, Fault>
+/// A step to a subgoal with this target. Refused: Memory.
+pub fn to_target(alloc: Global, goal: &Goal, target: &Term, just: Just) -> Result<Step, Fault>
     ensures { (t : Justification) → tree_of just ≡ t → AnswersStep (leaves (refiners.toward (goal_of goal.now) (named target.now) ∷ []) t) (step_in result) }
 {
     let target = target.copy(alloc)?;

@@ -1,0 +1,9 @@
+pub mod Sizes
+pub mod Choosing
+pub mod Answering
+pub mod Linking
+pub mod Asking
+pub mod Expressions
+pub mod Chaining
+pub mod Parting
+pub mod Arms

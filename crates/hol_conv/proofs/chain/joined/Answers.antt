@@ -1,0 +1,25 @@
+use Rattle.std.proofs.Common.{◌≡◌, ◌∷◌, [], ◌++◌, ◌∙◌, Some}
+use Rattle.std.proofs.lemmas.List.Elements.{All-pop}
+use Rattle.hol_journal.specs.Journal.{IsMade}
+use Rattle.hol_conv.proofs.Asking.{continued-twice}
+use Rattle.hol_conv.proofs.Chaining.{joined-on, joined-off, joins-as, made-later}
+use Rattle.hol_conv.proofs.chain.joined.Goals as goal
+
+pub returns-in-Err-clause-joins : goal.returns-in-Err-clause-joins
+returns-in-Err-clause-joins c =
+    let is : c.loop-theorem.theorems.items ≡ c.pop.new.self.items ++ c.in-Some.theorem ∷ [] = c.in-Some.ensures.items in
+    let joins = rw c.loop-theorem.invariant.1.theory at c.in-Err.ensures.joins in
+    joins-as c.loop-theorem.invariant.0 (joined-off _ _ _ c.in-Some.theorem _ _ is joins)
+
+pub loop-theorem-preserved : goal.loop-theorem-preserved
+loop-theorem-preserved c =
+    let is : c.loop-theorem.theorems.items ≡ c.pop.new.self.items ++ c.in-Some.theorem ∷ [] = c.in-Some.ensures.items in
+    let joins = rw c.loop-theorem.invariant.1.theory at c.in-Ok.ensures.joins in
+    let makes = c.in-Ok.ensures.makes in
+    let front = All-pop (IsMade c.loop-theorem.library.recorder) _ _ (Some c.in-Some.theorem) c.in-Some.ensures.items c.loop-theorem.invariant.3 in (
+      c.loop-theorem.invariant.0 ∙ joined-on _ _ _ c.in-Some.theorem _ _ is joins,
+      continued-twice c.loop-theorem.invariant.1 makes.continued,
+      makes.library,
+      made-later c.pop.new.self.items makes.continued front.0,
+      makes.made,
+    )

@@ -1,0 +1,90 @@
+use Rattle.std.proofs.Common.{◌≡◌, ◌+◌, ◌*◌, ◌-◌, drop, IsSome}
+use Rattle.hol_model.specs.declared.limits.TheConstants.{DESCENTS_LIMIT}
+use Rattle.hol_model.specs.Kernel.Rules.{dest_equation}
+use Rattle.hol_model.specs.Refining.Conversions.{repeatc}
+use Rattle.hol_outcomes.proofs.Chains.{ThencSoFar}
+use Rattle.hol_outcomes.proofs.Repeating.{JoinedSoFar}
+use Rattle.hol_journal.specs.Journal.{IsMade}
+use Rattle.hol_library.specs.Library.{IsLibrary, IsContinued, store_in}
+use Rattle.hol_conv.specs.Leaves.{stands_for, all_stand_for, thenc_of, orelsec_of}
+use Rattle.hol_conv.specs.Chains.{IsChain, theorems}
+use Rattle.hol_conv.proofs.Sizes.{size_of, sizes_of}
+use Rattle.hol_conv.proofs.Choosing.{ChoosesSoFar}
+use Rattle.hol_conv.proofs.converting.«+convert».Given as goal
+
+-- ---- the expression's size first, then the descents that are left
+
+abbrev pub decreases-convert : goal.decreases-convert
+decreases-convert g l = 10 * size_of l.conv.now + 4 * (DESCENTS_LIMIT - l.depth) + 3
+
+abbrev pub decreases-thenc : goal.decreases-thenc
+decreases-thenc g l = 10 * (size_of l.first.now + sizes_of l.others.now) + 4 * (DESCENTS_LIMIT - l.depth) + 4
+
+abbrev pub decreases-orelsec : goal.decreases-orelsec
+decreases-orelsec g l = 10 * (size_of l.first.now + sizes_of l.others.now) + 4 * (DESCENTS_LIMIT - l.depth) + 4
+
+abbrev pub decreases-repeatc : goal.decreases-repeatc
+decreases-repeatc g l = 10 * size_of l.conv.now + 4 * (DESCENTS_LIMIT - l.depth) + 4
+
+abbrev pub decreases-rand_conv : goal.decreases-rand_conv
+decreases-rand_conv g l = 10 * size_of l.conv.now + 4 * (DESCENTS_LIMIT - l.depth)
+
+abbrev pub decreases-rator_conv : goal.decreases-rator_conv
+decreases-rator_conv g l = 10 * size_of l.conv.now + 4 * (DESCENTS_LIMIT - l.depth)
+
+abbrev pub decreases-abs_conv : goal.decreases-abs_conv
+decreases-abs_conv g l = 10 * size_of l.conv.now + 4 * (DESCENTS_LIMIT - l.depth)
+
+abbrev pub decreases-sub_conv : goal.decreases-sub_conv
+decreases-sub_conv g l = 10 * size_of l.conv.now + 4 * (DESCENTS_LIMIT - l.depth) + 1
+
+abbrev pub decreases-depth_conv : goal.decreases-depth_conv
+decreases-depth_conv g l = 10 * size_of l.whole.now + 4 * (DESCENTS_LIMIT - l.depth) + 2
+
+abbrev pub decreases-once_depth_conv : goal.decreases-once_depth_conv
+decreases-once_depth_conv g l = 10 * size_of l.whole.now + 4 * (DESCENTS_LIMIT - l.depth) + 2
+
+abbrev pub decreases-top_depth_conv : goal.decreases-top_depth_conv
+decreases-top_depth_conv g l = 10 * size_of l.whole.now + 4 * (DESCENTS_LIMIT - l.depth) + 2
+
+-- ---- loops
+
+abbrev pub invariant-thenc-loop-other : goal.invariant-thenc-loop-other
+invariant-thenc-loop-other g l =
+    ThencSoFar l.fn.library.recorder.theory (store_in l.fn.library) (g.L.Leaves.hosts l.leaves) l.depth
+    l.fn.fuel.left (thenc_of (g.L.Leaves.means l.leaves) l.first l.others) l.t l.fuel.left l.made.theorem (all_stand_for (g.L.Leaves.means l.leaves) (drop l.other-index l.others))
+    × IsContinued l.fn.library l.library
+    × IsLibrary l.library
+    × IsMade l.library.recorder l.made
+    × IsSome (dest_equation l.made.theorem.conclusion)
+
+abbrev pub invariant-orelsec-loop-other : goal.invariant-orelsec-loop-other
+invariant-orelsec-loop-other g l =
+    ChoosesSoFar l.fn.library.recorder.theory (store_in l.fn.library) (g.L.Leaves.hosts l.leaves) l.depth
+    l.fn.fuel.left (orelsec_of (g.L.Leaves.means l.leaves) l.first l.others) l.t l.fuel.left l.fault (all_stand_for (g.L.Leaves.means l.leaves) (drop l.other-index l.others))
+    × IsContinued l.fn.library l.library
+    × IsLibrary l.library
+
+abbrev pub invariant-repeatc-loop-chain : goal.invariant-repeatc-loop-chain
+invariant-repeatc-loop-chain g l =
+    JoinedSoFar l.fn.library.recorder.theory (store_in l.fn.library) (g.L.Leaves.hosts l.leaves) l.depth
+    l.fn.fuel.left (repeatc (stands_for (g.L.Leaves.means l.leaves) l.conv)) l.t l.fuel.left (repeatc (stands_for (g.L.Leaves.means l.leaves) l.conv))
+    (theorems l.chain.theorems.items) l.chain.current
+    × IsContinued l.fn.library l.library
+    × IsLibrary l.library
+    × IsChain l.library l.chain
+
+abbrev pub decreases-repeatc-loop-chain : goal.decreases-repeatc-loop-chain
+decreases-repeatc-loop-chain g l = l.fuel.left
+
+abbrev pub invariant-top_depth_conv-loop-chain : goal.invariant-top_depth_conv-loop-chain
+invariant-top_depth_conv-loop-chain g l =
+    JoinedSoFar l.fn.library.recorder.theory (store_in l.fn.library) (g.L.Leaves.hosts l.leaves) l.depth
+    l.fn.fuel.left (stands_for (g.L.Leaves.means l.leaves) l.whole) l.t l.fuel.left (stands_for (g.L.Leaves.means l.leaves) l.whole)
+    (theorems l.chain.theorems.items) l.chain.current
+    × IsContinued l.fn.library l.library
+    × IsLibrary l.library
+    × IsChain l.library l.chain
+
+abbrev pub decreases-top_depth_conv-loop-chain : goal.decreases-top_depth_conv-loop-chain
+decreases-top_depth_conv-loop-chain g l = l.fuel.left

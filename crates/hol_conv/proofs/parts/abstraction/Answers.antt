@@ -1,0 +1,10 @@
+use Rattle.std.proofs.Common.{rules}
+use Rattle.hol_conv.specs.Parts.{is_no_abstraction}
+use Rattle.hol_conv.proofs.Parting.{deep-abstraction}
+use Rattle.hol_conv.proofs.parts.abstraction.Goals as goal
+
+pub returns-in_default-clause-err : goal.returns-in_default-clause-err
+returns-in_default-clause-err c = is_no_abstraction (search rules)
+
+pub returns-then-depth-ge-DESCENTS_LIMIT-clause-err : goal.returns-then-depth-ge-DESCENTS_LIMIT-clause-err
+returns-then-depth-ge-DESCENTS_LIMIT-clause-err c = deep-abstraction c.args.t.now (c.in-Some.parts.0.now, c.in-Some.parts.1.now) (search rules) (search rules)

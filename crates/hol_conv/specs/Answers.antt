@@ -1,0 +1,21 @@
+-- What is asked before a conversion is tried on a term, and what it answers.
+use Rattle.std.specs.Prelude.{◌≡◌, ℕ, true, Result}
+use Rattle.hol_model.specs.declared.fault.Fault.{Fault}
+use Rattle.hol_model.specs.Terms.NamedTerm.{NamedTerm}
+use Rattle.hol_model.specs.Logic.KnownTerm.{is_known}
+use Rattle.hol_model.specs.Refining.HostFunctions.{HostConversions}
+use Rattle.hol_model.specs.Refining.Conversions.{Conversion, Converts}
+use Rattle.hol_journal.specs.Journal.{Recorded, theorem_in}
+use Rattle.hol_library.specs.Library.{IsLibrary, store_in}
+use Rattle.hol_library.specs.declared.library.Library.{Library}
+
+-- a term that the library's theory knows, and leaves that are ready for the library
+pub record IsAsked (IsReady : Library → Type 0) (library : Library) (t : NamedTerm) : Type 0 where
+  pub is_library : IsLibrary library
+  pub ready : IsReady library
+  pub known : is_known library.recorder.theory t ≡ true
+
+-- over the library's theory and what is stored, the conversion may answer this
+abbrev pub ConvertsOver : Library → HostConversions → ℕ → ℕ → Conversion → NamedTerm → Result Recorded Fault → ℕ → Type 0
+ConvertsOver library hosts depth steps conversion t result left =
+    Converts library.recorder.theory (store_in library) hosts depth steps conversion t (theorem_in result) left

@@ -1,0 +1,67 @@
+-- Theorems that are joined by TRANS: each of the right side of the one before.
+use Rattle.std.specs.Prelude.{◌≡◌, ℕ, suc, List, [], ◌∷◌, ◌++◌, map, Bool, true, false, Result, Ok, Err, IfOk}
+use Rattle.std.specs.List.{All}
+use Rattle.hol_model.specs.declared.fault.Fault.{Fault}
+use Rattle.hol_model.specs.declared.fault.Fault.TheVariants.{Memory, StepLimit}
+use Rattle.hol_model.specs.Terms.NamedTerm.{NamedTerm}
+use Rattle.hol_model.specs.Logic.Theory.{Theory}
+use Rattle.hol_model.specs.Logic.KnownTerm.{is_known}
+use Rattle.hol_model.specs.Kernel.Theorem.{Theorem}
+use Rattle.hol_model.specs.Kernel.Rules.{refl_outcome}
+use Rattle.hol_model.specs.Refining.Conversions.{is_caught}
+use Rattle.hol_outcomes.proofs.Repeating.{joined_from}
+use Rattle.hol_journal.specs.Journal.{Recorded, IsMade, theorem_in}
+use Rattle.hol_library.specs.declared.library.Library.{Library}
+use Rattle.hol_conv_rules.specs.Makes.{Joins, IsRightSide}
+use Rattle.hol_conv.specs.declared.chain.Chain.{Chain}
+use Rattle.hol_conv.specs.declared.chain.Linked.{Linked}
+use Rattle.hol_conv.specs.declared.chain.Linked.TheVariants.{GoesOn, Ends}
+
+abbrev pub theorems : List Recorded → List Theorem
+theorems all = map (λ made. made.theorem) all
+
+-- the recorder made the theorems, and its theory knows the term
+pub record IsChain (library : Library) (chain : Chain) : Type 0 where
+  pub made : All (IsMade library.recorder) chain.theorems.items
+  pub known : is_known library.recorder.theory chain.current ≡ true
+
+-- ALL_CONV: a step, and REFL
+pub data Reflects (theory : Theory) (t : NamedTerm) : ℕ → Result Theorem Fault → ℕ → Type 0 where
+  without_step : Reflects theory t 0 (Err StepLimit) 0
+  by_refl : {left : ℕ} {answer : Result Theorem Fault} → Joins (refl_outcome theory t) answer → Reflects theory t (suc left) answer left
+
+-- the theorems, joined from the right to what ALL_CONV answers on the term
+pub record JoinsSame (theory : Theory) (proved : List Theorem) (t : NamedTerm) (steps : ℕ) (answer : Result Theorem Fault) (left : ℕ) : Type 0 where
+  pub same : Result Theorem Fault
+  pub reflects : Reflects theory t steps same left
+  pub joins : Joins (joined_from theory proved same) answer
+
+-- what ends behind a refusal: ALL_CONV where it is caught
+abbrev pub FinishesBy : Bool → Theory → List Theorem → NamedTerm → Fault → ℕ → Result Theorem Fault → ℕ → Type 0
+FinishesBy true theory proved t fault steps answer left = JoinsSame theory proved t steps answer left
+FinishesBy false theory proved t fault steps answer left = (answer ≡ Err fault) × (left ≡ steps)
+
+abbrev pub Finishes : Theory → List Theorem → NamedTerm → Fault → ℕ → Result Theorem Fault → ℕ → Type 0
+Finishes theory proved t fault steps answer left = FinishesBy (is_caught fault) theory proved t fault steps answer left
+
+-- what was answered, or ALL_CONV where it is a refusal that is caught
+abbrev pub Tries : Theory → NamedTerm → Result Theorem Fault → ℕ → Result Theorem Fault → ℕ → Type 0
+Tries theory t (Ok theorem) steps answer left = (answer ≡ Ok theorem) × (left ≡ steps)
+Tries theory t (Err fault) steps answer left = Finishes theory [] t fault steps answer left
+
+-- one more theorem, and its right side
+pub record IsExtended (proved : List Theorem) (made : Theorem) (chain : Chain) : Type 0 where
+  pub theorems : theorems chain.theorems.items ≡ proved ++ made ∷ []
+  pub right : IsRightSide made chain.current
+
+-- an answer on the current term is put behind the theorems, or is a refusal that ends the chain
+abbrev pub Links : Theory → List Theorem → NamedTerm → Result Theorem Fault → ℕ → Linked → ℕ → Type 0
+Links theory proved t (Ok made) steps (GoesOn chain) left = IsExtended proved made chain × (left ≡ steps)
+Links theory proved t (Ok made) steps (Ends result) left = (result ≡ Err Memory) × (left ≡ steps)
+Links theory proved t (Err fault) steps (GoesOn chain) left = ⊥
+Links theory proved t (Err fault) steps (Ends result) left = Finishes theory proved t fault steps (theorem_in result) left
+
+-- what is left of a library
+abbrev pub LinksMade : Library → Linked → Type 0
+LinksMade library (GoesOn chain) = IsChain library chain
+LinksMade library (Ends result) = IfOk result (IsMade library.recorder)

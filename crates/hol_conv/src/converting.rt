@@ -1,0 +1,368 @@
+// Tries conversions.
+ghost use Rattle.std.specs.Prelude.{◌≡◌};
+ghost use Rattle.hol_model.specs.Refining.Conversions as conversions;
+ghost use Rattle.hol_outcomes.proofs.Repeating.{IsFinal};
+ghost use Rattle.hol_exprs.specs.Expressions.{conversion_of};
+ghost use Rattle.hol_journal.specs.Journal.{theorem_in};
+ghost use Rattle.hol_conv_rules.specs.Makes.{Makes};
+ghost use Rattle.hol_conv.specs.Leaves.{stands_for, thenc_of, orelsec_of};
+ghost use Rattle.hol_conv.specs.Answers.{IsAsked, ConvertsOver};
+
+use crate::chain::{Linked, begin, link, or_same, same};
+use crate::joining::{changed, of_argument, of_body, of_function, of_parts, then};
+use crate::leaves::Leaves;
+use crate::parts::{abstraction, combination};
+use hol_conv_rules::right_side;
+use hol_exprs::{Conv, Fuel, Prefix, is_caught};
+use hol_journal::Rec;
+use hol_library::Library;
+use hol_model::{DESCENTS_LIMIT, Fault};
+use hol_terms::{Parts, Term};
+use std::alloc::Global;
+
+/// Tries a conversion on a known term, where so many descents are open: the answer is one that it may have, with the steps that
+/// it leaves (hol_model, Conversions). Refused: what a conversion without parts is refused for, StepLimit where no step is left;
+/// ConvFails where the term has no such part, or ABS_CONV's variable is free in a hypothesis; TooLarge where so many descents
+/// are open as the limit allows, or an equation on the way is; Memory. ORELSEC, TRY_CONV and REPEATC catch all but StepLimit,
+/// TooLarge and Memory.
+#[cycle(convert)]
+pub fn convert<L: Leaves>(
+    library: &mut Library,
+    alloc: Global,
+    leaves: &L,
+    conv: &Conv,
+    t: &Term,
+    depth: u32,
+    fuel: &mut Fuel,
+) -> Result<Rec, Fault>
+    requires asked { IsAsked (L.is_ready leaves.now) library.old t.now }
+    ensures converts { ConvertsOver library.old (L.hosts leaves.now) depth fuel.old.left (stands_for (L.means leaves.now) conv.now) t.now result fuel.new.left }
+    ensures makes { Makes library.old library.new result }
+{
+    match conv {
+        Conv::All => leaves.try_leaf(library, alloc, conv, t, fuel),
+        Conv::No => leaves.try_leaf(library, alloc, conv, t, fuel),
+        Conv::Beta => leaves.try_leaf(library, alloc, conv, t, fuel),
+        Conv::Rewr(_) => leaves.try_leaf(library, alloc, conv, t, fuel),
+        Conv::Host(_) => leaves.try_leaf(library, alloc, conv, t, fuel),
+        Conv::Then(first, others) => {
+            thenc(library, alloc, leaves, first, others, t, depth, fuel)
+        }
+        Conv::OrElse(first, others) => {
+            orelsec(library, alloc, leaves, first, others, t, depth, fuel)
+        }
+        Conv::Prefixed(prefix, part) => match *prefix {
+            Prefix::Repeat => repeatc(library, alloc, leaves, part, t, depth, fuel),
+            Prefix::Try => {
+                let made = convert(library, alloc, leaves, part, t, depth, fuel);
+                or_same(library, alloc, t, made, fuel)
+            }
+            Prefix::Rand => rand_conv(library, alloc, leaves, part, t, depth, fuel),
+            Prefix::Rator => rator_conv(library, alloc, leaves, part, t, depth, fuel),
+            Prefix::Abs => abs_conv(library, alloc, leaves, part, t, depth, fuel),
+            Prefix::Sub => sub_conv(library, alloc, leaves, part, t, depth, fuel),
+            Prefix::Depth => depth_conv(library, alloc, leaves, conv, part, t, depth, fuel),
+            Prefix::OnceDepth => {
+                once_depth_conv(library, alloc, leaves, conv, part, t, depth, fuel)
+            }
+            Prefix::TopDepth => {
+                top_depth_conv(library, alloc, leaves, conv, part, t, depth, fuel)
+            }
+        },
+    }
+}
+
+// THENC, joined by TRANS from the left.
+#[cycle(convert)]
+fn thenc<L: Leaves>(
+    library: &mut Library,
+    alloc: Global,
+    leaves: &L,
+    first: &Conv,
+    others: &[Conv],
+    t: &Term,
+    depth: u32,
+    fuel: &mut Fuel,
+) -> Result<Rec, Fault>
+    requires asked { IsAsked (L.is_ready leaves.now) library.old t.now }
+    ensures converts { ConvertsOver library.old (L.hosts leaves.now) depth fuel.old.left (thenc_of (L.means leaves.now) first.now others.now) t.now result fuel.new.left }
+    ensures makes { Makes library.old library.new result }
+{
+    let mut made = match convert(library, alloc, leaves, first, t, depth, fuel) {
+        Ok(made) => made,
+        Err(fault) => return Err(fault),
+    };
+    for other in others {
+        let right = right_side(library, &made);
+        let next = convert(library, alloc, leaves, other, right, depth, fuel);
+        made = match then(library, alloc, made, next) {
+            Ok(made) => made,
+            Err(fault) => return Err(fault),
+        };
+    }
+    Ok(made)
+}
+
+// ORELSEC.
+#[cycle(convert)]
+fn orelsec<L: Leaves>(
+    library: &mut Library,
+    alloc: Global,
+    leaves: &L,
+    first: &Conv,
+    others: &[Conv],
+    t: &Term,
+    depth: u32,
+    fuel: &mut Fuel,
+) -> Result<Rec, Fault>
+    requires asked { IsAsked (L.is_ready leaves.now) library.old t.now }
+    ensures converts { ConvertsOver library.old (L.hosts leaves.now) depth fuel.old.left (orelsec_of (L.means leaves.now) first.now others.now) t.now result fuel.new.left }
+    ensures makes { Makes library.old library.new result }
+{
+    let mut fault = match convert(library, alloc, leaves, first, t, depth, fuel) {
+        Ok(made) => return Ok(made),
+        Err(fault) => fault,
+    };
+    for other in others {
+        if !is_caught(&fault) {
+            return Err(fault);
+        }
+        match convert(library, alloc, leaves, other, t, depth, fuel) {
+            Ok(made) => return Ok(made),
+            Err(next) => fault = next,
+        }
+    }
+    Err(fault)
+}
+
+// REPEATC, joined by TRANS from the right. What refuses it is not caught.
+#[cycle(convert)]
+fn repeatc<L: Leaves>(
+    library: &mut Library,
+    alloc: Global,
+    leaves: &L,
+    conv: &Conv,
+    t: &Term,
+    depth: u32,
+    fuel: &mut Fuel,
+) -> Result<Rec, Fault>
+    requires asked { IsAsked (L.is_ready leaves.now) library.old t.now }
+    ensures converts { ConvertsOver library.old (L.hosts leaves.now) depth fuel.old.left (conversions.repeatc (stands_for (L.means leaves.now) conv.now)) t.now result fuel.new.left }
+    ensures last { IsFinal (theorem_in result) }
+    ensures makes { Makes library.old library.new result }
+{
+    let mut chain = match begin(alloc, t) {
+        Ok(chain) => chain,
+        Err(fault) => return Err(fault),
+    };
+    loop {
+        let made = convert(library, alloc, leaves, conv, &chain.current, depth, fuel);
+        chain = match link(library, alloc, chain, made, fuel) {
+            Linked::GoesOn(chain) => chain,
+            Linked::Ends(result) => return result,
+        };
+    }
+}
+
+// RAND_CONV.
+#[cycle(convert)]
+fn rand_conv<L: Leaves>(
+    library: &mut Library,
+    alloc: Global,
+    leaves: &L,
+    conv: &Conv,
+    t: &Term,
+    depth: u32,
+    fuel: &mut Fuel,
+) -> Result<Rec, Fault>
+    requires asked { IsAsked (L.is_ready leaves.now) library.old t.now }
+    ensures converts { ConvertsOver library.old (L.hosts leaves.now) depth fuel.old.left (conversions.rand_conv (stands_for (L.means leaves.now) conv.now)) t.now result fuel.new.left }
+    ensures makes { Makes library.old library.new result }
+{
+    match combination(t, depth) {
+        Ok((function, argument)) => {
+            let part = convert(library, alloc, leaves, conv, argument, depth + 1, fuel);
+            of_argument(library, alloc, function, part)
+        }
+        Err(fault) => Err(fault),
+    }
+}
+
+// RATOR_CONV.
+#[cycle(convert)]
+fn rator_conv<L: Leaves>(
+    library: &mut Library,
+    alloc: Global,
+    leaves: &L,
+    conv: &Conv,
+    t: &Term,
+    depth: u32,
+    fuel: &mut Fuel,
+) -> Result<Rec, Fault>
+    requires asked { IsAsked (L.is_ready leaves.now) library.old t.now }
+    ensures converts { ConvertsOver library.old (L.hosts leaves.now) depth fuel.old.left (conversions.rator_conv (stands_for (L.means leaves.now) conv.now)) t.now result fuel.new.left }
+    ensures makes { Makes library.old library.new result }
+{
+    match combination(t, depth) {
+        Ok((function, argument)) => {
+            let part = convert(library, alloc, leaves, conv, function, depth + 1, fuel);
+            of_function(library, alloc, argument, part)
+        }
+        Err(fault) => Err(fault),
+    }
+}
+
+// ABS_CONV.
+#[cycle(convert)]
+fn abs_conv<L: Leaves>(
+    library: &mut Library,
+    alloc: Global,
+    leaves: &L,
+    conv: &Conv,
+    t: &Term,
+    depth: u32,
+    fuel: &mut Fuel,
+) -> Result<Rec, Fault>
+    requires asked { IsAsked (L.is_ready leaves.now) library.old t.now }
+    ensures converts { ConvertsOver library.old (L.hosts leaves.now) depth fuel.old.left (conversions.abs_conv (stands_for (L.means leaves.now) conv.now)) t.now result fuel.new.left }
+    ensures makes { Makes library.old library.new result }
+{
+    match abstraction(t, depth) {
+        Ok((binder, body)) => {
+            let part = convert(library, alloc, leaves, conv, body, depth + 1, fuel);
+            of_body(library, alloc, binder, part)
+        }
+        Err(fault) => Err(fault),
+    }
+}
+
+// SUB_CONV.
+#[cycle(convert)]
+fn sub_conv<L: Leaves>(
+    library: &mut Library,
+    alloc: Global,
+    leaves: &L,
+    conv: &Conv,
+    t: &Term,
+    depth: u32,
+    fuel: &mut Fuel,
+) -> Result<Rec, Fault>
+    requires asked { IsAsked (L.is_ready leaves.now) library.old t.now }
+    ensures converts { ConvertsOver library.old (L.hosts leaves.now) depth fuel.old.left (conversions.sub_conv (stands_for (L.means leaves.now) conv.now)) t.now result fuel.new.left }
+    ensures makes { Makes library.old library.new result }
+{
+    match t.parts() {
+        Parts::Combination(function, argument) => {
+            if DESCENTS_LIMIT <= depth {
+                return Err(Fault::TooLarge);
+            }
+            match convert(library, alloc, leaves, conv, function, depth + 1, fuel) {
+                Ok(first) => {
+                    let second = convert(library, alloc, leaves, conv, argument, depth + 1, fuel);
+                    of_parts(library, alloc, first, second)
+                }
+                Err(fault) => Err(fault),
+            }
+        }
+        Parts::Abstraction(_, _, _) => abs_conv(library, alloc, leaves, conv, t, depth, fuel),
+        Parts::Variable(_, _) => same(library, alloc, t, fuel),
+        Parts::Constant(_, _) => same(library, alloc, t, fuel),
+    }
+}
+
+// DEPTH_CONV, the whole of a part.
+#[cycle(convert)]
+fn depth_conv<L: Leaves>(
+    library: &mut Library,
+    alloc: Global,
+    leaves: &L,
+    whole: &Conv,
+    part: &Conv,
+    t: &Term,
+    depth: u32,
+    fuel: &mut Fuel,
+) -> Result<Rec, Fault>
+    requires whole { conversion_of whole.now ≡ conversions.depth_conv (conversion_of part.now) }
+    requires asked { IsAsked (L.is_ready leaves.now) library.old t.now }
+    ensures converts { ConvertsOver library.old (L.hosts leaves.now) depth fuel.old.left (stands_for (L.means leaves.now) whole.now) t.now result fuel.new.left }
+    ensures makes { Makes library.old library.new result }
+{
+    match sub_conv(library, alloc, leaves, whole, t, depth, fuel) {
+        Ok(below) => {
+            let right = right_side(library, &below);
+            let here = repeatc(library, alloc, leaves, part, right, depth, fuel);
+            then(library, alloc, below, here)
+        }
+        Err(fault) => Err(fault),
+    }
+}
+
+// ONCE_DEPTH_CONV, the whole of a part.
+#[cycle(convert)]
+fn once_depth_conv<L: Leaves>(
+    library: &mut Library,
+    alloc: Global,
+    leaves: &L,
+    whole: &Conv,
+    part: &Conv,
+    t: &Term,
+    depth: u32,
+    fuel: &mut Fuel,
+) -> Result<Rec, Fault>
+    requires whole { conversion_of whole.now ≡ conversions.once_depth_conv (conversion_of part.now) }
+    requires asked { IsAsked (L.is_ready leaves.now) library.old t.now }
+    ensures converts { ConvertsOver library.old (L.hosts leaves.now) depth fuel.old.left (stands_for (L.means leaves.now) whole.now) t.now result fuel.new.left }
+    ensures makes { Makes library.old library.new result }
+{
+    match convert(library, alloc, leaves, part, t, depth, fuel) {
+        Ok(made) => Ok(made),
+        Err(fault) => {
+            if !is_caught(&fault) {
+                return Err(fault);
+            }
+            let made = sub_conv(library, alloc, leaves, whole, t, depth, fuel);
+            or_same(library, alloc, t, made, fuel)
+        }
+    }
+}
+
+// TOP_DEPTH_CONV, the whole of a part, joined by TRANS from the right.
+#[cycle(convert)]
+fn top_depth_conv<L: Leaves>(
+    library: &mut Library,
+    alloc: Global,
+    leaves: &L,
+    whole: &Conv,
+    part: &Conv,
+    t: &Term,
+    depth: u32,
+    fuel: &mut Fuel,
+) -> Result<Rec, Fault>
+    requires whole { conversion_of whole.now ≡ conversions.top_depth_conv (conversion_of part.now) }
+    requires asked { IsAsked (L.is_ready leaves.now) library.old t.now }
+    ensures converts { ConvertsOver library.old (L.hosts leaves.now) depth fuel.old.left (stands_for (L.means leaves.now) whole.now) t.now result fuel.new.left }
+    ensures makes { Makes library.old library.new result }
+{
+    let mut chain = match begin(alloc, t) {
+        Ok(chain) => chain,
+        Err(fault) => return Err(fault),
+    };
+    loop {
+        let here = repeatc(library, alloc, leaves, part, &chain.current, depth, fuel);
+        chain = match link(library, alloc, chain, here, fuel) {
+            Linked::GoesOn(chain) => chain,
+            Linked::Ends(result) => return result,
+        };
+        let below = sub_conv(library, alloc, leaves, whole, &chain.current, depth, fuel);
+        let below = changed(&chain.current, below);
+        chain = match link(library, alloc, chain, below, fuel) {
+            Linked::GoesOn(chain) => chain,
+            Linked::Ends(result) => return result,
+        };
+        let again = convert(library, alloc, leaves, part, &chain.current, depth, fuel);
+        chain = match link(library, alloc, chain, again, fuel) {
+            Linked::GoesOn(chain) => chain,
+            Linked::Ends(result) => return result,
+        };
+    }
+}

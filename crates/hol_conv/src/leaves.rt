@@ -1,0 +1,45 @@
+// What stands in front of the conversions without parts.
+ghost use Rattle.hol_model.specs.Refining.Conversions.{Conversion};
+ghost use Rattle.hol_model.specs.Refining.HostFunctions.{HostConversions};
+ghost use Rattle.hol_library.specs.Library.{IsContinued};
+ghost use Rattle.hol_library.specs.declared.library.Library as library;
+ghost use Rattle.hol_conv_rules.specs.Makes.{Makes};
+ghost use Rattle.std.specs.Prelude.{ℕ};
+ghost use Rattle.hol_conv.specs.Leaves.{IsLeaf, stands_for};
+ghost use Rattle.hol_conv.specs.Answers.{IsAsked, ConvertsOver};
+
+use hol_exprs::{Conv, Fuel};
+use hol_journal::Rec;
+use hol_library::Library;
+use hol_model::Fault;
+use hol_terms::Term;
+use std::alloc::Global;
+
+/// Tries conversions without parts. What is above is generic in it.
+pub trait Leaves {
+    /// What a conversion without parts stands for.
+    ghost means: { Self → Conversion → Conversion };
+
+    /// A host's conversions.
+    ghost hosts: { Self → HostConversions };
+
+    /// That they may be tried over the library.
+    ghost is_ready: { Self → library.Library → Type 0 };
+
+    /// Tries a conversion without parts on a term.
+    fn try_leaf(
+        &self,
+        library: &mut Library,
+        alloc: Global,
+        leaf: &Conv,
+        t: &Term,
+        fuel: &mut Fuel,
+    ) -> Result<Rec, Fault>
+        requires leaf { IsLeaf leaf.now }
+        requires asked { IsAsked (is_ready self.now) library.old t.now }
+        ensures converts { (depth : ℕ) → ConvertsOver library.old (hosts self.now) depth fuel.old.left (stands_for (means self.now) leaf.now) t.now result fuel.new.left }
+        ensures makes { Makes library.old library.new result };
+
+    /// They are ready as its journal grows.
+    ghost stays_ready: { (leaves : Self) (old new : library.Library) → IsContinued old new → is_ready leaves old → is_ready leaves new };
+}

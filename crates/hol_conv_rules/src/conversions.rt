@@ -1,0 +1,98 @@
+// Conversions of one step.
+ghost use Rattle.std.specs.Prelude.{◌≡◌, ◌⊎◌, [], ◌∷◌, true, Err};
+ghost use Rattle.std.specs.Option.{is_some};
+ghost use Rattle.hol_model.specs.declared.fault.Fault.TheVariants.{Memory};
+ghost use Rattle.hol_model.specs.Logic.KnownTerm.{is_known};
+ghost use Rattle.hol_model.specs.Logic.NamedLogic.{dest_redex};
+ghost use Rattle.hol_model.specs.Rewrites.Rewriting.{Rewrites};
+ghost use Rattle.hol_model.specs.Refining.Conversions.{redex_outcome};
+ghost use Rattle.hol_model.specs.Derived.DerivedRules.{AnswersStated};
+ghost use Rattle.hol_model.specs.Terms.Nameless.{image};
+ghost use Rattle.hol_journal.specs.Journal.{theorem_in};
+ghost use Rattle.hol_derivations.specs.Derivations.{AreMade, theorems};
+ghost use Rattle.hol_rewrite.specs.RuleSides.{AreEquations, sides_of_rules};
+ghost use Rattle.hol_library.specs.Library.{IsLibrary, store_in};
+ghost use Rattle.hol_conv_rules.specs.Makes.{Makes};
+ghost use Rattle.hol_conv_rules.specs.OneStep.{RewritesByName};
+
+use hol_journal::Rec;
+use hol_library::Library;
+use hol_model::Fault;
+use hol_rewrite::{Choice, choice_of, rewrite_at};
+use hol_rules::rules_of;
+use hol_terms::{Parts, Term};
+use std::alloc::Global;
+
+// Whether the term is an abstraction that is applied.
+fn is_redex(term: &Term) -> bool
+    ensures { result ≡ is_some (dest_redex term.now) }
+{
+    match term.parts() {
+        Parts::Combination(function, _) => match function.parts() {
+            Parts::Abstraction(_, _, _) => true,
+            _ => false,
+        },
+        _ => false,
+    }
+}
+
+/// BETA_CONV: for `(\x. b) a`, `|- (\x. b) a = b[a/x]`. Refused where the term is no abstraction that is applied
+/// (`ConvFails`).
+pub fn beta_conv(library: &mut Library, alloc: Global, term: &Term) -> Result<Rec, Fault>
+    requires library { IsLibrary library.old }
+    ensures makes { Makes library.old library.new result }
+    ensures answers { AnswersStated (theorem_in result) (image term.now ∷ []) (redex_outcome library.old.recorder.theory term.now) }
+{
+    if !is_redex(term) {
+        return Err(Fault::ConvFails);
+    }
+    hol_equal::beta_conv(&mut library.recorder, alloc, term)
+}
+
+/// Rewriting by rules that are there, of the term and not of its parts: the first rule that applies. The choice is that of
+/// the rules, which are equations. Refused as `rewrite_at`.
+pub fn rules_conv(
+    library: &mut Library,
+    alloc: Global,
+    rules: &[Rec],
+    choice: &Choice,
+    term: &Term,
+) -> Result<Rec, Fault>
+    requires library { IsLibrary library.old }
+    requires made { AreMade library.old.recorder rules.now }
+    requires equations { AreEquations (theorems rules.now) }
+    requires choice { choice.now ≡ sides_of_rules rules.now }
+    requires known { is_known library.old.recorder.theory term.now ≡ true }
+    ensures makes { Makes library.old library.new result }
+    ensures rewrites { Rewrites (theorems rules.now) term.now (theorem_in result) ⊎ (theorem_in result ≡ Err Memory) }
+{
+    rewrite_at(&mut library.recorder, alloc, rules, choice, term)
+}
+
+/// REWR_CONV: rewriting by the rules of a stored theorem, of the term and not of its parts. Refused, in this order: no
+/// theorem has the name (`UnknownName`); as `rules_of`; as `rewrite_at`.
+pub fn rewr_conv(
+    library: &mut Library,
+    alloc: Global,
+    name: &str,
+    term: &Term,
+) -> Result<Rec, Fault>
+    requires library { IsLibrary library.old }
+    requires known { is_known library.old.recorder.theory term.now ≡ true }
+    ensures makes { Makes library.old library.new result }
+    ensures rewrites { RewritesByName (store_in library.old) name.now term.now (theorem_in result) }
+{
+    let theorem = match library.store.get(name) {
+        Some(theorem) => theorem,
+        None => return Err(Fault::UnknownName),
+    };
+    let rules = match rules_of(&mut library.recorder, alloc, &library.logic, theorem) {
+        Ok(rules) => rules,
+        Err(fault) => return Err(fault),
+    };
+    let choice = match choice_of(alloc, &rules) {
+        Ok(choice) => choice,
+        Err(fault) => return Err(fault),
+    };
+    rules_conv(library, alloc, &rules, &choice, term)
+}

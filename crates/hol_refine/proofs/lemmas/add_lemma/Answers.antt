@@ -1,0 +1,6 @@
+use Rattle.std.proofs.Common.{refl}
+use Rattle.hol_refine.specs.Growth.{same-grown}
+use Rattle.hol_refine.proofs.lemmas.add_lemma.Goals as goal
+
+pub returns-in-Err-clause-extended : goal.returns-in-Err-clause-extended
+returns-in-Err-clause-extended c = record { grown = same-grown c.args.library.now.recorder; theory = refl; names = c.in-Err.ensures.theorems }

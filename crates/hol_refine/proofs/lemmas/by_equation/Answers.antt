@@ -1,0 +1,18 @@
+use Rattle.std.proofs.Common.{◌∙◌, sym}
+use Rattle.hol_just.specs.Steps.{goal_of}
+use Rattle.hol_outcomes.proofs.Equations.{equations-of-targets}
+use Rattle.hol_refine.proofs.lemmas.by_equation.Goals as goal
+
+pub returns-in-Ok-add_lemma-clause-outcome : goal.returns-in-Ok-add_lemma-clause-outcome
+returns-in-Ok-add_lemma-clause-outcome c =
+    let held = sym c.are_assumed.ensures ∙ c.if-not-are_assumed.false in
+    let proved = c.made_is_proved.ensures in
+    record {
+      assumed = rw (c.hyps.ensures.value, c.theorem-2.ensures) at held;
+      proved = proved;
+      sides = c.requires.equation.sides;
+      is_equation = c.requires.equation.is_equation;
+      equates = equations-of-targets c.args.library.now.recorder.theory (goal_of c.args.goal.now) c.args.theorem.theorem c.theory_is_legal.ensures c.requires.known proved c.requires.equation;
+      is_step = c.in-Ok.ensures c.requires.equation.sides c.requires.equation.is_equation;
+      stored = c.in-Ok-add_lemma.ensures.ok;
+    }

@@ -1,0 +1,68 @@
+// CONV_TAC and REWRITE_TAC.
+ghost use Rattle.std.specs.Prelude.{◌≡◌, true, map, string_bytes};
+ghost use Rattle.hol_model.specs.Logic.KnownTerm.{is_known};
+ghost use Rattle.hol_model.specs.Goals.Replays.{IsKnownGoal};
+ghost use Rattle.hol_model.specs.Refining.Refiners as refiners;
+ghost use Rattle.hol_exprs.specs.Expressions.{conversion_of};
+ghost use Rattle.hol_just.specs.Steps.{goal_of};
+ghost use Rattle.hol_library.specs.Library.{IsLibrary, store_in};
+ghost use Rattle.hol_refine.specs.Growth.{IsExtended};
+ghost use Rattle.hol_refine.specs.Answers.{RefinesOn};
+
+use crate::converting::Conversions;
+use crate::lemmas::by_equation;
+use crate::rules::rules_named;
+use hol_exprs::{Conv, Fuel};
+use hol_host::Refiners;
+use hol_just::{Goal, Step};
+use hol_library::Library;
+use hol_model::Fault;
+use std::alloc::Global;
+
+/// CONV_TAC: the goal by what the conversion proves of its target.
+pub(crate) fn conv_tac<H: Refiners, C: Conversions>(
+    library: &mut Library,
+    alloc: Global,
+    conversions: &C,
+    hosts: &H,
+    conv: &Conv,
+    goal: &Goal,
+    fuel: &mut Fuel,
+) -> Result<Step, Fault>
+    requires library { IsLibrary library.old }
+    requires known { IsKnownGoal library.old.recorder.theory (goal_of goal.now) }
+    ensures outcome { RefinesOn (H.refiners hosts.now) (H.conversions hosts.now) library.old.recorder.theory (store_in library.old) fuel.old.left (refiners.conv_tac (conversion_of conv.now)) goal.now result (store_in library.new) fuel.new.left }
+    ensures library { IsLibrary library.new }
+    ensures extended { IsExtended library.old library.new }
+{
+    match conversions.apply(library, alloc, hosts, conv, &goal.concl, fuel) {
+        Ok(theorem) => by_equation(library, alloc, goal, theorem),
+        Err(fault) => Err(fault),
+    }
+}
+
+/// REWRITE_TAC: the goal by what rewriting with the theorems of the names, from the top down, proves of its target.
+pub(crate) fn rewrite_tac<H: Refiners, C: Conversions>(
+    library: &mut Library,
+    alloc: Global,
+    conversions: &C,
+    hosts: &H,
+    names: &[String],
+    goal: &Goal,
+    fuel: &mut Fuel,
+) -> Result<Step, Fault>
+    requires library { IsLibrary library.old }
+    requires known { IsKnownGoal library.old.recorder.theory (goal_of goal.now) }
+    ensures outcome { RefinesOn (H.refiners hosts.now) (H.conversions hosts.now) library.old.recorder.theory (store_in library.old) fuel.old.left (refiners.rewrite_tac (map string_bytes names.now)) goal.now result (store_in library.new) fuel.new.left }
+    ensures library { IsLibrary library.new }
+    ensures extended { IsExtended library.old library.new }
+{
+    let rules = match rules_named(library, alloc, names) {
+        Ok(rules) => rules,
+        Err(fault) => return Err(fault),
+    };
+    match conversions.rewrite(library, alloc, hosts, &rules, &goal.concl, fuel) {
+        Ok(theorem) => by_equation(library, alloc, goal, theorem),
+        Err(fault) => Err(fault),
+    }
+}

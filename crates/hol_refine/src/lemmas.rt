@@ -1,0 +1,120 @@
+// Theorems that become lemmas, and the steps by them.
+ghost use Rattle.std.specs.Prelude.{◌≡◌, Some, Ok, length, OnOk, OnErr, IfErr};
+ghost use Rattle.hol_model.specs.declared.fault.Fault.TheVariants.{Memory};
+ghost use Rattle.hol_model.specs.Terms.NamedTerm.{NamedTerm};
+ghost use Rattle.hol_model.specs.Kernel.Rules.{dest_equation};
+ghost use Rattle.hol_model.specs.Goals.Replays.{with_lemma, IsKnownGoal, IsProvedOver};
+ghost use Rattle.hol_model.specs.Refining.Refiners as refiners;
+ghost use Rattle.hol_outcomes.specs.Laws.{IsEquationOf};
+ghost use Rattle.hol_just.specs.Steps.{goal_of};
+ghost use Rattle.hol_journal.specs.Journal.{IsMade};
+ghost use Rattle.hol_leaves.specs.Answers.{step_in, AnswersStep};
+ghost use Rattle.hol_library.specs.Library.{IsLibrary, store_in};
+ghost use Rattle.hol_refine.specs.Growth.{IsExtended};
+ghost use Rattle.hol_refine.specs.Answers.{AnswersConverted, AnswersProved};
+
+use crate::steps::{converted, proved};
+use hol_equal::equality::equation_parts;
+use hol_journal::Rec;
+use hol_just::{Goal, Step};
+use hol_leaves::are_assumed;
+use hol_library::Library;
+use hol_model::Fault;
+use std::alloc::Global;
+
+// One lemma more, behind the others. Refused, where nothing changes: Memory.
+fn add_lemma(library: &mut Library, theorem: Rec) -> Result<(), Fault>
+    requires library { IsLibrary library.old }
+    requires made { IsMade library.old.recorder theorem }
+    ensures ok { OnOk result (store_in library.new ≡ with_lemma (store_in library.old) theorem.theorem) }
+    ensures err { IfErr result (λ fault. fault ≡ Memory) }
+    ensures kept { OnErr result (store_in library.new ≡ store_in library.old) }
+    ensures library { IsLibrary library.new }
+    ensures extended { IsExtended library.old library.new }
+{
+    match library.store.add_lemma(theorem) {
+        Ok(_) => Ok(()),
+        Err(fault) => Err(fault),
+    }
+}
+
+// A theorem that the recorder made is one of its theory, or of an earlier state of it. Nothing is computed.
+fn made_is_proved(library: &Library, theorem: &Rec)
+    requires { IsMade library.now.recorder theorem.now }
+    ensures { IsProvedOver library.now.recorder.theory theorem.now.theorem }
+{
+    let _hypotheses = theorem.theorem().hyps();
+}
+
+// The step by an equation of the goal's target, which is to be the next lemma. Refused: Memory.
+fn step_by_equation(
+    library: &Library,
+    alloc: Global,
+    goal: &Goal,
+    theorem: &Rec,
+) -> Result<Step, Fault>
+    requires { IsEquationOf goal.now.concl theorem.now.theorem }
+    ensures { (sides : NamedTerm × NamedTerm) → dest_equation theorem.now.theorem.conclusion ≡ Some sides → AnswersStep (Ok (refiners.converted (length (store_in library.now).lemmas) (goal_of goal.now) sides.1)) (step_in result) }
+{
+    match equation_parts(theorem.theorem().concl()) {
+        Some(sides) => converted(alloc, library.store.lemma_count(), goal, sides.right),
+        None => unreachable!(),
+    }
+}
+
+// The step that closes a goal by a theorem, which is to be the next lemma. Refused: Memory.
+fn step_by_theorem(library: &Library, alloc: Global) -> Result<Step, Fault>
+    ensures { AnswersStep (Ok (refiners.proved_by_lemma (length (store_in library.now).lemmas))) (step_in result) }
+{
+    proved(alloc, library.store.lemma_count())
+}
+
+/// The step by an equation of the goal's target, which becomes a lemma. Refused, where the store stays: RefineFails unless its
+/// hypotheses are assumed; Memory.
+pub(crate) fn by_equation(
+    library: &mut Library,
+    alloc: Global,
+    goal: &Goal,
+    theorem: Rec,
+) -> Result<Step, Fault>
+    requires library { IsLibrary library.old }
+    requires known { IsKnownGoal library.old.recorder.theory (goal_of goal.now) }
+    requires made { IsMade library.old.recorder theorem }
+    requires equation { IsEquationOf goal.now.concl theorem.theorem }
+    ensures outcome { AnswersConverted library.old.recorder.theory (store_in library.old) (goal_of goal.now) theorem.theorem (step_in result) (store_in library.new) }
+    ensures library { IsLibrary library.new }
+    ensures extended { IsExtended library.old library.new }
+{
+    made_is_proved(library, &theorem);
+    library.recorder.theory_is_legal();
+    if !are_assumed(theorem.theorem().hyps(), goal) {
+        return Err(Fault::RefineFails);
+    }
+    let step = match step_by_equation(library, alloc, goal, &theorem) {
+        Ok(step) => step,
+        Err(fault) => return Err(fault),
+    };
+    match add_lemma(library, theorem) {
+        Ok(()) => Ok(step),
+        Err(fault) => Err(fault),
+    }
+}
+
+/// The step that closes a goal by a theorem, which becomes a lemma. Refused, where the store stays: Memory.
+pub(crate) fn by_theorem(library: &mut Library, alloc: Global, theorem: Rec) -> Result<Step, Fault>
+    requires library { IsLibrary library.old }
+    requires made { IsMade library.old.recorder theorem }
+    ensures outcome { AnswersProved library.old.recorder.theory (store_in library.old) theorem.theorem (step_in result) (store_in library.new) }
+    ensures library { IsLibrary library.new }
+    ensures extended { IsExtended library.old library.new }
+{
+    made_is_proved(library, &theorem);
+    let step = match step_by_theorem(library, alloc) {
+        Ok(step) => step,
+        Err(fault) => return Err(fault),
+    };
+    match add_lemma(library, theorem) {
+        Ok(()) => Ok(step),
+        Err(fault) => Err(fault),
+    }
+}

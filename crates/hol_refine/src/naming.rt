@@ -1,0 +1,47 @@
+// The theorems of names.
+ghost use Rattle.std.specs.Prelude.{◌≡◌, ◌∷◌, ◌++◌, [], Some, map, IfOk, IfErr, OnOk, string_bytes};
+ghost use Rattle.hol_model.specs.declared.fault.Fault.TheVariants.{Memory};
+ghost use Rattle.hol_model.specs.Refining.Refiners as refiners;
+ghost use Rattle.hol_journal.specs.Journal.{Journal};
+ghost use Rattle.hol_derivations.specs.Derivations.{AreMade, theorems};
+ghost use Rattle.hol_store.specs.Stored.{IsStoreOf, theorems_in};
+ghost use Rattle.hol_store.specs.Store.{stored_of};
+ghost use Rattle.hol_refine.specs.Answers.{IsUnnamed};
+
+use hol_journal::Rec;
+use hol_model::Fault;
+use hol_store::Store;
+use std::alloc::Global;
+
+// One theorem more.
+fn add_copy(alloc: Global, all: &mut Vec<Rec>, theorem: &Rec) -> Result<(), Fault>
+    ensures ok { OnOk result (all.new.items ≡ all.old.items ++ theorem.now ∷ []) }
+    ensures err { IfErr result (λ fault. fault ≡ Memory) }
+{
+    all.push(theorem.copy(alloc)?)?;
+    Ok(())
+}
+
+/// The stored theorems of the names, in order. Refused: UnknownName where a name stands for none; Memory.
+pub(crate) fn theorems_named(
+    alloc: Global,
+    store: &Store,
+    names: &[String],
+) -> Result<Vec<Rec>, Fault>
+    ensures ok { IfOk result (λ all. refiners.theorems_named (theorems_in (stored_of store.now)) (map string_bytes names.now) ≡ Some (theorems all.items)) }
+    ensures err { IfErr result (IsUnnamed (refiners.theorems_named (theorems_in (stored_of store.now)) (map string_bytes names.now))) }
+    ensures made { (journal : Journal) → IsStoreOf journal (stored_of store.now) → IfOk result (λ all. AreMade journal all.items) }
+{
+    let mut all = Vec::new(alloc);
+    for name in names {
+        let theorem = match store.get(name.as_str()) {
+            Some(theorem) => theorem,
+            None => return Err(Fault::UnknownName),
+        };
+        match add_copy(alloc, &mut all, theorem) {
+            Ok(()) => {}
+            Err(fault) => return Err(fault),
+        }
+    }
+    Ok(all)
+}

@@ -1,0 +1,64 @@
+// Refining by a refiner without parts.
+ghost use Rattle.std.specs.Prelude.{◌≡◌, true};
+ghost use Rattle.hol_model.specs.Goals.Replays.{IsKnownGoal};
+ghost use Rattle.hol_model.specs.Refining.Refiners as refiners;
+ghost use Rattle.hol_exprs.specs.Expressions.{leaf_of};
+ghost use Rattle.hol_just.specs.Steps.{goal_of};
+ghost use Rattle.hol_leaves.specs.Answers.{step_in, AnswersLeaf};
+ghost use Rattle.hol_combine.specs.Answers.{LeafRefines};
+ghost use Rattle.hol_library.specs.Library.{IsLibrary, store_in};
+ghost use Rattle.hol_refine.specs.Growth.{IsExtended};
+
+use crate::conversions::{conv_tac, rewrite_tac};
+use crate::converting::Conversions;
+use crate::tautologies::taut_tac;
+use hol_exprs::{Fuel, Leaf};
+use hol_host::Refiners;
+use hol_just::{Goal, Step};
+use hol_leaves::leaf_step;
+use hol_library::Library;
+use hol_model::Fault;
+use hol_terms::Term;
+use std::alloc::Global;
+
+// By a refiner of the table.
+fn by_table(library: &Library, alloc: Global, leaf: &Leaf<Term>, goal: &Goal) -> Result<Step, Fault>
+    requires table { refiners.is_in_table (leaf_of leaf.now) ≡ true }
+    requires known { IsKnownGoal library.now.recorder.theory (goal_of goal.now) }
+    ensures { AnswersLeaf library.now.recorder.theory (store_in library.now) (leaf_of leaf.now) (goal_of goal.now) (step_in result) }
+{
+    library.recorder.theory_is_legal();
+    leaf_step(alloc, library.recorder.theory(), &library.store, leaf, goal)
+}
+
+/// Refines a known goal by a refiner without parts: a step is spent, and then the answer is one that the refiner may have
+/// (hol_model, Combinators). The theorem of CONV_TAC, REWRITE_TAC and TAUT_TAC is one more lemma where they answer a step, and
+/// the store stays as it is where they are refused. Refused: StepLimit where no step is left; what the table refuses; of
+/// CONV_TAC what the conversion is refused for, of REWRITE_TAC UnknownName and what the rules of its theorems and rewriting
+/// by them are refused for, and of both RefineFails where a hypothesis of what was proved is not assumed; of TAUT_TAC what TAUT
+/// is refused for; and Memory.
+pub fn refine<H: Refiners, C: Conversions>(
+    library: &mut Library,
+    alloc: Global,
+    conversions: &C,
+    hosts: &H,
+    leaf: &Leaf<Term>,
+    goal: &Goal,
+    fuel: &mut Fuel,
+) -> Result<Step, Fault>
+    requires library { IsLibrary library.old }
+    requires known { IsKnownGoal library.old.recorder.theory (goal_of goal.now) }
+    ensures outcome { LeafRefines (H.refiners hosts.now) (H.conversions hosts.now) library.old.recorder.theory (store_in library.old) fuel.old.left leaf.now goal.now result (store_in library.new) fuel.new.left }
+    ensures library { IsLibrary library.new }
+    ensures extended { IsExtended library.old library.new }
+{
+    if !fuel.spend() {
+        return Err(Fault::StepLimit);
+    }
+    match leaf {
+        Leaf::Conv(conv) => conv_tac(library, alloc, conversions, hosts, conv, goal, fuel),
+        Leaf::Rewrite(names) => rewrite_tac(library, alloc, conversions, hosts, names, goal, fuel),
+        Leaf::Taut => taut_tac(library, alloc, goal),
+        _ => by_table(library, alloc, leaf, goal),
+    }
+}

@@ -1,0 +1,91 @@
+// Steps by a lemma.
+ghost use Rattle.std.specs.Prelude.{◌≡◌, [], ◌∷◌, Ok};
+ghost use Rattle.hol_model.specs.Logic.NamedLogic.{is_true};
+ghost use Rattle.hol_model.specs.Derived.DerivedRules.{named};
+ghost use Rattle.hol_model.specs.Derived.InferenceRules.{rule_eqt_elim, rule_eq_mp, rule_sym};
+ghost use Rattle.hol_model.specs.Goals.Justifications as trees;
+ghost use Rattle.hol_model.specs.Goals.Justifications.{by_rule};
+ghost use Rattle.hol_model.specs.Refining.Refiners.{converted, proved_by_lemma, toward, leaves, one_part, two_parts, from_first};
+ghost use Rattle.hol_just.specs.Steps.{goal_of};
+ghost use Rattle.hol_leaves.specs.Answers.{step_in, AnswersStep, Makes};
+
+use hol_just::{Goal, Just, Rule, Step, lemma, sub};
+use hol_leaves::{by_one, by_two, closed, to_target};
+use hol_model::Fault;
+use hol_terms::{Parts, Term};
+use std::alloc::Global;
+
+// Whether the term is `T`.
+fn is_truth(term: &Term) -> bool
+    ensures { result ≡ is_true term.now }
+{
+    match term.parts() {
+        Parts::Constant(name, _) => name == "T",
+        _ => false,
+    }
+}
+
+// `p`, from the lemma `p <=> T`.
+fn by_truth(alloc: Global, number: usize) -> Result<Just, Fault>
+    ensures { Makes result (by_rule rule_eqt_elim (one_part (trees.lemma number))) }
+{
+    let equation = lemma(alloc, number)?;
+    by_one(alloc, Rule::EqtElim, equation)
+}
+
+// `q <=> p`, from the lemma `p <=> q`.
+fn turned(alloc: Global, number: usize) -> Result<Just, Fault>
+    ensures { Makes result (by_rule rule_sym (one_part (trees.lemma number))) }
+{
+    let equation = lemma(alloc, number)?;
+    by_one(alloc, Rule::Sym, equation)
+}
+
+// `p`, from the lemma `p <=> q` and the subgoal `q`.
+fn by_equation(alloc: Global, number: usize) -> Result<Just, Fault>
+    ensures { Makes result (by_rule rule_eq_mp (two_parts (by_rule rule_sym (one_part (trees.lemma number))) from_first)) }
+{
+    let equation = turned(alloc, number)?;
+    let first = sub(alloc, 0)?;
+    by_two(alloc, Rule::EqMp, equation, first)
+}
+
+// A step that closes the goal by the lemma `p <=> T`.
+fn closed_by_truth(alloc: Global, number: usize) -> Result<Step, Fault>
+    ensures { AnswersStep (Ok (record { goals = []; justification = by_rule rule_eqt_elim (one_part (trees.lemma number)) })) (step_in result) }
+{
+    let just = by_truth(alloc, number)?;
+    closed(alloc, just)
+}
+
+// The step to the right side of the lemma `p <=> q`.
+fn to_right(alloc: Global, number: usize, goal: &Goal, right: &Term) -> Result<Step, Fault>
+    ensures { AnswersStep (leaves (toward (goal_of goal.now) (named right.now) ∷ []) (by_rule rule_eq_mp (two_parts (by_rule rule_sym (one_part (trees.lemma number))) from_first))) (step_in result) }
+{
+    let just = by_equation(alloc, number)?;
+    to_target(alloc, goal, right, just)
+}
+
+/// The goal's step by the lemma of this number, an equation of the target with this right side: to that side, or to nothing
+/// where it is `T`. Refused: Memory.
+pub(crate) fn converted(
+    alloc: Global,
+    number: usize,
+    goal: &Goal,
+    right: &Term,
+) -> Result<Step, Fault>
+    ensures { AnswersStep (Ok (converted number (goal_of goal.now) right.now)) (step_in result) }
+{
+    if is_truth(right) {
+        return closed_by_truth(alloc, number);
+    }
+    to_right(alloc, number, goal, right)
+}
+
+/// The step that closes a goal by the lemma of this number. Refused: Memory.
+pub(crate) fn proved(alloc: Global, number: usize) -> Result<Step, Fault>
+    ensures { AnswersStep (Ok (proved_by_lemma number)) (step_in result) }
+{
+    let just = lemma(alloc, number)?;
+    closed(alloc, just)
+}
