@@ -4,7 +4,7 @@ use Rattle.std.specs.Prelude.{slice_get}
 use Rattle.std.specs.Option.{option_map}
 use Rattle.std.specs.Str.{bytes_eq}
 use Rattle.hol_journal.specs.Journal.{Journal, Recorded, IsMade}
-use Rattle.hol_journal.specs.Growth.{IsGrown, JournalsGrow}
+use Rattle.hol_journal.specs.Growth.{JournalsGrow}
 use Rattle.hol_store.specs.Stored.{Stored, IsStoreOf, StoresTheorem, StoresStay}
 
 pub stores-stay : JournalsGrow → StoresStay
