@@ -1,8 +1,8 @@
 // Devices over memory, and over readers and writers that fail in mid-stream.
 use hol_model::{DeviceFail, FromRead, IntoWrite, Sink, Source};
+use std::alloc::Global;
 use std::io;
 use std::io::{Read, Write};
-use std::test::Fail;
 
 // Gives the bytes of "ab" one a call, fails in the third call, and is at its end from then on.
 #[derive(Drop)]
@@ -61,58 +61,92 @@ impl Write for TakesNone {
     }
 }
 
-#[test]
-fn reads_memory(rt: HostRuntime) {
-    let mut source = FromRead::new(b"abc".as_slice());
-    let mut buffer = [0u8; 2];
-    assert_eq!(rt; source.pull(&mut buffer), Ok(2));
-    assert_eq!(rt; buffer, [b'a', b'b']);
-    assert_eq!(rt; source.pull(&mut buffer), Ok(1));
-    assert_eq!(rt; buffer[0], b'c');
-    assert_eq!(rt; source.pull(&mut buffer), Ok(0));
-    assert!(rt; !source.failed());
-}
+// What a source answers to a call with room for two bytes, which bytes it gives, and whether a call has failed by then.
+struct Pull<'a>(Result<usize, DeviceFail>, &'a [u8], bool);
 
-#[test]
-fn a_reader_fails(rt: HostRuntime) {
-    let mut source = FromRead::new(FailsThird { calls: 0 });
-    let mut buffer = [0u8; 2];
-    assert_eq!(rt; source.pull(&mut buffer), Ok(1));
-    assert_eq!(rt; source.pull(&mut buffer), Ok(1));
-    assert!(rt; !source.failed());
-    assert_eq!(rt; source.pull(&mut buffer), Err(DeviceFail));
-    assert!(rt; source.failed());
-    assert_eq!(rt; source.pull(&mut buffer), Ok(0));
-    assert!(rt; source.failed());
-}
+// A piece, what a sink answers to it, and whether a call has failed by then.
+struct Emit<'a>(&'a [u8], Result<usize, DeviceFail>, bool);
 
-#[test]
-fn writes_memory(rt: HostRuntime) {
-    let mut sink = IntoWrite::new(Vec::new(rt.alloc()));
-    assert_eq!(rt; sink.emit(b"ab"), Ok(2));
-    assert_eq!(rt; sink.emit(b""), Ok(0));
-    assert_eq!(rt; sink.emit(b"c"), Ok(1));
-    assert!(rt; !sink.failed());
-}
+const FROM_MEMORY: [Pull<'static>; 3] = [
+    Pull(Ok(2), b"ab", false),
+    Pull(Ok(1), b"c", false),
+    Pull(Ok(0), b"", false),
+];
 
-#[test]
-fn a_writer_fails(rt: HostRuntime) {
-    let mut sink = IntoWrite::new(TakesTwo { calls: 0 });
-    assert_eq!(rt; sink.emit(b"ab"), Ok(1));
-    assert_eq!(rt; sink.emit(b"b"), Ok(1));
-    assert!(rt; !sink.failed());
-    assert_eq!(rt; sink.emit(b"c"), Err(DeviceFail));
-    assert!(rt; sink.failed());
-    assert_eq!(rt; sink.emit(b""), Ok(0));
-    assert!(rt; sink.failed());
-}
+const FROM_A_READER_THAT_FAILS: [Pull<'static>; 4] = [
+    Pull(Ok(1), b"a", false),
+    Pull(Ok(1), b"b", false),
+    Pull(Err(DeviceFail), b"", true),
+    Pull(Ok(0), b"", true),
+];
+
+const TO_MEMORY: [Emit<'static>; 3] = [
+    Emit(b"ab", Ok(2), false),
+    Emit(b"", Ok(0), false),
+    Emit(b"c", Ok(1), false),
+];
+
+const TO_A_WRITER_THAT_FAILS: [Emit<'static>; 4] = [
+    Emit(b"ab", Ok(1), false),
+    Emit(b"b", Ok(1), false),
+    Emit(b"c", Err(DeviceFail), true),
+    Emit(b"", Ok(0), true),
+];
 
 // A write that takes none of a non-empty piece counts as failed, and none of an empty piece does not.
+const TO_A_WRITER_THAT_TAKES_NONE: [Emit<'static>; 2] = [
+    Emit(b"", Ok(0), false),
+    Emit(b"a", Err(DeviceFail), true),
+];
+
+fn pulls_so<R: Source>(source: &mut R, wanted: &Pull<'_>) -> bool {
+    let mut buffer = [0u8; 2];
+    let answer = source.pull(&mut buffer);
+    answer == wanted.0 && buffer.as_slice().starts_with(wanted.1) && source.failed() == wanted.2
+}
+
+fn emits_so<W: Sink>(sink: &mut W, wanted: &Emit<'_>) -> bool {
+    let answer = sink.emit(wanted.0);
+    answer == wanted.1 && sink.failed() == wanted.2
+}
+
+// Whether a source over a reader answers so, call by call.
+fn reads<R: Read + Drop>(reader: R, pulls: &[Pull<'_>]) -> bool {
+    let mut source = FromRead::new(reader);
+    for at in 0..pulls.len() {
+        let pull = &pulls[at];
+        if !pulls_so(&mut source, pull) {
+            return false;
+        }
+    }
+    true
+}
+
+// Whether a sink over a writer answers so, call by call.
+fn writes<W: Write + Drop>(writer: W, emits: &[Emit<'_>]) -> bool {
+    let mut sink = IntoWrite::new(writer);
+    for at in 0..emits.len() {
+        let emit = &emits[at];
+        if !emits_so(&mut sink, emit) {
+            return false;
+        }
+    }
+    true
+}
+
 #[test]
-fn a_writer_takes_none(rt: HostRuntime) {
-    let mut sink = IntoWrite::new(TakesNone);
-    assert_eq!(rt; sink.emit(b""), Ok(0));
-    assert!(rt; !sink.failed());
-    assert_eq!(rt; sink.emit(b"a"), Err(DeviceFail));
-    assert!(rt; sink.failed());
+fn sources(rt: HostRuntime) {
+    assert!(rt; reads(b"abc".as_slice(), &FROM_MEMORY));
+    assert!(rt; reads(FailsThird { calls: 0 }, &FROM_A_READER_THAT_FAILS));
+}
+
+fn writes_memory(alloc: Global) -> bool {
+    writes(Vec::new(alloc), &TO_MEMORY)
+}
+
+#[test]
+fn sinks(rt: HostRuntime) {
+    assert!(rt; writes_memory(rt.alloc()));
+    assert!(rt; writes(TakesTwo { calls: 0 }, &TO_A_WRITER_THAT_FAILS));
+    assert!(rt; writes(TakesNone, &TO_A_WRITER_THAT_TAKES_NONE));
 }

@@ -5,11 +5,11 @@
 #[cfg(test)]
 mod device_tests;
 #[cfg(test)]
-mod height_tests;
-#[cfg(test)]
 mod line_tests;
 #[cfg(test)]
 mod meaning_tests;
+#[cfg(test)]
+mod sketches;
 #[cfg(test)]
 mod term_tests;
 #[cfg(test)]

@@ -1,18 +1,37 @@
-// Meanings and sequents in small models, with expected values by hand.
+// Meanings and sequents in small models told as data, with expected values by hand.
 use hol_meaning::{
     Choices, ConstantElement, Element, EntryTree, Interpretation, NamedCarrier, TermTree, TypeTree,
     VariableElement, carrier, holds_in, same, term_meaning,
 };
 use std::alloc::{AllocError, Global};
-use std::test::Fail;
 
-const A: TypeTree<'static> = TypeTree::Variable("A");
+// An element: a number, or the table of numbers.
+enum Value<'a> {
+    Number(u32),
+    Table(&'a [u32]),
+}
 
-const B: TypeTree<'static> = TypeTree::Variable("B");
+// What a model gives: the numbers of a type variable or of a declared type, or what a free variable or a declared constant stands for.
+enum Given<'a> {
+    Type(&'a str, &'a [u32]),
+    Declared(&'a str, &'a [u32]),
+    Variable(&'a str, &'a TypeTree<'a>, Value<'a>),
+    Constant(&'a str, u32),
+}
 
-const BOOL: TypeTree<'static> = TypeTree::Bool;
+// What is claimed in a model.
+enum Claim<'a> {
+    /// The elements of a type.
+    Carrier(&'a TypeTree<'a>, &'a [Value<'a>]),
+    /// What a term means.
+    Means(&'a TermTree<'a>, Value<'a>),
+    /// Whether a sequent holds.
+    Holds(&'a [TermTree<'a>], &'a TermTree<'a>, bool),
+}
 
-// The numbers, as elements.
+// A theory, what a model gives, and what is claimed there.
+struct Row<'a>(&'a [EntryTree<'a>], &'a [Given<'a>], &'a [Claim<'a>]);
+
 fn numbers(alloc: Global, list: &[u32]) -> Result<Vec<Element>, AllocError> {
     let mut elements = Vec::new(alloc);
     for n in list {
@@ -21,442 +40,599 @@ fn numbers(alloc: Global, list: &[u32]) -> Result<Vec<Element>, AllocError> {
     Ok(elements)
 }
 
-// The table of the numbers.
-fn row(alloc: Global, list: &[u32]) -> Result<Element, AllocError> {
-    Element::table(alloc, numbers(alloc, list)?)
+fn element(alloc: Global, value: &Value<'_>) -> Result<Element, AllocError> {
+    match value {
+        Value::Number(n) => Element::number(alloc, *n),
+        Value::Table(list) => Element::table(alloc, numbers(alloc, list)?),
+    }
 }
 
-// Whether the element is the number.
-fn is_number(alloc: Global, element: &Element, n: u32) -> Result<bool, AllocError> {
-    Ok(same(element, &Element::number(alloc, n)?))
-}
-
-// Whether the element is the table of the numbers.
-fn is_row(alloc: Global, element: &Element, list: &[u32]) -> Result<bool, AllocError> {
-    Ok(same(element, &row(alloc, list)?))
-}
-
-// The tables over two arguments come in lexicographic order, whatever the arguments are.
-#[test]
-fn lists_the_tables(rt: HostRuntime) -> Result<(), Fail> {
-    let alloc = rt.alloc();
-    let carriers = [NamedCarrier {
-        name: "A",
-        elements: numbers(alloc, &[7, 9])?,
-    }];
-    let choices = Choices {
-        type_variables: &carriers,
-        declared_types: &[],
-        free_variables: &[],
-        declared_constants: &[],
-    };
-    let model = Interpretation::Given(&choices);
-    let predicates = carrier(alloc, &model, &TypeTree::Function(&A, &BOOL))?;
-    assert_eq!(rt; predicates.len(), 4);
-    assert!(rt; is_row(alloc, &predicates[0], &[0, 0])?);
-    assert!(rt; is_row(alloc, &predicates[1], &[0, 1])?);
-    assert!(rt; is_row(alloc, &predicates[2], &[1, 0])?);
-    assert!(rt; is_row(alloc, &predicates[3], &[1, 1])?);
-    let other = carrier(alloc, &model, &TypeTree::Variable("B"))?;
-    assert_eq!(rt; other.len(), 1);
-    assert!(rt; is_number(alloc, &other[0], 0)?);
-    Ok(())
-}
-
-// The axiom `(\x:A. t x) = t`, for each `t:A->B` over carriers of one and of two elements.
-#[test]
-fn eta_holds(rt: HostRuntime) -> Result<(), Fail> {
-    let alloc = rt.alloc();
-    const FUNCTION: TypeTree<'static> = TypeTree::Function(&A, &B);
-    const TO_TRUTH: TypeTree<'static> = TypeTree::Function(&FUNCTION, &BOOL);
-    const EQUAL: TypeTree<'static> = TypeTree::Function(&FUNCTION, &TO_TRUTH);
-    const T: TermTree<'static> = TermTree::Free("t", &FUNCTION);
-    const X: TermTree<'static> = TermTree::Bound(0);
-    const APPLIED: TermTree<'static> = TermTree::App(&T, &X);
-    const ABSTRACTION: TermTree<'static> = TermTree::Lam(&A, &APPLIED);
-    const EQUALITY: TermTree<'static> = TermTree::Const("=", &EQUAL);
-    const LEFT: TermTree<'static> = TermTree::App(&EQUALITY, &ABSTRACTION);
-    const AXIOM: TermTree<'static> = TermTree::App(&LEFT, &T);
-    let mut seen = 0u64;
-    for (first, second) in [
-        ([5, 6], [2, 3]),
-        ([5, 5], [2, 3]),
-        ([5, 6], [2, 2]),
-        ([5, 5], [2, 2]),
-    ] {
-        let carriers = [
-            NamedCarrier {
-                name: "A",
-                elements: distinct(alloc, first)?,
-            },
-            NamedCarrier {
-                name: "B",
-                elements: distinct(alloc, second)?,
-            },
-        ];
-        let choices = Choices {
-            type_variables: &carriers,
-            declared_types: &[],
-            free_variables: &[],
-            declared_constants: &[],
-        };
-        for element in carrier(alloc, &Interpretation::Given(&choices), &FUNCTION)? {
-            let variables = [VariableElement {
-                name: "t",
-                ty: &FUNCTION,
-                element,
-            }];
-            let choices = Choices {
-                type_variables: &carriers,
-                declared_types: &[],
-                free_variables: &variables,
-                declared_constants: &[],
-            };
-            assert!(rt; holds_in(alloc, &[], &Interpretation::Given(&choices), &[], &AXIOM)?);
-            seen = seen.wrapping_add(1);
+fn type_variables<'a>(
+    alloc: Global,
+    given: &'a [Given<'a>],
+) -> Result<Vec<NamedCarrier<'a>>, AllocError> {
+    let mut all = Vec::new(alloc);
+    for at in 0..given.len() {
+        if let Given::Type(name, list) = &given[at] {
+            let elements = numbers(alloc, list)?;
+            all.push(NamedCarrier { name, elements })?;
         }
     }
-    assert_eq!(rt; seen, 4 + 2 + 1 + 1);
-    Ok(())
+    Ok(all)
 }
 
-// The numbers without repetition.
-fn distinct(alloc: Global, pair: [u32; 2]) -> Result<Vec<Element>, AllocError> {
-    if pair[0] == pair[1] {
-        numbers(alloc, &[pair[0]])
-    } else {
-        numbers(alloc, &pair)
-    }
-}
-
-// Whether `|- P (@ P)` holds in a model with this predicate `P:A->bool`.
-fn holds_for_choice(
+fn declared_types<'a>(
     alloc: Global,
-    carriers: &[NamedCarrier<'_>],
-    predicate: &Element,
-) -> Result<bool, AllocError> {
-    const PREDICATE: TypeTree<'static> = TypeTree::Function(&A, &BOOL);
-    const CHOICE: TypeTree<'static> = TypeTree::Function(&PREDICATE, &A);
-    const P: TermTree<'static> = TermTree::Free("P", &PREDICATE);
-    const CHOOSE: TermTree<'static> = TermTree::Const("@", &CHOICE);
-    const CHOSEN: TermTree<'static> = TermTree::App(&CHOOSE, &P);
-    const CONCLUSION: TermTree<'static> = TermTree::App(&P, &CHOSEN);
-    let variables = [VariableElement {
-        name: "P",
-        ty: &PREDICATE,
-        element: predicate.copy()?,
-    }];
-    let choices = Choices {
-        type_variables: &*carriers,
-        declared_types: &[],
-        free_variables: &variables,
-        declared_constants: &[],
-    };
-    holds_in(
-        alloc,
-        &[],
-        &Interpretation::Given(&choices),
-        &[],
-        &CONCLUSION,
-    )
-}
-
-// Whether `P x |- P (@ P)` holds in a model with this predicate `P` and this `x`, which have these types.
-fn holds_for_select<'a>(
-    alloc: Global,
-    carriers: &'a [NamedCarrier<'a>],
-    predicate_type: &'a TypeTree<'a>,
-    element_type: &'a TypeTree<'a>,
-    predicate: &Element,
-    element: &Element,
-) -> Result<bool, AllocError> {
-    const PREDICATE: TypeTree<'static> = TypeTree::Function(&A, &BOOL);
-    const CHOICE: TypeTree<'static> = TypeTree::Function(&PREDICATE, &A);
-    const P: TermTree<'static> = TermTree::Free("P", &PREDICATE);
-    const X: TermTree<'static> = TermTree::Free("x", &A);
-    const CHOOSE: TermTree<'static> = TermTree::Const("@", &CHOICE);
-    const CHOSEN: TermTree<'static> = TermTree::App(&CHOOSE, &P);
-    const CONCLUSION: TermTree<'static> = TermTree::App(&P, &CHOSEN);
-    const HYPOTHESES: [TermTree<'static>; 1] = [TermTree::App(&P, &X)];
-    let variables = [
-        VariableElement {
-            name: "P",
-            ty: predicate_type,
-            element: predicate.copy()?,
-        },
-        VariableElement {
-            name: "x",
-            ty: element_type,
-            element: element.copy()?,
-        },
-    ];
-    let choices = Choices {
-        type_variables: &*carriers,
-        declared_types: &[],
-        free_variables: &variables,
-        declared_constants: &[],
-    };
-    holds_in(
-        alloc,
-        &[],
-        &Interpretation::Given(&choices),
-        &HYPOTHESES,
-        &CONCLUSION,
-    )
-}
-
-// The axiom `P x |- P (@ P)`, for each `P:A->bool` and `x:A` over carriers of one and of two elements; and its
-// conclusion alone, which fails for the empty predicate.
-#[test]
-fn select_holds(rt: HostRuntime) -> Result<(), Fail> {
-    let alloc = rt.alloc();
-    const PREDICATE: TypeTree<'static> = TypeTree::Function(&A, &BOOL);
-    let mut failures = 0u64;
-    for pair in [[5, 6], [5, 5]] {
-        let carriers = [NamedCarrier {
-            name: "A",
-            elements: distinct(alloc, pair)?,
-        }];
-        let choices = Choices {
-            type_variables: &carriers,
-            declared_types: &[],
-            free_variables: &[],
-            declared_constants: &[],
-        };
-        let predicates = carrier(alloc, &Interpretation::Given(&choices), &PREDICATE)?;
-        for predicate in &predicates {
-            for element in &carriers[0].elements {
-                assert!(rt;
-                    holds_for_select(alloc, &carriers, &PREDICATE, &A, predicate, element)?
-                );
-            }
-            if !holds_for_choice(alloc, &carriers, predicate)? {
-                failures = failures.wrapping_add(1);
-            }
+    given: &'a [Given<'a>],
+) -> Result<Vec<NamedCarrier<'a>>, AllocError> {
+    let mut all = Vec::new(alloc);
+    for at in 0..given.len() {
+        if let Given::Declared(name, list) = &given[at] {
+            let elements = numbers(alloc, list)?;
+            all.push(NamedCarrier { name, elements })?;
         }
     }
-    assert_eq!(rt; failures, 2);
-    Ok(())
+    Ok(all)
+}
+
+fn free_variables<'a>(
+    alloc: Global,
+    given: &'a [Given<'a>],
+) -> Result<Vec<VariableElement<'a>>, AllocError> {
+    let mut all = Vec::new(alloc);
+    for at in 0..given.len() {
+        if let Given::Variable(name, ty, value) = &given[at] {
+            let element = element(alloc, value)?;
+            all.push(VariableElement { name, ty, element })?;
+        }
+    }
+    Ok(all)
+}
+
+fn declared_constants<'a>(
+    alloc: Global,
+    given: &'a [Given<'a>],
+) -> Result<Vec<ConstantElement<'a>>, AllocError> {
+    let mut all = Vec::new(alloc);
+    for at in 0..given.len() {
+        if let Given::Constant(name, number) = &given[at] {
+            let element = Element::number(alloc, *number)?;
+            all.push(ConstantElement { name, element })?;
+        }
+    }
+    Ok(all)
+}
+
+fn is_value(alloc: Global, found: &Element, wanted: &Value<'_>) -> Result<bool, AllocError> {
+    Ok(same(found, &element(alloc, wanted)?))
+}
+
+fn are_values(alloc: Global, found: &[Element], wanted: &[Value<'_>]) -> Result<bool, AllocError> {
+    if found.len() != wanted.len() {
+        return Ok(false);
+    }
+    for at in 0..wanted.len() {
+        let value = &wanted[at];
+        if !is_value(alloc, &found[at], value)? {
+            return Ok(false);
+        }
+    }
+    Ok(true)
+}
+
+fn is_so(
+    alloc: Global,
+    theory: &[EntryTree<'_>],
+    model: &Interpretation<'_>,
+    claim: &Claim<'_>,
+) -> Result<bool, AllocError> {
+    match claim {
+        Claim::Carrier(ty, wanted) => {
+            let found = carrier(alloc, model, ty)?;
+            are_values(alloc, &found, wanted)
+        }
+        Claim::Means(term, wanted) => {
+            let found = term_meaning(alloc, theory, model, term)?;
+            is_value(alloc, &found, wanted)
+        }
+        Claim::Holds(hypotheses, conclusion, wanted) => {
+            Ok(holds_in(alloc, theory, model, hypotheses, conclusion)? == *wanted)
+        }
+    }
+}
+
+fn are_so(
+    alloc: Global,
+    theory: &[EntryTree<'_>],
+    model: &Interpretation<'_>,
+    claims: &[Claim<'_>],
+) -> Result<bool, AllocError> {
+    for at in 0..claims.len() {
+        let claim = &claims[at];
+        if !is_so(alloc, theory, model, claim)? {
+            return Ok(false);
+        }
+    }
+    Ok(true)
+}
+
+fn row_is_so(alloc: Global, row: &Row<'_>) -> Result<bool, AllocError> {
+    let types = type_variables(alloc, row.1)?;
+    let declared = declared_types(alloc, row.1)?;
+    let variables = free_variables(alloc, row.1)?;
+    let constants = declared_constants(alloc, row.1)?;
+    let choices = Choices {
+        type_variables: &types,
+        declared_types: &declared,
+        free_variables: &variables,
+        declared_constants: &constants,
+    };
+    are_so(alloc, row.0, &Interpretation::Given(&choices), row.2)
+}
+
+// The number of the first row of which something does not hold, if any.
+fn first_wrong(alloc: Global, rows: &[Row<'_>]) -> Option<usize> {
+    for at in 0..rows.len() {
+        let row = &rows[at];
+        if !matches!(row_is_so(alloc, row), Ok(true)) {
+            return Some(at);
+        }
+    }
+    None
+}
+
+const A: TypeTree<'static> = TypeTree::Variable("A");
+
+const B: TypeTree<'static> = TypeTree::Variable("B");
+
+const BOOL: TypeTree<'static> = TypeTree::Bool;
+
+const ON_A: TypeTree<'static> = TypeTree::Function(&A, &A);
+
+const ON_BOOL: TypeTree<'static> = TypeTree::Function(&BOOL, &BOOL);
+
+const FROM_FUNCTIONS: TypeTree<'static> = TypeTree::Function(&ON_BOOL, &BOOL);
+
+const EQUAL_FUNCTIONS: TypeTree<'static> = TypeTree::Function(&ON_BOOL, &FROM_FUNCTIONS);
+
+// The types of `P:A->bool`, of `@` and of `!`.
+const PREDICATE: TypeTree<'static> = TypeTree::Function(&A, &BOOL);
+
+const CHOICE: TypeTree<'static> = TypeTree::Function(&PREDICATE, &A);
+
+const QUANTIFIER: TypeTree<'static> = TypeTree::Function(&PREDICATE, &BOOL);
+
+// `(\x:bool. x) = (\x. x)`.
+const BOUND: TermTree<'static> = TermTree::Bound(0);
+
+const BOOL_IDENTITY: TermTree<'static> = TermTree::Lam(&BOOL, &BOUND);
+
+const FUNCTION_EQUALITY: TermTree<'static> = TermTree::Const("=", &EQUAL_FUNCTIONS);
+
+const IDENTITY_EQUALS: TermTree<'static> = TermTree::App(&FUNCTION_EQUALITY, &BOOL_IDENTITY);
+
+const REFLEXIVE: TermTree<'static> = TermTree::App(&IDENTITY_EQUALS, &BOOL_IDENTITY);
+
+// The tables over two arguments come in lexicographic order, whatever the arguments are. A type that is not listed has one element.
+const CARRIERS: [Row<'static>; 1] = [Row(
+    &[],
+    &[Given::Type("A", &[7, 9])],
+    &[
+        Claim::Carrier(
+            &PREDICATE,
+            &[
+                Value::Table(&[0, 0]),
+                Value::Table(&[0, 1]),
+                Value::Table(&[1, 0]),
+                Value::Table(&[1, 1]),
+            ],
+        ),
+        Claim::Carrier(&B, &[Value::Number(0)]),
+    ],
+)];
+
+#[test]
+fn the_tables_are_listed(rt: HostRuntime) {
+    assert!(rt; first_wrong(rt.alloc(), &CARRIERS).is_none());
+}
+
+// The axiom `(\x:A. t x) = t`.
+const FUNCTION: TypeTree<'static> = TypeTree::Function(&A, &B);
+
+const FUNCTION_TO_TRUTH: TypeTree<'static> = TypeTree::Function(&FUNCTION, &BOOL);
+
+const EQUAL_ON_FUNCTIONS: TypeTree<'static> = TypeTree::Function(&FUNCTION, &FUNCTION_TO_TRUTH);
+
+const T: TermTree<'static> = TermTree::Free("t", &FUNCTION);
+
+const T_OF_BOUND: TermTree<'static> = TermTree::App(&T, &BOUND);
+
+const EXPANDED: TermTree<'static> = TermTree::Lam(&A, &T_OF_BOUND);
+
+const EQUALITY_ON_FUNCTIONS: TermTree<'static> = TermTree::Const("=", &EQUAL_ON_FUNCTIONS);
+
+const EXPANDED_EQUALS: TermTree<'static> = TermTree::App(&EQUALITY_ON_FUNCTIONS, &EXPANDED);
+
+const ETA: TermTree<'static> = TermTree::App(&EXPANDED_EQUALS, &T);
+
+const ETA_HOLDS: [Claim<'static>; 1] = [Claim::Holds(&[], &ETA, true)];
+
+// Carriers of `A` and `B` of two and of one element, and all functions from the one to the other.
+const A_OF_TWO: Given<'static> = Given::Type("A", &[5, 6]);
+
+const A_OF_ONE: Given<'static> = Given::Type("A", &[5]);
+
+const B_OF_TWO: Given<'static> = Given::Type("B", &[2, 3]);
+
+const B_OF_ONE: Given<'static> = Given::Type("B", &[2]);
+
+const FUNCTIONS_TWO_TWO: [Value<'static>; 4] = [
+    Value::Table(&[2, 2]),
+    Value::Table(&[2, 3]),
+    Value::Table(&[3, 2]),
+    Value::Table(&[3, 3]),
+];
+
+const T_2_2: Given<'static> = Given::Variable("t", &FUNCTION, Value::Table(&[2, 2]));
+
+const T_2_3: Given<'static> = Given::Variable("t", &FUNCTION, Value::Table(&[2, 3]));
+
+const T_3_2: Given<'static> = Given::Variable("t", &FUNCTION, Value::Table(&[3, 2]));
+
+const T_3_3: Given<'static> = Given::Variable("t", &FUNCTION, Value::Table(&[3, 3]));
+
+const FUNCTIONS_ONE_TWO: [Value<'static>; 2] = [Value::Table(&[2]), Value::Table(&[3])];
+
+const T_2: Given<'static> = Given::Variable("t", &FUNCTION, Value::Table(&[2]));
+
+const T_3: Given<'static> = Given::Variable("t", &FUNCTION, Value::Table(&[3]));
+
+const FUNCTIONS_TWO_ONE: [Value<'static>; 1] = [Value::Table(&[2, 2])];
+
+const FUNCTIONS_ONE_ONE: [Value<'static>; 1] = [Value::Table(&[2])];
+
+const ETAS: [Row<'static>; 12] = [
+    Row(
+        &[],
+        &[A_OF_TWO, B_OF_TWO],
+        &[Claim::Carrier(&FUNCTION, &FUNCTIONS_TWO_TWO)],
+    ),
+    Row(&[], &[A_OF_TWO, B_OF_TWO, T_2_2], &ETA_HOLDS),
+    Row(&[], &[A_OF_TWO, B_OF_TWO, T_2_3], &ETA_HOLDS),
+    Row(&[], &[A_OF_TWO, B_OF_TWO, T_3_2], &ETA_HOLDS),
+    Row(&[], &[A_OF_TWO, B_OF_TWO, T_3_3], &ETA_HOLDS),
+    Row(
+        &[],
+        &[A_OF_ONE, B_OF_TWO],
+        &[Claim::Carrier(&FUNCTION, &FUNCTIONS_ONE_TWO)],
+    ),
+    Row(&[], &[A_OF_ONE, B_OF_TWO, T_2], &ETA_HOLDS),
+    Row(&[], &[A_OF_ONE, B_OF_TWO, T_3], &ETA_HOLDS),
+    Row(
+        &[],
+        &[A_OF_TWO, B_OF_ONE],
+        &[Claim::Carrier(&FUNCTION, &FUNCTIONS_TWO_ONE)],
+    ),
+    Row(&[], &[A_OF_TWO, B_OF_ONE, T_2_2], &ETA_HOLDS),
+    Row(
+        &[],
+        &[A_OF_ONE, B_OF_ONE],
+        &[Claim::Carrier(&FUNCTION, &FUNCTIONS_ONE_ONE)],
+    ),
+    Row(&[], &[A_OF_ONE, B_OF_ONE, T_2], &ETA_HOLDS),
+];
+
+#[test]
+fn eta_holds(rt: HostRuntime) {
+    assert!(rt; first_wrong(rt.alloc(), &ETAS).is_none());
+}
+
+// The axiom `P x |- P (@ P)`, and its conclusion alone, which fails for the empty predicate.
+const P: TermTree<'static> = TermTree::Free("P", &PREDICATE);
+
+const X: TermTree<'static> = TermTree::Free("x", &A);
+
+const CHOOSE: TermTree<'static> = TermTree::Const("@", &CHOICE);
+
+const CHOSEN: TermTree<'static> = TermTree::App(&CHOOSE, &P);
+
+const P_OF_CHOSEN: TermTree<'static> = TermTree::App(&P, &CHOSEN);
+
+const P_OF_X: [TermTree<'static>; 1] = [TermTree::App(&P, &X)];
+
+const SELECT_HOLDS: [Claim<'static>; 2] = [
+    Claim::Holds(&P_OF_X, &P_OF_CHOSEN, true),
+    Claim::Holds(&[], &P_OF_CHOSEN, true),
+];
+
+const SELECT_OF_NONE: [Claim<'static>; 2] = [
+    Claim::Holds(&P_OF_X, &P_OF_CHOSEN, true),
+    Claim::Holds(&[], &P_OF_CHOSEN, false),
+];
+
+// All predicates and elements of carriers of two and of one element.
+const X_5: Given<'static> = Given::Variable("x", &A, Value::Number(5));
+
+const X_6: Given<'static> = Given::Variable("x", &A, Value::Number(6));
+
+const P_0_0: Given<'static> = Given::Variable("P", &PREDICATE, Value::Table(&[0, 0]));
+
+const P_0_1: Given<'static> = Given::Variable("P", &PREDICATE, Value::Table(&[0, 1]));
+
+const P_1_0: Given<'static> = Given::Variable("P", &PREDICATE, Value::Table(&[1, 0]));
+
+const P_1_1: Given<'static> = Given::Variable("P", &PREDICATE, Value::Table(&[1, 1]));
+
+const P_0: Given<'static> = Given::Variable("P", &PREDICATE, Value::Table(&[0]));
+
+const P_1: Given<'static> = Given::Variable("P", &PREDICATE, Value::Table(&[1]));
+
+const SELECTS: [Row<'static>; 10] = [
+    Row(&[], &[A_OF_TWO, P_0_0, X_5], &SELECT_OF_NONE),
+    Row(&[], &[A_OF_TWO, P_0_0, X_6], &SELECT_OF_NONE),
+    Row(&[], &[A_OF_TWO, P_0_1, X_5], &SELECT_HOLDS),
+    Row(&[], &[A_OF_TWO, P_0_1, X_6], &SELECT_HOLDS),
+    Row(&[], &[A_OF_TWO, P_1_0, X_5], &SELECT_HOLDS),
+    Row(&[], &[A_OF_TWO, P_1_0, X_6], &SELECT_HOLDS),
+    Row(&[], &[A_OF_TWO, P_1_1, X_5], &SELECT_HOLDS),
+    Row(&[], &[A_OF_TWO, P_1_1, X_6], &SELECT_HOLDS),
+    Row(&[], &[A_OF_ONE, P_0, X_5], &SELECT_OF_NONE),
+    Row(&[], &[A_OF_ONE, P_1, X_5], &SELECT_HOLDS),
+];
+
+#[test]
+fn select_holds(rt: HostRuntime) {
+    assert!(rt; first_wrong(rt.alloc(), &SELECTS).is_none());
 }
 
 // `@` gives the first element where the predicate is true, and of an empty predicate the first of the carrier.
+const CHOICES: [Row<'static>; 4] = [
+    Row(
+        &[],
+        &[
+            Given::Type("A", &[7, 9, 4]),
+            Given::Variable("P", &PREDICATE, Value::Table(&[0, 0, 0])),
+        ],
+        &[Claim::Means(&CHOSEN, Value::Number(7))],
+    ),
+    Row(
+        &[],
+        &[
+            Given::Type("A", &[7, 9, 4]),
+            Given::Variable("P", &PREDICATE, Value::Table(&[0, 1, 1])),
+        ],
+        &[Claim::Means(&CHOSEN, Value::Number(9))],
+    ),
+    Row(
+        &[],
+        &[
+            Given::Type("A", &[7, 9, 4]),
+            Given::Variable("P", &PREDICATE, Value::Table(&[0, 0, 1])),
+        ],
+        &[Claim::Means(&CHOSEN, Value::Number(4))],
+    ),
+    Row(
+        &[],
+        &[
+            Given::Type("A", &[7, 9, 4]),
+            Given::Variable("P", &PREDICATE, Value::Table(&[1, 1, 1])),
+        ],
+        &[Claim::Means(&CHOSEN, Value::Number(7))],
+    ),
+];
+
 #[test]
-fn chooses_the_first(rt: HostRuntime) -> Result<(), Fail> {
-    let alloc = rt.alloc();
-    const PREDICATE: TypeTree<'static> = TypeTree::Function(&A, &BOOL);
-    const CHOICE: TypeTree<'static> = TypeTree::Function(&PREDICATE, &A);
-    const CHOOSE: TermTree<'static> = TermTree::Const("@", &CHOICE);
-    const P: TermTree<'static> = TermTree::Free("P", &PREDICATE);
-    const CHOSEN: TermTree<'static> = TermTree::App(&CHOOSE, &P);
-    let carriers = [NamedCarrier {
-        name: "A",
-        elements: numbers(alloc, &[7, 9, 4])?,
-    }];
-    for (values, expected) in [
-        ([0, 0, 0], 7),
-        ([0, 1, 1], 9),
-        ([0, 0, 1], 4),
-        ([1, 1, 1], 7),
-    ] {
-        let variables = [VariableElement {
-            name: "P",
-            ty: &PREDICATE,
-            element: row(alloc, &values)?,
-        }];
-        let choices = Choices {
-            type_variables: &carriers,
-            declared_types: &[],
-            free_variables: &variables,
-            declared_constants: &[],
-        };
-        let element = term_meaning(alloc, &[], &Interpretation::Given(&choices), &CHOSEN)?;
-        assert!(rt; is_number(alloc, &element, expected)?, "chooses {expected}");
-    }
-    Ok(())
+fn the_first_is_chosen(rt: HostRuntime) {
+    assert!(rt; first_wrong(rt.alloc(), &CHOICES).is_none());
 }
 
 // `I = \x:A. x` at two instances, and `J = I I`, which uses it at two others.
-#[test]
-fn a_defined_constant_at_instances(rt: HostRuntime) -> Result<(), Fail> {
-    let alloc = rt.alloc();
-    const ON_A: TypeTree<'static> = TypeTree::Function(&A, &A);
-    const ON_B: TypeTree<'static> = TypeTree::Function(&B, &B);
-    const ON_BOOL: TypeTree<'static> = TypeTree::Function(&BOOL, &BOOL);
-    const ON_FUNCTIONS: TypeTree<'static> = TypeTree::Function(&ON_A, &ON_A);
-    const X: TermTree<'static> = TermTree::Bound(0);
-    const IDENTITY: TermTree<'static> = TermTree::Lam(&A, &X);
-    const OUTER: TermTree<'static> = TermTree::Const("I", &ON_FUNCTIONS);
-    const INNER: TermTree<'static> = TermTree::Const("I", &ON_A);
-    const BOTH: TermTree<'static> = TermTree::App(&OUTER, &INNER);
-    const THEORY: [EntryTree<'static>; 2] = [
-        EntryTree::Definition("J", &ON_A, &BOTH),
-        EntryTree::Definition("I", &ON_A, &IDENTITY),
-    ];
-    const I_AT_B: TermTree<'static> = TermTree::Const("I", &ON_B);
-    const J_AT_B: TermTree<'static> = TermTree::Const("J", &ON_B);
-    const I_AT_BOOL: TermTree<'static> = TermTree::Const("I", &ON_BOOL);
-    const J_AT_BOOL: TermTree<'static> = TermTree::Const("J", &ON_BOOL);
-    let carriers = [NamedCarrier {
-        name: "B",
-        elements: numbers(alloc, &[7, 9, 4])?,
-    }];
-    let choices = Choices {
-        type_variables: &carriers,
-        declared_types: &[],
-        free_variables: &[],
-        declared_constants: &[],
-    };
-    let model = Interpretation::Given(&choices);
-    let meaning = term_meaning(alloc, &THEORY, &model, &I_AT_B)?;
-    assert!(rt; is_row(alloc, &meaning, &[7, 9, 4])?);
-    let meaning = term_meaning(alloc, &THEORY, &model, &J_AT_B)?;
-    assert!(rt; is_row(alloc, &meaning, &[7, 9, 4])?);
-    let meaning = term_meaning(alloc, &THEORY, &model, &I_AT_BOOL)?;
-    assert!(rt; is_row(alloc, &meaning, &[0, 1])?);
-    let meaning = term_meaning(alloc, &THEORY, &model, &J_AT_BOOL)?;
-    assert!(rt; is_row(alloc, &meaning, &[0, 1])?);
-    Ok(())
-}
+const ON_B: TypeTree<'static> = TypeTree::Function(&B, &B);
+
+const ON_FUNCTIONS: TypeTree<'static> = TypeTree::Function(&ON_A, &ON_A);
+
+const IDENTITY: TermTree<'static> = TermTree::Lam(&A, &BOUND);
+
+const OUTER: TermTree<'static> = TermTree::Const("I", &ON_FUNCTIONS);
+
+const INNER: TermTree<'static> = TermTree::Const("I", &ON_A);
+
+const BOTH: TermTree<'static> = TermTree::App(&OUTER, &INNER);
+
+const IDENTITIES: [EntryTree<'static>; 2] = [
+    EntryTree::Definition("J", &ON_A, &BOTH),
+    EntryTree::Definition("I", &ON_A, &IDENTITY),
+];
+
+const I_AT_B: TermTree<'static> = TermTree::Const("I", &ON_B);
+
+const J_AT_B: TermTree<'static> = TermTree::Const("J", &ON_B);
+
+const I_AT_BOOL: TermTree<'static> = TermTree::Const("I", &ON_BOOL);
+
+const J_AT_BOOL: TermTree<'static> = TermTree::Const("J", &ON_BOOL);
 
 // `T = (\p:bool. p) = (\p. p)`, `! = \P:A->bool. P = (\x. T)` and `F = !p:bool. p`.
+const EQUAL_PREDICATES: TypeTree<'static> = TypeTree::Function(&PREDICATE, &QUANTIFIER);
+
+const TRUE_CONSTANT: TermTree<'static> = TermTree::Const("T", &BOOL);
+
+const ALWAYS: TermTree<'static> = TermTree::Lam(&A, &TRUE_CONSTANT);
+
+const PREDICATE_EQUALITY: TermTree<'static> = TermTree::Const("=", &EQUAL_PREDICATES);
+
+const EQUAL_TO: TermTree<'static> = TermTree::App(&PREDICATE_EQUALITY, &BOUND);
+
+const IS_ALWAYS: TermTree<'static> = TermTree::App(&EQUAL_TO, &ALWAYS);
+
+const FORALL_BODY: TermTree<'static> = TermTree::Lam(&PREDICATE, &IS_ALWAYS);
+
+const FORALL: TermTree<'static> = TermTree::Const("!", &FROM_FUNCTIONS);
+
+const FALSE_BODY: TermTree<'static> = TermTree::App(&FORALL, &BOOL_IDENTITY);
+
+const TRUTHS: [EntryTree<'static>; 3] = [
+    EntryTree::Definition("F", &BOOL, &FALSE_BODY),
+    EntryTree::Definition("!", &QUANTIFIER, &FORALL_BODY),
+    EntryTree::Definition("T", &BOOL, &REFLEXIVE),
+];
+
+const FALSE_CONSTANT: TermTree<'static> = TermTree::Const("F", &BOOL);
+
+const FALSE_CONSTANTS: [TermTree<'static>; 1] = [TermTree::Const("F", &BOOL)];
+
+const DEFINITIONS: [Row<'static>; 2] = [
+    Row(
+        &IDENTITIES,
+        &[Given::Type("B", &[7, 9, 4])],
+        &[
+            Claim::Means(&I_AT_B, Value::Table(&[7, 9, 4])),
+            Claim::Means(&J_AT_B, Value::Table(&[7, 9, 4])),
+            Claim::Means(&I_AT_BOOL, Value::Table(&[0, 1])),
+            Claim::Means(&J_AT_BOOL, Value::Table(&[0, 1])),
+        ],
+    ),
+    Row(
+        &TRUTHS,
+        &[],
+        &[
+            Claim::Means(&REFLEXIVE, Value::Number(1)),
+            Claim::Means(&FALSE_BODY, Value::Number(0)),
+            Claim::Holds(&[], &TRUE_CONSTANT, true),
+            Claim::Holds(&[], &FALSE_CONSTANT, false),
+            Claim::Holds(&FALSE_CONSTANTS, &FALSE_BODY, true),
+        ],
+    ),
+];
+
 #[test]
-fn truth_and_falsity(rt: HostRuntime) -> Result<(), Fail> {
-    let alloc = rt.alloc();
-    const ON_BOOL: TypeTree<'static> = TypeTree::Function(&BOOL, &BOOL);
-    const FROM_FUNCTIONS: TypeTree<'static> = TypeTree::Function(&ON_BOOL, &BOOL);
-    const EQUAL_FUNCTIONS: TypeTree<'static> = TypeTree::Function(&ON_BOOL, &FROM_FUNCTIONS);
-    const PREDICATE: TypeTree<'static> = TypeTree::Function(&A, &BOOL);
-    const QUANTIFIER: TypeTree<'static> = TypeTree::Function(&PREDICATE, &BOOL);
-    const EQUAL_PREDICATES: TypeTree<'static> = TypeTree::Function(&PREDICATE, &QUANTIFIER);
-    const VARIABLE: TermTree<'static> = TermTree::Bound(0);
-    const IDENTITY: TermTree<'static> = TermTree::Lam(&BOOL, &VARIABLE);
-    const EQUALITY: TermTree<'static> = TermTree::Const("=", &EQUAL_FUNCTIONS);
-    const LEFT: TermTree<'static> = TermTree::App(&EQUALITY, &IDENTITY);
-    const TRUE_BODY: TermTree<'static> = TermTree::App(&LEFT, &IDENTITY);
-    const TRUE_CONSTANT: TermTree<'static> = TermTree::Const("T", &BOOL);
-    const ALWAYS: TermTree<'static> = TermTree::Lam(&A, &TRUE_CONSTANT);
-    const PREDICATE_EQUALITY: TermTree<'static> = TermTree::Const("=", &EQUAL_PREDICATES);
-    const EQUAL_TO: TermTree<'static> = TermTree::App(&PREDICATE_EQUALITY, &VARIABLE);
-    const IS_ALWAYS: TermTree<'static> = TermTree::App(&EQUAL_TO, &ALWAYS);
-    const FORALL_BODY: TermTree<'static> = TermTree::Lam(&PREDICATE, &IS_ALWAYS);
-    const FORALL: TermTree<'static> = TermTree::Const("!", &FROM_FUNCTIONS);
-    const FALSE_BODY: TermTree<'static> = TermTree::App(&FORALL, &IDENTITY);
-    const THEORY: [EntryTree<'static>; 3] = [
-        EntryTree::Definition("F", &BOOL, &FALSE_BODY),
-        EntryTree::Definition("!", &QUANTIFIER, &FORALL_BODY),
-        EntryTree::Definition("T", &BOOL, &TRUE_BODY),
-    ];
-    const FALSE_CONSTANT: TermTree<'static> = TermTree::Const("F", &BOOL);
-    const FALSE_CONSTANTS: [TermTree<'static>; 1] = [TermTree::Const("F", &BOOL)];
-    let choices = Choices {
-        type_variables: &[],
-        declared_types: &[],
-        free_variables: &[],
-        declared_constants: &[],
-    };
-    let model = Interpretation::Given(&choices);
-    let meaning = term_meaning(alloc, &THEORY, &model, &TRUE_BODY)?;
-    assert!(rt; is_number(alloc, &meaning, 1)?);
-    let meaning = term_meaning(alloc, &THEORY, &model, &FALSE_BODY)?;
-    assert!(rt; is_number(alloc, &meaning, 0)?);
-    assert!(rt; holds_in(alloc, &THEORY, &model, &[], &TRUE_CONSTANT)?);
-    assert!(rt; !holds_in(alloc, &THEORY, &model, &[], &FALSE_CONSTANT)?);
-    assert!(rt; holds_in(alloc, &THEORY, &model, &FALSE_CONSTANTS, &FALSE_BODY)?);
-    Ok(())
+fn definitions(rt: HostRuntime) {
+    assert!(rt; first_wrong(rt.alloc(), &DEFINITIONS).is_none());
 }
 
-// `p |- p` and `|- (\x:bool. x) = (\x. x)` hold for both values of the variables; `|- p` and `|- p = q` do not.
+// `p |- p` and `|- (\x:bool. x) = (\x. x)` hold for both values of the variables; `|- p`, `|- p = q` and `p |- q` do not.
+const BINARY: TypeTree<'static> = TypeTree::Function(&BOOL, &ON_BOOL);
+
+const LITTLE_P: TermTree<'static> = TermTree::Free("p", &BOOL);
+
+const Q: TermTree<'static> = TermTree::Free("q", &BOOL);
+
+const P_ALONE: [TermTree<'static>; 1] = [TermTree::Free("p", &BOOL)];
+
+const EQUIVALENCE: TermTree<'static> = TermTree::Const("=", &BINARY);
+
+const P_EQUALS: TermTree<'static> = TermTree::App(&EQUIVALENCE, &LITTLE_P);
+
+const EQUIVALENT: TermTree<'static> = TermTree::App(&P_EQUALS, &Q);
+
+const SEQUENTS: [Row<'static>; 4] = [
+    Row(
+        &[],
+        &[
+            Given::Variable("p", &BOOL, Value::Number(0)),
+            Given::Variable("q", &BOOL, Value::Number(0)),
+        ],
+        &[
+            Claim::Holds(&P_ALONE, &LITTLE_P, true),
+            Claim::Holds(&[], &REFLEXIVE, true),
+            Claim::Holds(&[], &LITTLE_P, false),
+            Claim::Holds(&[], &EQUIVALENT, true),
+            Claim::Holds(&P_ALONE, &Q, true),
+        ],
+    ),
+    Row(
+        &[],
+        &[
+            Given::Variable("p", &BOOL, Value::Number(0)),
+            Given::Variable("q", &BOOL, Value::Number(1)),
+        ],
+        &[
+            Claim::Holds(&P_ALONE, &LITTLE_P, true),
+            Claim::Holds(&[], &REFLEXIVE, true),
+            Claim::Holds(&[], &LITTLE_P, false),
+            Claim::Holds(&[], &EQUIVALENT, false),
+            Claim::Holds(&P_ALONE, &Q, true),
+        ],
+    ),
+    Row(
+        &[],
+        &[
+            Given::Variable("p", &BOOL, Value::Number(1)),
+            Given::Variable("q", &BOOL, Value::Number(0)),
+        ],
+        &[
+            Claim::Holds(&P_ALONE, &LITTLE_P, true),
+            Claim::Holds(&[], &REFLEXIVE, true),
+            Claim::Holds(&[], &LITTLE_P, true),
+            Claim::Holds(&[], &EQUIVALENT, false),
+            Claim::Holds(&P_ALONE, &Q, false),
+        ],
+    ),
+    Row(
+        &[],
+        &[
+            Given::Variable("p", &BOOL, Value::Number(1)),
+            Given::Variable("q", &BOOL, Value::Number(1)),
+        ],
+        &[
+            Claim::Holds(&P_ALONE, &LITTLE_P, true),
+            Claim::Holds(&[], &REFLEXIVE, true),
+            Claim::Holds(&[], &LITTLE_P, true),
+            Claim::Holds(&[], &EQUIVALENT, true),
+            Claim::Holds(&P_ALONE, &Q, true),
+        ],
+    ),
+];
+
 #[test]
-fn sequents_of_variables(rt: HostRuntime) -> Result<(), Fail> {
-    let alloc = rt.alloc();
-    const UNARY: TypeTree<'static> = TypeTree::Function(&BOOL, &BOOL);
-    const BINARY: TypeTree<'static> = TypeTree::Function(&BOOL, &UNARY);
-    const FROM_FUNCTIONS: TypeTree<'static> = TypeTree::Function(&UNARY, &BOOL);
-    const EQUAL_FUNCTIONS: TypeTree<'static> = TypeTree::Function(&UNARY, &FROM_FUNCTIONS);
-    const P: TermTree<'static> = TermTree::Free("p", &BOOL);
-    const Q: TermTree<'static> = TermTree::Free("q", &BOOL);
-    const HYPOTHESES: [TermTree<'static>; 1] = [TermTree::Free("p", &BOOL)];
-    const EQUIVALENCE: TermTree<'static> = TermTree::Const("=", &BINARY);
-    const LEFT: TermTree<'static> = TermTree::App(&EQUIVALENCE, &P);
-    const EQUIVALENT: TermTree<'static> = TermTree::App(&LEFT, &Q);
-    const X: TermTree<'static> = TermTree::Bound(0);
-    const IDENTITY: TermTree<'static> = TermTree::Lam(&BOOL, &X);
-    const EQUALITY: TermTree<'static> = TermTree::Const("=", &EQUAL_FUNCTIONS);
-    const ONE_SIDE: TermTree<'static> = TermTree::App(&EQUALITY, &IDENTITY);
-    const REFLEXIVE: TermTree<'static> = TermTree::App(&ONE_SIDE, &IDENTITY);
-    for (first, second) in [(0, 0), (0, 1), (1, 0), (1, 1)] {
-        let variables = [
-            VariableElement {
-                name: "p",
-                ty: &BOOL,
-                element: Element::number(alloc, first)?,
-            },
-            VariableElement {
-                name: "q",
-                ty: &BOOL,
-                element: Element::number(alloc, second)?,
-            },
-        ];
-        let choices = Choices {
-            type_variables: &[],
-            declared_types: &[],
-            free_variables: &variables,
-            declared_constants: &[],
-        };
-        let model = Interpretation::Given(&choices);
-        assert!(rt; holds_in(alloc, &[], &model, &HYPOTHESES, &P)?);
-        assert!(rt; holds_in(alloc, &[], &model, &[], &REFLEXIVE)?);
-        assert_eq!(rt; holds_in(alloc, &[], &model, &[], &P)?, first == 1);
-        assert_eq!(rt;
-            holds_in(alloc, &[], &model, &[], &EQUIVALENT)?,
-            first == second
-        );
-        assert_eq!(rt;
-            holds_in(alloc, &[], &model, &HYPOTHESES, &Q)?,
-            first == 0 || second == 1
-        );
-    }
-    Ok(())
+fn sequents_of_variables(rt: HostRuntime) {
+    assert!(rt; first_wrong(rt.alloc(), &SEQUENTS).is_none());
 }
 
 // A declared type with two elements, and a declared constant of it.
+const PERSON: TypeTree<'static> = TypeTree::Declared("person");
+
+const PERSON_TO_TRUTH: TypeTree<'static> = TypeTree::Function(&PERSON, &BOOL);
+
+const EQUAL_PERSONS: TypeTree<'static> = TypeTree::Function(&PERSON, &PERSON_TO_TRUTH);
+
+const PERSONS: [EntryTree<'static>; 2] = [
+    EntryTree::DeclaredConstant("adam", &PERSON),
+    EntryTree::DeclaredType("person"),
+];
+
+const ADAM: TermTree<'static> = TermTree::Const("adam", &PERSON);
+
+const SOMEBODY: TermTree<'static> = TermTree::Free("x", &PERSON);
+
+const PERSON_EQUALITY: TermTree<'static> = TermTree::Const("=", &EQUAL_PERSONS);
+
+const ADAM_EQUALS: TermTree<'static> = TermTree::App(&PERSON_EQUALITY, &ADAM);
+
+const IS_ADAM: TermTree<'static> = TermTree::App(&ADAM_EQUALS, &SOMEBODY);
+
+const DECLARATIONS: [Row<'static>; 2] = [
+    Row(
+        &PERSONS,
+        &[
+            Given::Declared("person", &[4, 6]),
+            Given::Constant("adam", 6),
+            Given::Variable("x", &PERSON, Value::Number(4)),
+        ],
+        &[Claim::Holds(&[], &IS_ADAM, false)],
+    ),
+    Row(
+        &PERSONS,
+        &[
+            Given::Declared("person", &[4, 6]),
+            Given::Constant("adam", 6),
+            Given::Variable("x", &PERSON, Value::Number(6)),
+        ],
+        &[Claim::Holds(&[], &IS_ADAM, true)],
+    ),
+];
+
 #[test]
-fn declared_types_and_constants(rt: HostRuntime) -> Result<(), Fail> {
-    let alloc = rt.alloc();
-    const PERSON: TypeTree<'static> = TypeTree::Declared("person");
-    const TO_TRUTH: TypeTree<'static> = TypeTree::Function(&PERSON, &BOOL);
-    const EQUAL: TypeTree<'static> = TypeTree::Function(&PERSON, &TO_TRUTH);
-    const THEORY: [EntryTree<'static>; 2] = [
-        EntryTree::DeclaredConstant("adam", &PERSON),
-        EntryTree::DeclaredType("person"),
-    ];
-    let carriers = [NamedCarrier {
-        name: "person",
-        elements: numbers(alloc, &[4, 6])?,
-    }];
-    let constants = [ConstantElement {
-        name: "adam",
-        element: Element::number(alloc, 6)?,
-    }];
-    const ADAM: TermTree<'static> = TermTree::Const("adam", &PERSON);
-    const X: TermTree<'static> = TermTree::Free("x", &PERSON);
-    const EQUALITY: TermTree<'static> = TermTree::Const("=", &EQUAL);
-    const LEFT: TermTree<'static> = TermTree::App(&EQUALITY, &ADAM);
-    const CLAIM: TermTree<'static> = TermTree::App(&LEFT, &X);
-    for (n, expected) in [(4, false), (6, true)] {
-        let variables = [VariableElement {
-            name: "x",
-            ty: &PERSON,
-            element: Element::number(alloc, n)?,
-        }];
-        let choices = Choices {
-            type_variables: &[],
-            declared_types: &carriers,
-            free_variables: &variables,
-            declared_constants: &constants,
-        };
-        let model = Interpretation::Given(&choices);
-        assert_eq!(rt; holds_in(alloc, &THEORY, &model, &[], &CLAIM)?, expected);
-    }
-    Ok(())
+fn declared_types_and_constants(rt: HostRuntime) {
+    assert!(rt; first_wrong(rt.alloc(), &DECLARATIONS).is_none());
 }

@@ -76,32 +76,51 @@ fn last_answer(alloc: Global, names: &[(Kind, &str)]) -> Result<(), Fault> {
     answer
 }
 
-#[test]
-fn a_name_stands_once_in_each_list(rt: HostRuntime) {
-    let alloc = rt.alloc();
-    let both = [(Kind::Refiner, "swap"), (Kind::Conversion, "swap")];
-    assert_eq!(rt; last_answer(alloc, &both), Ok(()));
-    let refiners = [(Kind::Refiner, "peel"), (Kind::Refiner, "peel")];
-    assert_eq!(rt; last_answer(alloc, &refiners), Err(Fault::NameTaken));
-    let conversions = [(Kind::Conversion, "swap"), (Kind::Conversion, "swap")];
-    assert_eq!(rt; last_answer(alloc, &conversions), Err(Fault::NameTaken));
+// Names that are put into a host's lists, and what is answered to the last.
+struct Named<'a>(&'a [(Kind, &'a str)], Result<(), Fault>);
+
+const NAMED: [Named<'static>; 14] = [
+    // a name stands once in each list
+    Named(
+        &[(Kind::Refiner, "swap"), (Kind::Conversion, "swap")],
+        Ok(()),
+    ),
+    Named(
+        &[(Kind::Refiner, "peel"), (Kind::Refiner, "peel")],
+        Err(Fault::NameTaken),
+    ),
+    Named(
+        &[(Kind::Conversion, "swap"), (Kind::Conversion, "swap")],
+        Err(Fault::NameTaken),
+    ),
+    // a name is an identifier
+    Named(&[(Kind::Refiner, "a b")], Err(Fault::BadName)),
+    Named(&[(Kind::Conversion, "a b")], Err(Fault::BadName)),
+    Named(&[(Kind::Refiner, "")], Err(Fault::BadName)),
+    Named(&[(Kind::Conversion, "")], Err(Fault::BadName)),
+    Named(&[(Kind::Refiner, "1a")], Err(Fault::BadName)),
+    Named(&[(Kind::Conversion, "1a")], Err(Fault::BadName)),
+    Named(&[(Kind::Refiner, "_a")], Err(Fault::BadName)),
+    Named(&[(Kind::Conversion, "_a")], Err(Fault::BadName)),
+    Named(&[(Kind::Refiner, "/\\")], Err(Fault::BadName)),
+    Named(&[(Kind::Conversion, "/\\")], Err(Fault::BadName)),
+    Named(&[(Kind::Refiner, "a_1'")], Ok(())),
+];
+
+// The number of the first row that is answered otherwise, if any.
+fn first_named_otherwise(alloc: Global, rows: &[Named<'_>]) -> Option<usize> {
+    for at in 0..rows.len() {
+        let row = &rows[at];
+        if last_answer(alloc, row.0) != row.1 {
+            return Some(at);
+        }
+    }
+    None
 }
 
-// A name is an identifier, and this is asked before the name is looked up.
 #[test]
-fn names_are_identifiers(rt: HostRuntime) {
-    let alloc = rt.alloc();
-    for name in ["a b", "", "1a", "_a", "/\\"] {
-        assert_eq!(rt;
-            last_answer(alloc, &[(Kind::Refiner, name)]),
-            Err(Fault::BadName)
-        );
-        assert_eq!(rt;
-            last_answer(alloc, &[(Kind::Conversion, name)]),
-            Err(Fault::BadName)
-        );
-    }
-    assert_eq!(rt; last_answer(alloc, &[(Kind::Refiner, "a_1'")]), Ok(()));
+fn names_are_taken_or_refused(rt: HostRuntime) {
+    assert!(rt; first_named_otherwise(rt.alloc(), &NAMED).is_none());
 }
 
 // What a host with so many refiners and conversions `f0`, `f1` and so on answers to one function more.
@@ -133,52 +152,45 @@ fn answer_to_one_more(
     }
 }
 
-#[test]
-fn sixty_four_stand_together(rt: HostRuntime) {
-    let alloc = rt.alloc();
-    for (refiners, conversions) in [(63, 0), (0, 63), (31, 32)] {
-        assert_eq!(rt;
-            answer_to_one_more(alloc, refiners, conversions, Kind::Refiner, "g"),
-            Ok(())
-        );
-        assert_eq!(rt;
-            answer_to_one_more(alloc, refiners, conversions, Kind::Conversion, "g"),
-            Ok(())
-        );
+// How many refiners and conversions a host has, one function more, and what is answered to it.
+struct OneMore<'a>(usize, usize, Kind, &'a str, Result<(), Fault>);
+
+const ONE_MORE: [OneMore<'static>; 15] = [
+    // sixty-four stand together
+    OneMore(63, 0, Kind::Refiner, "g", Ok(())),
+    OneMore(63, 0, Kind::Conversion, "g", Ok(())),
+    OneMore(0, 63, Kind::Refiner, "g", Ok(())),
+    OneMore(0, 63, Kind::Conversion, "g", Ok(())),
+    OneMore(31, 32, Kind::Refiner, "g", Ok(())),
+    OneMore(31, 32, Kind::Conversion, "g", Ok(())),
+    // a sixty-fifth is refused
+    OneMore(64, 0, Kind::Refiner, "g", Err(Fault::TooLong)),
+    OneMore(64, 0, Kind::Conversion, "g", Err(Fault::TooLong)),
+    OneMore(0, 64, Kind::Refiner, "g", Err(Fault::TooLong)),
+    OneMore(0, 64, Kind::Conversion, "g", Err(Fault::TooLong)),
+    OneMore(32, 32, Kind::Refiner, "g", Err(Fault::TooLong)),
+    OneMore(32, 32, Kind::Conversion, "g", Err(Fault::TooLong)),
+    // a name is refused before the number of functions is
+    OneMore(32, 32, Kind::Refiner, "f31", Err(Fault::NameTaken)),
+    OneMore(32, 32, Kind::Conversion, "f31", Err(Fault::NameTaken)),
+    OneMore(32, 32, Kind::Conversion, "f 31", Err(Fault::BadName)),
+];
+
+// The number of the first row that is answered otherwise, if any.
+fn first_added_otherwise(alloc: Global, rows: &[OneMore<'_>]) -> Option<usize> {
+    for at in 0..rows.len() {
+        let row = &rows[at];
+        let answer = answer_to_one_more(alloc, row.0, row.1, row.2, row.3);
+        if answer != row.4 {
+            return Some(at);
+        }
     }
+    None
 }
 
 #[test]
-fn a_sixty_fifth_is_refused(rt: HostRuntime) {
-    let alloc = rt.alloc();
-    for (refiners, conversions) in [(64, 0), (0, 64), (32, 32)] {
-        assert_eq!(rt;
-            answer_to_one_more(alloc, refiners, conversions, Kind::Refiner, "g"),
-            Err(Fault::TooLong)
-        );
-        assert_eq!(rt;
-            answer_to_one_more(alloc, refiners, conversions, Kind::Conversion, "g"),
-            Err(Fault::TooLong)
-        );
-    }
-}
-
-// A name is refused before the number of functions is.
-#[test]
-fn names_are_refused_first(rt: HostRuntime) {
-    let alloc = rt.alloc();
-    assert_eq!(rt;
-        answer_to_one_more(alloc, 32, 32, Kind::Refiner, "f31"),
-        Err(Fault::NameTaken)
-    );
-    assert_eq!(rt;
-        answer_to_one_more(alloc, 32, 32, Kind::Conversion, "f31"),
-        Err(Fault::NameTaken)
-    );
-    assert_eq!(rt;
-        answer_to_one_more(alloc, 32, 32, Kind::Conversion, "f 31"),
-        Err(Fault::BadName)
-    );
+fn sixty_four_functions_stand_together(rt: HostRuntime) {
+    assert!(rt; first_added_otherwise(rt.alloc(), &ONE_MORE).is_none());
 }
 
 // What the conversions alone answer to one more, where there are so many.

@@ -184,50 +184,73 @@ const ALL_KEPT: [Call; 3] = [Call::AddLemma, Call::AddLemma, Call::KeepLemmas(3)
 
 const NONE_KEPT: [Call; 3] = [Call::Put("a"), Call::AddLemma, Call::ClearLemmas];
 
-#[test]
-fn a_theorem_is_got_by_its_name(rt: HostRuntime) {
-    let alloc = rt.alloc();
-    assert_eq!(rt; theorem_after(alloc, &A_B, "a"), Ok(Some(0)));
-    assert_eq!(rt; theorem_after(alloc, &A_B, "b"), Ok(Some(1)));
-    assert_eq!(rt; theorem_after(alloc, &A_B, "ab"), Ok(None));
+// Calls, a name, and the entry of its theorem after them, if any.
+struct Found<'a>(&'a [Call], &'a str, Option<usize>);
+
+const THEOREMS: [Found<'static>; 7] = [
+    // a theorem is got by its name
+    Found(&A_B, "a", Some(0)),
+    Found(&A_B, "b", Some(1)),
+    Found(&A_B, "ab", None),
+    // the first of a name stays
+    Found(&A_B_A, "a", Some(0)),
+    // in room that was made
+    Found(&A_B_MADE, "a", Some(0)),
+    Found(&A_B_MADE, "b", Some(1)),
+    // theorems stay where lemmas go
+    Found(&NONE_KEPT, "a", Some(0)),
+];
+
+// Calls, a number, and the entry of its lemma after them, if any.
+struct FoundLemma<'a>(&'a [Call], usize, Option<usize>);
+
+const LEMMAS: [FoundLemma<'static>; 7] = [
+    // lemmas stand in order
+    FoundLemma(&TWO_LEMMAS, 0, Some(1)),
+    FoundLemma(&TWO_LEMMAS, 1, Some(2)),
+    FoundLemma(&TWO_LEMMAS, 2, None),
+    // the first are kept
+    FoundLemma(&ONE_KEPT, 0, Some(0)),
+    FoundLemma(&ONE_KEPT, 1, None),
+    FoundLemma(&ALL_KEPT, 1, Some(1)),
+    FoundLemma(&NONE_KEPT, 0, None),
+];
+
+// The number of the first row that is not so, if any.
+fn first_other_theorem(alloc: Global, rows: &[Found<'_>]) -> Option<usize> {
+    for at in 0..rows.len() {
+        let row = &rows[at];
+        if theorem_after(alloc, row.0, row.1) != Ok(row.2) {
+            return Some(at);
+        }
+    }
+    None
+}
+
+// The same for lemmas.
+fn first_other_lemma(alloc: Global, rows: &[FoundLemma<'_>]) -> Option<usize> {
+    for at in 0..rows.len() {
+        let row = &rows[at];
+        if lemma_after(alloc, row.0, row.1) != Ok(row.2) {
+            return Some(at);
+        }
+    }
+    None
 }
 
 #[test]
-fn the_first_theorem_of_a_name_stays(rt: HostRuntime) {
-    let alloc = rt.alloc();
-    let again = answer_after(alloc, &A_B, &Call::Put("a"));
-    assert_eq!(rt; again, Err(Fault::NameTaken));
-    assert_eq!(rt; theorem_after(alloc, &A_B_A, "a"), Ok(Some(0)));
+fn theorems_are_got_by_their_names(rt: HostRuntime) {
+    assert!(rt; first_other_theorem(rt.alloc(), &THEOREMS).is_none());
 }
 
 #[test]
-fn room_is_for_one_theorem(rt: HostRuntime) {
-    let alloc = rt.alloc();
-    assert_eq!(rt; theorem_after(alloc, &A_B_MADE, "a"), Ok(Some(0)));
-    assert_eq!(rt; theorem_after(alloc, &A_B_MADE, "b"), Ok(Some(1)));
+fn a_name_is_taken_once(rt: HostRuntime) {
+    assert!(rt; answer_after(rt.alloc(), &A_B, &Call::Put("a")) == Err(Fault::NameTaken));
 }
 
 #[test]
-fn lemmas_stand_in_order(rt: HostRuntime) {
-    let alloc = rt.alloc();
-    assert_eq!(rt; lemma_after(alloc, &TWO_LEMMAS, 0), Ok(Some(1)));
-    assert_eq!(rt; lemma_after(alloc, &TWO_LEMMAS, 1), Ok(Some(2)));
-    assert_eq!(rt; lemma_after(alloc, &TWO_LEMMAS, 2), Ok(None));
-}
-
-#[test]
-fn the_first_lemmas_are_kept(rt: HostRuntime) {
-    let alloc = rt.alloc();
-    assert_eq!(rt; lemma_after(alloc, &ONE_KEPT, 0), Ok(Some(0)));
-    assert_eq!(rt; lemma_after(alloc, &ONE_KEPT, 1), Ok(None));
-    assert_eq!(rt; lemma_after(alloc, &ALL_KEPT, 1), Ok(Some(1)));
-}
-
-#[test]
-fn theorems_stay_where_lemmas_go(rt: HostRuntime) {
-    let alloc = rt.alloc();
-    assert_eq!(rt; lemma_after(alloc, &NONE_KEPT, 0), Ok(None));
-    assert_eq!(rt; theorem_after(alloc, &NONE_KEPT, "a"), Ok(Some(0)));
+fn lemmas_are_got_by_their_numbers(rt: HostRuntime) {
+    assert!(rt; first_other_lemma(rt.alloc(), &LEMMAS).is_none());
 }
 
 // Each growth that this takes may be refused in turn.
