@@ -2,7 +2,7 @@
 use Rattle.std.proofs.Common.{◌≡◌, ℕ, zero, suc, ◌+◌, ◌-◌, ◌<◌, ◌≤◌, List, [], ◌∷◌, ◌++◌, length, get_or, take, drop, refl, sym, ap, subst, ◌∙◌, arith, Bool, true, false, ◌==◌, ◌&&◌, ◌||◌, eqb-true, eq-eqb, nat_lt}
 use borrow.Author.Tests.{ltb-true, ltb-false}
 use Rattle.std.proofs.lemmas.List.{take_all, length-drop, get_or_past}
-use Rattle.hol_model.specs.Scripts.Script.{begins_mark, has_mark, IsCut}
+use Rattle.hol_session_model.specs.Script.{begins_mark, has_mark, IsCut}
 use Rattle.hol_model.proofs.Tests.{first_of_both, second_of_both}
 
 -- `;;` stands at a place

@@ -9,7 +9,7 @@ use Rattle.hol_model.specs.Terms.Name.{is_type_variable_name}
 use Rattle.hol_model.specs.Texts.Token.{Token, Name, Mark}
 use Rattle.hol_model.specs.Texts.TypeGrammar.{TypeTree}
 use Rattle.hol_model.specs.Texts.TermGrammar.{TermTree, IsWithin}
-use Rattle.hol_model.specs.Scripts.Commands.{RuleTree, by_term, by_pair, by_abs, by_inst, by_inst_type, by_axiom, by_derived, kind_of, quoted, pair_tokens, further_tokens, first_tokens, list_tokens, term_pair, type_pair, argument_tokens, ArePairs, AreTypePairs, IsQuotable, IsRuleTree}
+use Rattle.hol_session_model.specs.Commands.{RuleTree, by_term, by_pair, by_abs, by_inst, by_inst_type, by_axiom, by_derived, kind_of, quoted, pair_tokens, further_tokens, first_tokens, list_tokens, term_pair, type_pair, argument_tokens, ArePairs, AreTypePairs, IsQuotable, IsRuleTree}
 use Rattle.hol_grammar.specs.declared.token.Token.{Token as TokenHere}
 use Rattle.hol_grammar.specs.declared.type_reader.ReadError.{ReadError}
 use Rattle.hol_grammar.specs.declared.type_reader.ReadError.TheVariants.{Memory, Syntax}

@@ -6,8 +6,8 @@ use Rattle.hol_model.specs.Terms.Name.{is_type_variable_name}
 use Rattle.hol_model.specs.Texts.Token.{Token, Name, Mark}
 use Rattle.hol_model.specs.Texts.TypeGrammar.{TypeTree}
 use Rattle.hol_model.specs.Texts.TermGrammar.{TermTree, IsWithin}
-use Rattle.hol_model.specs.Scripts.Commands.{pair_tokens, list_tokens, term_pair, type_pair, IsQuotable, ArePairs}
-use Rattle.hol_model.specs.Scripts.Commands as grammar
+use Rattle.hol_session_model.specs.Commands.{pair_tokens, list_tokens, term_pair, type_pair, IsQuotable, ArePairs}
+use Rattle.hol_session_model.specs.Commands as grammar
 use Rattle.hol_grammar.specs.declared.token.Token.{Token as TokenHere}
 use Rattle.hol_grammar.specs.declared.type_reader.ReadError.{ReadError}
 use Rattle.hol_grammar.specs.declared.type_reader.ReadError.TheVariants.{Memory, Syntax}

@@ -24,10 +24,10 @@ use Rattle.hol_model.specs.Texts.Token.{Token, Name, Mark}
 use Rattle.hol_model.specs.Texts.Lexing.{IsToken}
 use Rattle.hol_model.specs.Texts.TypeGrammar.{TypeTree, type_tokens, type_steps}
 use Rattle.hol_model.specs.Texts.TermGrammar.{TermTree, IsWithin}
-use Rattle.hol_model.specs.Scripts.Commands.{DerivedTree, derived_kind_of, derived_tokens, IsDerivedTree, RuleTree, kind_of, quoted, quote_tokens, argument_tokens, rule_tokens, IsQuotable, IsRuleTree}
-use Rattle.hol_model.specs.Scripts.CommandGrammar.{TheoremTree, theorem_tokens, IsTheoremTree, CommandTree, IsCommandTree, IsReadCommand}
-use Rattle.hol_model.specs.Scripts.CommandGrammar.{var_command, newtype_command, newconst_command, def_command, thm_command, show_command, goal_command, e_command, b_command, p_command, r_command, save_command}
-use Rattle.hol_model.specs.Scripts.ScriptSessions.{is_served_theorem, is_served}
+use Rattle.hol_session_model.specs.Commands.{DerivedTree, derived_kind_of, derived_tokens, IsDerivedTree, RuleTree, kind_of, quoted, quote_tokens, argument_tokens, rule_tokens, IsQuotable, IsRuleTree}
+use Rattle.hol_session_model.specs.CommandGrammar.{TheoremTree, theorem_tokens, IsTheoremTree, CommandTree, IsCommandTree, IsReadCommand}
+use Rattle.hol_session_model.specs.CommandGrammar.{var_command, newtype_command, newconst_command, def_command, thm_command, show_command, goal_command, e_command, b_command, p_command, r_command, save_command}
+use Rattle.hol_session_model.specs.ScriptSessions.{is_served_theorem, is_served}
 use Rattle.hol_grammar.specs.declared.token.Token.{Token as TokenHere}
 use Rattle.hol_grammar.specs.declared.type_reader.ReadError.{ReadError}
 use Rattle.hol_grammar.specs.declared.type_reader.ReadError.TheVariants.{Memory, Syntax}

@@ -1,8 +1,8 @@
 -- The commands of the code as those of the grammar.
 use Rattle.std.specs.Prelude.{◌≡◌, ℕ, true, List, [], ◌∷◌}
 use Rattle.hol_model.specs.Terms.Name.{is_type_variable_name}
-use Rattle.hol_model.specs.Scripts.Commands.{DerivedTree, by_conversion, by_premise, by_premises, by_term_and_premise, by_cases, by_witness, by_choice, RuleTree, by_term, by_pair, by_abs, by_inst, by_inst_type, by_axiom, by_derived}
-use Rattle.hol_model.specs.Scripts.CommandGrammar.{TheoremTree, by_rule, by_tautology, CommandTree, thm_command, show_command, var_command, def_command, newtype_command, newconst_command}
+use Rattle.hol_session_model.specs.Commands.{DerivedTree, by_conversion, by_premise, by_premises, by_term_and_premise, by_cases, by_witness, by_choice, RuleTree, by_term, by_pair, by_abs, by_inst, by_inst_type, by_axiom, by_derived}
+use Rattle.hol_session_model.specs.CommandGrammar.{TheoremTree, by_rule, by_tautology, CommandTree, thm_command, show_command, var_command, def_command, newtype_command, newconst_command}
 use Rattle.hol_model.specs.Texts.TypeGrammar.{TypeTree, type_steps}
 use Rattle.hol_model.specs.Texts.TermGrammar.{TermTree}
 use Rattle.std.proofs.Common.{Vec, Bor, Global}

@@ -1,7 +1,7 @@
 // The pieces of a script.
 ghost use Rattle.std.specs.Prelude.{◌≡◌, ◌+◌, ◌≤◌, ◌<◌, false, length, MatchOption};
-ghost use Rattle.hol_model.specs.Scripts.Script.{has_mark, IsCut, is_blank_text, line_feeds, leading_line_feeds};
-ghost use Rattle.hol_model.specs.Scripts.Script as spec;
+ghost use Rattle.hol_session_model.specs.Script.{has_mark, IsCut, is_blank_text, line_feeds, leading_line_feeds};
+ghost use Rattle.hol_session_model.specs.Script as spec;
 ghost use Rattle.hol_model.specs.Texts.Lexing as lexing;
 
 /// What stands before the first `;;` and what stands behind it, where there is one.

@@ -9,7 +9,7 @@ use Rattle.hol_model.specs.Goals.Goals.{Goal}
 use Rattle.hol_model.specs.Goals.Justifications.{Justification}
 use Rattle.hol_model.specs.Goals.ValidSteps.{Step}
 use Rattle.hol_model.specs.Goals.Replays.{Store, IsReplay, is_within_depth}
-use Rattle.hol_model.specs.Scripts.Answers.{Is, Then, goes_on, stops}
+use Rattle.hol_model.specs.Kernel.Answers.{Is, Then, goes_on, stops}
 use Rattle.hol_model.specs.Goals.GoalStates.{Stage, underway, proved, Proof, Stack, Focus, step_focus, stage_focus, focus_outcome, expanded, closing_outcome, IsStageOf, IsStage, IsExpanded, advanced}
 use Rattle.hol_just.specs.declared.goal.Goal as code_goal
 use Rattle.hol_just.specs.declared.goal.Step as code_step

@@ -12,7 +12,7 @@ use Rattle.hol_model.specs.Goals.Justifications.{Justification}
 use Rattle.hol_model.specs.Goals.ValidSteps.{Step}
 use Rattle.hol_model.specs.Goals.GoodSteps.{IsGoodStep}
 use Rattle.hol_model.specs.Goals.Replays.{Store, sequents_in, has_room, IsReplay, IsKnownGoal, AreKnownGoals}
-use Rattle.hol_model.specs.Scripts.Answers.{goes_on, stops}
+use Rattle.hol_model.specs.Kernel.Answers.{goes_on, stops}
 use Rattle.hol_model.specs.Goals.GoalStates.{Stage, underway, proved, Proof, Focus, focus_outcome, stage_focus, step_focus, IsExpanded, Stack, changed_stack}
 use Rattle.hol_model.specs.Goals.GoalStates as states
 use Rattle.hol_model.specs.Goals.StackCalls.{Told, Expands, RefusesExpansion}
@@ -20,7 +20,7 @@ use Rattle.hol_model.specs.Goals.GoalLaws.{IsValidProof, IsValidIfAny, IsValidSt
 use Rattle.hol_model.specs.Refining.HostFunctions.{Host}
 use Rattle.hol_model.specs.Refining.Combinators.{Tactic, at, Runs, IsLater}
 use Rattle.hol_model.specs.Refining.Combinators as combinators
-use Rattle.hol_model.specs.Scripts.SessionTools.{over_lemmas, IsStackExpansion}
+use Rattle.hol_session_model.specs.SessionTools.{over_lemmas, IsStackExpansion}
 use Rattle.hol_outcomes.proofs.GoodSteps.{later-store}
 use Rattle.hol_outcomes.proofs.StopsRunning.{refiners-spend}
 use Rattle.hol_session_laws.proofs.ValidProofs.{focus-sound, expand-valid, expand-refused}

@@ -8,7 +8,7 @@ use Rattle.hol_model.specs.Goals.Goals.{Goal}
 use Rattle.hol_model.specs.Goals.Justifications.{Justification}
 use Rattle.hol_model.specs.Goals.ValidSteps.{Step}
 use Rattle.hol_model.specs.Goals.Replays.{Store, IsReplay}
-use Rattle.hol_model.specs.Scripts.Answers.{Is, Then}
+use Rattle.hol_model.specs.Kernel.Answers.{Is, Then}
 use Rattle.hol_model.specs.Goals.GoalStates.{Stage, proved, Proof, Stack, Focus, focus_outcome, closing_outcome, IsExpanded, changed_stack}
 use Rattle.hol_model.specs.Goals.StackCalls.{Told, open_goals_left, no_subgoals, Tells}
 use Rattle.hol_goals.specs.declared.expanding.Expansion.{Expansion}

@@ -1,6 +1,7 @@
 -- What the kernel's calls answer.
 pub mod Fault
 pub mod Outcome
+pub mod Answers
 pub mod Theorem
 pub mod TheoremCode
 pub mod Rules

@@ -5,7 +5,6 @@ pub mod Models
 pub mod Goals
 pub mod Derived
 pub mod Texts
-pub mod Scripts
 pub mod Logs
 pub mod Rewrites
 pub mod Propositional

@@ -9,3 +9,4 @@ pub mod SequentGrammar
 pub mod Texts
 pub mod SequentTexts
 pub mod KnownText
+pub mod Scopes

@@ -17,7 +17,7 @@ use Rattle.hol_model.specs.Texts.Reading.{Scope, Bindings, bound_type}
 use Rattle.hol_model.specs.Texts.Printing.{type_tree, typed_constant, bare_tree, constant_tree, infix_of, prefix_of, apply_tree, prefix_tree, infix_tree, term_tree}
 use Rattle.hol_model.specs.Texts.Texts.{type_bytes, atom_bytes, term_bytes, further_bytes, listed_bytes, text_of_sequent, IsReadableTerm}
 use Rattle.hol_model.specs.Texts.SequentTexts.{IsReadableFormula, AreReadableFormulas}
-use Rattle.hol_model.specs.Scripts.Headline.{is_one_line}
+use Rattle.hol_model.specs.Texts.Texts.{is_one_line}
 use Rattle.hol_print.proofs.TextsReadBack.{HasTypeNames, HasAtomNames, HasNames, IsNameOfConstant, printed_tree}
 
 is_10 : (byte : ℕ) → nat_eq byte 10 ≡ true → byte ≡ 10

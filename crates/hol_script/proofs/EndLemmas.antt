@@ -4,8 +4,8 @@ use Rattle.std.specs.Prelude.{IfSome, IsErrOf, Contains}
 use Rattle.hol_model.specs.declared.fault.Fault.{Fault}
 use Rattle.hol_model.specs.declared.fault.Fault.TheVariants.{Memory, ReadFault, TooLong, WriteFault}
 use Rattle.hol_model.specs.declared.limits.TheConstants.{TEXT_BYTES_LIMIT}
-use Rattle.hol_model.specs.Scripts.ScriptSessions.{text_of_turns}
-use Rattle.hol_model.specs.Scripts.Runs.{Counts, no_counts, counts_after, SourceUse, SinkUse, Tells, BreaksOff, CannotBegin, IsWhole, Ends, unread, in_output, before_log, in_log, logged, unlogged}
+use Rattle.hol_session_model.specs.ScriptSessions.{text_of_turns}
+use Rattle.hol_session_model.specs.Runs.{Counts, no_counts, counts_after, SourceUse, SinkUse, Tells, BreaksOff, CannotBegin, IsWhole, Ends, unread, in_output, before_log, in_log, logged, unlogged}
 use Rattle.hol_bytes.specs.Bytes.{AppendsFront}
 use Rattle.hol_session.specs.Answers.{session_tools}
 use Rattle.hol_session.specs.SessionState.{state_of}

@@ -2,9 +2,9 @@
 use Rattle.std.proofs.Common.{List, ℕ, [], refl, sym, ◌∙◌, append-nil, Option, None, Some}
 use Rattle.std.proofs.KnownBytes.{Appends-nil}
 use Rattle.hol_model.specs.Texts.KnownText.{Tells}
-use Rattle.hol_model.specs.Scripts.ScriptSessions.{State, start, text_of_turns}
-use Rattle.hol_model.specs.Scripts.Runs.{Counts}
-use Rattle.hol_model.specs.Scripts.Headline.{TellsLines, TellsFront}
+use Rattle.hol_session_model.specs.ScriptSessions.{State, start, text_of_turns}
+use Rattle.hol_session_model.specs.Runs.{Counts}
+use Rattle.hol_session_model.specs.Headline.{TellsLines, TellsFront}
 use Rattle.hol_print.proofs.SequentTexts.{sequents_read_back}
 use Rattle.hol_print.proofs.OneLine.{sequent_one_line, sequent_same}
 use Rattle.hol_session.specs.Answers.{session_tools}

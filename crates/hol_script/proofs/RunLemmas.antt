@@ -6,13 +6,13 @@ use Rattle.std.specs.Io.KnownBytes.{Appends}
 use Rattle.std.proofs.KnownBytes.{Appends-nil, Appends-trans}
 use Rattle.hol_model.specs.declared.fault.Fault.TheVariants.{Syntax}
 use Rattle.hol_model.specs.Texts.Reading.{Scope}
-use Rattle.hol_model.specs.Scripts.Script.{has_mark, IsCut, Request, line_feeds, leading_line_feeds, is_blank_text}
-use Rattle.hol_model.specs.Scripts.Sessions.{State as Library}
-use Rattle.hol_model.specs.Scripts.Replies.{NamedTheorem, theorem_in_message, theorem_in, Reply, reply_text}
-use Rattle.hol_model.specs.Scripts.ScriptSessions.{State, start, scope_in, Turn, text_of_turn, text_of_turns, as_list, theorems_in_turns}
-use Rattle.hol_model.specs.Scripts.Runs.{Counts, no_counts, one_of, counting, counts_after}
-use Rattle.hol_model.specs.Scripts.Running.{SoFar, unfinished}
-use Rattle.hol_model.specs.Scripts.SessionCalls.{IsTurn}
+use Rattle.hol_session_model.specs.Script.{has_mark, IsCut, Request, line_feeds, leading_line_feeds, is_blank_text}
+use Rattle.hol_session_model.specs.Sessions.{State as Library}
+use Rattle.hol_session_model.specs.Replies.{NamedTheorem, theorem_in_message, theorem_in, Reply, reply_text}
+use Rattle.hol_session_model.specs.ScriptSessions.{State, start, scope_in, Turn, text_of_turn, text_of_turns, as_list, theorems_in_turns}
+use Rattle.hol_session_model.specs.Runs.{Counts, no_counts, one_of, counting, counts_after}
+use Rattle.hol_session_model.specs.Running.{SoFar, unfinished}
+use Rattle.hol_session_model.specs.SessionCalls.{IsTurn}
 use Rattle.hol_bytes.specs.Bytes.{AppendsFront}
 use Rattle.hol_session_laws.proofs.RunProgress.{turns-add, begins, blank-passes, turn-passes, ends, ends-unfinished, stopped-begins, is_turn}
 use Rattle.hol_session.specs.declared.reply.Printed.{Printed}

@@ -10,10 +10,10 @@ use Rattle.hol_model.specs.Logic.Theory.{Theory}
 use Rattle.hol_model.specs.Logic.Derivable.{IsMember}
 use Rattle.hol_model.specs.Kernel.Theorem.{Theorem}
 use Rattle.hol_model.specs.Logs.LogState.{LogClaim}
-use Rattle.hol_model.specs.Scripts.Script.{requested}
-use Rattle.hol_model.specs.Scripts.Replies.{NamedTheorem}
-use Rattle.hol_model.specs.Scripts.ScriptSessions.{State, start, last_state, theorems_in_turns}
-use Rattle.hol_model.specs.Scripts.Runs.{Counts, claim_of, claims_of_turns}
+use Rattle.hol_session_model.specs.Script.{requested}
+use Rattle.hol_session_model.specs.Replies.{NamedTheorem}
+use Rattle.hol_session_model.specs.ScriptSessions.{State, start, last_state, theorems_in_turns}
+use Rattle.hol_session_model.specs.Runs.{Counts, claim_of, claims_of_turns}
 use Rattle.hol_model.proofs.Terms.Membership.{of_append}
 use Rattle.hol_session_laws.proofs.StoredTheorems.{printed-stay}
 use Rattle.hol_bytes.specs.Bytes.{AppendsFront}

@@ -2,9 +2,9 @@
 use Rattle.std.specs.Prelude.{◌≡◌, ◌+◌, ◌++◌, ℕ, List, [], Bool, map, Option, Result, Ok, Err, codes, string_bytes}
 use Rattle.std.specs.Io.KnownBytes.{Appends}
 use Rattle.hol_model.specs.declared.fault.Fault.{Fault}
-use Rattle.hol_model.specs.Scripts.Sessions.{State as Library}
-use Rattle.hol_model.specs.Scripts.ScriptSessions.{State, start, Turn, last_state, text_of_turns, as_list, theorems_in_turns}
-use Rattle.hol_model.specs.Scripts.Runs.{Counts, no_counts, counts_after, IsRun, SourceUse, SinkUse, Devices}
+use Rattle.hol_session_model.specs.Sessions.{State as Library}
+use Rattle.hol_session_model.specs.ScriptSessions.{State, start, Turn, last_state, text_of_turns, as_list, theorems_in_turns}
+use Rattle.hol_session_model.specs.Runs.{Counts, no_counts, counts_after, IsRun, SourceUse, SinkUse, Devices}
 use Rattle.hol_bytes.specs.Bytes.{AppendsFront}
 use Rattle.hol_script.specs.declared.progress.Summary.{Summary}
 use Rattle.hol_script.specs.declared.progress.Progress.{Progress}

@@ -1,6 +1,6 @@
 // How far a run has come.
 ghost use Rattle.std.specs.Prelude.{◌≡◌, ◌≤◌, ◌<◌, ◌+◌, ◌^◌, ◌++◌, ◌∷◌, [], Some, OnOk, IfOk, IfErr, IsErrOf, Contains, vec_len, vec_capacity};
-ghost use Rattle.hol_model.specs.Scripts.Sessions.{start};
+ghost use Rattle.hol_session_model.specs.Sessions.{start};
 ghost use Rattle.hol_model.specs.declared.fault.Fault.TheVariants.{Memory, TooLong};
 ghost use Rattle.hol_log.specs.Pruning.{HaveIdentifiers};
 ghost use Rattle.hol_session.specs.Answers.{Turns};

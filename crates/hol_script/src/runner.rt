@@ -1,8 +1,8 @@
 // Runs a script from a source to a sink, and writes its log to another.
 ghost use Rattle.std.specs.Prelude.{◌≡◌, ◌⊎◌, ◌≤◌, ◌∷◌, [], true, false, length, Err, OnOk, OnErr, IfOk, IfErr, IsErrOf, Contains};
 ghost use Rattle.std.specs.Io.KnownBytes.{Appends};
-ghost use Rattle.hol_model.specs.Scripts.Headline.{TellsLines, TellsFront};
-ghost use Rattle.hol_model.specs.Scripts.Runs.{Ends};
+ghost use Rattle.hol_session_model.specs.Headline.{TellsLines, TellsFront};
+ghost use Rattle.hol_session_model.specs.Runs.{Ends};
 ghost use Rattle.hol_model.specs.declared.fault.Fault.TheVariants.{Memory, WriteFault, TooLong};
 ghost use Rattle.hol_log.specs.Pruning.{HaveIdentifiers};
 ghost use Rattle.hol_bytes.specs.Bytes.{AppendsFront};

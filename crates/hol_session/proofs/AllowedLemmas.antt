@@ -11,12 +11,12 @@ use Rattle.hol_model.specs.Kernel.Rules.{new_type_outcome}
 use Rattle.hol_model.specs.Texts.TypeGrammar.{TypeTree}
 use Rattle.hol_model.specs.Texts.TermGrammar.{TermTree}
 use Rattle.hol_model.specs.Texts.Reading.{type_meaning, ◌>>=◌}
-use Rattle.hol_model.specs.Scripts.Answers.{Unless, goes_on, stops}
-use Rattle.hol_model.specs.Scripts.CommandGrammar.{TheoremTree, by_rule, by_tautology, by_conversion, CommandTree, var_command, newtype_command, newconst_command, def_command, thm_command, show_command, SpellsCommand}
-use Rattle.hol_model.specs.Scripts.Sessions.{scope_in, with_theorem, with_variable, over_theory, is_theorem_name, definition_name, def_outcome, with_definition, newconst_outcome}
-use Rattle.hol_model.specs.Scripts.Sessions.{State as Library}
-use Rattle.hol_model.specs.Scripts.Replies.{Message, nothing, theorem_line, Refusal, refusal_of}
-use Rattle.hol_model.specs.Scripts.ScriptSessions.{State, Outcome, says_nothing, says_theorem, with_library, NamesTheorem, is_served_theorem, is_served, Allows, finds_no_memory, is_no_command, is_refused, is_done}
+use Rattle.hol_model.specs.Kernel.Answers.{Unless, goes_on, stops}
+use Rattle.hol_session_model.specs.CommandGrammar.{TheoremTree, by_rule, by_tautology, by_conversion, CommandTree, var_command, newtype_command, newconst_command, def_command, thm_command, show_command, SpellsCommand}
+use Rattle.hol_session_model.specs.Sessions.{scope_in, with_theorem, with_variable, over_theory, is_theorem_name, definition_name, def_outcome, with_definition, newconst_outcome}
+use Rattle.hol_session_model.specs.Sessions.{State as Library}
+use Rattle.hol_session_model.specs.Replies.{Message, nothing, theorem_line, Refusal, refusal_of}
+use Rattle.hol_session_model.specs.ScriptSessions.{State, Outcome, says_nothing, says_theorem, with_library, NamesTheorem, is_served_theorem, is_served, Allows, finds_no_memory, is_no_command, is_refused, is_done}
 use Rattle.hol_command.specs.declared.command.Asked.{Asked}
 use Rattle.hol_command.specs.declared.command.Asked.TheVariants.{Rule as AsksRule, Tautology}
 use Rattle.hol_command.specs.Views.{IsAsked}

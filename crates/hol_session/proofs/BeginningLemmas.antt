@@ -3,7 +3,7 @@ use Rattle.std.proofs.Common.{◌≡◌, ◌<◌, inl, inr, ℕ, List, [], ◌�
 use Rattle.std.specs.Prelude.{slice_get, slice_index_or, OnOk, ◌+◌}
 use Rattle.std.proofs.lemmas.Option.{slice_get_cases}
 use Rattle.hol_model.specs.Kernel.Theorem.{Theorem}
-use Rattle.hol_model.specs.Scripts.Sessions.{State, with_theorem, with_theorems}
+use Rattle.hol_session_model.specs.Sessions.{State, with_theorem, with_theorems}
 use Rattle.hol_model.specs.declared.fault.Fault.{Fault}
 use Rattle.hol_journal.specs.Journal.{Recorded}
 use Rattle.hol_prelude.specs.Prelude.{prelude_theorems}

@@ -20,10 +20,10 @@ use Rattle.hol_model.specs.Kernel.Rules.{first_unknown, is_full, with_definition
 use Rattle.hol_model.specs.Texts.Reading.{Scope, meaning, type_meaning, ◌>>=◌}
 use Rattle.hol_model.specs.Texts.TermGrammar.{TermTree}
 use Rattle.hol_model.specs.Texts.TypeGrammar.{TypeTree}
-use Rattle.hol_model.specs.Scripts.CommandGrammar.{SpellsCommand, def_command}
-use Rattle.hol_model.specs.Scripts.Sessions.{State, scope_in, with_variable, over_theory, definition_name, def_outcome, newconst_outcome}
-use Rattle.hol_model.specs.Scripts.Sessions as sessions
-use Rattle.hol_model.specs.Scripts.Replies.{theorem_line, text_of_theorem}
+use Rattle.hol_session_model.specs.CommandGrammar.{SpellsCommand, def_command}
+use Rattle.hol_session_model.specs.Sessions.{State, scope_in, with_variable, over_theory, definition_name, def_outcome, newconst_outcome}
+use Rattle.hol_session_model.specs.Sessions as sessions
+use Rattle.hol_session_model.specs.Replies.{theorem_line, text_of_theorem}
 use Rattle.hol_model.proofs.Kernel.Outcomes.{passed_value}
 use Rattle.hol_kernel.proofs.LimitLemmas.{equation-limited}
 use Rattle.hol_model.proofs.Logic.KnownTerms.{knows_type-IsKnownType}

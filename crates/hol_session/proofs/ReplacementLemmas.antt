@@ -10,9 +10,9 @@ use Rattle.hol_model.specs.Texts.TypeGrammar.{TypeTree}
 use Rattle.hol_model.specs.Texts.TermGrammar.{TermTree}
 use Rattle.hol_model.specs.Texts.Reading.{◌>>=◌}
 use Rattle.hol_model.specs.Kernel.Instantiation.{inst_refusal, IsInst, inst_type_refusal, IsInstType}
-use Rattle.hol_model.specs.Scripts.Commands.{by_inst, by_inst_type}
+use Rattle.hol_session_model.specs.Commands.{by_inst, by_inst_type}
 use Rattle.hol_model.specs.Kernel.Theorem.{Theorem}
-use Rattle.hol_model.specs.Scripts.Sessions.{State, scope_in, replacement, type_replacement, each, with_stored, IsAnswerFor}
+use Rattle.hol_session_model.specs.Sessions.{State, scope_in, replacement, type_replacement, each, with_stored, IsAnswerFor}
 use Rattle.hol_session.specs.Answers.{AnswersRule}
 use Rattle.hol_command.specs.Views.{Match}
 

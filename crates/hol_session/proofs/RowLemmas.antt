@@ -8,8 +8,8 @@ use Rattle.hol_model.specs.Logic.Derivable.{IsMember}
 use Rattle.hol_model.specs.Terms.NamedTerm.{NamedTerm}
 use Rattle.hol_model.specs.Texts.SequentTexts.{IsReadableFormula, AreReadableFormulas}
 use Rattle.hol_model.specs.Texts.Reading.{Scope}
-use Rattle.hol_model.specs.Scripts.Replies.{refusal_of, row_text}
-use Rattle.hol_model.specs.Scripts.ScriptSessions.{values_of, row_of_fault}
+use Rattle.hol_session_model.specs.Replies.{refusal_of, row_text}
+use Rattle.hol_session_model.specs.ScriptSessions.{values_of, row_of_fault}
 use Rattle.hol_session.specs.Answers.{plain}
 use Rattle.hol_session.specs.Rows.{refusal_for, TellsRow}
 

@@ -10,7 +10,7 @@ use Rattle.hol_model.specs.Logic.KnownTerm.{knows_types, knows_constants, has_in
 use Rattle.hol_model.specs.Logic.Derivable.{AreKnown}
 use Rattle.hol_model.specs.Kernel.Theorem.{Theorem, IsWellFormed}
 use Rattle.hol_model.specs.Texts.SequentTexts.{IsReadableFormula, AreReadableFormulas}
-use Rattle.hol_model.specs.Scripts.ScriptSessions.{State, scope_in, IsProved}
+use Rattle.hol_session_model.specs.ScriptSessions.{State, scope_in, IsProved}
 use Rattle.hol_model.proofs.Tests.{first_of_both, second_of_both}
 use Rattle.hol_model.proofs.Terms.Images.{image-type}
 use Rattle.hol_model.proofs.Terms.NamedTests.{is_known-Decides}

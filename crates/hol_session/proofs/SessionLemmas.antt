@@ -11,11 +11,11 @@ use Rattle.hol_model.specs.Texts.Lexing.{Lexes}
 use Rattle.hol_model.specs.Texts.Reading.{Scope}
 use Rattle.hol_model.specs.Texts.TypeGrammar.{TypeTree, type_steps}
 use Rattle.hol_model.specs.Texts.TermGrammar.{TermTree}
-use Rattle.hol_model.specs.Scripts.CommandGrammar.{TheoremTree, CommandTree, thm_command, show_command, var_command, def_command, newtype_command, newconst_command, IsReadCommand, SpellsCommand}
-use Rattle.hol_model.specs.Scripts.Sessions.{scope_in, is_theorem_name, with_theorem}
-use Rattle.hol_model.specs.Scripts.Sessions.{State as Library}
-use Rattle.hol_model.specs.Scripts.Replies.{nothing, theorem_line, Refusal, refusal_of, Reply, text_of_theorem, row_text, text_of_refusal, reply_text}
-use Rattle.hol_model.specs.Scripts.ScriptSessions.{is_served_theorem, is_served, Allows, finds_no_memory, IsProved}
+use Rattle.hol_session_model.specs.CommandGrammar.{TheoremTree, CommandTree, thm_command, show_command, var_command, def_command, newtype_command, newconst_command, IsReadCommand, SpellsCommand}
+use Rattle.hol_session_model.specs.Sessions.{scope_in, is_theorem_name, with_theorem}
+use Rattle.hol_session_model.specs.Sessions.{State as Library}
+use Rattle.hol_session_model.specs.Replies.{nothing, theorem_line, Refusal, refusal_of, Reply, text_of_theorem, row_text, text_of_refusal, reply_text}
+use Rattle.hol_session_model.specs.ScriptSessions.{is_served_theorem, is_served, Allows, finds_no_memory, IsProved}
 use Rattle.hol_grammar.specs.declared.type_reader.TypeStep.{TypeStep}
 use Rattle.hol_grammar.specs.declared.steps.TermStep.{TermStep}
 use Rattle.hol_grammar.specs.Steps.{flat_steps_of}

@@ -23,14 +23,14 @@ use Rattle.hol_model.specs.Rewrites.SmallTerms.{is_small}
 use Rattle.hol_model.specs.Texts.TermGrammar.{TermTree}
 use Rattle.hol_model.specs.Texts.Reading.{Scope, meaning}
 use Rattle.hol_model.specs.Texts.SequentTexts.{IsReadableFormula}
-use Rattle.hol_model.specs.Scripts.Answers.{goes_on, stops}
-use Rattle.hol_model.specs.Scripts.Commands.{RuleTree}
-use Rattle.hol_model.specs.Scripts.CommandGrammar.{TheoremTree, by_rule, by_tautology, by_conversion}
-use Rattle.hol_model.specs.Scripts.Replies.{Refusal, refusal_of}
-use Rattle.hol_model.specs.Scripts.Sessions.{scope_in, IsRuleAnswer}
-use Rattle.hol_model.specs.Scripts.Sessions.{State as Library}
-use Rattle.hol_model.specs.Scripts.ScriptSessions.{row_of_fault, IsReadableRow}
-use Rattle.hol_model.specs.Scripts.SessionCalls.{SaysRefusal}
+use Rattle.hol_model.specs.Kernel.Answers.{goes_on, stops}
+use Rattle.hol_session_model.specs.Commands.{RuleTree}
+use Rattle.hol_session_model.specs.CommandGrammar.{TheoremTree, by_rule, by_tautology, by_conversion}
+use Rattle.hol_session_model.specs.Replies.{Refusal, refusal_of}
+use Rattle.hol_session_model.specs.Sessions.{scope_in, IsRuleAnswer}
+use Rattle.hol_session_model.specs.Sessions.{State as Library}
+use Rattle.hol_session_model.specs.ScriptSessions.{row_of_fault, IsReadableRow}
+use Rattle.hol_session_model.specs.SessionCalls.{SaysRefusal}
 use Rattle.hol_model.proofs.Tests.{first_of_both, second_of_both}
 use Rattle.hol_grammar.specs.declared.steps.TermStep.{TermStep}
 use Rattle.hol_grammar.specs.Steps.{flat_steps_of}

@@ -8,16 +8,16 @@ use Rattle.hol_model.specs.Kernel.Fault.{number_of, name_of}
 use Rattle.hol_model.specs.Kernel.Theorem.{Theorem}
 use Rattle.hol_model.specs.Goals.GoalStates.{Proof}
 use Rattle.hol_model.specs.Refining.HostFunctions.{Host, no_host_conversions}
-use Rattle.hol_model.specs.Scripts.Commands.{RuleTree}
-use Rattle.hol_model.specs.Scripts.CommandGrammar.{TheoremTree}
+use Rattle.hol_session_model.specs.Commands.{RuleTree}
+use Rattle.hol_session_model.specs.CommandGrammar.{TheoremTree}
 use Rattle.hol_model.specs.Texts.Reading.{Scope}
-use Rattle.hol_model.specs.Scripts.Sessions.{IsRuleAnswer, scope_in}
-use Rattle.hol_model.specs.Scripts.Sessions.{State as Library}
-use Rattle.hol_model.specs.Scripts.Replies.{Refusal, refusal_of, Reply, text_of_some, NamedTheorem, text_of_theorem}
-use Rattle.hol_model.specs.Scripts.ScriptSessions.{State, Tools, IsTheoremAnswer, IsReadableRow}
-use Rattle.hol_model.specs.Scripts.SessionCalls.{SaysMessage, SaysRefusal}
-use Rattle.hol_model.specs.Scripts.SessionCalls as calls
-use Rattle.hol_model.specs.Scripts.SessionTools.{tools}
+use Rattle.hol_session_model.specs.Sessions.{IsRuleAnswer, scope_in}
+use Rattle.hol_session_model.specs.Sessions.{State as Library}
+use Rattle.hol_session_model.specs.Replies.{Refusal, refusal_of, Reply, text_of_some, NamedTheorem, text_of_theorem}
+use Rattle.hol_session_model.specs.ScriptSessions.{State, Tools, IsTheoremAnswer, IsReadableRow}
+use Rattle.hol_session_model.specs.SessionCalls.{SaysMessage, SaysRefusal}
+use Rattle.hol_session_model.specs.SessionCalls as calls
+use Rattle.hol_session_model.specs.SessionTools.{tools}
 use Rattle.hol_session.specs.declared.lines.TheoremLine.{TheoremLine}
 use Rattle.hol_session.specs.declared.reply.Printed.{Printed}
 use Rattle.hol_session.specs.declared.reply.Printed.TheVariants.{Nothing, Line}

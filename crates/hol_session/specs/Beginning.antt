@@ -5,7 +5,7 @@ use Rattle.hol_model.specs.Logic.Theory.{Theory, generic_type}
 use Rattle.hol_model.specs.Logic.KnownTerm.{is_declared}
 use Rattle.hol_model.specs.Kernel.Theorem.{Theorem}
 use Rattle.hol_model.specs.Texts.Reading.{Scope}
-use Rattle.hol_model.specs.Scripts.Sessions.{State, with_theorem}
+use Rattle.hol_session_model.specs.Sessions.{State, with_theorem}
 use Rattle.hol_prelude.specs.Prelude.{prelude_theorems}
 use Rattle.hol_session.specs.declared.beginning.StoredTheorem.{StoredTheorem}
 use Rattle.hol_command.specs.Views.{Match}

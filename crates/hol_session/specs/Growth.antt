@@ -8,7 +8,7 @@ use Rattle.hol_model.specs.Logic.Theory.{Theory}
 use Rattle.hol_model.specs.Kernel.Theorem.{IsWellFormed}
 use Rattle.hol_model.specs.Kernel.Rules.{define_outcome}
 use Rattle.hol_model.specs.Texts.Reading.{Scope}
-use Rattle.hol_model.specs.Scripts.Sessions.{definition_name}
+use Rattle.hol_session_model.specs.Sessions.{definition_name}
 use Rattle.hol_journal.specs.Journal.{Recorded, IsMade}
 use Rattle.hol_journal.specs.Growth.{IsGrown}
 use Rattle.hol_library.specs.declared.library.Library.{Library}

@@ -5,9 +5,9 @@ use Rattle.hol_model.specs.declared.fault.Fault.TheVariants.{Memory}
 use Rattle.hol_model.specs.Terms.NamedTerm.{NamedTerm}
 use Rattle.hol_model.specs.Propositional.Propositions.{atoms_of}
 use Rattle.hol_model.specs.Texts.Reading.{Scope}
-use Rattle.hol_model.specs.Scripts.Replies.{Refusal, refusal_of}
-use Rattle.hol_model.specs.Scripts.ScriptSessions.{row_of_fault}
-use Rattle.hol_model.specs.Scripts.SessionCalls.{SaysRefusal}
+use Rattle.hol_session_model.specs.Replies.{Refusal, refusal_of}
+use Rattle.hol_session_model.specs.ScriptSessions.{row_of_fault}
+use Rattle.hol_session_model.specs.SessionCalls.{SaysRefusal}
 use Rattle.hol_session.specs.declared.reply.Refused.{Refused}
 use Rattle.hol_session.specs.Answers.{row_bytes}
 

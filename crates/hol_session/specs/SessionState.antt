@@ -4,7 +4,7 @@ use Rattle.std.specs.Option.{option_map}
 use Rattle.hol_model.specs.Logic.Theory.{IsLegal, generic_type}
 use Rattle.hol_model.specs.Logic.KnownTerm.{is_declared}
 use Rattle.hol_model.specs.Kernel.Theorem.{Theorem}
-use Rattle.hol_model.specs.Scripts.Sessions.{State}
+use Rattle.hol_session_model.specs.Sessions.{State}
 use Rattle.hol_journal.specs.Journal.{Recorded}
 use Rattle.hol_journal.specs.Growth.{JournalsGrow}
 use Rattle.hol_store.specs.Store.{stored_of}

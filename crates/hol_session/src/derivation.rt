@@ -4,7 +4,7 @@ ghost use Rattle.hol_model.specs.Terms.Nameless.{image};
 ghost use Rattle.hol_model.specs.Derived.DerivedRules.{AnswersStated, terms_of_theorem};
 ghost use Rattle.hol_model.specs.Kernel.Outcome.{Answers};
 ghost use Rattle.hol_model.specs.Kernel.RuleOutcomes.{term_rule_outcome, pair_rule_outcome};
-ghost use Rattle.hol_model.specs.Scripts.Sessions.{premise_outcome, premises_outcome, term_premise_outcome};
+ghost use Rattle.hol_session_model.specs.Sessions.{premise_outcome, premises_outcome, term_premise_outcome};
 ghost use Rattle.hol_journal.specs.Journal.{IsMade, theorem_in};
 ghost use Rattle.hol_prelude.specs.HasLogic.{HasLogic};
 ghost use Rattle.hol_equal.specs.Sequents.{Continues};

@@ -1,6 +1,6 @@
 // The lines of theorems, and names in them.
 ghost use Rattle.std.specs.Prelude.{◌≡◌, [], IfOk, IfErr, string_bytes};
-ghost use Rattle.hol_model.specs.Scripts.Sessions as spec;
+ghost use Rattle.hol_session_model.specs.Sessions as spec;
 ghost use Rattle.hol_model.specs.declared.fault.Fault.TheVariants.{Memory};
 ghost use Rattle.hol_syntax.specs.Scope.{scope_of};
 ghost use Rattle.hol_session.specs.Answers.{IsLineOf};

@@ -2,8 +2,8 @@
 ghost use Rattle.std.specs.Prelude.{◌≡◌, ◌++◌, OnOk, IfOk, IfErr, string_bytes};
 ghost use Rattle.hol_model.specs.declared.fault.Fault.TheVariants.{Memory};
 ghost use Rattle.hol_model.specs.Propositional.Propositions.{atoms_of};
-ghost use Rattle.hol_model.specs.Scripts.Replies as replies;
-ghost use Rattle.hol_model.specs.Scripts.ScriptSessions.{values_of};
+ghost use Rattle.hol_session_model.specs.Replies as replies;
+ghost use Rattle.hol_session_model.specs.ScriptSessions.{values_of};
 ghost use Rattle.hol_syntax.specs.Scope.{scope_of};
 ghost use Rattle.hol_session.specs.Rows.{TellsRow};
 

@@ -1,13 +1,13 @@
 // Sessions: what the commands of a script have stored.
 ghost use Rattle.std.specs.Prelude.{◌≡◌, ◌⊎◌, ◌<◌, ◌∷◌, ℕ, List, [], map, length, Some, OnOk, OnErr, IfOk, IfErr, IsErrOf, Contains, string_bytes};
-ghost use Rattle.hol_model.specs.Scripts.Commands.{DerivedTree, by_conversion, by_premise, by_premises, by_term_and_premise, by_cases, by_witness, by_choice, RuleTree, by_term, by_pair, by_abs, by_inst, by_inst_type, by_derived};
-ghost use Rattle.hol_model.specs.Scripts.CommandGrammar.{TheoremTree, by_tautology, thm_command, show_command, var_command, def_command, newtype_command, newconst_command, SpellsCommand};
+ghost use Rattle.hol_session_model.specs.Commands.{DerivedTree, by_conversion, by_premise, by_premises, by_term_and_premise, by_cases, by_witness, by_choice, RuleTree, by_term, by_pair, by_abs, by_inst, by_inst_type, by_derived};
+ghost use Rattle.hol_session_model.specs.CommandGrammar.{TheoremTree, by_tautology, thm_command, show_command, var_command, def_command, newtype_command, newconst_command, SpellsCommand};
 ghost use Rattle.hol_model.specs.Kernel.Outcome.{Answers};
 ghost use Rattle.hol_model.specs.Texts.Reading.{type_meaning, meaning};
 ghost use Rattle.hol_model.specs.Kernel.Rules.{define_outcome, new_type_outcome, new_const_outcome};
 ghost use Rattle.hol_model.specs.Derived.Prelude.{stored_theorems};
-ghost use Rattle.hol_model.specs.Scripts.Sessions.{start, each, scope_in, with_theorem, with_theorems};
-ghost use Rattle.hol_model.specs.Scripts.Sessions as spec;
+ghost use Rattle.hol_session_model.specs.Sessions.{start, each, scope_in, with_theorem, with_theorems};
+ghost use Rattle.hol_session_model.specs.Sessions as spec;
 ghost use Rattle.hol_model.specs.Texts.TermGrammar.{TermTree};
 ghost use Rattle.hol_model.specs.Texts.TypeGrammar.{TypeTree, type_steps};
 ghost use Rattle.hol_model.specs.declared.fault.Fault.TheVariants.{Memory, TooLong};

@@ -8,8 +8,8 @@ use Rattle.hol_model.specs.Logic.Theory.{Theory, IsLegal}
 use Rattle.hol_model.specs.Logic.Derivable.{Derivable}
 use Rattle.hol_model.specs.Logic.Logic.{false_term}
 use Rattle.hol_model.specs.Texts.Texts.{text_of_sequent}
-use Rattle.hol_model.specs.Scripts.Replies.{row_text}
-use Rattle.hol_model.specs.Scripts.Headline.{scope_over}
+use Rattle.hol_session_model.specs.Replies.{row_text}
+use Rattle.hol_model.specs.Texts.Scopes.{scope_over}
 use Rattle.hol_model.proofs.Tests.{first_of_both, second_of_both}
 use Rattle.hol_sound.specs.Laws.{IsConsistent}
 use Rattle.hol_session_laws.specs.HeadlineLaws.{NoLineIsFalsity, RefusalsAreNoTheorems}

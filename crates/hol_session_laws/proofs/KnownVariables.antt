@@ -14,14 +14,14 @@ use Rattle.hol_model.specs.Texts.TypeGrammar.{TypeTree}
 use Rattle.hol_model.specs.Texts.TermGrammar.{TermTree}
 use Rattle.hol_model.specs.Texts.Lexing.{numeral_value}
 use Rattle.hol_model.specs.Texts.Reading.{type_meaning, meaning, ◌>>=◌}
-use Rattle.hol_model.specs.Scripts.Sessions.{with_variable, over_theory, is_theorem_name, definition_name, def_outcome, with_definition, newconst_outcome}
-use Rattle.hol_model.specs.Scripts.TacticGrammar.{Tactic}
-use Rattle.hol_model.specs.Scripts.CommandGrammar.{CommandTree, var_command, newtype_command, newconst_command, def_command, thm_command, show_command, goal_command, e_command, b_command, p_command, r_command, save_command}
-use Rattle.hol_model.specs.Scripts.Answers.{Is, Unless, Then, goes_on, stops}
+use Rattle.hol_session_model.specs.Sessions.{with_variable, over_theory, is_theorem_name, definition_name, def_outcome, with_definition, newconst_outcome}
+use Rattle.hol_session_model.specs.TacticGrammar.{Tactic}
+use Rattle.hol_session_model.specs.CommandGrammar.{CommandTree, var_command, newtype_command, newconst_command, def_command, thm_command, show_command, goal_command, e_command, b_command, p_command, r_command, save_command}
+use Rattle.hol_model.specs.Kernel.Answers.{Is, Unless, Then, goes_on, stops}
 use Rattle.hol_model.specs.Goals.GoalStates.{Proof, open_goals, set_outcome, back_outcome, rotate_outcome, top_outcome}
-use Rattle.hol_model.specs.Scripts.Replies.{refusal_of, goal_lines}
+use Rattle.hol_session_model.specs.Replies.{refusal_of, goal_lines}
 use Rattle.hol_session_laws.specs.ReadTerms.{HasKnownVariables, VariablesStayKnown, ScopesAreOver}
-use Rattle.hol_model.specs.Scripts.ScriptSessions.{State, scope_in, with_library, with_goal, with_lemmas, Tools, Accepted, Outcome, state_after, Plainly, says_nothing, says_theorem, stores, says_goals, var_outcome, newtype_outcome, newconst_accepted, def_accepted, show_outcome, goal_outcome, p_outcome, save_outcome, IsTheoremAnswer, NamesTheorem, IsRefined, May, Allows, finds_no_memory, is_unfinished, is_no_command, is_refused, is_done, Turn}
+use Rattle.hol_session_model.specs.ScriptSessions.{State, scope_in, with_library, with_goal, with_lemmas, Tools, Accepted, Outcome, state_after, Plainly, says_nothing, says_theorem, stores, says_goals, var_outcome, newtype_outcome, newconst_accepted, def_accepted, show_outcome, goal_outcome, p_outcome, save_outcome, IsTheoremAnswer, NamesTheorem, IsRefined, May, Allows, finds_no_memory, is_unfinished, is_no_command, is_refused, is_done, Turn}
 use Rattle.hol_session_laws.proofs.Growth.{GrowsLegally, followed}
 use Rattle.hol_session_laws.proofs.Knowledge.{knows_type-stays}
 use Rattle.hol_session_laws.proofs.KnownReadings.{read_type-known}

@@ -1,6 +1,6 @@
 -- Each text has pieces.
 use Rattle.std.proofs.Common.{◌≡◌, ℕ, zero, suc, ◌+◌, ◌≤◌, List, [], ◌∷◌, ◌++◌, length, refl, ap, ◌∙◌, ◌⊎◌, inl, inr, arith, Bool, true, false, ◌==◌, ◌&&◌, ◌||◌, length-append, eqb-true}
-use Rattle.hol_model.specs.Scripts.Script.{begins_mark, has_mark, IsCut, Cuts}
+use Rattle.hol_session_model.specs.Script.{begins_mark, has_mark, IsCut, Cuts}
 use Rattle.hol_model.proofs.Tests.{first_of_both, second_of_both}
 
 -- what stands up to the first mark, or that there is none

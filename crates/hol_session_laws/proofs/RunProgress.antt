@@ -1,14 +1,14 @@
 -- How a run begins, goes on and ends.
 use Rattle.std.proofs.Common.{◌≡◌, ◌+◌, List, [], ◌∷◌, ◌++◌, map, Bool, refl, sym, subst, ap, ◌∙◌, append_assoc, append-nil, None, Some, Err}
 use Rattle.hol_model.specs.declared.fault.Fault.TheVariants.{Syntax}
-use Rattle.hol_model.specs.Scripts.Script.{Request, line_feeds, leading_line_feeds, request_and, requested}
-use Rattle.hol_model.specs.Scripts.Replies.{refusal_of, theorem_in, Reply}
-use Rattle.hol_model.specs.Scripts.ScriptSessions.{State, start, Tools, reply_of, is_unfinished, Turn, Session, last_state, text_of_turn, text_of_turns, as_list, theorems_in_turns}
+use Rattle.hol_session_model.specs.Script.{Request, line_feeds, leading_line_feeds, request_and, requested}
+use Rattle.hol_session_model.specs.Replies.{refusal_of, theorem_in, Reply}
+use Rattle.hol_session_model.specs.ScriptSessions.{State, start, Tools, reply_of, is_unfinished, Turn, Session, last_state, text_of_turn, text_of_turns, as_list, theorems_in_turns}
 use Rattle.hol_model.specs.Texts.Reading.{Scope}
-use Rattle.hol_model.specs.Scripts.SessionCalls.{Turns, IsTurn}
+use Rattle.hol_session_model.specs.SessionCalls.{Turns, IsTurn}
 use Rattle.hol_session_laws.specs.SessionLaws.{all_without_memory}
-use Rattle.hol_model.specs.Scripts.Runs.{Counts, counting, counts_after, claim_of, IsRun}
-use Rattle.hol_model.specs.Scripts.Running.{unfinished}
+use Rattle.hol_session_model.specs.Runs.{Counts, counting, counts_after, claim_of, IsRun}
+use Rattle.hol_session_model.specs.Running.{unfinished}
 use Rattle.hol_session_laws.specs.RunLaws.{RunsBegin, BlanksPass, TurnsPass, RunsEnd, RunsEndUnfinished, StoppedRunsBegin, TurnsAdd}
 use Rattle.hol_session_laws.proofs.Pieces.{HasPieces, has_pieces}
 use Rattle.hol_session_laws.proofs.Turns.{may-lack-memory}

@@ -26,19 +26,19 @@ use Rattle.hol_model.specs.Texts.TermGrammar.{TermTree}
 use Rattle.hol_model.specs.Texts.TypeGrammar.{TypeTree}
 use Rattle.hol_model.specs.Texts.Token.{Token, Name, Mark}
 use Rattle.hol_model.specs.Texts.Lexing.{numeral_value, is_name_byte, Every, IsIdentifier, IsToken, Lexes}
-use Rattle.hol_model.specs.Scripts.Script.{Request}
+use Rattle.hol_session_model.specs.Script.{Request}
 use Rattle.hol_model.specs.Logic.Logic.{logical_definitions}
 use Rattle.hol_model.specs.Derived.Prelude.{stored_theorems}
-use Rattle.hol_model.specs.Scripts.Commands.{quote_tokens}
-use Rattle.hol_model.specs.Scripts.Sessions.{with_theorem, with_theorems, with_variable, over_theory, is_theorem_name, definition_name, def_outcome, with_definition, newconst_outcome}
-use Rattle.hol_model.specs.Scripts.Sessions.{State as Library, start as first_library}
+use Rattle.hol_session_model.specs.Commands.{quote_tokens}
+use Rattle.hol_session_model.specs.Sessions.{with_theorem, with_theorems, with_variable, over_theory, is_theorem_name, definition_name, def_outcome, with_definition, newconst_outcome}
+use Rattle.hol_session_model.specs.Sessions.{State as Library, start as first_library}
 use Rattle.hol_model.proofs.Tests.{first_of_both, second_of_both}
-use Rattle.hol_model.specs.Scripts.TacticGrammar.{Tactic, read_tactic}
-use Rattle.hol_model.specs.Scripts.CommandGrammar.{CommandTree, var_command, newtype_command, newconst_command, def_command, thm_command, show_command, goal_command, e_command, b_command, p_command, r_command, save_command, theorem_tokens, command_tokens, SpellsCommand}
-use Rattle.hol_model.specs.Scripts.Answers.{Is, Unless, Then, goes_on, stops}
+use Rattle.hol_session_model.specs.TacticGrammar.{Tactic, read_tactic}
+use Rattle.hol_session_model.specs.CommandGrammar.{CommandTree, var_command, newtype_command, newconst_command, def_command, thm_command, show_command, goal_command, e_command, b_command, p_command, r_command, save_command, theorem_tokens, command_tokens, SpellsCommand}
+use Rattle.hol_model.specs.Kernel.Answers.{Is, Unless, Then, goes_on, stops}
 use Rattle.hol_model.specs.Goals.GoalStates.{Proof, open_goals, set_outcome, back_outcome, rotate_outcome, top_outcome}
-use Rattle.hol_model.specs.Scripts.Replies.{Message, nothing, goal_lines, Refusal, refusal_of, NamedTheorem, theorem_in_message, theorem_in}
-use Rattle.hol_model.specs.Scripts.ScriptSessions.{State, start, scope_in, with_library, with_proof, with_goal, with_lemmas, Tools, Accepted, Outcome, Plainly, turn_of, says_nothing, says_theorem, stores, says_goals, var_outcome, newtype_outcome, newconst_accepted, def_accepted, show_outcome, goal_outcome, p_outcome, save_outcome, IsTheoremAnswer, NamesTheorem, IsExpansion, IsRefined, May, Allows, finds_no_memory, is_unfinished, is_no_command, is_refused, is_done, Turn, Takes, Session, last_state, as_list, theorems_in_turns}
+use Rattle.hol_session_model.specs.Replies.{Message, nothing, goal_lines, Refusal, refusal_of, NamedTheorem, theorem_in_message, theorem_in}
+use Rattle.hol_session_model.specs.ScriptSessions.{State, start, scope_in, with_library, with_proof, with_goal, with_lemmas, Tools, Accepted, Outcome, Plainly, turn_of, says_nothing, says_theorem, stores, says_goals, var_outcome, newtype_outcome, newconst_accepted, def_accepted, show_outcome, goal_outcome, p_outcome, save_outcome, IsTheoremAnswer, NamesTheorem, IsExpansion, IsRefined, May, Allows, finds_no_memory, is_unfinished, is_no_command, is_refused, is_done, Turn, Takes, Session, last_state, as_list, theorems_in_turns}
 use Rattle.hol_session_laws.specs.SessionLaws.{PrintedTheoremsStay}
 use Rattle.hol_session_laws.specs.ValidSessions.{IsTold}
 use Rattle.hol_session_laws.proofs.Growth.{followed, definition-accepted, definition-was_new, type-added, const-added}

@@ -15,15 +15,14 @@ use Rattle.hol_model.specs.Derived.Prelude.{stored_theorems}
 use Rattle.hol_model.specs.Texts.TypeGrammar.{TypeTree}
 use Rattle.hol_model.specs.Texts.TermGrammar.{TermTree}
 use Rattle.hol_model.specs.Texts.Reading.{meaning, type_meaning}
-use Rattle.hol_model.specs.Scripts.Script.{Request, requested, request_and, is_blank_text, line_feeds, leading_line_feeds}
-use Rattle.hol_model.specs.Scripts.Commands as earlier
-use Rattle.hol_model.specs.Scripts.Sessions.{with_variable, over_theory, is_theorem_name, definition_name, def_outcome, with_definition, newconst_outcome, with_theorem, with_theorems}
-use Rattle.hol_model.specs.Scripts.Sessions.{State as Library}
-use Rattle.hol_model.specs.Scripts.CommandGrammar.{CommandTree, var_command, newtype_command, newconst_command, def_command, thm_command, show_command, goal_command, e_command, b_command, p_command, r_command, save_command, SpellsCommand}
-use Rattle.hol_model.specs.Scripts.Answers.{Is, Unless, Then, goes_on, stops}
-use Rattle.hol_model.specs.Scripts.Replies.{nothing, theorem_line, goal_lines, refusal_of, Reply, NamedTheorem, theorem_in, goals_in_message, goals_in, text_of_theorem, text_of_refusal, reply_text}
-use Rattle.hol_model.specs.Scripts.ScriptSessions.{State, start, scope_in, with_library, Tools, Accepted, Outcome, turn_of, says_nothing, says_theorem, stores, var_outcome, newtype_outcome, newconst_accepted, def_accepted, show_outcome, IsTheoremAnswer, May, is_served, Allows, finds_no_memory, is_unfinished, is_no_command, is_refused, is_done, IsTrueReply, Turn, Takes, Session, text_of_turns}
-use Rattle.hol_model.specs.Scripts.Headline.{Defines, DeclaresConstant, Declares, AreDeclared, IsGrownBy, AreTold}
+use Rattle.hol_session_model.specs.Script.{Request, requested, request_and, is_blank_text, line_feeds, leading_line_feeds}
+use Rattle.hol_session_model.specs.Sessions.{with_variable, over_theory, is_theorem_name, definition_name, def_outcome, with_definition, newconst_outcome, with_theorem, with_theorems}
+use Rattle.hol_session_model.specs.Sessions.{State as Library}
+use Rattle.hol_session_model.specs.CommandGrammar.{CommandTree, var_command, newtype_command, newconst_command, def_command, thm_command, show_command, goal_command, e_command, b_command, p_command, r_command, save_command, SpellsCommand}
+use Rattle.hol_model.specs.Kernel.Answers.{Is, Unless, Then, goes_on, stops}
+use Rattle.hol_session_model.specs.Replies.{nothing, theorem_line, goal_lines, refusal_of, Reply, NamedTheorem, theorem_in, goals_in_message, goals_in, text_of_theorem, text_of_refusal, reply_text}
+use Rattle.hol_session_model.specs.ScriptSessions.{State, start, scope_in, with_library, Tools, Accepted, Outcome, turn_of, says_nothing, says_theorem, stores, var_outcome, newtype_outcome, newconst_accepted, def_accepted, show_outcome, IsTheoremAnswer, May, is_served, Allows, finds_no_memory, is_unfinished, is_no_command, is_refused, is_done, IsTrueReply, Turn, Takes, Session, text_of_turns}
+use Rattle.hol_session_model.specs.Headline.{Defines, DeclaresConstant, Declares, AreDeclared, IsGrownBy, AreTold}
 use Rattle.hol_session_laws.specs.HeadlineLaws.{SequentsArePrinted, IsToldFrom, RunsAreTold}
 use Rattle.hol_session_laws.proofs.Growth.{followed, type-added, const-added, definition-accepted}
 use Rattle.hol_session_laws.proofs.StoredTheorems.{turn-follows}
@@ -72,14 +71,8 @@ module _ (texts : List (List ℕ)) where
       → GrowsSilently state accepted
   newtype-grows state text name accepted there spelled same =
       let f = followed (new_type_outcome state.library.theory name) (λ theory. Ok (says_nothing (with_library state (over_theory state.library theory)))) accepted (sym same) in
-      let declares : earlier.SpellsCommand text (earlier.newtype_command name) = record {
-        tokens = spelled.tokens;
-        lexed = spelled.lexed;
-        read = record
-            { grammatical = spelled.read.grammatical; spelled = spelled.read.spelled };
-      } in
       grows-said state (says_nothing (with_library state (over_theory state.library f.value))) accepted f.is (record {
-        grown = one-grown text (declaration_of_type name) state.library.theory f.value there declares (type-added state.library.theory f.value name f.is_read);
+        grown = one-grown text (declaration_of_type name) state.library.theory f.value there spelled (type-added state.library.theory f.value name f.is_read);
         no_goals = refl;
       })
 
@@ -91,7 +84,7 @@ module _ (texts : List (List ℕ)) where
       let declares : DeclaresConstant state.library.theory text name g.value = record {
         tree = tree;
         variables = state.library.variables;
-        spelled = record { tokens = spelled.tokens; lexed = spelled.lexed; read = record { grammatical = spelled.read.grammatical; spelled = spelled.read.spelled } };
+        spelled = spelled;
         meant = g.is_read;
       } in
       grows-said state (says_nothing (with_library state (over_theory state.library f.value))) accepted f.is (record {
@@ -109,7 +102,7 @@ module _ (texts : List (List ℕ)) where
         tree = tree;
         variables = state.library.variables;
         term = g.value;
-        spelled = record { tokens = spelled.tokens; lexed = spelled.lexed; read = record { grammatical = spelled.read.grammatical; spelled = spelled.read.spelled } };
+        spelled = spelled;
         meant = g.is_read;
         typed = refl;
         is_body = refl;

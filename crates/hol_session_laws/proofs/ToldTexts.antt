@@ -7,11 +7,12 @@ use Rattle.hol_model.specs.Terms.HolType.{HolType, type_variable, bool_type, fun
 use Rattle.hol_model.specs.Terms.NamedTerm.{NamedTerm, variable, constant, combination, abstraction}
 use Rattle.hol_model.specs.Kernel.Fault.{number_of, name_of}
 use Rattle.hol_model.specs.Texts.Reading.{Scope}
-use Rattle.hol_model.specs.Texts.Texts.{IsNamedType, IsKnownTerm, text_of_term}
+use Rattle.hol_model.specs.Texts.Texts.{IsNamedType, IsKnownTerm, text_of_term, is_one_line}
 use Rattle.hol_model.specs.Texts.SequentTexts.{IsReadableFormula, AreReadableFormulas}
-use Rattle.hol_model.specs.Scripts.Headline.{scope_over, is_one_line, IsTheoremLine, IsRefusalLine}
-use Rattle.hol_model.specs.Scripts.Replies.{Refusal, NamedTheorem, text_of_theorem, truth_text, value_text, further_values, row_text, text_of_refusal}
-use Rattle.hol_model.specs.Scripts.ScriptSessions.{State, scope_in, IsProved, IsReadableRow}
+use Rattle.hol_model.specs.Texts.Scopes.{scope_over}
+use Rattle.hol_session_model.specs.Headline.{IsTheoremLine, IsRefusalLine}
+use Rattle.hol_session_model.specs.Replies.{Refusal, NamedTheorem, text_of_theorem, truth_text, value_text, further_values, row_text, text_of_refusal}
+use Rattle.hol_session_model.specs.ScriptSessions.{State, scope_in, IsProved, IsReadableRow}
 use Rattle.hol_session_laws.specs.HeadlineLaws.{SequentsArePrinted}
 
 -- ---- what is readable in a state is so over its theory

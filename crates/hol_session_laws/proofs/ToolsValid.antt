@@ -12,16 +12,16 @@ use Rattle.hol_model.specs.Goals.Replays.{sequents_in, has_room}
 use Rattle.hol_model.specs.Refining.HostFunctions.{Host as HostFunctions}
 use Rattle.hol_model.specs.Refining.Combinators as combinators
 use Rattle.hol_model.specs.Refining.Combinators.{Stage, at}
-use Rattle.hol_model.specs.Scripts.TacticGrammar.{PlainTactic, AllTac, NoTac, AssumptionTac, ReflTac, ConjTac, EqTac, Disj1Tac, Disj2Tac, DischTac, GenTac, TautTac, NamedTactic, AcceptTac, AssumeTac, MpTac, DisjCasesTac, ChooseTac, Host, QuotedTactic, ExistsTac, UndischTac, TacticLeaf, plain, by_name, by_quote, conv_tac, rewrite_tac, Tactic, then_chain, TacticLinks, no_more_then, then_all, then_each, Tactics, no_tactics, tactic_and, TacticChoice, orelse_chain, OtherTactics, no_more_orelse, orelse, TacticUnit, repeated, tried, enclosed, leaf, read_leaf, read_tactic, read_links, read_tactics, read_choice, read_others, read_unit}
+use Rattle.hol_session_model.specs.TacticGrammar.{PlainTactic, AllTac, NoTac, AssumptionTac, ReflTac, ConjTac, EqTac, Disj1Tac, Disj2Tac, DischTac, GenTac, TautTac, NamedTactic, AcceptTac, AssumeTac, MpTac, DisjCasesTac, ChooseTac, Host, QuotedTactic, ExistsTac, UndischTac, TacticLeaf, plain, by_name, by_quote, conv_tac, rewrite_tac, Tactic, then_chain, TacticLinks, no_more_then, then_all, then_each, Tactics, no_tactics, tactic_and, TacticChoice, orelse_chain, OtherTactics, no_more_orelse, orelse, TacticUnit, repeated, tried, enclosed, leaf, read_leaf, read_tactic, read_links, read_tactics, read_choice, read_others, read_unit}
 use Rattle.hol_model.specs.Goals.GoalStates.{Expansion}
-use Rattle.hol_model.specs.Scripts.Answers.{goes_on, stops}
+use Rattle.hol_model.specs.Kernel.Answers.{goes_on, stops}
 use Rattle.hol_session_laws.specs.ReadTerms.{IsKnownTyped}
-use Rattle.hol_model.specs.Scripts.ScriptSessions.{scope_in, store_in, with_lemmas}
+use Rattle.hol_session_model.specs.ScriptSessions.{scope_in, store_in, with_lemmas}
 use Rattle.hol_outcomes.proofs.Lemmas.{refiners-answer-valid}
 use Rattle.hol_outcomes.proofs.StopsRunning.{refiners-spend}
 use Rattle.hol_session_laws.proofs.Growth.{followed, passes_tests}
 use Rattle.hol_session_laws.proofs.KnownReadings.{read_terms-known}
-use Rattle.hol_model.specs.Scripts.SessionTools.{over_lemmas, of_plain, of_named, of_quoted, tactic_of_leaf, then_on, or_else, tactic_of, links_of, tactics_of, tactic_of_choice, others_of, tactic_of_unit}
+use Rattle.hol_session_model.specs.SessionTools.{over_lemmas, of_plain, of_named, of_quoted, tactic_of_leaf, then_on, or_else, tactic_of, links_of, tactics_of, tactic_of_choice, others_of, tactic_of_unit}
 use Rattle.hol_model.specs.Refining.RefinerConditions.{HasKnownWitness, HasKnownWitnesses, HaveKnownWitnesses, HaveKnownWitnessesInLinks}
 use Rattle.hol_session_laws.specs.ToolLaws.{ToolsRefineValidly, ExpansionSpends, ExpansionsSpend}
 

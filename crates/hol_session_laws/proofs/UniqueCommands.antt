@@ -13,10 +13,10 @@ use Rattle.hol_model.specs.declared.rule.RuleKind.{RuleKind}
 use Rattle.hol_model.specs.declared.rule.RuleKind.TheVariants.{Term, Pair, Abs, Inst, InstType, Axiom as OfAxiom, Derived}
 use Rattle.hol_model.specs.Texts.TypeGrammar.{type_tokens}
 use Rattle.hol_model.specs.Texts.TermGrammar.{TermTree}
-use Rattle.hol_model.specs.Scripts.Commands.{kind_of, rule_word, rule_tokens, quote_tokens, IsQuotable}
-use Rattle.hol_model.specs.Scripts.ConversionGrammar.{unit_tokens}
-use Rattle.hol_model.specs.Scripts.TacticGrammar.{tactic_tokens}
-use Rattle.hol_model.specs.Scripts.CommandGrammar.{TheoremTree, by_rule, by_tautology, by_conversion, CommandTree, var_command, newtype_command, newconst_command, def_command, thm_command, show_command, goal_command, e_command, b_command, p_command, r_command, save_command, theorem_tokens, command_tokens, IsTheoremTree, IsCommandTree}
+use Rattle.hol_session_model.specs.Commands.{kind_of, rule_word, rule_tokens, quote_tokens, IsQuotable}
+use Rattle.hol_session_model.specs.ConversionGrammar.{unit_tokens}
+use Rattle.hol_session_model.specs.TacticGrammar.{tactic_tokens}
+use Rattle.hol_session_model.specs.CommandGrammar.{TheoremTree, by_rule, by_tautology, by_conversion, CommandTree, var_command, newtype_command, newconst_command, def_command, thm_command, show_command, goal_command, e_command, b_command, p_command, r_command, save_command, theorem_tokens, command_tokens, IsTheoremTree, IsCommandTree}
 use Rattle.hol_session_laws.specs.UniqueReadings.{QuotesAreUnambiguous, PartsAreUnambiguous, CommandsAreUnambiguous}
 use Rattle.hol_session_laws.proofs.UniqueConversions.{look_up_first, begins_otherwise, conversions-unambiguous}
 use Rattle.hol_session_laws.proofs.UniqueTactics.{tactics-unambiguous}

@@ -4,7 +4,7 @@ use Rattle.std.specs.Prelude.{codes, if◌then◌else◌}
 use Rattle.std.specs.Str.{bytes_eq}
 use Rattle.hol_model.specs.declared.symbol.Symbol.TheVariants.{CloseParenthesis}
 use Rattle.hol_model.specs.Texts.Token.{Token, Name, Number, Mark}
-use Rattle.hol_model.specs.Scripts.ConversionGrammar.{Conversional, Repeatc, TryConv, RandConv, RatorConv, AbsConv, SubConv, DepthConv, OnceDepthConv, TopDepthConv, conversional_word, ConversionLeaf, all_conv, no_conv, beta_conv, rewr_conv, host_conv, Conversion, thenc_chain, FurtherConversions, no_more_thenc, thenc, ConversionChoice, orelsec_chain, OtherConversions, no_more_orelsec, orelsec, ConversionUnit, prefixed, enclosed, leaf, leaf_tokens, conversion_tokens, further_tokens, choice_tokens, other_tokens, unit_tokens}
+use Rattle.hol_session_model.specs.ConversionGrammar.{Conversional, Repeatc, TryConv, RandConv, RatorConv, AbsConv, SubConv, DepthConv, OnceDepthConv, TopDepthConv, conversional_word, ConversionLeaf, all_conv, no_conv, beta_conv, rewr_conv, host_conv, Conversion, thenc_chain, FurtherConversions, no_more_thenc, thenc, ConversionChoice, orelsec_chain, OtherConversions, no_more_orelsec, orelsec, ConversionUnit, prefixed, enclosed, leaf, leaf_tokens, conversion_tokens, further_tokens, choice_tokens, other_tokens, unit_tokens}
 use Rattle.hol_session_laws.specs.UniqueReadings.{SameParse, ConversionsAreUnambiguous}
 
 -- ---- words

@@ -13,7 +13,7 @@ use Rattle.hol_model.specs.declared.rule.RuleKind.TheVariants.{Term, Pair, Abs, 
 use Rattle.hol_model.specs.Texts.Token.{Token, Name, Mark}
 use Rattle.hol_model.specs.Texts.TypeGrammar.{TypeTree, type_tokens}
 use Rattle.hol_model.specs.Texts.TermGrammar.{TermTree, IsWithin}
-use Rattle.hol_model.specs.Scripts.Commands.{DerivedTree, by_conversion, by_premise, by_premises, by_term_and_premise, by_cases, by_witness, by_choice, RuleTree, by_term, by_pair, by_abs, by_inst, by_inst_type, by_axiom, by_derived, derived_kind_of, kind_of, rule_word, quoted, quote_tokens, further_tokens, first_tokens, term_pair, type_pair, derived_tokens, argument_tokens, rule_tokens, IsQuotable, ArePairs, AreTypePairs, IsDerivedTree, IsRuleTree}
+use Rattle.hol_session_model.specs.Commands.{DerivedTree, by_conversion, by_premise, by_premises, by_term_and_premise, by_cases, by_witness, by_choice, RuleTree, by_term, by_pair, by_abs, by_inst, by_inst_type, by_axiom, by_derived, derived_kind_of, kind_of, rule_word, quoted, quote_tokens, further_tokens, first_tokens, term_pair, type_pair, derived_tokens, argument_tokens, rule_tokens, IsQuotable, ArePairs, AreTypePairs, IsDerivedTree, IsRuleTree}
 use Rattle.hol_session_laws.specs.UniqueReadings.{SameParse, QuotesAreUnambiguous, TypeQuotesAreUnambiguous, RulesAreUnambiguous}
 use Rattle.hol_session_laws.proofs.UniqueConversions.{look_up, look_up_first}
 

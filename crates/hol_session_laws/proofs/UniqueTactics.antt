@@ -4,9 +4,9 @@ use Rattle.std.specs.Prelude.{codes}
 use Rattle.hol_model.specs.declared.symbol.Symbol.TheVariants.{CloseParenthesis, CloseBracket}
 use Rattle.hol_model.specs.Texts.Token.{Token, Mark}
 use Rattle.hol_model.specs.Texts.TermGrammar.{TermTree}
-use Rattle.hol_model.specs.Scripts.Commands.{quote_tokens}
-use Rattle.hol_model.specs.Scripts.ConversionGrammar.{unit_tokens}
-use Rattle.hol_model.specs.Scripts.TacticGrammar.{PlainTactic, AllTac, NoTac, AssumptionTac, ReflTac, ConjTac, EqTac, Disj1Tac, Disj2Tac, DischTac, GenTac, TautTac, NamedTactic, AcceptTac, AssumeTac, MpTac, DisjCasesTac, ChooseTac, Host, QuotedTactic, ExistsTac, UndischTac, TacticLeaf, plain, by_name, by_quote, conv_tac, rewrite_tac, Tactic, then_chain, TacticLinks, no_more_then, then_all, then_each, Tactics, no_tactics, tactic_and, TacticChoice, orelse_chain, OtherTactics, no_more_orelse, orelse, TacticUnit, repeated, tried, enclosed, leaf, plain_word, named_word, quoted_word, further_name_tokens, name_tokens, leaf_tokens, tactic_tokens, link_tokens, first_tokens, further_tokens, choice_tokens, other_tokens, tactic_unit_tokens, HasQuotableLeaf, HasQuotables, HasQuotableLinks, HasQuotableList, HasQuotableChoice, HasQuotableOthers, HasQuotableUnit}
+use Rattle.hol_session_model.specs.Commands.{quote_tokens}
+use Rattle.hol_session_model.specs.ConversionGrammar.{unit_tokens}
+use Rattle.hol_session_model.specs.TacticGrammar.{PlainTactic, AllTac, NoTac, AssumptionTac, ReflTac, ConjTac, EqTac, Disj1Tac, Disj2Tac, DischTac, GenTac, TautTac, NamedTactic, AcceptTac, AssumeTac, MpTac, DisjCasesTac, ChooseTac, Host, QuotedTactic, ExistsTac, UndischTac, TacticLeaf, plain, by_name, by_quote, conv_tac, rewrite_tac, Tactic, then_chain, TacticLinks, no_more_then, then_all, then_each, Tactics, no_tactics, tactic_and, TacticChoice, orelse_chain, OtherTactics, no_more_orelse, orelse, TacticUnit, repeated, tried, enclosed, leaf, plain_word, named_word, quoted_word, further_name_tokens, name_tokens, leaf_tokens, tactic_tokens, link_tokens, first_tokens, further_tokens, choice_tokens, other_tokens, tactic_unit_tokens, HasQuotableLeaf, HasQuotables, HasQuotableLinks, HasQuotableList, HasQuotableChoice, HasQuotableOthers, HasQuotableUnit}
 use Rattle.hol_session_laws.specs.UniqueReadings.{SameParse, QuotesAreUnambiguous, TacticsAreUnambiguous}
 use Rattle.hol_session_laws.proofs.UniqueConversions.{starts_with, look_up, look_up_first, begins_otherwise, conversions-unambiguous}
 

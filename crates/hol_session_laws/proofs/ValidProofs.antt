@@ -24,7 +24,7 @@ use Rattle.hol_valid.proofs.FewerHypotheses.{IsAsStrong-self, sequent_over-stron
 use Rattle.hol_valid.proofs.Validity.{as_strong-achieves}
 use Rattle.hol_valid.proofs.Splicing.{replace_subs-sequent, splices-valid}
 use Rattle.hol_valid.proofs.Growing.{stays-valid}
-use Rattle.hol_model.specs.Scripts.Answers.{goes_on, stops}
+use Rattle.hol_model.specs.Kernel.Answers.{goes_on, stops}
 use Rattle.hol_model.specs.Goals.Replays.{Store, sequents_in, IsKnownGoal, AreKnownGoals, HasSequent, IsWant, AnswersReplay, is_within_depth}
 use Rattle.hol_model.specs.Goals.GoalStates.{Stage, underway, proved, Proof, untouched, begun, advanced, goal_of, restored, rotated_goals, rotated_number, rotated_once, rotated, rotated_stage, Focus, focus_outcome, stage_focus, step_focus, expanded, closing_outcome, IsStageOf, reverted_to}
 use Rattle.hol_model.specs.Goals.GoalLaws.{IsSettable, IsValidStage, AreValidStages, IsValidProof, IsValidIfAny, IsValidStack, Replays, SetIsValid, BackIsValid, RotateIsValid, ExpandIsValid, ExpandFailsForSize, RevertIsValid, ProofsStayValid}

@@ -14,20 +14,20 @@ use Rattle.hol_model.specs.Texts.TypeGrammar.{TypeTree}
 use Rattle.hol_model.specs.Texts.TermGrammar.{TermTree}
 use Rattle.hol_model.specs.Texts.Lexing.{numeral_value}
 use Rattle.hol_model.specs.Texts.Reading.{type_meaning, meaning, ◌>>=◌}
-use Rattle.hol_model.specs.Scripts.Sessions.{with_variable, over_theory, is_theorem_name, definition_name, def_outcome, with_definition, newconst_outcome}
+use Rattle.hol_session_model.specs.Sessions.{with_variable, over_theory, is_theorem_name, definition_name, def_outcome, with_definition, newconst_outcome}
 use Rattle.hol_model.specs.Goals.Strength.{AnswersAsStrong}
 use Rattle.hol_model.specs.Goals.Justifications.{Justification}
 use Rattle.hol_model.specs.Goals.ValidSteps.{Step}
 use Rattle.hol_model.specs.Goals.JustificationLaws.{IsLaterStore}
 use Rattle.hol_valid.proofs.FewerHypotheses.{IsAsStrong-self}
-use Rattle.hol_model.specs.Scripts.TacticGrammar.{Tactic, read_tactic}
-use Rattle.hol_model.specs.Scripts.CommandGrammar.{CommandTree, var_command, newtype_command, newconst_command, def_command, thm_command, show_command, goal_command, e_command, b_command, p_command, r_command, save_command}
-use Rattle.hol_model.specs.Scripts.Answers.{Is, Unless, Then, goes_on, stops}
+use Rattle.hol_session_model.specs.TacticGrammar.{Tactic, read_tactic}
+use Rattle.hol_session_model.specs.CommandGrammar.{CommandTree, var_command, newtype_command, newconst_command, def_command, thm_command, show_command, goal_command, e_command, b_command, p_command, r_command, save_command}
+use Rattle.hol_model.specs.Kernel.Answers.{Is, Unless, Then, goes_on, stops}
 use Rattle.hol_model.specs.Goals.Replays.{Store, sequent_of_theorem, sequents_in, IsKnownGoal, AreKnownGoals, is_within_depth}
 use Rattle.hol_model.specs.Goals.GoalStates.{Stage, Proof, open_goals, set_outcome, back_outcome, rotate_outcome, top_outcome, Focus, focus_outcome, Refinement, Expansion, IsStageOf, IsExpanded, expanded}
 use Rattle.hol_model.specs.Goals.GoalLaws.{IsValidIfAny, IsValidProof, Replays}
-use Rattle.hol_model.specs.Scripts.Replies.{refusal_of, goal_lines}
-use Rattle.hol_model.specs.Scripts.ScriptSessions.{State, scope_in, store_in, with_library, with_goal, with_lemmas, Tools, Accepted, Outcome, state_after, Plainly, says_nothing, says_theorem, stores, says_goals, var_outcome, newtype_outcome, newconst_accepted, def_accepted, show_outcome, goal_outcome, p_outcome, save_outcome, IsTheoremAnswer, NamesTheorem, IsExpansion, IsRefined, May, Allows, finds_no_memory, is_unfinished, is_no_command, is_refused, is_done, Turn}
+use Rattle.hol_session_model.specs.Replies.{refusal_of, goal_lines}
+use Rattle.hol_session_model.specs.ScriptSessions.{State, scope_in, store_in, with_library, with_goal, with_lemmas, Tools, Accepted, Outcome, state_after, Plainly, says_nothing, says_theorem, stores, says_goals, var_outcome, newtype_outcome, newconst_accepted, def_accepted, show_outcome, goal_outcome, p_outcome, save_outcome, IsTheoremAnswer, NamesTheorem, IsExpansion, IsRefined, May, Allows, finds_no_memory, is_unfinished, is_no_command, is_refused, is_done, Turn}
 use Rattle.hol_model.specs.Goals.GoodSteps.{IsGoodStep}
 use Rattle.hol_session_laws.specs.ValidSessions.{IsTold, GoesOn, RefinesValidly, HasValidProof, TurnsKeepValid, RefusesExpansion, by_terms, without_goal, by_refiner, for_size, ExpansionsAreRefused}
 use Rattle.hol_model.proofs.Logic.Earlier.{earlier-same}

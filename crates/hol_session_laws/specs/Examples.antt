@@ -9,12 +9,12 @@ use Rattle.hol_model.specs.Texts.TermGrammar.{TermTree}
 use Rattle.hol_model.specs.Texts.Reading.{truth_operation, infix_term}
 use Rattle.hol_model.specs.Goals.Justifications.{sub}
 use Rattle.hol_model.specs.Goals.ValidSteps.{Step}
-use Rattle.hol_model.specs.Scripts.ConversionGrammar.{thenc_chain, no_more_thenc, orelsec_chain, no_more_orelsec, Repeatc, rewr_conv, prefixed}
-use Rattle.hol_model.specs.Scripts.ConversionGrammar.{enclosed as enclosed_conversion, leaf as conversion_leaf}
-use Rattle.hol_model.specs.Scripts.TacticGrammar.{Tactic, then_chain, no_more_then, then_all, then_each, no_tactics, tactic_and, TacticChoice, orelse_chain, no_more_orelse, orelse, TacticUnit, repeated, leaf, plain, conv_tac, rewrite_tac, GenTac, DischTac, AssumptionTac, ConjTac, AllTac, tactic_tokens, tactic_depth}
+use Rattle.hol_session_model.specs.ConversionGrammar.{thenc_chain, no_more_thenc, orelsec_chain, no_more_orelsec, Repeatc, rewr_conv, prefixed}
+use Rattle.hol_session_model.specs.ConversionGrammar.{enclosed as enclosed_conversion, leaf as conversion_leaf}
+use Rattle.hol_session_model.specs.TacticGrammar.{Tactic, then_chain, no_more_then, then_all, then_each, no_tactics, tactic_and, TacticChoice, orelse_chain, no_more_orelse, orelse, TacticUnit, repeated, leaf, plain, conv_tac, rewrite_tac, GenTac, DischTac, AssumptionTac, ConjTac, AllTac, tactic_tokens, tactic_depth}
 use Rattle.hol_model.specs.Goals.GoalStates.{underway, Proof, goal_of, begun, advanced, rotated, back_outcome, rotate_outcome}
-use Rattle.hol_model.specs.Scripts.Replies.{text_of_goals, goals_text, row_text}
-use Rattle.hol_model.specs.Scripts.ScriptSessions.{start, scope_in, row_of_fault}
+use Rattle.hol_session_model.specs.Replies.{text_of_goals, goals_text, row_text}
+use Rattle.hol_session_model.specs.ScriptSessions.{start, scope_in, row_of_fault}
 
 -- ---- expressions
 

@@ -5,11 +5,11 @@ use Rattle.hol_model.specs.Terms.Nameless.{image}
 use Rattle.hol_model.specs.Logic.Theory.{Theory, IsEarlier}
 use Rattle.hol_model.specs.Logic.Logic.{logical_definitions, false_term}
 use Rattle.hol_model.specs.Texts.Reading.{Scope}
-use Rattle.hol_model.specs.Texts.Texts.{text_of_sequent}
+use Rattle.hol_model.specs.Texts.Texts.{text_of_sequent, is_one_line}
 use Rattle.hol_model.specs.Texts.SequentTexts.{IsReadableFormula, AreReadableFormulas, SequentsReadBack}
-use Rattle.hol_model.specs.Scripts.ScriptSessions.{Tools, Turn, text_of_turns}
-use Rattle.hol_model.specs.Scripts.Runs.{IsRun}
-use Rattle.hol_model.specs.Scripts.Headline.{is_one_line, IsTheoremLine, IsRefusalLine, AreTold, text_of_lines}
+use Rattle.hol_session_model.specs.ScriptSessions.{Tools, Turn, text_of_turns}
+use Rattle.hol_session_model.specs.Runs.{IsRun}
+use Rattle.hol_session_model.specs.Headline.{IsTheoremLine, IsRefusalLine, AreTold, text_of_lines}
 
 -- no line tells falsity without hypotheses, whatever the script added to the logical definitions
 abbrev pub NoLineIsFalsity : Type 0

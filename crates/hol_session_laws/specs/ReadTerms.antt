@@ -7,8 +7,8 @@ use Rattle.hol_model.specs.Logic.KnownTerm.{is_declared, knows_type}
 use Rattle.hol_model.specs.Kernel.Rules.{first_unknown}
 use Rattle.hol_model.specs.Texts.TermGrammar.{TermTree}
 use Rattle.hol_model.specs.Texts.Reading.{Scope, meaning}
-use Rattle.hol_model.specs.Scripts.Script.{Request}
-use Rattle.hol_model.specs.Scripts.ScriptSessions.{State, scope_in, Tools, Turn, Takes}
+use Rattle.hol_session_model.specs.Script.{Request}
+use Rattle.hol_session_model.specs.ScriptSessions.{State, scope_in, Tools, Turn, Takes}
 
 -- the scope has the constants and the declared types of the theory, and variables of known types
 pub record IsScopeOver (theory : Theory) (scope : Scope) : Type 0 where

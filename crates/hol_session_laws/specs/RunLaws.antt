@@ -1,9 +1,9 @@
 -- The statements of the laws on runs: how a run begins, goes on and ends.
 use Rattle.std.specs.Prelude.{◌≡◌, ℕ, ◌+◌, true, false, List, [], ◌∷◌, ◌++◌, Some}
-use Rattle.hol_model.specs.Scripts.Script.{has_mark, IsCut, line_feeds, leading_line_feeds, is_blank_text}
-use Rattle.hol_model.specs.Scripts.ScriptSessions.{State, start, Tools, Turn, Takes, last_state, text_of_turns, theorems_in_turns}
-use Rattle.hol_model.specs.Scripts.Runs.{Counts, counting, counts_after, claims_of_turns, IsRun}
-use Rattle.hol_model.specs.Scripts.Running.{SoFar, unfinished, BeginsRun}
+use Rattle.hol_session_model.specs.Script.{has_mark, IsCut, line_feeds, leading_line_feeds, is_blank_text}
+use Rattle.hol_session_model.specs.ScriptSessions.{State, start, Tools, Turn, Takes, last_state, text_of_turns, theorems_in_turns}
+use Rattle.hol_session_model.specs.Runs.{Counts, counting, counts_after, claims_of_turns, IsRun}
+use Rattle.hol_session_model.specs.Running.{SoFar, unfinished, BeginsRun}
 
 abbrev pub RunsBegin : Tools → Type 0
 RunsBegin tools = (script : List ℕ) → SoFar tools script start 1 script []

@@ -6,12 +6,12 @@ use Rattle.hol_model.specs.Terms.Name.{is_identifier}
 use Rattle.hol_model.specs.Logic.Theory.{IsLegal, IsEarlier}
 use Rattle.hol_model.specs.Logic.Derivable.{IsMember}
 use Rattle.hol_model.specs.Kernel.Theorem.{Theorem}
-use Rattle.hol_model.specs.Scripts.Script.{Request}
+use Rattle.hol_session_model.specs.Script.{Request}
 use Rattle.hol_model.specs.Texts.SequentGrammar.{ReadsSequent}
 use Rattle.hol_model.specs.Texts.SequentTexts.{SequentsReadBack}
 use Rattle.hol_model.specs.Texts.Texts.{text_of_sequent}
-use Rattle.hol_model.specs.Scripts.Replies.{Refusal, refusal_of, NamedTheorem, theorem_in, goals_in}
-use Rattle.hol_model.specs.Scripts.ScriptSessions.{State, start, scope_in, Tools, Turn, Takes, Session, last_state, theorems_in_turns, IsProved, IsFinished}
+use Rattle.hol_session_model.specs.Replies.{Refusal, refusal_of, NamedTheorem, theorem_in, goals_in}
+use Rattle.hol_session_model.specs.ScriptSessions.{State, start, scope_in, Tools, Turn, Takes, Session, last_state, theorems_in_turns, IsProved, IsFinished}
 
 -- why a text may be refused in any state: for memory, or as it is unfinished
 abbrev pub fault_left : Option (List ℕ) → Fault

@@ -6,9 +6,9 @@ use Rattle.hol_model.specs.Refining.Combinators.{Tactic, Stage, at, IsLater}
 use Rattle.hol_model.specs.Goals.GoalStates.{Proof, Expansion}
 use Rattle.hol_model.specs.Goals.Replays.{IsStoreOver}
 use Rattle.hol_session_laws.specs.ReadTerms.{IsScopeOver}
-use Rattle.hol_model.specs.Scripts.ScriptSessions.{State, scope_in, store_in}
+use Rattle.hol_session_model.specs.ScriptSessions.{State, scope_in, store_in}
 use Rattle.hol_session_laws.specs.ValidSessions.{RefinesValidly}
-use Rattle.hol_model.specs.Scripts.SessionTools.{over_lemmas, IsStackExpansion, tools}
+use Rattle.hol_session_model.specs.SessionTools.{over_lemmas, IsStackExpansion, tools}
 use Rattle.hol_model.specs.Refining.RefinerConditions.{HasLogic}
 
 -- over a legal theory with the logical definitions, where stored theorems and lemmas are proved and declared variables have

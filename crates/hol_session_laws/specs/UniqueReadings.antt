@@ -3,11 +3,11 @@ use Rattle.std.specs.Prelude.{◌≡◌, ℕ, List, []}
 use Rattle.hol_model.specs.Texts.Token.{Token}
 use Rattle.hol_model.specs.Texts.TypeGrammar.{TypeTree, type_tokens}
 use Rattle.hol_model.specs.Texts.TermGrammar.{TermTree, IsWithin}
-use Rattle.hol_model.specs.Scripts.Commands.{RuleTree, rule_tokens, IsRuleTree, quoted, quote_tokens, IsQuotable}
+use Rattle.hol_session_model.specs.Commands.{RuleTree, rule_tokens, IsRuleTree, quoted, quote_tokens, IsQuotable}
 use Rattle.hol_model.specs.Texts.Lexing.{Lexes}
-use Rattle.hol_model.specs.Scripts.ConversionGrammar.{ConversionUnit, unit_tokens}
-use Rattle.hol_model.specs.Scripts.TacticGrammar.{Tactic, tactic_tokens, HasQuotables}
-use Rattle.hol_model.specs.Scripts.CommandGrammar.{CommandTree, SpellsCommand}
+use Rattle.hol_session_model.specs.ConversionGrammar.{ConversionUnit, unit_tokens}
+use Rattle.hol_session_model.specs.TacticGrammar.{Tactic, tactic_tokens, HasQuotables}
+use Rattle.hol_session_model.specs.CommandGrammar.{CommandTree, SpellsCommand}
 
 -- the same parse, and the same rest
 pub record SameParse {A : Type 0} (a b : A) (r s : List Token) : Type 0 where

@@ -9,17 +9,17 @@ use Rattle.hol_model.specs.Kernel.Theorem.{Theorem}
 use Rattle.hol_model.specs.Goals.Goals.{Goal}
 use Rattle.hol_model.specs.Texts.TermGrammar.{TermTree}
 use Rattle.hol_model.specs.Texts.Reading.{meaning}
-use Rattle.hol_model.specs.Scripts.Script.{Request}
-use Rattle.hol_model.specs.Scripts.Sessions.{definition_name}
-use Rattle.hol_model.specs.Scripts.Sessions.{State as Library}
+use Rattle.hol_session_model.specs.Script.{Request}
+use Rattle.hol_session_model.specs.Sessions.{definition_name}
+use Rattle.hol_session_model.specs.Sessions.{State as Library}
 use Rattle.hol_model.specs.Goals.Justifications.{Justification}
-use Rattle.hol_model.specs.Scripts.TacticGrammar.{Tactic, read_tactic}
-use Rattle.hol_model.specs.Scripts.CommandGrammar.{e_command}
+use Rattle.hol_session_model.specs.TacticGrammar.{Tactic, read_tactic}
+use Rattle.hol_session_model.specs.CommandGrammar.{e_command}
 use Rattle.hol_model.specs.Goals.Replays.{IsKnownGoal}
 use Rattle.hol_model.specs.Goals.GoalStates.{Refinement, Focus, focus_outcome}
 use Rattle.hol_model.specs.Goals.GoalLaws.{IsValidIfAny, Replays}
-use Rattle.hol_model.specs.Scripts.Replies.{Refusal}
-use Rattle.hol_model.specs.Scripts.ScriptSessions.{State, scope_in, store_in, with_lemmas, Tools, May, Turn, Takes}
+use Rattle.hol_session_model.specs.Replies.{Refusal}
+use Rattle.hol_session_model.specs.ScriptSessions.{State, scope_in, store_in, with_lemmas, Tools, May, Turn, Takes}
 use Rattle.hol_model.specs.Goals.GoodSteps.{IsGoodStep}
 
 -- only the definition of a constant gives a name its `_def`

@@ -4,7 +4,7 @@
 #![tactic(auto)]
 
 ghost use Rattle.hol_model.specs.Refining.HostFunctions.{Host};
-ghost use Rattle.hol_model.specs.Scripts.ScriptSessions.{Tools};
+ghost use Rattle.hol_session_model.specs.ScriptSessions.{Tools};
 ghost use Rattle.hol_session_laws.specs.ToolLaws.{ToolsRefineValidly, ExpansionsSpend};
 ghost use Rattle.hol_model.specs.Goals.GoalLaws.{SetIsValid, BackIsValid, RotateIsValid, ExpandIsValid, ExpandFailsForSize, RevertIsValid, ProofsStayValid};
 ghost use Rattle.hol_session_laws.specs.RunLaws.{RunsBegin, BlanksPass, TurnsPass, RunsEnd, RunsEndUnfinished, StoppedRunsBegin, TurnsAdd};

@@ -6,10 +6,10 @@ use Rattle.hol_model.specs.declared.symbol.Symbol.TheVariants.{OpenParenthesis, 
 use Rattle.hol_model.specs.Texts.Token.{Token, Name, Mark}
 use Rattle.hol_model.specs.Texts.TermGrammar.{TermTree}
 use Rattle.hol_model.specs.Refining.Conversions.{Conversion}
-use Rattle.hol_model.specs.Scripts.Commands.{quote_tokens}
-use Rattle.hol_model.specs.Scripts.ConversionGrammar.{unit_tokens}
-use Rattle.hol_model.specs.Scripts.TacticGrammar as grammar
-use Rattle.hol_model.specs.Scripts.TacticGrammar.{plain_word, named_word, quoted_word, TacticLeaf, further_name_tokens, name_tokens, leaf_tokens, TacticUnit, repeated, tried, enclosed, leaf, tactic_unit_tokens}
+use Rattle.hol_session_model.specs.Commands.{quote_tokens}
+use Rattle.hol_session_model.specs.ConversionGrammar.{unit_tokens}
+use Rattle.hol_session_model.specs.TacticGrammar as grammar
+use Rattle.hol_session_model.specs.TacticGrammar.{plain_word, named_word, quoted_word, TacticLeaf, further_name_tokens, name_tokens, leaf_tokens, TacticUnit, repeated, tried, enclosed, leaf, tactic_unit_tokens}
 use Rattle.hol_grammar.specs.declared.token.Token.{Token as TokenHere}
 use Rattle.hol_grammar.specs.declared.type_reader.ReadError.{ReadError}
 use Rattle.hol_grammar.specs.declared.type_reader.ReadError.TheVariants.{Memory, Syntax}

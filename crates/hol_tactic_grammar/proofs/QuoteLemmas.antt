@@ -5,7 +5,7 @@ use Rattle.hol_model.specs.Texts.Token.{Token, Name, Number, Mark}
 use Rattle.hol_model.specs.Texts.TypeGrammar.{TypeTree, Named, Enclosed, Function, type_tokens}
 use Rattle.hol_model.specs.Texts.TermGrammar.{Bare, Variable, Constant, TermTree, Leaf, Apply, Not, Join, Bind, IsConstantName, IsTermTree, Infix, IffInfix, ImpliesInfix, OrInfix, AndInfix, EqualInfix, Binder, Lambda, ForAll, Exists, Choice, Lexeme, InfixPiece, BinderPiece, pieces, all_tokens}
 use Rattle.hol_model.specs.Texts.TermGrammar.{Enclosed as EnclosedTerm}
-use Rattle.hol_model.specs.Scripts.Commands.{quoted, quote_tokens, IsQuotable}
+use Rattle.hol_session_model.specs.Commands.{quoted, quote_tokens, IsQuotable}
 use Rattle.hol_grammar.specs.declared.token.Token.{Token as TokenHere}
 use Rattle.hol_grammar.specs.declared.token.Token.TheVariants.{Mark as MarkHere}
 use Rattle.hol_grammar.specs.declared.steps.TermStep.{TermStep}

@@ -3,9 +3,9 @@ use Rattle.std.specs.Prelude.{ℕ, List, [], ◌∷◌, map}
 use Rattle.std.specs.String.{string_bytes}
 use Rattle.std.proofs.Common.{Vec, Global}
 use Rattle.hol_model.specs.Refining.Conversions.{Conversion}
-use Rattle.hol_model.specs.Scripts.TacticGrammar as grammar
-use Rattle.hol_model.specs.Scripts.TacticGrammar.{PlainTactic, AllTac, NoTac, AssumptionTac, ReflTac, ConjTac, EqTac, Disj1Tac, Disj2Tac, DischTac, GenTac, TautTac, NamedTactic, AcceptTac, AssumeTac, MpTac, DisjCasesTac, ChooseTac, Host, QuotedTactic, ExistsTac, UndischTac, TacticLeaf, Tactic, then_chain, TacticLinks, no_more_then, then_all, then_each, Tactics, no_tactics, tactic_and, TacticChoice, orelse_chain, OtherTactics, no_more_orelse, TacticUnit, repeated, tried, enclosed, leaf}
-use Rattle.hol_model.specs.Scripts.SessionTools.{conversion_of_unit}
+use Rattle.hol_session_model.specs.TacticGrammar as grammar
+use Rattle.hol_session_model.specs.TacticGrammar.{PlainTactic, AllTac, NoTac, AssumptionTac, ReflTac, ConjTac, EqTac, Disj1Tac, Disj2Tac, DischTac, GenTac, TautTac, NamedTactic, AcceptTac, AssumeTac, MpTac, DisjCasesTac, ChooseTac, Host, QuotedTactic, ExistsTac, UndischTac, TacticLeaf, Tactic, then_chain, TacticLinks, no_more_then, then_all, then_each, Tactics, no_tactics, tactic_and, TacticChoice, orelse_chain, OtherTactics, no_more_orelse, TacticUnit, repeated, tried, enclosed, leaf}
+use Rattle.hol_session_model.specs.SessionTools.{conversion_of_unit}
 use Rattle.hol_exprs.specs.Expressions.{conversion_of}
 use Rattle.hol_exprs.specs.declared.leaf.Leaf.{Leaf}
 use Rattle.hol_exprs.specs.declared.leaf.Leaf.TheVariants as leaves

@@ -5,7 +5,7 @@ use Rattle.hol_model.specs.declared.symbol.Symbol.{Symbol}
 use Rattle.hol_model.specs.declared.symbol.Symbol.TheVariants.{Backquote}
 use Rattle.hol_model.specs.Texts.Token.{Token, Mark}
 use Rattle.hol_model.specs.Texts.TermGrammar.{TermTree}
-use Rattle.hol_model.specs.Scripts.Commands.{quote_tokens, IsQuotable}
+use Rattle.hol_session_model.specs.Commands.{quote_tokens, IsQuotable}
 use Rattle.hol_grammar.specs.declared.token.Token.{Token as TokenHere}
 use Rattle.hol_grammar.specs.declared.steps.TermStep.{TermStep}
 use Rattle.hol_grammar.specs.declared.type_reader.ReadError.{ReadError}

@@ -5,7 +5,7 @@ use Rattle.std.proofs.Common.{Vec, String, Global}
 use Rattle.hol_model.specs.declared.symbol.Symbol.TheVariants.{OpenBracket}
 use Rattle.hol_model.specs.Texts.Token.{Token, Name, Mark}
 use Rattle.hol_model.specs.Texts.TermGrammar.{TermTree}
-use Rattle.hol_model.specs.Scripts.TacticGrammar.{Tactic, TacticLinks, Tactics, TacticChoice, OtherTactics, TacticUnit, then_all, then_each, name_tokens, tactic_tokens, first_tokens, choice_tokens, tactic_unit_tokens, tactic_depth, link_depth, list_depth, choice_depth, other_depth, tactic_unit_depth, HasQuotables, HasQuotableLinks, HasQuotableList, HasQuotableChoice, HasQuotableOthers, HasQuotableUnit, IsTactic}
+use Rattle.hol_session_model.specs.TacticGrammar.{Tactic, TacticLinks, Tactics, TacticChoice, OtherTactics, TacticUnit, then_all, then_each, name_tokens, tactic_tokens, first_tokens, choice_tokens, tactic_unit_tokens, tactic_depth, link_depth, list_depth, choice_depth, other_depth, tactic_unit_depth, HasQuotables, HasQuotableLinks, HasQuotableList, HasQuotableChoice, HasQuotableOthers, HasQuotableUnit, IsTactic}
 use Rattle.hol_exprs.specs.declared.tac.Tac.{Tac}
 use Rattle.hol_exprs.specs.declared.tac.Link.{Link}
 use Rattle.hol_grammar.specs.declared.token.Token.{Token as TokenHere}

@@ -2,8 +2,8 @@
 ghost use Rattle.std.specs.Prelude.{ℕ};
 ghost use Rattle.hol_model.specs.declared.symbol.Symbol.TheVariants.{OpenParenthesis};
 ghost use Rattle.hol_model.specs.Texts.Token.{Name, Mark};
-ghost use Rattle.hol_model.specs.Scripts.ConversionGrammar.{conversional_word};
-ghost use Rattle.hol_model.specs.Scripts.SessionTools.{in_order, either};
+ghost use Rattle.hol_session_model.specs.ConversionGrammar.{conversional_word};
+ghost use Rattle.hol_session_model.specs.SessionTools.{in_order, either};
 ghost use Rattle.hol_exprs.specs.Expressions.{conversion_of, conversions_of};
 ghost use Rattle.hol_grammar.specs.Views.{tokens_of};
 ghost use Rattle.hol_tactic_grammar.specs.Tokens.{AreTokens, IsAt};

@@ -2,7 +2,7 @@
 ghost use Rattle.std.specs.Prelude.{◌≡◌, ℕ};
 ghost use Rattle.std.specs.String.{string_bytes};
 ghost use Rattle.hol_model.specs.Texts.Token.{Name};
-ghost use Rattle.hol_model.specs.Scripts.TacticGrammar.{plain_word, named_word, quoted_word};
+ghost use Rattle.hol_session_model.specs.TacticGrammar.{plain_word, named_word, quoted_word};
 ghost use Rattle.hol_grammar.specs.Steps.{flat_steps_of};
 ghost use Rattle.hol_grammar.specs.Views.{tokens_of};
 ghost use Rattle.hol_tactic_grammar.specs.Tokens.{AreTokens, IsAt};

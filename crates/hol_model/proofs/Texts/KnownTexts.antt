@@ -11,7 +11,7 @@ use Rattle.hol_model.specs.Logic.Theory.{Theory, generic_type}
 use Rattle.hol_model.specs.Logic.KnownTerm.{knows_type, knows_types, has_instances}
 use Rattle.hol_model.specs.Texts.Reading.{constant_at}
 use Rattle.hol_model.specs.Texts.Texts.{IsNamedType, IsKnownTerm}
-use Rattle.hol_model.specs.Scripts.Headline.{scope_with}
+use Rattle.hol_model.specs.Texts.Scopes.{scope_with}
 use Rattle.hol_model.proofs.Tests.{first_of_both, second_of_both}
 
 named_type : (theory : Theory) (variables : List ℕ → Option HolType) (ty : HolType) → knows_type theory ty ≡ true → is_well_named_type ty ≡ true

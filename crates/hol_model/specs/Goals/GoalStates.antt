@@ -13,7 +13,7 @@ use Rattle.hol_model.specs.Goals.Goals.{Goal}
 use Rattle.hol_model.specs.Goals.Justifications.{Justification, sub}
 use Rattle.hol_model.specs.Goals.ValidSteps.{Step}
 use Rattle.hol_model.specs.Goals.Splicing.{replace_subs, spliced}
-use Rattle.hol_model.specs.Scripts.Answers.{Is, Then}
+use Rattle.hol_model.specs.Kernel.Answers.{Is, Then}
 use Rattle.hol_model.specs.Goals.Achieving.{achieves}
 use Rattle.hol_model.specs.Goals.Replays.{is_within_depth}
 

@@ -1,5 +1,6 @@
 -- The texts of types, terms and sequents, and what a text is read as.
-use Rattle.std.specs.Prelude.{◌≡◌, ◌⊎◌, ℕ, true, List, [], ◌∷◌, ◌++◌, Result, Ok, Err}
+use Rattle.std.specs.Prelude.{◌≡◌, ◌⊎◌, ℕ, Bool, true, not, nat_eq, List, [], ◌∷◌, ◌++◌, Result, Ok, Err}
+use Rattle.std.specs.List.{list_all}
 use Rattle.hol_model.specs.declared.fault.Fault.{Fault}
 use Rattle.hol_model.specs.declared.fault.Fault.TheVariants.{Memory, Syntax}
 use Rattle.hol_model.specs.Terms.Name.{is_identifier, is_type_variable_name, is_declared_type_name}
@@ -130,3 +131,7 @@ TypesAreUnambiguous = (text : List ℕ) (a b : TypeTree) → SpellsType text a �
 
 abbrev pub TermsAreUnambiguous : Type 0
 TermsAreUnambiguous = (text : List ℕ) (a b : TermTree) → SpellsTerm text a → SpellsTerm text b → a ≡ b
+
+-- no line feed stands in the text
+abbrev pub is_one_line : List ℕ → Bool
+is_one_line = list_all (λ byte. not (nat_eq byte 10))

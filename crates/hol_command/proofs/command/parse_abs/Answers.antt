@@ -1,5 +1,5 @@
 use Rattle.std.proofs.Common.{refl}
-use Rattle.hol_model.specs.Scripts.Commands.{by_abs}
+use Rattle.hol_session_model.specs.Commands.{by_abs}
 use Rattle.hol_command.proofs.command.parse_abs.Goals as goal
 
 pub returns-in-Ok : goal.returns-in-Ok

@@ -1,5 +1,5 @@
 use Rattle.std.proofs.Common.{refl}
-use Rattle.hol_model.specs.Scripts.Commands.{by_axiom}
+use Rattle.hol_session_model.specs.Commands.{by_axiom}
 use Rattle.hol_command.proofs.ReadingLemmas.{no-tokens}
 use Rattle.hol_command.proofs.command.parse_axiom.Goals as goal
 

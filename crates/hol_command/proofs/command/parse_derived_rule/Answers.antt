@@ -1,7 +1,7 @@
 use Rattle.std.proofs.Common.{ap}
 use Rattle.hol_model.specs.declared.rule.DerivedKind.{DerivedKind}
 use Rattle.hol_model.specs.declared.rule.RuleKind.TheVariants.{Derived}
-use Rattle.hol_model.specs.Scripts.Commands.{by_derived}
+use Rattle.hol_session_model.specs.Commands.{by_derived}
 use Rattle.hol_command.proofs.command.parse_derived_rule.Goals as goal
 
 pub returns-in-Ok : goal.returns-in-Ok

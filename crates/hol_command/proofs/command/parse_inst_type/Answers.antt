@@ -1,6 +1,6 @@
 use Rattle.std.proofs.Common.{refl, sym, ap, ◌∙◌, subst, map, List, [], ◌∷◌, Err}
 use Rattle.hol_model.specs.Texts.Token.{Name}
-use Rattle.hol_model.specs.Scripts.Commands.{by_inst_type, list_tokens}
+use Rattle.hol_session_model.specs.Commands.{by_inst_type, list_tokens}
 use Rattle.hol_grammar.specs.Views.{tokens_of}
 use Rattle.hol_command.specs.declared.pairs.QuotedPair.{QuotedPair}
 use Rattle.hol_command.specs.Pairs.{parts_of, ParsesTypePairs}

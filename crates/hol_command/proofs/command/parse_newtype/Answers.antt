@@ -1,5 +1,5 @@
 use Rattle.std.proofs.Common.{refl}
-use Rattle.hol_model.specs.Scripts.CommandGrammar.{newtype_command}
+use Rattle.hol_session_model.specs.CommandGrammar.{newtype_command}
 use Rattle.hol_command.proofs.ReadingLemmas.{no-tokens}
 use Rattle.hol_command.proofs.command.parse_newtype.Goals as goal
 

@@ -1,5 +1,5 @@
 use Rattle.std.proofs.Common.{refl}
-use Rattle.hol_model.specs.Scripts.Commands.{by_pair}
+use Rattle.hol_session_model.specs.Commands.{by_pair}
 use Rattle.hol_command.proofs.command.parse_pair_rule.Goals as goal
 
 pub returns-in-Some : goal.returns-in-Some

@@ -1,7 +1,7 @@
 use Rattle.std.proofs.Common.{refl, ap, ◌∙◌, List, ◌∷◌}
 use Rattle.hol_model.specs.declared.symbol.Symbol.TheVariants.{Equal}
 use Rattle.hol_model.specs.Texts.Token.{Token, Mark}
-use Rattle.hol_model.specs.Scripts.CommandGrammar.{thm_command}
+use Rattle.hol_session_model.specs.CommandGrammar.{thm_command}
 use Rattle.hol_grammar.specs.Views.{tokens_of}
 use Rattle.hol_command.proofs.ReadingLemmas.{behind-mark, thm-refused}
 use Rattle.hol_command.proofs.command.parse_thm.Goals as goal

@@ -1,5 +1,5 @@
 use Rattle.std.proofs.Common.{refl}
-use Rattle.hol_model.specs.Scripts.CommandGrammar.{var_command}
+use Rattle.hol_session_model.specs.CommandGrammar.{var_command}
 use Rattle.hol_grammar.specs.Views.{tokens_of}
 use Rattle.hol_command.proofs.ReadingLemmas.{var-refused}
 use Rattle.hol_command.proofs.command.parse_var.Goals as goal

@@ -1,6 +1,6 @@
 use Rattle.std.proofs.Common.{refl, ap, ◌∙◌, List, ◌∷◌}
 use Rattle.hol_model.specs.Texts.Token.{Token, Name}
-use Rattle.hol_model.specs.Scripts.Commands.{by_cases}
+use Rattle.hol_session_model.specs.Commands.{by_cases}
 use Rattle.hol_command.proofs.derived.parse_cases.Goals as goal
 
 pub returns-in-Some-only_two_names : goal.returns-in-Some-only_two_names

@@ -1,5 +1,5 @@
 use Rattle.std.proofs.Common.{refl}
-use Rattle.hol_model.specs.Scripts.Commands.{by_conversion}
+use Rattle.hol_session_model.specs.Commands.{by_conversion}
 use Rattle.hol_command.proofs.derived.parse_conversion.Goals as goal
 
 pub returns-in-Ok : goal.returns-in-Ok

@@ -1,5 +1,5 @@
 use Rattle.std.proofs.Common.{refl}
-use Rattle.hol_model.specs.Scripts.Commands.{by_premises}
+use Rattle.hol_session_model.specs.Commands.{by_premises}
 use Rattle.hol_command.proofs.derived.parse_premises.Goals as goal
 
 pub returns-in-Some : goal.returns-in-Some

@@ -1,5 +1,5 @@
 use Rattle.std.proofs.Common.{refl}
-use Rattle.hol_model.specs.Scripts.Commands.{by_term_and_premise}
+use Rattle.hol_session_model.specs.Commands.{by_term_and_premise}
 use Rattle.hol_command.proofs.derived.parse_term_and_premise.Goals as goal
 
 pub returns-in-Ok : goal.returns-in-Ok

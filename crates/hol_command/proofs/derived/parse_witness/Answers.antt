@@ -1,5 +1,5 @@
 use Rattle.std.proofs.Common.{refl, ap, ◌∙◌}
-use Rattle.hol_model.specs.Scripts.Commands.{by_witness, quote_tokens}
+use Rattle.hol_session_model.specs.Commands.{by_witness, quote_tokens}
 use Rattle.hol_grammar.specs.Views.{tokens_of}
 use Rattle.hol_command.proofs.ReadingLemmas.{behind-quote, witness-unquoted, no-witness-behind}
 use Rattle.hol_command.proofs.derived.parse_witness.Goals as goal

@@ -1,7 +1,7 @@
 use Rattle.std.proofs.Common.{◌≡◌, List, ◌∷◌, sym, ap, ◌∙◌, arith}
 use Rattle.hol_model.specs.declared.symbol.Symbol.TheVariants.{Comma}
 use Rattle.hol_model.specs.Texts.Token.{Token, Mark}
-use Rattle.hol_model.specs.Scripts.Commands.{quoted, pair_tokens}
+use Rattle.hol_session_model.specs.Commands.{quoted, pair_tokens}
 use Rattle.hol_grammar.specs.Views.{tokens_of}
 use Rattle.hol_command.proofs.PairLemmas.{pair-front, no-pair, no-second, no-quote-behind}
 use Rattle.hol_command.proofs.pairs.take_pair.Goals as goal

@@ -1,5 +1,5 @@
 use Rattle.std.proofs.Common.{ap, ◌∙◌}
-use Rattle.hol_model.specs.Scripts.Commands.{quote_tokens}
+use Rattle.hol_session_model.specs.Commands.{quote_tokens}
 use Rattle.hol_grammar.specs.Views.{tokens_of}
 use Rattle.hol_command.proofs.ReadingLemmas.{behind-quote, no-name-behind}
 use Rattle.hol_command.proofs.quotes.parse_quote_and_name.Goals as goal

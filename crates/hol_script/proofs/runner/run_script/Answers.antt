@@ -1,6 +1,6 @@
 use Rattle.std.proofs.Common.{◌≡◌, ℕ, List, ◌++◌, ◌+◌, ◌≤◌, ◌∙◌, ap, sym, subst, arith, lit<, length}
-use Rattle.hol_model.specs.Scripts.ScriptSessions.{start}
-use Rattle.hol_model.specs.Scripts.Sessions.{State as Library}
+use Rattle.hol_session_model.specs.ScriptSessions.{start}
+use Rattle.hol_session_model.specs.Sessions.{State as Library}
 use Rattle.hol_script.specs.declared.progress.Summary.{Summary}
 use Rattle.hol_session.specs.declared.session.Session.{Session}
 use Rattle.hol_script.specs.Runs.{counts_of, counting_answer, names_of, names_in_answer, state_in, Finishes}

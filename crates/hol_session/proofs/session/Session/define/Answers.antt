@@ -3,7 +3,7 @@ use Rattle.std.specs.Prelude.{cond}
 use Rattle.std.specs.Str.{bytes_eq}
 use Rattle.hol_model.specs.Terms.NamedTerm.{constant, equation}
 use Rattle.hol_model.specs.Logic.Legality.{own_type}
-use Rattle.hol_model.specs.Scripts.Sessions.{definition_name}
+use Rattle.hol_session_model.specs.Sessions.{definition_name}
 use Rattle.hol_syntax.specs.Scope.{scope_of}
 use Rattle.hol_store.specs.Store.{stored_of}
 use Rattle.hol_session.specs.Answers.{IsLineOf}

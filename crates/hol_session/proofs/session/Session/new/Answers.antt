@@ -1,6 +1,6 @@
 use Rattle.std.proofs.Common.{refl, ap, ◌∙◌}
 use Rattle.hol_model.specs.Derived.Prelude.{stored_theorems}
-use Rattle.hol_model.specs.Scripts.Sessions.{State, with_theorems}
+use Rattle.hol_session_model.specs.Sessions.{State, with_theorems}
 use Rattle.hol_session.proofs.session.Session.new.Goals as goal
 
 pub store_all-requires-clause-table : goal.store_all-requires-clause-table

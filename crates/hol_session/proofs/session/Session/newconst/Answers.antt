@@ -2,7 +2,7 @@ use Rattle.std.proofs.Common.{refl, sym, subst, ap, ◌∙◌, Some, Ok, Err, Op
 use Rattle.std.specs.Prelude.{is_some}
 use Rattle.hol_model.specs.declared.fault.Fault.TheVariants.{Memory}
 use Rattle.hol_model.specs.Terms.HolType.{HolType}
-use Rattle.hol_model.specs.Scripts.Sessions.{State, over_theory}
+use Rattle.hol_session_model.specs.Sessions.{State, over_theory}
 use Rattle.hol_session.proofs.AllowedLemmas.{newconst_is_refused, newconst_declares}
 use Rattle.hol_session.specs.declared.reply.Printed.TheVariants.{Nothing}
 use Rattle.hol_session.specs.Answers.{Turns}

@@ -1,6 +1,6 @@
 use Rattle.std.proofs.Common.{refl, sym, subst, ap, ◌∙◌, Some, Ok, Err}
 use Rattle.hol_model.specs.declared.fault.Fault.TheVariants.{Memory}
-use Rattle.hol_model.specs.Scripts.Sessions.{State, over_theory}
+use Rattle.hol_session_model.specs.Sessions.{State, over_theory}
 use Rattle.hol_session.proofs.AllowedLemmas.{newtype_is_refused, newtype_declares}
 use Rattle.hol_session.specs.declared.reply.Printed.TheVariants.{Nothing}
 use Rattle.hol_session.specs.Answers.{Turns}

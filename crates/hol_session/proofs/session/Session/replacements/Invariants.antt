@@ -1,6 +1,6 @@
 use Rattle.std.proofs.Common.{List, drop}
 use Rattle.hol_model.specs.Texts.TermGrammar.{TermTree}
-use Rattle.hol_model.specs.Scripts.Sessions.{scope_in, replacement}
+use Rattle.hol_session_model.specs.Sessions.{scope_in, replacement}
 use Rattle.hol_session.specs.SessionState.{state_of}
 use Rattle.hol_command.specs.Views.{Match, IsTermPair}
 use Rattle.hol_session.proofs.ReplacementLemmas.{IsReadTo}

@@ -1,5 +1,5 @@
 use Rattle.std.proofs.Common.{subst, sym}
-use Rattle.hol_model.specs.Scripts.CommandGrammar.{by_tautology}
+use Rattle.hol_session_model.specs.CommandGrammar.{by_tautology}
 use Rattle.hol_syntax.specs.Scope.{scope_of}
 use Rattle.hol_session.specs.declared.reply.Refused.{Refused}
 use Rattle.hol_session.specs.SessionState.{state_of}

@@ -1,5 +1,5 @@
 use Rattle.std.proofs.Common.{◌≡◌, ◌+◌, ◌∷◌, List, drop, sym, subst, ◌∙◌, ap}
-use Rattle.hol_model.specs.Scripts.Sessions.{scope_in, type_replacement}
+use Rattle.hol_session_model.specs.Sessions.{scope_in, type_replacement}
 use Rattle.hol_session.specs.SessionState.{state_of}
 use Rattle.hol_command.specs.declared.pairs.TypePair.{TypePair}
 use Rattle.hol_command.specs.Views.{IsTypePair}

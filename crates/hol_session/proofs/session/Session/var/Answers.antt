@@ -1,5 +1,5 @@
 use Rattle.std.proofs.Common.{refl, sym, subst, Some, Ok}
-use Rattle.hol_model.specs.Scripts.Sessions.{State, with_variable}
+use Rattle.hol_session_model.specs.Sessions.{State, with_variable}
 use Rattle.hol_session.proofs.AllowedLemmas.{var_is_refused, var_declares}
 use Rattle.hol_session.specs.declared.reply.Printed.TheVariants.{Nothing}
 use Rattle.hol_session.specs.Answers.{Turns}

@@ -7,8 +7,8 @@ use Rattle.hol_model.specs.declared.symbol.Symbol.TheVariants.{OpenParenthesis, 
 use Rattle.hol_model.specs.Texts.Token.{Token, Name, Mark}
 use Rattle.hol_model.specs.Texts.TermGrammar.{TermTree}
 use Rattle.hol_model.specs.Texts.Reading.{◌>>=◌}
-use Rattle.hol_model.specs.Scripts.Commands.{quote_tokens, IsQuotable}
-use Rattle.hol_model.specs.Scripts.ConversionGrammar.{ConversionUnit, unit_tokens, unit_depth}
+use Rattle.hol_session_model.specs.Commands.{quote_tokens, IsQuotable}
+use Rattle.hol_session_model.specs.ConversionGrammar.{ConversionUnit, unit_tokens, unit_depth}
 
 -- The refiners without arguments.
 pub data PlainTactic : Type 0 where

@@ -1,14 +1,13 @@
--- What a script's output says to a reader who knows nothing of sessions: each of its lines is a theorem's, which follows
--- and holds, or a refusal's.
-use Rattle.std.specs.Prelude.{◌≡◌, ◌⊎◌, ℕ, Bool, true, not, List, [], ◌∷◌, ◌++◌, map, nat_eq, Option, None, Ok}
-use Rattle.std.specs.List.{list_all}
+-- What a script's output says to a reader who knows nothing of sessions: each of its lines is a theorem's, which follows and
+-- holds, a refusal's, an open goal's, or tells how many goals are open; that none is open is told of a goal of the script that
+-- follows and holds.
+use Rattle.std.specs.Prelude.{◌≡◌, ℕ, true, List, [], ◌∷◌, ◌++◌, map, Option, Ok, codes}
 use Rattle.std.specs.Io.KnownBytes.{Appends}
 use Rattle.hol_model.specs.Terms.Name.{is_identifier}
 use Rattle.hol_model.specs.Terms.HolType.{HolType}
 use Rattle.hol_model.specs.Terms.NamedTerm.{NamedTerm}
 use Rattle.hol_model.specs.Terms.Nameless.{Nameless, image}
-use Rattle.hol_model.specs.Logic.Theory.{Theory, Entry, definition, declaration_of_type, declaration_of_constant, generic_type, IsLegal}
-use Rattle.hol_model.specs.Logic.KnownTerm.{is_declared}
+use Rattle.hol_model.specs.Logic.Theory.{Theory, Entry, definition, declaration_of_type, declaration_of_constant, IsLegal, IsEarlier}
 use Rattle.hol_model.specs.Logic.Legality.{own_type}
 use Rattle.hol_model.specs.Logic.Derivable.{Derivable, IsMember}
 use Rattle.hol_model.specs.Logic.Logic.{logical_definitions}
@@ -16,26 +15,16 @@ use Rattle.hol_model.specs.Models.Holds.{Holds}
 use Rattle.hol_model.specs.Kernel.Theorem.{Theorem, AreOrdered}
 use Rattle.hol_model.specs.Texts.TypeGrammar.{TypeTree}
 use Rattle.hol_model.specs.Texts.TermGrammar.{TermTree}
-use Rattle.hol_model.specs.Texts.Reading.{Scope, type_meaning, meaning}
-use Rattle.hol_model.specs.Texts.Texts.{text_of_sequent}
+use Rattle.hol_model.specs.Goals.Goals.{Goal}
+use Rattle.hol_model.specs.Texts.Reading.{type_meaning, meaning}
+use Rattle.hol_model.specs.Texts.Texts.{text_of_sequent, text_of_goal, is_one_line}
+use Rattle.hol_model.specs.Texts.SequentTexts.{IsReadableFormula, AreReadableFormulas}
 use Rattle.hol_model.specs.Texts.SequentGrammar.{ReadsSequent}
 use Rattle.hol_model.specs.Texts.KnownText.{Tells}
-use Rattle.hol_model.specs.Scripts.Script.{Cuts}
-use Rattle.hol_model.specs.Scripts.Commands.{def_command, newtype_command, newconst_command, SpellsCommand}
-use Rattle.hol_model.specs.Scripts.Lines.{theorem_line}
-use Rattle.hol_model.specs.Scripts.Replies.{Refusal, row_text, text_of_refusal}
-
--- what the names of a text stand for over a theory, with these declared variables
-abbrev pub scope_with : Theory → (List ℕ → Option HolType) → Scope
-scope_with theory variables = record { generic_type = generic_type theory; variable_type = variables; declares_type = is_declared theory }
-
--- the same where no variable is declared
-abbrev pub scope_over : Theory → Scope
-scope_over theory = scope_with theory (λ name. None)
-
--- no line feed stands in the text
-abbrev pub is_one_line : List ℕ → Bool
-is_one_line = list_all (λ byte. not (nat_eq byte 10))
+use Rattle.hol_model.specs.Texts.Scopes.{scope_with, scope_over}
+use Rattle.hol_session_model.specs.Script.{Cuts}
+use Rattle.hol_session_model.specs.CommandGrammar.{def_command, newtype_command, newconst_command, goal_command, SpellsCommand}
+use Rattle.hol_session_model.specs.Replies.{Refusal, row_text, text_of_theorem, count_text, text_of_refusal}
 
 -- The line is a name and the text of a sequent, which reads back as that sequent; the sequent follows by the rules from the
 -- entries of the theory, which is legal, and holds in every finite standard model. Its hypotheses stand in order, no two of
@@ -45,7 +34,7 @@ pub record IsTheoremLine (theory : Theory) (line : List ℕ) : Type 0 where
   pub theorem : Theorem
   pub named : is_identifier name ≡ true
   pub legal : IsLegal theory
-  pub spelled : line ≡ theorem_line (scope_over theory) name theorem
+  pub spelled : line ≡ text_of_theorem (scope_over theory) (record { name = name; theorem = theorem })
   pub one_line : is_one_line (text_of_sequent (scope_over theory) theorem.hypotheses theorem.conclusion) ≡ true
   pub reads_back : ReadsSequent (scope_over theory) (text_of_sequent (scope_over theory) theorem.hypotheses theorem.conclusion) (theorem.hypotheses, theorem.conclusion)
   pub ordered : AreOrdered theorem.hypotheses
@@ -59,6 +48,54 @@ pub record IsRefusalLine (theory : Theory) (line : List ℕ) : Type 0 where
   pub refusal : Refusal
   pub spelled : line ≡ text_of_refusal number (scope_over theory) refusal
   pub one_line : is_one_line (row_text (scope_over theory) refusal.row) ≡ true
+
+-- The line says how many goals are open, of which there is one at least.
+pub record IsCountLine (line : List ℕ) : Type 0 where
+  pub first : Goal
+  pub others : List Goal
+  pub spelled : line ≡ count_text (first ∷ others)
+
+-- The line is the text of a goal, each term of which reads back as itself.
+pub record IsGoalLine (theory : Theory) (line : List ℕ) : Type 0 where
+  pub goal : Goal
+  pub spelled : line ≡ text_of_goal (scope_over theory) goal.assumptions goal.target ++ codes "\n"
+  pub one_line : is_one_line (text_of_goal (scope_over theory) goal.assumptions goal.target) ≡ true
+  pub readable_assumptions : AreReadableFormulas (scope_over theory) goal.assumptions
+  pub readable_target : IsReadableFormula (scope_over theory) goal.target
+
+-- The text is a command that sets this goal: what the command's term is read as over the theory, where some variables are
+-- declared.
+pub record SetsGoal (theory : Theory) (text : List ℕ) (goal : NamedTerm) : Type 0 where
+  pub tree : TermTree
+  pub variables : List ℕ → Option HolType
+  pub spelled : SpellsCommand text (goal_command tree)
+  pub meant : meaning (scope_with theory variables) [] tree ≡ Ok goal
+
+-- One of the texts sets the goal over the theory, or over what it has grown from.
+pub record IsGoalOf (texts : List (List ℕ)) (theory : Theory) (goal : NamedTerm) : Type 0 where
+  pub text : List ℕ
+  pub there : IsMember text texts
+  pub earlier : Theory
+  pub is_earlier : IsEarlier earlier theory
+  pub sets : SetsGoal earlier text goal
+
+-- The line says that no goal is open. A goal that one of the texts sets follows without hypotheses by the rules from the
+-- entries of the theory, which is legal, and holds in every finite standard model.
+pub record IsProvedLine (texts : List (List ℕ)) (theory : Theory) (line : List ℕ) : Type 0 where
+  pub spelled : line ≡ count_text []
+  pub goal : NamedTerm
+  pub is_goal : IsGoalOf texts theory goal
+  pub legal : IsLegal theory
+  pub derivable : Derivable theory [] (image goal)
+  pub holds : Holds theory [] (image goal)
+
+-- What a line of the output tells.
+pub data IsTold (texts : List (List ℕ)) (theory : Theory) (line : List ℕ) : Type 0 where
+  of_theorem : IsTheoremLine theory line → IsTold texts theory line
+  of_refusal : IsRefusalLine theory line → IsTold texts theory line
+  of_count : IsCountLine line → IsTold texts theory line
+  of_goal : IsGoalLine theory line → IsTold texts theory line
+  of_proof : IsProvedLine texts theory line → IsTold texts theory line
 
 -- The text is a command that defines the constant by this body: what the command's term is read as over the theory, where
 -- some variables are declared.
@@ -99,7 +136,7 @@ pub record IsGrownBy (texts : List (List ℕ)) (earlier later : Theory) : Type 0
 -- of the texts alone.
 abbrev pub AreTold : List (List ℕ) → Theory → List (List ℕ) → Type 0
 AreTold texts theory [] = Unit {0}
-AreTold texts theory (line ∷ lines) = (now : Theory) × IsGrownBy texts theory now × (IsTheoremLine now line ⊎ IsRefusalLine now line) × AreTold texts now lines
+AreTold texts theory (line ∷ lines) = (now : Theory) × IsGrownBy texts theory now × IsTold texts now line × AreTold texts now lines
 
 -- the lines, one after another
 abbrev pub text_of_lines : List (List ℕ) → List ℕ

@@ -16,17 +16,17 @@ use Rattle.hol_model.specs.Texts.TermGrammar.{TermTree}
 use Rattle.hol_model.specs.Texts.Lexing.{numeral_value}
 use Rattle.hol_model.specs.Texts.Reading.{Scope, type_meaning, meaning, ◌>>=◌}
 use Rattle.hol_model.specs.Texts.SequentTexts.{IsReadableFormula, AreReadableFormulas}
-use Rattle.hol_model.specs.Scripts.Script.{Request}
-use Rattle.hol_model.specs.Scripts.Sessions.{with_theorem, with_variable, over_theory, is_theorem_name, definition_name, def_outcome, with_definition, newconst_outcome, IsRuleAnswer}
-use Rattle.hol_model.specs.Scripts.Sessions.{State as Library, start as first_library, scope_in as scope_of_library}
+use Rattle.hol_session_model.specs.Script.{Request}
+use Rattle.hol_session_model.specs.Sessions.{with_theorem, with_variable, over_theory, is_theorem_name, definition_name, def_outcome, with_definition, newconst_outcome, IsRuleAnswer}
+use Rattle.hol_session_model.specs.Sessions.{State as Library, start as first_library, scope_in as scope_of_library}
 use Rattle.hol_model.specs.Goals.Justifications.{Justification}
-use Rattle.hol_model.specs.Scripts.ConversionGrammar.{ConversionUnit}
-use Rattle.hol_model.specs.Scripts.TacticGrammar.{Tactic, read_tactic}
-use Rattle.hol_model.specs.Scripts.CommandGrammar.{TheoremTree, by_rule, by_tautology, by_conversion, CommandTree, var_command, newtype_command, newconst_command, def_command, thm_command, show_command, goal_command, e_command, b_command, p_command, r_command, save_command, SpellsCommand}
-use Rattle.hol_model.specs.Scripts.Answers.{Is, Unless, Then}
+use Rattle.hol_session_model.specs.ConversionGrammar.{ConversionUnit}
+use Rattle.hol_session_model.specs.TacticGrammar.{Tactic, read_tactic}
+use Rattle.hol_session_model.specs.CommandGrammar.{TheoremTree, by_rule, by_tautology, by_conversion, CommandTree, var_command, newtype_command, newconst_command, def_command, thm_command, show_command, goal_command, e_command, b_command, p_command, r_command, save_command, SpellsCommand}
+use Rattle.hol_model.specs.Kernel.Answers.{Is, Unless, Then}
 use Rattle.hol_model.specs.Goals.Replays.{Store, sequent_of_theorem}
 use Rattle.hol_model.specs.Goals.GoalStates.{proved, Proof, open_goals, set_outcome, back_outcome, rotate_outcome, top_outcome, Refinement, Expansion, MayExpand}
-use Rattle.hol_model.specs.Scripts.Replies.{Message, nothing, theorem_line, goal_lines, Refusal, refusal_of, Reply, NamedTheorem, theorem_in, goals_in, refusal_in, reply_text}
+use Rattle.hol_session_model.specs.Replies.{Message, nothing, theorem_line, goal_lines, Refusal, refusal_of, Reply, NamedTheorem, theorem_in, goals_in, refusal_in, reply_text}
 
 -- ---- states
 
@@ -210,36 +210,14 @@ May tools state p_command = Plainly (Is (p_outcome state))
 May tools state (r_command digits) = Plainly (Is (r_outcome state digits))
 May tools state (save_command name) = NamesTheorem state name (Plainly (Is (save_outcome state name)))
 
--- The commands that are carried out so far: those of goals, and theorems by conversions, are answered as texts that are no
--- command.
-abbrev pub is_served_theorem : TheoremTree → Bool
-is_served_theorem (by_rule rule) = true
-is_served_theorem (by_tautology tree) = true
-is_served_theorem (by_conversion conversion tree) = false
-
-abbrev pub is_served : CommandTree → Bool
-is_served (var_command name tree) = true
-is_served (newtype_command name) = true
-is_served (newconst_command name tree) = true
-is_served (def_command name tree) = true
-is_served (thm_command name tree) = is_served_theorem tree
-is_served (show_command name) = true
-is_served (goal_command tree) = false
-is_served (e_command tree) = false
-is_served b_command = false
-is_served p_command = false
-is_served (r_command digits) = false
-is_served (save_command name) = false
-
 -- what may come of a text, or of what stands behind the last `;;`
 pub data Allows (tools : Tools) (state : State) : Option (List ℕ) → Outcome → Type 0 where
   finds_no_memory : {text : List ℕ} → Allows tools state (Some text) (Err (refusal_of Memory))
   is_unfinished : Allows tools state None (Err (refusal_of Syntax))
-  is_no_command : {text : List ℕ} → ((tree : CommandTree) → is_served tree ≡ true → ¬ (SpellsCommand text tree))
-      → Allows tools state (Some text) (Err (refusal_of Syntax))
-  is_refused : {text : List ℕ} {refusal : Refusal} (tree : CommandTree) → is_served tree ≡ true → SpellsCommand text tree → May tools state tree (Err refusal)
+  is_no_command : {text : List ℕ} → ((tree : CommandTree) → ¬ (SpellsCommand text tree)) → Allows tools state (Some text) (Err (refusal_of Syntax))
+  is_refused : {text : List ℕ} {refusal : Refusal} (tree : CommandTree) → SpellsCommand text tree → May tools state tree (Err refusal)
       → Allows tools state (Some text) (Err refusal)
-  is_done : {text : List ℕ} {accepted : Accepted} (tree : CommandTree) → is_served tree ≡ true → SpellsCommand text tree → May tools state tree (Ok accepted)
+  is_done : {text : List ℕ} {accepted : Accepted} (tree : CommandTree) → SpellsCommand text tree → May tools state tree (Ok accepted)
       → Allows tools state (Some text) (Ok accepted)
 
 -- ---- what is printed

@@ -5,9 +5,9 @@ use Rattle.hol_model.specs.Texts.Token.{Token, Name, Number, Mark}
 use Rattle.hol_model.specs.Texts.Lexing.{Lexes}
 use Rattle.hol_model.specs.Texts.TypeGrammar.{TypeTree, type_tokens}
 use Rattle.hol_model.specs.Texts.TermGrammar.{TermTree, IsWithin}
-use Rattle.hol_model.specs.Scripts.Commands.{RuleTree, rule_tokens, IsRuleTree, quote_tokens, IsQuotable}
-use Rattle.hol_model.specs.Scripts.ConversionGrammar.{ConversionUnit, unit_tokens, IsConversionUnit}
-use Rattle.hol_model.specs.Scripts.TacticGrammar.{Tactic, tactic_tokens, IsTactic}
+use Rattle.hol_session_model.specs.Commands.{RuleTree, rule_tokens, IsRuleTree, quote_tokens, IsQuotable}
+use Rattle.hol_session_model.specs.ConversionGrammar.{ConversionUnit, unit_tokens, IsConversionUnit}
+use Rattle.hol_session_model.specs.TacticGrammar.{Tactic, tactic_tokens, IsTactic}
 
 -- What `thm` may ask for: what a rule gives, a tautology, or what a conversion makes of a term.
 pub data TheoremTree : Type 0 where

@@ -1,10 +1,10 @@
 -- How far a run has come.
 use Rattle.std.specs.Prelude.{◌≡◌, ℕ, List, ◌++◌, Err}
 use Rattle.hol_model.specs.declared.fault.Fault.TheVariants.{Syntax}
-use Rattle.hol_model.specs.Scripts.Script.{Cuts, requested}
-use Rattle.hol_model.specs.Scripts.Replies.{refusal_of}
-use Rattle.hol_model.specs.Scripts.ScriptSessions.{State, start, Tools, Turn, Session, last_state}
-use Rattle.hol_model.specs.Scripts.Runs.{IsRun}
+use Rattle.hol_session_model.specs.Script.{Cuts, requested}
+use Rattle.hol_session_model.specs.Replies.{refusal_of}
+use Rattle.hol_session_model.specs.ScriptSessions.{State, start, Tools, Turn, Session, last_state}
+use Rattle.hol_session_model.specs.Runs.{IsRun}
 
 -- After these turns what is left of a script decides the run: whatever the turns of its session are, all are those of a run.
 pub record SoFar (tools : Tools) (script : List ℕ) (state : State) (line : ℕ) (left : List ℕ) (turns : List Turn) : Type 0 where

@@ -44,14 +44,6 @@ pub data RuleTree : Type 0 where
   by_axiom : Axiom → RuleTree
   by_derived : DerivedTree → RuleTree
 
-pub data CommandTree : Type 0 where
-  thm_command : List ℕ → RuleTree → CommandTree
-  show_command : List ℕ → CommandTree
-  var_command : List ℕ → TypeTree → CommandTree
-  def_command : List ℕ → TermTree → CommandTree
-  newtype_command : List ℕ → CommandTree
-  newconst_command : List ℕ → TypeTree → CommandTree
-
 -- the kind of a derived rule
 abbrev pub derived_kind_of : DerivedTree → DerivedKind
 derived_kind_of (by_conversion tree) = BetaConv
@@ -166,14 +158,6 @@ argument_tokens (by_derived tree) = derived_tokens tree
 abbrev pub rule_tokens : RuleTree → List Token
 rule_tokens rule = Name (rule_word (kind_of rule)) ∷ argument_tokens rule
 
-abbrev pub command_tokens : CommandTree → List Token
-command_tokens (thm_command name rule) = Name (codes "thm") ∷ Name name ∷ Mark Equal ∷ rule_tokens rule
-command_tokens (show_command name) = Name (codes "show") ∷ Name name ∷ []
-command_tokens (var_command name tree) = Name (codes "var") ∷ Name name ∷ Mark Colon ∷ type_tokens tree []
-command_tokens (def_command name tree) = Name (codes "def") ∷ Name name ∷ Mark Equal ∷ quote_tokens tree []
-command_tokens (newtype_command name) = Name (codes "newtype") ∷ Name name ∷ []
-command_tokens (newconst_command name tree) = Name (codes "newconst") ∷ Name name ∷ Mark Colon ∷ type_tokens tree []
-
 -- a term of the grammar that is not nested too deep
 abbrev pub IsQuotable : TermTree → Type 0
 IsQuotable tree = IsTermTree tree × (term_depth tree ≤ TERM_NESTING_LIMIT)
@@ -205,22 +189,3 @@ IsRuleTree (by_inst pairs a) = ArePairs pairs
 IsRuleTree (by_inst_type pairs a) = AreTypePairs pairs
 IsRuleTree (by_axiom rule) = Unit {0}
 IsRuleTree (by_derived tree) = IsDerivedTree tree
-
-abbrev pub IsCommandTree : CommandTree → Type 0
-IsCommandTree (thm_command name rule) = IsRuleTree rule
-IsCommandTree (show_command name) = Unit {0}
-IsCommandTree (var_command name tree) = IsWithin tree
-IsCommandTree (def_command name tree) = IsQuotable tree
-IsCommandTree (newtype_command name) = Unit {0}
-IsCommandTree (newconst_command name tree) = IsWithin tree
-
--- The tokens are those of this command.
-pub record IsReadCommand (tokens : List Token) (tree : CommandTree) : Type 0 where
-  pub grammatical : IsCommandTree tree
-  pub spelled : tokens ≡ command_tokens tree
-
--- The text is spelled as this command.
-pub record SpellsCommand (text : List ℕ) (tree : CommandTree) : Type 0 where
-  pub tokens : List Token
-  pub lexed : Lexes text tokens
-  pub read : IsReadCommand tokens tree

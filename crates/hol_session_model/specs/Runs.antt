@@ -5,10 +5,10 @@ use Rattle.hol_model.specs.declared.fault.Fault.{Fault}
 use Rattle.hol_model.specs.declared.fault.Fault.TheVariants.{Memory, ReadFault, WriteFault, TooLong}
 use Rattle.hol_model.specs.declared.limits.TheConstants.{TEXT_BYTES_LIMIT}
 use Rattle.hol_model.specs.Logic.Theory.{Theory}
-use Rattle.hol_model.specs.Scripts.Script.{Cuts, requested}
+use Rattle.hol_session_model.specs.Script.{Cuts, requested}
 use Rattle.hol_model.specs.Logs.LogState.{LogClaim}
-use Rattle.hol_model.specs.Scripts.Replies.{Reply, NamedTheorem, theorem_in}
-use Rattle.hol_model.specs.Scripts.ScriptSessions.{start, Tools, Turn, Session, last_state, text_of_turns, theorems_in_turns}
+use Rattle.hol_session_model.specs.Replies.{Reply, NamedTheorem, theorem_in}
+use Rattle.hol_session_model.specs.ScriptSessions.{start, Tools, Turn, Session, last_state, text_of_turns, theorems_in_turns}
 use Rattle.hol_model.specs.Goals.Replays.{sequent_of_theorem}
 
 -- ---- what is seen of the turns of a run

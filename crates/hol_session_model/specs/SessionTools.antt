@@ -14,10 +14,10 @@ use Rattle.hol_model.specs.Refining.Refiners as refiners
 use Rattle.hol_model.specs.Refining.Refiners.{AnswersTautology}
 use Rattle.hol_model.specs.Refining.Combinators as combinators
 use Rattle.hol_model.specs.Refining.Combinators.{Stage, at, Runs}
-use Rattle.hol_model.specs.Scripts.ConversionGrammar as conv
-use Rattle.hol_model.specs.Scripts.TacticGrammar as tac
+use Rattle.hol_session_model.specs.ConversionGrammar as conv
+use Rattle.hol_session_model.specs.TacticGrammar as tac
 use Rattle.hol_model.specs.Goals.GoalStates.{Proof, Refinement, Expansion, MayExpand}
-use Rattle.hol_model.specs.Scripts.ScriptSessions.{Tools}
+use Rattle.hol_session_model.specs.ScriptSessions.{Tools}
 
 -- ---- conversions: parentheses leave no trace, and a chain of one part is that part
 

@@ -3,9 +3,9 @@ use Rattle.std.specs.Prelude.{◌≡◌, ℕ, List, Option}
 use Rattle.std.specs.Option.{option_map}
 use Rattle.hol_model.specs.declared.fault.Fault.{Fault}
 use Rattle.hol_model.specs.Texts.Reading.{Scope}
-use Rattle.hol_model.specs.Scripts.Script.{Request}
-use Rattle.hol_model.specs.Scripts.Replies.{Message, Refusal, Reply, theorem_in_message, message_text, row_text}
-use Rattle.hol_model.specs.Scripts.ScriptSessions.{State, scope_in, Tools, Outcome, reply_of, state_after, Allows, IsTrueReply, Turn, Takes}
+use Rattle.hol_session_model.specs.Script.{Request}
+use Rattle.hol_session_model.specs.Replies.{Message, Refusal, Reply, theorem_in_message, message_text, row_text}
+use Rattle.hol_session_model.specs.ScriptSessions.{State, scope_in, Tools, Outcome, reply_of, state_after, Allows, IsTrueReply, Turn, Takes}
 
 -- what is printed of an accepted command, and the name of the theorem in it, if any
 pub record SaysMessage (scope : Scope) (text : List ℕ) (name : Option (List ℕ)) (message : Message) : Type 0 where
