@@ -1,7 +1,7 @@
 -- The grammar of commands.
 use Rattle.std.specs.Prelude.{◌≡◌, ℕ, ◌≤◌, true, List, [], ◌∷◌, ◌++◌, map, codes}
 use Rattle.hol_model.specs.declared.limits.TheConstants.{TERM_NESTING_LIMIT}
-use Rattle.hol_model.specs.declared.symbol.Symbol.TheVariants.{Backquote, Colon, Comma, Equal, Semicolon, OpenBracket, CloseBracket}
+use Rattle.hol_model.specs.declared.symbol.Symbol.TheVariants.{Backquote, Comma, Semicolon, OpenBracket, CloseBracket}
 use Rattle.hol_model.specs.declared.rule.TermRule.{TermRule}
 use Rattle.hol_model.specs.declared.rule.TermRule.TheVariants.{Refl, Beta, Assume}
 use Rattle.hol_model.specs.declared.rule.PairRule.{PairRule}
@@ -20,7 +20,6 @@ use Rattle.hol_model.specs.declared.rule.RuleKind.{RuleKind}
 use Rattle.hol_model.specs.declared.rule.RuleKind.TheVariants.{Term, Pair, Abs, Inst, InstType, Axiom as OfAxiom, Derived}
 use Rattle.hol_model.specs.Terms.Name.{is_type_variable_name}
 use Rattle.hol_model.specs.Texts.Token.{Token, Name, Mark}
-use Rattle.hol_model.specs.Texts.Lexing.{Lexes}
 use Rattle.hol_model.specs.Texts.TypeGrammar.{TypeTree, type_tokens}
 use Rattle.hol_model.specs.Texts.TermGrammar.{TermTree, IsWithin, IsTermTree, term_depth, pieces, all_tokens}
 

@@ -1,10 +1,9 @@
 -- Which answers the commands of a script may have, and what a run writes.
-use Rattle.std.specs.Prelude.{◌≡◌, ℕ, ◌+◌, Bool, true, false, not, nat_eq, List, [], ◌∷◌, ◌++◌, map, Option, None, Some, Result, Ok, Err, codes, if◌then◌else◌}
+use Rattle.std.specs.Prelude.{◌≡◌, ℕ, ◌+◌, Bool, not, nat_eq, List, [], ◌∷◌, ◌++◌, Option, None, Some, Result, Ok, Err, codes, if◌then◌else◌}
 use Rattle.std.specs.Str.{bytes_eq}
 use Rattle.std.specs.List.{ends_with}
-use Rattle.std.specs.Io.KnownBytes.{Appends}
 use Rattle.hol_model.specs.declared.fault.Fault.{Fault}
-use Rattle.hol_model.specs.declared.fault.Fault.TheVariants.{Memory, BadName, UnknownName, Syntax, NameTaken}
+use Rattle.hol_model.specs.declared.fault.Fault.TheVariants.{UnknownName}
 use Rattle.hol_model.specs.declared.rule.PremiseRule.{PremiseRule}
 use Rattle.hol_model.specs.declared.rule.PremiseRule.TheVariants.{Sym, EqtIntro, EqtElim, Conjunct1, Conjunct2, Undisch, NotIntro, NotElim}
 use Rattle.hol_model.specs.declared.rule.PremisesRule.{PremisesRule}
@@ -14,13 +13,11 @@ use Rattle.hol_model.specs.declared.rule.TermPremiseRule.TheVariants.{AddAssum, 
 use Rattle.hol_model.specs.Terms.HolType.{HolType, type_variable}
 use Rattle.hol_model.specs.Terms.NamedTerm.{NamedTerm}
 use Rattle.hol_model.specs.Terms.Nameless.{Nameless, image}
-use Rattle.hol_model.specs.Logic.Theory.{Theory, generic_type, IsLegal}
+use Rattle.hol_model.specs.Logic.Theory.{Theory, generic_type}
 use Rattle.hol_model.specs.Logic.KnownTerm.{is_declared}
-use Rattle.hol_model.specs.Logic.Derivable.{Derivable}
-use Rattle.hol_model.specs.Models.Holds.{Holds}
 use Rattle.hol_model.specs.Kernel.Outcome.{given}
-use Rattle.hol_model.specs.Kernel.Theorem.{Theorem, AreOrdered}
-use Rattle.hol_model.specs.Kernel.Rules.{abs_outcome, define_outcome, new_type_outcome, new_const_outcome}
+use Rattle.hol_model.specs.Kernel.Theorem.{Theorem}
+use Rattle.hol_model.specs.Kernel.Rules.{abs_outcome, define_outcome, new_const_outcome}
 use Rattle.hol_model.specs.Kernel.Instantiation.{inst_refusal, IsInst, inst_type_refusal, IsInstType}
 use Rattle.hol_model.specs.Logic.Logic.{logical_definitions}
 use Rattle.hol_model.specs.Derived.Prelude.{stored_theorems}
@@ -29,11 +26,7 @@ use Rattle.hol_model.specs.Derived.DerivedRules.{Stated, AnswersStated, terms_of
 use Rattle.hol_model.specs.Texts.TypeGrammar.{TypeTree}
 use Rattle.hol_model.specs.Texts.TermGrammar.{TermTree}
 use Rattle.hol_model.specs.Texts.Reading.{Scope, type_meaning, meaning, ◌>>=◌}
-use Rattle.hol_model.specs.Texts.SequentTexts.{IsReadableFormula, AreReadableFormulas}
-use Rattle.hol_model.specs.Texts.KnownText.{Tells}
-use Rattle.hol_session_model.specs.Script.{Request, Cuts, requested}
-pub use Rattle.hol_session_model.specs.Lines.{theorem_line, refusal_line}
-use Rattle.hol_session_model.specs.Commands.{DerivedTree, by_conversion, by_premise, by_premises, by_term_and_premise, by_cases, by_witness, by_choice, RuleTree, by_term, by_pair, by_abs, by_inst, by_inst_type, by_axiom, by_derived, CommandTree, thm_command, show_command, var_command, def_command, newtype_command, newconst_command, SpellsCommand}
+use Rattle.hol_session_model.specs.Commands.{DerivedTree, by_conversion, by_premise, by_premises, by_term_and_premise, by_cases, by_witness, by_choice, RuleTree, by_term, by_pair, by_abs, by_inst, by_inst_type, by_axiom, by_derived}
 
 -- what a session keeps: the entries of its theory, the declared variables and the stored theorems
 pub record State : Type 0 where
