@@ -15,7 +15,7 @@ use Rattle.hol_model.specs.Texts.TermGrammar.{Enclosed as EnclosedTerm}
 use Rattle.hol_model.specs.Texts.Lexing.{is_letter, is_name_byte, Every, IsIdentifier}
 use Rattle.hol_model.specs.Texts.Reading.{Scope, Bindings, bound_type}
 use Rattle.hol_model.specs.Texts.Printing.{type_tree, typed_constant, bare_tree, constant_tree, infix_of, prefix_of, apply_tree, prefix_tree, infix_tree, term_tree}
-use Rattle.hol_model.specs.Texts.Texts.{type_bytes, atom_bytes, term_bytes, further_bytes, listed_bytes, text_of_sequent, IsReadableTerm}
+use Rattle.hol_model.specs.Texts.Texts.{type_bytes, atom_bytes, term_bytes, further_bytes, listed_bytes, text_of_sequent, text_of_goal, IsReadableTerm}
 use Rattle.hol_model.specs.Texts.SequentTexts.{IsReadableFormula, AreReadableFormulas}
 use Rattle.hol_model.specs.Texts.Texts.{is_one_line}
 use Rattle.hol_print.proofs.TextsReadBack.{HasTypeNames, HasAtomNames, HasNames, IsNameOfConstant, printed_tree}
@@ -121,6 +121,11 @@ pub sequent_one_line : (scope : Scope) (hypotheses : List NamedTerm) (conclusion
 sequent_one_line scope hypotheses conclusion are is =
     listed_one_line scope hypotheses (124 ∷ 45 ∷ 32 ∷ term_bytes (term_tree scope [] conclusion) []) are (readable_one_line scope conclusion [] is.readable refl)
 
+pub goal_one_line : (scope : Scope) (assumptions : List NamedTerm) (target : NamedTerm) → AreReadableFormulas scope assumptions → IsReadableFormula scope target
+    → is_one_line (text_of_goal scope assumptions target) ≡ true
+goal_one_line scope assumptions target are is =
+    listed_one_line scope assumptions (63 ∷ 45 ∷ 32 ∷ term_bytes (term_tree scope [] target) []) are (readable_one_line scope target [] is.readable refl)
+
 -- ---- texts do not depend on the declared variables
 
 module _ (scope other : Scope) (same : scope.generic_type ≡ other.generic_type) where
@@ -158,3 +163,9 @@ module _ (scope other : Scope) (same : scope.generic_type ≡ other.generic_type
       let one = tree_same [] conclusion in
       listed_same hypotheses (124 ∷ 45 ∷ 32 ∷ term_bytes (term_tree scope [] conclusion) [])
       ∙ ap (λ (text : List ℕ). listed_bytes other hypotheses (124 ∷ 45 ∷ 32 ∷ text)) (ap (λ (tree : TermTree). term_bytes tree []) one)
+
+  pub goal_same : (assumptions : List NamedTerm) (target : NamedTerm) → text_of_goal scope assumptions target ≡ text_of_goal other assumptions target
+  goal_same assumptions target =
+      let one = tree_same [] target in
+      listed_same assumptions (63 ∷ 45 ∷ 32 ∷ term_bytes (term_tree scope [] target) [])
+      ∙ ap (λ (text : List ℕ). listed_bytes other assumptions (63 ∷ 45 ∷ 32 ∷ text)) (ap (λ (tree : TermTree). term_bytes tree []) one)

@@ -1,4 +1,4 @@
--- Theorems and refusals of a session are told over its theory, where no variable is declared.
+-- Theorems, refusals and goals of a session are told over its theory, where no variable is declared.
 use Rattle.std.proofs.Common.{◌≡◌, ℕ, List, [], ◌∷◌, ◌++◌, map, Bool, true, false, codes, decimal, refl, ap, ◌∙◌}
 use Rattle.std.proofs.lemmas.List.Folds.{list_all-append}
 use Rattle.std.specs.Prelude.{nat_eq, not, drop, ◌&&◌}
@@ -7,13 +7,14 @@ use Rattle.hol_model.specs.Terms.HolType.{HolType, type_variable, bool_type, fun
 use Rattle.hol_model.specs.Terms.NamedTerm.{NamedTerm, variable, constant, combination, abstraction}
 use Rattle.hol_model.specs.Kernel.Fault.{number_of, name_of}
 use Rattle.hol_model.specs.Texts.Reading.{Scope}
-use Rattle.hol_model.specs.Texts.Texts.{IsNamedType, IsKnownTerm, text_of_term, is_one_line}
+use Rattle.hol_model.specs.Texts.Texts.{IsNamedType, IsKnownTerm, text_of_term, text_of_goal, is_one_line}
 use Rattle.hol_model.specs.Texts.SequentTexts.{IsReadableFormula, AreReadableFormulas}
 use Rattle.hol_model.specs.Texts.Scopes.{scope_over}
-use Rattle.hol_session_model.specs.Headline.{IsTheoremLine, IsRefusalLine}
+use Rattle.hol_model.specs.Goals.Goals.{Goal}
+use Rattle.hol_session_model.specs.Headline.{IsTheoremLine, IsRefusalLine, IsGoalLine}
 use Rattle.hol_session_model.specs.Replies.{Refusal, NamedTheorem, text_of_theorem, truth_text, value_text, further_values, row_text, text_of_refusal}
-use Rattle.hol_session_model.specs.ScriptSessions.{State, scope_in, IsProved, IsReadableRow}
-use Rattle.hol_session_laws.specs.HeadlineLaws.{SequentsArePrinted}
+use Rattle.hol_session_model.specs.ScriptSessions.{State, scope_in, IsProved, IsReadableGoal, IsReadableRow}
+use Rattle.hol_session_laws.specs.HeadlineLaws.{TextsArePrinted}
 
 -- ---- what is readable in a state is so over its theory
 
@@ -52,7 +53,7 @@ truth-one_line : (value : Bool) → is_one_line (truth_text value) ≡ true
 truth-one_line true = refl
 truth-one_line false = refl
 
-module _ (printed : SequentsArePrinted) where
+module _ (printed : TextsArePrinted) where
   -- a theorem that is proved is told by its line
   pub theorem-told : (state : State) (shown : NamedTheorem) → is_identifier shown.name ≡ true → IsProved state shown.theorem
       → IsTheoremLine state.library.theory (text_of_theorem (scope_in state) shown)
@@ -71,6 +72,20 @@ module _ (printed : SequentsArePrinted) where
         ordered = p.ordered;
         derivable = p.derivable;
         holds = p.holds;
+      }
+
+  -- a goal that can be read back is told by its line
+  pub goal-told : (state : State) (goal : Goal) → IsReadableGoal state goal → IsGoalLine state.library.theory (text_of_goal (scope_in state) goal.assumptions goal.target ++ codes "\n")
+  goal-told state goal is =
+      let scope = scope_over state.library.theory in
+      let assumptions = formulas_over state goal.assumptions is.readable_assumptions in
+      let target = formula_over state goal.target is.readable_target in
+      record {
+        goal = goal;
+        spelled = ap (λ (text : List ℕ). text ++ codes "\n") (printed.goals_ignore_variables (scope_in state) scope refl goal.assumptions goal.target);
+        one_line = printed.goals_are_lines scope goal.assumptions goal.target assumptions target;
+        readable_assumptions = assumptions;
+        readable_target = target;
       }
 
   -- the text of a term stands behind `|- ` in that of its sequent

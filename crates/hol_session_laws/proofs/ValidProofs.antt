@@ -202,8 +202,8 @@ rotate-valid theory store (Some old) n proof valid same = go old.stage valid.sta
 -- ---- expansion
 
 -- the proof at whose first goal an expansion works
-record IsFocusOf (found : Option Proof) (focus : Focus) : Type 0 where
-  is_found : found ≡ Some focus.proof
+pub record IsFocusOf (found : Option Proof) (focus : Focus) : Type 0 where
+  pub is_found : found ≡ Some focus.proof
   stage : focus.proof.stage ≡ underway focus.step
   goals : focus.step.goals ≡ focus.goal ∷ focus.others
 
@@ -218,7 +218,7 @@ focus-stage : (proof : Proof) (stage : Stage) → proof.stage ≡ stage → (foc
 focus-stage proof (underway step) is focus same = focus-goals proof step is step.goals refl focus same
 focus-stage proof (proved theorem) is focus same = cc
 
-focus-is : (found : Option Proof) (focus : Focus) → focus_outcome found ≡ Ok focus → IsFocusOf found focus
+pub focus-is : (found : Option Proof) (focus : Focus) → focus_outcome found ≡ Ok focus → IsFocusOf found focus
 focus-is None focus same = cc
 focus-is (Some proof) focus same = focus-stage proof proof.stage refl focus same
 

@@ -5,7 +5,7 @@ use Rattle.hol_model.specs.Terms.Nameless.{image}
 use Rattle.hol_model.specs.Logic.Theory.{Theory, IsEarlier}
 use Rattle.hol_model.specs.Logic.Logic.{logical_definitions, false_term}
 use Rattle.hol_model.specs.Texts.Reading.{Scope}
-use Rattle.hol_model.specs.Texts.Texts.{text_of_sequent, is_one_line}
+use Rattle.hol_model.specs.Texts.Texts.{text_of_sequent, text_of_goal, is_one_line}
 use Rattle.hol_model.specs.Texts.SequentTexts.{IsReadableFormula, AreReadableFormulas, SequentsReadBack}
 use Rattle.hol_session_model.specs.ScriptSessions.{Tools, Turn, text_of_turns}
 use Rattle.hol_session_model.specs.Runs.{IsRun}
@@ -34,11 +34,24 @@ SequentsIgnoreVariables =
     (scope other : Scope) → scope.generic_type ≡ other.generic_type → (hypotheses : List NamedTerm) (conclusion : NamedTerm)
     → text_of_sequent scope hypotheses conclusion ≡ text_of_sequent other hypotheses conclusion
 
--- what is known of the texts of sequents
-pub record SequentsArePrinted : Type 0 where
+-- so of goals
+abbrev pub GoalsAreLines : Type 0
+GoalsAreLines =
+    (scope : Scope) (assumptions : List NamedTerm) (target : NamedTerm) → AreReadableFormulas scope assumptions → IsReadableFormula scope target
+    → is_one_line (text_of_goal scope assumptions target) ≡ true
+
+abbrev pub GoalsIgnoreVariables : Type 0
+GoalsIgnoreVariables =
+    (scope other : Scope) → scope.generic_type ≡ other.generic_type → (assumptions : List NamedTerm) (target : NamedTerm)
+    → text_of_goal scope assumptions target ≡ text_of_goal other assumptions target
+
+-- what is known of the texts of sequents and of goals
+pub record TextsArePrinted : Type 0 where
   pub read_back : SequentsReadBack
   pub are_lines : SequentsAreLines
   pub ignore_variables : SequentsIgnoreVariables
+  pub goals_are_lines : GoalsAreLines
+  pub goals_ignore_variables : GoalsIgnoreVariables
 
 -- The text is that of lines which the texts tell from the theory on.
 pub record IsToldFrom (theory : Theory) (texts : List (List ℕ)) (text : List ℕ) : Type 0 where
@@ -49,4 +62,4 @@ pub record IsToldFrom (theory : Theory) (texts : List (List ℕ)) (text : List �
 -- What a run writes is told by the pieces of its script.
 abbrev pub RunsAreTold : Tools → Type 0
 RunsAreTold tools =
-    SequentsArePrinted → (script : List ℕ) (turns : List Turn) (is_run : IsRun tools script turns) → IsToldFrom logical_definitions is_run.pieces (text_of_turns turns)
+    TextsArePrinted → (script : List ℕ) (turns : List Turn) (is_run : IsRun tools script turns) → IsToldFrom logical_definitions is_run.pieces (text_of_turns turns)

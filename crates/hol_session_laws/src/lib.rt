@@ -209,7 +209,7 @@ pub fn refusals_are_no_theorems()
     ensures { RefusalsAreNoTheorems }
 {}
 
-/// What a run writes is told by the pieces of its script, in lines of theorems and of refusals.
+/// What a run writes is told by the pieces of its script, in lines of theorems, of refusals and of goals.
 pub fn runs_are_told<T: Toolbox>()
     ensures { RunsAreTold T.tools }
 {}
