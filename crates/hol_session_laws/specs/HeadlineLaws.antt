@@ -9,7 +9,7 @@ use Rattle.hol_model.specs.Texts.Texts.{text_of_sequent, text_of_goal, is_one_li
 use Rattle.hol_model.specs.Texts.SequentTexts.{IsReadableFormula, AreReadableFormulas, SequentsReadBack}
 use Rattle.hol_session_model.specs.ScriptSessions.{Tools, Turn, text_of_turns}
 use Rattle.hol_session_model.specs.Runs.{IsRun}
-use Rattle.hol_session_model.specs.Headline.{IsTheoremLine, IsRefusalLine, AreTold, text_of_lines}
+use Rattle.hol_session_model.specs.Headline.{IsTheoremLine, IsRefusalLine, IsCountLine, IsGoalLine, IsProvedLine, AreTold, text_of_lines}
 
 -- no line tells falsity without hypotheses, whatever the script added to the logical definitions
 abbrev pub NoLineIsFalsity : Type 0
@@ -19,6 +19,12 @@ NoLineIsFalsity = (theory : Theory) (line : List ℕ) → IsEarlier logical_defi
 -- a line that tells a refusal is no theorem's
 abbrev pub RefusalsAreNoTheorems : Type 0
 RefusalsAreNoTheorems = (theory : Theory) (line : List ℕ) → IsTheoremLine theory line → IsRefusalLine theory line → ⊥
+
+-- a line that tells a goal, how many are open, or that none is, is no theorem's
+pub record GoalsAreNoTheorems : Type 0 where
+  pub goals : (theory : Theory) (line : List ℕ) → IsTheoremLine theory line → IsGoalLine theory line → ⊥
+  pub counts : (theory : Theory) (line : List ℕ) → IsTheoremLine theory line → IsCountLine line → ⊥
+  pub proofs : (texts : List (List ℕ)) (theory : Theory) (line : List ℕ) → IsTheoremLine theory line → IsProvedLine texts theory line → ⊥
 
 -- ---- runs are told in lines
 

@@ -12,7 +12,7 @@ ghost use Rattle.hol_session_laws.specs.Examples.{ExpressionsAreSpelled, GoalsAr
 ghost use Rattle.hol_session_laws.specs.ReadTerms.{ReadTermsAreKnown, VariablesStayKnown, ScopesAreOver};
 ghost use Rattle.hol_session_laws.specs.ValidSessions.{TurnsKeepValid, ExpansionsAreRefused};
 ghost use Rattle.hol_session_laws.specs.UniqueReadings.{QuotesAreUnambiguous, ConversionsAreUnambiguous, TacticsAreUnambiguous, PartsAreUnambiguous, CommandsAreUnambiguous};
-ghost use Rattle.hol_session_laws.specs.HeadlineLaws.{NoLineIsFalsity, RefusalsAreNoTheorems, RunsAreTold};
+ghost use Rattle.hol_session_laws.specs.HeadlineLaws.{NoLineIsFalsity, RefusalsAreNoTheorems, GoalsAreNoTheorems, RunsAreTold};
 ghost use Rattle.hol_session_laws.specs.SessionLaws.{MayLackMemory, RefusalsChangeNothing, TheoriesStayLegal, TheoriesGrow, PrintedTheoremsAreProved, NoSubgoalsMeansProved, PrintedTheoremsStay};
 
 use hol_sound::consistent;
@@ -207,6 +207,11 @@ pub fn no_line_is_falsity()
 /// A line that tells a refusal is no theorem's.
 pub fn refusals_are_no_theorems()
     ensures { RefusalsAreNoTheorems }
+{}
+
+/// A line that tells a goal, how many are open, or that none is, is no theorem's.
+pub fn goals_are_no_theorems()
+    ensures { GoalsAreNoTheorems }
 {}
 
 /// What a run writes is told by the pieces of its script, in lines of theorems, of refusals and of goals.
