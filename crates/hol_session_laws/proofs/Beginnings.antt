@@ -180,8 +180,8 @@ digits-behind (suc k) n acc rest =
     go true one more = one
     go false one more = more ∙ one
 
-unfolding digits
 decimal-behind : (n : ℕ) (rest : List ℕ) → behind_name (decimal n ++ rest) ≡ behind_name rest
+unfolding digits
 decimal-behind n rest = digits-behind 64 n [] rest
 
 pub count-no_colon : (goals : List Goal) → has_colon (count_text goals) ≡ false

@@ -82,8 +82,8 @@ HasSetGoalIfAny texts theory None = Unit {0}
 HasSetGoalIfAny texts theory (Some proof) = HasSetGoal texts theory proof
 
 pub set-kept : (texts : List (List ℕ)) (theory : Theory) (found : Option Proof) (proof : Proof) → IsOfGoal found proof → HasSetGoalIfAny texts theory found → HasSetGoal texts theory proof
-set-kept texts theory None proof of_goal set = absurd of_goal
-set-kept texts theory (Some old) proof of_goal set = record { term = set.term; is_goal = of_goal ∙ set.is_goal; is_set = set.is_set }
+set-kept texts theory None proof kept set = absurd kept
+set-kept texts theory (Some old) proof kept set = record { term = set.term; is_goal = kept ∙ set.is_goal; is_set = set.is_set }
 
 goal-later : (texts : List (List ℕ)) (earlier now : Theory) (term : NamedTerm) → IsEarlier earlier now → IsGoalOf texts earlier term → IsGoalOf texts now term
 goal-later texts earlier now term is_earlier set = record {

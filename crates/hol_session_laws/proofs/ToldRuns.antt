@@ -1,5 +1,5 @@
 -- What a run writes is told by the pieces of its script.
-use Rattle.std.proofs.Common.{◌≡◌, ℕ, ◌+◌, List, [], ◌∷◌, ◌++◌, Bool, true, false, refl, sym, ap, ◌∙◌, subst, append_assoc, append-nil, codes, Option, Some, None, Result, Ok, Err}
+use Rattle.std.proofs.Common.{◌≡◌, ℕ, ◌+◌, List, [], ◌∷◌, ◌++◌, Bool, true, false, inl, inr, refl, sym, ap, ◌∙◌, subst, append_assoc, append-nil, codes, Option, Some, None, Result, Ok, Err}
 use Rattle.std.specs.Prelude.{not, is_some}
 use Rattle.hol_model.specs.declared.fault.Fault.{Fault}
 use Rattle.hol_model.specs.declared.fault.Fault.TheVariants.{BadName, NameTaken, NoGoal, UnknownName}
@@ -167,16 +167,16 @@ module _ (texts : List (List ℕ)) where
 
   -- the proof of the same goal
   said-advances : (state : State) (lemmas : List Theorem) (proof : Proof) → IsOfGoal state.proof proof → Advances state (says_goals (with_lemmas state lemmas) proof).after
-  said-advances state lemmas proof of_goal = record {
+  said-advances state lemmas proof kept = record {
     grown = same-grown state.library.theory;
-    sets = λ set. set-kept texts state.library.theory state.proof proof of_goal set;
+    sets = λ set. set-kept texts state.library.theory state.proof proof kept set;
   }
 
   proof-advances : (state : State) (answer : Result Proof Fault) (accepted : Accepted) → ((proof : Proof) → answer ≡ Ok proof → IsOfGoal state.proof proof)
       → (answer >>= λ proof. Ok (says_goals state proof)) ≡ Ok accepted → Advances state accepted.after
-  proof-advances state answer accepted of_goal same =
+  proof-advances state answer accepted kept same =
       let f = followed answer (λ proof. Ok (says_goals state proof)) accepted same in
-      advances-said state (says_goals state f.value) accepted f.is (said-advances state state.lemmas f.value (of_goal f.value f.is_read))
+      advances-said state (says_goals state f.value) accepted f.is (said-advances state state.lemmas f.value (kept f.value f.is_read))
 
   p-advances : (state : State) (accepted : Accepted) → Ok accepted ≡ p_outcome state → Advances state accepted.after
   p-advances state accepted same = go state.proof refl (sym same)
