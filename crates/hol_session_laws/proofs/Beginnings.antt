@@ -134,12 +134,12 @@ tree-no_colon (Bind Choice name ty body) rest begins more = refl
 
 line-no_colon : (text : List ℕ) → has_colon text ≡ false → has_colon (text ++ codes "\n") ≡ false
 line-no_colon [] none = refl
-line-no_colon (byte ∷ bytes) none = go (continues_name byte) none
+line-no_colon (byte ∷ bytes) none = go (continues_name byte) (λ rest. line-no_colon bytes rest) none
   where
-    go : (test : Bool) → nat_eq (first_byte (if test then behind_name bytes else byte ∷ bytes)) 58 ≡ false
+    go : (test : Bool) → (has_colon bytes ≡ false → has_colon (bytes ++ codes "\n") ≡ false) → nat_eq (first_byte (if test then behind_name bytes else byte ∷ bytes)) 58 ≡ false
         → nat_eq (first_byte (if test then behind_name (bytes ++ codes "\n") else byte ∷ (bytes ++ codes "\n"))) 58 ≡ false
-    go true none = line-no_colon bytes none
-    go false none = none
+    go true more none = more none
+    go false more none = none
 
 further-no_colon : (scope : Scope) (terms : List NamedTerm) (rest : List ℕ) → has_colon rest ≡ false → has_colon (further_bytes scope terms rest) ≡ false
 further-no_colon scope [] rest none = none
@@ -155,16 +155,16 @@ goal-no_colon scope (term ∷ terms) target =
 -- ---- numbers
 
 digit-continues : (d : ℕ) → d < 10 → continues_name (digit_glyph false d) ≡ true
-digit-continues 0 below = refl
-digit-continues 1 below = refl
-digit-continues 2 below = refl
-digit-continues 3 below = refl
-digit-continues 4 below = refl
-digit-continues 5 below = refl
-digit-continues 6 below = refl
-digit-continues 7 below = refl
-digit-continues 8 below = refl
-digit-continues 9 below = refl
+digit-continues zero below = refl
+digit-continues (suc zero) below = refl
+digit-continues (suc (suc zero)) below = refl
+digit-continues (suc (suc (suc zero))) below = refl
+digit-continues (suc (suc (suc (suc zero)))) below = refl
+digit-continues (suc (suc (suc (suc (suc zero))))) below = refl
+digit-continues (suc (suc (suc (suc (suc (suc zero)))))) below = refl
+digit-continues (suc (suc (suc (suc (suc (suc (suc zero))))))) below = refl
+digit-continues (suc (suc (suc (suc (suc (suc (suc (suc zero)))))))) below = refl
+digit-continues (suc (suc (suc (suc (suc (suc (suc (suc (suc zero))))))))) below = refl
 digit-continues (suc (suc (suc (suc (suc (suc (suc (suc (suc (suc d)))))))))) below = absurd (omega (arith, below))
 
 digits-behind : (k n : ℕ) (acc rest : List ℕ) → behind_name (digits_onto k 10 false n acc ++ rest) ≡ behind_name (acc ++ rest)
