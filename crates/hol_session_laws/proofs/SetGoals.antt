@@ -1,5 +1,5 @@
 -- The goal of the proof under way is one that a text of the script sets, in whatever state of the theory.
-use Rattle.std.proofs.Common.{◌≡◌, ℕ, List, [], ◌∷◌, map, inl, refl, sym, ap, ◌∙◌, subst, Option, Some, None, Result, Ok, Err}
+use Rattle.std.proofs.Common.{◌≡◌, ℕ, List, [], ◌∷◌, map, inl, refl, sym, ap, ◌∙◌, subst, Option, Some, None, Ok}
 use Rattle.hol_model.specs.declared.fault.Fault.TheVariants.{TooLarge, NotBool}
 use Rattle.hol_model.specs.Terms.NamedTerm.{NamedTerm, equation, is_within_limits}
 use Rattle.hol_model.specs.Terms.Nameless.{Nameless, image}

@@ -5,7 +5,7 @@ use Rattle.hol_model.specs.declared.fault.Fault.{Fault}
 use Rattle.hol_model.specs.declared.fault.Fault.TheVariants.{BadName, NameTaken, NoGoal, UnknownName}
 use Rattle.hol_model.specs.Terms.Name.{is_identifier}
 use Rattle.hol_model.specs.Terms.Nameless.{image}
-use Rattle.hol_model.specs.Logic.Theory.{Theory, Entry, definition, declaration_of_type, declaration_of_constant, IsEarlier}
+use Rattle.hol_model.specs.Logic.Theory.{Theory, Entry, definition, declaration_of_type, declaration_of_constant}
 use Rattle.hol_model.specs.Logic.Legality.{own_type}
 use Rattle.hol_model.specs.Logic.Derivable.{IsMember}
 use Rattle.hol_model.specs.Logic.Logic.{logical_definitions}
@@ -25,10 +25,10 @@ use Rattle.hol_session_model.specs.TacticGrammar.{Tactic}
 use Rattle.hol_session_model.specs.CommandGrammar.{CommandTree, var_command, newtype_command, newconst_command, def_command, thm_command, show_command, goal_command, e_command, b_command, p_command, r_command, save_command, SpellsCommand}
 use Rattle.hol_model.specs.Kernel.Answers.{Is, Unless, Then, goes_on, stops}
 use Rattle.hol_model.specs.Goals.Goals.{Goal}
-use Rattle.hol_model.specs.Goals.GoalStates.{Proof, open_goals, goal_of, set_outcome, back_outcome, rotate_outcome, top_outcome}
+use Rattle.hol_model.specs.Goals.GoalStates.{Proof, open_goals, set_outcome, back_outcome, rotate_outcome, top_outcome}
 use Rattle.hol_session_model.specs.Replies.{nothing, theorem_line, goal_lines, refusal_of, Reply, NamedTheorem, theorem_in, text_of_theorem, count_text, goals_text, text_of_refusal, reply_text}
 use Rattle.hol_session_model.specs.ScriptSessions.{State, start, scope_in, with_library, with_goal, with_lemmas, Tools, Accepted, Outcome, Plainly, state_after, says_nothing, says_theorem, stores, says_goals, var_outcome, newtype_outcome, newconst_accepted, def_accepted, show_outcome, goal_outcome, p_outcome, save_outcome, IsTheoremAnswer, NamesTheorem, IsRefined, May, Allows, finds_no_memory, is_unfinished, is_no_command, is_refused, is_done, AreReadableGoals, IsTrueReply, Turn, Takes, Session, text_of_turns}
-use Rattle.hol_session_model.specs.Headline.{Defines, DeclaresConstant, Declares, AreDeclared, IsGrownBy, IsTold, of_theorem, of_refusal, of_count, of_goal, of_proof, AreTold}
+use Rattle.hol_session_model.specs.Headline.{Defines, DeclaresConstant, Declares, AreDeclared, IsGrownBy, of_theorem, of_refusal, of_count, of_goal, of_proof, AreTold}
 use Rattle.hol_session_laws.specs.HeadlineLaws.{TextsArePrinted, IsToldFrom, RunsAreTold}
 use Rattle.hol_session_laws.proofs.Growth.{followed, type-added, const-added, definition-accepted}
 use Rattle.hol_session_laws.proofs.StoredTheorems.{turn-follows}
