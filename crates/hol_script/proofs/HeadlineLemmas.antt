@@ -1,4 +1,4 @@
--- A run's output is told in lines of theorems and of refusals.
+-- A run's output is told in lines.
 use Rattle.std.proofs.Common.{List, ℕ, [], refl, sym, ◌∙◌, append-nil, Option, None, Some}
 use Rattle.std.proofs.KnownBytes.{Appends-nil}
 use Rattle.hol_model.specs.Texts.KnownText.{Tells}
@@ -6,21 +6,27 @@ use Rattle.hol_session_model.specs.ScriptSessions.{State, start, text_of_turns}
 use Rattle.hol_session_model.specs.Runs.{Counts}
 use Rattle.hol_session_model.specs.Headline.{TellsLines, TellsFront}
 use Rattle.hol_print.proofs.SequentTexts.{sequents_read_back}
-use Rattle.hol_print.proofs.OneLine.{sequent_one_line, sequent_same}
+use Rattle.hol_print.proofs.OneLine.{sequent_one_line, sequent_same, goal_one_line, goal_same}
 use Rattle.hol_session.specs.Answers.{session_tools}
-use Rattle.hol_session_laws.specs.HeadlineLaws.{SequentsArePrinted}
+use Rattle.hol_session_laws.specs.HeadlineLaws.{TextsArePrinted}
 use Rattle.hol_session_laws.proofs.RunProgress.{begins, stopped-begins}
 use Rattle.hol_session_laws.proofs.ToldRuns.{runs-told}
 use Rattle.hol_script.specs.Runs.{Finishes, Breaks}
 
-sequents_are_printed : SequentsArePrinted
-sequents_are_printed = record { read_back = sequents_read_back; are_lines = sequent_one_line; ignore_variables = sequent_same }
+texts_are_printed : TextsArePrinted
+texts_are_printed = record {
+  read_back = sequents_read_back;
+  are_lines = sequent_one_line;
+  ignore_variables = sequent_same;
+  goals_are_lines = goal_one_line;
+  goals_ignore_variables = goal_same;
+}
 
 -- a whole run
 pub finishes_told : {input written now : Option (List ℕ)} {counts : Counts} {names : List (List ℕ)} {state : State} (script : List ℕ) → Tells input script
     → Finishes script written now counts names state → TellsLines input written now []
 finishes_told script read f =
-    let text = runs-told session_tools sequents_are_printed script f.turns f.is_run in
+    let text = runs-told session_tools texts_are_printed script f.turns f.is_run in
     record {
       script = script;
       pieces = f.is_run.pieces;
@@ -41,7 +47,7 @@ front_told lines = ([], lines)
 -- a run that broke off
 pub breaks_told : {input written now : Option (List ℕ)} (script : List ℕ) → Tells input script → Breaks script written now → TellsFront input written now
 breaks_told script read b =
-    let text = runs-told session_tools sequents_are_printed script b.turns b.is_run in (
+    let text = runs-told session_tools texts_are_printed script b.turns b.is_run in (
       b.wrote.rest,
       record {
         script = script;

@@ -352,8 +352,8 @@ outcome-follows : (tools : Tools) (state : State) (line : ℕ) (text : Option (L
 outcome-follows tools state line text outcome finds_no_memory = refused-follows state line (refusal_of Memory)
 outcome-follows tools state line text outcome is_unfinished = refused-follows state line (refusal_of Syntax)
 outcome-follows tools state line text outcome (is_no_command none) = refused-follows state line (refusal_of Syntax)
-outcome-follows tools state line text outcome (is_refused {refusal} tree spelled may) = refused-follows state line refusal
-outcome-follows tools state line text outcome (is_done {text = t} {accepted} tree spelled may) =
+outcome-follows tools state line text outcome (is_refused {refusal} tree served spelled may) = refused-follows state line refusal
+outcome-follows tools state line text outcome (is_done {text = t} {accepted} tree served spelled may) =
     let follows = command-follows tools state t tree accepted spelled may in
     record { keeps = follows.keeps; printed = λ shown is. follows.printed shown is; named = λ shown is. follows.named shown is }
 
