@@ -1,5 +1,5 @@
 -- Conversions without parts: what they answer for a step, and where no step is left.
-use Rattle.std.proofs.Common.{◌≡◌, ℕ, suc, true, refl, sym, subst, ap, Result, Err}
+use Rattle.std.proofs.Common.{◌≡◌, ℕ, suc, true, refl, sym, subst, Result, Err}
 use Rattle.hol_model.specs.declared.fault.Fault.{Fault}
 use Rattle.hol_model.specs.declared.fault.Fault.TheVariants.{StepLimit}
 use Rattle.hol_model.specs.Terms.NamedTerm.{NamedTerm}
