@@ -3,7 +3,6 @@ use Rattle.hol_model.specs.Refining.Conversions.{Conversion, rules_conv}
 use Rattle.hol_derivations.specs.Derivations.{theorems}
 use Rattle.hol_conv.specs.Leaves.{with_leaves}
 use Rattle.hol_conv.proofs.Arms.{as-conv, starved-at}
-use Rattle.hol_conv_rules.proofs.Making.{makes_nothing}
 use Rattle.hol_conv.proofs.applying.rewrite.Goals as goal
 
 pub returns-in-Err-clause-outcome : goal.returns-in-Err-clause-outcome

@@ -1,9 +1,5 @@
-use Rattle.std.proofs.Common.{sym, subst}
-use Rattle.hol_exprs.specs.declared.conv.Conv.{Conv}
 use Rattle.hol_library.specs.Library.{store_in}
-use Rattle.hol_conv.specs.Leaves.{IsLeaf}
 use Rattle.hol_conv_rules.proofs.Converting.{converts_all, converts_no, converts_beta, converts_named}
-use Rattle.hol_conv_rules.proofs.Making.{makes_nothing}
 use Rattle.hol_journal.specs.Journal.{theorem_in}
 use Rattle.hol_conv.proofs.over_host.one_step.Goals as goal
 
@@ -25,9 +21,9 @@ returns-in-Beta-clause-converts g c depth left =
 pub returns-in-Rewr-clause-converts : goal.returns-in-Rewr-clause-converts
 returns-in-Rewr-clause-converts g c depth left =
     let library = c.args.library.now in
-    rw c.in-Rewr.is
+    rw (c.in-Rewr.is, ← c.deref.ensures)
     (converts_named library.recorder.theory (store_in library) (g.H.Converters.conversions c.args.hosts.now) c.args.t.now _ (theorem_in c.rewr_conv.result) c.rewr_conv.ensures.rewrites depth left)
 
 pub returns-in-Host-clause-converts : goal.returns-in-Host-clause-converts
 returns-in-Host-clause-converts g c depth left =
-    rw c.in-Host.is (c.host_conv.ensures.converts depth left)
+    rw (c.in-Host.is, ← c.deref-in-Host.ensures) (c.host_conv.ensures.converts depth left)
