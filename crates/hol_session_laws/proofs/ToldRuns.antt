@@ -24,7 +24,8 @@ use Rattle.hol_session_model.specs.Replies.{nothing, theorem_line, goal_lines, r
 use Rattle.hol_session_model.specs.ScriptSessions.{State, start, scope_in, with_library, Tools, Accepted, Outcome, turn_of, says_nothing, says_theorem, stores, var_outcome, newtype_outcome, newconst_accepted, def_accepted, show_outcome, IsTheoremAnswer, May, is_served, Allows, finds_no_memory, is_unfinished, is_no_command, is_refused, is_done, IsTrueReply, Turn, Takes, Session, text_of_turns}
 use Rattle.hol_session_model.specs.Headline.{Defines, DeclaresConstant, Declares, AreDeclared, IsGrownBy, AreTold}
 use Rattle.hol_session_laws.specs.HeadlineLaws.{SequentsArePrinted, IsToldFrom, RunsAreTold}
-use Rattle.hol_session_laws.proofs.Growth.{followed, type-added, const-added, definition-accepted}
+use Rattle.hol_goal_laws.proofs.Passing.{followed}
+use Rattle.hol_session_laws.proofs.Growth.{type-added, const-added, definition-accepted}
 use Rattle.hol_session_laws.proofs.StoredTheorems.{turn-follows}
 use Rattle.hol_session_laws.proofs.ToldTexts.{theorem-told, refusal-told}
 

@@ -21,8 +21,8 @@ use Rattle.hol_model.specs.Goals.Replays.{HasSequent, sequent_of_theorem}
 use Rattle.hol_model.specs.Goals.GoalStates.{closing_outcome}
 use Rattle.hol_model.specs.Goals.GoalLaws.{IsSettable, IsClosing}
 use Rattle.hol_model.specs.Goals.Achieving.{achieves}
-use Rattle.hol_session_laws.proofs.Growth.{passed}
-use Rattle.hol_session_laws.proofs.Knowledge.{formula-typed}
+use Rattle.hol_goal_laws.proofs.Passing.{passed}
+use Rattle.hol_goal_laws.proofs.Knowledge.{formula-typed}
 
 equation-dest : (a b : NamedTerm) (ty : HolType) → type_of a ≡ Some ty → dest_equation (equation a b) ≡ Some (a, b)
 equation-dest a b ty typed = rw typed refl

@@ -14,7 +14,7 @@ use Rattle.hol_model.proofs.Terms.HolTypeEq.{type_eq-Decides}
 use Rattle.hol_model.proofs.Tests.{first_of_both, second_of_both, both}
 use Rattle.hol_model.proofs.Logic.Later.{IsNewEntry, head_is_new, rest_is_legal, generic_type-later, IsKnown-later}
 use Rattle.hol_model.specs.Goals.Replays.{IsKnownGoal, AreKnownGoals}
-use Rattle.hol_session_laws.proofs.Growth.{PassesTests, passes_tests}
+use Rattle.hol_goal_laws.proofs.Passing.{PassesTests, passes_tests}
 
 -- a formula has the type of truth values
 pub formula-typed : (term : NamedTerm) → is_formula term ≡ true → type_of term ≡ Some bool_type

@@ -29,9 +29,9 @@ use Rattle.hol_model.specs.Goals.Replays.{Store, sequents_in, IsKnownGoal, AreKn
 use Rattle.hol_model.specs.Goals.GoalStates.{Stage, underway, proved, Proof, untouched, begun, advanced, goal_of, restored, rotated_goals, rotated_number, rotated_once, rotated, rotated_stage, Focus, focus_outcome, stage_focus, step_focus, expanded, closing_outcome, IsStageOf, reverted_to}
 use Rattle.hol_model.specs.Goals.GoalLaws.{IsSettable, IsValidStage, AreValidStages, IsValidProof, IsValidIfAny, IsValidStack, Replays, SetIsValid, BackIsValid, RotateIsValid, ExpandIsValid, ExpandFailsForSize, RevertIsValid, ProofsStayValid}
 use Rattle.hol_model.specs.Goals.GoodSteps.{IsGoodStep}
-use Rattle.hol_session_laws.proofs.Growth.{passed, not_refused, followed, passes_tests}
-use Rattle.hol_session_laws.proofs.Knowledge.{formula-typed, first_unknown-stays, known_goals-stay}
-use Rattle.hol_session_laws.proofs.Closing.{closing-is, closing-closes, sequent-passes}
+use Rattle.hol_goal_laws.proofs.Passing.{passed, not_refused, followed, passes_tests}
+use Rattle.hol_goal_laws.proofs.Knowledge.{formula-typed, first_unknown-stays, known_goals-stay}
+use Rattle.hol_goal_laws.proofs.Closing.{closing-is, closing-closes, sequent-passes}
 
 -- ---- what is set
 
@@ -360,3 +360,7 @@ proofs-stay earlier now old new is_earlier legal stored proof valid = record {
   stage = stage-stays earlier now old new is_earlier legal stored proof.goal proof.stage valid.stage;
   kept = stages-stay earlier now old new is_earlier legal stored proof.goal proof.kept valid.kept;
 }
+
+pub if_any-stays : (earlier now : Theory) (old new : Store) → IsEarlier earlier now → IsLegal now → IsLaterStore (sequents_in old) (sequents_in new) → (found : Option Proof) → IsValidIfAny earlier old found → IsValidIfAny now new found
+if_any-stays earlier now old new is_earlier legal stored None valid = tt
+if_any-stays earlier now old new is_earlier legal stored (Some proof) valid = proofs-stay earlier now old new is_earlier legal stored proof valid
