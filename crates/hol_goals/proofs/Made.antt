@@ -1,6 +1,7 @@
 -- The theorems that a stack keeps are the recorder's.
-use Rattle.std.proofs.Common.{◌≡◌, ℕ, zero, suc, ◌+◌, List, [], ◌∷◌, map, take, drop, sym, subst, Option, None, Some}
+use Rattle.std.proofs.Common.{◌≡◌, ℕ, zero, suc, ◌+◌, List, [], ◌∷◌, map, take, drop, sym, subst, Option, None, Some, Bor}
 use Rattle.std.specs.Prelude.{slice_get, IfSome}
+use Rattle.std.specs.Option.{option_map}
 use Rattle.hol_model.specs.declared.limits.TheConstants.{KEPT_EXPANSIONS_LIMIT}
 use Rattle.hol_journal.specs.Journal.{Journal}
 use Rattle.hol_goals.specs.declared.stage.Stage.{Stage}
@@ -45,13 +46,22 @@ back_made journal change old new same made =
 pub undone_made : (journal : Journal) (old new : List Stage) → new ≡ drop 1 old → AreStagesMade journal old → AreStagesMade journal new
 undone_made journal old new same made = subst (AreStagesMade journal) (sym same) (rest-made journal old made)
 
--- the stage at hand
-pub first_made : (journal : Journal) (change : Change) (stages : List Stage) → AreStagesMade journal stages → IfSome (slice_get (shown change stages) 0) (IsStageMade journal)
-first_made journal change stages made = go (shown change stages) (shown-made journal change stages made)
+-- the stage at hand, where one is lent
+pub stage_made : (journal : Journal) (attempt : Attempt) (lent : Option (Bor Stage)) → option_map (λ (stage : Bor Stage). stage.now) lent ≡ slice_get (shown attempt.change attempt.stages.items) 0
+    → IsAttemptMade journal attempt → IfSome lent (λ stage. IsStageMade journal stage.now)
+stage_made journal attempt None same made = tt
+stage_made journal attempt (Some stage) same made =
+    subst (λ (found : Option Stage). IfSome found (IsStageMade journal)) (sym same)
+    (first (shown attempt.change attempt.stages.items) (shown-made journal attempt.change attempt.stages.items made.stages))
   where
-    go : (list : List Stage) → AreStagesMade journal list → IfSome (slice_get list 0) (IsStageMade journal)
-    go [] made = tt
-    go (stage ∷ rest) made = made.0
+    first : (list : List Stage) → AreStagesMade journal list → IfSome (slice_get list 0) (IsStageMade journal)
+    first [] made = tt
+    first (stage ∷ rest) made = made.0
+
+-- ---- the attempt of a stack
+
+pub kept_attempt : (journal : Journal) (stack : Stack) (attempt : Attempt) → stack.attempt ≡ Some attempt → KeepsMade journal stack → IsAttemptMade journal attempt
+kept_attempt journal stack attempt there made = subst (λ (found : Option Attempt). IfSome found (IsAttemptMade journal)) there made
 
 -- ---- the recorder goes on
 

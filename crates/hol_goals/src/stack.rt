@@ -107,7 +107,7 @@ fn settable(alloc: Global, recorder: &Recorder, term: &Term) -> Result<(), Fault
 impl Stack {
     ghost use Rattle.std.specs.Option.{option_map};
     ghost use Rattle.hol_just.specs.Steps.{goals_of};
-    ghost use Rattle.std.specs.Prelude.{◌≡◌, ◌⊎◌, IfErr};
+    ghost use Rattle.std.specs.Prelude.{◌≡◌, ◌⊎◌, IfErr, IfSome};
     ghost use Rattle.hol_model.specs.declared.fault.Fault.TheVariants.{Memory, NoGoal, NothingToUndo};
     ghost use Rattle.hol_just.specs.Steps.{step_of};
     ghost use Rattle.hol_goals.specs.Refinements.{goal_told, goal_in_focus};
