@@ -1,13 +1,12 @@
 -- Expressions with leaves that stand for other conversions.
-use Rattle.std.proofs.Common.{◌≡◌, ◌+◌, ◌<◌, List, refl, ap, ◌∙◌, sym, length, drop, get_or, add-one}
+use Rattle.std.proofs.Common.{◌≡◌, ◌+◌, ◌<◌, List, refl, ap, ◌∙◌, length, drop, get_or, add-one}
 use Rattle.std.proofs.Math.Seq.{drop-cons}
 use Rattle.hol_model.specs.Refining.Conversions.{Conversion, Conversions, no_more, more, all_conv, no_conv, beta_conv, rewr_conv, rules_conv, host_conv, thenc, orelsec, repeatc, try_conv}
 use Rattle.hol_model.specs.Refining.Conversions.{changed_conv, rand_conv, rator_conv, abs_conv, sub_conv, depth_conv, once_depth_conv, top_depth_conv}
-use Rattle.hol_exprs.specs.Expressions.{conversion_of, conversions_of}
 use Rattle.hol_exprs.specs.declared.conv.Conv.{Conv, Then, OrElse}
 use Rattle.hol_exprs.proofs.Rows.{then_means, or_else_means}
 use Rattle.hol_conv.specs.Leaves.{with_leaves, all_with_leaves, stands_for, all_stand_for, thenc_of, orelsec_of}
-use Rattle.hol_conv.proofs.Sizes.{size, sizes, size_of, sizes_of}
+use Rattle.hol_conv.proofs.Sizes.{size, size_of, sizes_of}
 
 pub then_stands : (means : Conversion → Conversion) (first : _) (others : _) → stands_for means (Then first others) ≡ thenc_of means first.value others.items
 then_stands means first others = ap (with_leaves means) (then_means first others)

@@ -7,3 +7,4 @@ pub mod Expressions
 pub mod Chaining
 pub mod Parting
 pub mod Arms
+pub mod Trying

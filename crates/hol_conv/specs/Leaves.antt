@@ -1,5 +1,5 @@
 -- Conversions with others in place of those without parts.
-use Rattle.std.specs.Prelude.{List, map}
+use Rattle.std.specs.Prelude.{List}
 use Rattle.hol_model.specs.Refining.Conversions.{Conversion, Conversions, no_more, more, thenc, orelsec, repeatc, try_conv, changed_conv, rand_conv, rator_conv}
 use Rattle.hol_model.specs.Refining.Conversions.{abs_conv, sub_conv, depth_conv, once_depth_conv, top_depth_conv}
 use Rattle.hol_exprs.specs.Expressions.{conversion_of, conversions_of}

@@ -20,7 +20,7 @@ use Rattle.hol_model.proofs.Tests.{first_of_both, second_of_both, both, same_ter
 use Rattle.hol_model.proofs.Terms.Images.{image-typed}
 use Rattle.hol_model.proofs.Terms.Typing.{nameless_type-is}
 use Rattle.hol_kernel.proofs.RuleLemmas.{IsEquation}
-use Rattle.hol_conv_rules.proofs.Equations.{equation-there}
+use Rattle.hol_rewrite.proofs.Equations.{equation-there}
 use Rattle.hol_conv_rules.specs.HostAnswers.{are_sides, says_equal}
 
 -- ---- hypotheses

@@ -5,3 +5,4 @@ pub mod TautAnswers
 pub mod Posed
 pub mod Refusals
 pub mod SpentSteps
+pub mod NamedEquations

@@ -5,6 +5,7 @@ ghost use Rattle.hol_model.specs.Refining.Conversions.{Converts, top_depth_conv,
 ghost use Rattle.hol_exprs.specs.Expressions.{conversion_of};
 ghost use Rattle.hol_journal.specs.Journal.{IsMade, theorem_in};
 ghost use Rattle.hol_derivations.specs.Derivations.{AreMade, theorems};
+ghost use Rattle.hol_rewrite.specs.RuleSides.{AreEquations};
 ghost use Rattle.hol_library.specs.Library.{IsLibrary, IsContinued, store_in};
 
 use hol_exprs::{Conv, Fuel};
@@ -34,7 +35,7 @@ pub trait Conversions {
         ensures continued { IsContinued library.old library.new }
         ensures made { IfOk result (IsMade library.new.recorder) };
 
-    /// What rewriting with these rules, from the top down, proves of a known term: TOP_DEPTH_CONV by them.
+    /// What rewriting with these rules, which are equations, from the top down, proves of a known term: TOP_DEPTH_CONV by them.
     fn rewrite<H: Converters>(
         &self,
         library: &mut Library,
@@ -46,6 +47,7 @@ pub trait Conversions {
     ) -> Result<Rec, Fault>
         requires library { IsLibrary library.old }
         requires made { AreMade library.old.recorder rules.now }
+        requires equations { AreEquations (theorems rules.now) }
         requires known { is_known library.old.recorder.theory t.now ≡ true }
         ensures outcome { Converts library.old.recorder.theory (store_in library.old) (H.conversions hosts.now) 0 fuel.old.left (top_depth_conv (rules_conv (theorems rules.now))) t.now (theorem_in result) fuel.new.left }
         ensures library { IsLibrary library.new }

@@ -1,7 +1,9 @@
+pub mod Equations
 pub mod FirstRules
 pub mod FixedVariables
 pub mod InstanceLimits
 pub mod KnownMatches
 pub mod RecordedRules
+pub mod RuleEquations
 pub mod RuleInstances
 pub mod Trying

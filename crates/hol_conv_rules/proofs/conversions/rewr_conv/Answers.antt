@@ -10,7 +10,7 @@ use Rattle.hol_library.specs.Library.{store_in}
 use Rattle.hol_conv_rules.specs.OneStep.{RewritesByName, is_unknown, has_no_rules, has_no_memory}
 use Rattle.hol_conv_rules.proofs.Making.{makes, makes_then, with_recorder}
 use Rattle.hol_conv_rules.proofs.Converting.{rewritten-by-rules}
-use Rattle.hol_conv_rules.proofs.RuleEquations.{rules-are-equations}
+use Rattle.hol_rewrite.proofs.RuleEquations.{rules-are-equations}
 use Rattle.hol_conv_rules.proofs.conversions.rewr_conv.Goals as goal
 
 pub returns-in-None-clause-rewrites : goal.returns-in-None-clause-rewrites

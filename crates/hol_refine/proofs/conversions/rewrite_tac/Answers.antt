@@ -9,6 +9,7 @@ use Rattle.hol_model.specs.Refining.Conversions.{top_depth_conv, rules_conv}
 use Rattle.hol_model.specs.Refining.Refiners as refiners
 use Rattle.hol_outcomes.proofs.Equations.{conversions-answer-equations}
 use Rattle.hol_refine.proofs.Extending.{store-same}
+use Rattle.hol_refine.proofs.NamedEquations.{named-are-equations}
 use Rattle.hol_refine.proofs.Posed.{target-known}
 use Rattle.hol_refine.proofs.SpentSteps.{converts-before}
 use Rattle.hol_refine.proofs.Running.{by-conversion, not-converted, not-begun}
@@ -16,6 +17,10 @@ use Rattle.hol_refine.proofs.conversions.rewrite_tac.Goals as goal
 
 pub rewrite-requires-clause-known : goal.rewrite-requires-clause-known
 rewrite-requires-clause-known g c = rw c.in-Ok.ensures.continued.theory (target-known c.args.library.now.recorder.theory (goal_of c.args.goal.now) c.requires.known)
+
+pub rewrite-requires-clause-equations : goal.rewrite-requires-clause-equations
+rewrite-requires-clause-equations g c =
+    rw c.deref.ensures.value (named-are-equations (store_in c.args.library.now) (map string_bytes c.args.names.now) (theorems c.in-Ok.rules.items) c.in-Ok.ensures.ok)
 
 pub by_equation-requires-clause-equation : goal.by_equation-requires-clause-equation
 by_equation-requires-clause-equation g c =

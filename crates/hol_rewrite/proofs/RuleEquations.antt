@@ -12,7 +12,7 @@ use Rattle.hol_model.specs.Kernel.Theorem.{Theorem}
 use Rattle.hol_model.specs.Rewrites.RewriteRules.{RuleForm, both, every, equal, denied, stated, both_or, every_or, equal_or, denied_or_stated, rule_form, RulesOf, RulesOfForm, rules_of_form, of_both, of_every, of_equal, of_denied, of_stated}
 use Rattle.hol_model.specs.Rewrites.Rewriting.{IsRule, AreRules, AnswersRules}
 use Rattle.hol_rewrite.specs.RuleSides.{IsEquation, AreEquations}
-use Rattle.hol_conv_rules.proofs.Equations.{equation-there}
+use Rattle.hol_rewrite.proofs.Equations.{equation-there}
 
 -- `=` applied to two terms
 record IsEqualityImage (term : Nameless) : Type 0 where
@@ -87,3 +87,7 @@ are-equations hypotheses (equation ∷ equations) (rule ∷ rules) images are =
 
 pub rules-are-equations : (theorem : Theorem) (rules : List Theorem) → AnswersRules theorem (Ok rules) → AreEquations rules
 rules-are-equations theorem rules answers = are-equations theorem.hypotheses answers.0 rules (images-of theorem.hypotheses theorem.conclusion answers.0 answers.1) answers.2
+
+pub equations-append : (first second : List Theorem) → AreEquations first → AreEquations second → AreEquations (first ++ second)
+equations-append [] second one two = two
+equations-append (rule ∷ rules) second one two = (one.0, equations-append rules second one.1 two)

@@ -1,0 +1,33 @@
+use Rattle.std.proofs.Common.{sym, subst}
+use Rattle.hol_exprs.specs.declared.conv.Conv.{Conv}
+use Rattle.hol_library.specs.Library.{store_in}
+use Rattle.hol_conv.specs.Leaves.{IsLeaf}
+use Rattle.hol_conv_rules.proofs.Converting.{converts_all, converts_no, converts_beta, converts_named}
+use Rattle.hol_conv_rules.proofs.Making.{makes_nothing}
+use Rattle.hol_journal.specs.Journal.{theorem_in}
+use Rattle.hol_conv.proofs.over_host.one_step.Goals as goal
+
+pub returns-in-All-clause-converts : goal.returns-in-All-clause-converts
+returns-in-All-clause-converts g c depth left =
+    let library = c.args.library.now in
+    rw c.in-All.is (converts_all library.recorder.theory (store_in library) (g.H.Converters.conversions c.args.hosts.now) c.args.t.now (theorem_in c.refl.result) c.refl.ensures.joins depth left)
+
+pub returns-in-No-clause-converts : goal.returns-in-No-clause-converts
+returns-in-No-clause-converts g c depth left =
+    let library = c.args.library.now in
+    rw c.in-No.is (converts_no library.recorder.theory (store_in library) (g.H.Converters.conversions c.args.hosts.now) c.args.t.now depth left)
+
+pub returns-in-Beta-clause-converts : goal.returns-in-Beta-clause-converts
+returns-in-Beta-clause-converts g c depth left =
+    let library = c.args.library.now in
+    rw c.in-Beta.is (converts_beta library.recorder.theory (store_in library) (g.H.Converters.conversions c.args.hosts.now) c.args.t.now (theorem_in c.beta_conv.result) c.beta_conv.ensures.answers depth left)
+
+pub returns-in-Rewr-clause-converts : goal.returns-in-Rewr-clause-converts
+returns-in-Rewr-clause-converts g c depth left =
+    let library = c.args.library.now in
+    rw c.in-Rewr.is
+    (converts_named library.recorder.theory (store_in library) (g.H.Converters.conversions c.args.hosts.now) c.args.t.now _ (theorem_in c.rewr_conv.result) c.rewr_conv.ensures.rewrites depth left)
+
+pub returns-in-Host-clause-converts : goal.returns-in-Host-clause-converts
+returns-in-Host-clause-converts g c depth left =
+    rw c.in-Host.is (c.host_conv.ensures.converts depth left)

@@ -1,0 +1,73 @@
+// The conversions without parts that expressions have.
+ghost use Rattle.std.specs.Prelude.{◌≡◌, true};
+ghost use Rattle.hol_model.specs.Logic.KnownTerm.{is_known};
+ghost use Rattle.hol_exprs.specs.Expressions.{conversion_of};
+ghost use Rattle.hol_journal.specs.Journal.{theorem_in};
+ghost use Rattle.hol_library.specs.Library.{IsLibrary, store_in};
+ghost use Rattle.hol_conv_rules.specs.Makes.{Makes};
+ghost use Rattle.hol_conv_rules.specs.OneStep.{ConvertsInStep};
+ghost use Rattle.hol_conv.specs.Leaves.{IsLeaf};
+
+use crate::leaves::Leaves;
+use hol_conv_rules::{beta_conv, host_conv, refl, rewr_conv};
+use hol_exprs::{Conv, Fuel};
+use hol_host::Converters;
+use hol_journal::Rec;
+use hol_library::Library;
+use hol_model::Fault;
+use hol_terms::Term;
+use std::alloc::Global;
+
+/// The conversions without parts, each as itself, over a host's conversions.
+#[derive(Drop)]
+pub(crate) struct OverHost<'a, H> {
+    pub(crate) hosts: &'a H,
+}
+
+impl<'a, H: Converters> Leaves for OverHost<'a, H> {
+    ghost means = { λ leaves conversion. conversion };
+
+    ghost hosts = { λ leaves. H.conversions leaves.hosts.now };
+
+    ghost is_ready = { λ leaves library. Unit {0} };
+
+    fn try_leaf(
+        &self,
+        library: &mut Library,
+        alloc: Global,
+        leaf: &Conv,
+        t: &Term,
+        fuel: &mut Fuel,
+    ) -> Result<Rec, Fault> {
+        if !fuel.spend() {
+            return Err(Fault::StepLimit);
+        }
+        one_step(library, alloc, self.hosts, leaf, t)
+    }
+
+    ghost stays_ready = { λ leaves old new continued ready. ready };
+}
+
+// What a conversion without parts answers for a step.
+fn one_step<H: Converters>(
+    library: &mut Library,
+    alloc: Global,
+    hosts: &H,
+    leaf: &Conv,
+    t: &Term,
+) -> Result<Rec, Fault>
+    requires leaf { IsLeaf leaf.now }
+    requires library { IsLibrary library.old }
+    requires known { is_known library.old.recorder.theory t.now ≡ true }
+    ensures converts { ConvertsInStep library.old.recorder.theory (store_in library.old) (H.conversions hosts.now) (conversion_of leaf.now) t.now (theorem_in result) }
+    ensures makes { Makes library.old library.new result }
+{
+    match leaf {
+        Conv::All => refl(library, alloc, t),
+        Conv::No => Err(Fault::ConvFails),
+        Conv::Beta => beta_conv(library, alloc, t),
+        Conv::Rewr(name) => rewr_conv(library, alloc, name, t),
+        Conv::Host(name) => host_conv(library, alloc, hosts, name, t),
+        Conv::Then(_, _) | Conv::OrElse(_, _) | Conv::Prefixed(_, _) => unreachable!(),
+    }
+}
