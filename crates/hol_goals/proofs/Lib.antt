@@ -10,3 +10,4 @@ pub mod Rotating
 pub mod Closings
 pub mod Expansions
 pub mod Running
+pub mod Made

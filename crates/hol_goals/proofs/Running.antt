@@ -23,8 +23,7 @@ use Rattle.hol_model.specs.Refining.Combinators as combinators
 use Rattle.hol_session_model.specs.SessionTools.{over_lemmas, IsStackExpansion}
 use Rattle.hol_outcomes.proofs.GoodSteps.{later-store}
 use Rattle.hol_outcomes.proofs.StopsRunning.{refiners-spend}
-use Rattle.hol_session_laws.proofs.ValidProofs.{focus-sound, expand-valid, expand-refused}
-use Rattle.hol_session_laws.proofs.ValidTurns.{if_any-stays}
+use Rattle.hol_goal_laws.proofs.ValidProofs.{focus-sound, expand-valid, expand-refused, if_any-stays}
 use Rattle.hol_goals.specs.Refinements.{goal_in_focus}
 use Rattle.hol_model.specs.Refining.HostFunctions.{HostConversions}
 use Rattle.hol_exprs.specs.Expressions.{tactic_of}

@@ -1,5 +1,5 @@
 // The stages of a proof.
-ghost use Rattle.std.specs.Prelude.{◌≡◌, ◌⊎◌, slice_get, ◌+◌, ◌<◌, ◌∷◌, length, take, map, OnOk, OnErr, IfErr};
+ghost use Rattle.std.specs.Prelude.{◌≡◌, ◌⊎◌, slice_get, ◌+◌, ◌<◌, ◌∷◌, length, take, map, OnOk, OnErr, IfErr, IfSome};
 ghost use Rattle.std.specs.Option.{option_map};
 ghost use Rattle.std.specs.VecDeque.{deque_len, deque_capacity};
 ghost use Rattle.hol_model.specs.declared.fault.Fault.TheVariants.{Memory, NoGoal, NothingToUndo};
@@ -7,7 +7,9 @@ ghost use Rattle.hol_model.specs.declared.limits.TheConstants.{KEPT_EXPANSIONS_L
 ghost use Rattle.hol_model.specs.Goals.GoalStates.{back_outcome, rotate_outcome, changed_stack, reverted};
 ghost use Rattle.hol_model.specs.Goals.StackCalls.{Changes};
 ghost use Rattle.hol_goals.specs.declared.attempt.Change.TheVariants as changes;
+ghost use Rattle.hol_journal.specs.Journal.{Journal};
 ghost use Rattle.hol_goals.specs.Stages.{shown, taken, stage_of, attempt_of, GoesOn};
+ghost use Rattle.hol_goals.specs.Made.{IsStageMade, IsAttemptMade};
 
 use crate::stage::Stage;
 use crate::turning::turned;
@@ -91,7 +93,8 @@ impl Attempt {
     /// The stage at hand.
     #[tactic(auto, using(crate::proofs::Stacks::stage_there))]
     pub(crate) fn stage(&self) -> Option<&Stage>
-        ensures { option_map (λ stage. stage_of stage.now) result ≡ option_map (λ proof. proof.stage) (attempt_of self.now).proof }
+        ensures stage { option_map (λ stage. stage_of stage.now) result ≡ option_map (λ proof. proof.stage) (attempt_of self.now).proof }
+        ensures made { (journal : Journal) → IsAttemptMade journal self.now → IfSome result (λ stage. IsStageMade journal stage.now) }
     {
         first(&self.stages, &self.change)
     }
@@ -102,6 +105,7 @@ impl Attempt {
         ensures ok { OnOk result (GoesOn (attempt_of self.old) (attempt_of self.new) (stage_of stage)) }
         ensures err { IfErr result (λ fault. fault ≡ Memory) }
         ensures kept { OnErr result (attempt_of self.new ≡ attempt_of self.old) }
+        ensures made { (journal : Journal) → IsAttemptMade journal self.old → IsStageMade journal stage → IsAttemptMade journal self.new }
     {
         if self.stages.reserve(1).is_err() {
             return Err(Fault::Memory);
@@ -116,6 +120,7 @@ impl Attempt {
     pub(crate) fn back(&mut self) -> Result<(), Fault>
         ensures outcome { Changes result (back_outcome (attempt_of self.old).proof) (changed_stack (attempt_of self.old)) (attempt_of self.old) (attempt_of self.new) }
         ensures err { IfErr result (λ fault. (fault ≡ NoGoal) ⊎ (fault ≡ NothingToUndo)) }
+        ensures made { (journal : Journal) → IsAttemptMade journal self.old → IsAttemptMade journal self.new }
     {
         let count = count(&self.stages, &self.change);
         if count == 0 {
@@ -132,7 +137,8 @@ impl Attempt {
     /// Moves the first open goal behind the others, so many times.
     #[tactic(auto, using(crate::proofs::Rotating::nothing_set, crate::proofs::Rotating::is_done))]
     pub(crate) fn rotate(&mut self, alloc: Global, turns: usize) -> Result<(), Fault>
-        ensures { Changes result (rotate_outcome (attempt_of self.old).proof turns) (changed_stack (attempt_of self.old)) (attempt_of self.old) (attempt_of self.new) }
+        ensures outcome { Changes result (rotate_outcome (attempt_of self.old).proof turns) (changed_stack (attempt_of self.old)) (attempt_of self.old) (attempt_of self.new) }
+        ensures made { (journal : Journal) → IsAttemptMade journal self.old → IsAttemptMade journal self.new }
     {
         let Some(stage) = self.stage() else {
             return Err(Fault::NoGoal);
@@ -151,7 +157,8 @@ impl Attempt {
     /// Undoes the last change.
     #[tactic(auto)]
     pub(crate) fn revert(&mut self)
-        ensures { attempt_of self.new ≡ reverted (attempt_of self.old) }
+        ensures reverted { attempt_of self.new ≡ reverted (attempt_of self.old) }
+        ensures made { (journal : Journal) → IsAttemptMade journal self.old → IsAttemptMade journal self.new }
     {
         match self.change {
             Change::Nothing => {}

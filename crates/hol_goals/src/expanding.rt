@@ -3,11 +3,12 @@ ghost use Rattle.std.specs.Prelude.{◌≡◌, ◌<◌, length, true, IfOk, IfEr
 ghost use Rattle.hol_model.specs.declared.fault.Fault.TheVariants.{Memory};
 ghost use Rattle.hol_model.specs.Goals.GoalStates as states;
 ghost use Rattle.hol_model.specs.Goals.Replays.{is_within_depth};
+ghost use Rattle.hol_journal.specs.Journal.{Journal, IsMade};
 ghost use Rattle.hol_just.specs.Steps.{goal_of, step_of, tree_of};
 ghost use Rattle.hol_goals.specs.Refinements.{goal_told, goal_in_focus, Refines};
 ghost use Rattle.hol_goals.specs.Stages.{attempt_of};
 ghost use Rattle.hol_goals.specs.Expansions.{Reaches, Finishes, IsExpandedBy};
-ghost use Rattle.hol_goals.specs.Made.{StaysMade};
+ghost use Rattle.hol_goals.specs.Made.{StaysMade, IsAttemptMade};
 
 use crate::attempt::Attempt;
 use crate::proving::Prover;
@@ -59,6 +60,7 @@ impl Attempt {
         requires open { 0 < length step.goals.items }
         requires within { is_within_depth (tree_of step.just) ≡ true }
         ensures reaches { Reaches (attempt_of self.old) (attempt_of self.new) (states.underway (step_of step)) result }
+        ensures made { (journal : Journal) → IsAttemptMade journal self.old → IsAttemptMade journal self.new }
     {
         let Step { goals, just } = step;
         let count = goals.len();
@@ -71,6 +73,7 @@ impl Attempt {
     // Keeps the theorem of the goal as the next stage.
     fn conclude(&mut self, alloc: Global, theorem: Rec) -> Result<Expansion, Fault>
         ensures reaches { Reaches (attempt_of self.old) (attempt_of self.new) (states.proved theorem.theorem) result }
+        ensures made { (journal : Journal) → IsMade journal theorem → IsAttemptMade journal self.old → IsAttemptMade journal self.new }
     {
         let told = match theorem.copy(alloc) {
             Ok(told) => told,
@@ -95,6 +98,7 @@ impl Attempt {
         ensures store { P.store prover.new ≡ P.store prover.old }
         ensures ready { P.is_ready prover.new }
         ensures stays { StaysMade (P.journal prover.old) (P.journal prover.new) }
+        ensures made { IsAttemptMade (P.journal prover.old) self.old → IsAttemptMade (P.journal prover.new) self.new }
     {
         let theorem = match prover.prove(alloc, &self.goal, just) {
             Ok(theorem) => theorem,
@@ -116,6 +120,7 @@ impl Attempt {
         ensures store { P.store prover.new ≡ P.store prover.old }
         ensures ready { P.is_ready prover.new }
         ensures stays { StaysMade (P.journal prover.old) (P.journal prover.new) }
+        ensures made { IsAttemptMade (P.journal prover.old) self.old → IsAttemptMade (P.journal prover.new) self.new }
     {
         let step = match self.refined(alloc, refinement) {
             Ok(step) => step,

@@ -5,6 +5,7 @@ mod attempt;
 mod closing;
 mod copying;
 mod expanding;
+mod laws;
 mod proving;
 mod refining;
 mod stack;
@@ -13,5 +14,6 @@ mod turning;
 
 pub use closing::closed;
 pub use expanding::Expansion;
+pub use laws::kept_theorems_stay_made;
 pub use proving::Prover;
 pub use stack::Stack;

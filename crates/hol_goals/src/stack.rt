@@ -3,10 +3,12 @@ ghost use Rattle.std.specs.Prelude.{◌≡◌, Result, Some, None, IfOk, IfErr};
 ghost use Rattle.hol_model.specs.declared.fault.Fault.{Fault};
 ghost use Rattle.hol_model.specs.declared.fault.Fault.TheVariants.{Memory};
 ghost use Rattle.hol_model.specs.Kernel.Rules.{is_formula};
+ghost use Rattle.hol_journal.specs.Journal.{Journal};
 ghost use Rattle.hol_just.specs.Steps.{goal_of};
 ghost use Rattle.hol_model.specs.Goals.GoalStates as states;
 ghost use Rattle.hol_goals.specs.Settings.{IsDecided};
 ghost use Rattle.hol_goals.specs.Stages.{stage_of, attempt_of, stack_of};
+ghost use Rattle.hol_goals.specs.Made.{IsStageMade, IsAttemptMade};
 
 use crate::attempt::{Attempt, Change};
 use crate::expanding::Expansion;
@@ -43,6 +45,7 @@ fn goal_of_term(alloc: Global, term: &Term) -> Result<Goal, Fault>
 // The stage at which nothing was done to a goal.
 fn untouched(alloc: Global, term: &Term) -> Result<Stage, Fault>
     ensures ok { IfOk result (λ stage. stage_of stage ≡ states.underway (states.untouched (states.goal_of term.now))) }
+    ensures made { (journal : Journal) → IfOk result (IsStageMade journal) }
     ensures err { IfErr result (λ fault. fault ≡ Memory) }
 {
     let mut goals = Vec::new(alloc);
@@ -56,6 +59,7 @@ fn untouched(alloc: Global, term: &Term) -> Result<Stage, Fault>
 // The proof of a term that nothing was done to.
 fn begun(alloc: Global, term: &Term) -> Result<Attempt, Fault>
     ensures ok { IfOk result (λ attempt. attempt_of attempt ≡ record { proof = Some (states.begun (states.goal_of term.now)); before = None }) }
+    ensures made { (journal : Journal) → IfOk result (IsAttemptMade journal) }
     ensures err { IfErr result (λ fault. fault ≡ Memory) }
 {
     let goal = goal_of_term(alloc, term)?;
@@ -103,12 +107,13 @@ fn settable(alloc: Global, recorder: &Recorder, term: &Term) -> Result<(), Fault
 impl Stack {
     ghost use Rattle.std.specs.Option.{option_map};
     ghost use Rattle.hol_just.specs.Steps.{goals_of};
-    ghost use Rattle.std.specs.Prelude.{◌≡◌, ◌⊎◌, IfErr};
+    ghost use Rattle.std.specs.Prelude.{◌≡◌, ◌⊎◌, IfErr, IfSome};
     ghost use Rattle.hol_model.specs.declared.fault.Fault.TheVariants.{Memory, NoGoal, NothingToUndo};
     ghost use Rattle.hol_just.specs.Steps.{step_of};
     ghost use Rattle.hol_goals.specs.Refinements.{goal_told, goal_in_focus};
     ghost use Rattle.hol_goals.specs.Expansions.{IsExpandedBy};
-    ghost use Rattle.hol_goals.specs.Made.{StaysMade};
+    ghost use Rattle.hol_journal.specs.Journal.{Journal, IsMade};
+    ghost use Rattle.hol_goals.specs.Made.{StaysMade, IsStageMade, KeepsMade};
     ghost use Rattle.hol_goals.specs.Stages.{opening_of, stage_of, stack_of, theorem_told};
     ghost use Rattle.hol_model.specs.Goals.GoalStates as states;
     ghost use Rattle.hol_model.specs.Goals.StackCalls.{Changes};
@@ -122,14 +127,16 @@ impl Stack {
 
     /// The stack without a goal.
     pub fn new() -> Stack
-        ensures { stack_of result ≡ states.empty_stack }
+        ensures empty { stack_of result ≡ states.empty_stack }
+        ensures made { (journal : Journal) → KeepsMade journal result }
     {
         Stack { attempt: None }
     }
 
     /// Sets a goal, and forgets the proof that was under way.
     pub fn set(&mut self, alloc: Global, recorder: &Recorder, term: &Term) -> Result<(), Fault>
-        ensures { Changes result (states.set_outcome recorder.now.theory term.now) (states.set_stack (stack_of self.old)) (stack_of self.old) (stack_of self.new) }
+        ensures outcome { Changes result (states.set_outcome recorder.now.theory term.now) (states.set_stack (stack_of self.old)) (stack_of self.old) (stack_of self.new) }
+        ensures made { (journal : Journal) → KeepsMade journal self.old → KeepsMade journal self.new }
     {
         match settable(alloc, recorder, term) {
             Ok(()) => {}
@@ -148,6 +155,7 @@ impl Stack {
     pub fn back(&mut self) -> Result<(), Fault>
         ensures outcome { Changes result (states.back_outcome (stack_of self.old).proof) (states.changed_stack (stack_of self.old)) (stack_of self.old) (stack_of self.new) }
         ensures err { IfErr result (λ fault. (fault ≡ NoGoal) ⊎ (fault ≡ NothingToUndo)) }
+        ensures made { (journal : Journal) → KeepsMade journal self.old → KeepsMade journal self.new }
     {
         match &mut self.attempt {
             Some(attempt) => attempt.back(),
@@ -157,7 +165,8 @@ impl Stack {
 
     /// Moves the first open goal behind the others, so many times.
     pub fn rotate(&mut self, alloc: Global, turns: u32) -> Result<(), Fault>
-        ensures { Changes result (states.rotate_outcome (stack_of self.old).proof turns) (states.changed_stack (stack_of self.old)) (stack_of self.old) (stack_of self.new) }
+        ensures outcome { Changes result (states.rotate_outcome (stack_of self.old).proof turns) (states.changed_stack (stack_of self.old)) (stack_of self.old) (stack_of self.new) }
+        ensures made { (journal : Journal) → KeepsMade journal self.old → KeepsMade journal self.new }
     {
         match &mut self.attempt {
             Some(attempt) => attempt.rotate(alloc, turns as usize),
@@ -167,7 +176,8 @@ impl Stack {
 
     /// Undoes the last change of the proof, where it was a further stage or a stage taken back.
     pub fn revert(&mut self)
-        ensures { stack_of self.new ≡ states.reverted (stack_of self.old) }
+        ensures reverted { stack_of self.new ≡ states.reverted (stack_of self.old) }
+        ensures made { (journal : Journal) → KeepsMade journal self.old → KeepsMade journal self.new }
     {
         match &mut self.attempt {
             Some(attempt) => attempt.revert(),
@@ -177,7 +187,8 @@ impl Stack {
 
     /// The stage at hand.
     fn stage(&self) -> Option<&Stage>
-        ensures { option_map (λ stage. stage_of stage.now) result ≡ option_map (λ proof. proof.stage) (stack_of self.now).proof }
+        ensures stage { option_map (λ stage. stage_of stage.now) result ≡ option_map (λ proof. proof.stage) (stack_of self.now).proof }
+        ensures made { (journal : Journal) → KeepsMade journal self.now → IfSome result (λ stage. IsStageMade journal stage.now) }
     {
         match &self.attempt {
             Some(attempt) => attempt.stage(),
@@ -188,7 +199,8 @@ impl Stack {
     /// The theorem of the goal, once no goal is open.
     #[tactic(auto, using(crate::proofs::Tops::no_top, crate::proofs::Tops::top_of))]
     pub fn top_thm(&self) -> Result<&Rec, Fault>
-        ensures { theorem_told result ≡ states.top_outcome (stack_of self.now).proof }
+        ensures outcome { theorem_told result ≡ states.top_outcome (stack_of self.now).proof }
+        ensures made { (journal : Journal) → KeepsMade journal self.now → IfOk result (λ made. IsMade journal made.now) }
     {
         let Some(stage) = self.stage() else {
             return Err(Fault::NoGoal);
@@ -239,6 +251,7 @@ impl Stack {
         ensures store { P.store prover.new ≡ P.store prover.old }
         ensures ready { P.is_ready prover.new }
         ensures stays { StaysMade (P.journal prover.old) (P.journal prover.new) }
+        ensures made { KeepsMade (P.journal prover.old) self.old → KeepsMade (P.journal prover.new) self.new }
     {
         match &mut self.attempt {
             Some(attempt) => attempt.expand_by(alloc, prover, refinement),
@@ -298,6 +311,7 @@ impl Stack {
         ensures theory { P.theory prover.new ≡ P.theory prover.old }
         ensures ready { P.is_ready prover.new }
         ensures stays { StaysMade (P.journal prover.old) (P.journal prover.new) }
+        ensures made { KeepsMade (P.journal prover.old) self.old → KeepsMade (P.journal prover.new) self.new }
     {
         let refinement = match self.refine_first(alloc, prover, tac, host, fuel) {
             Ok(refinement) => refinement,

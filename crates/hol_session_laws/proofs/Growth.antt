@@ -1,22 +1,22 @@
 -- How a theory grows by what a command accepts.
-use Rattle.std.proofs.Common.{◌≡◌, ℕ, List, [], ◌∷◌, Bool, true, false, refl, sym, subst, ap, Option, None, Some, Result, Ok, Err, if◌then◌else◌}
+use Rattle.std.proofs.Common.{◌≡◌, ℕ, List, [], ◌∷◌, Bool, true, refl, sym, subst, ap, Option, None, Some, Result, Ok}
 use Rattle.std.specs.Prelude.{not, is_some}
 use Rattle.hol_model.specs.declared.fault.Fault.{Fault}
-use Rattle.hol_model.specs.declared.fault.Fault.TheVariants.{TooLarge, BadName, NotClosed, TypeVarsNotReflected, AlreadyDefined, UnknownType, UnknownConst, NotInstance}
+use Rattle.hol_model.specs.declared.fault.Fault.TheVariants.{TooLarge, BadName, NotClosed, TypeVarsNotReflected, AlreadyDefined, UnknownType}
 use Rattle.hol_model.specs.Terms.Name.{is_constant_name, is_declared_type_name}
 use Rattle.hol_model.specs.Terms.HolType.{HolType}
 use Rattle.hol_model.specs.Terms.NamedTerm.{NamedTerm, constant, type_of, equation, is_within_limits}
 use Rattle.hol_model.specs.Terms.Nameless.{image}
 use Rattle.hol_model.specs.Logic.Theory.{Theory, Entry, definition, declaration_of_type, declaration_of_constant, IsLegal, IsLegalDefinition, IsLegalType, IsLegalConstant, IsEarlier}
-use Rattle.hol_model.specs.Logic.KnownTerm.{knows_type, knows_types, knows_constants, has_instances}
+use Rattle.hol_model.specs.Logic.KnownTerm.{knows_type}
 use Rattle.hol_model.specs.Logic.Legality.{is_closed, reflects, is_fixed, is_new_name, own_type}
 use Rattle.hol_model.specs.Kernel.Outcome.{unless, refused}
 use Rattle.hol_model.specs.Kernel.Theorem.{Theorem}
 use Rattle.hol_model.specs.Kernel.Rules.{first_unknown, is_full, with_definition, concluded, define_outcome, new_type_outcome, new_const_outcome}
-use Rattle.hol_model.specs.Texts.Reading.{◌>>=◌}
 use Rattle.hol_model.proofs.Logic.Earlier.{earlier-same, earlier-more, earlier-twice}
 use Rattle.hol_model.proofs.Logic.KnownTerms.{knows_type-IsKnownType, image-known}
 use Rattle.hol_model.proofs.Logic.LegalEntries.{closed-HasNoFree, reflects-image, fixed-has_none, new_name-IsNewName}
+use Rattle.hol_goal_laws.proofs.Passing.{passed, not_refused, passes_tests}
 
 -- a theory with no more than legal entries added
 pub record GrowsLegally (old new : Theory) : Type 0 where
@@ -32,26 +32,6 @@ grows_twice first second third one two = record { earlier = earlier-twice first 
 -- one more entry, which is legal over a legal theory
 grows-by : (entry : Entry) (old new : Theory) → new ≡ entry ∷ old → (IsLegal old → IsLegal (entry ∷ old)) → GrowsLegally old new
 grows-by entry old new grown legal = record { earlier = earlier-more entry old new grown; stays_legal = λ is. subst IsLegal (sym grown) (legal is) }
-
--- ---- tests of outcomes
-
-pub passed : {A : Type 0} (test : Bool) (fault : Fault) (next : Result A Fault) (x : A) → unless test fault next ≡ Ok x → (test ≡ true) × (next ≡ Ok x)
-passed true fault next x same = (refl, same)
-passed false fault next x same = cc
-
-pub not_refused : {A : Type 0} (refusal : Option Fault) (next : Result A Fault) (x : A) → refused refusal next ≡ Ok x → (refusal ≡ None) × (next ≡ Ok x)
-not_refused None next x same = (refl, same)
-not_refused (Some fault) next x same = cc
-
--- what an answer goes on with
-pub record Follows {A B : Type 0} (read : Result A Fault) (next : A → Result B Fault) (answer : B) : Type 0 where
-  pub value : A
-  pub is_read : read ≡ Ok value
-  pub is : next value ≡ Ok answer
-
-pub followed : {A B : Type 0} (read : Result A Fault) (next : A → Result B Fault) (answer : B) → (read >>= next) ≡ Ok answer → Follows read next answer
-followed (Ok x) next answer same = record { value = x; is_read = refl; is = same }
-followed (Err fault) next answer same = cc
 
 -- ---- declared types and constants
 
@@ -138,22 +118,6 @@ of_closed theory name term = unless (is_closed term) NotClosed (of_reflecting th
 
 abbrev of_known : Theory → List ℕ → NamedTerm → Result Theorem Fault
 of_known theory name term = refused (first_unknown theory term) (of_closed theory name term)
-
--- the term passes the tests of known terms
-pub record PassesTests (theory : Theory) (term : NamedTerm) : Type 0 where
-  pub types : knows_types theory term ≡ true
-  pub instances : has_instances theory term ≡ true
-
-pub passes_tests : (theory : Theory) (term : NamedTerm) → first_unknown theory term ≡ None → PassesTests theory term
-passes_tests theory term none = go (knows_types theory term) refl (knows_constants theory term) (has_instances theory term) refl none
-  where
-    go : (types : Bool) → knows_types theory term ≡ types → (constants instances : Bool) → has_instances theory term ≡ instances
-        → (if not types then Some UnknownType else (if not constants then Some UnknownConst else (if not instances then Some NotInstance else None))) ≡ None
-        → PassesTests theory term
-    go false is_types constants instances is_instances none = cc
-    go true is_types false instances is_instances none = cc
-    go true is_types true false is_instances none = cc
-    go true is_types true true is_instances none = record { types = is_types; instances = is_instances }
 
 own_type-is : (term : NamedTerm) → is_some (type_of term) ≡ true → type_of term ≡ Some (own_type term)
 own_type-is term typed = go (type_of term) refl typed

@@ -22,8 +22,8 @@ use Rattle.hol_model.proofs.Logic.Later.{IsKnownType-later}
 use Rattle.hol_model.proofs.Logic.Known.{IsKnown-type, generic_type-logical}
 use Rattle.hol_model.proofs.Terms.Typing.{instantiate_type-same}
 use Rattle.hol_session_laws.specs.ReadTerms.{IsScopeOver, IsKnownTyped, ReadTermsAreKnown}
-use Rattle.hol_session_laws.proofs.Growth.{PassesTests}
-use Rattle.hol_session_laws.proofs.Knowledge.{none_unknown}
+use Rattle.hol_goal_laws.proofs.Passing.{PassesTests}
+use Rattle.hol_goal_laws.proofs.Knowledge.{none_unknown}
 
 -- ---- types of constants
 

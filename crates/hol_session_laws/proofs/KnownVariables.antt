@@ -22,8 +22,9 @@ use Rattle.hol_model.specs.Goals.GoalStates.{Proof, open_goals, set_outcome, bac
 use Rattle.hol_session_model.specs.Replies.{refusal_of, goal_lines}
 use Rattle.hol_session_laws.specs.ReadTerms.{HasKnownVariables, VariablesStayKnown, ScopesAreOver}
 use Rattle.hol_session_model.specs.ScriptSessions.{State, scope_in, with_library, with_goal, with_lemmas, Tools, Accepted, Outcome, state_after, Plainly, says_nothing, says_theorem, stores, says_goals, var_outcome, newtype_outcome, newconst_accepted, def_accepted, show_outcome, goal_outcome, p_outcome, save_outcome, IsTheoremAnswer, NamesTheorem, IsRefined, May, Allows, finds_no_memory, is_unfinished, is_no_command, is_refused, is_done, Turn}
-use Rattle.hol_session_laws.proofs.Growth.{GrowsLegally, followed}
-use Rattle.hol_session_laws.proofs.Knowledge.{knows_type-stays}
+use Rattle.hol_goal_laws.proofs.Passing.{followed}
+use Rattle.hol_session_laws.proofs.Growth.{GrowsLegally}
+use Rattle.hol_goal_laws.proofs.Knowledge.{knows_type-stays}
 use Rattle.hol_session_laws.proofs.KnownReadings.{read_type-known}
 use Rattle.hol_session_laws.proofs.Turns.{turn-grows}
 

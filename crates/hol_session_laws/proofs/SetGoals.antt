@@ -16,8 +16,8 @@ use Rattle.hol_session_model.specs.Replies.{count_text}
 use Rattle.hol_session_model.specs.ScriptSessions.{State, Tools, IsExpansion, IsFinished}
 use Rattle.hol_session_model.specs.Headline.{IsGoalOf, IsProvedLine}
 use Rattle.hol_model.proofs.Logic.Earlier.{earlier-twice}
-use Rattle.hol_session_laws.proofs.Growth.{passed, not_refused}
-use Rattle.hol_session_laws.proofs.ValidProofs.{focus-is}
+use Rattle.hol_goal_laws.proofs.Passing.{passed, not_refused}
+use Rattle.hol_goal_laws.proofs.ValidProofs.{focus-is}
 
 -- ---- the goal stays as it was set
 

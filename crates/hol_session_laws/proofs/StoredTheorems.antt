@@ -41,7 +41,8 @@ use Rattle.hol_session_model.specs.Replies.{Message, nothing, goal_lines, Refusa
 use Rattle.hol_session_model.specs.ScriptSessions.{State, start, scope_in, with_library, with_proof, with_goal, with_lemmas, Tools, Accepted, Outcome, Plainly, turn_of, says_nothing, says_theorem, stores, says_goals, var_outcome, newtype_outcome, newconst_accepted, def_accepted, show_outcome, goal_outcome, p_outcome, save_outcome, IsTheoremAnswer, NamesTheorem, IsExpansion, IsRefined, May, Allows, finds_no_memory, is_unfinished, is_no_command, is_refused, is_done, Turn, Takes, Session, last_state, as_list, theorems_in_turns}
 use Rattle.hol_session_laws.specs.SessionLaws.{PrintedTheoremsStay}
 use Rattle.hol_session_laws.specs.ValidSessions.{IsTold}
-use Rattle.hol_session_laws.proofs.Growth.{followed, definition-accepted, definition-was_new, type-added, const-added}
+use Rattle.hol_goal_laws.proofs.Passing.{followed}
+use Rattle.hol_session_laws.proofs.Growth.{definition-accepted, definition-was_new, type-added, const-added}
 
 -- what is stored stays
 pub record Keeps (old new : Library) : Type 0 where

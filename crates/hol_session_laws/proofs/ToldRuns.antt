@@ -30,7 +30,8 @@ use Rattle.hol_session_model.specs.Replies.{nothing, theorem_line, goal_lines, r
 use Rattle.hol_session_model.specs.ScriptSessions.{State, start, scope_in, with_library, with_goal, with_lemmas, Tools, Accepted, Outcome, Plainly, state_after, says_nothing, says_theorem, stores, says_goals, var_outcome, newtype_outcome, newconst_accepted, def_accepted, show_outcome, goal_outcome, p_outcome, save_outcome, IsTheoremAnswer, NamesTheorem, IsRefined, May, Allows, finds_no_memory, is_unfinished, is_no_command, is_refused, is_done, AreReadableGoals, IsTrueReply, Turn, Takes, Session, text_of_turns}
 use Rattle.hol_session_model.specs.Headline.{Defines, DeclaresConstant, Declares, AreDeclared, IsGrownBy, of_theorem, of_refusal, of_count, of_goal, of_proof, AreTold}
 use Rattle.hol_session_laws.specs.HeadlineLaws.{TextsArePrinted, IsToldFrom, RunsAreTold}
-use Rattle.hol_session_laws.proofs.Growth.{followed, type-added, const-added, definition-accepted}
+use Rattle.hol_goal_laws.proofs.Passing.{followed}
+use Rattle.hol_session_laws.proofs.Growth.{type-added, const-added, definition-accepted}
 use Rattle.hol_session_laws.proofs.StoredTheorems.{turn-follows}
 use Rattle.hol_model.proofs.Logic.Earlier.{earlier-same}
 use Rattle.hol_session_laws.proofs.SetGoals.{set-goal, IsOfGoal, back-goal, rotate-goal, expansion-goal, HasSetGoal, HasSetGoalIfAny, set-kept, set-later, finished-told}

@@ -19,7 +19,7 @@ use Rattle.hol_session_laws.specs.ReadTerms.{IsKnownTyped}
 use Rattle.hol_session_model.specs.ScriptSessions.{scope_in, store_in, with_lemmas}
 use Rattle.hol_outcomes.proofs.Lemmas.{refiners-answer-valid}
 use Rattle.hol_outcomes.proofs.StopsRunning.{refiners-spend}
-use Rattle.hol_session_laws.proofs.Growth.{followed, passes_tests}
+use Rattle.hol_goal_laws.proofs.Passing.{followed, passes_tests}
 use Rattle.hol_session_laws.proofs.KnownReadings.{read_terms-known}
 use Rattle.hol_session_model.specs.SessionTools.{over_lemmas, of_plain, of_named, of_quoted, tactic_of_leaf, then_on, or_else, tactic_of, links_of, tactics_of, tactic_of_choice, others_of, tactic_of_unit}
 use Rattle.hol_model.specs.Refining.RefinerConditions.{HasKnownWitness, HasKnownWitnesses, HaveKnownWitnesses, HaveKnownWitnessesInLinks}

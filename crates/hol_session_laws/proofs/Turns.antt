@@ -22,7 +22,8 @@ use Rattle.hol_model.specs.Goals.GoalStates.{Proof, open_goals, set_outcome, bac
 use Rattle.hol_session_model.specs.Replies.{goal_lines, refusal_of, NamedTheorem, theorem_in, goals_in}
 use Rattle.hol_session_model.specs.ScriptSessions.{State, scope_in, with_library, with_goal, Tools, Accepted, Outcome, Plainly, state_after, says_nothing, says_theorem, stores, says_goals, var_outcome, newtype_outcome, newconst_accepted, def_accepted, show_outcome, goal_outcome, p_outcome, save_outcome, with_lemmas, IsTheoremAnswer, NamesTheorem, IsExpansion, IsRefined, May, Allows, finds_no_memory, is_unfinished, is_no_command, is_refused, is_done, Turn, Takes, Session, last_state, AreShown, IsProved, IsFinished}
 use Rattle.hol_session_laws.specs.SessionLaws.{fault_left, all_without_memory, IsTold}
-use Rattle.hol_session_laws.proofs.Growth.{GrowsLegally, stays, grows_twice, type-grows, const-grows, definition-grows, followed}
+use Rattle.hol_goal_laws.proofs.Passing.{followed}
+use Rattle.hol_session_laws.proofs.Growth.{GrowsLegally, stays, grows_twice, type-grows, const-grows, definition-grows}
 use Rattle.hol_session_laws.proofs.ReadTerms.{read-typed}
 
 -- ---- no memory

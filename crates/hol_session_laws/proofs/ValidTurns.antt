@@ -31,10 +31,10 @@ use Rattle.hol_session_model.specs.ScriptSessions.{State, scope_in, store_in, wi
 use Rattle.hol_model.specs.Goals.GoodSteps.{IsGoodStep}
 use Rattle.hol_session_laws.specs.ValidSessions.{IsTold, GoesOn, RefinesValidly, HasValidProof, TurnsKeepValid, RefusesExpansion, by_terms, without_goal, by_refiner, for_size, ExpansionsAreRefused}
 use Rattle.hol_model.proofs.Logic.Earlier.{earlier-same}
-use Rattle.hol_session_laws.proofs.Growth.{followed}
+use Rattle.hol_goal_laws.proofs.Passing.{followed}
 use Rattle.hol_session_laws.proofs.Turns.{turn-grows}
 use Rattle.hol_session_laws.proofs.StoredTheorems.{Keeps, turn-follows}
-use Rattle.hol_session_laws.proofs.ValidProofs.{focus-sound, set-valid, back-valid, rotate-valid, expand-valid, expand-refused, proofs-stay}
+use Rattle.hol_goal_laws.proofs.ValidProofs.{focus-sound, set-valid, back-valid, rotate-valid, expand-valid, expand-refused, if_any-stays}
 
 -- ---- stores
 
@@ -63,10 +63,6 @@ later_library old new told keeps same = record {
   named = λ name. kept_named (old.library.theorems name) (new.library.theorems name) (λ theorem is. keeps.stays told name theorem is);
   lemmas = λ k. subst (λ (l : List Theorem). AnswersAsStrong (slice_get (map sequent_of_theorem l) k) (slice_get (map sequent_of_theorem old.lemmas) k)) (sym same) (self (slice_get (map sequent_of_theorem old.lemmas) k));
 }
-
-pub if_any-stays : (earlier now : Theory) (old new : Store) → IsEarlier earlier now → IsLegal now → IsLaterStore (sequents_in old) (sequents_in new) → (found : Option Proof) → IsValidIfAny earlier old found → IsValidIfAny now new found
-if_any-stays earlier now old new is_earlier legal stored None valid = tt
-if_any-stays earlier now old new is_earlier legal stored (Some proof) valid = proofs-stay earlier now old new is_earlier legal stored proof valid
 
 -- ---- replays as they are
 

@@ -6,7 +6,6 @@
 ghost use Rattle.hol_model.specs.Refining.HostFunctions.{Host};
 ghost use Rattle.hol_session_model.specs.ScriptSessions.{Tools};
 ghost use Rattle.hol_session_laws.specs.ToolLaws.{ToolsRefineValidly, ExpansionsSpend};
-ghost use Rattle.hol_model.specs.Goals.GoalLaws.{SetIsValid, BackIsValid, RotateIsValid, ExpandIsValid, ExpandFailsForSize, RevertIsValid, ProofsStayValid};
 ghost use Rattle.hol_session_laws.specs.RunLaws.{RunsBegin, BlanksPass, TurnsPass, RunsEnd, RunsEndUnfinished, StoppedRunsBegin, TurnsAdd};
 ghost use Rattle.hol_session_laws.specs.Examples.{ExpressionsAreSpelled, GoalsAreKept, TextsAreSaid};
 ghost use Rattle.hol_session_laws.specs.ReadTerms.{ReadTermsAreKnown, VariablesStayKnown, ScopesAreOver};
@@ -50,41 +49,6 @@ pub fn printed_theorems_are_proved<T: Toolbox>()
 /// Where no subgoals are told, the goal that was set is proved.
 pub fn no_subgoals_means_proved<T: Toolbox>()
     ensures { NoSubgoalsMeansProved T.tools }
-{}
-
-/// What is set is sound.
-pub fn set_is_valid()
-    ensures { SetIsValid }
-{}
-
-/// Taking back keeps a proof sound.
-pub fn back_is_valid()
-    ensures { BackIsValid }
-{}
-
-/// Rotating keeps a proof sound.
-pub fn rotate_is_valid()
-    ensures { RotateIsValid }
-{}
-
-/// Refining the first goal by a valid step keeps a proof sound.
-pub fn expand_is_valid()
-    ensures { ExpandIsValid }
-{}
-
-/// Refining the first goal by a valid step is refused for memory or size alone.
-pub fn expand_fails_for_size()
-    ensures { ExpandFailsForSize }
-{}
-
-/// Undoing keeps a stack sound.
-pub fn revert_is_valid()
-    ensures { RevertIsValid }
-{}
-
-/// What is sound stays so while the theory and the store grow.
-pub fn proofs_stay_valid()
-    ensures { ProofsStayValid }
 {}
 
 /// A run begins with its whole script left.

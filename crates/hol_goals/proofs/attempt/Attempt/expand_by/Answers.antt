@@ -17,3 +17,6 @@ pub returns-clause-outcome : goal.returns-clause-outcome
 returns-clause-outcome g c =
     proceeds (g.P.Leaves.theory c.args.prover.now) (g.P.Leaves.store c.args.prover.now) (step_of c.args.refinement) c.args.self.now (attempt_of c.proceed.new.self) c.in-Ok.step c.proceed.result
     (search rules) c.in-Ok.ensures c.proceed.ensures.reaches
+
+pub returns-clause-made : goal.returns-clause-made
+returns-clause-made g c = c.proceed.ensures.made (g.P.Prover.journal c.args.prover.now)

@@ -3,6 +3,7 @@ use Rattle.hol_exprs.specs.Expressions.{tactic_of}
 use Rattle.hol_host.specs.Host.{host_of}
 use Rattle.hol_goals.specs.Stages.{stack_of}
 use Rattle.hol_goals.proofs.Running.{refused-first, stack-later, expanded-to, valid-after}
+use Rattle.hol_goals.proofs.Made.{kept_stay_made}
 use Rattle.hol_goals.proofs.stack.Stack.expand.Goals as goal
 
 pub returns-in-Err-clause-expanded : goal.returns-in-Err-clause-expanded
@@ -28,3 +29,10 @@ returns-clause-valid g c =
     valid-after (g.P.Leaves.theory c.args.prover.now) (g.P.Leaves.theory c.refine_first.new.prover) (g.P.Leaves.store c.args.prover.now) (g.P.Leaves.store c.refine_first.new.prover)
     (g.P.Leaves.store c.expand_by.new.prover) c.args.fuel.now.left c.refine_first.new.fuel.left c.in-Ok.refinement (stack_of c.args.self.now) (stack_of c.expand_by.new.self) c.expand_by.result
     c.in-Ok.ensures.theory c.expand_by.ensures.store c.requires.legal c.in-Ok.ensures.later c.requires.valid c.in-Ok.ensures.good c.expand_by.ensures.outcome
+
+pub returns-in-Err-clause-made : goal.returns-in-Err-clause-made
+returns-in-Err-clause-made g c = kept_stay_made (g.P.Prover.journal c.args.prover.now) (g.P.Prover.journal c.refine_first.new.prover) c.args.self.now c.in-Err.ensures.stays
+
+pub returns-clause-made : goal.returns-clause-made
+returns-clause-made g c = λ kept.
+    c.expand_by.ensures.made (kept_stay_made (g.P.Prover.journal c.args.prover.now) (g.P.Prover.journal c.refine_first.new.prover) c.args.self.now c.in-Ok.ensures.stays kept)

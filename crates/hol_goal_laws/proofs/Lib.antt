@@ -1,0 +1,4 @@
+pub mod Passing
+pub mod Knowledge
+pub mod Closing
+pub mod ValidProofs
