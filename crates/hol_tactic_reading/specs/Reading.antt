@@ -120,7 +120,7 @@ ReadsEach scope tacs result =
     (outcome : Result combinators.Tactics Fault) → AreRead scope (all_expressions (map expression_here tacs)) outcome → AnswersAs tactics_made result outcome
 
 abbrev pub ReadsLink : Scope → Link Kept → Result (Link NamedTerm) Fault → Type 0
-ReadsLink scope link result = (outcome : Result combinators.Link Fault) → IsJointRead scope (joint_here link) outcome → AnswersAs link_of result outcome
+ReadsLink scope joint result = (outcome : Result combinators.Link Fault) → IsJointRead scope (joint_here joint) outcome → AnswersAs link_of result outcome
 
 abbrev pub ReadsLinks : Scope → List (Link Kept) → Result (Vec (Link NamedTerm) Global) Fault → Type 0
 ReadsLinks scope links result =
