@@ -10,6 +10,7 @@ use hol_syntax::Scope;
 use hol_terms::Term;
 use std::alloc::Global;
 
+// The expression with its quoted terms read.
 #[cycle(reading)]
 fn read_expression(
     alloc: Global,
@@ -74,6 +75,7 @@ fn read_each(
     Ok(each)
 }
 
+// THEN or THENL, with what follows it read.
 #[cycle(reading)]
 fn read_link(
     alloc: Global,
@@ -113,7 +115,8 @@ fn read_links(
     Ok(each)
 }
 
-/// The expression with its quoted terms read over the scope, from left to right. Refused: as the first term that is refused; Memory.
+/// The refiner expression (HOL Light's tactics.ml) with its quoted terms read over the scope, from left to right. Refused: as the
+/// first term that is refused; Memory.
 pub fn read_tactic(
     alloc: Global,
     scope: &Scope,
