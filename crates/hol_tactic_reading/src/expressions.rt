@@ -1,0 +1,128 @@
+// Refiner expressions, their quoted terms read: a recursion where parentheses, lists and prefixes nest, and loops over chains.
+ghost use Rattle.hol_syntax.specs.Scope.{scope_of};
+ghost use Rattle.hol_tactic_reading.specs.Reading.{ReadsTactic, ReadsExpression, ReadsEach, ReadsLink, ReadsLinks};
+
+use crate::leaves::read_leaf;
+use hol_exprs::{Link, Tac};
+use hol_grammar::TermStep;
+use hol_model::Fault;
+use hol_syntax::Scope;
+use hol_terms::Term;
+use std::alloc::Global;
+
+// The expression with its quoted terms read.
+#[cycle(reading)]
+fn read_expression(
+    alloc: Global,
+    scope: &Scope,
+    tac: &Tac<Vec<TermStep<'_>>>,
+) -> Result<Tac<Term>, Fault>
+    ensures { ReadsExpression (scope_of scope.now) tac.now result }
+{
+    match tac {
+        Tac::Leaf(leaf) => match read_leaf(alloc, scope, leaf) {
+            Ok(leaf) => Ok(Tac::Leaf(leaf)),
+            Err(fault) => Err(fault),
+        },
+        Tac::Host(name) => Ok(Tac::Host(name.clone()?)),
+        Tac::Chain(first, links) => {
+            let first = match read_expression(alloc, scope, first) {
+                Ok(first) => first,
+                Err(fault) => return Err(fault),
+            };
+            match read_links(alloc, scope, links) {
+                Ok(links) => Tac::chain(alloc, first, links),
+                Err(fault) => Err(fault),
+            }
+        }
+        Tac::OrElse(first, others) => {
+            let first = match read_expression(alloc, scope, first) {
+                Ok(first) => first,
+                Err(fault) => return Err(fault),
+            };
+            match read_each(alloc, scope, others) {
+                Ok(others) => Tac::orelse(alloc, first, others),
+                Err(fault) => Err(fault),
+            }
+        }
+        Tac::Repeat(inner) => match read_expression(alloc, scope, inner) {
+            Ok(inner) => Tac::repeat(alloc, inner),
+            Err(fault) => Err(fault),
+        },
+        Tac::Try(inner) => match read_expression(alloc, scope, inner) {
+            Ok(inner) => Tac::try_tac(alloc, inner),
+            Err(fault) => Err(fault),
+        },
+    }
+}
+
+// The expressions, one after another.
+#[cycle(reading)]
+fn read_each(
+    alloc: Global,
+    scope: &Scope,
+    tacs: &[Tac<Vec<TermStep<'_>>>],
+) -> Result<Vec<Tac<Term>>, Fault>
+    ensures { ReadsEach (scope_of scope.now) tacs.now result }
+{
+    let mut each = Vec::new(alloc);
+    for tac in tacs {
+        match read_expression(alloc, scope, tac) {
+            Ok(tac) => each.push(tac)?,
+            Err(fault) => return Err(fault),
+        }
+    }
+    Ok(each)
+}
+
+// THEN or THENL, with what follows it read.
+#[cycle(reading)]
+fn read_link(
+    alloc: Global,
+    scope: &Scope,
+    link: &Link<Vec<TermStep<'_>>>,
+) -> Result<Link<Term>, Fault>
+    ensures { ReadsLink (scope_of scope.now) link.now result }
+{
+    match link {
+        Link::Then(tac) => match read_expression(alloc, scope, tac) {
+            Ok(tac) => Ok(Link::Then(tac)),
+            Err(fault) => Err(fault),
+        },
+        Link::Thenl(tacs) => match read_each(alloc, scope, tacs) {
+            Ok(tacs) => Ok(Link::Thenl(tacs)),
+            Err(fault) => Err(fault),
+        },
+    }
+}
+
+// The links, one after another.
+#[cycle(reading)]
+fn read_links(
+    alloc: Global,
+    scope: &Scope,
+    links: &[Link<Vec<TermStep<'_>>>],
+) -> Result<Vec<Link<Term>>, Fault>
+    ensures { ReadsLinks (scope_of scope.now) links.now result }
+{
+    let mut each = Vec::new(alloc);
+    for link in links {
+        match read_link(alloc, scope, link) {
+            Ok(link) => each.push(link)?,
+            Err(fault) => return Err(fault),
+        }
+    }
+    Ok(each)
+}
+
+/// The refiner expression (HOL Light's tactics.ml) with its quoted terms read over the scope, from left to right. Refused: as the
+/// first term that is refused; Memory.
+pub fn read_tactic(
+    alloc: Global,
+    scope: &Scope,
+    tac: &Tac<Vec<TermStep<'_>>>,
+) -> Result<Tac<Term>, Fault>
+    ensures { ReadsTactic (scope_of scope.now) tac.now result }
+{
+    read_expression(alloc, scope, tac)
+}

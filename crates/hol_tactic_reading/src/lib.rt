@@ -1,0 +1,7 @@
+//! Refiner expressions, their quoted terms read over a scope.
+#![tactic(auto)]
+
+mod expressions;
+mod leaves;
+
+pub use expressions::read_tactic;
