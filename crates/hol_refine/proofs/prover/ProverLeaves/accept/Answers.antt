@@ -1,6 +1,6 @@
 use Rattle.std.proofs.Common.{refl}
 use Rattle.hol_library.proofs.Continuing.{libraries-continue}
-use Rattle.hol_prover.proofs.prover.ProverLeaves.accept.Goals as goal
+use Rattle.hol_refine.proofs.prover.ProverLeaves.accept.Goals as goal
 
 pub returns-clause-ready : goal.returns-clause-ready
 returns-clause-ready g c =
