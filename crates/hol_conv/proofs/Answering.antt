@@ -1,26 +1,25 @@
 -- What calls come to as conversions.
-use Rattle.std.proofs.Common.{◌≡◌, ◌⊎◌, ℕ, zero, suc, ◌+◌, ◌<◌, ◌≤◌, List, [], ◌∷◌, ◌++◌, Bool, true, false, inl, inr, refl, sym, ap, ◌∙◌, subst, arith, add-one, Option, Some, None, Result, Ok, Err, IfOk, IsSome}
+use Rattle.std.proofs.Common.{◌≡◌, ℕ, suc, ◌+◌, ◌<◌, ◌≤◌, List, [], Bool, true, false, inl, inr, refl, sym, subst, arith, add-one, Option, Some, None, Result, Ok, Err, IfOk, IsSome}
 use Rattle.hol_model.specs.declared.fault.Fault.{Fault}
-use Rattle.hol_model.specs.declared.fault.Fault.TheVariants.{Memory, TooLarge, ConvFails, NotEquation, NotAlpha}
+use Rattle.hol_model.specs.declared.fault.Fault.TheVariants.{Memory, TooLarge, NotEquation, NotAlpha}
 use Rattle.hol_model.specs.declared.limits.TheConstants.{DESCENTS_LIMIT}
 use Rattle.hol_model.specs.Terms.HolType.{HolType}
 use Rattle.hol_model.specs.Terms.NamedTerm.{NamedTerm, variable, constant, combination, abstraction, equation, is_within_limits, dest_combination, dest_abstraction}
 use Rattle.hol_model.specs.Logic.Theory.{Theory}
 use Rattle.hol_model.specs.Kernel.Outcome.{unless, given}
 use Rattle.hol_model.specs.Kernel.Theorem.{Theorem, are_alpha_equivalent, with_hypotheses}
-use Rattle.hol_model.specs.Kernel.Rules.{dest_equation, refl_outcome, trans_outcome}
+use Rattle.hol_model.specs.Kernel.Rules.{dest_equation, trans_outcome}
 use Rattle.hol_model.specs.Goals.Replays.{Store}
 use Rattle.hol_model.specs.Refining.HostFunctions.{HostConversions}
 use Rattle.hol_model.specs.Refining.Conversions as conv
 use Rattle.hol_model.specs.Refining.Conversions.{Conversion, Conversions, no_more, more, one_more, all_conv, thenc, orelsec, repeatc, rand_conv, rator_conv, abs_conv, sub_conv, depth_conv, Converts, ConvertsOn, is_caught, of_argument, of_function, of_body, of_parts, lacks_part, spends_step}
-use Rattle.hol_outcomes.specs.Laws.{IsEquationOf}
 use Rattle.hol_outcomes.proofs.Spending.{converts-spends}
 use Rattle.hol_outcomes.proofs.Equations.{conversions-answer-equations, equation-sides}
 use Rattle.hol_outcomes.proofs.Repeating.{onto}
 use Rattle.hol_outcomes.proofs.Chains.{ThencSoFar}
 use Rattle.hol_conv_rules.specs.Makes.{Joins}
 use Rattle.hol_conv.specs.Parts.{AreParts, AreBoundParts, RefusesParts, is_no_combination, combination_is_too_deep, RefusesBoundParts, is_no_abstraction, abstraction_is_too_deep}
-use Rattle.hol_conv.specs.Chains.{Reflects, without_step, by_refl, Finishes, FinishesBy, JoinsSame, Tries}
+use Rattle.hol_conv.specs.Chains.{Reflects, without_step, by_refl, FinishesBy, Tries}
 
 -- ---- equations
 

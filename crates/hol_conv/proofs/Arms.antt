@@ -1,5 +1,5 @@
 -- Conversions whose calls are made over a library that grows.
-use Rattle.std.proofs.Common.{◌≡◌, ◌⊎◌, ℕ, ◌+◌, ◌<◌, ◌≤◌, List, [], ◌∷◌, ◌++◌, Bool, true, false, inl, inr, refl, sym, ap, ◌∙◌, subst, arith, Option, Some, None, Result, Ok, Err, IfOk, IsSome}
+use Rattle.std.proofs.Common.{◌≡◌, ℕ, ◌+◌, ◌<◌, ◌≤◌, List, true, false, refl, sym, subst, arith, Result, Ok, Err, IfOk, IsSome}
 use Rattle.hol_model.specs.declared.fault.Fault.{Fault}
 use Rattle.hol_model.specs.declared.fault.Fault.TheVariants.{Memory}
 use Rattle.hol_model.specs.declared.limits.TheConstants.{DESCENTS_LIMIT}
@@ -15,7 +15,7 @@ use Rattle.hol_model.specs.Refining.Conversions.{Conversion, Conversions, more, 
 use Rattle.hol_model.specs.Refining.Conversions.{Converts, is_caught, of_argument, of_function, of_body, of_parts, if_changed, lacks_part}
 use Rattle.hol_outcomes.proofs.Repeating.{IsFinal, onto, JoinedSoFar, joined_defined}
 use Rattle.hol_outcomes.proofs.Chains.{ThencSoFar}
-use Rattle.hol_journal.specs.Journal.{Journal, Recorded, IsMade, theorem_in}
+use Rattle.hol_journal.specs.Journal.{Recorded, IsMade, theorem_in}
 use Rattle.hol_library.specs.Library.{IsContinued, store_in}
 use Rattle.hol_library.specs.declared.library.Library.{Library}
 use Rattle.hol_conv_rules.specs.Makes.{Makes, Joins, IsRightSide}

@@ -1,5 +1,5 @@
 -- What is asked before a conversion is tried, after calls and of parts.
-use Rattle.std.proofs.Common.{◌≡◌, List, ℕ, Bool, true, false, ◌&&◌, refl, sym, ◌∙◌, subst, Result, Ok, Err, IfOk}
+use Rattle.std.proofs.Common.{◌≡◌, List, ℕ, Bool, true, false, ◌&&◌, refl, sym, ◌∙◌, subst, Result}
 use Rattle.hol_model.specs.declared.fault.Fault.{Fault}
 use Rattle.hol_model.specs.Terms.HolType.{HolType}
 use Rattle.hol_model.specs.Terms.NamedTerm.{NamedTerm, combination, abstraction}
@@ -8,7 +8,7 @@ use Rattle.hol_model.specs.Logic.KnownTerm.{knows_type, knows_types, knows_const
 use Rattle.hol_model.specs.Kernel.Theorem.{Theorem}
 use Rattle.hol_model.specs.Refining.HostFunctions.{HostConversions}
 use Rattle.hol_model.specs.Refining.Conversions.{Conversion, Converts}
-use Rattle.hol_journal.specs.Journal.{Recorded, IsMade}
+use Rattle.hol_journal.specs.Journal.{Recorded}
 use Rattle.hol_journal.proofs.GrowthLemmas.{journals-grow}
 use Rattle.hol_store.specs.Stored.{theorems_in}
 use Rattle.hol_store.specs.Store.{stored_of}
@@ -17,7 +17,6 @@ use Rattle.hol_library.specs.Library.{IsLibrary, IsContinued, store_in}
 use Rattle.hol_library.specs.declared.library.Library.{Library}
 use Rattle.hol_conv_rules.specs.Makes.{Makes}
 use Rattle.hol_conv.specs.Answers.{IsAsked}
-use Rattle.hol_conv.specs.Parts.{AreParts, AreBoundParts}
 
 -- ---- known parts
 

@@ -1,10 +1,10 @@
 -- Theorems joined from the right, and ALL_CONV.
-use Rattle.std.proofs.Common.{◌≡◌, ◌⊎◌, ℕ, suc, ◌<◌, List, [], ◌∷◌, ◌++◌, length, inl, inr, refl, sym, ap, ◌∙◌, subst, arith, Bool, true, false, Option, Some, Result, Ok, Err, IfOk}
+use Rattle.std.proofs.Common.{◌≡◌, ℕ, suc, ◌<◌, List, [], ◌∷◌, ◌++◌, length, inl, inr, refl, sym, ap, ◌∙◌, subst, arith, Bool, true, false, Result, Ok, Err}
 use Rattle.std.specs.List.{All}
 use Rattle.std.proofs.lemmas.List.{map-append, length-append}
 use Rattle.std.proofs.lemmas.List.Elements.{All-weaker, All-push}
 use Rattle.hol_model.specs.declared.fault.Fault.{Fault}
-use Rattle.hol_model.specs.declared.fault.Fault.TheVariants.{Memory, StepLimit}
+use Rattle.hol_model.specs.declared.fault.Fault.TheVariants.{StepLimit}
 use Rattle.hol_model.specs.Terms.NamedTerm.{NamedTerm}
 use Rattle.hol_model.specs.Logic.Theory.{Theory}
 use Rattle.hol_model.specs.Logic.KnownTerm.{is_known}
@@ -12,12 +12,12 @@ use Rattle.hol_model.specs.Kernel.Theorem.{Theorem}
 use Rattle.hol_model.specs.Kernel.Rules.{refl_outcome, trans_outcome}
 use Rattle.hol_model.specs.Refining.Conversions.{is_caught}
 use Rattle.hol_outcomes.proofs.Repeating.{onto, joined_from, joined-last, joined-err}
-use Rattle.hol_journal.specs.Journal.{Recorded, IsMade, theorem_in}
+use Rattle.hol_journal.specs.Journal.{Recorded, IsMade}
 use Rattle.hol_journal.proofs.GrowthLemmas.{journals-grow}
 use Rattle.hol_library.specs.Library.{IsContinued}
 use Rattle.hol_library.specs.declared.library.Library.{Library}
 use Rattle.hol_conv_rules.specs.Makes.{Joins, IsRightSide}
-use Rattle.hol_conv.specs.Chains.{theorems, Reflects, without_step, by_refl, Finishes, FinishesBy, JoinsSame, Tries, IsExtended, IsChain}
+use Rattle.hol_conv.specs.Chains.{theorems, Reflects, without_step, by_refl, Finishes, FinishesBy, IsExtended, IsChain}
 use Rattle.hol_conv.specs.declared.chain.Chain.{Chain}
 
 -- ---- ALL_CONV

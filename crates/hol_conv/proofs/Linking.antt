@@ -1,5 +1,5 @@
 -- REPEATC and TOP_DEPTH_CONV by chains.
-use Rattle.std.proofs.Common.{◌≡◌, ◌⊎◌, ℕ, suc, ◌<◌, ◌≤◌, List, [], ◌∷◌, ◌++◌, Bool, true, false, not, ◌&&◌, inl, inr, refl, sym, ap, subst, arith, if◌then◌else◌, Option, Some, None, Result, Ok, Err}
+use Rattle.std.proofs.Common.{◌≡◌, ℕ, ◌<◌, ◌≤◌, List, [], Bool, true, false, not, ◌&&◌, inl, inr, refl, sym, ap, subst, arith, if◌then◌else◌, Some, None, Result, Ok, Err}
 use Rattle.hol_model.specs.declared.fault.Fault.{Fault}
 use Rattle.hol_model.specs.declared.fault.Fault.TheVariants.{Memory, TooLarge, UnknownType, UnknownConst, NotInstance}
 use Rattle.hol_model.specs.Terms.NamedTerm.{NamedTerm, equation, is_within_limits}
@@ -13,10 +13,10 @@ use Rattle.hol_model.specs.Refining.HostFunctions.{HostConversions}
 use Rattle.hol_model.specs.Refining.Conversions.{Conversion, one_more, all_conv, thenc, orelsec, Converts, is_caught, first_is_refused}
 use Rattle.hol_outcomes.proofs.Costs.{converts-costs}
 use Rattle.hol_outcomes.proofs.Spending.{converts-spends}
-use Rattle.hol_outcomes.proofs.Repeating.{IsFinal, JoinedSoFar, joined_from, joined_tried, joined_next, joined_end, joined_stop, joined_starves}
+use Rattle.hol_outcomes.proofs.Repeating.{IsFinal, JoinedSoFar, joined_tried, joined_next, joined_end, joined_stop, joined_starves}
 use Rattle.hol_journal.specs.Journal.{Recorded, theorem_in}
 use Rattle.hol_conv_rules.specs.Makes.{Joins}
-use Rattle.hol_conv.specs.Chains.{Reflects, without_step, by_refl, Finishes, FinishesBy, JoinsSame, IsExtended, Links, theorems}
+use Rattle.hol_conv.specs.Chains.{Reflects, without_step, by_refl, FinishesBy, Links, theorems}
 use Rattle.hol_conv.specs.declared.chain.Chain.{Chain}
 use Rattle.hol_conv.specs.declared.chain.Linked.TheVariants.{GoesOn, Ends}
 use Rattle.hol_conv.proofs.Answering.{reflects-all}

@@ -1,5 +1,5 @@
 -- Parts to which no conversion goes down.
-use Rattle.std.proofs.Common.{◌≡◌, ℕ, ◌≤◌, Some, None}
+use Rattle.std.proofs.Common.{◌≡◌, ℕ, ◌≤◌, Some}
 use Rattle.hol_model.specs.declared.fault.Fault.TheVariants.{TooLarge}
 use Rattle.hol_model.specs.declared.limits.TheConstants.{DESCENTS_LIMIT}
 use Rattle.hol_model.specs.Terms.NamedTerm.{NamedTerm, variable, constant, combination, abstraction, dest_combination, dest_abstraction}

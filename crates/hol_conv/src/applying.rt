@@ -1,14 +1,14 @@
 // Conversions and rewriting over a library.
 ghost use Rattle.std.specs.Prelude.{◌≡◌, true};
 ghost use Rattle.hol_model.specs.Logic.KnownTerm.{is_known};
-ghost use Rattle.hol_model.specs.Refining.Conversions.{Converts, top_depth_conv};
+ghost use Rattle.hol_model.specs.Refining.Conversions.{top_depth_conv};
 ghost use Rattle.hol_model.specs.Refining.Conversions as conversions;
 ghost use Rattle.hol_exprs.specs.Expressions.{conversion_of};
-ghost use Rattle.hol_journal.specs.Journal.{theorem_in};
 ghost use Rattle.hol_derivations.specs.Derivations.{AreMade, theorems};
 ghost use Rattle.hol_rewrite.specs.RuleSides.{AreEquations};
-ghost use Rattle.hol_library.specs.Library.{IsLibrary, store_in};
+ghost use Rattle.hol_library.specs.Library.{IsLibrary};
 ghost use Rattle.hol_conv_rules.specs.Makes.{Makes};
+ghost use Rattle.hol_conv.specs.Answers.{ConvertsOver};
 
 use crate::by_rules::ByRules;
 use crate::converting::convert;
@@ -22,16 +22,16 @@ use hol_rewrite::choice_of;
 use hol_terms::Term;
 use std::alloc::Global;
 
-/// What the conversion proves of a known term (hol_model, Conversions; HOL Light's equal.ml): `|- t = t'`. A host's conversions
-/// may be called, and what they answer is replayed. Each conversion without parts spends a step, and so does SUB_CONV of a
-/// variable or a constant; they and the combinators go from left to right, as HOL Light's do.
+/// What the conversion proves of a known term, an equation of it: an answer that it may have, with the steps that it leaves
+/// (hol_model, Conversions; HOL Light's equal.ml). A host's conversions may be called, and what they answer is replayed.
 ///
-/// Refused as the conversion is, by the first refusal that no ORELSEC, TRY_CONV, REPEATC or what stands on them catches:
-/// StepLimit where no step is left; ConvFails of NO_CONV, of BETA_CONV where there is no redex, of a part that the term does not
-/// have, of ABS_CONV where its variable is free in a hypothesis, where a change is asked for and there is none, and of a host's
-/// conversion that fails; UnknownName of a theorem or a host's conversion that is not there; NoMatch of REWR_CONV where no rule
-/// applies; InvalidStep of a host's conversion whose justification is not one of the equation; TooLarge past the limit of
-/// descents, or where an equation on the way is; Memory.
+/// Each conversion without parts spends a step before anything else. Refused for the first refusal that is not caught:
+/// StepLimit where no step is left; ConvFails of NO_CONV, of BETA_CONV where there is no redex, of a host's conversion that
+/// fails, of a part that the term does not have, of ABS_CONV where its variable is free in a hypothesis; UnknownName where no
+/// theorem or conversion has the name; NoMatch where no rule of REWR_CONV's theorem applies; InvalidStep where a host's
+/// justification does not give its equation; TooLarge where as many descents are open as the limit allows, or a theorem on the
+/// way passes a limit; and Memory. ORELSEC, TRY_CONV, REPEATC and what is defined by them catch all but StepLimit, TooLarge and
+/// Memory.
 pub fn apply<H: Converters>(
     library: &mut Library,
     alloc: Global,
@@ -42,19 +42,19 @@ pub fn apply<H: Converters>(
 ) -> Result<Rec, Fault>
     requires library { IsLibrary library.old }
     requires known { is_known library.old.recorder.theory t.now ≡ true }
-    ensures outcome { Converts library.old.recorder.theory (store_in library.old) (H.conversions hosts.now) 0 fuel.old.left (conversion_of conv.now) t.now (theorem_in result) fuel.new.left }
+    ensures outcome { ConvertsOver library.old (H.conversions hosts.now) 0 fuel.old.left (conversion_of conv.now) t.now result fuel.new.left }
     ensures makes { Makes library.old library.new result }
 {
     let leaves = OverHost { hosts };
     convert(library, alloc, &leaves, conv, t, 0, fuel)
 }
 
-/// TOP_DEPTH_CONV by these rules, of a known term (HOL Light's REWRITE_CONV, with these rules alone): each rewriting of a term,
-/// which is by the first rule that applies, spends a step. The rules are equations that the recorder made, as `rules_of` answers
-/// them. No host's conversion is called.
+/// TOP_DEPTH_CONV by these rules, of a known term (HOL Light's simp.ml, PURE_REWRITE_CONV): each try of the rules at a term
+/// spends a step, and the first rule that applies is taken. The rules are equations that the recorder made, as `rules_of`
+/// answers them. No conversion of the host is called.
 ///
-/// Refused: StepLimit where no step is left; TooLarge past the limit of descents, or where an equation on the way is; Memory.
-/// Where no rule applies anywhere the answer is `|- t = t`.
+/// Where no rule applies anywhere, the answer is that the term equals itself. Refused: StepLimit where no step is left; TooLarge
+/// where as many descents are open as the limit allows, or a theorem on the way passes a limit; and Memory.
 pub fn rewrite<H: Converters>(
     library: &mut Library,
     alloc: Global,
@@ -67,13 +67,14 @@ pub fn rewrite<H: Converters>(
     requires known { is_known library.old.recorder.theory t.now ≡ true }
     requires made { AreMade library.old.recorder rules.now }
     requires equations { AreEquations (theorems rules.now) }
-    ensures outcome { Converts library.old.recorder.theory (store_in library.old) (H.conversions hosts.now) 0 fuel.old.left (top_depth_conv (conversions.rules_conv (theorems rules.now))) t.now (theorem_in result) fuel.new.left }
+    ensures outcome { ConvertsOver library.old (H.conversions hosts.now) 0 fuel.old.left (top_depth_conv (conversions.rules_conv (theorems rules.now))) t.now result fuel.new.left }
     ensures makes { Makes library.old library.new result }
 {
     let choice = match choice_of(alloc, rules) {
         Ok(choice) => choice,
         Err(fault) => return Err(fault),
     };
+    // Each conversion without parts stands for the rules.
     let everywhere = match Conv::prefixed(alloc, Prefix::TopDepth, Conv::All) {
         Ok(everywhere) => everywhere,
         Err(fault) => return Err(fault),

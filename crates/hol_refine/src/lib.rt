@@ -6,12 +6,10 @@ mod conversions;
 mod converting;
 mod lemmas;
 mod naming;
-mod prover;
 mod refining;
 mod rules;
 mod steps;
 mod tautologies;
 
 pub use converting::Conversions;
-pub use prover::Prover;
 pub use refining::refine;

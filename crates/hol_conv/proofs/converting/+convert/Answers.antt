@@ -1,4 +1,4 @@
-use Rattle.std.proofs.Common.{rules, refl, sym, ap, arith, ◌∙◌, ◌+◌, ◌<◌, ◌≤◌, ◌≡◌, List}
+use Rattle.std.proofs.Common.{rules, refl, sym, ap, arith, ◌∙◌, ◌<◌, ◌≡◌, List}
 use Rattle.std.proofs.lemmas.List.{drop_all}
 use Rattle.hol_model.specs.declared.limits.TheConstants.{DESCENTS_LIMIT}
 use Rattle.hol_model.specs.Terms.NamedTerm.{combination}

@@ -1,4 +1,4 @@
-use Rattle.std.proofs.Common.{◌≡◌, ◌+◌, ◌*◌, ◌-◌, drop, IsSome}
+use Rattle.std.proofs.Common.{◌+◌, ◌*◌, ◌-◌, drop, IsSome}
 use Rattle.hol_model.specs.declared.limits.TheConstants.{DESCENTS_LIMIT}
 use Rattle.hol_model.specs.Kernel.Rules.{dest_equation}
 use Rattle.hol_model.specs.Refining.Conversions.{repeatc}

@@ -16,7 +16,8 @@ returns-in-No-clause-converts g c depth left =
 pub returns-in-Beta-clause-converts : goal.returns-in-Beta-clause-converts
 returns-in-Beta-clause-converts g c depth left =
     let library = c.args.library.now in
-    rw c.in-Beta.is (converts_beta library.recorder.theory (store_in library) (g.H.Converters.conversions c.args.hosts.now) c.args.t.now (theorem_in c.beta_conv.result) c.beta_conv.ensures.answers depth left)
+    rw c.in-Beta.is
+    (converts_beta library.recorder.theory (store_in library) (g.H.Converters.conversions c.args.hosts.now) c.args.t.now (theorem_in c.beta_conv.result) c.beta_conv.ensures.answers depth left)
 
 pub returns-in-Rewr-clause-converts : goal.returns-in-Rewr-clause-converts
 returns-in-Rewr-clause-converts g c depth left =

@@ -1,25 +1,26 @@
-// A library as what refiner expressions run over.
+// A library as what refiner expressions and goal stacks run over.
 
-use crate::converting::Conversions;
-use crate::refining::refine;
+use crate::converting::ByExpression;
+use crate::proving::proved;
 use hol_combine::Leaves;
 use hol_exprs::{Fuel, Leaf};
 use hol_host::Refiners;
-use hol_just::{Goal, Step};
+use hol_journal::Rec;
+use hol_just::{Goal, Just, Step};
 use hol_library::Library;
 use hol_model::Fault;
+use hol_refine::refine;
 use hol_replay::accept;
 use hol_terms::Term;
 use std::alloc::Global;
 
-/// A library with conversions over it: what refiner expressions run on (hol_combine).
+/// A library as what refiner expressions run on (hol_combine) and finished proofs are replayed on (hol_goals).
 #[derive(Drop)]
-pub struct Prover<C> {
+pub struct Prover {
     pub library: Library,
-    pub conversions: C,
 }
 
-impl<C: Conversions> Leaves for Prover<C> {
+impl Leaves for Prover {
     ghost use Rattle.hol_library.specs.Library.{IsLibrary, store_in};
     ghost use Rattle.hol_refine.specs.Growth.{IsExtended, extended-same, extended-twice};
 
@@ -42,7 +43,7 @@ impl<C: Conversions> Leaves for Prover<C> {
         refine(
             &mut self.library,
             alloc,
-            &self.conversions,
+            &ByExpression,
             host,
             leaf,
             goal,
@@ -64,4 +65,16 @@ impl<C: Conversions> Leaves for Prover<C> {
     ghost extends_self = { λ leaves. extended-same leaves.library };
 
     ghost extends_twice = { λ first second third one two. extended-twice first.library second.library third.library one two };
+}
+
+impl hol_goals::Prover for Prover {
+    ghost use Rattle.hol_journal.proofs.GrowthLemmas.{journals-grow};
+
+    ghost journal = { λ prover. prover.library.recorder };
+
+    fn prove(&mut self, alloc: Global, goal: &Goal, just: &Just) -> Result<Rec, Fault> {
+        proved(&mut self.library, alloc, goal, just)
+    }
+
+    ghost extends_makes = { λ old new extended made. journals-grow.stays old.library.recorder new.library.recorder made extended.grown };
 }
