@@ -1,3 +1,4 @@
 pub mod CutLemmas
 pub mod ReadingLemmas
 pub mod PairLemmas
+pub mod CommandLemmas

@@ -9,7 +9,8 @@ use Rattle.hol_model.specs.Terms.Name.{is_type_variable_name}
 use Rattle.hol_model.specs.Texts.Token.{Token, Name, Mark}
 use Rattle.hol_model.specs.Texts.TypeGrammar.{TypeTree}
 use Rattle.hol_model.specs.Texts.TermGrammar.{TermTree, IsWithin}
-use Rattle.hol_session_model.specs.Commands.{RuleTree, by_term, by_pair, by_abs, by_inst, by_inst_type, by_axiom, by_derived, kind_of, quoted, pair_tokens, further_tokens, first_tokens, list_tokens, term_pair, type_pair, argument_tokens, ArePairs, AreTypePairs, IsQuotable, IsRuleTree}
+use Rattle.hol_session_model.specs.Commands.{RuleTree, by_term, by_pair, by_abs, by_inst, by_inst_type, by_axiom, by_derived, kind_of, quoted, pair_tokens, further_tokens}
+use Rattle.hol_session_model.specs.Commands.{first_tokens, list_tokens, term_pair, type_pair, argument_tokens, ArePairs, AreTypePairs, IsQuotable, IsRuleTree}
 use Rattle.hol_grammar.specs.declared.token.Token.{Token as TokenHere}
 use Rattle.hol_grammar.specs.declared.type_reader.ReadError.{ReadError}
 use Rattle.hol_grammar.specs.declared.type_reader.ReadError.TheVariants.{Memory, Syntax}
@@ -17,7 +18,8 @@ use Rattle.hol_grammar.specs.Views.{tokens_of}
 use Rattle.hol_command.specs.declared.pairs.QuotedPair.{QuotedPair}
 use Rattle.hol_command.specs.declared.pairs.TermPair.{TermPair}
 use Rattle.hol_command.specs.declared.pairs.TypePair.{TypePair}
-use Rattle.hol_command.specs.Reading.{AreTokens, HasNoQuote, ParsesArguments}
+use Rattle.hol_tactic_grammar.specs.Tokens.{AreTokens}
+use Rattle.hol_command.specs.Reading.{HasNoQuote, ParsesArguments}
 use Rattle.hol_command.specs.Pairs.{parts_of, IsUnquoted, AreUnquoted, TakesPairs, ParsesPairs, ParsesTermPair, ParsesTypePair, ParsesTermPairs, ParsesTypePairs}
 use Rattle.hol_command.specs.Views.{IsTermPair, AreTermPairs, IsTypePair}
 use Rattle.hol_command.specs.Views as views
@@ -89,7 +91,8 @@ pub no-second : (quote inner further : List Token) → quote ≡ quoted inner fu
 no-second quote inner further is unquoted none pair rest unquoted_pair same =
     none pair.1 rest (first_once inner further pair rest unquoted unquoted_pair (sym is ∙ same)).rest
 
-pub no-quote-behind : (further quote : List Token) → further ≡ Mark Comma ∷ quote → ((inner rest : List Token) → quote ≢ quoted inner rest) → (other rest : List Token) → further ≢ Mark Comma ∷ quoted other rest
+pub no-quote-behind : (further quote : List Token) → further ≡ Mark Comma ∷ quote → ((inner rest : List Token) → quote ≢ quoted inner rest) → (other rest : List Token)
+    → further ≢ Mark Comma ∷ quoted other rest
 no-quote-behind further quote begins none other rest same =
     let both : Mark Comma ∷ quote ≡ Mark Comma ∷ quoted other rest = sym begins ∙ same in
     let behind : quote ≡ quoted other rest = cc in
@@ -122,7 +125,8 @@ unquoted-append [] p all one = (one, tt)
 unquoted-append (q ∷ pairs) p all one = (all.0, unquoted-append pairs p all.1 one)
 
 -- one more pair
-pub taken : (tokens left next : List Token) (pairs : List Parts) (p : Parts) → IsListFront tokens pairs left → IsUnquoted p → left ≡ Mark Semicolon ∷ pair_tokens p next → IsListFront tokens (pairs ++ p ∷ []) next
+pub taken : (tokens left next : List Token) (pairs : List Parts) (p : Parts) → IsListFront tokens pairs left → IsUnquoted p → left ≡ Mark Semicolon ∷ pair_tokens p next
+    → IsListFront tokens (pairs ++ p ∷ []) next
 taken tokens left next pairs p front none begins = record {
   unquoted = unquoted-append pairs p front.unquoted none;
   whole = λ others rest same. front.whole (p ∷ others) rest (begins ∙ ap (λ (ts : List Token). Mark Semicolon ∷ pair_tokens p ts) same)
@@ -141,7 +145,8 @@ pub ended : (tokens left rest : List Token) (pairs : List Parts) → IsListFront
 ended tokens left rest pairs front same = front.whole [] rest same ∙ ap (λ (ps : List Parts). list_tokens ps rest) (append-nil pairs)
 
 -- what is left is neither a further pair nor the end
-pub broken_off : (tokens left : List Token) (pairs : List Parts) → IsListFront tokens pairs left → ((pair : Parts) (rest : List Token) → IsUnquoted pair → left ≢ Mark Semicolon ∷ pair_tokens pair rest)
+pub broken_off : (tokens left : List Token) (pairs : List Parts) → IsListFront tokens pairs left
+    → ((pair : Parts) (rest : List Token) → IsUnquoted pair → left ≢ Mark Semicolon ∷ pair_tokens pair rest)
     → ((rest : List Token) → left ≢ Mark CloseBracket ∷ rest) → TakesPairs (Err Syntax) tokens
 broken_off tokens left pairs front no_pair no_end = λ list rest unquoted same. go rest (front.goes_on list rest unquoted same)
   where
@@ -258,7 +263,8 @@ inst-unread Syntax tokens pairs name unquoted read refused = go
     go (by_axiom named) grammatical kind same = cc
     go (by_derived derived) grammatical kind same = cc
 
-pub inst_type-unread : (error : ReadError) (tokens : List Token) (pairs : List Parts) (name : List ℕ) → AreUnquoted pairs → tokens ≡ list_tokens pairs (Name name ∷ []) → ParsesTypePairs (Err error) pairs
+pub inst_type-unread : (error : ReadError) (tokens : List Token) (pairs : List Parts) (name : List ℕ) → AreUnquoted pairs → tokens ≡ list_tokens pairs (Name name ∷ [])
+    → ParsesTypePairs (Err error) pairs
     → ParsesArguments (Err error) InstType tokens
 inst_type-unread Memory tokens pairs name unquoted read refused = tt
 inst_type-unread Syntax tokens pairs name unquoted read refused = go
@@ -319,7 +325,8 @@ pub more-terms : (pairs : List QuotedPair) (at : ℕ) (default : QuotedPair) (pu
 more-terms pairs at default pushed old pair within put (trees, all, same, parsed) (tree, new_quotable, old_quotable, here, is_pair) = (
   trees ++ tree ∷ [],
   pairs-more trees tree all new_quotable old_quotable,
-  map-append term_pair trees (tree ∷ []) ∙ (λ i. same i ++ here i ∷ []) ∙ sym (map-append parts_of (take at pairs) (get_or pairs at default ∷ [])) ∙ ap (map parts_of) (sym (take_more pairs at default within)),
+  map-append term_pair trees (tree ∷ []) ∙ (λ i. same i ++ here i ∷ [])
+      ∙ sym (map-append parts_of (take at pairs) (get_or pairs at default ∷ [])) ∙ ap (map parts_of) (sym (take_more pairs at default within)),
   subst (λ (ps : List TermPair). AreTermPairs ps (trees ++ tree ∷ [])) (sym put) (term_pairs-more old trees pair tree parsed is_pair),
 )
 
@@ -357,7 +364,8 @@ pub more-types : (pairs : List QuotedPair) (at : ℕ) (default : QuotedPair) (pu
 more-types pairs at default pushed old pair within put (trees, all, same, parsed) (tree, within_limits, here, is_pair) = (
   trees ++ tree ∷ [],
   type_names-more trees tree all within_limits is_pair.2,
-  map-append type_pair trees (tree ∷ []) ∙ (λ i. same i ++ here i ∷ []) ∙ sym (map-append parts_of (take at pairs) (get_or pairs at default ∷ [])) ∙ ap (map parts_of) (sym (take_more pairs at default within)),
+  map-append type_pair trees (tree ∷ []) ∙ (λ i. same i ++ here i ∷ [])
+      ∙ sym (map-append parts_of (take at pairs) (get_or pairs at default ∷ [])) ∙ ap (map parts_of) (sym (take_more pairs at default within)),
   subst (λ (ps : List TypePair). views.AreTypePairs ps (trees ++ tree ∷ [])) (sym put) (type_pairs-more old trees pair tree parsed is_pair),
 )
 

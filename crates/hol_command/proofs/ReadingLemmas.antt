@@ -1,5 +1,6 @@
 -- Names among tokens, where quoted terms end, and which words name rules.
-use Rattle.std.proofs.Common.{◌≡◌, ◌≢◌, ℕ, zero, suc, ◌+◌, ◌-◌, ◌<◌, ◌≤◌, arith, List, [], ◌∷◌, ◌++◌, length, get_or, take, drop, ◌==◌, eqb-true, Bool, true, false, ◌||◌, refl, sym, ◌∙◌, ap, subst, Option, None, Some, Result, Ok, Err, Bor, Vec, Global}
+use Rattle.std.proofs.Common.{◌≡◌, ◌≢◌, ℕ, zero, suc, ◌+◌, ◌-◌, ◌<◌, ◌≤◌, arith, List, [], ◌∷◌, ◌++◌, length, get_or, take, drop, ◌==◌, eqb-true}
+use Rattle.std.proofs.Common.{Bool, true, false, ◌||◌, refl, sym, ◌∙◌, ap, subst, Option, None, Some, Result, Ok, Err, Bor}
 use Rattle.std.specs.Prelude.{codes, if◌then◌else◌}
 use Rattle.std.specs.Option.{option_map, option_or}
 use Rattle.std.specs.Str.{bytes_eq}
@@ -8,7 +9,7 @@ use Rattle.std.proofs.lemmas.List.{take_all, length-drop}
 use borrow.Author.Count.{below_more}
 use Rattle.hol_model.specs.Terms.Name.{is_capital, is_small, continues_name, all_continue, is_identifier}
 use Rattle.hol_model.specs.declared.symbol.Symbol.{Symbol}
-use Rattle.hol_model.specs.declared.symbol.Symbol.TheVariants.{Backquote, Colon, Equal}
+use Rattle.hol_model.specs.declared.symbol.Symbol.TheVariants.{Backquote}
 use Rattle.hol_model.specs.declared.rule.TermRule.{TermRule}
 use Rattle.hol_model.specs.declared.rule.TermRule.TheVariants.{Refl, Beta, Assume}
 use Rattle.hol_model.specs.declared.rule.PairRule.{PairRule}
@@ -27,29 +28,22 @@ use Rattle.hol_model.specs.declared.rule.RuleKind.TheVariants.{Term, Pair, Abs, 
 use Rattle.hol_model.specs.Texts.Token.{Token, Name, Number, Mark}
 use Rattle.hol_model.specs.Texts.Lexing.{Lexes, IsToken, IsIdentifier, Every, is_name_byte}
 use Rattle.hol_model.specs.Texts.TypeGrammar.{TypeTree, Named, Enclosed, Function, type_tokens}
-use Rattle.hol_model.specs.Texts.TermGrammar.{Bare, Variable, Constant, TermTree, Leaf, Apply, Not, Join, Bind, IsConstantName, IsTermTree, Infix, IffInfix, ImpliesInfix, OrInfix, AndInfix, EqualInfix, Binder, Lambda, ForAll, Exists, Choice, Lexeme, InfixPiece, BinderPiece, pieces, all_tokens, IsReadTerm}
+use Rattle.hol_model.specs.Texts.TermGrammar.{Bare, Variable, Constant, TermTree, Leaf, Apply, Not, Join, Bind, IsConstantName, IsTermTree, Infix, IffInfix, ImpliesInfix, OrInfix}
+use Rattle.hol_model.specs.Texts.TermGrammar.{AndInfix, EqualInfix, Binder, Lambda, ForAll, Exists, Choice, Lexeme, InfixPiece, BinderPiece, pieces, all_tokens, IsReadTerm}
 use Rattle.hol_model.specs.Texts.TermGrammar.{Enclosed as EnclosedTerm}
-use Rattle.hol_session_model.specs.Commands.{DerivedTree, by_conversion, by_premise, by_premises, by_term_and_premise, by_cases, by_witness, by_choice, derived_kind_of, derived_word, derived_tokens, IsDerivedTree, kind_of, rule_word, quoted, quote_tokens, argument_tokens, rule_tokens, IsQuotable, IsRuleTree, RuleTree}
-use Rattle.hol_session_model.specs.CommandGrammar.{TheoremTree, by_rule, by_tautology, by_conversion as converting, theorem_tokens, IsTheoremTree, CommandTree, command_tokens, IsCommandTree, IsReadCommand}
-use Rattle.hol_session_model.specs.CommandGrammar.{var_command, newtype_command, newconst_command, def_command, thm_command, show_command, goal_command, e_command, b_command, p_command, r_command, save_command}
-use Rattle.hol_session_model.specs.ScriptSessions.{is_served_theorem, is_served}
+use Rattle.hol_session_model.specs.Commands.{DerivedTree, by_conversion, by_premise, by_premises, by_term_and_premise, by_cases, by_witness, by_choice, derived_kind_of}
+use Rattle.hol_session_model.specs.Commands.{derived_word, derived_tokens, IsDerivedTree, kind_of, rule_word, quoted, quote_tokens, argument_tokens, IsQuotable}
 use Rattle.hol_model.proofs.Tests.{both}
 use Rattle.hol_grammar.specs.declared.token.Token.{Token as TokenHere}
 use Rattle.hol_grammar.specs.declared.token.Token.TheVariants.{Name as NameHere}
 use Rattle.hol_grammar.specs.Views.{token_of, tokens_of}
 use Rattle.hol_grammar.specs.declared.type_reader.ReadError.{ReadError}
 use Rattle.hol_grammar.specs.declared.type_reader.ReadError.TheVariants.{Memory, Syntax}
-use Rattle.hol_grammar.specs.declared.type_reader.TypeStep.{TypeStep}
-use Rattle.hol_grammar.specs.declared.steps.TermStep.{TermStep}
 use Rattle.hol_grammar.specs.TermStates.{Parses}
-use Rattle.hol_grammar.specs.TypeStates.{ParsesType}
-use Rattle.hol_command.specs.Reading.{AreTokens, is_quote, HasNoQuote, premise_rule_of, premises_rule_of, term_premise_rule_of, single_rule_of, derived_kind_of_word, term_rule_of, pair_rule_of, kernel_rule_of, rule_kind_of, kind_of_command, command_word, command_kind_of, name_in_command, body_tokens, ParsesQuote, ParsesOnlyQuote, ParsesQuoteAndName, ParsesTyping, ParsesDerived, ParsesArguments, ParsesRule, ParsesAsked, IsBody, ParsesBody, ParsesCommand}
+use Rattle.hol_tactic_grammar.specs.Tokens.{AreTokens}
+use Rattle.hol_command.specs.Reading.{is_quote, HasNoQuote, premise_rule_of, premises_rule_of, term_premise_rule_of, single_rule_of, derived_kind_of_word, term_rule_of, pair_rule_of}
+use Rattle.hol_command.specs.Reading.{kernel_rule_of, rule_kind_of, ParsesQuote, ParsesOnlyQuote, ParsesQuoteAndName, ParsesDerived, ParsesArguments, ParsesRule}
 use Rattle.hol_command.specs.declared.command.Rule.{Rule}
-use Rattle.hol_command.specs.declared.command.Asked.{Asked}
-use Rattle.hol_command.specs.declared.command.Asked.TheVariants.{Rule as AsksRule, Tautology}
-use Rattle.hol_command.specs.declared.command.Command.{Command}
-use Rattle.hol_command.specs.declared.command.CommandKind.{CommandKind}
-use Rattle.hol_command.specs.declared.command.CommandKind.TheVariants.{Thm, Show, Var, Def, NewType, NewConst}
 
 -- ---- tokens
 
@@ -116,7 +110,7 @@ pub record SamePieces (a b r s : List Token) : Type 0 where
   pub inner : a ≡ b
   pub rest : r ≡ s
 
-never : {A : Type 0} → true ≡ false → A
+pub never : {A : Type 0} → true ≡ false → A
 never same = cc
 
 split_once : (a b r s : List Token) → HasNoQuote a → HasNoQuote b → a ++ Mark Backquote ∷ r ≡ b ++ Mark Backquote ∷ s → SamePieces a b r s
@@ -240,11 +234,13 @@ behind-quote tokens rest tree same all = go (all_tokens (pieces tree [])) (subst
     go (token ∷ before) all = go before all.1
 
 -- a quoted term with more behind it is no quoted term alone
-pub more-behind : (tokens : List Token) (rest : List TokenHere) (tree : TermTree) → IsQuotable tree → tokens ≡ quote_tokens tree (tokens_of rest) → 1 ≤ length rest → ParsesOnlyQuote (Err Syntax) tokens
+pub more-behind : (tokens : List Token) (rest : List TokenHere) (tree : TermTree) → IsQuotable tree → tokens ≡ quote_tokens tree (tokens_of rest) → 1 ≤ length rest
+    → ParsesOnlyQuote (Err Syntax) tokens
 more-behind tokens rest tree quotable read more = λ other grammatical same. some-left rest more (same_rest tokens (tokens_of rest) [] tree other quotable grammatical read same)
 
 -- nor is it a quoted term and a name, where what is behind it is no name alone
-pub no-name-behind : (tokens rest : List Token) (tree : TermTree) → IsQuotable tree → tokens ≡ quote_tokens tree rest → ((name : List ℕ) → rest ≢ Name name ∷ []) → ParsesQuoteAndName (Err Syntax) tokens
+pub no-name-behind : (tokens rest : List Token) (tree : TermTree) → IsQuotable tree → tokens ≡ quote_tokens tree rest → ((name : List ℕ) → rest ≢ Name name ∷ [])
+    → ParsesQuoteAndName (Err Syntax) tokens
 no-name-behind tokens rest tree quotable read none = λ other name grammatical same. none name (same_rest tokens rest (Name name ∷ []) tree other quotable grammatical read same)
 
 -- ---- arguments of derived rules
@@ -273,12 +269,14 @@ derived-refused kind tokens none = λ tree grammatical same. go tree grammatical
     go (by_choice tree a b) grammatical none same = none tree a b grammatical same
 
 -- a quoted term with no two names alone behind it
-pub no-two-names-behind : (tokens rest : List Token) (tree : TermTree) → IsQuotable tree → tokens ≡ quote_tokens tree rest → ((first second : List ℕ) → rest ≢ Name first ∷ Name second ∷ []) → ParsesDerived (Err Syntax) Choose tokens
+pub no-two-names-behind : (tokens rest : List Token) (tree : TermTree) → IsQuotable tree → tokens ≡ quote_tokens tree rest
+    → ((first second : List ℕ) → rest ≢ Name first ∷ Name second ∷ []) → ParsesDerived (Err Syntax) Choose tokens
 no-two-names-behind tokens rest tree quotable read none = derived-refused Choose tokens (λ other first second grammatical same.
     none first second (same_rest tokens rest (Name first ∷ Name second ∷ []) tree other quotable grammatical read same))
 
 -- a quoted formula with no quoted witness and name behind it
-pub no-witness-behind : (error : ReadError) (tokens rest : List Token) (tree : TermTree) → IsQuotable tree → tokens ≡ quote_tokens tree rest → ParsesQuoteAndName (Err error) rest → ParsesDerived (Err error) ExistsRule tokens
+pub no-witness-behind : (error : ReadError) (tokens rest : List Token) (tree : TermTree) → IsQuotable tree → tokens ≡ quote_tokens tree rest
+    → ParsesQuoteAndName (Err error) rest → ParsesDerived (Err error) ExistsRule tokens
 no-witness-behind Memory tokens rest tree quotable read refused = tt
 no-witness-behind Syntax tokens rest tree quotable read refused = derived-refused ExistsRule tokens (λ formula witness name grammatical other same.
     refused witness name other (same_rest tokens rest (quote_tokens witness (Name name ∷ [])) tree formula quotable grammatical read same))
@@ -331,7 +329,7 @@ word-kind (Derived ExistsRule) = refl
 word-kind (Derived Choose) = refl
 
 -- one test of a chain
-chosen : {Kind : Type 0} (spelling : Kind → List ℕ) (word name : List ℕ) (here kind : Kind) (others : Option Kind) → name ≡ spelling here
+pub chosen : {Kind : Type 0} (spelling : Kind → List ℕ) (word name : List ℕ) (here kind : Kind) (others : Option Kind) → name ≡ spelling here
     → (if bytes_eq word name then Some here else others) ≡ Some kind → (others ≡ Some kind → word ≡ spelling kind) → word ≡ spelling kind
 chosen {Kind = Kind} spelling word name here kind others named found later = go (bytes_eq word name) refl found
   where
@@ -340,7 +338,7 @@ chosen {Kind = Kind} spelling word name here kind others named found later = go 
     go false failed found = later found
 
 -- where some of the words of a list are tried first
-first-tried : {Named Kind : Type 0} (spelling : Kind → List ℕ) (wrap : Named → Kind) (word : List ℕ) (kind : Kind) (tried : Option Named) (others : Option Kind)
+pub first-tried : {Named Kind : Type 0} (spelling : Kind → List ℕ) (wrap : Named → Kind) (word : List ℕ) (kind : Kind) (tried : Option Named) (others : Option Kind)
     → ((here : Named) → tried ≡ Some here → word ≡ spelling (wrap here)) → option_or (option_map wrap tried) others ≡ Some kind → (others ≡ Some kind → word ≡ spelling kind) → word ≡ spelling kind
 first-tried spelling wrap word kind (Some here) others spells found later = (let same : wrap here ≡ kind = cc in spells here refl ∙ ap spelling same)
 first-tried spelling wrap word kind None others spells found later = later found
@@ -407,7 +405,8 @@ kernel-rule-word word kind found =
     chosen rule_word word (codes "SELECT") (OfAxiom Select) kind None refl found (λ found. cc)))))
 
 -- the last words
-kernel-or-derived : (word : List ℕ) (kind : RuleKind) (kernel : Option RuleKind) → kernel_rule_of word ≡ kernel → option_or kernel (option_map Derived (derived_kind_of_word word)) ≡ Some kind → word ≡ rule_word kind
+kernel-or-derived : (word : List ℕ) (kind : RuleKind) (kernel : Option RuleKind) → kernel_rule_of word ≡ kernel
+    → option_or kernel (option_map Derived (derived_kind_of_word word)) ≡ Some kind → word ≡ rule_word kind
 kernel-or-derived word kind (Some here) is found = kernel-rule-word word kind (is ∙ found)
 kernel-or-derived word kind None is found = go (derived_kind_of_word word) refl found
   where
@@ -435,220 +434,6 @@ rule-parsed (Err Syntax) kind tokens arguments word begins known refused = λ tr
     let found : Some (kind_of tree) ≡ Some kind = sym (word-kind (kind_of tree)) ∙ ap rule_kind_of (sym spelled) ∙ known in
     let same_kind : kind_of tree ≡ kind = cc in
     refused tree grammatical same_kind further
-
--- ---- commands
-
-pub command-kind : (kind : CommandKind) → command_kind_of (command_word kind) ≡ Some kind
-command-kind Thm = refl
-command-kind Show = refl
-command-kind Var = refl
-command-kind Def = refl
-command-kind NewType = refl
-command-kind NewConst = refl
-
-pub kind-command : (word : List ℕ) (kind : CommandKind) → command_kind_of word ≡ Some kind → word ≡ command_word kind
-kind-command word kind found =
-    chosen command_word word (codes "thm") Thm kind _ refl found (λ found.
-    chosen command_word word (codes "show") Show kind _ refl found (λ found.
-    chosen command_word word (codes "var") Var kind _ refl found (λ found.
-    chosen command_word word (codes "def") Def kind _ refl found (λ found.
-    chosen command_word word (codes "newtype") NewType kind _ refl found (λ found.
-    chosen command_word word (codes "newconst") NewConst kind None refl found (λ found. cc))))))
-
-same_kind : {A : Type 0} {x y : A} → Some x ≡ Some y → x ≡ y
-same_kind is = cc
-
--- a command that is carried out is its word, its name and what follows them
-pub command-parts : (tree : CommandTree) (kind : CommandKind) → kind_of_command tree ≡ Some kind
-    → command_tokens tree ≡ Name (command_word kind) ∷ Name (name_in_command tree) ∷ body_tokens tree
-command-parts (thm_command name theorem) kind is = ap (λ (k : CommandKind). Name (command_word k) ∷ Name name ∷ Mark Equal ∷ theorem_tokens theorem) (same_kind is)
-command-parts (show_command name) kind is = ap (λ (k : CommandKind). Name (command_word k) ∷ Name name ∷ []) (same_kind is)
-command-parts (var_command name tree) kind is = ap (λ (k : CommandKind). Name (command_word k) ∷ Name name ∷ Mark Colon ∷ type_tokens tree []) (same_kind is)
-command-parts (def_command name tree) kind is = ap (λ (k : CommandKind). Name (command_word k) ∷ Name name ∷ Mark Equal ∷ quote_tokens tree []) (same_kind is)
-command-parts (newtype_command name) kind is = ap (λ (k : CommandKind). Name (command_word k) ∷ Name name ∷ []) (same_kind is)
-command-parts (newconst_command name tree) kind is = ap (λ (k : CommandKind). Name (command_word k) ∷ Name name ∷ Mark Colon ∷ type_tokens tree []) (same_kind is)
-command-parts (goal_command tree) kind is = cc
-command-parts (e_command tactic) kind is = cc
-command-parts b_command kind is = cc
-command-parts p_command kind is = cc
-command-parts (r_command digits) kind is = cc
-command-parts (save_command name) kind is = cc
-
--- and it has a kind
-served-kind : (tree : CommandTree) → is_served tree ≡ true → (kind : CommandKind) × (kind_of_command tree ≡ Some kind)
-served-kind (thm_command name theorem) served = (Thm, refl)
-served-kind (show_command name) served = (Show, refl)
-served-kind (var_command name tree) served = (Var, refl)
-served-kind (def_command name tree) served = (Def, refl)
-served-kind (newtype_command name) served = (NewType, refl)
-served-kind (newconst_command name tree) served = (NewConst, refl)
-served-kind (goal_command tree) served = cc
-served-kind (e_command tactic) served = cc
-served-kind b_command served = cc
-served-kind p_command served = cc
-served-kind (r_command digits) served = cc
-served-kind (save_command name) served = cc
-
--- so no command that is carried out has other tokens in front
-pub no-command : (tokens : List Token) → ((word name : List ℕ) (rest : List Token) → tokens ≢ Name word ∷ Name name ∷ rest) → ParsesCommand (Err Syntax) tokens
-no-command tokens none = λ tree served read.
-    let known = served-kind tree served in
-    none (command_word known.0) (name_in_command tree) (body_tokens tree) (read.spelled ∙ command-parts tree known.0 known.1)
-
-pub unknown-command : (tokens rest body : List Token) (word name : List ℕ) → tokens ≡ Name word ∷ rest → rest ≡ Name name ∷ body → command_kind_of word ≡ None → ParsesCommand (Err Syntax) tokens
-unknown-command tokens rest body word name begins goes unknown = λ tree served read.
-    let known = served-kind tree served in
-    let both : Name word ∷ rest ≡ Name (command_word known.0) ∷ Name (name_in_command tree) ∷ body_tokens tree = sym begins ∙ read.spelled ∙ command-parts tree known.0 known.1 in
-    let spelled : word ≡ command_word known.0 = cc in
-    let found : Some known.0 ≡ None = sym (command-kind known.0) ∙ ap command_kind_of (sym spelled) ∙ unknown in
-    cc
-
-pub command-parsed : (result : Result Command ReadError) (kind : CommandKind) (tokens rest body : List Token) (word name : List ℕ) → tokens ≡ Name word ∷ rest → rest ≡ Name name ∷ body
-    → command_kind_of word ≡ Some kind → ParsesBody result kind name body → ParsesCommand result tokens
-command-parsed (Ok command) kind tokens rest body word name begins goes known (tree, is_body, is_command) =
-    let spelled : word ≡ command_word kind = kind-command word kind known in
-    let parts = command-parts tree kind is_body.kind_is in
-    let whole : tokens ≡ command_tokens tree =
-    begins ∙ (λ i. Name (spelled i) ∷ goes i) ∙ (λ i. Name (command_word kind) ∷ Name (sym is_body.name_is i) ∷ is_body.spelled i) ∙ sym parts in
-    (tree, is_body.served, record { grammatical = is_body.grammatical; spelled = whole }, is_command)
-command-parsed (Err Memory) kind tokens rest body word name begins goes known parsed = tt
-command-parsed (Err Syntax) kind tokens rest body word name begins goes known refused = λ tree served read.
-    let other = served-kind tree served in
-    let both : Name word ∷ Name name ∷ body ≡ Name (command_word other.0) ∷ Name (name_in_command tree) ∷ body_tokens tree =
-    (λ i. Name word ∷ sym goes i) ∙ sym begins ∙ read.spelled ∙ command-parts tree other.0 other.1 in
-    let spelled : word ≡ command_word other.0 = cc in
-    let named : name ≡ name_in_command tree = cc in
-    let further : body ≡ body_tokens tree = cc in
-    let found : Some other.0 ≡ Some kind = sym (command-kind other.0) ∙ ap command_kind_of (sym spelled) ∙ known in
-    refused tree (record { served = served; grammatical = read.grammatical; kind_is = other.1 ∙ found; name_is = sym named; spelled = further })
-
--- ---- bodies of commands
-
-pub typing-parsed : (result : Result (Vec TypeStep Global) ReadError) (tokens rest : List Token) → tokens ≡ Mark Colon ∷ rest → ParsesType result rest → ParsesTyping result tokens
-typing-parsed (Ok steps) tokens rest begins (tree, read, steps_are) = (tree, (read.grammatical, read.depth), begins ∙ ap (λ (ts : List Token). Mark Colon ∷ ts) read.spelled, steps_are)
-typing-parsed (Err Memory) tokens rest begins parsed = tt
-typing-parsed (Err Syntax) tokens rest begins refused = λ tree within same.
-    let both : Mark Colon ∷ rest ≡ Mark Colon ∷ type_tokens tree [] = sym begins ∙ same in
-    let further : rest ≡ type_tokens tree [] = cc in
-    refused tree (record { grammatical = within.0; depth = within.1; spelled = further })
-
--- what a command of a kind is
-abbrev IsOfKind : CommandKind → CommandTree → Type 0
-IsOfKind Thm tree = (name : List ℕ) × (theorem : TheoremTree) × (tree ≡ thm_command name theorem)
-IsOfKind Show tree = (name : List ℕ) × (tree ≡ show_command name)
-IsOfKind Var tree = (name : List ℕ) × (ty : TypeTree) × (tree ≡ var_command name ty)
-IsOfKind Def tree = (name : List ℕ) × (term : TermTree) × (tree ≡ def_command name term)
-IsOfKind NewType tree = (name : List ℕ) × (tree ≡ newtype_command name)
-IsOfKind NewConst tree = (name : List ℕ) × (ty : TypeTree) × (tree ≡ newconst_command name ty)
-
-of-kind : (kind : CommandKind) (tree : CommandTree) → kind_of_command tree ≡ Some kind → IsOfKind kind tree
-of-kind kind (thm_command name theorem) is = subst (λ (k : CommandKind). IsOfKind k (thm_command name theorem)) (same_kind is) (name, theorem, refl)
-of-kind kind (show_command name) is = subst (λ (k : CommandKind). IsOfKind k (show_command name)) (same_kind is) (name, refl)
-of-kind kind (var_command name tree) is = subst (λ (k : CommandKind). IsOfKind k (var_command name tree)) (same_kind is) (name, tree, refl)
-of-kind kind (def_command name tree) is = subst (λ (k : CommandKind). IsOfKind k (def_command name tree)) (same_kind is) (name, tree, refl)
-of-kind kind (newtype_command name) is = subst (λ (k : CommandKind). IsOfKind k (newtype_command name)) (same_kind is) (name, refl)
-of-kind kind (newconst_command name tree) is = subst (λ (k : CommandKind). IsOfKind k (newconst_command name tree)) (same_kind is) (name, tree, refl)
-of-kind kind (goal_command tree) is = cc
-of-kind kind (e_command tactic) is = cc
-of-kind kind b_command is = cc
-of-kind kind p_command is = cc
-of-kind kind (r_command digits) is = cc
-of-kind kind (save_command name) is = cc
-
--- a command without a body
-pub show-bodiless : (name : List ℕ) (tokens : List Token) → tokens ≢ [] → ParsesBody (Err Syntax) Show name tokens
-show-bodiless name tokens some = λ tree body. (let (other, is) = of-kind Show tree body.kind_is in some (body.spelled ∙ ap body_tokens is))
-
-pub newtype-bodiless : (name : List ℕ) (tokens : List Token) → tokens ≢ [] → ParsesBody (Err Syntax) NewType name tokens
-newtype-bodiless name tokens some = λ tree body. (let (other, is) = of-kind NewType tree body.kind_is in some (body.spelled ∙ ap body_tokens is))
-
--- a refusal of the type is one of the command
-pub var-refused : (error : ReadError) (name : List ℕ) (tokens : List Token) → ParsesTyping (Err error) tokens → ParsesBody (Err error) Var name tokens
-var-refused Memory name tokens refused = tt
-var-refused Syntax name tokens refused = λ tree body.
-    let (other, ty, is) = of-kind Var tree body.kind_is in
-    refused ty (subst IsCommandTree is body.grammatical) (body.spelled ∙ ap body_tokens is)
-
-pub newconst-refused : (error : ReadError) (name : List ℕ) (tokens : List Token) → ParsesTyping (Err error) tokens → ParsesBody (Err error) NewConst name tokens
-newconst-refused Memory name tokens refused = tt
-newconst-refused Syntax name tokens refused = λ tree body.
-    let (other, ty, is) = of-kind NewConst tree body.kind_is in
-    refused ty (subst IsCommandTree is body.grammatical) (body.spelled ∙ ap body_tokens is)
-
--- what stands behind the equals sign of `thm` and `def`
-pub thm-unequal : (name : List ℕ) (tokens : List Token) → ((rest : List Token) → tokens ≢ Mark Equal ∷ rest) → ParsesBody (Err Syntax) Thm name tokens
-thm-unequal name tokens none = λ tree body. (let (other, theorem, is) = of-kind Thm tree body.kind_is in none (theorem_tokens theorem) (body.spelled ∙ ap body_tokens is))
-
-pub def-unequal : (name : List ℕ) (tokens : List Token) → ((rest : List Token) → tokens ≢ Mark Equal ∷ rest) → ParsesBody (Err Syntax) Def name tokens
-def-unequal name tokens none = λ tree body. (let (other, term, is) = of-kind Def tree body.kind_is in none (quote_tokens term []) (body.spelled ∙ ap body_tokens is))
-
-pub thm-refused : (error : ReadError) (name : List ℕ) (tokens rest : List Token) → tokens ≡ Mark Equal ∷ rest → ParsesAsked (Err error) rest → ParsesBody (Err error) Thm name tokens
-thm-refused Memory name tokens rest begins refused = tt
-thm-refused Syntax name tokens rest begins refused = λ tree body.
-    let (other, theorem, is) = of-kind Thm tree body.kind_is in
-    let both : Mark Equal ∷ rest ≡ Mark Equal ∷ theorem_tokens theorem = sym begins ∙ body.spelled ∙ ap body_tokens is in
-    let further : rest ≡ theorem_tokens theorem = cc in
-    refused theorem (sym (ap is_served is) ∙ body.served) (subst IsCommandTree is body.grammatical) further
-
-pub def-refused : (error : ReadError) (name : List ℕ) (tokens rest : List Token) → tokens ≡ Mark Equal ∷ rest → ParsesOnlyQuote (Err error) rest → ParsesBody (Err error) Def name tokens
-def-refused Memory name tokens rest begins refused = tt
-def-refused Syntax name tokens rest begins refused = λ tree body.
-    let (other, term, is) = of-kind Def tree body.kind_is in
-    let both : Mark Equal ∷ rest ≡ Mark Equal ∷ quote_tokens term [] = sym begins ∙ body.spelled ∙ ap body_tokens is in
-    let further : rest ≡ quote_tokens term [] = cc in
-    refused term (subst IsCommandTree is body.grammatical) further
-
--- ---- what `thm` asks for
-
--- no rule has the word TAUT
-taut-no_rule : (kind : RuleKind) → codes "TAUT" ≡ rule_word kind → ⊥
-taut-no_rule kind same = (let found : Some kind ≡ None = sym (word-kind kind) ∙ ap rule_kind_of (sym same) in cc)
-
-pub taut-parsed : (steps : Vec TermStep Global) (tokens arguments : List Token) (word : List ℕ) → tokens ≡ Name word ∷ arguments → word ≡ codes "TAUT" → ParsesOnlyQuote (Ok steps) arguments
-    → ParsesAsked (Ok (Tautology steps)) tokens
-taut-parsed steps tokens arguments word begins named (tree, quotable, spelled, are_steps) =
-    (by_tautology tree, refl, quotable, begins ∙ (λ i. Name (named i) ∷ spelled i), are_steps)
-
-pub taut-refused : (error : ReadError) (tokens arguments : List Token) (word : List ℕ) → tokens ≡ Name word ∷ arguments → word ≡ codes "TAUT" → ParsesOnlyQuote (Err error) arguments
-    → ParsesAsked (Err error) tokens
-taut-refused Memory tokens arguments word begins named refused = tt
-taut-refused Syntax tokens arguments word begins named refused = go
-  where
-    go : (tree : TheoremTree) → is_served_theorem tree ≡ true → IsTheoremTree tree → tokens ≢ theorem_tokens tree
-    go (by_rule rule) served grammatical same =
-        let both : Name word ∷ arguments ≡ Name (rule_word (kind_of rule)) ∷ argument_tokens rule = sym begins ∙ same in
-        let spelled : word ≡ rule_word (kind_of rule) = cc in
-        taut-no_rule (kind_of rule) (sym named ∙ spelled)
-    go (by_tautology tree) served grammatical same =
-        let both : Name word ∷ arguments ≡ Name (codes "TAUT") ∷ quote_tokens tree [] = sym begins ∙ same in
-        let further : arguments ≡ quote_tokens tree [] = cc in
-        refused tree grammatical further
-    go (converting conversion tree) served grammatical same = cc
-
-pub rule-asked : (rule : Rule) (tokens : List Token) → ParsesRule (Ok rule) tokens → ParsesAsked (Ok (AsksRule rule)) tokens
-rule-asked rule tokens (tree, grammatical, spelled, is_rule) = (by_rule tree, refl, grammatical, spelled, is_rule)
-
-pub rule-refused : (error : ReadError) (tokens arguments : List Token) (word : List ℕ) → tokens ≡ Name word ∷ arguments → word ≢ codes "TAUT" → ParsesRule (Err error) tokens
-    → ParsesAsked (Err error) tokens
-rule-refused Memory tokens arguments word begins other refused = tt
-rule-refused Syntax tokens arguments word begins other refused = go
-  where
-    go : (tree : TheoremTree) → is_served_theorem tree ≡ true → IsTheoremTree tree → tokens ≢ theorem_tokens tree
-    go (by_rule rule) served grammatical same = refused rule grammatical same
-    go (by_tautology tree) served grammatical same =
-        let both : Name word ∷ arguments ≡ Name (codes "TAUT") ∷ quote_tokens tree [] = sym begins ∙ same in
-        let spelled : word ≡ codes "TAUT" = cc in
-        other spelled
-    go (converting conversion tree) served grammatical same = cc
-
--- what begins with no name asks for nothing
-pub unnamed-asked : (tokens : List Token) → ((word : List ℕ) (rest : List Token) → tokens ≢ Name word ∷ rest) → ParsesAsked (Err Syntax) tokens
-unnamed-asked tokens none = go
-  where
-    go : (tree : TheoremTree) → is_served_theorem tree ≡ true → IsTheoremTree tree → tokens ≢ theorem_tokens tree
-    go (by_rule rule) served grammatical same = none (rule_word (kind_of rule)) (argument_tokens rule) same
-    go (by_tautology tree) served grammatical same = none (codes "TAUT") (quote_tokens tree []) same
-    go (converting conversion tree) served grammatical same = cc
 
 -- what follows a mark
 pub behind-mark : (symbol : Symbol) (tokens rest : List Token) → tokens ≡ Mark symbol ∷ rest → AreTokens tokens → AreTokens rest

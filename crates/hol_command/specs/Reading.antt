@@ -20,14 +20,18 @@ use Rattle.hol_model.specs.declared.rule.DerivedKind.{DerivedKind}
 use Rattle.hol_model.specs.declared.rule.DerivedKind.TheVariants.{BetaConv, Premise, Premises, TermPremise, DisjCases, Exists, Choose}
 use Rattle.hol_model.specs.declared.rule.RuleKind.{RuleKind}
 use Rattle.hol_model.specs.declared.rule.RuleKind.TheVariants.{Term, Pair, Abs, Inst, InstType, Axiom as OfAxiom, Derived}
-use Rattle.hol_model.specs.Texts.Token.{Token, Name, Mark}
-use Rattle.hol_model.specs.Texts.Lexing.{IsToken}
+use Rattle.hol_model.specs.Texts.Token.{Token, Name, Number, Mark}
+use Rattle.hol_model.specs.Texts.Lexing.{numeral_value}
 use Rattle.hol_model.specs.Texts.TypeGrammar.{TypeTree, type_tokens, type_steps}
 use Rattle.hol_model.specs.Texts.TermGrammar.{TermTree, IsWithin}
 use Rattle.hol_session_model.specs.Commands.{DerivedTree, derived_kind_of, derived_tokens, IsDerivedTree, RuleTree, kind_of, quoted, quote_tokens, argument_tokens, rule_tokens, IsQuotable, IsRuleTree}
-use Rattle.hol_session_model.specs.CommandGrammar.{TheoremTree, theorem_tokens, IsTheoremTree, CommandTree, IsCommandTree, IsReadCommand}
-use Rattle.hol_session_model.specs.CommandGrammar.{var_command, newtype_command, newconst_command, def_command, thm_command, show_command, goal_command, e_command, b_command, p_command, r_command, save_command}
-use Rattle.hol_session_model.specs.ScriptSessions.{is_served_theorem, is_served}
+use Rattle.hol_session_model.specs.CommandGrammar.{TheoremTree, by_tautology, by_conversion, theorem_tokens, IsTheoremTree, CommandTree, IsCommandTree, IsReadCommand}
+use Rattle.hol_session_model.specs.CommandGrammar.{var_command, newtype_command, newconst_command, def_command, thm_command}
+use Rattle.hol_session_model.specs.CommandGrammar.{show_command, goal_command, e_command, b_command, p_command, r_command}
+use Rattle.hol_session_model.specs.CommandGrammar.{save_command}
+use Rattle.hol_session_model.specs.ConversionGrammar.{ConversionUnit, unit_tokens, IsConversionUnit}
+use Rattle.hol_session_model.specs.TacticGrammar.{tactic_tokens}
+use Rattle.hol_session_model.specs.SessionTools.{conversion_of_unit}
 use Rattle.hol_grammar.specs.declared.token.Token.{Token as TokenHere}
 use Rattle.hol_grammar.specs.declared.type_reader.ReadError.{ReadError}
 use Rattle.hol_grammar.specs.declared.type_reader.ReadError.TheVariants.{Memory, Syntax}
@@ -36,18 +40,19 @@ use Rattle.hol_grammar.specs.declared.steps.TermStep.{TermStep}
 use Rattle.hol_grammar.specs.Views.{tokens_of, steps_of}
 use Rattle.hol_grammar.specs.Steps.{flat_steps_of}
 use Rattle.hol_grammar.specs.TermSteps.{term_steps, flat_steps}
+use Rattle.hol_exprs.specs.declared.conv.Conv.{Conv}
+use Rattle.hol_exprs.specs.Expressions.{conversion_of}
 use Rattle.hol_command.specs.declared.derived.Derived.{Derived as OfDerived}
 use Rattle.hol_command.specs.declared.command.Rule.{Rule}
 use Rattle.hol_command.specs.declared.command.Asked.{Asked}
 use Rattle.hol_command.specs.declared.command.Command.{Command}
 use Rattle.hol_command.specs.declared.command.CommandKind.{CommandKind}
-use Rattle.hol_command.specs.declared.command.CommandKind.TheVariants.{Thm, Show, Var, Def, NewType, NewConst}
+use Rattle.hol_command.specs.declared.command.CommandKind.TheVariants.{Naming, OfGoals}
+use Rattle.hol_command.specs.declared.command.NamingKind.{NamingKind}
+use Rattle.hol_command.specs.declared.command.NamingKind.TheVariants.{Thm, Show, Var, Def, NewType, NewConst, Save}
+use Rattle.hol_command.specs.declared.goals.GoalKind.{GoalKind}
+use Rattle.hol_command.specs.declared.goals.GoalKind.TheVariants.{Goal, Expand, Back, Print, Rotate}
 use Rattle.hol_command.specs.Views.{IsDerived, IsRule, IsAsked, IsCommand}
-
--- each of them is a token
-abbrev pub AreTokens : List Token → Type 0
-AreTokens [] = Unit {0}
-AreTokens (token ∷ tokens) = IsToken token × AreTokens tokens
 
 abbrev pub TakesName : Option (Bor (List ℕ) × Bor (List TokenHere)) → List Token → Type 0
 TakesName None tokens = (name : List ℕ) (rest : List Token) → tokens ≢ Name name ∷ rest
@@ -95,6 +100,14 @@ ParsesOnlyQuote (Ok steps) tokens =
     (tree : TermTree) × IsQuotable tree × (tokens ≡ quote_tokens tree []) × (flat_steps_of steps.items ≡ flat_steps (term_steps tree))
 ParsesOnlyQuote (Err Memory) tokens = Unit {0}
 ParsesOnlyQuote (Err Syntax) tokens = (tree : TermTree) → IsQuotable tree → tokens ≢ quote_tokens tree []
+
+-- a conversion, a quoted term and nothing else
+abbrev pub ParsesConversion : Result (Conv × Vec TermStep Global) ReadError → List Token → Type 0
+ParsesConversion (Ok x) tokens =
+    (unit : ConversionUnit) × (tree : TermTree) × IsConversionUnit unit × IsQuotable tree × (tokens ≡ unit_tokens unit (quote_tokens tree []))
+    × (conversion_of x.0 ≡ conversion_of_unit unit) × (flat_steps_of x.1.items ≡ flat_steps (term_steps tree))
+ParsesConversion (Err Memory) tokens = Unit {0}
+ParsesConversion (Err Syntax) tokens = (unit : ConversionUnit) (tree : TermTree) → IsConversionUnit unit → IsQuotable tree → tokens ≢ unit_tokens unit (quote_tokens tree [])
 
 -- a quoted term, a name and nothing else
 abbrev pub ParsesQuoteAndName : Result (Vec TermStep Global × Bor (List ℕ)) ReadError → List Token → Type 0
@@ -144,7 +157,8 @@ single_rule_of word =
 -- the kind of derived rule that a word names
 abbrev pub derived_kind_of_word : List ℕ → Option DerivedKind
 derived_kind_of_word word =
-    option_or (option_map Premise (premise_rule_of word)) (option_or (option_map Premises (premises_rule_of word)) (option_or (option_map TermPremise (term_premise_rule_of word)) (single_rule_of word)))
+    option_or (option_map Premise (premise_rule_of word))
+    (option_or (option_map Premises (premises_rule_of word)) (option_or (option_map TermPremise (term_premise_rule_of word)) (single_rule_of word)))
 
 -- the rule of a term that a word names
 abbrev pub term_rule_of : List ℕ → Option TermRule
@@ -192,12 +206,24 @@ ParsesRule (Ok rule) tokens = (tree : RuleTree) × IsRuleTree tree × (tokens �
 ParsesRule (Err Memory) tokens = Unit {0}
 ParsesRule (Err Syntax) tokens = (tree : RuleTree) → IsRuleTree tree → tokens ≢ rule_tokens tree
 
--- what `thm` may ask for, so far as it is carried out
+-- what TAUT asks for
+abbrev pub ParsesTautology : Result Asked ReadError → List Token → Type 0
+ParsesTautology (Ok asked) tokens = (tree : TermTree) × IsQuotable tree × (tokens ≡ quote_tokens tree []) × IsAsked asked (by_tautology tree)
+ParsesTautology (Err Memory) tokens = Unit {0}
+ParsesTautology (Err Syntax) tokens = (tree : TermTree) → IsQuotable tree → tokens ≢ quote_tokens tree []
+
+-- what CONV asks for
+abbrev pub ParsesConverted : Result Asked ReadError → List Token → Type 0
+ParsesConverted (Ok asked) tokens =
+    (unit : ConversionUnit) × (tree : TermTree) × IsConversionUnit unit × IsQuotable tree × (tokens ≡ unit_tokens unit (quote_tokens tree [])) × IsAsked asked (by_conversion unit tree)
+ParsesConverted (Err Memory) tokens = Unit {0}
+ParsesConverted (Err Syntax) tokens = (unit : ConversionUnit) (tree : TermTree) → IsConversionUnit unit → IsQuotable tree → tokens ≢ unit_tokens unit (quote_tokens tree [])
+
+-- what `thm` asks for
 abbrev pub ParsesAsked : Result Asked ReadError → List Token → Type 0
-ParsesAsked (Ok asked) tokens =
-    (tree : TheoremTree) × (is_served_theorem tree ≡ true) × IsTheoremTree tree × (tokens ≡ theorem_tokens tree) × IsAsked asked tree
+ParsesAsked (Ok asked) tokens = (tree : TheoremTree) × IsTheoremTree tree × (tokens ≡ theorem_tokens tree) × IsAsked asked tree
 ParsesAsked (Err Memory) tokens = Unit {0}
-ParsesAsked (Err Syntax) tokens = (tree : TheoremTree) → is_served_theorem tree ≡ true → IsTheoremTree tree → tokens ≢ theorem_tokens tree
+ParsesAsked (Err Syntax) tokens = (tree : TheoremTree) → IsTheoremTree tree → tokens ≢ theorem_tokens tree
 
 -- a colon, and then a type that is not nested too deep
 abbrev pub ParsesTyping : Result (Vec TypeStep Global) ReadError → List Token → Type 0
@@ -205,38 +231,80 @@ ParsesTyping (Ok steps) tokens = (tree : TypeTree) × IsWithin tree × (tokens �
 ParsesTyping (Err Memory) tokens = Unit {0}
 ParsesTyping (Err Syntax) tokens = (tree : TypeTree) → IsWithin tree → tokens ≢ Mark Colon ∷ type_tokens tree []
 
--- the kind of a command, of those that are carried out
-abbrev pub kind_of_command : CommandTree → Option CommandKind
-kind_of_command (thm_command name theorem) = Some Thm
-kind_of_command (show_command name) = Some Show
-kind_of_command (var_command name tree) = Some Var
-kind_of_command (def_command name tree) = Some Def
-kind_of_command (newtype_command name) = Some NewType
-kind_of_command (newconst_command name tree) = Some NewConst
-kind_of_command (goal_command tree) = None
-kind_of_command (e_command tactic) = None
-kind_of_command b_command = None
-kind_of_command p_command = None
-kind_of_command (r_command digits) = None
-kind_of_command (save_command name) = None
+-- the number that the tokens are
+abbrev pub TakesNumber : Option ℕ → List Token → Type 0
+TakesNumber None tokens = (digits : List ℕ) → tokens ≢ Number digits ∷ []
+TakesNumber (Some number) tokens = (digits : List ℕ) × (tokens ≡ Number digits ∷ []) × (numeral_value digits ≡ number)
+
+-- ---- commands
+
+-- the kind of a command: its word has a name behind it, or it is one of the goal stack
+abbrev pub kind_of_command : CommandTree → CommandKind
+kind_of_command (thm_command name theorem) = Naming Thm
+kind_of_command (show_command name) = Naming Show
+kind_of_command (var_command name tree) = Naming Var
+kind_of_command (def_command name tree) = Naming Def
+kind_of_command (newtype_command name) = Naming NewType
+kind_of_command (newconst_command name tree) = Naming NewConst
+kind_of_command (save_command name) = Naming Save
+kind_of_command (goal_command tree) = OfGoals Goal
+kind_of_command (e_command tactic) = OfGoals Expand
+kind_of_command b_command = OfGoals Back
+kind_of_command p_command = OfGoals Print
+kind_of_command (r_command digits) = OfGoals Rotate
 
 abbrev pub command_word : CommandKind → List ℕ
-command_word Thm = codes "thm"
-command_word Show = codes "show"
-command_word Var = codes "var"
-command_word Def = codes "def"
-command_word NewType = codes "newtype"
-command_word NewConst = codes "newconst"
+command_word (Naming Thm) = codes "thm"
+command_word (Naming Show) = codes "show"
+command_word (Naming Var) = codes "var"
+command_word (Naming Def) = codes "def"
+command_word (Naming NewType) = codes "newtype"
+command_word (Naming NewConst) = codes "newconst"
+command_word (Naming Save) = codes "save"
+command_word (OfGoals Goal) = codes "goal"
+command_word (OfGoals Expand) = codes "e"
+command_word (OfGoals Back) = codes "b"
+command_word (OfGoals Print) = codes "p"
+command_word (OfGoals Rotate) = codes "r"
 
--- the kind of command that a word names
-abbrev pub command_kind_of : List ℕ → Option CommandKind
-command_kind_of word =
+-- the kind of command with a name that a word names
+abbrev pub naming_kind_of : List ℕ → Option NamingKind
+naming_kind_of word =
     if bytes_eq word (codes "thm") then Some Thm else
     (if bytes_eq word (codes "show") then Some Show else
     (if bytes_eq word (codes "var") then Some Var else
     (if bytes_eq word (codes "def") then Some Def else
     (if bytes_eq word (codes "newtype") then Some NewType else
-    (if bytes_eq word (codes "newconst") then Some NewConst else None)))))
+    (if bytes_eq word (codes "newconst") then Some NewConst else
+    (if bytes_eq word (codes "save") then Some Save else None))))))
+
+-- the kind of command of the goal stack that a word names
+abbrev pub goal_kind_of : List ℕ → Option GoalKind
+goal_kind_of word =
+    if bytes_eq word (codes "goal") then Some Goal else
+    (if bytes_eq word (codes "e") then Some Expand else
+    (if bytes_eq word (codes "b") then Some Back else
+    (if bytes_eq word (codes "p") then Some Print else
+    (if bytes_eq word (codes "r") then Some Rotate else None))))
+
+-- the kind of command that a word names
+abbrev pub command_kind_of : List ℕ → Option CommandKind
+command_kind_of word = option_or (option_map Naming (naming_kind_of word)) (option_map OfGoals (goal_kind_of word))
+
+-- what follows the word
+abbrev pub behind_tokens : CommandTree → List Token
+behind_tokens (thm_command name theorem) = Name name ∷ Mark Equal ∷ theorem_tokens theorem
+behind_tokens (show_command name) = Name name ∷ []
+behind_tokens (var_command name tree) = Name name ∷ Mark Colon ∷ type_tokens tree []
+behind_tokens (def_command name tree) = Name name ∷ Mark Equal ∷ quote_tokens tree []
+behind_tokens (newtype_command name) = Name name ∷ []
+behind_tokens (newconst_command name tree) = Name name ∷ Mark Colon ∷ type_tokens tree []
+behind_tokens (save_command name) = Name name ∷ []
+behind_tokens (goal_command tree) = quote_tokens tree []
+behind_tokens (e_command tactic) = tactic_tokens tactic []
+behind_tokens b_command = []
+behind_tokens p_command = []
+behind_tokens (r_command digits) = Number digits ∷ []
 
 -- the name that such a command gives or shows
 abbrev pub name_in_command : CommandTree → List ℕ
@@ -246,33 +314,37 @@ name_in_command (var_command name tree) = name
 name_in_command (def_command name tree) = name
 name_in_command (newtype_command name) = name
 name_in_command (newconst_command name tree) = name
+name_in_command (save_command name) = name
 name_in_command _ = []
 
 -- what follows the name
 abbrev pub body_tokens : CommandTree → List Token
 body_tokens (thm_command name theorem) = Mark Equal ∷ theorem_tokens theorem
-body_tokens (show_command name) = []
 body_tokens (var_command name tree) = Mark Colon ∷ type_tokens tree []
 body_tokens (def_command name tree) = Mark Equal ∷ quote_tokens tree []
-body_tokens (newtype_command name) = []
 body_tokens (newconst_command name tree) = Mark Colon ∷ type_tokens tree []
 body_tokens _ = []
 
 -- the tree is of a command of this kind with this name, and these tokens follow the name
-pub record IsBody (kind : CommandKind) (name : List ℕ) (tokens : List Token) (tree : CommandTree) : Type 0 where
-  pub served : is_served tree ≡ true
+pub record IsBody (kind : NamingKind) (name : List ℕ) (tokens : List Token) (tree : CommandTree) : Type 0 where
   pub grammatical : IsCommandTree tree
-  pub kind_is : kind_of_command tree ≡ Some kind
+  pub kind_is : kind_of_command tree ≡ Naming kind
   pub name_is : name_in_command tree ≡ name
   pub spelled : tokens ≡ body_tokens tree
 
-abbrev pub ParsesBody : Result Command ReadError → CommandKind → List ℕ → List Token → Type 0
+abbrev pub ParsesBody : Result Command ReadError → NamingKind → List ℕ → List Token → Type 0
 ParsesBody (Ok command) kind name tokens = (tree : CommandTree) × IsBody kind name tokens tree × IsCommand command tree
 ParsesBody (Err Memory) kind name tokens = Unit {0}
 ParsesBody (Err Syntax) kind name tokens = (tree : CommandTree) → ¬ (IsBody kind name tokens tree)
 
--- the tokens are those of a command that is carried out, or of none
+-- these tokens follow the word of a command of this kind
+abbrev pub ParsesBehind : Result Command ReadError → CommandKind → List Token → Type 0
+ParsesBehind (Ok command) kind tokens = (tree : CommandTree) × IsCommandTree tree × (kind_of_command tree ≡ kind) × (tokens ≡ behind_tokens tree) × IsCommand command tree
+ParsesBehind (Err Memory) kind tokens = Unit {0}
+ParsesBehind (Err Syntax) kind tokens = (tree : CommandTree) → IsCommandTree tree → kind_of_command tree ≡ kind → tokens ≢ behind_tokens tree
+
+-- the tokens are those of a command, or of none
 abbrev pub ParsesCommand : Result Command ReadError → List Token → Type 0
-ParsesCommand (Ok command) tokens = (tree : CommandTree) × (is_served tree ≡ true) × IsReadCommand tokens tree × IsCommand command tree
+ParsesCommand (Ok command) tokens = (tree : CommandTree) × IsReadCommand tokens tree × IsCommand command tree
 ParsesCommand (Err Memory) tokens = Unit {0}
-ParsesCommand (Err Syntax) tokens = (tree : CommandTree) → is_served tree ≡ true → ¬ (IsReadCommand tokens tree)
+ParsesCommand (Err Syntax) tokens = (tree : CommandTree) → ¬ (IsReadCommand tokens tree)

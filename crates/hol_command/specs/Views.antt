@@ -1,16 +1,24 @@
 -- The commands of the code as those of the grammar.
 use Rattle.std.specs.Prelude.{◌≡◌, ℕ, true, List, [], ◌∷◌}
 use Rattle.hol_model.specs.Terms.Name.{is_type_variable_name}
-use Rattle.hol_session_model.specs.Commands.{DerivedTree, by_conversion, by_premise, by_premises, by_term_and_premise, by_cases, by_witness, by_choice, RuleTree, by_term, by_pair, by_abs, by_inst, by_inst_type, by_axiom, by_derived}
-use Rattle.hol_session_model.specs.CommandGrammar.{TheoremTree, by_rule, by_tautology, CommandTree, thm_command, show_command, var_command, def_command, newtype_command, newconst_command}
+use Rattle.hol_session_model.specs.Commands.{DerivedTree, by_conversion, by_premise, by_premises, by_term_and_premise, by_cases, by_witness}
+use Rattle.hol_session_model.specs.Commands.{by_choice, RuleTree, by_term, by_pair, by_abs, by_inst, by_inst_type, by_axiom, by_derived}
+use Rattle.hol_session_model.specs.CommandGrammar.{TheoremTree, by_rule, by_tautology, by_conversion as converted, CommandTree, thm_command, show_command, var_command}
+use Rattle.hol_session_model.specs.CommandGrammar.{def_command, newtype_command, newconst_command, goal_command, e_command, b_command, p_command, r_command, save_command}
+use Rattle.hol_session_model.specs.TacticGrammar.{Tactic}
+use Rattle.hol_session_model.specs.SessionTools.{conversion_of_unit}
+use Rattle.hol_model.specs.Texts.Lexing.{numeral_value}
 use Rattle.hol_model.specs.Texts.TypeGrammar.{TypeTree, type_steps}
 use Rattle.hol_model.specs.Texts.TermGrammar.{TermTree}
-use Rattle.std.proofs.Common.{Vec, Bor, Global}
 use Rattle.hol_grammar.specs.declared.type_reader.TypeStep.{TypeStep}
 use Rattle.hol_grammar.specs.declared.steps.TermStep.{TermStep}
 use Rattle.hol_grammar.specs.TermSteps.{term_steps, flat_steps}
 use Rattle.hol_grammar.specs.Views.{steps_of}
 use Rattle.hol_grammar.specs.Steps.{flat_steps_of}
+use Rattle.hol_exprs.specs.declared.tac.Tac.{Tac}
+use Rattle.hol_exprs.specs.Expressions.{conversion_of}
+use Rattle.hol_tactic_grammar.specs.Expressions.{Kept}
+use Rattle.hol_tactic_grammar.specs.Tactics.{IsExpression}
 use Rattle.hol_command.specs.declared.command.Rule.{Rule}
 use Rattle.hol_command.specs.declared.command.Rule.TheVariants.{OfTerm, OfTheorems, Abs, Inst, InstType, OfAxiom, Derived as OfDerived}
 use Rattle.hol_command.specs.declared.derived.Derived.{Derived}
@@ -18,9 +26,9 @@ use Rattle.hol_command.specs.declared.derived.Derived.TheVariants.{OfTerm as OfC
 use Rattle.hol_command.specs.declared.pairs.TermPair.{TermPair}
 use Rattle.hol_command.specs.declared.pairs.TypePair.{TypePair}
 use Rattle.hol_command.specs.declared.command.Asked.{Asked}
-use Rattle.hol_command.specs.declared.command.Asked.TheVariants.{Rule as AsksRule, Tautology}
+use Rattle.hol_command.specs.declared.command.Asked.TheVariants.{Rule as AsksRule, Tautology, Conversion}
 use Rattle.hol_command.specs.declared.command.Command.{Command}
-use Rattle.hol_command.specs.declared.command.Command.TheVariants.{Thm, Show, Var, Def, NewType, NewConst}
+use Rattle.hol_command.specs.declared.command.Command.TheVariants.{Thm, Show, Var, Def, NewType, NewConst, Goal, Expand, Back, Print, Rotate, Save}
 
 -- the relation holds of the items of two lists, one by one
 abbrev pub Match : {A B : Type 0} → (A → B → Type 0) → List A → List B → Type 0
@@ -69,6 +77,7 @@ IsRule _ _ = ⊥
 abbrev pub IsAsked : Asked → TheoremTree → Type 0
 IsAsked (AsksRule rule) (by_rule tree) = IsRule rule tree
 IsAsked (Tautology steps) (by_tautology tree) = flat_steps_of steps.items ≡ flat_steps (term_steps tree)
+IsAsked (Conversion conversion steps) (converted unit tree) = (conversion_of conversion ≡ conversion_of_unit unit) × (flat_steps_of steps.items ≡ flat_steps (term_steps tree))
 IsAsked _ _ = ⊥
 
 -- ---- commands
@@ -99,6 +108,30 @@ pub record IsNewConst (name : List ℕ) (steps : List TypeStep) (tree : CommandT
   pub is : tree ≡ newconst_command name ty
   pub spelled : steps_of steps ≡ type_steps ty
 
+pub record IsGoal (steps : List TermStep) (tree : CommandTree) : Type 0 where
+  pub term : TermTree
+  pub is : tree ≡ goal_command term
+  pub spelled : flat_steps_of steps ≡ flat_steps (term_steps term)
+
+pub record IsExpand (tactic : Tac Kept) (tree : CommandTree) : Type 0 where
+  pub expression : Tactic TermTree
+  pub is : tree ≡ e_command expression
+  pub means : IsExpression tactic expression
+
+pub record IsBack (tree : CommandTree) : Type 0 where
+  pub is : tree ≡ b_command
+
+pub record IsPrint (tree : CommandTree) : Type 0 where
+  pub is : tree ≡ p_command
+
+pub record IsRotate (turns : ℕ) (tree : CommandTree) : Type 0 where
+  pub digits : List ℕ
+  pub is : tree ≡ r_command digits
+  pub value : numeral_value digits ≡ turns
+
+pub record IsSave (name : List ℕ) (tree : CommandTree) : Type 0 where
+  pub is : tree ≡ save_command name
+
 -- the command has the arguments of the tree, its types and terms by their steps
 abbrev pub IsCommand : Command → CommandTree → Type 0
 IsCommand (Thm name asked) tree = IsThm name.now asked tree
@@ -107,3 +140,9 @@ IsCommand (Var name steps) tree = IsVar name.now steps.items tree
 IsCommand (Def name steps) tree = IsDef name.now steps.items tree
 IsCommand (NewType name) tree = IsNewType name.now tree
 IsCommand (NewConst name steps) tree = IsNewConst name.now steps.items tree
+IsCommand (Goal steps) tree = IsGoal steps.items tree
+IsCommand (Expand tactic) tree = IsExpand tactic tree
+IsCommand Back tree = IsBack tree
+IsCommand Print tree = IsPrint tree
+IsCommand (Rotate turns) tree = IsRotate turns tree
+IsCommand (Save name) tree = IsSave name.now tree

@@ -1,15 +1,19 @@
 // Commands, read from the tokens of a text.
 ghost use Rattle.std.specs.Prelude.{◌≡◌};
 ghost use Rattle.hol_grammar.specs.Views.{tokens_of};
-ghost use Rattle.hol_command.specs.Reading.{AreTokens, term_rule_of, pair_rule_of, kernel_rule_of, rule_kind_of, command_kind_of, ParsesTyping, ParsesArguments, ParsesRule, ParsesAsked, ParsesBody, ParsesCommand};
+ghost use Rattle.hol_tactic_grammar.specs.Tokens.{AreTokens};
+ghost use Rattle.hol_command.specs.Reading.{term_rule_of, pair_rule_of, kernel_rule_of, rule_kind_of, naming_kind_of, command_kind_of, ParsesTyping};
+ghost use Rattle.hol_command.specs.Reading.{ParsesArguments, ParsesRule, ParsesTautology, ParsesConverted, ParsesAsked, ParsesBody, ParsesBehind, ParsesCommand};
 ghost use Rattle.hol_command.specs.Pairs.{ParsesPairs};
 
 use crate::derived::{Derived, derived_kind, parse_derived};
+use crate::goals::{GoalKind, goal_kind, parse_goal_command};
 use crate::pairs::{
     QuotedPair, TermPair, TypePair, parse_term_pairs, parse_type_pairs, take_pairs,
 };
-use crate::quotes::{parse_only_quote, parse_quote_and_name};
+use crate::quotes::{parse_conversion_and_quote, parse_only_quote, parse_quote_and_name};
 use crate::tokens::{only_name, only_two_names, take_mark, take_name};
+use hol_exprs::{Conv, Tac};
 use hol_grammar::{ReadError, TermStep, Token, TypeStep};
 use hol_model::{Axiom, DerivedKind, PairRule, RuleKind, Symbol, TermRule};
 use hol_syntax::parse_type;
@@ -27,11 +31,12 @@ pub enum Rule<'a> {
     Derived(Derived<'a>),
 }
 
-/// What `thm` asks for: what a rule gives, or a tautology.
+/// What `thm` asks for: what a rule gives, a tautology, or what a conversion makes of a term.
 #[derive(Drop)]
 pub enum Asked<'a> {
     Rule(Rule<'a>),
     Tautology(Vec<TermStep<'a>>),
+    Conversion(Conv, Vec<TermStep<'a>>),
 }
 
 /// A command with its arguments: terms and types by their steps.
@@ -43,17 +48,37 @@ pub enum Command<'a> {
     Def(&'a str, Vec<TermStep<'a>>),
     NewType(&'a str),
     NewConst(&'a str, Vec<TypeStep<'a>>),
+    /// `goal`: the goal.
+    Goal(Vec<TermStep<'a>>),
+    /// `e`: what is done with the first subgoal.
+    Expand(Tac<Vec<TermStep<'a>>>),
+    /// `b`.
+    Back,
+    /// `p`.
+    Print,
+    /// `r`: by how many subgoals.
+    Rotate(u32),
+    /// `save`: under which name.
+    Save(&'a str),
 }
 
-// A command without its arguments.
+// A command whose word has a name behind it, without its arguments.
 #[derive(Clone, Copy, Debug, Drop)]
-enum CommandKind {
+enum NamingKind {
     Thm,
     Show,
     Var,
     Def,
     NewType,
     NewConst,
+    Save,
+}
+
+// A command without its arguments.
+#[derive(Clone, Copy, Debug, Drop)]
+enum CommandKind {
+    Naming(NamingKind),
+    OfGoals(GoalKind),
 }
 
 // The kind of rule that a word names.
@@ -255,7 +280,28 @@ fn parse_rule<'a>(alloc: Global, tokens: &'a [Token<'a>]) -> Result<Rule<'a>, Re
     }
 }
 
-// A rule, or TAUT, with its arguments.
+// A quoted term and nothing else, for TAUT.
+fn parse_tautology<'a>(alloc: Global, tokens: &'a [Token<'a>]) -> Result<Asked<'a>, ReadError>
+    ensures { ParsesTautology result (tokens_of tokens.now) }
+{
+    match parse_only_quote(alloc, tokens) {
+        Ok(steps) => Ok(Asked::Tautology(steps)),
+        Err(error) => Err(error),
+    }
+}
+
+// A conversion, a quoted term and nothing else, for CONV.
+fn parse_converted<'a>(alloc: Global, tokens: &'a [Token<'a>]) -> Result<Asked<'a>, ReadError>
+    requires { AreTokens (tokens_of tokens.now) }
+    ensures { ParsesConverted result (tokens_of tokens.now) }
+{
+    match parse_conversion_and_quote(alloc, tokens) {
+        Ok((conversion, steps)) => Ok(Asked::Conversion(conversion, steps)),
+        Err(error) => Err(error),
+    }
+}
+
+// A rule, TAUT or CONV with its arguments.
 fn parse_asked<'a>(alloc: Global, tokens: &'a [Token<'a>]) -> Result<Asked<'a>, ReadError>
     requires { AreTokens (tokens_of tokens.now) }
     ensures { ParsesAsked result (tokens_of tokens.now) }
@@ -264,15 +310,14 @@ fn parse_asked<'a>(alloc: Global, tokens: &'a [Token<'a>]) -> Result<Asked<'a>, 
         return Err(ReadError::Syntax);
     };
     if word == "TAUT" {
-        match parse_only_quote(alloc, arguments) {
-            Ok(steps) => Ok(Asked::Tautology(steps)),
-            Err(error) => Err(error),
-        }
-    } else {
-        match parse_rule(alloc, tokens) {
-            Ok(rule) => Ok(Asked::Rule(rule)),
-            Err(error) => Err(error),
-        }
+        return parse_tautology(alloc, arguments);
+    }
+    if word == "CONV" {
+        return parse_converted(alloc, arguments);
+    }
+    match parse_rule(alloc, tokens) {
+        Ok(rule) => Ok(Asked::Rule(rule)),
+        Err(error) => Err(error),
     }
 }
 
@@ -292,7 +337,7 @@ fn parse_thm<'a>(
     tokens: &'a [Token<'a>],
 ) -> Result<Command<'a>, ReadError>
     requires { AreTokens (tokens_of tokens.now) }
-    ensures { ParsesBody result CommandKind.Thm name.now (tokens_of tokens.now) }
+    ensures { ParsesBody result NamingKind.Thm name.now (tokens_of tokens.now) }
 {
     let Some(asked) = take_mark(tokens, Symbol::Equal) else {
         return Err(ReadError::Syntax);
@@ -304,7 +349,7 @@ fn parse_thm<'a>(
 }
 
 fn parse_show<'a>(name: &'a str, tokens: &'a [Token<'a>]) -> Result<Command<'a>, ReadError>
-    ensures { ParsesBody result CommandKind.Show name.now (tokens_of tokens.now) }
+    ensures { ParsesBody result NamingKind.Show name.now (tokens_of tokens.now) }
 {
     if !tokens.is_empty() {
         return Err(ReadError::Syntax);
@@ -317,7 +362,7 @@ fn parse_var<'a>(
     name: &'a str,
     tokens: &'a [Token<'a>],
 ) -> Result<Command<'a>, ReadError>
-    ensures { ParsesBody result CommandKind.Var name.now (tokens_of tokens.now) }
+    ensures { ParsesBody result NamingKind.Var name.now (tokens_of tokens.now) }
 {
     match parse_typing(alloc, tokens) {
         Ok(ty) => Ok(Command::Var(name, ty)),
@@ -330,7 +375,7 @@ fn parse_def<'a>(
     name: &'a str,
     tokens: &'a [Token<'a>],
 ) -> Result<Command<'a>, ReadError>
-    ensures { ParsesBody result CommandKind.Def name.now (tokens_of tokens.now) }
+    ensures { ParsesBody result NamingKind.Def name.now (tokens_of tokens.now) }
 {
     let Some(quote) = take_mark(tokens, Symbol::Equal) else {
         return Err(ReadError::Syntax);
@@ -342,7 +387,7 @@ fn parse_def<'a>(
 }
 
 fn parse_newtype<'a>(name: &'a str, tokens: &'a [Token<'a>]) -> Result<Command<'a>, ReadError>
-    ensures { ParsesBody result CommandKind.NewType name.now (tokens_of tokens.now) }
+    ensures { ParsesBody result NamingKind.NewType name.now (tokens_of tokens.now) }
 {
     if !tokens.is_empty() {
         return Err(ReadError::Syntax);
@@ -355,7 +400,7 @@ fn parse_newconst<'a>(
     name: &'a str,
     tokens: &'a [Token<'a>],
 ) -> Result<Command<'a>, ReadError>
-    ensures { ParsesBody result CommandKind.NewConst name.now (tokens_of tokens.now) }
+    ensures { ParsesBody result NamingKind.NewConst name.now (tokens_of tokens.now) }
 {
     match parse_typing(alloc, tokens) {
         Ok(ty) => Ok(Command::NewConst(name, ty)),
@@ -363,47 +408,87 @@ fn parse_newconst<'a>(
     }
 }
 
-// The kind of command that a word names.
-fn command_kind(word: &str) -> Option<CommandKind>
-    ensures { result ≡ command_kind_of word.now }
+fn parse_save<'a>(name: &'a str, tokens: &'a [Token<'a>]) -> Result<Command<'a>, ReadError>
+    ensures { ParsesBody result NamingKind.Save name.now (tokens_of tokens.now) }
+{
+    if !tokens.is_empty() {
+        return Err(ReadError::Syntax);
+    }
+    Ok(Command::Save(name))
+}
+
+// The kind of command with a name that a word names.
+fn naming_kind(word: &str) -> Option<NamingKind>
+    ensures { result ≡ naming_kind_of word.now }
 {
     if word == "thm" {
-        Some(CommandKind::Thm)
+        Some(NamingKind::Thm)
     } else if word == "show" {
-        Some(CommandKind::Show)
+        Some(NamingKind::Show)
     } else if word == "var" {
-        Some(CommandKind::Var)
+        Some(NamingKind::Var)
     } else if word == "def" {
-        Some(CommandKind::Def)
+        Some(NamingKind::Def)
     } else if word == "newtype" {
-        Some(CommandKind::NewType)
+        Some(NamingKind::NewType)
     } else if word == "newconst" {
-        Some(CommandKind::NewConst)
+        Some(NamingKind::NewConst)
+    } else if word == "save" {
+        Some(NamingKind::Save)
     } else {
         None
     }
 }
 
-/// The command that the tokens are: one that is carried out.
+// The kind of command that a word names.
+fn command_kind(word: &str) -> Option<CommandKind>
+    ensures { result ≡ command_kind_of word.now }
+{
+    if let Some(kind) = naming_kind(word) {
+        return Some(CommandKind::Naming(kind));
+    }
+    match goal_kind(word) {
+        Some(kind) => Some(CommandKind::OfGoals(kind)),
+        None => None,
+    }
+}
+
+// A name, and what a command of this kind has behind it.
+fn parse_naming<'a>(
+    alloc: Global,
+    kind: NamingKind,
+    tokens: &'a [Token<'a>],
+) -> Result<Command<'a>, ReadError>
+    requires { AreTokens (tokens_of tokens.now) }
+    ensures { ParsesBehind result (CommandKind.Naming kind) (tokens_of tokens.now) }
+{
+    let Some((name, body)) = take_name(tokens) else {
+        return Err(ReadError::Syntax);
+    };
+    match kind {
+        NamingKind::Thm => parse_thm(alloc, name, body),
+        NamingKind::Show => parse_show(name, body),
+        NamingKind::Var => parse_var(alloc, name, body),
+        NamingKind::Def => parse_def(alloc, name, body),
+        NamingKind::NewType => parse_newtype(name, body),
+        NamingKind::NewConst => parse_newconst(alloc, name, body),
+        NamingKind::Save => parse_save(name, body),
+    }
+}
+
+/// The command that the tokens are. Refused: Syntax where they are none within the limits of nesting, Memory.
 pub fn parse_command<'a>(alloc: Global, tokens: &'a [Token<'a>]) -> Result<Command<'a>, ReadError>
     requires { AreTokens (tokens_of tokens.now) }
     ensures { ParsesCommand result (tokens_of tokens.now) }
 {
-    let Some((word, rest)) = take_name(tokens) else {
-        return Err(ReadError::Syntax);
-    };
-    let Some((name, body)) = take_name(rest) else {
+    let Some((word, arguments)) = take_name(tokens) else {
         return Err(ReadError::Syntax);
     };
     let Some(kind) = command_kind(word) else {
         return Err(ReadError::Syntax);
     };
     match kind {
-        CommandKind::Thm => parse_thm(alloc, name, body),
-        CommandKind::Show => parse_show(name, body),
-        CommandKind::Var => parse_var(alloc, name, body),
-        CommandKind::Def => parse_def(alloc, name, body),
-        CommandKind::NewType => parse_newtype(name, body),
-        CommandKind::NewConst => parse_newconst(alloc, name, body),
+        CommandKind::Naming(kind) => parse_naming(alloc, kind, arguments),
+        CommandKind::OfGoals(kind) => parse_goal_command(alloc, kind, arguments),
     }
 }

@@ -1,7 +1,8 @@
 // Derived rules, read from the tokens of a command.
 ghost use Rattle.std.specs.Prelude.{◌≡◌};
 ghost use Rattle.hol_grammar.specs.Views.{tokens_of};
-ghost use Rattle.hol_command.specs.Reading.{AreTokens, premise_rule_of, premises_rule_of, term_premise_rule_of, single_rule_of, derived_kind_of_word, ParsesDerived};
+ghost use Rattle.hol_tactic_grammar.specs.Tokens.{AreTokens};
+ghost use Rattle.hol_command.specs.Reading.{premise_rule_of, premises_rule_of, term_premise_rule_of, single_rule_of, derived_kind_of_word, ParsesDerived};
 
 use crate::quotes::{parse_only_quote, parse_quote, parse_quote_and_name};
 use crate::tokens::{only_name, only_two_names, take_name};
@@ -22,7 +23,7 @@ pub enum Derived<'a> {
 }
 
 /// The kind of derived rule that a word names.
-pub fn derived_kind(word: &str) -> Option<DerivedKind>
+pub(crate) fn derived_kind(word: &str) -> Option<DerivedKind>
     ensures { result ≡ derived_kind_of_word word.now }
 {
     if let Some(rule) = premise_rule(word) {
@@ -209,7 +210,7 @@ fn parse_choice<'a>(alloc: Global, tokens: &'a [Token<'a>]) -> Result<Derived<'a
 }
 
 /// The arguments of a derived rule.
-pub fn parse_derived<'a>(
+pub(crate) fn parse_derived<'a>(
     alloc: Global,
     kind: DerivedKind,
     tokens: &'a [Token<'a>],

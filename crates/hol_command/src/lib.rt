@@ -1,9 +1,10 @@
 //! From tokens to the commands of a script, and where a script is cut into commands.
-#![tactic(auto, using(hol_model::proofs::Kernel::Refusals::refusals))]
+#![tactic(auto)]
 
 pub mod command;
 pub mod cut;
 pub mod derived;
+mod goals;
 pub mod pairs;
 mod quotes;
 mod tokens;

@@ -11,7 +11,7 @@ use std::alloc::Global;
 
 /// What stands between the backquotes of a pair.
 #[derive(Clone, Copy, Debug, Drop)]
-pub struct QuotedPair<'a> {
+pub(crate) struct QuotedPair<'a> {
     new: &'a [Token<'a>],
     old: &'a [Token<'a>],
 }
@@ -50,7 +50,7 @@ fn take_empty<'a>(tokens: &'a [Token<'a>]) -> Option<&'a [Token<'a>]>
 }
 
 /// The pairs of a list in brackets at the front of the tokens, and what follows the list.
-pub fn take_pairs<'a>(
+pub(crate) fn take_pairs<'a>(
     alloc: Global,
     tokens: &'a [Token<'a>],
 ) -> Result<(Vec<QuotedPair<'a>>, &'a [Token<'a>]), ReadError>
@@ -89,7 +89,7 @@ fn parse_term_pair<'a>(alloc: Global, pair: &QuotedPair<'a>) -> Result<TermPair<
 }
 
 /// The terms of pairs.
-pub fn parse_term_pairs<'a>(
+pub(crate) fn parse_term_pairs<'a>(
     alloc: Global,
     pairs: &[QuotedPair<'a>],
 ) -> Result<Vec<TermPair<'a>>, ReadError>
@@ -135,7 +135,7 @@ fn parse_type_pair<'a>(alloc: Global, pair: &QuotedPair<'a>) -> Result<TypePair<
 }
 
 /// The types and the type variables of pairs.
-pub fn parse_type_pairs<'a>(
+pub(crate) fn parse_type_pairs<'a>(
     alloc: Global,
     pairs: &[QuotedPair<'a>],
 ) -> Result<Vec<TypePair<'a>>, ReadError>

@@ -1,9 +1,12 @@
 // Quoted terms, read from the front of tokens.
 ghost use Rattle.hol_grammar.specs.Views.{tokens_of};
-ghost use Rattle.hol_command.specs.Reading.{AreTokens, ParsesQuote, ParsesOnlyQuote, ParsesQuoteAndName};
+ghost use Rattle.hol_tactic_grammar.specs.Tokens.{AreTokens};
+ghost use Rattle.hol_command.specs.Reading.{ParsesQuote, ParsesOnlyQuote, ParsesQuoteAndName, ParsesConversion};
 
 use crate::tokens::{only_name, take_quote};
+use hol_exprs::Conv;
 use hol_grammar::{ReadError, TermStep, Token, parse_term};
+use hol_tactic_grammar::conversion_of;
 use std::alloc::Global;
 
 /// The term between two backquotes at the front, and what follows them.
@@ -49,6 +52,24 @@ pub fn parse_quote_and_name<'a>(
             Some(name) => Ok((steps, name)),
             None => Err(ReadError::Syntax),
         },
+        Err(error) => Err(error),
+    }
+}
+
+/// A conversion, a quoted term and nothing else.
+pub fn parse_conversion_and_quote<'a>(
+    alloc: Global,
+    tokens: &'a [Token<'a>],
+) -> Result<(Conv, Vec<TermStep<'a>>), ReadError>
+    requires { AreTokens (tokens_of tokens.now) }
+    ensures { ParsesConversion result (tokens_of tokens.now) }
+{
+    let (conversion, count) = match conversion_of(alloc, tokens) {
+        Ok(read) => read,
+        Err(error) => return Err(error),
+    };
+    match parse_only_quote(alloc, &tokens[count..]) {
+        Ok(steps) => Ok((conversion, steps)),
         Err(error) => Err(error),
     }
 }

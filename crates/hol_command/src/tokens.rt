@@ -1,8 +1,9 @@
 // Tokens from the front: names, marks and quoted parts.
 ghost use Rattle.std.specs.Prelude.{◌≡◌};
 ghost use Rattle.hol_grammar.specs.Views.{token_of, tokens_of};
+ghost use Rattle.hol_tactic_grammar.specs.Tokens.{AreTokens};
 ghost use Rattle.hol_command.specs.Reading as reading;
-ghost use Rattle.hol_command.specs.Reading.{AreTokens, TakesName, TakesOnlyName, TakesOnlyTwoNames, TakesMark, TakesQuote};
+ghost use Rattle.hol_command.specs.Reading.{TakesName, TakesOnlyName, TakesOnlyTwoNames, TakesMark, TakesQuote};
 
 use hol_grammar::Token;
 use hol_model::Symbol;

@@ -11,6 +11,3 @@ pub use conv::{Conv, Prefix};
 pub use fuel::{Fuel, is_caught};
 pub use leaf::Leaf;
 pub use tac::{Link, Tac};
-
-#[cfg(test)]
-mod tests;

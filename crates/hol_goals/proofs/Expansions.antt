@@ -19,6 +19,7 @@ use Rattle.hol_goals.specs.declared.expanding.Expansion.{Expansion}
 use Rattle.hol_goals.specs.Refinements.{Refines}
 use Rattle.hol_goals.specs.Stages.{stage_of, proof_at, shown, attempt_of}
 use Rattle.hol_goals.specs.Expansions.{IsProof, Reaches, Finishes, IsExpandedBy}
+use Rattle.hol_goals.proofs.Tops.{some-open}
 
 -- what was proved is told
 
@@ -70,10 +71,6 @@ stays-open theory store goal step some within =
     go : (goals : List Goal) → 0 < length goals → IsStageOf theory (IsReplay theory store []) goal step true goals (Ok (underway step))
     go [] some = absurd (omega (arith, some))
     go (first ∷ others) some = refl
-
-some-open : (goals : List code_goal.Goal) → 0 < length goals → 0 < length (goals_of goals)
-some-open [] some = some
-some-open (goal ∷ goals) some = omega arith
 
 -- no goal is left
 

@@ -9,13 +9,13 @@ use Rattle.hol_model.specs.Kernel.Theorem.{Theorem}
 use Rattle.hol_model.specs.Goals.ValidSteps.{Step}
 use Rattle.hol_model.specs.Goals.Splicing.{spliced}
 use Rattle.hol_just.specs.Steps.{goals_of, step_of, tree_of, IsRefused}
-use Rattle.hol_just.specs.declared.goal.Goal as code_goal
 use Rattle.hol_just.specs.declared.goal.Step as code_step
 use Rattle.hol_model.specs.Goals.Replays.{is_within_depth}
 use Rattle.hol_model.specs.Goals.GoalStates.{Stage, underway, proved, Proof, untouched, focus_outcome, stage_focus, step_focus}
 use Rattle.hol_goals.specs.declared.stage.Opening.{Opening}
 use Rattle.hol_goals.specs.Stages.{opening_of}
 use Rattle.hol_goals.specs.Refinements.{Refines}
+use Rattle.hol_goals.proofs.Tops.{some-open}
 
 pub nothing_set : (found : Option Proof) → None ≡ option_map (λ (proof : Proof). proof.stage) found → focus_outcome found ≡ Err NoGoal
 nothing_set None same = refl
@@ -35,10 +35,6 @@ refines-at proof step refinement (goal ∷ others) some (Ok made) ok within err 
 refines-at proof step refinement (goal ∷ others) some (Err fault) ok within (inl memory) = inl memory
 refines-at proof step refinement (goal ∷ others) some (Err fault) ok within (inr deep) =
     inr (inr (record { focus = record { proof = proof; step = step; goal = goal; others = others }; is = refl; large = deep.0; deep = deep.1 }))
-
-some-open : (goals : List code_goal.Goal) → 0 < length goals → 0 < length (goals_of goals)
-some-open [] some = some
-some-open (goal ∷ goals) some = omega arith
 
 pub refines : (found : Option Proof) (opening : Opening) (refinement : Step) → Some (underway (opening_of opening)) ≡ option_map (λ (proof : Proof). proof.stage) found
     → (result : Result code_step.Step Fault)

@@ -1,5 +1,5 @@
 -- What the stages of the code stand for, and what a stack of them stands for.
-use Rattle.std.specs.Prelude.{◌≡◌, ℕ, List, [], ◌∷◌, map, take, drop, Option, Some, None, Result, Ok, Err}
+use Rattle.std.specs.Prelude.{◌≡◌, ◌<◌, ℕ, List, [], ◌∷◌, length, map, take, drop, Option, Some, None, Result, Ok, Err}
 use Rattle.std.proofs.Common.{Bor}
 use Rattle.hol_model.specs.declared.fault.Fault.{Fault}
 use Rattle.hol_model.specs.Kernel.Theorem.{Theorem}
@@ -23,6 +23,11 @@ opening_of opening = record { goals = goals_of opening.goals.items; justificatio
 abbrev pub stage_of : Stage → states.Stage
 stage_of (Underway opening) = states.underway (opening_of opening)
 stage_of (Proved made) = states.proved made.theorem
+
+-- a proof that is under way has goals
+abbrev pub HasGoals : states.Stage → Type 0
+HasGoals (states.underway step) = 0 < length step.goals
+HasGoals (states.proved theorem) = Unit {0}
 
 -- the proof at the first of its stages, the newest first
 abbrev pub proof_at : Goal → List states.Stage → Option states.Proof

@@ -98,6 +98,7 @@ impl Attempt {
         ensures store { P.store prover.new ≡ P.store prover.old }
         ensures ready { P.is_ready prover.new }
         ensures stays { StaysMade (P.journal prover.old) (P.journal prover.new) }
+        ensures extends { P.extends prover.old prover.new }
         ensures made { IsAttemptMade (P.journal prover.old) self.old → IsAttemptMade (P.journal prover.new) self.new }
     {
         let theorem = match prover.prove(alloc, &self.goal, just) {
@@ -120,6 +121,7 @@ impl Attempt {
         ensures store { P.store prover.new ≡ P.store prover.old }
         ensures ready { P.is_ready prover.new }
         ensures stays { StaysMade (P.journal prover.old) (P.journal prover.new) }
+        ensures extends { P.extends prover.old prover.new }
         ensures made { IsAttemptMade (P.journal prover.old) self.old → IsAttemptMade (P.journal prover.new) self.new }
     {
         let step = match self.refined(alloc, refinement) {

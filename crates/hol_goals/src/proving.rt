@@ -22,6 +22,7 @@ pub trait Prover: Leaves {
         ensures outcome { Proves (Self.theory self.old) (Self.store self.old) (goal_of goal.now) (tree_of just.now) (theorem_in result) }
         ensures made { IfOk result (IsMade (journal self.new)) }
         ensures stays { StaysMade (journal self.old) (journal self.new) }
+        ensures extends { Self.extends self.old self.new }
         ensures theory { Self.theory self.new ≡ Self.theory self.old }
         ensures store { Self.store self.new ≡ Self.store self.old }
         ensures ready { Self.is_ready self.new };

@@ -107,14 +107,14 @@ fn settable(alloc: Global, recorder: &Recorder, term: &Term) -> Result<(), Fault
 impl Stack {
     ghost use Rattle.std.specs.Option.{option_map};
     ghost use Rattle.hol_just.specs.Steps.{goals_of};
-    ghost use Rattle.std.specs.Prelude.{◌≡◌, ◌⊎◌, IfErr, IfSome};
+    ghost use Rattle.std.specs.Prelude.{◌≡◌, ◌⊎◌, IfErr, IfSome, is_some};
     ghost use Rattle.hol_model.specs.declared.fault.Fault.TheVariants.{Memory, NoGoal, NothingToUndo};
     ghost use Rattle.hol_just.specs.Steps.{step_of};
     ghost use Rattle.hol_goals.specs.Refinements.{goal_told, goal_in_focus};
     ghost use Rattle.hol_goals.specs.Expansions.{IsExpandedBy};
     ghost use Rattle.hol_journal.specs.Journal.{Journal, IsMade};
     ghost use Rattle.hol_goals.specs.Made.{StaysMade, IsStageMade, KeepsMade};
-    ghost use Rattle.hol_goals.specs.Stages.{opening_of, stage_of, stack_of, theorem_told};
+    ghost use Rattle.hol_goals.specs.Stages.{opening_of, stage_of, stack_of, theorem_told, HasGoals};
     ghost use Rattle.hol_model.specs.Goals.GoalStates as states;
     ghost use Rattle.hol_model.specs.Goals.StackCalls.{Changes};
     ghost use Rattle.hol_model.specs.Goals.GoalLaws.{IsValidStack};
@@ -196,6 +196,14 @@ impl Stack {
         }
     }
 
+    /// Whether a goal is set.
+    #[tactic(auto)]
+    pub fn is_set(&self) -> bool
+        ensures { result ≡ is_some (stack_of self.now).proof }
+    {
+        self.stage().is_some()
+    }
+
     /// The theorem of the goal, once no goal is open.
     #[tactic(auto, using(crate::proofs::Tops::no_top, crate::proofs::Tops::top_of))]
     pub fn top_thm(&self) -> Result<&Rec, Fault>
@@ -211,10 +219,11 @@ impl Stack {
         }
     }
 
-    /// The goals that are open; none where no goal is set.
-    #[tactic(auto, using(crate::proofs::Tops::no_goals, crate::proofs::Tops::goals_at))]
+    /// The goals that are open; none where no goal is set. A proof under way has one at least.
+    #[tactic(auto, using(crate::proofs::Tops::no_goals, crate::proofs::Tops::goals_at, crate::proofs::Tops::none_set, crate::proofs::Tops::none_left, crate::proofs::Tops::some_left))]
     pub fn open_goals(&self) -> &[Goal]
-        ensures { goals_of result.now ≡ states.goals_of_proof (stack_of self.now).proof }
+        ensures goals { goals_of result.now ≡ states.goals_of_proof (stack_of self.now).proof }
+        ensures some { IfSome (stack_of self.now).proof (λ proof. HasGoals proof.stage) }
     {
         let Some(stage) = self.stage() else {
             return &[];
@@ -251,6 +260,7 @@ impl Stack {
         ensures store { P.store prover.new ≡ P.store prover.old }
         ensures ready { P.is_ready prover.new }
         ensures stays { StaysMade (P.journal prover.old) (P.journal prover.new) }
+        ensures extends { P.extends prover.old prover.new }
         ensures made { KeepsMade (P.journal prover.old) self.old → KeepsMade (P.journal prover.new) self.new }
     {
         match &mut self.attempt {
@@ -278,6 +288,7 @@ impl Stack {
         ensures theory { P.theory prover.new ≡ P.theory prover.old }
         ensures ready { P.is_ready prover.new }
         ensures stays { StaysMade (P.journal prover.old) (P.journal prover.new) }
+        ensures extends { P.extends prover.old prover.new }
     {
         let goal = match self.focus() {
             Ok(goal) => goal,
@@ -311,6 +322,7 @@ impl Stack {
         ensures theory { P.theory prover.new ≡ P.theory prover.old }
         ensures ready { P.is_ready prover.new }
         ensures stays { StaysMade (P.journal prover.old) (P.journal prover.new) }
+        ensures extends { P.extends prover.old prover.new }
         ensures made { KeepsMade (P.journal prover.old) self.old → KeepsMade (P.journal prover.new) self.new }
     {
         let refinement = match self.refine_first(alloc, prover, tac, host, fuel) {

@@ -1,6 +1,7 @@
 // Logs of scripts, with the expected bytes by hand, and their claims as the checker prints them.
 use crate::sinks::Kept;
 use hol_check::{check, check_log, write_claims, write_entries};
+use hol_host::NoHost;
 use hol_model::{Fault, FromRead, IntoWrite};
 use hol_script::run;
 use std::alloc::Global;
@@ -11,7 +12,7 @@ fn log_of(alloc: Global, script: &[u8]) -> Result<Vec<u8>, Fault> {
     let mut reader = FromRead::new(script);
     let mut writer = IntoWrite::new(Vec::new(alloc));
     let mut log = Kept::new(alloc);
-    run(alloc, &mut reader, &mut writer, &mut log, true)?;
+    run(alloc, &mut reader, &mut writer, &mut log, true, &NoHost)?;
     Ok(log.bytes)
 }
 
@@ -187,6 +188,15 @@ d: |- (([==>:bool->bool->bool] (p:bool)) (p:bool))\n\
 g: |- ([!:(bool->bool)->bool] (\\bool. (([==>:bool->bool->bool] #0) #0)))\n\
 s: |- (([==>:bool->bool->bool] [T:bool]) [T:bool])\n\
 t: |- [T:bool]\n";
+    assert!(rt; claims(rt.alloc(), script, lines)?);
+    Ok(())
+}
+
+#[test]
+fn claims_saved_theorems(rt: HostRuntime) -> Result<(), Fail> {
+    let script =
+        b"goal `!p:bool. p ==> p` ;; e GEN_TAC THEN DISCH_TAC THEN ASSUMPTION_TAC ;; save w ;;";
+    let lines = b"w: |- ([!:(bool->bool)->bool] (\\bool. (([==>:bool->bool->bool] #0) #0)))\n";
     assert!(rt; claims(rt.alloc(), script, lines)?);
     Ok(())
 }

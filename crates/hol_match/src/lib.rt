@@ -9,6 +9,3 @@ mod types;
 
 pub use laws::{equations_match, fixed_variables_stay, matches_agree, matching_patterns_fit};
 pub use matching::{Match, term_match};
-
-#[cfg(test)]
-mod tests;

@@ -1,10 +1,9 @@
-//! What runs refiner expressions and goal stacks over a library: the refiners without parts (hol_refine) by the conversions of
-//! expressions (hol_conv), the test of steps and the replay of finished proofs (hol_replay).
+//! What refiner expressions and goal stacks run on, over a library: the conversions of expressions (hol_conv), by which the
+//! refiners without parts (hol_refine) convert, and the theorem of a goal by the replay of a finished proof (hol_replay).
 #![tactic(auto)]
 
 mod converting;
-mod prover;
 mod proving;
 
 pub use converting::ByExpression;
-pub use prover::Prover;
+pub use proving::prove;

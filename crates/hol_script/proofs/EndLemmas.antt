@@ -4,13 +4,12 @@ use Rattle.std.specs.Prelude.{IfSome, IsErrOf, Contains}
 use Rattle.hol_model.specs.declared.fault.Fault.{Fault}
 use Rattle.hol_model.specs.declared.fault.Fault.TheVariants.{Memory, ReadFault, TooLong, WriteFault}
 use Rattle.hol_model.specs.declared.limits.TheConstants.{TEXT_BYTES_LIMIT}
-use Rattle.hol_session_model.specs.ScriptSessions.{text_of_turns}
+use Rattle.hol_session_model.specs.ScriptSessions.{Tools, text_of_turns}
 use Rattle.hol_session_model.specs.Runs.{Counts, no_counts, counts_after, SourceUse, SinkUse, Tells, BreaksOff, CannotBegin, IsWhole, Ends, unread, in_output, before_log, in_log, logged, unlogged}
 use Rattle.hol_bytes.specs.Bytes.{AppendsFront}
-use Rattle.hol_session.specs.Answers.{session_tools}
-use Rattle.hol_session.specs.SessionState.{state_of}
+use Rattle.hol_proof_manager.specs.Managers.{state_of}
 use Rattle.hol_script.specs.declared.progress.Progress.{Progress}
-use Rattle.hol_script.specs.Runs.{counts_of, names_of, state_in, Finishes, Breaks, devices}
+use Rattle.hol_script.specs.Runs.{counts_of, names_of, Finishes, Breaks, devices}
 use Rattle.hol_script.specs.RunLogs.{IsLogOver, IsLongLogOver, WritesLog, WritesFront, claims_listed, theory_of}
 use Rattle.hol_script.proofs.RunLogLemmas.{over-end}
 
@@ -21,9 +20,9 @@ same_fault fault other same = ap (λ (e : Fault). Err e) same
 breaks_off : (sink : SinkUse) (text : List ℕ) → AppendsFront sink.before sink.after text → sink.has_failed ≡ true → BreaksOff sink text
 breaks_off sink text front failed = record { front = front.front; rest = front.rest; whole = front.whole; wrote = front.taken; failed = failed }
 
-module _ (source : SourceUse) (out log : SinkUse) where
+module _ (tools : Tools) (source : SourceUse) (out log : SinkUse) where
   abbrev EndsSo : Result Counts Fault → Bool → Type 0
-  EndsSo answer wants_log = Ends session_tools IsLogOver (devices source out log) answer wants_log
+  EndsSo answer wants_log = Ends tools IsLogOver (devices source out log) answer wants_log
 
   -- ---- nothing is run
 
@@ -42,7 +41,7 @@ module _ (source : SourceUse) (out log : SinkUse) where
   module _ (script : List ℕ) (read : Tells source script) (within_limit : length script ≤ TEXT_BYTES_LIMIT) where
     -- ---- the output breaks off, or there is no memory to begin
 
-    pub ends-in_output : {A : Type 0} {wants_log : Bool} (fault : Fault) → Contains (WriteFault ∷ Memory ∷ []) fault → Breaks script out.before out.after
+    pub ends-in_output : {A : Type 0} {wants_log : Bool} (fault : Fault) → Contains (WriteFault ∷ Memory ∷ []) fault → Breaks tools script out.before out.after
         → (IsErrOf {T = A} (Err fault) WriteFault → out.has_failed ≡ true) → (IsErrOf {T = A} (Err fault) Memory → out.IsUntouched) → log.IsUntouched → EndsSo (Err fault) wants_log
     ends-in_output {wants_log = wants_log} fault (zero, within, is) b failed untouched log_untouched =
         subst (λ (f : Fault). EndsSo (Err f) wants_log) is (in_output (record {
@@ -61,10 +60,10 @@ module _ (source : SourceUse) (out log : SinkUse) where
         unread (record { fault = fault; answers = refl; cannot_begin = inr (inr (sym is)); out = untouched (same_fault fault Memory (sym is)); log = log_untouched })
     ends-in_output fault (suc (suc place), within, is) b failed untouched log_untouched = absurd (omega (arith, within))
 
-    module _ (progress : Progress) (f : Finishes script out.before out.after (counts_of progress.summary) (names_of progress) (state_in (state_of progress.session))) where
+    module _ (progress : Progress) (f : Finishes tools script out.before out.after (counts_of progress.summary) (names_of progress) (state_of progress.manager)) where
       -- ---- the output is whole
 
-      whole : IsWhole session_tools (devices source out log) f.turns
+      whole : IsWhole tools (devices source out log) f.turns
       whole = record { script = script; read = read; within_limit = within_limit; is_run = f.is_run; wrote = f.wrote }
 
       counted : ◌≡◌ {A = Result Counts Fault} (Ok (counts_of progress.summary)) (Ok (counts_after no_counts f.turns))

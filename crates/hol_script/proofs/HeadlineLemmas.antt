@@ -1,13 +1,12 @@
--- A run's output is told in lines.
+-- A run's output is told in lines of theorems, of refusals and of goals.
 use Rattle.std.proofs.Common.{List, ℕ, [], refl, sym, ◌∙◌, append-nil, Option, None, Some}
 use Rattle.std.proofs.KnownBytes.{Appends-nil}
 use Rattle.hol_model.specs.Texts.KnownText.{Tells}
-use Rattle.hol_session_model.specs.ScriptSessions.{State, start, text_of_turns}
+use Rattle.hol_session_model.specs.ScriptSessions.{State, start, Tools, text_of_turns}
 use Rattle.hol_session_model.specs.Runs.{Counts}
 use Rattle.hol_session_model.specs.Headline.{TellsLines, TellsFront}
 use Rattle.hol_print.proofs.SequentTexts.{sequents_read_back}
 use Rattle.hol_print.proofs.OneLine.{sequent_one_line, sequent_same, goal_one_line, goal_same}
-use Rattle.hol_session.specs.Answers.{session_tools}
 use Rattle.hol_session_laws.specs.HeadlineLaws.{TextsArePrinted}
 use Rattle.hol_session_laws.proofs.RunProgress.{begins, stopped-begins}
 use Rattle.hol_session_laws.proofs.ToldRuns.{runs-told}
@@ -22,54 +21,55 @@ texts_are_printed = record {
   goals_ignore_variables = goal_same;
 }
 
--- a whole run
-pub finishes_told : {input written now : Option (List ℕ)} {counts : Counts} {names : List (List ℕ)} {state : State} (script : List ℕ) → Tells input script
-    → Finishes script written now counts names state → TellsLines input written now []
-finishes_told script read f =
-    let text = runs-told session_tools texts_are_printed script f.turns f.is_run in
-    record {
-      script = script;
-      pieces = f.is_run.pieces;
-      last = f.is_run.last;
-      lines = text.lines;
-      front = text_of_turns f.turns;
-      read = read;
-      cuts = f.is_run.cuts;
-      told = text.told;
-      whole = text.whole ∙ sym (append-nil (text_of_turns f.turns));
-      wrote = f.wrote;
-    }
-
 -- a whole run is a front of itself
 pub front_told : {input written now : Option (List ℕ)} → TellsLines input written now [] → TellsFront input written now
 front_told lines = ([], lines)
 
--- a run that broke off
-pub breaks_told : {input written now : Option (List ℕ)} (script : List ℕ) → Tells input script → Breaks script written now → TellsFront input written now
-breaks_told script read b =
-    let text = runs-told session_tools texts_are_printed script b.turns b.is_run in (
-      b.wrote.rest,
+module _ (tools : Tools) where
+  -- a whole run
+  pub finishes_told : {input written now : Option (List ℕ)} {counts : Counts} {names : List (List ℕ)} {state : State} (script : List ℕ) → Tells input script
+      → Finishes tools script written now counts names state → TellsLines input written now []
+  finishes_told script read f =
+      let text = runs-told tools texts_are_printed script f.turns f.is_run in
       record {
         script = script;
-        pieces = b.is_run.pieces;
-        last = b.is_run.last;
+        pieces = f.is_run.pieces;
+        last = f.is_run.last;
         lines = text.lines;
-        front = b.wrote.front;
+        front = text_of_turns f.turns;
         read = read;
-        cuts = b.is_run.cuts;
+        cuts = f.is_run.cuts;
         told = text.told;
-        whole = text.whole ∙ b.wrote.whole;
-        wrote = b.wrote.taken;
-      },
-    )
+        whole = text.whole ∙ sym (append-nil (text_of_turns f.turns));
+        wrote = f.wrote;
+      }
 
--- nothing was written of a script
-pub unwritten : (script : List ℕ) (written : Option (List ℕ)) → Breaks script written written
-unwritten script written =
-    let all = stopped-begins session_tools script start 1 script [] (begins session_tools script) in
-    record { turns = all.more; is_run = all.is_run; wrote = record { front = []; rest = text_of_turns all.more; whole = refl; taken = Appends-nil written } }
+  -- a run that broke off
+  pub breaks_told : {input written now : Option (List ℕ)} (script : List ℕ) → Tells input script → Breaks tools script written now → TellsFront input written now
+  breaks_told script read b =
+      let text = runs-told tools texts_are_printed script b.turns b.is_run in (
+        b.wrote.rest,
+        record {
+          script = script;
+          pieces = b.is_run.pieces;
+          last = b.is_run.last;
+          lines = text.lines;
+          front = b.wrote.front;
+          read = read;
+          cuts = b.is_run.cuts;
+          told = text.told;
+          whole = text.whole ∙ b.wrote.whole;
+          wrote = b.wrote.taken;
+        },
+      )
 
--- nothing was read, and nothing written
-pub unread_told : (input written : Option (List ℕ)) → TellsFront input written written
-unread_told None written = breaks_told [] tt (unwritten [] written)
-unread_told (Some script) written = breaks_told script refl (unwritten script written)
+  -- nothing was written of a script
+  pub unwritten : (script : List ℕ) (written : Option (List ℕ)) → Breaks tools script written written
+  unwritten script written =
+      let all = stopped-begins tools script start 1 script [] (begins tools script) in
+      record { turns = all.more; is_run = all.is_run; wrote = record { front = []; rest = text_of_turns all.more; whole = refl; taken = Appends-nil written } }
+
+  -- nothing was read, and nothing written
+  pub unread_told : (input written : Option (List ℕ)) → TellsFront input written written
+  unread_told None written = breaks_told [] tt (unwritten [] written)
+  unread_told (Some script) written = breaks_told script refl (unwritten script written)

@@ -1,3 +1,4 @@
+pub mod CommandTurns
 pub mod RunLemmas
 pub mod RunLogLemmas
 pub mod HeadlineLemmas

@@ -7,20 +7,19 @@ use Rattle.std.proofs.KnownBytes.{Appends-nil, Appends-trans}
 use Rattle.hol_model.specs.declared.fault.Fault.TheVariants.{Syntax}
 use Rattle.hol_model.specs.Texts.Reading.{Scope}
 use Rattle.hol_session_model.specs.Script.{has_mark, IsCut, Request, line_feeds, leading_line_feeds, is_blank_text}
-use Rattle.hol_session_model.specs.Sessions.{State as Library}
 use Rattle.hol_session_model.specs.Replies.{NamedTheorem, theorem_in_message, theorem_in, Reply, reply_text}
-use Rattle.hol_session_model.specs.ScriptSessions.{State, start, scope_in, Turn, text_of_turn, text_of_turns, as_list, theorems_in_turns}
+use Rattle.hol_session_model.specs.ScriptSessions.{State, start, scope_in, Tools, Turn, text_of_turn, text_of_turns, as_list, theorems_in_turns}
 use Rattle.hol_session_model.specs.Runs.{Counts, no_counts, one_of, counting, counts_after}
 use Rattle.hol_session_model.specs.Running.{SoFar, unfinished}
-use Rattle.hol_session_model.specs.SessionCalls.{IsTurn}
+use Rattle.hol_session_model.specs.SessionCalls.{Turns, IsTurn}
 use Rattle.hol_bytes.specs.Bytes.{AppendsFront}
 use Rattle.hol_session_laws.proofs.RunProgress.{turns-add, begins, blank-passes, turn-passes, ends, ends-unfinished, stopped-begins, is_turn}
 use Rattle.hol_session.specs.declared.reply.Printed.{Printed}
-use Rattle.hol_session.specs.declared.reply.Printed.TheVariants.{Nothing, Line}
+use Rattle.hol_session.specs.declared.reply.Printed.TheVariants.{Nothing, Line, Goals}
 use Rattle.hol_session.specs.declared.reply.Refused.{Refused}
-use Rattle.hol_session.specs.Answers.{session_tools, printed_name, Says, answer_text, plain, Turns}
+use Rattle.hol_session.specs.Answers.{printed_name, Says, answer_text, plain}
 use Rattle.hol_session.proofs.SessionLemmas.{said-text}
-use Rattle.hol_script.specs.Runs.{counting_answer, names_in_answer, printed_names, no_goals, state_in, Finishes, Breaks}
+use Rattle.hol_script.specs.Runs.{counting_answer, names_in_answer, printed_names, Finishes, Breaks}
 
 -- ---- what is seen of an answer is what is seen of its reply
 
@@ -31,6 +30,7 @@ one-same (Some shown) name same = ap (λ (n : Option (List ℕ)). one_of n) same
 answer-lines : (n : ℕ) (printed : Printed) (counts : Counts) → counts.theorem_lines ≡ n → (counting_answer counts (Ok printed)).theorem_lines ≡ n + one_of (printed_name printed)
 answer-lines n Nothing counts same = omega (arith, same)
 answer-lines n (Line line) counts same = omega (arith, same)
+answer-lines n (Goals text) counts same = omega (arith, same)
 
 answer-counts : (scope : Scope) (counts : Counts) (reply : Reply) (answer : Result Printed Refused) → Says answer scope reply → counting_answer counts answer ≡ counting counts reply
 answer-counts scope counts (Ok message) (Ok printed) says =
@@ -42,6 +42,7 @@ answer-counts scope counts (Ok message) (Ok printed) says =
         → counting_answer counts (Ok printed) ≡ counting counts (Ok message)
     counted Nothing lines = λ i. record { accepted_commands = counts.accepted_commands + 1; refused_commands = counts.refused_commands; theorem_lines = lines i }
     counted (Line line) lines = λ i. record { accepted_commands = counts.accepted_commands + 1; refused_commands = counts.refused_commands; theorem_lines = lines i }
+    counted (Goals text) lines = λ i. record { accepted_commands = counts.accepted_commands + 1; refused_commands = counts.refused_commands; theorem_lines = lines i }
 answer-counts scope counts (Ok message) (Err refused) says = absurd says
 answer-counts scope counts (Err refusal) (Ok printed) says = absurd says
 answer-counts scope counts (Err refusal) (Err refused) says = refl
@@ -69,17 +70,17 @@ names-more turns turn =
 
 -- ---- how far a run has come
 
-module _ (script : List ℕ) where
+module _ (tools : Tools) (script : List ℕ) where
   -- what it wrote, and what its session still has to do
   pub record Underway (written now : Option (List ℕ)) (state : State) (line : ℕ) (left : List ℕ) (counts : Counts) (names : List (List ℕ)) : Type 0 where
     pub turns : List Turn
-    pub so_far : SoFar session_tools script state line left turns
+    pub so_far : SoFar tools script state line left turns
     pub wrote : Appends written now (text_of_turns turns)
     pub counted : counts ≡ counts_after no_counts turns
     pub named : names ≡ printed_names turns
 
   pub underway-begun : (written : Option (List ℕ)) → Underway written written start 1 script no_counts []
-  underway-begun written = record { turns = []; so_far = begins session_tools script; wrote = Appends-nil written; counted = refl; named = refl }
+  underway-begun written = record { turns = []; so_far = begins tools script; wrote = Appends-nil written; counted = refl; named = refl }
 
   -- a blank piece asks for nothing
   pub underway-passed : {written now : Option (List ℕ)} {state : State} {line : ℕ} {left : List ℕ} {counts : Counts} {names : List (List ℕ)} (piece behind : List ℕ) (feeds : ℕ)
@@ -87,44 +88,44 @@ module _ (script : List ℕ) where
       → IsCut left piece behind → is_blank_text piece ≡ true → feeds ≡ line_feeds piece → Underway written now state (line + feeds) behind counts names
   underway-passed {written} {now} {state} {line} {left} {counts} {names} piece behind feeds u cut blank fed =
       subst (λ (n : ℕ). Underway written now state (line + n) behind counts names) (sym fed)
-      (record { turns = u.turns; so_far = blank-passes session_tools script state line left piece behind u.turns u.so_far cut blank; wrote = u.wrote; counted = u.counted; named = u.named })
+      (record { turns = u.turns; so_far = blank-passes tools script state line left piece behind u.turns u.so_far cut blank; wrote = u.wrote; counted = u.counted; named = u.named })
 
   -- a command has answered: its turn, and what is seen of it
   record Answered (old : State) (line : ℕ) (left piece behind : List ℕ) (turns : List Turn) (answer : Result Printed Refused) (new : State) : Type 0 where
     turn : Turn
-    so_far : SoFar session_tools script new (line + line_feeds piece) behind (turns ++ turn ∷ [])
+    so_far : SoFar tools script new (line + line_feeds piece) behind (turns ++ turn ∷ [])
     text : text_of_turn turn ≡ answer_text (line + leading_line_feeds piece) answer
     counted : (counts : Counts) → counting_answer counts answer ≡ counting counts turn.reply
     named : names_in_answer answer ≡ map (λ shown. shown.name) (as_list (theorem_in turn.reply))
 
-  answered : (old new : Library) (line : ℕ) (left piece behind : List ℕ) (turns : List Turn) (answer : Result Printed Refused) → SoFar session_tools script (state_in old) line left turns
-      → IsCut left piece behind → is_blank_text piece ≡ false → Turns old (Some piece) answer new → Answered (state_in old) line left piece behind turns answer (state_in new)
+  answered : (old new : State) (line : ℕ) (left piece behind : List ℕ) (turns : List Turn) (answer : Result Printed Refused) → SoFar tools script old line left turns
+      → IsCut left piece behind → is_blank_text piece ≡ false → Turns tools old (Some piece) (Says answer) new → Answered old line left piece behind turns answer new
   answered old new line left piece behind turns answer so_far cut filled call =
       let here : ℕ = line + leading_line_feeds piece in
       let request : Request = record { line = here; text = Some piece } in
-      let t : IsTurn session_tools (state_in old) request (Says answer) (state_in new) =
-      is_turn session_tools (state_in old) (state_in new) request (Says answer) (call.turns no_goals) in
+      let t : IsTurn tools old request (Says answer) new =
+      is_turn tools old new request (Says answer) call in
       record {
         turn = t.turn;
-        so_far = subst (λ (s : State). SoFar session_tools script s (line + line_feeds piece) behind (turns ++ t.turn ∷ [])) t.leaves
-            (turn-passes session_tools script (state_in old) line left piece behind turns t.turn so_far cut filled t.takes);
+        so_far = subst (λ (s : State). SoFar tools script s (line + line_feeds piece) behind (turns ++ t.turn ∷ [])) t.leaves
+            (turn-passes tools script old line left piece behind turns t.turn so_far cut filled t.takes);
         text = ap (λ n. reply_text n (scope_in t.turn.after) t.turn.reply) (ap (λ (u : Turn). u.line) t.takes.is_turn) ∙ sym (said-text answer here (scope_in t.turn.after) t.turn.reply t.says);
         counted = λ counts. answer-counts (scope_in t.turn.after) counts t.turn.reply answer t.says;
         named = answer-names (scope_in t.turn.after) t.turn.reply answer t.says;
       }
 
   -- the line of the answer was written
-  pub underway-turned : {written now next : Option (List ℕ)} {old new : Library} {line : ℕ} {left : List ℕ} {counts after : Counts} {names names_after : List (List ℕ)} (piece behind : List ℕ)
+  pub underway-turned : {written now next : Option (List ℕ)} {old new : State} {line : ℕ} {left : List ℕ} {counts after : Counts} {names names_after : List (List ℕ)} (piece behind : List ℕ)
       (answer : Result Printed Refused) (here feeds : ℕ)
-      → Underway written now (state_in old) line left counts names → IsCut left piece behind → is_blank_text piece ≡ false → Turns old (Some piece) answer new → here ≡ leading_line_feeds piece
+      → Underway written now old line left counts names → IsCut left piece behind → is_blank_text piece ≡ false → Turns tools old (Some piece) (Says answer) new → here ≡ leading_line_feeds piece
       → feeds ≡ line_feeds piece
       → Appends now next (answer_text (line + here) answer) → after ≡ counting_answer counts answer → names_after ≡ names ++ names_in_answer answer
-      → Underway written next (state_in new) (line + feeds) behind after names_after
+      → Underway written next new (line + feeds) behind after names_after
   underway-turned {written} {now} {next} {old} {new} {line} {left} {counts} {after} {names} {names_after} piece behind answer here feeds u cut filled call led fed wrote counted named =
       let a = answered old new line left piece behind u.turns answer u.so_far cut filled call in
       let all : List Turn = u.turns ++ a.turn ∷ [] in
       let told : Appends now next (text_of_turn a.turn) = subst (λ (text : List ℕ). Appends now next text) (ap (λ n. answer_text (line + n) answer) led ∙ sym a.text) wrote in
-      subst (λ (n : ℕ). Underway written next (state_in new) (line + n) behind after names_after) (sym fed) (record {
+      subst (λ (n : ℕ). Underway written next new (line + n) behind after names_after) (sym fed) (record {
         turns = all;
         so_far = a.so_far;
         wrote = subst (λ (text : List ℕ). Appends written next text) (sym (text-more u.turns a.turn)) (Appends-trans written now next (text_of_turns u.turns) (text_of_turn a.turn) u.wrote told);
@@ -134,10 +135,10 @@ module _ (script : List ℕ) where
 
   -- the text of the last of these turns was written in part
   broken : {written now next : Option (List ℕ)} {state : State} {line : ℕ} {left : List ℕ} (turns : List Turn) (turn : Turn) (text : List ℕ)
-      → SoFar session_tools script state line left (turns ++ turn ∷ [])
-      → Appends written now (text_of_turns turns) → text_of_turn turn ≡ text → AppendsFront now next text → Breaks script written next
+      → SoFar tools script state line left (turns ++ turn ∷ [])
+      → Appends written now (text_of_turns turns) → text_of_turn turn ≡ text → AppendsFront now next text → Breaks tools script written next
   broken {written} {now} {next} {state} {line} {left} turns turn text so_far wrote same front =
-      let all = stopped-begins session_tools script state line left (turns ++ turn ∷ []) so_far in
+      let all = stopped-begins tools script state line left (turns ++ turn ∷ []) so_far in
       let more = text_of_turns all.more in
       record {
         turns = (turns ++ turn ∷ []) ++ all.more;
@@ -152,10 +153,10 @@ module _ (script : List ℕ) where
         };
       }
 
-  pub underway-broken : {written now next : Option (List ℕ)} {old new : Library} {line : ℕ} {left : List ℕ} {counts : Counts} {names : List (List ℕ)} (piece behind : List ℕ)
+  pub underway-broken : {written now next : Option (List ℕ)} {old new : State} {line : ℕ} {left : List ℕ} {counts : Counts} {names : List (List ℕ)} (piece behind : List ℕ)
       (answer : Result Printed Refused) (here : ℕ)
-      → Underway written now (state_in old) line left counts names → IsCut left piece behind → is_blank_text piece ≡ false → Turns old (Some piece) answer new → here ≡ leading_line_feeds piece
-      → AppendsFront now next (answer_text (line + here) answer) → Breaks script written next
+      → Underway written now old line left counts names → IsCut left piece behind → is_blank_text piece ≡ false → Turns tools old (Some piece) (Says answer) new → here ≡ leading_line_feeds piece
+      → AppendsFront now next (answer_text (line + here) answer) → Breaks tools script written next
   underway-broken {written} {now} {next} {old} {new} {line} {left} piece behind answer here u cut filled call led front =
       let a = answered old new line left piece behind u.turns answer u.so_far cut filled call in
       broken u.turns a.turn (answer_text (line + here) answer) a.so_far u.wrote (a.text ∙ ap (λ n. answer_text (line + n) answer) (sym led)) front
@@ -165,10 +166,10 @@ module _ (script : List ℕ) where
   -- nothing stands behind the last `;;`
   pub underway-ended : {written now : Option (List ℕ)} {state : State} {line : ℕ} {left : List ℕ} {counts : Counts} {names : List (List ℕ)} → Underway written now state line left counts names
       → has_mark left ≡ false
-      → is_blank_text left ≡ true → Finishes script written now counts names state
+      → is_blank_text left ≡ true → Finishes tools script written now counts names state
   underway-ended {state = state} {line = line} {left = left} u none blank = record {
     turns = u.turns;
-    is_run = ends session_tools script state line left u.turns u.so_far none blank;
+    is_run = ends tools script state line left u.turns u.so_far none blank;
     wrote = u.wrote;
     counted = u.counted;
     named = u.named;
@@ -180,14 +181,14 @@ module _ (script : List ℕ) where
       (refused : Refused) → refused ≡ plain Syntax
       → Underway written now state line left counts names → has_mark left ≡ false → is_blank_text left ≡ false → here ≡ leading_line_feeds left
       → Appends now next (answer_text (line + here) (Err refused))
-      → after ≡ counting_answer counts (Err refused) → names_after ≡ names ++ names_in_answer (Err refused) → Finishes script written next after names_after state
+      → after ≡ counting_answer counts (Err refused) → names_after ≡ names ++ names_in_answer (Err refused) → Finishes tools script written next after names_after state
   underway-unfinished {written} {now} {next} {state} {line} {left} here refused same u none filled led wrote counted named =
       let last : Turn = unfinished state (line + leading_line_feeds left) in
       let text : answer_text (line + here) (Err refused) ≡ text_of_turn last = λ i. answer_text (line + led i) (Err (same i)) in
       let told : Appends now next (text_of_turn last) = subst (λ (text : List ℕ). Appends now next text) text wrote in
       record {
         turns = u.turns ++ last ∷ [];
-        is_run = ends-unfinished session_tools script state line left u.turns u.so_far none filled;
+        is_run = ends-unfinished tools script state line left u.turns u.so_far none filled;
         wrote = subst (λ (text : List ℕ). Appends written next text) (sym (text-more u.turns last)) (Appends-trans written now next (text_of_turns u.turns) (text_of_turn last) u.wrote told);
         counted = counted ∙ ap (λ (c : Counts). counting_answer c (Err refused)) u.counted ∙ sym (turns-add.counts no_counts u.turns last);
         named = named ∙ ap (λ (ns : List (List ℕ)). ns ++ []) u.named ∙ sym (names-more u.turns last);
@@ -199,13 +200,13 @@ module _ (script : List ℕ) where
       → refused ≡ plain Syntax
       → Underway written now state line left counts names → has_mark left ≡ false → is_blank_text left ≡ false → here ≡ leading_line_feeds left
       → AppendsFront now next (answer_text (line + here) (Err refused))
-      → Breaks script written next
+      → Breaks tools script written next
   unfinished-broken {written} {now} {next} {state} {line} {left} here refused same u none filled led front =
       let last : Turn = unfinished state (line + leading_line_feeds left) in
       let text : text_of_turn last ≡ answer_text (line + here) (Err refused) = sym (λ i. answer_text (line + led i) (Err (same i))) in
       record {
         turns = u.turns ++ last ∷ [];
-        is_run = ends-unfinished session_tools script state line left u.turns u.so_far none filled;
+        is_run = ends-unfinished tools script state line left u.turns u.so_far none filled;
         wrote = record {
           front = text_of_turns u.turns ++ front.front;
           rest = front.rest;

@@ -12,7 +12,7 @@ use Rattle.hol_model.specs.Kernel.Theorem.{Theorem}
 use Rattle.hol_model.specs.Logs.LogState.{LogClaim}
 use Rattle.hol_session_model.specs.Script.{requested}
 use Rattle.hol_session_model.specs.Replies.{NamedTheorem}
-use Rattle.hol_session_model.specs.ScriptSessions.{State, start, last_state, theorems_in_turns}
+use Rattle.hol_session_model.specs.ScriptSessions.{State, start, Tools, last_state, theorems_in_turns}
 use Rattle.hol_session_model.specs.Runs.{Counts, claim_of, claims_of_turns}
 use Rattle.hol_model.proofs.Terms.Membership.{of_append}
 use Rattle.hol_session_laws.proofs.StoredTheorems.{printed-stay}
@@ -23,11 +23,11 @@ use Rattle.hol_log.specs.LogWriting.{Claimed}
 use Rattle.hol_log.specs.LogAccepted.{log_claim}
 use Rattle.hol_log.specs.Pruning.{HaveIdentifiers}
 use Rattle.hol_store.specs.Store.{stored_of}
-use Rattle.hol_session.specs.Answers.{session_tools}
-use Rattle.hol_session.specs.SessionState.{state_of, theorem_of}
+use Rattle.hol_session.specs.SessionState.{theorem_of}
 use Rattle.hol_session.specs.StoredClaims.{IsAcceptedLog, IsLongLog, stored_claim, stored_claims}
+use Rattle.hol_proof_manager.specs.Managers.{state_of}
 use Rattle.hol_script.specs.declared.progress.Progress.{Progress}
-use Rattle.hol_script.specs.Runs.{names_of, state_in, Finishes}
+use Rattle.hol_script.specs.Runs.{names_of, Finishes}
 use Rattle.hol_script.specs.RunLogs.{IsLogOver, IsLongLogOver, WritesLog, WritesFront, claims_stored, claims_listed, theory_of}
 
 -- ---- claims of stored theorems
@@ -70,20 +70,20 @@ claims-named stored (shown ∷ theorems) named' claim member =
 
 -- ---- claims of a run that has come to its end
 
-module _ {script : List ℕ} {written now : Option (List ℕ)} {counts : Counts} (progress : Progress)
-    (f : Finishes script written now counts (names_of progress) (state_in (state_of progress.session))) where
+module _ {tools : Tools} {script : List ℕ} {written now : Option (List ℕ)} {counts : Counts} (progress : Progress)
+    (f : Finishes tools script written now counts (names_of progress) (state_of progress.manager)) where
   claims-of_run : claims_listed progress ≡ claims_of_turns f.turns
   claims-of_run =
-      let stored = (stored_of progress.session.library.store).theorems in
-      let printed = printed-stay session_tools in
+      let stored = (stored_of progress.manager.prover.session.library.store).theorems in
+      let printed = printed-stay tools in
       ap (λ (names : List (List ℕ)). map log_claim (stored_claims stored names)) f.named
       ∙ claims-printed stored (theorems_in_turns f.turns)
       (λ shown member. ap (λ (s : State). s.library.theorems shown.name) (sym f.ends) ∙ printed.stays (requested 1 f.is_run.pieces f.is_run.last) f.turns f.is_run.session shown member)
 
   pub run-named : HaveIdentifiers (claims_stored progress)
   run-named =
-      let stored = (stored_of progress.session.library.store).theorems in
-      let printed = printed-stay session_tools in
+      let stored = (stored_of progress.manager.prover.session.library.store).theorems in
+      let printed = printed-stay tools in
       subst (λ (names : List (List ℕ)). HaveIdentifiers (stored_claims stored names)) (sym f.named)
       (claims-named stored (theorems_in_turns f.turns) (λ shown member. printed.named (requested 1 f.is_run.pieces f.is_run.last) f.turns f.is_run.session shown member))
 

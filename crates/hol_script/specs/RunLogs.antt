@@ -8,12 +8,13 @@ use Rattle.hol_model.specs.Logs.LogText.{log_outcome}
 use Rattle.hol_logtext.specs.LogBytes.{log_text}
 use Rattle.hol_bytes.specs.Bytes.{AppendsFront}
 use Rattle.hol_journal.specs.Journal.{Journal}
-use Rattle.hol_store.specs.Store.{stored_of}
 use Rattle.hol_log.specs.LogAccepted.{log_claim}
 use Rattle.hol_log.specs.LogWriting.{Claimed}
 use Rattle.hol_script.specs.declared.progress.Progress.{Progress}
 use Rattle.hol_script.specs.Runs.{names_of}
-use Rattle.hol_session.specs.StoredClaims.{IsLog, stored_claims}
+use Rattle.hol_session.specs.StoredClaims.{IsLog}
+use Rattle.hol_proof_manager.specs.Managers as managers
+use Rattle.hol_proof_manager.specs.Managers.{claims_of}
 
 -- The text is a log that is accepted, with these claims.
 pub record IsAcceptedWith (claims : List LogClaim) (text : List ℕ) : Type 0 where
@@ -54,8 +55,12 @@ pub record WritesFront (theory : Theory) (claims : List LogClaim) (logged new_lo
 
 -- ---- what the program claims
 
+-- what its session recorded
+abbrev pub journal_of : Progress → Journal
+journal_of progress = managers.journal_of progress.manager
+
 abbrev pub claims_stored : Progress → List Claimed
-claims_stored progress = stored_claims (stored_of progress.session.library.store).theorems (names_of progress)
+claims_stored progress = claims_of progress.manager (names_of progress)
 
 -- the claims of the theorems that a run printed, as the log lists them
 abbrev pub claims_listed : Progress → List LogClaim
@@ -63,4 +68,4 @@ claims_listed progress = map log_claim (claims_stored progress)
 
 -- the theory that a run has come to
 abbrev pub theory_of : Progress → Theory
-theory_of progress = progress.session.library.recorder.theory
+theory_of progress = (journal_of progress).theory

@@ -2,16 +2,15 @@
 use Rattle.std.specs.Prelude.{◌≡◌, ◌+◌, ◌++◌, ℕ, List, [], Bool, map, Option, Result, Ok, Err, codes, string_bytes}
 use Rattle.std.specs.Io.KnownBytes.{Appends}
 use Rattle.hol_model.specs.declared.fault.Fault.{Fault}
-use Rattle.hol_session_model.specs.Sessions.{State as Library}
-use Rattle.hol_session_model.specs.ScriptSessions.{State, start, Turn, last_state, text_of_turns, as_list, theorems_in_turns}
+use Rattle.hol_session_model.specs.ScriptSessions.{State, start, Tools, Turn, last_state, text_of_turns, as_list, theorems_in_turns}
 use Rattle.hol_session_model.specs.Runs.{Counts, no_counts, counts_after, IsRun, SourceUse, SinkUse, Devices}
 use Rattle.hol_bytes.specs.Bytes.{AppendsFront}
 use Rattle.hol_script.specs.declared.progress.Summary.{Summary}
 use Rattle.hol_script.specs.declared.progress.Progress.{Progress}
 use Rattle.hol_session.specs.declared.reply.Printed.{Printed}
-use Rattle.hol_session.specs.declared.reply.Printed.TheVariants.{Nothing, Line}
+use Rattle.hol_session.specs.declared.reply.Printed.TheVariants.{Nothing, Line, Goals}
 use Rattle.hol_session.specs.declared.reply.Refused.{Refused}
-use Rattle.hol_session.specs.Answers.{Beside, with_beside, session_tools, printed_name}
+use Rattle.hol_session.specs.Answers.{printed_name}
 
 -- ---- answers
 
@@ -26,6 +25,7 @@ counts_of summary = record { accepted_commands = summary.accepted; refused_comma
 abbrev pub counting_answer : Counts → Result Printed Refused → Counts
 counting_answer counts (Ok Nothing) = record { accepted_commands = counts.accepted_commands + 1; refused_commands = counts.refused_commands; theorem_lines = counts.theorem_lines }
 counting_answer counts (Ok (Line line)) = record { accepted_commands = counts.accepted_commands + 1; refused_commands = counts.refused_commands; theorem_lines = counts.theorem_lines + 1 }
+counting_answer counts (Ok (Goals text)) = record { accepted_commands = counts.accepted_commands + 1; refused_commands = counts.refused_commands; theorem_lines = counts.theorem_lines }
 counting_answer counts (Err refused) = record { accepted_commands = counts.accepted_commands; refused_commands = counts.refused_commands + 1; theorem_lines = counts.theorem_lines }
 
 -- the names that a run keeps
@@ -43,26 +43,19 @@ printed_names turns = map (λ shown. shown.name) (theorems_in_turns turns)
 
 -- ---- runs
 
--- a script sets no goals
-abbrev pub no_goals : Beside
-no_goals = record { lemmas = []; proof = Option.None }
-
-abbrev pub state_in : Library → State
-state_in library = with_beside no_goals library
-
 -- What a run of the script writes was written; it printed theorems under these names and ended in this state.
-pub record Finishes (script : List ℕ) (written new_written : Option (List ℕ)) (counts : Counts) (names : List (List ℕ)) (state : State) : Type 0 where
+pub record Finishes (tools : Tools) (script : List ℕ) (written new_written : Option (List ℕ)) (counts : Counts) (names : List (List ℕ)) (state : State) : Type 0 where
   pub turns : List Turn
-  pub is_run : IsRun session_tools script turns
+  pub is_run : IsRun tools script turns
   pub wrote : Appends written new_written (text_of_turns turns)
   pub counted : counts ≡ counts_after no_counts turns
   pub named : names ≡ printed_names turns
   pub ends : last_state start turns ≡ state
 
 -- The front of what a run of the script writes was written.
-pub record Breaks (script : List ℕ) (written new_written : Option (List ℕ)) : Type 0 where
+pub record Breaks (tools : Tools) (script : List ℕ) (written new_written : Option (List ℕ)) : Type 0 where
   pub turns : List Turn
-  pub is_run : IsRun session_tools script turns
+  pub is_run : IsRun tools script turns
   pub wrote : AppendsFront written new_written (text_of_turns turns)
 
 -- ---- what a run answers, and its devices

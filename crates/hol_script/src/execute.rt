@@ -1,20 +1,30 @@
 // What a command's text does.
-ghost use Rattle.std.specs.Prelude.{Some};
-ghost use Rattle.hol_session.specs.Answers.{Turns};
-ghost use Rattle.hol_session.specs.SessionState.{state_of, IsSession};
+ghost use Rattle.std.specs.Prelude.{List, ℕ, Some};
+ghost use Rattle.hol_session_model.specs.CommandGrammar.{CommandTree, SpellsCommand};
+ghost use Rattle.hol_session_model.specs.SessionCalls.{Turns};
+ghost use Rattle.hol_session.specs.Answers.{session_tools, Says};
+ghost use Rattle.hol_command.specs.Views.{IsCommand};
+ghost use Rattle.hol_proof_manager.specs.Managers.{state_of, IsManager};
+ghost use Rattle.hol_script.specs.Commands.{IsOfTree};
 
 use hol_command::command::{Command, parse_command};
 use hol_grammar::{ReadError, tokens_in};
+use hol_host::Refiners;
 use hol_model::Fault;
+use hol_proof_manager::Manager;
 use hol_session::reply::{Printed, Refused, plainly};
-use hol_session::session::Session;
 use std::alloc::Global;
 
-/// Answers a command: what it prints, or a refusal, which changes nothing.
-pub(crate) fn execute(session: &mut Session, alloc: Global, text: &[u8]) -> Result<Printed, Refused>
-    requires { IsSession session.old }
-    ensures turns { Turns (state_of session.old) (Some text.now) result (state_of session.new) }
-    ensures kept { IsSession session.new }
+/// Answers a command, which may call a host's functions: what it prints, or a refusal, which changes nothing.
+pub(crate) fn execute<H: Refiners>(
+    manager: &mut Manager,
+    alloc: Global,
+    host: &H,
+    text: &[u8],
+) -> Result<Printed, Refused>
+    requires { IsManager manager.old }
+    ensures turns { Turns (session_tools (H.refiners host.now) (H.conversions host.now)) (state_of manager.old) (Some text.now) (Says result) (state_of manager.new) }
+    ensures kept { IsManager manager.new }
 {
     let tokens = match tokens_in(alloc, text) {
         Ok(tokens) => tokens,
@@ -22,13 +32,37 @@ pub(crate) fn execute(session: &mut Session, alloc: Global, text: &[u8]) -> Resu
         Err(ReadError::Syntax) => return Err(Refused::plain(Fault::Syntax)),
     };
     match parse_command(alloc, &tokens) {
-        Ok(Command::Thm(name, asked)) => session.thm(alloc, name, &asked),
-        Ok(Command::Show(name)) => plainly(session.show(alloc, name)),
-        Ok(Command::Var(name, ty)) => plainly(session.var(alloc, name, &ty)),
-        Ok(Command::Def(name, term)) => plainly(session.def(alloc, name, &term)),
-        Ok(Command::NewType(name)) => plainly(session.newtype(alloc, name)),
-        Ok(Command::NewConst(name, ty)) => plainly(session.newconst(alloc, name, &ty)),
+        Ok(command) => carry_out(manager, alloc, host, command),
         Err(ReadError::Memory) => Err(Refused::plain(Fault::Memory)),
         Err(ReadError::Syntax) => Err(Refused::plain(Fault::Syntax)),
+    }
+}
+
+// Answers a command that was read.
+fn carry_out<H: Refiners>(
+    manager: &mut Manager,
+    alloc: Global,
+    host: &H,
+    command: Command<'_>,
+) -> Result<Printed, Refused>
+    requires manager { IsManager manager.old }
+    requires tree { IsOfTree command }
+    ensures turns { (text : List ℕ) (tree : CommandTree) → SpellsCommand text tree → IsCommand command.entry tree
+        → Turns (session_tools (H.refiners host.now) (H.conversions host.now)) (state_of manager.old) (Some text) (Says result) (state_of manager.new) }
+    ensures kept { IsManager manager.new }
+{
+    match command {
+        Command::Thm(name, asked) => manager.thm(alloc, host, name, &asked),
+        Command::Show(name) => plainly(manager.show(alloc, name)),
+        Command::Var(name, ty) => plainly(manager.var(alloc, name, &ty)),
+        Command::Def(name, term) => plainly(manager.def(alloc, name, &term)),
+        Command::NewType(name) => plainly(manager.newtype(alloc, name)),
+        Command::NewConst(name, ty) => plainly(manager.newconst(alloc, name, &ty)),
+        Command::Goal(term) => plainly(manager.goal(alloc, &term)),
+        Command::Expand(tac) => plainly(manager.expand(alloc, host, &tac)),
+        Command::Back => plainly(manager.back(alloc)),
+        Command::Print => plainly(manager.print(alloc)),
+        Command::Rotate(turns) => plainly(manager.rotate(alloc, turns)),
+        Command::Save(name) => plainly(manager.save(alloc, name)),
     }
 }

@@ -1,18 +1,20 @@
 // How far a run has come.
 ghost use Rattle.std.specs.Prelude.{◌≡◌, ◌≤◌, ◌<◌, ◌+◌, ◌^◌, ◌++◌, ◌∷◌, [], Some, OnOk, IfOk, IfErr, IsErrOf, Contains, vec_len, vec_capacity};
-ghost use Rattle.hol_session_model.specs.Sessions.{start};
+ghost use Rattle.hol_session_model.specs.ScriptSessions.{start};
+ghost use Rattle.hol_session_model.specs.SessionCalls.{Turns};
 ghost use Rattle.hol_model.specs.declared.fault.Fault.TheVariants.{Memory, TooLong};
 ghost use Rattle.hol_log.specs.Pruning.{HaveIdentifiers};
-ghost use Rattle.hol_session.specs.Answers.{Turns};
+ghost use Rattle.hol_session.specs.Answers.{session_tools, Says};
 ghost use Rattle.hol_script.specs.Runs.{counts_of, counting_answer, names_of, names_in_answer};
-ghost use Rattle.hol_script.specs.RunLogs.{claims_stored, claims_listed};
-ghost use Rattle.hol_session.specs.SessionState.{state_of, IsSession};
+ghost use Rattle.hol_script.specs.RunLogs.{journal_of, claims_stored, claims_listed};
+ghost use Rattle.hol_proof_manager.specs.Managers.{state_of, IsManager};
 ghost use Rattle.hol_session.specs.StoredClaims.{IsAcceptedLog, IsLongLog};
 
 use crate::execute::execute;
+use hol_host::Refiners;
 use hol_model::Fault;
+use hol_proof_manager::Manager;
 use hol_session::reply::{Printed, Refused};
-use hol_session::session::Session;
 use std::alloc::Global;
 
 /// How many commands were accepted and refused, and how many theorems were printed.
@@ -23,10 +25,10 @@ pub struct Summary {
     pub printed: u64,
 }
 
-/// A session, the names in the lines of theorems that it printed, and what it answered so far.
+/// A proof manager, the names in the lines of theorems that it printed, and what it answered so far.
 #[derive(Drop)]
 pub struct Progress {
-    pub session: Session,
+    pub manager: Manager,
     pub names: Vec<String>,
     pub summary: Summary,
 }
@@ -48,6 +50,11 @@ impl Summary {
                 refused: self.refused,
                 printed: self.printed,
             },
+            Ok(Printed::Goals(_)) => Summary {
+                accepted: self.accepted + 1,
+                refused: self.refused,
+                printed: self.printed,
+            },
             Ok(Printed::Line(_)) => Summary {
                 accepted: self.accepted + 1,
                 refused: self.refused,
@@ -65,15 +72,15 @@ impl Summary {
 impl Progress {
     /// Where a run begins.
     pub fn new(alloc: Global) -> Result<Progress, Fault>
-        ensures state { IfOk result (λ progress. state_of progress.session ≡ start) }
-        ensures is_session { IfOk result (λ progress. IsSession progress.session) }
+        ensures state { IfOk result (λ progress. state_of progress.manager ≡ start) }
+        ensures is_manager { IfOk result (λ progress. IsManager progress.manager) }
         ensures names { IfOk result (λ progress. names_of progress ≡ []) }
         ensures summary { IfOk result (λ progress. progress.summary ≡ record { accepted = 0; refused = 0; printed = 0 }) }
         ensures err { IfErr result (λ fault. fault ≡ Memory) }
     {
-        match Session::new(alloc) {
-            Ok(session) => Ok(Progress {
-                session,
+        match Manager::new(alloc) {
+            Ok(manager) => Ok(Progress {
+                manager,
                 names: Vec::new(alloc),
                 summary: Summary {
                     accepted: 0,
@@ -85,11 +92,17 @@ impl Progress {
         }
     }
 
-    /// Answers a command. Where the name of a theorem would find no room, the command is refused.
-    pub fn answer(&mut self, alloc: Global, text: &[u8]) -> Result<Printed, Refused>
-        requires { IsSession self.old.session }
-        ensures turns { Turns (state_of self.old.session) (Some text.now) result (state_of self.new.session) }
-        ensures kept { IsSession self.new.session }
+    /// Answers a command, which may call a host's functions. Where the name of a theorem would find no room, the command is
+    /// refused.
+    pub fn answer<H: Refiners>(
+        &mut self,
+        alloc: Global,
+        host: &H,
+        text: &[u8],
+    ) -> Result<Printed, Refused>
+        requires { IsManager self.old.manager }
+        ensures turns { Turns (session_tools (H.refiners host.now) (H.conversions host.now)) (state_of self.old.manager) (Some text.now) (Says result) (state_of self.new.manager) }
+        ensures kept { IsManager self.new.manager }
         ensures names { names_of self.new ≡ names_of self.old }
         ensures room { OnOk result (vec_len self.new.names < vec_capacity self.new.names) }
         ensures summary { self.new.summary ≡ self.old.summary }
@@ -97,7 +110,7 @@ impl Progress {
         if self.names.reserve(1).is_err() {
             return Err(Refused::plain(Fault::Memory));
         }
-        execute(&mut self.session, alloc, text)
+        execute(&mut self.manager, alloc, host, text)
     }
 
     /// Counts an answer and keeps the name of its theorem, for which there is room.
@@ -106,7 +119,7 @@ impl Progress {
         requires accepted { self.old.summary.accepted < 2 ^ 63 }
         requires refused { self.old.summary.refused < 2 ^ 63 }
         requires printed { self.old.summary.printed < 2 ^ 63 }
-        ensures session { self.new.session ≡ self.old.session }
+        ensures manager { self.new.manager ≡ self.old.manager }
         ensures names { names_of self.new ≡ names_of self.old ++ names_in_answer answer }
         ensures counts { counts_of self.new.summary ≡ counting_answer (counts_of self.old.summary) answer }
         ensures accepted { self.new.summary.accepted ≤ self.old.summary.accepted + 1 }
@@ -117,6 +130,7 @@ impl Progress {
         match answer {
             Ok(Printed::Line(line)) => self.names.push_reserved(line.name),
             Ok(Printed::Nothing) => {}
+            Ok(Printed::Goals(_text)) => {}
             Err(_refused) => {}
         }
     }
@@ -124,12 +138,12 @@ impl Progress {
     /// The text of the log of the theorems that were printed. Refusals: Memory, and TooLong, where the text would be
     /// longer than the limit on texts.
     pub fn log_text(&self, alloc: Global) -> Result<Vec<u8>, Fault>
-        requires session { IsSession self.now.session }
+        requires manager { IsManager self.now.manager }
         requires named { HaveIdentifiers (claims_stored self.now) }
-        ensures ok { IfOk result (λ text. IsAcceptedLog self.now.session.library.recorder (claims_listed self.now) text.items) }
-        ensures too_long { IsErrOf result TooLong → IsLongLog self.now.session.library.recorder (claims_listed self.now) }
+        ensures ok { IfOk result (λ text. IsAcceptedLog (journal_of self.now) (claims_listed self.now) text.items) }
+        ensures too_long { IsErrOf result TooLong → IsLongLog (journal_of self.now) (claims_listed self.now) }
         ensures refusals { IfErr result (Contains (TooLong ∷ Memory ∷ [])) }
     {
-        self.session.log_text(alloc, &self.names)
+        self.manager.log_text(alloc, &self.names)
     }
 }

@@ -7,13 +7,14 @@ ghost use Rattle.hol_model.specs.declared.fault.Fault.TheVariants.{Memory, Write
 ghost use Rattle.hol_log.specs.Pruning.{HaveIdentifiers};
 ghost use Rattle.hol_bytes.specs.Bytes.{AppendsFront};
 ghost use Rattle.hol_session.specs.Answers.{session_tools, row_bytes, answer_text};
-ghost use Rattle.hol_session.specs.SessionState.{state_of, IsSession};
-ghost use Rattle.hol_script.specs.Runs.{refusal_of_parts, counts_of, names_of, state_in, Finishes, Breaks, answer_of, source_use, sink_use, devices};
+ghost use Rattle.hol_proof_manager.specs.Managers.{state_of, IsManager};
+ghost use Rattle.hol_script.specs.Runs.{refusal_of_parts, counts_of, names_of, Finishes, Breaks, answer_of, source_use, sink_use, devices};
 ghost use Rattle.hol_script.specs.RunLogs.{claims_stored, claims_listed, theory_of, IsLogOver, IsLongLogOver, WritesLog, WritesFront};
 
 use crate::progress::{Progress, Summary};
 use hol_bytes::{read_all, write_all, write_pieces};
 use hol_command::cut::{cut, is_blank_text, leading_line_feeds, line_feeds};
+use hol_host::Refiners;
 use hol_model::{Fault, Sink, Source, TEXT_BYTES_LIMIT};
 use hol_session::reply::{Printed, Refused};
 use itoa::Buffer;
@@ -71,7 +72,7 @@ fn write_refusal<W: Sink>(writer: &mut W, line: u64, refused: &Refused) -> Resul
     )
 }
 
-// Writes the line of an answer.
+// Writes the text of an answer.
 fn write_answer<W: Sink>(
     writer: &mut W,
     line: u64,
@@ -87,18 +88,24 @@ fn write_answer<W: Sink>(
     match answer {
         Ok(Printed::Nothing) => Ok(()),
         Ok(Printed::Line(line)) => write_all(writer, line.text.as_bytes()),
+        Ok(Printed::Goals(text)) => write_all(writer, text.as_bytes()),
         Err(refused) => write_refusal(writer, line, refused),
     }
 }
 
-// Answers the requests of a script's pieces, one after another, and writes the line of each answer.
-fn run_script<W: Sink>(alloc: Global, script: &[u8], writer: &mut W) -> Result<Progress, Fault>
+// Answers the requests of a script's pieces, one after another, and writes the text of each answer.
+fn run_script<W: Sink, H: Refiners>(
+    alloc: Global,
+    script: &[u8],
+    writer: &mut W,
+    host: &H,
+) -> Result<Progress, Fault>
     requires unfailed { W.has_failed writer.old ≡ false }
     requires within_limit { length script.now ≤ TEXT_BYTES_LIMIT }
-    ensures ok { IfOk result (λ progress. Finishes script.now (W.contents writer.old) (W.contents writer.new)
-        (counts_of progress.summary) (names_of progress) (state_in (state_of progress.session))) }
-    ensures is_session { IfOk result (λ progress. IsSession progress.session) }
-    ensures err { OnErr result (Breaks script.now (W.contents writer.old) (W.contents writer.new)) }
+    ensures ok { IfOk result (λ progress. Finishes (session_tools (H.refiners host.now) (H.conversions host.now)) script.now (W.contents writer.old) (W.contents writer.new)
+        (counts_of progress.summary) (names_of progress) (state_of progress.manager)) }
+    ensures is_manager { IfOk result (λ progress. IsManager progress.manager) }
+    ensures err { OnErr result (Breaks (session_tools (H.refiners host.now) (H.conversions host.now)) script.now (W.contents writer.old) (W.contents writer.new)) }
     ensures unfailed { OnOk result (W.has_failed writer.new ≡ false) }
     ensures failed { IsErrOf result WriteFault → W.has_failed writer.new ≡ true }
     ensures unwritten { IsErrOf result Memory → writer.new ≡ writer.old }
@@ -113,7 +120,7 @@ fn run_script<W: Sink>(alloc: Global, script: &[u8], writer: &mut W) -> Result<P
     'pieces: while let Some((piece, behind)) = cut(rest) {
         if !is_blank_text(piece) {
             let here = line + leading_line_feeds(piece) as u64;
-            let answer = progress.answer(alloc, piece);
+            let answer = progress.answer(alloc, host, piece);
             match write_answer(writer, here, &answer) {
                 Ok(()) => {}
                 Err(fault) => return Err(fault),
@@ -140,7 +147,7 @@ fn run_script<W: Sink>(alloc: Global, script: &[u8], writer: &mut W) -> Result<P
 // Writes the log of the theorems that were printed.
 fn write_log<L: Sink>(alloc: Global, progress: &Progress, log: &mut L) -> Result<(), Fault>
     requires unfailed { L.has_failed log.old ≡ false }
-    requires session { IsSession progress.now.session }
+    requires manager { IsManager progress.now.manager }
     requires named { HaveIdentifiers (claims_stored progress.now) }
     ensures ok { OnOk result (WritesLog (theory_of progress.now) (claims_listed progress.now) (L.contents log.old) (L.contents log.new)) }
     ensures unfailed { OnOk result (L.has_failed log.new ≡ false) }
@@ -156,13 +163,15 @@ fn write_log<L: Sink>(alloc: Global, progress: &Progress, log: &mut L) -> Result
     }
 }
 
-/// Reads a whole script, runs its commands in order and writes a line for each theorem and each refusal (`ends`): what is
-/// written is what a session of that script writes, or the front of it where the output breaks off. Each theorem in it follows
-/// from the entries accepted before it, and holds in every finite standard model. The summary counts that session's replies.
+/// Reads a whole script, runs its commands in order over a host's functions and writes a line for each theorem and each
+/// refusal, and the goals that are open after each command of goals (`ends`): what is written is what a session of that script
+/// writes, or the front of it where the output breaks off. Each theorem in it follows from the entries accepted before it, and
+/// holds in every finite standard model, whatever the host's functions answer. The summary counts that session's replies.
 ///
 /// The same told without sessions (`told`, `told_front`): what is written is lines, or the front of them where the run
-/// stops, each of them a refusal's or a name and the text of a sequent that reads back as itself, follows from a legal
-/// theory and holds. The theory has the logical definitions and what the script's own commands define and declare.
+/// stops. Each is a refusal's, an open goal's or the number of the goals that are open; or a name and the text of a sequent
+/// that reads back as itself, follows from a legal theory and holds; or it says that no goal is open, and then a goal that the
+/// script sets follows and holds. The theory has the logical definitions and what the script's own commands define and declare.
 ///
 /// Where a log is wanted, it is written after the last command: the pruned log of the theorems that were printed, over the
 /// theory at the end, which is accepted, with a claim for each line of a theorem, in order. Where none is wanted, `log` is left
@@ -172,17 +181,18 @@ fn write_log<L: Sink>(alloc: Global, progress: &Progress, log: &mut L) -> Result
 /// texts. Memory comes while the script is read, or while the session is begun and the theorems of the prelude are made: a
 /// growth refused in a command refuses that command. After the last command Memory and TooLong come where the log finds no
 /// memory or is longer than the limit, and then none of it is written. WriteFault: a sink failed.
-pub fn run<R: Source, W: Sink, L: Sink>(
+pub fn run<R: Source, W: Sink, L: Sink, H: Refiners>(
     alloc: Global,
     reader: &mut R,
     writer: &mut W,
     log: &mut L,
     wants_log: bool,
+    host: &H,
 ) -> Result<Summary, Fault>
     requires reader_unfailed { R.has_failed reader.old ≡ false }
     requires writer_unfailed { W.has_failed writer.old ≡ false }
     requires log_unfailed { L.has_failed log.old ≡ false }
-    ensures ends { Ends session_tools IsLogOver
+    ensures ends { Ends (session_tools (H.refiners host.now) (H.conversions host.now)) IsLogOver
         (devices (source_use (R.remaining reader.old) (R.has_failed reader.new))
         (sink_use (W.contents writer.old) (W.contents writer.new) (W.has_failed writer.new) (writer.new ≡ writer.old))
         (sink_use (L.contents log.old) (L.contents log.new) (L.has_failed log.new) (log.new ≡ log.old)))
@@ -197,7 +207,7 @@ pub fn run<R: Source, W: Sink, L: Sink>(
         Ok(script) => script,
         Err(fault) => return Err(fault),
     };
-    let progress = match run_script(alloc, script.as_slice(), writer) {
+    let progress = match run_script(alloc, script.as_slice(), writer, host) {
         Ok(progress) => progress,
         Err(fault) => return Err(fault),
     };

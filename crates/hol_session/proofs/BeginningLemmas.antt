@@ -1,8 +1,12 @@
 -- How the theorems of the prelude are stored, one after another.
-use Rattle.std.proofs.Common.{◌≡◌, ◌<◌, inl, inr, ℕ, List, [], ◌∷◌, length, drop, ◌∙◌, ap, subst, Some, Result, Ok, Err}
+use Rattle.std.proofs.Common.{◌≡◌, ◌<◌, inl, inr, ℕ, List, [], ◌∷◌, length, drop, ◌∙◌, ap, sym, subst, Option, None, Some, Result, Ok, Err}
 use Rattle.std.specs.Prelude.{slice_get, slice_index_or, OnOk, ◌+◌}
 use Rattle.std.proofs.lemmas.Option.{slice_get_cases}
 use Rattle.hol_model.specs.Kernel.Theorem.{Theorem}
+use Rattle.hol_model.specs.Logic.Theory.{Theory}
+use Rattle.hol_model.specs.Terms.HolType.{HolType}
+use Rattle.hol_model.specs.Texts.Reading.{Scope}
+use Rattle.hol_session_laws.specs.ReadTerms.{IsScopeOver}
 use Rattle.hol_session_model.specs.Sessions.{State, with_theorem, with_theorems}
 use Rattle.hol_model.specs.declared.fault.Fault.{Fault}
 use Rattle.hol_journal.specs.Journal.{Recorded}
@@ -10,7 +14,7 @@ use Rattle.hol_prelude.specs.Prelude.{prelude_theorems}
 use Rattle.hol_session.specs.declared.beginning.StoredTheorem.{StoredTheorem}
 use Rattle.hol_command.specs.Views.{Match}
 use Rattle.hol_session.proofs.ReplacementLemmas.{item-at}
-use Rattle.hol_session.specs.Beginning.{IsStoredTheorem, StoresNumbered}
+use Rattle.hol_session.specs.Beginning.{IsScopeOf, IsStoredTheorem, StoresNumbered}
 
 within : {A : Type 0} → (items : List A) (at : ℕ) (x : A) → slice_get items at ≡ Some x → at < length items
 within items at x there = elim (slice_get_cases items at).1 [
@@ -61,3 +65,11 @@ pub next-number : (old now : State) (table : List StoredTheorem) (at : ℕ) (def
     → (slice_index_or table at default).number < length prelude_theorems
 next-number old now table at default all inside storing =
     storing-within old now (slice_index_or table at default) (drop (at + 1) table) all (storing-next old now table at default all inside storing)
+
+-- the scope of a theory that has no variables is one over it
+pub logical_over : (scope : Scope) (theory other : Theory) → IsScopeOf scope theory → other ≡ theory → IsScopeOver other scope
+logical_over scope theory other of same = subst (λ (t : Theory). IsScopeOver t scope) (sym same) (record {
+  constants = of.constants;
+  types = of.types;
+  variables = λ name ty is. (let none : ◌≡◌ {A = Option HolType} None (Some ty) = sym (of.variables name) ∙ is in cc);
+})

@@ -1,5 +1,5 @@
 -- What a definition and a declaration are accepted or refused for, and the session over the theory that they make.
-use Rattle.std.proofs.Common.{◌≡◌, ◌⊎◌, ⊎_elim, ℕ, List, [], ◌∷◌, refl, sym, subst, ap, ◌∙◌, Option, None, Some, Result, Ok, Err}
+use Rattle.std.proofs.Common.{◌≡◌, ◌⊎◌, ⊎_elim, ℕ, List, [], ◌∷◌, map, refl, sym, subst, ap, ◌∙◌, Option, None, Some, Result, Ok, Err}
 use Rattle.std.specs.Prelude.{Bool, true, false, not, ◌&&◌, ◌||◌, cond, is_some}
 use Rattle.std.specs.Map.{update}
 use Rattle.std.specs.Str.{bytes_eq}
@@ -10,7 +10,7 @@ use Rattle.hol_model.specs.Terms.Name.{is_constant_name, is_declared_type_name}
 use Rattle.hol_model.specs.Terms.HolType.{HolType}
 use Rattle.hol_model.specs.Terms.NamedTerm.{NamedTerm, constant, type_of, equation, is_within_limits}
 use Rattle.hol_model.specs.Terms.Nameless.{image}
-use Rattle.hol_model.specs.Logic.Theory.{Theory, definition, declaration_of_type, declaration_of_constant, generic_type, IsLegal, IsLegalType, IsLegalConstant}
+use Rattle.hol_model.specs.Logic.Theory.{Theory, definition, declaration_of_type, declaration_of_constant, generic_type, IsEarlier, IsLegal}
 use Rattle.hol_model.specs.Logic.KnownTerm.{is_declared, knows_type}
 use Rattle.hol_model.specs.Logic.Legality.{is_closed, reflects, is_fixed, is_new_name, own_type}
 use Rattle.hol_model.specs.Kernel.Outcome.{Answers, unless, refused}
@@ -24,43 +24,40 @@ use Rattle.hol_session_model.specs.CommandGrammar.{SpellsCommand, def_command}
 use Rattle.hol_session_model.specs.Sessions.{State, scope_in, with_variable, over_theory, definition_name, def_outcome, newconst_outcome}
 use Rattle.hol_session_model.specs.Sessions as sessions
 use Rattle.hol_session_model.specs.Replies.{theorem_line, text_of_theorem}
+use Rattle.hol_session_model.specs.ScriptSessions.{Tools}
+use Rattle.hol_session_laws.specs.ReadTerms.{IsScopeOver}
+use Rattle.hol_session_laws.proofs.Growth.{type-added, type-grows, const-added, const-grows, definition-accepted}
+use Rattle.hol_goal_laws.proofs.Knowledge.{knows_type-stays}
+use Rattle.hol_goal_laws.proofs.Passing.{passed, not_refused}
 use Rattle.hol_model.proofs.Kernel.Outcomes.{passed_value}
 use Rattle.hol_kernel.proofs.LimitLemmas.{equation-limited}
-use Rattle.hol_model.proofs.Logic.KnownTerms.{knows_type-IsKnownType}
-use Rattle.hol_model.proofs.Logic.LegalEntries.{fixed-has_none, new_name-IsNewName}
 use Rattle.hol_sound.specs.Laws.{IsSound}
 use Rattle.hol_syntax.specs.declared.scope.Scope.{Scope as ScopeHere}
 use Rattle.hol_syntax.specs.Scope.{scope_of, SetsConstant, SetsVariable, SetsType, KeepsScope}
 use Rattle.hol_session.specs.declared.lines.TheoremLine.{TheoremLine}
 use Rattle.hol_session.specs.declared.session.Session.{Session}
 use Rattle.hol_session.specs.declared.reply.Printed.TheVariants.{Line}
-use Rattle.hol_journal.specs.Journal.{Journal}
+use Rattle.hol_journal.specs.Journal.{Journal, Recorded, IsMade}
 use Rattle.hol_journal.specs.Growth.{IsGrown}
 use Rattle.hol_prelude.specs.HasLogic.{HasLogic}
 use Rattle.hol_taut_laws.specs.HasLaws.{HasLaws}
 use Rattle.hol_library.specs.declared.library.Library.{Library}
-use Rattle.hol_library.specs.Library.{IsLibrary}
-use Rattle.hol_session.specs.SessionState.{state_of, theorem_of, IsSession, LibrariesGrow}
+use Rattle.hol_session.specs.SessionState.{state_of, theorem_of, lemmas_of, IsSession, StaysMade, LibrariesGrow}
 use Rattle.hol_session.specs.Growth.{IsRefused, LeavesNone, MakesEquation, KeepsLaws, Defines, KeepsSession}
 use Rattle.hol_session.specs.Answers.{with_beside, IsLineOf, Turns}
 use Rattle.hol_session.proofs.RuleLemmas.{proved, same_is_earlier}
-use Rattle.hol_store.specs.Stored.{Stored, IsStoreOf, KeepsStore}
+use Rattle.hol_store.specs.Stored.{Stored, IsStoreOf, StoresTheorem, KeepsStore, theorems_in}
 use Rattle.hol_store.specs.Store.{stored_of}
+use Rattle.hol_store.specs.declared.store.Store.{Store}
 use Rattle.hol_store.proofs.StoreLemmas.{stores-stay, stored-made}
 use Rattle.hol_session.proofs.RecordingLemmas.{kept-made, stored_theorem, libraries-stay, store-stays}
+use Rattle.hol_model.specs.Kernel.Theorem.{IsWellFormed}
+use Rattle.hol_model.specs.Goals.Replays.{IsStoreOver}
+use Rattle.hol_session.proofs.ProvedStores.{proved_later, proved_same, proved_more}
 use Rattle.hol_session.proofs.AllowedLemmas.{AllowsMessage, def_defines}
 use Rattle.hol_session.proofs.SessionLemmas.{scope_same, prints}
 
 -- ---- tests of outcomes
-
--- what is accepted has passed each test
-passed : {A : Type 0} (test : Bool) (fault : Fault) (next : Result A Fault) (x : A) → unless test fault next ≡ Ok x → (test ≡ true) × (next ≡ Ok x)
-passed true fault next x same = (refl, same)
-passed false fault next x same = cc
-
-not_refused : {A : Type 0} (refusal : Option Fault) (next : Result A Fault) (x : A) → refused refusal next ≡ Ok x → (refusal ≡ None) × (next ≡ Ok x)
-not_refused None next x same = (refl, same)
-not_refused (Some fault) next x same = cc
 
 -- what is refused later, or by a test, is refused
 later : {A : Type 0} (test : Bool) (fault : Fault) (next : Result A Fault) → IsRefused next → IsRefused (unless test fault next)
@@ -190,19 +187,6 @@ definition-theorem theory name term theorem same =
     let is : made ≡ theorem = cc in
     sym is
 
-pub definition-accepted : (theory : Theory) (name : List ℕ) (term : NamedTerm) (theorem : Theorem) → define_outcome theory name term ≡ Ok theorem
-    → theorem.theory ≡ definition name (own_type term) (image term) ∷ theory
-definition-accepted theory name term theorem same = ap (λ (t : Theorem). t.theory) (definition-theorem theory name term theorem same)
-
--- its name was new
-pub definition-was_new : (theory : Theory) (name : List ℕ) (term : NamedTerm) (theorem : Theorem) → define_outcome theory name term ≡ Ok theorem → is_new_name theory name ≡ true
-definition-was_new theory name term theorem same =
-    let known = passed (is_constant_name name) BadName (of_known theory name term) theorem same in
-    let closed = not_refused (first_unknown theory term) (of_closed theory name term) theorem known.1 in
-    let reflecting = passed (is_closed term) NotClosed (of_reflecting theory name term) theorem closed.1 in
-    let new_name = passed (reflects (own_type term) term) TypeVarsNotReflected (of_new_name theory name term) theorem reflecting.1 in
-    (passed (is_new_name theory name) AlreadyDefined (with_room theory name term) theorem new_name.1).0
-
 -- its line
 pub definition-line : (theory : Theory) (scope : Scope) (name stored : List ℕ) (term : NamedTerm) (theorem : Theorem) (line : TheoremLine) → define_outcome theory name term ≡ Ok theorem → stored ≡ definition_name name
     → IsLineOf line scope stored (record { theory = []; hypotheses = []; conclusion = equation (constant name (own_type term)) term }) → IsLineOf line scope (definition_name name) theorem
@@ -227,20 +211,6 @@ type-not_new theory name known =
     later (is_declared_type_name name) BadName (type_of_new_name theory name)
     (fails (is_new_name theory name) AlreadyDefined (type_with_room theory name) (declared_type-not_new theory name known))
 
-pub record AcceptsType (theory new : Theory) (name : List ℕ) : Type 0 where
-  pub named : is_declared_type_name name ≡ true
-  pub is_new : is_new_name theory name ≡ true
-  pub grown : new ≡ declaration_of_type name ∷ theory
-
-pub type-accepted : (theory new : Theory) (name : List ℕ) → new_type_outcome theory name ≡ Ok new → AcceptsType theory new name
-type-accepted theory new name same =
-    let named = passed (is_declared_type_name name) BadName (type_of_new_name theory name) new same in
-    let is_new = passed (is_new_name theory name) AlreadyDefined (type_with_room theory name) new named.1 in
-    let room = passed (not (is_full theory)) TooLarge (Ok (declaration_of_type name ∷ theory)) new is_new.1 in
-    let whole : Ok (declaration_of_type name ∷ theory) ≡ Ok new = room.1 in
-    let made : new ≡ declaration_of_type name ∷ theory = cc in
-    record { named = named.0; is_new = is_new.0; grown = made }
-
 abbrev const_with_room : Theory → List ℕ → HolType → Result Theory Fault
 const_with_room theory name ty = unless (not (is_full theory)) TooLarge (Ok (declaration_of_constant name ty ∷ theory))
 
@@ -260,39 +230,6 @@ const-not_new theory name ty known =
     (later (is_fixed ty) TypeVarsNotReflected (const_of_new_name theory name ty)
     (fails (is_new_name theory name) AlreadyDefined (const_with_room theory name ty) (known_constant-not_new theory name known))))
 
-pub record AcceptsConst (theory new : Theory) (name : List ℕ) (ty : HolType) : Type 0 where
-  pub named : is_constant_name name ≡ true
-  pub known : knows_type theory ty ≡ true
-  pub fixed : is_fixed ty ≡ true
-  pub is_new : is_new_name theory name ≡ true
-  pub grown : new ≡ declaration_of_constant name ty ∷ theory
-
-pub const-accepted : (theory new : Theory) (name : List ℕ) (ty : HolType) → new_const_outcome theory name ty ≡ Ok new → AcceptsConst theory new name ty
-const-accepted theory new name ty same =
-    let named = passed (is_constant_name name) BadName (const_of_known theory name ty) new same in
-    let known = passed (knows_type theory ty) UnknownType (const_of_fixed theory name ty) new named.1 in
-    let fixed = passed (is_fixed ty) TypeVarsNotReflected (const_of_new_name theory name ty) new known.1 in
-    let is_new = passed (is_new_name theory name) AlreadyDefined (const_with_room theory name ty) new fixed.1 in
-    let room = passed (not (is_full theory)) TooLarge (Ok (declaration_of_constant name ty ∷ theory)) new is_new.1 in
-    let whole : Ok (declaration_of_constant name ty ∷ theory) ≡ Ok new = room.1 in
-    let made : new ≡ declaration_of_constant name ty ∷ theory = cc in
-    record { named = named.0; known = known.0; fixed = fixed.0; is_new = is_new.0; grown = made }
-
-type-legal : (theory new : Theory) (name : List ℕ) → IsLegal theory → AcceptsType theory new name → IsLegal new
-type-legal theory new name legal accepted =
-    let entry : IsLegalType theory name = record { is_name = accepted.named; is_new = new_name-IsNewName theory name accepted.is_new } in
-    subst IsLegal (sym accepted.grown) (entry, legal)
-
-const-legal : (theory new : Theory) (name : List ℕ) (ty : HolType) → IsLegal theory → AcceptsConst theory new name ty → IsLegal new
-const-legal theory new name ty legal accepted =
-    let entry : IsLegalConstant theory name ty = record {
-      is_name = accepted.named;
-      is_new = new_name-IsNewName theory name accepted.is_new;
-      known = knows_type-IsKnownType theory ty accepted.known;
-      fixed = fixed-has_none ty accepted.fixed;
-    } in
-    subst IsLegal (sym accepted.grown) (entry, legal)
-
 -- ---- sessions
 
 -- the session with another journal and another scope
@@ -310,22 +247,62 @@ pub kept_state : (old new : Session) → new.library.recorder ≡ old.library.re
     → KeepsStore (stored_of old.library.store) (stored_of new.library.store) → state_of new ≡ state_of old
 kept_state old new same keeps stored = λ i. record { theory = (same i).theory; variables = λ name. keeps.variables name i; theorems = λ name. theorem_of (stored.theorems name i) }
 
+-- the same names over the same theory
+kept_scope : (theory other : Theory) (old new : Scope) → IsScopeOver theory old → other ≡ theory → KeepsScope old new → IsScopeOver other new
+kept_scope theory other old new over same keeps = subst (λ (t : Theory). IsScopeOver t new) (sym same) (record {
+  constants = λ name. keeps.constants name ∙ over.constants name;
+  types = λ name. keeps.types name ∙ over.types name;
+  variables = λ name ty is. over.variables name ty (sym (keeps.variables name) ∙ is);
+})
+
 pub kept_session : (old new : Session) → IsSession old → new.library.recorder ≡ old.library.recorder → KeepsScope (scope_of old.scope) (scope_of new.scope)
     → KeepsStore (stored_of old.library.store) (stored_of new.library.store) → KeepsLaws old.library new.library → IsSession new
 kept_session old new known same keeps stored laws = record {
   legal = subst (λ (j : Journal). IsLegal j.theory) (sym same) known.legal;
-  constants = λ name. keeps.constants name ∙ known.constants name ∙ ap (λ (j : Journal). generic_type j.theory name) (sym same);
-  types = λ name. keeps.types name ∙ known.types name ∙ ap (λ (j : Journal). is_declared j.theory name) (sym same);
+  scope = kept_scope old.library.recorder.theory new.library.recorder.theory (scope_of old.scope) (scope_of new.scope) known.scope (ap (λ (j : Journal). j.theory) same) keeps;
   library = record {
     has_logic = subst (HasLogic new.library.recorder) (sym laws.logic) (subst (λ (j : Journal). HasLogic j old.library.logic) (sym same) known.library.has_logic);
     has_laws = subst (HasLaws new.library.recorder) (sym laws.laws) (subst (λ (j : Journal). HasLaws j old.library.laws) (sym same) known.library.has_laws);
     stored = subst (λ (j : Journal). IsStoreOf j (stored_of new.library.store)) (sym same)
         (kept-made old.library.recorder (stored_of old.library.store) (stored_of new.library.store) stored known.library.stored);
   };
+  proved = subst (λ (j : Journal). IsStoreOver j.theory (theorems_in (stored_of new.library.store))) (sym same)
+      (proved_same old.library.recorder.theory (stored_of old.library.store) (stored_of new.library.store) stored known.proved);
 }
 
 pub same_laws : (library : Library) → KeepsLaws library library
 same_laws library = record { logic = refl; laws = refl }
+
+-- a session with a store alone that is another
+abbrev pub with_store : Session → Store → Session
+with_store session store = record session { library = record session.library { store = store } }
+
+-- what is stored is that of before
+pub kept_store : (old : Session) (store : Store) → IsSession old → KeepsStore (stored_of old.library.store) (stored_of store) → IsSession (with_store old store)
+kept_store old store known keeps = record {
+  legal = known.legal;
+  scope = known.scope;
+  library = record {
+    has_logic = known.library.has_logic;
+    has_laws = known.library.has_laws;
+    stored = kept-made old.library.recorder (stored_of old.library.store) (stored_of store) keeps known.library.stored;
+  };
+  proved = proved_same old.library.recorder.theory (stored_of old.library.store) (stored_of store) keeps known.proved;
+}
+
+-- one theorem more is stored, which the recorder made
+pub stored_session : (old : Session) (store : Store) (name : List ℕ) (answer : Recorded) → IsSession old → IsMade old.library.recorder answer → IsWellFormed answer.theorem
+    → StoresTheorem (stored_of old.library.store) (stored_of store) name answer → IsSession (with_store old store)
+stored_session old store name answer known is_made formed stores = record {
+  legal = known.legal;
+  scope = known.scope;
+  library = record {
+    has_logic = known.library.has_logic;
+    has_laws = known.library.has_laws;
+    stored = stored-made old.library.recorder (stored_of old.library.store) (stored_of store) name answer stores known.library.stored is_made;
+  };
+  proved = proved_more old.library.recorder.theory (stored_of old.library.store) (stored_of store) name answer stores (record { proved = formed.is_theorem; earlier = is_made.earlier }) known.proved;
+}
 
 -- a scope from which a name was taken that was put in before
 pub const_removed : (old mid new : Scope) (name : List ℕ) (ty : HolType) → SetsConstant old mid name (Some ty) → SetsConstant mid new name None → old.generic_type name ≡ None → KeepsScope old new
@@ -375,20 +352,34 @@ pub var_state : (old : Session) (scope : ScopeHere) (name : List ℕ) (ty : HolT
     → state_of (made old old.library.recorder scope) ≡ with_variable (state_of old) name ty
 var_state old scope name ty sets = λ i. record { theory = old.library.recorder.theory; variables = λ other. sets.variables other i; theorems = λ other. theorem_of ((stored_of old.library.store).theorems other) }
 
-pub var_session : (old : Session) (scope : ScopeHere) (name : List ℕ) (ty : HolType) → IsSession old → SetsVariable (scope_of old.scope) (scope_of scope) name ty
-    → IsSession (made old old.library.recorder scope)
-var_session old scope name ty known sets = record {
+pub var_session : (old : Session) (scope : ScopeHere) (name : List ℕ) (ty : HolType) → IsSession old → knows_type old.library.recorder.theory ty ≡ true
+    → SetsVariable (scope_of old.scope) (scope_of scope) name ty → IsSession (made old old.library.recorder scope)
+var_session old scope name ty known knows sets = record {
   legal = known.legal;
-  constants = λ other. sets.constants other ∙ known.constants other;
-  types = λ other. sets.types other ∙ known.types other;
+  scope = record {
+    constants = λ other. sets.constants other ∙ known.scope.constants other;
+    types = λ other. sets.types other ∙ known.scope.types other;
+    variables = λ other found is. go other found (bytes_eq name other) (sym (sets.variables other) ∙ is);
+  };
   library = known.library;
+  proved = known.proved;
 }
+  where
+    go : (other : List ℕ) (found : HolType) (test : Bool) → cond test (Some ty) ((scope_of old.scope).variable_type other) ≡ Some found → knows_type old.library.recorder.theory found ≡ true
+    go other found true is = (let one : ty ≡ found = cc in subst (λ (t : HolType). knows_type old.library.recorder.theory t ≡ true) one knows)
+    go other found false is = known.scope.variables other found is
 
 -- ---- declared types
 
 pub grown_state : (old : Session) (grown : Journal) (scope : ScopeHere) → ((name : List ℕ) → (scope_of scope).variable_type name ≡ (scope_of old.scope).variable_type name)
     → state_of (made old grown scope) ≡ over_theory (state_of old) grown.theory
 grown_state old grown scope same = λ i. record { theory = grown.theory; variables = λ name. same name i; theorems = λ name. theorem_of ((stored_of old.library.store).theorems name) }
+
+-- the declared variables of before are of types that a later theory knows
+variables-later : (old : Session) (scope : Scope) (later : Theory) → IsSession old → ((name : List ℕ) → scope.variable_type name ≡ (scope_of old.scope).variable_type name)
+    → IsEarlier old.library.recorder.theory later → IsLegal later → (name : List ℕ) (ty : HolType) → scope.variable_type name ≡ Some ty → knows_type later ty ≡ true
+variables-later old scope later known same earlier legal name ty is =
+    knows_type-stays old.library.recorder.theory later earlier legal ty (known.scope.variables name ty (sym (same name) ∙ is))
 
 either : (test known : Bool) → cond test true known ≡ (test || known)
 either true known = refl
@@ -398,13 +389,18 @@ pub type_session : (old : Session) (grown : Journal) (scope : ScopeHere) (name :
     → new_type_outcome old.library.recorder.theory name ≡ Ok grown.theory → IsGrown old.library.recorder grown → IsSession (made old grown scope)
 type_session old grown scope name stay known sets outcome is_grown =
     let theory = old.library.recorder.theory in
-    let accepted = type-accepted theory grown.theory name outcome in
+    let added = type-added theory grown.theory name outcome in
+    let legal = (type-grows theory grown.theory name outcome).stays_legal known.legal in
     record {
-      legal = type-legal theory grown.theory name known.legal accepted;
-      constants = λ other. sets.constants other ∙ known.constants other ∙ ap (λ (t : Theory). generic_type t other) (sym accepted.grown);
-      types = λ other. sets.types other ∙ ap (λ (b : Bool). cond (bytes_eq name other) true b) (known.types other) ∙ either (bytes_eq name other) (is_declared theory other)
-          ∙ ap (λ (t : Theory). is_declared t other) (sym accepted.grown);
+      legal = legal;
+      scope = record {
+        constants = λ other. sets.constants other ∙ known.scope.constants other ∙ ap (λ (t : Theory). generic_type t other) (sym added);
+        types = λ other. sets.types other ∙ ap (λ (b : Bool). cond (bytes_eq name other) true b) (known.scope.types other) ∙ either (bytes_eq name other) (is_declared theory other)
+            ∙ ap (λ (t : Theory). is_declared t other) (sym added);
+        variables = variables-later old (scope_of scope) grown.theory known sets.variables is_grown.earlier legal;
+      };
       library = store-stays stay old.library (made old grown scope).library known.library is_grown refl refl refl;
+      proved = proved_later theory grown.theory (theorems_in (stored_of old.library.store)) is_grown.earlier known.proved;
     }
 
 -- ---- declared constants
@@ -413,13 +409,18 @@ pub const_session : (old : Session) (grown : Journal) (scope : ScopeHere) (name 
     → new_const_outcome old.library.recorder.theory name ty ≡ Ok grown.theory → IsGrown old.library.recorder grown → IsSession (made old grown scope)
 const_session old grown scope name ty stay known sets outcome is_grown =
     let theory = old.library.recorder.theory in
-    let accepted = const-accepted theory grown.theory name ty outcome in
+    let added = const-added theory grown.theory name ty outcome in
+    let legal = (const-grows theory grown.theory name ty outcome).stays_legal known.legal in
     record {
-      legal = const-legal theory grown.theory name ty known.legal accepted;
-      constants = λ other. sets.constants other ∙ ap (λ (g : Option HolType). cond (bytes_eq name other) (Some ty) g) (known.constants other)
-          ∙ ap (λ (t : Theory). generic_type t other) (sym accepted.grown);
-      types = λ other. sets.types other ∙ known.types other ∙ ap (λ (t : Theory). is_declared t other) (sym accepted.grown);
+      legal = legal;
+      scope = record {
+        constants = λ other. sets.constants other ∙ ap (λ (g : Option HolType). cond (bytes_eq name other) (Some ty) g) (known.scope.constants other)
+            ∙ ap (λ (t : Theory). generic_type t other) (sym added);
+        types = λ other. sets.types other ∙ known.scope.types other ∙ ap (λ (t : Theory). is_declared t other) (sym added);
+        variables = variables-later old (scope_of scope) grown.theory known sets.variables is_grown.earlier legal;
+      };
       library = store-stays stay old.library (made old grown scope).library known.library is_grown refl refl refl;
+      proved = proved_later theory grown.theory (theorems_in (stored_of old.library.store)) is_grown.earlier known.proved;
     }
 
 pub newconst_outcome-is : (state : State) (name : List ℕ) (tree : TypeTree) (ty : HolType) → type_meaning (scope_in state) tree ≡ Ok ty
@@ -447,16 +448,24 @@ module _ (old new : Session) (scope : ScopeHere) (name : List ℕ) (term : Named
       let grown : d.answer.theorem.theory ≡ definition name (own_type term) (image term) ∷ theory = definition-accepted theory name term d.answer.theorem d.outcome in
       let own : own_type term ≡ ty = rw typed refl in
       let whole : new.library.recorder.theory ≡ definition name (own_type term) (image term) ∷ theory = d.theory ∙ grown in
+      let legal : IsLegal new.library.recorder.theory = subst IsLegal (sym d.theory) d.well_formed.is_theorem.legal in
       record {
-        legal = subst IsLegal (sym d.theory) d.well_formed.is_theorem.legal;
-        constants = λ other. ap (λ (s : ScopeHere). (scope_of s).generic_type other) d.scope ∙ sets.constants other
-            ∙ ap (λ (g : Option HolType). cond (bytes_eq name other) (Some ty) g) (known.constants other)
-            ∙ ap (λ (t : HolType). cond (bytes_eq name other) (Some t) (generic_type theory other)) (sym own)
-            ∙ ap (λ (t : Theory). generic_type t other) (sym whole);
-        types = λ other. ap (λ (s : ScopeHere). (scope_of s).declares_type other) d.scope ∙ sets.types other ∙ known.types other ∙ ap (λ (t : Theory). is_declared t other) (sym whole);
+        legal = legal;
+        scope = record {
+          constants = λ other. ap (λ (s : ScopeHere). (scope_of s).generic_type other) d.scope ∙ sets.constants other
+              ∙ ap (λ (g : Option HolType). cond (bytes_eq name other) (Some ty) g) (known.scope.constants other)
+              ∙ ap (λ (t : HolType). cond (bytes_eq name other) (Some t) (generic_type theory other)) (sym own)
+              ∙ ap (λ (t : Theory). generic_type t other) (sym whole);
+          types = λ other. ap (λ (s : ScopeHere). (scope_of s).declares_type other) d.scope ∙ sets.types other ∙ known.scope.types other ∙ ap (λ (t : Theory). is_declared t other) (sym whole);
+          variables = variables-later old (scope_of new.scope) new.library.recorder.theory known
+              (λ other. ap (λ (s : ScopeHere). (scope_of s).variable_type other) d.scope ∙ sets.variables other) d.grown.earlier legal;
+        };
         library = libraries-stay stay old.library new.library known.library d.grown d.kept.logic d.kept.laws
             (stored-made new.library.recorder (stored_of old.library.store) (stored_of new.library.store) (definition_name name) d.answer d.stored
             (stores-stay stay.grow old.library.recorder new.library.recorder (stored_of old.library.store) d.grown known.library.stored) d.made);
+        proved = proved_more new.library.recorder.theory (stored_of old.library.store) (stored_of new.library.store) (definition_name name) d.answer d.stored
+            (record { proved = d.well_formed.is_theorem; earlier = d.made.earlier })
+            (proved_later theory new.library.recorder.theory (theorems_in (stored_of old.library.store)) d.grown.earlier known.proved);
       }
 
   pub def_state : SetsConstant (scope_of old.scope) (scope_of scope) name (Some ty) → (d : Defines (made old old.library.recorder scope) new name term line)
@@ -467,15 +476,28 @@ module _ (old new : Session) (scope : ScopeHere) (name : List ℕ) (term : Named
       let theorems = stored_theorem d.answer (definition_name name) (stored_of old.library.store) (stored_of new.library.store) d.stored in
       λ i. record { theory = d.theory i; variables = λ other. variables other i; theorems = λ other. theorems other i }
 
-pub def_turns : (old new : Session) (scope : ScopeHere) (text name : List ℕ) (tree : TermTree) (term : NamedTerm) (ty : HolType) (line : TheoremLine) → IsSound → LibrariesGrow → IsSession old → SpellsCommand text (def_command name tree)
+pub def_turns : {tools : Tools} {lemmas : List Theorem} (old new : Session) (scope : ScopeHere) (text name : List ℕ) (tree : TermTree) (term : NamedTerm) (ty : HolType) (line : TheoremLine) → IsSound → LibrariesGrow → IsSession old → SpellsCommand text (def_command name tree)
     → meaning (scope_in (state_of old)) [] tree ≡ Ok term → type_of term ≡ Some ty → SetsConstant (scope_of old.scope) (scope_of scope) name (Some ty)
-    → Defines (made old old.library.recorder scope) new name term line → Turns (state_of old) (Some text) (Ok (Line line)) (state_of new)
-def_turns old new scope text name tree term ty line sound stay known spelled meant typed sets d =
+    → Defines (made old old.library.recorder scope) new name term line → Turns tools lemmas (state_of old) (Some text) (Ok (Line line)) (state_of new)
+def_turns {tools} {lemmas} old new scope text name tree term ty line sound stay known spelled meant typed sets d =
     let after : IsSession new = def_session old new scope name term ty line stay known typed sets d in
     let outcome : def_outcome (state_of old) name tree ≡ Ok d.answer.theorem = def_outcome-is (state_of old) name tree term meant ∙ d.outcome in
-    let allowed : AllowsMessage (state_of old) text (theorem_line (definition_name name) d.answer.theorem) (state_of new) =
-    subst (λ (state : State). AllowsMessage (state_of old) text (theorem_line (definition_name name) d.answer.theorem) state) (sym (def_state old new scope name term ty line sets d)) (def_defines spelled outcome) in
+    let allowed : AllowsMessage tools lemmas (state_of old) text (theorem_line (definition_name name) d.answer.theorem) (state_of new) =
+    subst (λ (state : State). AllowsMessage tools lemmas (state_of old) text (theorem_line (definition_name name) d.answer.theorem) state) (sym (def_state old new scope name term ty line sets d)) (def_defines spelled outcome) in
     let printed : IsLineOf line (scope_in (state_of new)) (definition_name name) d.answer.theorem =
     subst (λ (s : Scope). IsLineOf line s (definition_name name) d.answer.theorem) (ap scope_of (sym d.scope) ∙ scope_same new after) d.line_is in
     prints (state_of old) (state_of new) text (definition_name name) d.answer.theorem line allowed
     (λ beside. proved (with_beside beside (state_of new)) d.answer.theorem sound after.legal d.well_formed (same_is_earlier new.library.recorder.theory d.answer.theorem.theory (sym d.theory))) printed
+
+-- ---- what stays
+
+-- what a recorder made that has grown, or is the same
+pub grown_stays : (old new : Session) → LibrariesGrow → IsGrown old.library.recorder new.library.recorder → StaysMade old new
+grown_stays old new stay grown = λ made is. stay.grow.stays old.library.recorder new.library.recorder made grown is
+
+pub same_stays : (old new : Session) → new.library.recorder ≡ old.library.recorder → StaysMade old new
+same_stays old new same = λ made is. subst (λ (journal : Journal). IsMade journal made) (sym same) is
+
+-- the lemmas of a store that is kept
+pub same_lemmas : (old new : Session) → (stored_of new.library.store).lemmas ≡ (stored_of old.library.store).lemmas → lemmas_of new ≡ lemmas_of old
+same_lemmas old new same = ap (map (λ (made : Recorded). made.theorem)) same

@@ -9,3 +9,7 @@ pub mod SessionLemmas
 pub mod GrowthLemmas
 pub mod ClaimLemmas
 pub mod TautologyLemmas
+pub mod ConversionLemmas
+pub mod ToolLemmas
+pub mod ProvedStores
+pub mod LaterLemmas

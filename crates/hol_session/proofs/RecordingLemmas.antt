@@ -7,9 +7,9 @@ use Rattle.hol_model.specs.declared.fault.Fault.TheVariants.{NotBool, NotTrivial
 use Rattle.hol_model.specs.declared.rule.TermRule.{TermRule}
 use Rattle.hol_model.specs.declared.rule.TermRule.TheVariants.{Refl, Beta, Assume}
 use Rattle.hol_model.specs.Terms.NamedTerm.{NamedTerm, equation, is_within_limits}
-use Rattle.hol_model.specs.Logic.Theory.{Theory, generic_type, IsLegal}
-use Rattle.hol_model.specs.Logic.KnownTerm.{is_declared}
+use Rattle.hol_model.specs.Logic.Theory.{Theory, IsLegal}
 use Rattle.hol_model.specs.Kernel.Theorem.{Theorem}
+use Rattle.hol_model.specs.Goals.Replays.{IsStoreOver}
 use Rattle.hol_model.specs.Kernel.Outcome.{Answers, unless, given, refused}
 use Rattle.hol_model.specs.Kernel.Rules.{first_unknown, dest_trivial_redex, is_formula, concluded}
 use Rattle.hol_model.specs.Kernel.RuleOutcomes.{term_rule_outcome}
@@ -23,13 +23,14 @@ use Rattle.hol_library.specs.declared.library.Library.{Library}
 use Rattle.hol_library.specs.Library.{IsLibrary}
 use Rattle.hol_syntax.specs.declared.scope.Scope.{Scope as ScopeHere}
 use Rattle.hol_syntax.specs.Scope.{scope_of}
+use Rattle.hol_session_laws.specs.ReadTerms.{IsScopeOver}
 use Rattle.hol_session.specs.declared.session.Session.{Session}
-use Rattle.hol_store.specs.Stored.{Stored, IsStoreOf, StoresTheorem, KeepsStore}
+use Rattle.hol_store.specs.Stored.{Stored, IsStoreOf, StoresTheorem, KeepsStore, theorems_in}
 use Rattle.hol_store.specs.declared.store.Store.{Store}
 use Rattle.hol_store.specs.Store.{stored_of}
 use Rattle.hol_store.proofs.StoreLemmas.{stores-stay}
-use Rattle.hol_session.specs.SessionState.{state_of, theorem_of, IsSession, LibrariesGrow}
-use Rattle.hol_session.specs.Recording.{Records, over_journal, AppliesRule, GrowsJournal}
+use Rattle.hol_session.specs.SessionState.{state_of, theorem_of, lemmas_of, IsSession, StaysMade, LibrariesGrow}
+use Rattle.hol_session.specs.Recording.{Records, over_journal, AppliesRule, GrowsJournal, MakesTheorem}
 
 -- ---- stored theorems
 
@@ -129,9 +130,6 @@ nothing-grows session fault = record { continues = record { grown = no_growth se
 pub refused-grows : (session : Session) (new : Journal) (fault other : Fault) → Continues session.library.recorder new (Err fault) → GrowsJournal session (over_journal session new) (Err other)
 refused-grows session new fault other continues = record { continues = record { grown = continues.grown; theory = continues.theory; held = tt }; kept = refl }
 
-pub still-grows : (old new : Session) (fault other : Fault) → GrowsJournal old new (Err fault) → GrowsJournal old new (Err other)
-still-grows old new fault other grows = record { continues = record { grown = grows.continues.grown; theory = grows.continues.theory; held = tt }; kept = grows.kept }
-
 -- one more entry is a growth
 pub rule-grows : (old new : Session) (result : Result Recorded Fault) → JournalsGrow → IfOk result (AppliesRule old new) → OnErr result (new ≡ old) → GrowsJournal old new result
 rule-grows old new (Ok made) grow applies kept =
@@ -158,28 +156,34 @@ axiom-grows session new (Ok made) step theorem grow over is recorded kept =
 axiom-grows session new (Err fault) step theorem grow over is recorded kept =
     subst (λ (j : Journal). GrowsJournal session (over_journal session j) (Err fault)) (sym kept) (nothing-grows session fault)
 
--- the session after a rule
-module _ (old new : Session) (result : Result Recorded Fault) (grows : GrowsJournal old new result) where
+-- the session after what is made for `thm`
+module _ (old new : Session) (result : Result Recorded Fault) (makes : MakesTheorem old new result) where
   scope_kept : new.scope ≡ old.scope
-  scope_kept = ap (λ (s : Session). s.scope) grows.kept
+  scope_kept = ap (λ (s : Session). s.scope) makes.kept
 
   store_kept : new.library.store ≡ old.library.store
-  store_kept = ap (λ (s : Session). s.library.store) grows.kept
+  store_kept = ap (λ (s : Session). s.library.store) makes.kept
 
-  pub rule_state : state_of new ≡ state_of old
-  rule_state = λ i. record {
-    theory = grows.continues.theory i;
+  pub made_state : state_of new ≡ state_of old
+  made_state = λ i. record {
+    theory = makes.theory i;
     variables = (scope_of (scope_kept i)).variable_type;
     theorems = λ name. theorem_of ((stored_of (store_kept i)).theorems name);
   }
 
-  pub rule_session : LibrariesGrow → IsSession old → IsSession new
-  rule_session stay known =
-      let theory = grows.continues.theory in
-      record {
-        legal = subst IsLegal (sym theory) known.legal;
-        constants = λ name. ap (λ (s : ScopeHere). (scope_of s).generic_type name) scope_kept ∙ known.constants name ∙ ap (λ (t : Theory). generic_type t name) (sym theory);
-        types = λ name. ap (λ (s : ScopeHere). (scope_of s).declares_type name) scope_kept ∙ known.types name ∙ ap (λ (t : Theory). is_declared t name) (sym theory);
-        library = store-stays stay old.library new.library known.library grows.continues.grown (ap (λ (s : Session). s.library.logic) grows.kept)
-            (ap (λ (s : Session). s.library.laws) grows.kept) store_kept;
-      }
+  pub made_session : LibrariesGrow → IsSession old → IsSession new
+  made_session stay known = record {
+    legal = subst IsLegal (sym makes.theory) known.legal;
+    scope = subst (λ (theory : Theory). IsScopeOver theory (scope_of new.scope)) (sym makes.theory)
+        (subst (λ (s : ScopeHere). IsScopeOver old.library.recorder.theory (scope_of s)) (sym scope_kept) known.scope);
+    library = store-stays stay old.library new.library known.library makes.grown (ap (λ (s : Session). s.library.logic) makes.kept)
+        (ap (λ (s : Session). s.library.laws) makes.kept) store_kept;
+    proved = subst (λ (theory : Theory). IsStoreOver theory (theorems_in (stored_of new.library.store))) (sym makes.theory)
+        (subst (λ (s : Store). IsStoreOver old.library.recorder.theory (theorems_in (stored_of s))) (sym store_kept) known.proved);
+  }
+
+  pub made_lemmas : lemmas_of new ≡ lemmas_of old
+  made_lemmas = ap (λ (s : Store). (theorems_in (stored_of s)).lemmas) store_kept
+
+  pub made_stays : LibrariesGrow → StaysMade old new
+  made_stays stay = λ made is. stay.grow.stays old.library.recorder new.library.recorder made makes.grown is

@@ -1,29 +1,20 @@
 -- What a session is in, and the turns that it takes.
-use Rattle.std.proofs.Common.{◌≡◌, ◌⊎◌, inl, inr, ℕ, List, [], ◌++◌, refl, sym, ap, subst, ◌∙◌, append-nil, Option, None, Some, Result, Ok, Err, Bor}
-use Rattle.std.specs.Prelude.{true, false, codes, decimal, IfSome}
+use Rattle.std.proofs.Common.{◌≡◌, ◌⊎◌, inl, inr, ℕ, List, ◌++◌, refl, sym, ap, subst, ◌∙◌, append-nil, Option, None, Some, Result, Ok, Err, Bor}
+use Rattle.std.specs.Prelude.{true, false, codes, decimal}
 use Rattle.std.specs.Option.{option_map, is_some}
 use Rattle.hol_model.specs.declared.fault.Fault.{Fault}
-use Rattle.hol_model.specs.declared.fault.Fault.TheVariants.{Memory, Syntax}
+use Rattle.hol_model.specs.declared.fault.Fault.TheVariants.{Memory, BadName, NameTaken}
 use Rattle.hol_model.specs.Kernel.Fault.{number_of, name_of}
-use Rattle.hol_model.specs.Kernel.Theorem.{Theorem}
-use Rattle.hol_model.specs.Texts.Token.{Token}
-use Rattle.hol_model.specs.Texts.Lexing.{Lexes}
+use Rattle.hol_model.specs.Kernel.Theorem.{Theorem, IsWellFormed}
+use Rattle.hol_model.specs.Logic.Theory.{IsEarlier}
+use Rattle.hol_sound.specs.Laws.{IsSound}
 use Rattle.hol_model.specs.Texts.Reading.{Scope}
-use Rattle.hol_model.specs.Texts.TypeGrammar.{TypeTree, type_steps}
-use Rattle.hol_model.specs.Texts.TermGrammar.{TermTree}
-use Rattle.hol_session_model.specs.CommandGrammar.{TheoremTree, CommandTree, thm_command, show_command, var_command, def_command, newtype_command, newconst_command, IsReadCommand, SpellsCommand}
+use Rattle.hol_session_model.specs.CommandGrammar.{TheoremTree, thm_command, SpellsCommand}
 use Rattle.hol_session_model.specs.Sessions.{scope_in, is_theorem_name, with_theorem}
 use Rattle.hol_session_model.specs.Sessions.{State as Library}
-use Rattle.hol_session_model.specs.Replies.{nothing, theorem_line, Refusal, refusal_of, Reply, text_of_theorem, row_text, text_of_refusal, reply_text}
-use Rattle.hol_session_model.specs.ScriptSessions.{is_served_theorem, is_served, Allows, finds_no_memory, IsProved}
-use Rattle.hol_grammar.specs.declared.type_reader.TypeStep.{TypeStep}
-use Rattle.hol_grammar.specs.declared.steps.TermStep.{TermStep}
-use Rattle.hol_grammar.specs.Steps.{flat_steps_of}
-use Rattle.hol_grammar.specs.TermSteps.{term_steps, flat_steps}
-use Rattle.hol_grammar.specs.Views.{steps_of}
+use Rattle.hol_session_model.specs.Replies.{nothing, theorem_line, Refusal, refusal_of, Reply, text_of_theorem, reply_text}
+use Rattle.hol_session_model.specs.ScriptSessions.{Tools, Allows, finds_no_memory, IsProved}
 use Rattle.hol_syntax.specs.Scope.{scope_of}
-use Rattle.hol_command.specs.declared.command.Asked.{Asked}
-use Rattle.hol_command.specs.Views.{IsAsked, IsThm, IsShow, IsVar, IsDef, IsNewType, IsNewConst}
 use Rattle.hol_journal.specs.Journal.{Recorded}
 use Rattle.hol_session.specs.declared.session.Session.{Session}
 use Rattle.hol_session.specs.declared.lines.TheoremLine.{TheoremLine}
@@ -31,41 +22,43 @@ use Rattle.hol_session.specs.declared.reply.Printed.{Printed}
 use Rattle.hol_session.specs.declared.reply.Printed.TheVariants.{Nothing, Line}
 use Rattle.hol_session.specs.declared.reply.Refused.{Refused}
 use Rattle.hol_session.specs.SessionState.{state_of, theorem_of, IsSession}
-use Rattle.hol_session.specs.Answers.{Beside, with_beside, session_tools, IsLineOf, Says, answer_text, row_bytes, plain, Turns, MayGive, RefusesTheorem}
-use Rattle.hol_session.proofs.AllowedLemmas.{AllowsRefusal, AllowsMessage, lacks_memory, is_none, thm_is_refused, thm_stores}
+use Rattle.hol_session.specs.Answers.{Beside, with_beside, IsLineOf, Says, answer_text, plain, IsNewName, TestsName, Turns, MayGive, RefusesTheorem}
+use Rattle.hol_session.specs.Growth.{Stores}
+use Rattle.hol_session.proofs.RuleLemmas.{proved}
+use Rattle.hol_session.proofs.AllowedLemmas.{AllowsRefusal, AllowsMessage, lacks_memory, thm_has_bad_name, thm_has_taken_name, thm_is_refused, thm_stores}
 
 -- the scope of a session is that of its state
 pub scope_same : (session : Session) → IsSession session → scope_of session.scope ≡ scope_in (state_of session)
 scope_same session known = λ i. record {
-  generic_type = λ name. known.constants name i;
+  generic_type = λ name. known.scope.constants name i;
   variable_type = (scope_of session.scope).variable_type;
-  declares_type = λ name. known.types name i;
+  declares_type = λ name. known.scope.types name i;
 }
 
 -- ---- turns
 
 -- a refusal that is allowed leaves the state
-pub refuses : (state : Library) (text : List ℕ) (fault : Fault) → AllowsRefusal state text fault → Turns state (Some text) (Err (plain fault)) state
+pub refuses : {tools : Tools} {lemmas : List Theorem} (state : Library) (text : List ℕ) (fault : Fault) → AllowsRefusal tools lemmas state text fault → Turns tools lemmas state (Some text) (Err (plain fault)) state
 refuses state text fault allows = record {
-  turns = λ beside. record {
+  turns = λ beside same. record {
     outcome = Err (refusal_of fault);
-    allowed = allows.allowed beside;
+    allowed = allows.allowed beside same;
     leaves = refl;
     says = record { same_fault = refl; spelled = refl };
     is_true = record { theorem = tt; goals = tt; row = tt };
   };
 }
 
-pub forgets : (state : Library) (text : List ℕ) (fault : Fault) → fault ≡ Memory → Turns state (Some text) (Err (plain fault)) state
-forgets state text fault same = refuses state text fault (subst (λ f. AllowsRefusal state text f) (sym same) lacks_memory)
+pub forgets : {tools : Tools} {lemmas : List Theorem} (state : Library) (text : List ℕ) (fault : Fault) → fault ≡ Memory → Turns tools lemmas state (Some text) (Err (plain fault)) state
+forgets {tools} {lemmas} state text fault same = refuses state text fault (subst (λ f. AllowsRefusal tools lemmas state text f) (sym same) lacks_memory)
 
 -- a theorem that is allowed and proved, and its line
-pub prints : (old new : Library) (text : List ℕ) (name : List ℕ) (theorem : Theorem) (line : TheoremLine) → AllowsMessage old text (theorem_line name theorem) new
-    → ((beside : Beside) → IsProved (with_beside beside new) theorem) → IsLineOf line (scope_in new) name theorem → Turns old (Some text) (Ok (Line line)) new
+pub prints : {tools : Tools} {lemmas : List Theorem} (old new : Library) (text : List ℕ) (name : List ℕ) (theorem : Theorem) (line : TheoremLine) → AllowsMessage tools lemmas old text (theorem_line name theorem) new
+    → ((beside : Beside) → IsProved (with_beside beside new) theorem) → IsLineOf line (scope_in new) name theorem → Turns tools lemmas old (Some text) (Ok (Line line)) new
 prints old new text name theorem line allows proved says = record {
-  turns = λ beside. record {
+  turns = λ beside same. record {
     outcome = Ok (record { message = theorem_line name theorem; after = with_beside beside new });
-    allowed = allows.allowed beside;
+    allowed = allows.allowed beside same;
     leaves = refl;
     says = record {
       spelled = says.spelled ∙ sym (append-nil (text_of_theorem (scope_in new) (record { name = name; theorem = theorem })));
@@ -76,11 +69,11 @@ prints old new text name theorem line allows proved says = record {
 }
 
 -- an acceptance that prints nothing
-pub is_silent : (old new : Library) (text : List ℕ) → AllowsMessage old text nothing new → Turns old (Some text) (Ok Nothing) new
+pub is_silent : {tools : Tools} {lemmas : List Theorem} (old new : Library) (text : List ℕ) → AllowsMessage tools lemmas old text nothing new → Turns tools lemmas old (Some text) (Ok Nothing) new
 is_silent old new text allows = record {
-  turns = λ beside. record {
+  turns = λ beside same. record {
     outcome = Ok (record { message = nothing; after = with_beside beside new });
-    allowed = allows.allowed beside;
+    allowed = allows.allowed beside same;
     leaves = refl;
     says = record { spelled = refl; named = refl };
     is_true = record { theorem = tt; goals = tt; row = tt };
@@ -88,14 +81,14 @@ is_silent old new text allows = record {
 }
 
 -- no memory, where the state is that of before
-pub forgets_here : (old new : Library) (text : List ℕ) (fault : Fault) → new ≡ old → fault ≡ Memory → Turns old (Some text) (Err (plain fault)) new
-forgets_here old new text fault same memory = subst (λ (state : Library). Turns old (Some text) (Err (plain fault)) state) (sym same) (forgets old text fault memory)
+pub forgets_here : {tools : Tools} {lemmas : List Theorem} (old new : Library) (text : List ℕ) (fault : Fault) → new ≡ old → fault ≡ Memory → Turns tools lemmas old (Some text) (Err (plain fault)) new
+forgets_here {tools} {lemmas} old new text fault same memory = subst (λ (state : Library). Turns tools lemmas old (Some text) (Err (plain fault)) state) (sym same) (forgets old text fault memory)
 
 -- a refusal that is allowed, or no memory, where the state is that of before
-pub refuses_by : {P : Type 0} (old new : Library) (text : List ℕ) (fault : Fault) → new ≡ old → (fault ≡ Memory) ⊎ P → (P → AllowsRefusal old text fault)
-    → Turns old (Some text) (Err (plain fault)) new
-refuses_by old new text fault same (inl memory) allowed = forgets_here old new text fault same memory
-refuses_by old new text fault same (inr because) allowed = subst (λ (state : Library). Turns old (Some text) (Err (plain fault)) state) (sym same) (refuses old text fault (allowed because))
+pub refuses_by : {P : Type 0} {tools : Tools} {lemmas : List Theorem} (old new : Library) (text : List ℕ) (fault : Fault) → new ≡ old → (fault ≡ Memory) ⊎ P → (P → AllowsRefusal tools lemmas old text fault)
+    → Turns tools lemmas old (Some text) (Err (plain fault)) new
+refuses_by {P} {tools} {lemmas} old new text fault same (inl memory) allowed = forgets_here old new text fault same memory
+refuses_by {P} {tools} {lemmas} old new text fault same (inr because) allowed = subst (λ (state : Library). Turns tools lemmas old (Some text) (Err (plain fault)) state) (sym same) (refuses old text fault (allowed because))
 
 -- what is written for an answer is the text of the reply that it says
 pub said-text : (answer : Result Printed Refused) (line : ℕ) (scope : Scope) (reply : Reply) → Says answer scope reply → answer_text line answer ≡ reply_text line scope reply
@@ -107,33 +100,49 @@ said-text (Err refused) line scope (Ok message) never = absurd never
 
 -- ---- theorems
 
--- a name that is taken, and one that is not
-pub taken : (found : Option (Bor Recorded)) (stored : Option Recorded) → option_map (λ (made : Bor Recorded). made.now) found ≡ stored → true ≡ is_some found
-    → (there : Theorem) × (theorem_of stored ≡ Some there)
-taken None stored same is = cc
-taken (Some made) stored same is = (made.now.theorem, ap theorem_of (sym same))
+-- whether the name may be given, and stands for nothing
+pub name_tested : (state : Library) (name : List ℕ) (found : Option (Bor Recorded)) (stored : Option Recorded)
+    → option_map (λ (made : Bor Recorded). made.now) found ≡ stored → theorem_of stored ≡ state.theorems name → is_theorem_name name ≡ true → is_some found ≡ false → IsNewName state name
+name_tested state name None stored same is named none = record { named = named; none = sym is ∙ ap theorem_of (sym same) }
+name_tested state name (Some made) stored same is named none = cc
 
-pub untaken : (found : Option (Bor Recorded)) (stored : Option Recorded) → option_map (λ (made : Bor Recorded). made.now) found ≡ stored → false ≡ is_some found → theorem_of stored ≡ None
-untaken None stored same is = ap theorem_of (sym same)
-untaken (Some made) stored same is = cc
+pub name_taken : (state : Library) (name : List ℕ) (found : Option (Bor Recorded)) (stored : Option Recorded)
+    → option_map (λ (made : Bor Recorded). made.now) found ≡ stored → theorem_of stored ≡ state.theorems name → is_theorem_name name ≡ true → is_some found ≡ true
+    → TestsName {A = Unit {0}} state name (Err NameTaken)
+name_taken state name None stored same is named there = cc
+name_taken state name (Some made) stored same is named there = inr (refl, named, ap is_some (sym is ∙ ap theorem_of (sym same)))
+
+some_there : (found : Option Theorem) → is_some found ≡ true → (there : Theorem) × (found ≡ Some there)
+some_there None is = cc
+some_there (Some there) is = (there, refl)
+
+-- a name that may not be given
+pub misnamed : {tools : Tools} {lemmas : List Theorem} (state : Library) (text name : List ℕ) (tree : TheoremTree) (fault : Fault) → SpellsCommand text (thm_command name tree)
+    → TestsName {A = Unit {0}} state name (Err fault) → Turns tools lemmas state (Some text) (Err (plain fault)) state
+misnamed {tools} {lemmas} state text name tree fault spelled (inl bad) =
+    subst (λ (f : Fault). Turns tools lemmas state (Some text) (Err (plain f)) state) (sym bad.0) (refuses state text BadName (thm_has_bad_name spelled bad.1))
+misnamed {tools} {lemmas} state text name tree fault spelled (inr taken) =
+    let there = some_there (state.theorems name) taken.2 in
+    subst (λ (f : Fault). Turns tools lemmas state (Some text) (Err (plain f)) state) (sym taken.0) (refuses state text NameTaken (thm_has_taken_name spelled taken.1 there.1))
 
 -- what is asked for is refused
-pub thm_refuses : (old new : Library) (text name : List ℕ) (tree : TheoremTree) (refused : Refused) → new ≡ old → SpellsCommand text (thm_command name tree) → is_served_theorem tree ≡ true
-    → is_theorem_name name ≡ true → old.theorems name ≡ None → RefusesTheorem old tree refused → Turns old (Some text) (Err refused) new
-thm_refuses old new text name tree refused same spelled served named none r =
-    subst (λ (state : Library). Turns old (Some text) (Err refused) state) (sym same) (record {
-      turns = λ beside. record {
+pub thm_refuses : {tools : Tools} {lemmas : List Theorem} (old new : Library) (text name : List ℕ) (tree : TheoremTree) (refused : Refused) → new ≡ old → SpellsCommand text (thm_command name tree)
+    → is_theorem_name name ≡ true → old.theorems name ≡ None → RefusesTheorem tools lemmas old tree refused → Turns tools lemmas old (Some text) (Err refused) new
+thm_refuses {tools} {lemmas} old new text name tree refused same spelled named none r =
+    subst (λ (state : Library). Turns tools lemmas old (Some text) (Err refused) state) (sym same) (record {
+      turns = λ beside own. record {
         outcome = Err r.refusal;
-        allowed = go beside r.may;
+        allowed = go beside own r.may;
         leaves = refl;
         says = r.says;
         is_true = record { theorem = tt; goals = tt; row = r.readable beside };
       };
     })
   where
-    go : (beside : Beside) → (r.refusal ≡ refusal_of Memory) ⊎ MayGive old tree (Err r.refusal) → Allows session_tools (with_beside beside old) (Some text) (Err r.refusal)
-    go beside (inl memory) = subst (λ (refusal : Refusal). Allows session_tools (with_beside beside old) (Some text) (Err refusal)) (sym memory) finds_no_memory
-    go beside (inr may) = thm_is_refused old text name tree r.refusal spelled served named none may beside
+    go : (beside : Beside) → beside.lemmas ≡ lemmas → (r.refusal ≡ refusal_of Memory) ⊎ MayGive tools lemmas old tree (Err r.refusal)
+        → Allows tools (with_beside beside old) (Some text) (Err r.refusal)
+    go beside own (inl memory) = subst (λ (refusal : Refusal). Allows tools (with_beside beside old) (Some text) (Err refusal)) (sym memory) finds_no_memory
+    go beside own (inr may) = thm_is_refused tools lemmas old text name tree r.refusal spelled named none may beside own
 
 -- a theorem that is proved in a state is so once it is stored
 proved_with : (beside : Beside) (state : Library) (name : List ℕ) (theorem : Theorem) → IsProved (with_beside beside state) theorem
@@ -147,57 +156,36 @@ proved_with beside state name theorem p = record {
   readable_conclusion = p.readable_conclusion;
 }
 
--- a theorem is stored after what was asked for, which leaves the state
-pub thm_prints : (old mid new : Library) (text name : List ℕ) (tree : TheoremTree) (theorem : Theorem) (line : TheoremLine) → mid ≡ old → SpellsCommand text (thm_command name tree)
-    → is_served_theorem tree ≡ true → is_theorem_name name ≡ true → old.theorems name ≡ None → MayGive old tree (Ok theorem)
-    → ((beside : Beside) → IsProved (with_beside beside mid) theorem) → IsLineOf line (scope_in mid) name theorem
-    → new ≡ with_theorem mid name theorem → Turns old (Some text) (Ok (Line line)) new
-thm_prints old mid new text name tree theorem line same spelled served named none may proved says stored =
-    let proved_before : (beside : Beside) → IsProved (with_beside beside old) theorem = λ beside. subst (λ (s : Library). IsProved (with_beside beside s) theorem) same (proved beside) in
-    let says_before : IsLineOf line (scope_in old) name theorem = subst (λ (s : Library). IsLineOf line (scope_in s) name theorem) same says in
-    let turns : Turns old (Some text) (Ok (Line line)) (with_theorem old name theorem) =
-    prints old (with_theorem old name theorem) text name theorem line (thm_stores spelled served named none may) (λ beside. proved_with beside old name theorem (proved_before beside)) says_before in
-    subst (λ (state : Library). Turns old (Some text) (Ok (Line line)) state) (sym (stored ∙ ap (λ (s : Library). with_theorem s name theorem) same)) turns
+-- a theorem that the recorder made is stored and printed
+pub keeps_line : (old new : Session) (name : List ℕ) (theorem : Theorem) (line : TheoremLine) → IsSession old → IsSound → IsWellFormed theorem → IsEarlier theorem.theory old.library.recorder.theory
+    → IsLineOf line (scope_of old.scope) name theorem → state_of new ≡ with_theorem (state_of old) name theorem → Stores old new name theorem (Line line)
+keeps_line old new name theorem line known sound formed earlier is_line same =
+    let said : IsLineOf line (scope_in (state_of old)) name theorem = subst (λ (scope : Scope). IsLineOf line scope name theorem) (scope_same old known) is_line in
+    record {
+      spelled = said.spelled ∙ ap (λ (s : Library). text_of_theorem (scope_in s) (record { name = name; theorem = theorem })) (sym same);
+      named = ap (λ n. Some n) said.named;
+      state = same;
+      proved = λ beside. subst (λ (s : Library). IsProved (with_beside beside s) theorem) (sym same)
+          (proved_with beside (state_of old) name theorem (proved (with_beside beside (state_of old)) theorem sound known.legal formed earlier));
+    }
 
--- ---- commands
-
-spells : (text : List ℕ) (tokens : List Token) (tree : CommandTree) → Lexes text tokens → IsReadCommand tokens tree → SpellsCommand text tree
-spells text tokens tree lexed read = record { tokens = tokens; lexed = lexed; read = read }
-
--- a text without tokens, and one whose tokens are no command that is carried out
-pub unlexed : (state : Library) (text : List ℕ) → ((tokens : List Token) → ¬ (Lexes text tokens)) → Turns state (Some text) (Err (plain Syntax)) state
-unlexed state text none = refuses state text Syntax (is_none (λ tree served spelled. none spelled.tokens spelled.lexed))
-
-pub unread_command : (state : Library) (text : List ℕ) (tokens : List Token) → ((other : List Token) → Lexes text other → tokens ≡ other)
-    → ((tree : CommandTree) → is_served tree ≡ true → ¬ (IsReadCommand tokens tree)) → Turns state (Some text) (Err (plain Syntax)) state
-unread_command state text tokens only none =
-    refuses state text Syntax
-    (is_none (λ tree served spelled. none tree served (subst (λ (ts : List Token). IsReadCommand ts tree) (sym (only spelled.tokens spelled.lexed)) spelled.read)))
-
--- the turn of a command that was read
-module _ (old new : Library) (text : List ℕ) (tokens : List Token) (result : Result Printed Refused) (lexed : Lexes text tokens) (tree : CommandTree) (read : IsReadCommand tokens tree) where
-  spelled_as : (other : CommandTree) → tree ≡ other → SpellsCommand text other
-  spelled_as other same = subst (λ (t : CommandTree). SpellsCommand text t) same (spells text tokens tree lexed read)
-
-  pub thm_turns : (name : List ℕ) (asked : Asked) → IsThm name asked tree
-      → ((given : List ℕ) (theorem : TheoremTree) → SpellsCommand given (thm_command name theorem) → IsAsked asked theorem → Turns old (Some given) result new) → Turns old (Some text) result new
-  thm_turns name asked is turns = turns text is.theorem (spelled_as (thm_command name is.theorem) is.is) is.asks
-
-  pub show_turns : (name : List ℕ) → IsShow name tree → ((given : List ℕ) → SpellsCommand given (show_command name) → Turns old (Some given) result new) → Turns old (Some text) result new
-  show_turns name is turns = turns text (spelled_as (show_command name) is.is)
-
-  pub var_turns : (name : List ℕ) (steps : List TypeStep) → IsVar name steps tree
-      → ((given : List ℕ) (ty : TypeTree) → SpellsCommand given (var_command name ty) → steps_of steps ≡ type_steps ty → Turns old (Some given) result new) → Turns old (Some text) result new
-  var_turns name steps is turns = turns text is.ty (spelled_as (var_command name is.ty) is.is) is.spelled
-
-  pub def_turns : (name : List ℕ) (steps : List TermStep) → IsDef name steps tree
-      → ((given : List ℕ) (term : TermTree) → SpellsCommand given (def_command name term) → flat_steps_of steps ≡ flat_steps (term_steps term) → Turns old (Some given) result new)
-      → Turns old (Some text) result new
-  def_turns name steps is turns = turns text is.term (spelled_as (def_command name is.term) is.is) is.spelled
-
-  pub newtype_turns : (name : List ℕ) → IsNewType name tree → ((given : List ℕ) → SpellsCommand given (newtype_command name) → Turns old (Some given) result new) → Turns old (Some text) result new
-  newtype_turns name is turns = turns text (spelled_as (newtype_command name) is.is)
-
-  pub newconst_turns : (name : List ℕ) (steps : List TypeStep) → IsNewConst name steps tree
-      → ((given : List ℕ) (ty : TypeTree) → SpellsCommand given (newconst_command name ty) → steps_of steps ≡ type_steps ty → Turns old (Some given) result new) → Turns old (Some text) result new
-  newconst_turns name steps is turns = turns text is.ty (spelled_as (newconst_command name is.ty) is.is) is.spelled
+-- so it is after what was asked for, which leaves the state
+pub thm_keeps : {tools : Tools} {lemmas : List Theorem} (old mid new : Session) (text name : List ℕ) (tree : TheoremTree) (theorem : Theorem) (printed : Printed) → state_of mid ≡ state_of old
+    → SpellsCommand text (thm_command name tree) → IsNewName (state_of old) name → MayGive tools lemmas (state_of old) tree (Ok theorem) → Stores mid new name theorem printed
+    → Turns tools lemmas (state_of old) (Some text) (Ok printed) (state_of new)
+thm_keeps {tools} {lemmas} old mid new text name tree theorem printed same spelled free may stores =
+    let whole : state_of new ≡ with_theorem (state_of old) name theorem = stores.state ∙ ap (λ (s : Library). with_theorem s name theorem) same in
+    let allows : AllowsMessage tools lemmas (state_of old) text (theorem_line name theorem) (state_of new) =
+    subst (λ (s : Library). AllowsMessage tools lemmas (state_of old) text (theorem_line name theorem) s) (sym whole) (thm_stores spelled free.named free.none may) in
+    record {
+      turns = λ beside own. record {
+        outcome = Ok (record { message = theorem_line name theorem; after = with_beside beside (state_of new) });
+        allowed = allows.allowed beside own;
+        leaves = refl;
+        says = record {
+          spelled = stores.spelled ∙ sym (append-nil (text_of_theorem (scope_in (state_of new)) (record { name = name; theorem = theorem })));
+          named = stores.named;
+        };
+        is_true = record { theorem = stores.proved beside; goals = tt; row = tt };
+      };
+    }

@@ -8,16 +8,15 @@ use Rattle.hol_model.specs.Terms.NamedTerm.{NamedTerm, combination, is_within_li
 use Rattle.hol_model.specs.Terms.WellNamed.{is_well_named}
 use Rattle.hol_model.specs.Terms.Nameless.{image}
 use Rattle.hol_model.specs.Logic.Derivable.{IsMember}
-use Rattle.hol_model.specs.Logic.NamedLogic.{negation}
 use Rattle.hol_model.specs.Logic.Theory.{Theory}
 use Rattle.hol_model.specs.Logic.KnownTerm.{knows_types, knows_constants, has_instances}
 use Rattle.hol_model.specs.Kernel.Outcome.{unless, refused}
 use Rattle.hol_model.specs.Kernel.Rules.{is_formula, first_unknown}
 use Rattle.hol_model.specs.Kernel.Theorem.{Theorem}
 use Rattle.hol_model.specs.Derived.DerivedRules.{Stated, stated}
-use Rattle.hol_model.specs.Propositional.Connectives.{connected_term}
-use Rattle.hol_model.specs.Propositional.Propositions.{Connective, atoms_of}
+use Rattle.hol_model.specs.Propositional.Propositions.{atoms_of}
 use Rattle.hol_model.specs.Propositional.Tautologies.{falsity_of, tautology_outcome}
+use Rattle.hol_model.specs.Refining.HostFunctions.{HostConversions}
 use Rattle.hol_model.specs.Refining.Refiners.{AnswersIfSmall, AnswersTautology}
 use Rattle.hol_model.specs.Rewrites.SmallTerms.{is_small}
 use Rattle.hol_model.specs.Texts.TermGrammar.{TermTree}
@@ -29,7 +28,7 @@ use Rattle.hol_session_model.specs.CommandGrammar.{TheoremTree, by_rule, by_taut
 use Rattle.hol_session_model.specs.Replies.{Refusal, refusal_of}
 use Rattle.hol_session_model.specs.Sessions.{scope_in, IsRuleAnswer}
 use Rattle.hol_session_model.specs.Sessions.{State as Library}
-use Rattle.hol_session_model.specs.ScriptSessions.{row_of_fault, IsReadableRow}
+use Rattle.hol_session_model.specs.ScriptSessions.{Tools, row_of_fault, IsReadableRow}
 use Rattle.hol_session_model.specs.SessionCalls.{SaysRefusal}
 use Rattle.hol_model.proofs.Tests.{first_of_both, second_of_both}
 use Rattle.hol_grammar.specs.declared.steps.TermStep.{TermStep}
@@ -42,52 +41,58 @@ use Rattle.hol_equal.specs.Formulas.{IsFormula}
 use Rattle.hol_bool.proofs.FormulaLemmas.{passed}
 use Rattle.hol_taut.specs.Answers.{AnswersSmall}
 use Rattle.hol_taut.proofs.AtomLemmas.{IsHandedDown, atoms-have, atoms-formulas}
+use Rattle.hol_host.specs.Host.{HostRefiners}
 use Rattle.hol_session.specs.declared.reply.Refused.{Refused}
-use Rattle.hol_session.specs.Answers.{Beside, with_beside, row_bytes, plain, AnswersRule, MayGive, RefusesTheorem, AnswersTheorem}
+use Rattle.hol_session.specs.Answers.{Beside, with_beside, session_tools, hostless, row_bytes, plain, AnswersRule, MayGive, RefusesTheorem, AnswersTheorem}
 use Rattle.hol_session.specs.Rows.{refusal_for, TellsRow}
-use Rattle.hol_session.proofs.RowLemmas.{RowCases, has_row, has_none, row-cases, values-readable}
+use Rattle.hol_session.proofs.RowLemmas.{has_row, has_none, row-cases, values-readable}
 use Rattle.hol_session.proofs.RuleLemmas.{readable}
 
 -- ---- what `thm` is asked for
 
 -- a refusal that tells no row
-pub plainly-refused : (library : Library) (tree : TheoremTree) (fault : Fault) → (fault ≡ Memory) ⊎ MayGive library tree (Err (refusal_of fault)) → RefusesTheorem library tree (plain fault)
-plainly-refused library tree fault (inl memory) = record {
+pub plainly-refused : (tools : Tools) (lemmas : List Theorem) (library : Library) (tree : TheoremTree) (fault : Fault) → (fault ≡ Memory) ⊎ MayGive tools lemmas library tree (Err (refusal_of fault)) → RefusesTheorem tools lemmas library tree (plain fault)
+plainly-refused tools lemmas library tree fault (inl memory) = record {
   refusal = refusal_of fault;
   may = inl (ap refusal_of memory);
   says = record { same_fault = refl; spelled = refl };
   readable = λ beside. tt;
 }
-plainly-refused library tree fault (inr may) = record {
+plainly-refused tools lemmas library tree fault (inr may) = record {
   refusal = refusal_of fault;
   may = inr may;
   says = record { same_fault = refl; spelled = refl };
   readable = λ beside. tt;
 }
 
--- what a rule gives
-pub rule-given : (library : Library) (rule : Rule) (tree : TheoremTree) (theorem : Theorem) → IsAsked (AsksRule rule) tree
-    → ((t : RuleTree) → IsRule rule t → AnswersRule (Ok theorem) library t) → MayGive library tree (Ok theorem)
-rule-given library rule (by_rule t) theorem asks answers = λ beside. answers t asks
-rule-given library rule (by_tautology t) theorem asks answers = absurd asks
-rule-given library rule (by_conversion conversion t) theorem asks answers = absurd asks
-
-pub rule-refused : (library : Library) (rule : Rule) (tree : TheoremTree) (fault : Fault) → IsAsked (AsksRule rule) tree
-    → ((t : RuleTree) → IsRule rule t → AnswersRule (Err fault) library t) → RefusesTheorem library tree (plain fault)
-rule-refused library rule (by_rule t) fault asks answers = go (answers t asks)
+pub rule-refused : (tools : Tools) (lemmas : List Theorem) (library : Library) (rule : Rule) (tree : TheoremTree) (fault : Fault) → IsAsked (AsksRule rule) tree
+    → ((t : RuleTree) → IsRule rule t → AnswersRule (Err fault) library t) → RefusesTheorem tools lemmas library tree (plain fault)
+rule-refused tools lemmas library rule (by_rule t) fault asks answers = go (answers t asks)
   where
-    go : (fault ≡ Memory) ⊎ IsRuleAnswer library t (Err fault) → RefusesTheorem library (by_rule t) (plain fault)
-    go (inl memory) = plainly-refused library (by_rule t) fault (inl memory)
-    go (inr because) = plainly-refused library (by_rule t) fault (inr (λ beside. (because, refl)))
-rule-refused library rule (by_tautology t) fault asks answers = absurd asks
-rule-refused library rule (by_conversion conversion t) fault asks answers = absurd asks
+    go : (fault ≡ Memory) ⊎ IsRuleAnswer library t (Err fault) → RefusesTheorem tools lemmas library (by_rule t) (plain fault)
+    go (inl memory) = plainly-refused tools lemmas library (by_rule t) fault (inl memory)
+    go (inr because) = plainly-refused tools lemmas library (by_rule t) fault (inr (λ beside own. (because, refl)))
+rule-refused tools lemmas library rule (by_tautology t) fault asks answers = absurd asks
+rule-refused tools lemmas library rule (by_conversion conversion t) fault asks answers = absurd asks
 
--- what TAUT gives
-pub tautology-asked : (library : Library) (steps : Vec TermStep Global) (tree : TheoremTree) (answer : Result Theorem Refused) → IsAsked (Tautology steps) tree
-    → ((t : TermTree) → flat_steps_of steps.items ≡ flat_steps (term_steps t) → AnswersTheorem answer library (by_tautology t)) → AnswersTheorem answer library tree
-tautology-asked library steps (by_tautology t) answer asks answers = answers t asks
-tautology-asked library steps (by_rule t) answer asks answers = absurd asks
-tautology-asked library steps (by_conversion conversion t) answer asks answers = absurd asks
+-- the same for the refusal that a call answers
+pub rule-refused_as : (tools : Tools) (lemmas : List Theorem) (library : Library) (rule : Rule) (tree : TheoremTree) (fault : Fault) (refused : Refused) → refused ≡ plain fault → IsAsked (AsksRule rule) tree
+    → ((t : RuleTree) → IsRule rule t → AnswersRule (Err fault) library t) → RefusesTheorem tools lemmas library tree refused
+rule-refused_as tools lemmas library rule tree fault refused is asks answers =
+    subst (λ (r : Refused). RefusesTheorem tools lemmas library tree r) (sym is) (rule-refused tools lemmas library rule tree fault asks answers)
+
+-- what TAUT gives is the same with any host
+hosted : (refiners : HostRefiners) (conversions : HostConversions) (lemmas : List Theorem) (library : Library) (tree : TermTree) (answer : Result Theorem Refused)
+    → AnswersTheorem hostless lemmas answer library (by_tautology tree) → AnswersTheorem (session_tools refiners conversions) lemmas answer library (by_tautology tree)
+hosted refiners conversions lemmas library tree (Ok theorem) given = given
+hosted refiners conversions lemmas library tree (Err refused) given = record { refusal = given.refusal; may = given.may; says = given.says; readable = given.readable }
+
+pub tautology-asked : (refiners : HostRefiners) (conversions : HostConversions) (lemmas : List Theorem) (library : Library) (steps : Vec TermStep Global) (tree : TheoremTree) (answer : Result Theorem Refused)
+    → IsAsked (Tautology steps) tree → ((t : TermTree) → flat_steps_of steps.items ≡ flat_steps (term_steps t) → AnswersTheorem hostless lemmas answer library (by_tautology t))
+    → AnswersTheorem (session_tools refiners conversions) lemmas answer library tree
+tautology-asked refiners conversions lemmas library steps (by_tautology t) answer asks answers = hosted refiners conversions lemmas library t answer (answers t asks)
+tautology-asked refiners conversions lemmas library steps (by_rule t) answer asks answers = absurd asks
+tautology-asked refiners conversions lemmas library steps (by_conversion conversion t) answer asks answers = absurd asks
 
 -- ---- what a session asks of the answer
 
@@ -103,15 +108,15 @@ decides : (answer : Result Theorem Fault) (theory : Theory) (term : NamedTerm) �
 decides answer theory term answered = is-answer answer term (tautology_outcome theory term) answered
 
 -- a tautology
-pub tautology-given : (library : Library) (tree : TermTree) (term : NamedTerm) (theorem : Theorem) → meaning (scope_in library) [] tree ≡ Ok term
-    → AnswersSmall (Ok theorem) (image term) (tautology_outcome library.theory term) → MayGive library (by_tautology tree) (Ok theorem)
-tautology-given library tree term theorem meant answered = λ beside. goes_on term (sym meant) (decides (Ok theorem) library.theory term answered)
+pub tautology-given : (lemmas : List Theorem) (library : Library) (tree : TermTree) (term : NamedTerm) (theorem : Theorem) → meaning (scope_in library) [] tree ≡ Ok term
+    → AnswersSmall (Ok theorem) (image term) (tautology_outcome library.theory term) → MayGive hostless lemmas library (by_tautology tree) (Ok theorem)
+tautology-given lemmas library tree term theorem meant answered = λ beside own. goes_on term (sym meant) (decides (Ok theorem) library.theory term answered)
 
 -- the term is not read
-pub unread-tautology : (library : Library) (tree : TermTree) (fault : Fault) → (fault ≡ Memory) ⊎ (meaning (scope_in library) [] tree ≡ Err fault)
-    → RefusesTheorem library (by_tautology tree) (plain fault)
-unread-tautology library tree fault (inl memory) = plainly-refused library (by_tautology tree) fault (inl memory)
-unread-tautology library tree fault (inr is) = plainly-refused library (by_tautology tree) fault (inr (λ beside. stops (refusal_of fault) (sym is, refl) refl))
+pub unread-tautology : (lemmas : List Theorem) (library : Library) (tree : TermTree) (fault : Fault) → (fault ≡ Memory) ⊎ (meaning (scope_in library) [] tree ≡ Err fault)
+    → RefusesTheorem hostless lemmas library (by_tautology tree) (plain fault)
+unread-tautology lemmas library tree fault (inl memory) = plainly-refused hostless lemmas library (by_tautology tree) fault (inl memory)
+unread-tautology lemmas library tree fault (inr is) = plainly-refused hostless lemmas library (by_tautology tree) fault (inr (λ beside own. stops (refusal_of fault) (sym is, refl) refl))
 
 -- ---- a formula that is false in a row
 
@@ -198,10 +203,10 @@ row-readable library beside term fault formed answered = elim (row-cases fault) 
 ]
 
 -- the refusal with its row
-pub tautology-refused : (library : Library) (scope : Scope) (tree : TermTree) (term : NamedTerm) (fault : Fault) (refused : Refused) → scope ≡ scope_in library
+pub tautology-refused : (lemmas : List Theorem) (library : Library) (scope : Scope) (tree : TermTree) (term : NamedTerm) (fault : Fault) (refused : Refused) → scope ≡ scope_in library
     → meaning (scope_in library) [] tree ≡ Ok term → IsFormed term → AnswersSmall (Err fault) (image term) (tautology_outcome library.theory term)
-    → TellsRow scope term fault refused → RefusesTheorem library (by_tautology tree) refused
-tautology-refused library scope tree term fault refused same meant formed answered tells = record {
+    → TellsRow scope term fault refused → RefusesTheorem hostless lemmas library (by_tautology tree) refused
+tautology-refused lemmas library scope tree term fault refused same meant formed answered tells = record {
   refusal = tells.refusal;
   may = may tells.is;
   says = subst (λ s. SaysRefusal s refused.fault (row_bytes refused) tells.refusal) same tells.says;
@@ -211,9 +216,9 @@ tautology-refused library scope tree term fault refused same meant formed answer
     told : (beside : Beside) → IsReadableRow (with_beside beside library) (row_of_fault (atoms_of term) fault)
     told beside = row-readable library beside term fault formed answered
 
-    may : (tells.refusal ≡ refusal_of Memory) ⊎ (tells.refusal ≡ refusal_for term fault) → (tells.refusal ≡ refusal_of Memory) ⊎ MayGive library (by_tautology tree) (Err tells.refusal)
+    may : (tells.refusal ≡ refusal_of Memory) ⊎ (tells.refusal ≡ refusal_for term fault) → (tells.refusal ≡ refusal_of Memory) ⊎ MayGive hostless lemmas library (by_tautology tree) (Err tells.refusal)
     may (inl memory) = inl memory
-    may (inr is) = inr (subst (λ r. MayGive library (by_tautology tree) (Err r)) (sym is) (λ beside. goes_on term (sym meant) (decides (Err fault) library.theory term answered, refl)))
+    may (inr is) = inr (subst (λ r. MayGive hostless lemmas library (by_tautology tree) (Err r)) (sym is) (λ beside own. goes_on term (sym meant) (decides (Err fault) library.theory term answered, refl)))
 
     is_readable : (beside : Beside) → (tells.refusal ≡ refusal_of Memory) ⊎ (tells.refusal ≡ refusal_for term fault) → IsReadableRow (with_beside beside library) tells.refusal.row
     is_readable beside (inl memory) = subst (λ (r : Refusal). IsReadableRow (with_beside beside library) r.row) (sym memory) tt

@@ -1,26 +1,27 @@
 -- What a call on a session answers.
-use Rattle.std.specs.Prelude.{◌≡◌, ◌⊎◌, ℕ, List, [], ◌++◌, Option, Some, None, Result, Ok, Err, string_bytes, codes, decimal}
-use Rattle.std.proofs.Common.{Bor, Vec, Global}
+use Rattle.std.specs.Prelude.{◌≡◌, ◌⊎◌, ℕ, true, false, is_some, List, [], ◌++◌, Option, Some, None, Result, Ok, Err, string_bytes, codes, decimal}
+use Rattle.std.proofs.Common.{Vec, Global}
 use Rattle.hol_model.specs.declared.fault.Fault.{Fault}
-use Rattle.hol_model.specs.declared.fault.Fault.TheVariants.{Memory, UnknownName}
+use Rattle.hol_model.specs.declared.fault.Fault.TheVariants.{Memory, BadName, NameTaken}
 use Rattle.hol_model.specs.declared.limits.TheConstants.{STEPS_LIMIT}
 use Rattle.hol_model.specs.Kernel.Fault.{number_of, name_of}
 use Rattle.hol_model.specs.Kernel.Theorem.{Theorem}
 use Rattle.hol_model.specs.Goals.GoalStates.{Proof}
-use Rattle.hol_model.specs.Refining.HostFunctions.{Host, no_host_conversions}
+use Rattle.hol_model.specs.Refining.HostFunctions.{HostConversions, no_host_conversions}
 use Rattle.hol_session_model.specs.Commands.{RuleTree}
 use Rattle.hol_session_model.specs.CommandGrammar.{TheoremTree}
 use Rattle.hol_model.specs.Texts.Reading.{Scope}
-use Rattle.hol_session_model.specs.Sessions.{IsRuleAnswer, scope_in}
+use Rattle.hol_session_model.specs.Sessions.{IsRuleAnswer, is_theorem_name, scope_in}
 use Rattle.hol_session_model.specs.Sessions.{State as Library}
-use Rattle.hol_session_model.specs.Replies.{Refusal, refusal_of, Reply, text_of_some, NamedTheorem, text_of_theorem}
+use Rattle.hol_session_model.specs.Replies.{Refusal, refusal_of, Reply, text_of_some, text_of_theorem}
 use Rattle.hol_session_model.specs.ScriptSessions.{State, Tools, IsTheoremAnswer, IsReadableRow}
 use Rattle.hol_session_model.specs.SessionCalls.{SaysMessage, SaysRefusal}
 use Rattle.hol_session_model.specs.SessionCalls as calls
 use Rattle.hol_session_model.specs.SessionTools.{tools}
+use Rattle.hol_host.specs.Host.{HostRefiners, host_of, no_host_refiners}
 use Rattle.hol_session.specs.declared.lines.TheoremLine.{TheoremLine}
 use Rattle.hol_session.specs.declared.reply.Printed.{Printed}
-use Rattle.hol_session.specs.declared.reply.Printed.TheVariants.{Nothing, Line}
+use Rattle.hol_session.specs.declared.reply.Printed.TheVariants.{Nothing, Line, Goals}
 use Rattle.hol_session.specs.declared.reply.Refused.{Refused}
 
 -- ---- what a script keeps
@@ -33,13 +34,23 @@ pub record Beside : Type 0 where
 abbrev pub with_beside : Beside → Library → State
 with_beside beside library = record { library = library; lemmas = beside.lemmas; proof = beside.proof }
 
--- no host's functions
-abbrev pub no_host : Host
-no_host = record { refiners = []; refines = λ name goal answer. ⊥; conversions = no_host_conversions }
+-- what may come of tautologies, conversions and refiners in a session with a host's functions
+abbrev pub session_tools : HostRefiners → HostConversions → Tools
+session_tools refiners conversions = tools (host_of refiners conversions) STEPS_LIMIT
 
--- what may come of tautologies, conversions and refiners in a session
-abbrev pub session_tools : Tools
-session_tools = tools no_host STEPS_LIMIT
+-- the same without a host
+abbrev pub hostless : Tools
+hostless = session_tools no_host_refiners no_host_conversions
+
+-- tools that answer nothing: a turn with these is one with any tools
+abbrev pub no_tools : Tools
+no_tools = record {
+  refines = λ theory store tactic goal answer. ⊥;
+  converts = λ theory store conversion term answer. ⊥;
+  decides = λ theory term answer. ⊥;
+  atoms = λ term. [];
+  replays = λ theory store justification answer. ⊥;
+}
 
 -- ---- what is said
 
@@ -51,11 +62,13 @@ pub record IsLineOf (line : TheoremLine) (scope : Scope) (name : List ℕ) (theo
 abbrev pub printed_text : Printed → List ℕ
 printed_text Nothing = []
 printed_text (Line line) = string_bytes line.text
+printed_text (Goals text) = string_bytes text
 
 -- the name of the theorem that is printed
 abbrev pub printed_name : Printed → Option (List ℕ)
 printed_name Nothing = None
 printed_name (Line line) = Some (string_bytes line.name)
+printed_name (Goals text) = None
 
 -- the text of a refusal's row, where it has one
 abbrev pub row_bytes : Refused → List ℕ
@@ -81,16 +94,23 @@ abbrev pub plainly : Result Printed Fault → Result Printed Refused
 plainly (Ok printed) = Ok printed
 plainly (Err fault) = Err (plain fault)
 
--- A turn of a session, whatever lemmas and proof stand beside its library, and what the call says of it.
-pub record Turns (old : Library) (text : Option (List ℕ)) (result : Result Printed Refused) (new : Library) : Type 0 where
-  pub turns : (beside : Beside) → calls.Turns session_tools (with_beside beside old) text (Says result) (with_beside beside new)
+-- A turn of a session with these lemmas, whatever proof stands beside its library, and what the call says of it.
+pub record Turns (tools : Tools) (lemmas : List Theorem) (old : Library) (text : Option (List ℕ)) (result : Result Printed Refused) (new : Library) : Type 0 where
+  pub turns : (beside : Beside) → beside.lemmas ≡ lemmas → calls.Turns tools (with_beside beside old) text (Says result) (with_beside beside new)
 
 -- ---- parts of commands
 
--- the stored theorem, or that there is none
-abbrev pub IsStored : Result (Bor Theorem) Fault → Option Theorem → Type 0
-IsStored (Ok theorem) found = found ≡ Some theorem.now
-IsStored (Err fault) found = (fault ≡ UnknownName) × (found ≡ None)
+-- a theorem may have the name, and none has it
+pub record IsNewName (library : Library) (name : List ℕ) : Type 0 where
+  pub named : is_theorem_name name ≡ true
+  pub none : library.theorems name ≡ None
+
+-- whether a theorem may have the name, and none has it
+abbrev pub TestsName : {A : Type 0} → Library → List ℕ → Result A Fault → Type 0
+TestsName library name (Ok done) = IsNewName library name
+TestsName library name (Err fault) =
+    ((fault ≡ BadName) × (is_theorem_name name ≡ false))
+    ⊎ ((fault ≡ NameTaken) × (is_theorem_name name ≡ true) × (is_some (library.theorems name) ≡ true))
 
 -- what the rule may answer, or that there is no memory
 abbrev pub AnswersRule : Result Theorem Fault → Library → RuleTree → Type 0
@@ -102,18 +122,23 @@ abbrev pub AnswersItems : {A : Type 0} → Result (Vec A Global) Fault → Resul
 AnswersItems (Ok x) outcome = outcome ≡ Ok x.items
 AnswersItems (Err fault) outcome = (fault ≡ Memory) ⊎ (outcome ≡ Err fault)
 
--- `thm` may give this, whatever lemmas and proof stand beside the library
-abbrev pub MayGive : Library → TheoremTree → Result Theorem Refusal → Type 0
-MayGive library tree answer = (beside : Beside) → IsTheoremAnswer session_tools (with_beside beside library) tree answer
+-- with these lemmas `thm` may give this, whatever proof stands beside the library
+abbrev pub MayGive : Tools → List Theorem → Library → TheoremTree → Result Theorem Refusal → Type 0
+MayGive tools lemmas library tree answer = (beside : Beside) → beside.lemmas ≡ lemmas → IsTheoremAnswer tools (with_beside beside library) tree answer
+
+-- `thm` may give this, its refusals without a row, or there is no memory
+abbrev pub AnswersPlainly : Tools → List Theorem → Result Theorem Fault → Library → TheoremTree → Type 0
+AnswersPlainly tools lemmas (Ok theorem) library tree = MayGive tools lemmas library tree (Ok theorem)
+AnswersPlainly tools lemmas (Err fault) library tree = (fault ≡ Memory) ⊎ MayGive tools lemmas library tree (Err (refusal_of fault))
 
 -- A refusal of what `thm` asks for, or that there is no memory, and what is told of it.
-pub record RefusesTheorem (library : Library) (tree : TheoremTree) (refused : Refused) : Type 0 where
+pub record RefusesTheorem (tools : Tools) (lemmas : List Theorem) (library : Library) (tree : TheoremTree) (refused : Refused) : Type 0 where
   pub refusal : Refusal
-  pub may : (refusal ≡ refusal_of Memory) ⊎ MayGive library tree (Err refusal)
+  pub may : (refusal ≡ refusal_of Memory) ⊎ MayGive tools lemmas library tree (Err refusal)
   pub says : SaysRefusal (scope_in library) refused.fault (row_bytes refused) refusal
   pub readable : (beside : Beside) → IsReadableRow (with_beside beside library) refusal.row
 
 -- what `thm` asks for: the theorem, or its refusal
-abbrev pub AnswersTheorem : Result Theorem Refused → Library → TheoremTree → Type 0
-AnswersTheorem (Ok theorem) library tree = MayGive library tree (Ok theorem)
-AnswersTheorem (Err refused) library tree = RefusesTheorem library tree refused
+abbrev pub AnswersTheorem : Tools → List Theorem → Result Theorem Refused → Library → TheoremTree → Type 0
+AnswersTheorem tools lemmas (Ok theorem) library tree = MayGive tools lemmas library tree (Ok theorem)
+AnswersTheorem tools lemmas (Err refused) library tree = RefusesTheorem tools lemmas library tree refused

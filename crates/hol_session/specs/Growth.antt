@@ -5,10 +5,12 @@ use Rattle.hol_model.specs.declared.fault.Fault.TheVariants.{Memory}
 use Rattle.hol_model.specs.Terms.NamedTerm.{NamedTerm, constant, equation}
 use Rattle.hol_model.specs.Logic.Legality.{own_type}
 use Rattle.hol_model.specs.Logic.Theory.{Theory}
-use Rattle.hol_model.specs.Kernel.Theorem.{IsWellFormed}
+use Rattle.hol_model.specs.Kernel.Theorem.{Theorem, IsWellFormed}
 use Rattle.hol_model.specs.Kernel.Rules.{define_outcome}
 use Rattle.hol_model.specs.Texts.Reading.{Scope}
-use Rattle.hol_session_model.specs.Sessions.{definition_name}
+use Rattle.hol_session_model.specs.Sessions.{definition_name, with_theorem, scope_in}
+use Rattle.hol_session_model.specs.Replies.{text_of_theorem}
+use Rattle.hol_session_model.specs.ScriptSessions.{IsProved}
 use Rattle.hol_journal.specs.Journal.{Recorded, IsMade}
 use Rattle.hol_journal.specs.Growth.{IsGrown}
 use Rattle.hol_library.specs.declared.library.Library.{Library}
@@ -17,7 +19,9 @@ use Rattle.hol_store.specs.Store.{stored_of}
 use Rattle.hol_syntax.specs.Scope.{scope_of}
 use Rattle.hol_session.specs.declared.lines.TheoremLine.{TheoremLine}
 use Rattle.hol_session.specs.declared.session.Session.{Session}
-use Rattle.hol_session.specs.Answers.{IsLineOf}
+use Rattle.hol_session.specs.declared.reply.Printed.{Printed}
+use Rattle.hol_session.specs.SessionState.{state_of}
+use Rattle.hol_session.specs.Answers.{Beside, with_beside, IsLineOf, printed_text, printed_name}
 
 -- some refusal is the outcome
 abbrev pub IsRefused : {A : Type 0} → Result A Fault → Type 0
@@ -59,6 +63,13 @@ pub record Defines (old new : Session) (name : List ℕ) (term : NamedTerm) (lin
   pub kept : KeepsLaws old.library new.library
   pub stored : StoresTheorem (stored_of old.library.store) (stored_of new.library.store) (definition_name name) answer
   pub line_is : IsLineOf line (scope_of old.scope) (definition_name name) answer.theorem
+
+-- The theorem is stored under the name and printed; it is proved, whatever lemmas and goal stand beside the library.
+pub record Stores (old new : Session) (name : List ℕ) (theorem : Theorem) (printed : Printed) : Type 0 where
+  pub spelled : printed_text printed ≡ text_of_theorem (scope_in (state_of new)) (record { name = name; theorem = theorem })
+  pub named : printed_name printed ≡ Some name
+  pub state : state_of new ≡ with_theorem (state_of old) name theorem
+  pub proved : (beside : Beside) → IsProved (with_beside beside (state_of new)) theorem
 
 -- the journal, the scope, the store and the theorems from which rules are made are those of before
 pub record KeepsSession (old new : Session) : Type 0 where

@@ -4,8 +4,10 @@
 mod beginning;
 mod derivation;
 mod growth;
+mod known;
 mod lines;
 pub mod reply;
 mod rows;
 pub mod session;
 mod stored_claims;
+mod theorems;

@@ -10,6 +10,8 @@ use hol_model::Fault;
 pub enum Printed {
     Nothing,
     Line(TheoremLine),
+    /// The lines of open goals.
+    Goals(String),
 }
 
 /// Why a command is refused. `row` is the text of a row of values that makes a proposition false: a space, and then each

@@ -1,54 +1,43 @@
 // Sessions: what the commands of a script have stored.
 ghost use Rattle.std.specs.Prelude.{◌≡◌, ◌⊎◌, ◌<◌, ◌∷◌, ℕ, List, [], map, length, Some, OnOk, OnErr, IfOk, IfErr, IsErrOf, Contains, string_bytes};
-ghost use Rattle.hol_session_model.specs.Commands.{DerivedTree, by_conversion, by_premise, by_premises, by_term_and_premise, by_cases, by_witness, by_choice, RuleTree, by_term, by_pair, by_abs, by_inst, by_inst_type, by_derived};
-ghost use Rattle.hol_session_model.specs.CommandGrammar.{TheoremTree, by_tautology, thm_command, show_command, var_command, def_command, newtype_command, newconst_command, SpellsCommand};
-ghost use Rattle.hol_model.specs.Kernel.Outcome.{Answers};
-ghost use Rattle.hol_model.specs.Texts.Reading.{type_meaning, meaning};
+ghost use Rattle.hol_session_model.specs.CommandGrammar.{TheoremTree, thm_command, show_command, var_command, def_command, newtype_command, newconst_command, SpellsCommand};
 ghost use Rattle.hol_model.specs.Kernel.Rules.{define_outcome, new_type_outcome, new_const_outcome};
+ghost use Rattle.hol_model.specs.Kernel.Theorem.{Theorem};
 ghost use Rattle.hol_model.specs.Derived.Prelude.{stored_theorems};
-ghost use Rattle.hol_session_model.specs.Sessions.{start, each, scope_in, with_theorem, with_theorems};
-ghost use Rattle.hol_session_model.specs.Sessions as spec;
+ghost use Rattle.hol_session_model.specs.Sessions.{start, with_theorem, with_theorems};
 ghost use Rattle.hol_model.specs.Texts.TermGrammar.{TermTree};
 ghost use Rattle.hol_model.specs.Texts.TypeGrammar.{TypeTree, type_steps};
 ghost use Rattle.hol_model.specs.declared.fault.Fault.TheVariants.{Memory, TooLong};
 ghost use Rattle.hol_grammar.specs.Steps.{flat_steps_of};
 ghost use Rattle.hol_grammar.specs.TermSteps.{term_steps, flat_steps};
 ghost use Rattle.hol_grammar.specs.Views.{steps_of};
-ghost use Rattle.hol_session.specs.Answers.{plainly, Turns, AnswersRule, AnswersItems, AnswersTheorem};
+ghost use Rattle.hol_session.specs.Answers.{no_tools, session_tools, plainly, TestsName, IsNewName, Turns};
 ghost use Rattle.hol_prelude.specs.Prelude.{prelude_theorems};
-ghost use Rattle.hol_journal.specs.Journal.{IsMade, theorem_in};
+ghost use Rattle.hol_journal.specs.Journal.{IsMade};
 ghost use Rattle.hol_log.specs.LogAccepted.{log_claim};
 ghost use Rattle.hol_log.specs.Pruning.{HaveIdentifiers};
-ghost use Rattle.hol_session.specs.Growth.{IsRefused, Defines, KeepsSession};
-ghost use Rattle.hol_session.specs.Recording.{AppliesRule, GrowsJournal, theorem_given, without_row};
+ghost use Rattle.hol_session.specs.Growth.{IsRefused, Defines, Stores, KeepsSession};
 ghost use Rattle.hol_session.specs.Beginning.{logical_state, AreStoredTheorems, StoresNumbered};
 ghost use Rattle.hol_store.specs.Store.{stored_of};
-ghost use Rattle.hol_session.specs.SessionState.{state_of, IsSession};
+ghost use Rattle.hol_session.specs.SessionState.{state_of, lemmas_of, IsSession, IsLaterLibrary, StaysMade};
 ghost use Rattle.hol_session.specs.StoredClaims.{stored_claims, IsAcceptedLog, IsLongLog};
-ghost use Rattle.hol_command.specs.Views.{IsAsked, IsRule, IsDerived, IsTermPair, AreTermPairs, IsTypePair, AreTypePairs};
+ghost use Rattle.hol_command.specs.Views.{IsAsked};
 
 use crate::beginning::{STORED, StoredTheorem, logical_scope};
-use crate::derivation::{on_premise, on_premises, on_term, on_term_and_premise, on_theorems};
 use crate::growth::libraries_grow;
 use crate::lines::{TheoremLine, definition_line, definition_name, is_theorem_name, theorem_line};
 use crate::reply::{Printed, Refused};
-use crate::rows::refusal_with_row;
 use crate::stored_claims::claims;
-use hol_bool::disj_cases;
-use hol_command::command::{Asked, Rule};
-use hol_command::derived::Derived;
-use hol_command::pairs::{TermPair, TypePair};
-use hol_equal::beta_conv;
+use hol_command::command::Asked;
 use hol_grammar::{TermStep, TypeStep};
+use hol_host::Refiners;
 use hol_journal::{Rec, journals_grow};
 use hol_library::Library;
 use hol_log::log_text;
-use hol_model::{Axiom, Fault, PairRule, PremiseRule, PremisesRule, TermPremiseRule, TermRule};
+use hol_model::Fault;
 use hol_prelude::theorem_of;
-use hol_quant::{choose, exists};
 use hol_sound::sound;
-use hol_syntax::{Scope, build_type, term_of_steps};
-use hol_taut::taut;
+use hol_syntax::Scope;
 use hol_terms::Term;
 use hol_types::Ty;
 use std::alloc::Global;
@@ -56,8 +45,8 @@ use std::alloc::Global;
 /// A library, which is a theory with its journal and the stored theorems, and what the names of texts stand for.
 #[derive(Drop)]
 pub struct Session {
-    library: Library,
-    scope: Scope,
+    pub library: Library,
+    pub scope: Scope,
 }
 
 impl Session {
@@ -65,6 +54,7 @@ impl Session {
     pub fn new(alloc: Global) -> Result<Session, Fault>
         ensures ok { IfOk result (λ session. state_of session ≡ start) }
         ensures is_session { IfOk result IsSession }
+        ensures lemmas { IfOk result (λ session. lemmas_of session ≡ []) }
         ensures err { IfErr result (λ fault. fault ≡ Memory) }
     {
         let mut session = match Session::with_logic(alloc) {
@@ -78,9 +68,11 @@ impl Session {
     }
 
     // The logical constants, and no stored theorems.
+    #[tactic(auto, using(crate::proofs::BeginningLemmas::logical_over, crate::proofs::ProvedStores::proved_none, crate::proofs::ProvedStores::no_lemmas))]
     fn with_logic(alloc: Global) -> Result<Session, Fault>
         ensures ok { IfOk result (λ session. state_of session ≡ logical_state) }
         ensures is_session { IfOk result IsSession }
+        ensures lemmas { IfOk result (λ session. lemmas_of session ≡ []) }
         ensures err { IfErr result (λ fault. fault ≡ Memory) }
     {
         let scope = match logical_scope(alloc) {
@@ -102,6 +94,7 @@ impl Session {
         ensures ok { OnOk result (state_of self.new ≡ with_theorems (state_of self.old) stored_theorems) }
         ensures err { IfErr result (λ fault. fault ≡ Memory) }
         ensures kept { IsSession self.new }
+        ensures lemmas { lemmas_of self.new ≡ lemmas_of self.old }
     {
         for at in 0..table.len() {
             let stored = &table[at];
@@ -120,6 +113,7 @@ impl Session {
         ensures ok { OnOk result (StoresNumbered (state_of self.old) (state_of self.new) name.now number) }
         ensures err { IfErr result (λ fault. fault ≡ Memory) }
         ensures kept { IsSession self.new }
+        ensures lemmas { lemmas_of self.new ≡ lemmas_of self.old }
     {
         match theorem_of(&self.library.recorder, &self.library.logic, number).copy(alloc) {
             Ok(theorem) => self.store(alloc, name, theorem),
@@ -127,41 +121,75 @@ impl Session {
         }
     }
 
-    /// `thm NAME = RULE ..` and `thm NAME = TAUT "p"`: stores and prints the theorem that is asked for. A refusal changes
-    /// nothing.
-    pub fn thm(&mut self, alloc: Global, name: &str, asked: &Asked) -> Result<Printed, Refused>
+    /// `thm NAME = RULE ..`, `thm NAME = TAUT "p"` and `thm NAME = CONV conv "t"`: stores and prints the theorem that is asked
+    /// for; a host's conversions may be called. A refusal changes nothing.
+    pub fn thm<H: Refiners>(
+        &mut self,
+        alloc: Global,
+        hosts: &H,
+        name: &str,
+        asked: &Asked,
+    ) -> Result<Printed, Refused>
         requires { IsSession self.old }
         ensures turns { (text : List ℕ) (tree : TheoremTree) → SpellsCommand text (thm_command name.now tree) → IsAsked asked.now tree
-            → Turns (state_of self.old) (Some text) result (state_of self.new) }
+            → Turns (session_tools (H.refiners hosts.now) (H.conversions hosts.now)) (lemmas_of self.old) (state_of self.old) (Some text) result (state_of self.new) }
         ensures kept { IsSession self.new }
+        ensures lemmas { lemmas_of self.new ≡ lemmas_of self.old }
+        ensures stays { StaysMade self.old self.new }
+        ensures later { IsLaterLibrary (state_of self.old) (state_of self.new) }
     {
-        if !is_theorem_name(name) {
-            return Err(Refused {
-                fault: Fault::BadName,
-                row: None,
-            });
-        }
-        if self.library.store.get(name).is_some() {
-            return Err(Refused {
-                fault: Fault::NameTaken,
-                row: None,
-            });
+        match self.test_name(name) {
+            Ok(()) => {}
+            Err(fault) => return Err(Refused::plain(fault)),
         }
         libraries_grow();
-        let theorem = match self.theorem(alloc, asked) {
+        let theorem = match self.theorem(alloc, hosts, asked) {
             Ok(theorem) => theorem,
             Err(refused) => return Err(refused),
         };
+        match self.keep(alloc, name, theorem) {
+            Ok(printed) => Ok(printed),
+            Err(fault) => Err(Refused::plain(fault)),
+        }
+    }
+
+    /// Whether a theorem may have this name. Refused: BadName, where the name ends in `_def`, which belongs to definitions;
+    /// NameTaken.
+    pub fn test_name(&self, name: &str) -> Result<(), Fault>
+        ensures { TestsName (state_of self.now) name.now result }
+    {
+        if !is_theorem_name(name) {
+            return Err(Fault::BadName);
+        }
+        if self.library.store.get(name).is_some() {
+            return Err(Fault::NameTaken);
+        }
+        Ok(())
+    }
+
+    /// Stores and prints a theorem under a new name. Refused, where nothing changes: Memory.
+    pub fn keep(&mut self, alloc: Global, name: &str, theorem: Rec) -> Result<Printed, Fault>
+        requires session { IsSession self.old }
+        requires made { IsMade self.old.library.recorder theorem }
+        requires named { IsNewName (state_of self.old) name.now }
+        ensures ok { IfOk result (Stores self.old self.new name.now theorem.theorem) }
+        ensures err { OnErr result (state_of self.new ≡ state_of self.old) }
+        ensures memory { IfErr result (λ fault. fault ≡ Memory) }
+        ensures kept { IsSession self.new }
+        ensures lemmas { lemmas_of self.new ≡ lemmas_of self.old }
+        ensures stays { StaysMade self.old self.new }
+        ensures later { IsLaterLibrary (state_of self.old) (state_of self.new) }
+    {
         sound();
         let thm = self.library.recorder.thm(&theorem);
         thm.well_formed();
         let line = match theorem_line(alloc, &self.scope, name, thm) {
             Ok(line) => line,
-            Err(fault) => return Err(Refused { fault, row: None }),
+            Err(fault) => return Err(fault),
         };
         match self.store(alloc, name, theorem) {
             Ok(()) => Ok(Printed::Line(line)),
-            Err(fault) => Err(Refused { fault, row: None }),
+            Err(fault) => Err(fault),
         }
     }
 
@@ -173,6 +201,8 @@ impl Session {
         ensures err { OnErr result (state_of self.new ≡ state_of self.old) }
         ensures memory { IfErr result (λ fault. fault ≡ Memory) }
         ensures kept { IsSession self.new }
+        ensures lemmas { lemmas_of self.new ≡ lemmas_of self.old }
+        ensures recorder { self.new.library.recorder ≡ self.old.library.recorder }
     {
         let Ok(key) = String::from_str(alloc, name) else {
             return Err(Fault::Memory);
@@ -181,6 +211,7 @@ impl Session {
             Ok(()) => {}
             Err(fault) => return Err(fault),
         }
+        self.library.recorder.thm(&theorem).well_formed();
         self.library.store.put_made(key, theorem);
         Ok(())
     }
@@ -188,8 +219,8 @@ impl Session {
     /// `show NAME`: prints a stored theorem again.
     pub fn show(&self, alloc: Global, name: &str) -> Result<Printed, Fault>
         requires { IsSession self.now }
-        ensures { (text : List ℕ) → SpellsCommand text (show_command name.now)
-            → Turns (state_of self.now) (Some text) (plainly result) (state_of self.now) }
+        ensures { (lemmas : List Theorem) (text : List ℕ) → SpellsCommand text (show_command name.now)
+            → Turns no_tools lemmas (state_of self.now) (Some text) (plainly result) (state_of self.now) }
     {
         let Some(theorem) = self.library.store.get(name) else {
             return Err(Fault::UnknownName);
@@ -206,9 +237,12 @@ impl Session {
     /// `var NAME : type`: declares a variable for bare names, in place of an earlier one. A refusal changes nothing.
     pub fn var(&mut self, alloc: Global, name: &str, steps: &[TypeStep]) -> Result<Printed, Fault>
         requires { IsSession self.old }
-        ensures turns { (text : List ℕ) (tree : TypeTree) → SpellsCommand text (var_command name.now tree) → steps_of steps.now ≡ type_steps tree
-            → Turns (state_of self.old) (Some text) (plainly result) (state_of self.new) }
+        ensures turns { (lemmas : List Theorem) (text : List ℕ) (tree : TypeTree) → SpellsCommand text (var_command name.now tree) → steps_of steps.now ≡ type_steps tree
+            → Turns no_tools lemmas (state_of self.old) (Some text) (plainly result) (state_of self.new) }
         ensures kept { IsSession self.new }
+        ensures lemmas { lemmas_of self.new ≡ lemmas_of self.old }
+        ensures stays { StaysMade self.old self.new }
+        ensures later { IsLaterLibrary (state_of self.old) (state_of self.new) }
     {
         let ty = match self.ty(alloc, steps) {
             Ok(ty) => ty,
@@ -223,9 +257,12 @@ impl Session {
     /// `def NAME = t`: defines a constant, and stores and prints the theorem as `NAME_def`. A refusal changes nothing.
     pub fn def(&mut self, alloc: Global, name: &str, steps: &[TermStep]) -> Result<Printed, Fault>
         requires { IsSession self.old }
-        ensures turns { (text : List ℕ) (tree : TermTree) → SpellsCommand text (def_command name.now tree) → flat_steps_of steps.now ≡ flat_steps (term_steps tree)
-            → Turns (state_of self.old) (Some text) (plainly result) (state_of self.new) }
+        ensures turns { (lemmas : List Theorem) (text : List ℕ) (tree : TermTree) → SpellsCommand text (def_command name.now tree) → flat_steps_of steps.now ≡ flat_steps (term_steps tree)
+            → Turns no_tools lemmas (state_of self.old) (Some text) (plainly result) (state_of self.new) }
         ensures kept { IsSession self.new }
+        ensures lemmas { lemmas_of self.new ≡ lemmas_of self.old }
+        ensures stays { StaysMade self.old self.new }
+        ensures later { IsLaterLibrary (state_of self.old) (state_of self.new) }
     {
         let term = match self.term(alloc, steps) {
             Ok(term) => term,
@@ -250,8 +287,12 @@ impl Session {
     /// `newtype NAME`: declares a type. A refusal changes nothing.
     pub fn newtype(&mut self, alloc: Global, name: &str) -> Result<Printed, Fault>
         requires { IsSession self.old }
-        ensures turns { (text : List ℕ) → SpellsCommand text (newtype_command name.now) → Turns (state_of self.old) (Some text) (plainly result) (state_of self.new) }
+        ensures turns { (lemmas : List Theorem) (text : List ℕ) → SpellsCommand text (newtype_command name.now)
+            → Turns no_tools lemmas (state_of self.old) (Some text) (plainly result) (state_of self.new) }
         ensures kept { IsSession self.new }
+        ensures lemmas { lemmas_of self.new ≡ lemmas_of self.old }
+        ensures stays { StaysMade self.old self.new }
+        ensures later { IsLaterLibrary (state_of self.old) (state_of self.new) }
     {
         match self.scope.add_type(alloc, name) {
             Ok(()) => {}
@@ -276,9 +317,12 @@ impl Session {
         steps: &[TypeStep],
     ) -> Result<Printed, Fault>
         requires { IsSession self.old }
-        ensures turns { (text : List ℕ) (tree : TypeTree) → SpellsCommand text (newconst_command name.now tree) → steps_of steps.now ≡ type_steps tree
-            → Turns (state_of self.old) (Some text) (plainly result) (state_of self.new) }
+        ensures turns { (lemmas : List Theorem) (text : List ℕ) (tree : TypeTree) → SpellsCommand text (newconst_command name.now tree) → steps_of steps.now ≡ type_steps tree
+            → Turns no_tools lemmas (state_of self.old) (Some text) (plainly result) (state_of self.new) }
         ensures kept { IsSession self.new }
+        ensures lemmas { lemmas_of self.new ≡ lemmas_of self.old }
+        ensures stays { StaysMade self.old self.new }
+        ensures later { IsLaterLibrary (state_of self.old) (state_of self.new) }
     {
         let ty = match self.ty(alloc, steps) {
             Ok(ty) => ty,
@@ -377,445 +421,6 @@ impl Session {
         match self.library.recorder.new_const(alloc, name, ty) {
             Ok(()) => unreachable!(),
             Err(fault) => fault,
-        }
-    }
-
-    // What `thm` asks for. The state stays.
-    fn theorem(&mut self, alloc: Global, asked: &Asked) -> Result<Rec, Refused>
-        requires { IsSession self.old }
-        ensures answers { (tree : TheoremTree) → IsAsked asked.now tree → AnswersTheorem (theorem_given result) (state_of self.old) tree }
-        ensures grows { GrowsJournal self.old self.new (without_row result) }
-    {
-        match asked {
-            Asked::Rule(rule) => match self.apply(alloc, rule) {
-                Ok(theorem) => Ok(theorem),
-                Err(fault) => Err(Refused::plain(fault)),
-            },
-            Asked::Tautology(steps) => self.tautology(alloc, steps),
-        }
-    }
-
-    // TAUT: a tautology. A proposition that is none is refused with the first row of values of its atoms that makes it
-    // false. The state stays.
-    fn tautology(&mut self, alloc: Global, steps: &[TermStep]) -> Result<Rec, Refused>
-        requires { IsSession self.old }
-        ensures answers { (tree : TermTree) → flat_steps_of steps.now ≡ flat_steps (term_steps tree)
-            → AnswersTheorem (theorem_given result) (state_of self.old) (by_tautology tree) }
-        ensures grows { GrowsJournal self.old self.new (without_row result) }
-    {
-        let term = match self.term(alloc, steps) {
-            Ok(term) => term,
-            Err(fault) => return Err(Refused::plain(fault)),
-        };
-        term.well_formed();
-        term.well_named();
-        match taut(&mut self.library.recorder, alloc, &self.library.laws, &term) {
-            Ok(theorem) => Ok(theorem),
-            Err(fault) => Err(refusal_with_row(alloc, &self.scope, &term, fault)),
-        }
-    }
-
-    // What a rule gives: its arguments from left to right, then the rule. The state stays.
-    fn apply(&mut self, alloc: Global, rule: &Rule) -> Result<Rec, Fault>
-        requires { IsSession self.old }
-        ensures answers { (tree : RuleTree) → IsRule rule.now tree → AnswersRule (theorem_in result) (state_of self.old) tree }
-        ensures grows { GrowsJournal self.old self.new result }
-    {
-        journals_grow();
-        match rule {
-            Rule::OfTerm(rule, steps) => self.by_term(alloc, *rule, steps),
-            Rule::OfTheorems(rule, first, second) => self.by_pair(alloc, *rule, first, second),
-            Rule::Abs(steps, name) => self.abs(alloc, steps, name),
-            Rule::Inst(pairs, name) => self.inst(alloc, pairs, name),
-            Rule::InstType(pairs, name) => self.inst_type(alloc, pairs, name),
-            Rule::OfAxiom(Axiom::Eta) => self.library.recorder.eta(alloc),
-            Rule::OfAxiom(Axiom::Select) => self.library.recorder.select(alloc),
-            Rule::Derived(rule) => self.derive(alloc, rule),
-        }
-    }
-
-    // What a derived rule gives: its arguments from left to right, then the rule. The state stays.
-    fn derive(&mut self, alloc: Global, rule: &Derived) -> Result<Rec, Fault>
-        requires { IsSession self.old }
-        ensures answers { (tree : DerivedTree) → IsDerived rule.now tree → AnswersRule (theorem_in result) (state_of self.old) (by_derived tree) }
-        ensures grows { GrowsJournal self.old self.new result }
-    {
-        match rule {
-            Derived::OfTerm(steps) => self.by_conversion(alloc, steps),
-            Derived::OfPremise(rule, name) => self.by_premise(alloc, *rule, name),
-            Derived::OfPremises(rule, first, second) => {
-                self.by_premises(alloc, *rule, first, second)
-            }
-            Derived::OfTermAndPremise(rule, steps, name) => {
-                self.by_term_and_premise(alloc, *rule, steps, name)
-            }
-            Derived::Cases(disjunction, first, second) => {
-                self.by_cases(alloc, disjunction, first, second)
-            }
-            Derived::Witness(formula, witness, name) => {
-                self.by_witness(alloc, formula, witness, name)
-            }
-            Derived::Choice(variable, first, second) => {
-                self.by_choice(alloc, variable, first, second)
-            }
-        }
-    }
-
-    // The term of a rule's quoted argument.
-    fn term(&self, alloc: Global, steps: &[TermStep]) -> Result<Term, Fault>
-        requires { IsSession self.now }
-        ensures { (tree : TermTree) → flat_steps_of steps.now ≡ flat_steps (term_steps tree)
-            → Answers result (meaning (scope_in (state_of self.now)) [] tree) }
-    {
-        term_of_steps(alloc, &self.scope, steps)
-    }
-
-    // The type of a command's argument.
-    fn ty(&self, alloc: Global, steps: &[TypeStep]) -> Result<Ty, Fault>
-        requires { IsSession self.now }
-        ensures { (tree : TypeTree) → steps_of steps.now ≡ type_steps tree → Answers result (type_meaning (scope_in (state_of self.now)) tree) }
-    {
-        build_type(alloc, &self.scope, steps)
-    }
-
-    // A rule on a term.
-    fn by_term(&mut self, alloc: Global, rule: TermRule, steps: &[TermStep]) -> Result<Rec, Fault>
-        requires { IsSession self.old }
-        ensures answers { (tree : TermTree) → flat_steps_of steps.now ≡ flat_steps (term_steps tree)
-            → AnswersRule (theorem_in result) (state_of self.old) (by_term rule tree) }
-        ensures applies { IfOk result (AppliesRule self.old self.new) }
-        ensures kept { OnErr result (self.new ≡ self.old) }
-    {
-        match self.term(alloc, steps) {
-            Ok(term) => on_term(alloc, &mut self.library.recorder, rule, &term),
-            Err(fault) => Err(fault),
-        }
-    }
-
-    // A rule on two stored theorems.
-    fn by_pair(
-        &mut self,
-        alloc: Global,
-        rule: PairRule,
-        first: &str,
-        second: &str,
-    ) -> Result<Rec, Fault>
-        requires { IsSession self.old }
-        ensures answers { AnswersRule (theorem_in result) (state_of self.old) (by_pair rule first.now second.now) }
-        ensures applies { IfOk result (AppliesRule self.old self.new) }
-        ensures kept { OnErr result (self.new ≡ self.old) }
-    {
-        let Some(first) = self.library.store.get(first) else {
-            return Err(Fault::UnknownName);
-        };
-        let Some(second) = self.library.store.get(second) else {
-            return Err(Fault::UnknownName);
-        };
-        on_theorems(alloc, &mut self.library.recorder, rule, first, second)
-    }
-
-    // ABS
-    fn abs(&mut self, alloc: Global, steps: &[TermStep], name: &str) -> Result<Rec, Fault>
-        requires { IsSession self.old }
-        ensures answers { (tree : TermTree) → flat_steps_of steps.now ≡ flat_steps (term_steps tree)
-            → AnswersRule (theorem_in result) (state_of self.old) (by_abs tree name.now) }
-        ensures applies { IfOk result (AppliesRule self.old self.new) }
-        ensures kept { OnErr result (self.new ≡ self.old) }
-    {
-        let binder = match self.term(alloc, steps) {
-            Ok(binder) => binder,
-            Err(fault) => return Err(fault),
-        };
-        match self.library.store.get(name) {
-            Some(theorem) => self.library.recorder.abs(alloc, &binder, theorem),
-            None => Err(Fault::UnknownName),
-        }
-    }
-
-    // BETA_CONV
-    fn by_conversion(&mut self, alloc: Global, steps: &[TermStep]) -> Result<Rec, Fault>
-        requires { IsSession self.old }
-        ensures answers { (tree : TermTree) → flat_steps_of steps.now ≡ flat_steps (term_steps tree)
-            → AnswersRule (theorem_in result) (state_of self.old) (by_derived (by_conversion tree)) }
-        ensures grows { GrowsJournal self.old self.new result }
-    {
-        match self.term(alloc, steps) {
-            Ok(term) => beta_conv(&mut self.library.recorder, alloc, &term),
-            Err(fault) => Err(fault),
-        }
-    }
-
-    // A derived rule on a stored theorem.
-    fn by_premise(&mut self, alloc: Global, rule: PremiseRule, name: &str) -> Result<Rec, Fault>
-        requires { IsSession self.old }
-        ensures answers { AnswersRule (theorem_in result) (state_of self.old) (by_derived (by_premise rule name.now)) }
-        ensures grows { GrowsJournal self.old self.new result }
-    {
-        match self.library.store.get(name) {
-            Some(premise) => on_premise(
-                alloc,
-                &mut self.library.recorder,
-                &self.library.logic,
-                rule,
-                premise,
-            ),
-            None => Err(Fault::UnknownName),
-        }
-    }
-
-    // A derived rule on two stored theorems.
-    fn by_premises(
-        &mut self,
-        alloc: Global,
-        rule: PremisesRule,
-        first: &str,
-        second: &str,
-    ) -> Result<Rec, Fault>
-        requires { IsSession self.old }
-        ensures answers { AnswersRule (theorem_in result) (state_of self.old) (by_derived (by_premises rule first.now second.now)) }
-        ensures grows { GrowsJournal self.old self.new result }
-    {
-        let Some(first) = self.library.store.get(first) else {
-            return Err(Fault::UnknownName);
-        };
-        let Some(second) = self.library.store.get(second) else {
-            return Err(Fault::UnknownName);
-        };
-        on_premises(
-            alloc,
-            &mut self.library.recorder,
-            &self.library.logic,
-            rule,
-            first,
-            second,
-        )
-    }
-
-    // A derived rule on a term and a stored theorem.
-    fn by_term_and_premise(
-        &mut self,
-        alloc: Global,
-        rule: TermPremiseRule,
-        steps: &[TermStep],
-        name: &str,
-    ) -> Result<Rec, Fault>
-        requires { IsSession self.old }
-        ensures answers { (tree : TermTree) → flat_steps_of steps.now ≡ flat_steps (term_steps tree)
-            → AnswersRule (theorem_in result) (state_of self.old) (by_derived (by_term_and_premise rule tree name.now)) }
-        ensures grows { GrowsJournal self.old self.new result }
-    {
-        let term = match self.term(alloc, steps) {
-            Ok(term) => term,
-            Err(fault) => return Err(fault),
-        };
-        match self.library.store.get(name) {
-            Some(premise) => on_term_and_premise(
-                alloc,
-                &mut self.library.recorder,
-                &self.library.logic,
-                rule,
-                &term,
-                premise,
-            ),
-            None => Err(Fault::UnknownName),
-        }
-    }
-
-    // DISJ_CASES
-    fn by_cases(
-        &mut self,
-        alloc: Global,
-        disjunction: &str,
-        first: &str,
-        second: &str,
-    ) -> Result<Rec, Fault>
-        requires { IsSession self.old }
-        ensures answers { AnswersRule (theorem_in result) (state_of self.old) (by_derived (by_cases disjunction.now first.now second.now)) }
-        ensures grows { GrowsJournal self.old self.new result }
-    {
-        let Some(disjunction) = self.library.store.get(disjunction) else {
-            return Err(Fault::UnknownName);
-        };
-        let Some(first) = self.library.store.get(first) else {
-            return Err(Fault::UnknownName);
-        };
-        let Some(second) = self.library.store.get(second) else {
-            return Err(Fault::UnknownName);
-        };
-        disj_cases(
-            &mut self.library.recorder,
-            alloc,
-            &self.library.logic,
-            disjunction,
-            first,
-            second,
-        )
-    }
-
-    // EXISTS
-    fn by_witness(
-        &mut self,
-        alloc: Global,
-        formula: &[TermStep],
-        witness: &[TermStep],
-        name: &str,
-    ) -> Result<Rec, Fault>
-        requires { IsSession self.old }
-        ensures answers { (tree other : TermTree) → flat_steps_of formula.now ≡ flat_steps (term_steps tree) → flat_steps_of witness.now ≡ flat_steps (term_steps other)
-            → AnswersRule (theorem_in result) (state_of self.old) (by_derived (by_witness tree other name.now)) }
-        ensures grows { GrowsJournal self.old self.new result }
-    {
-        let formula = match self.term(alloc, formula) {
-            Ok(formula) => formula,
-            Err(fault) => return Err(fault),
-        };
-        let witness = match self.term(alloc, witness) {
-            Ok(witness) => witness,
-            Err(fault) => return Err(fault),
-        };
-        match self.library.store.get(name) {
-            Some(premise) => exists(
-                &mut self.library.recorder,
-                alloc,
-                &self.library.logic,
-                &formula,
-                &witness,
-                premise,
-            ),
-            None => Err(Fault::UnknownName),
-        }
-    }
-
-    // CHOOSE
-    fn by_choice(
-        &mut self,
-        alloc: Global,
-        variable: &[TermStep],
-        first: &str,
-        second: &str,
-    ) -> Result<Rec, Fault>
-        requires { IsSession self.old }
-        ensures answers { (tree : TermTree) → flat_steps_of variable.now ≡ flat_steps (term_steps tree)
-            → AnswersRule (theorem_in result) (state_of self.old) (by_derived (by_choice tree first.now second.now)) }
-        ensures grows { GrowsJournal self.old self.new result }
-    {
-        let variable = match self.term(alloc, variable) {
-            Ok(variable) => variable,
-            Err(fault) => return Err(fault),
-        };
-        let Some(first) = self.library.store.get(first) else {
-            return Err(Fault::UnknownName);
-        };
-        let Some(second) = self.library.store.get(second) else {
-            return Err(Fault::UnknownName);
-        };
-        choose(
-            &mut self.library.recorder,
-            alloc,
-            &self.library.logic,
-            &variable,
-            first,
-            second,
-        )
-    }
-
-    // The terms of a pair.
-    fn replacement(&self, alloc: Global, pair: &TermPair) -> Result<(Term, Term), Fault>
-        requires { IsSession self.now }
-        ensures { (trees : TermTree × TermTree) → IsTermPair pair.now trees
-            → Answers result (spec.replacement (scope_in (state_of self.now)) trees) }
-    {
-        let new = match self.term(alloc, &pair.new) {
-            Ok(new) => new,
-            Err(fault) => return Err(fault),
-        };
-        match self.term(alloc, &pair.old) {
-            Ok(old) => Ok((new, old)),
-            Err(fault) => Err(fault),
-        }
-    }
-
-    // The replacements that pairs of terms are.
-    fn replacements(&self, alloc: Global, pairs: &[TermPair]) -> Result<Vec<(Term, Term)>, Fault>
-        requires { IsSession self.now }
-        ensures { (trees : List (TermTree × TermTree)) → AreTermPairs pairs.now trees
-            → AnswersItems result (each (spec.replacement (scope_in (state_of self.now))) trees) }
-    {
-        let mut theta = Vec::new(alloc);
-        for pair in pairs {
-            match self.replacement(alloc, pair) {
-                Ok(replacement) => theta.push(replacement)?,
-                Err(fault) => return Err(fault),
-            }
-        }
-        Ok(theta)
-    }
-
-    // INST
-    fn inst(&mut self, alloc: Global, pairs: &[TermPair], name: &str) -> Result<Rec, Fault>
-        requires { IsSession self.old }
-        ensures answers { (trees : List (TermTree × TermTree)) → AreTermPairs pairs.now trees
-            → AnswersRule (theorem_in result) (state_of self.old) (by_inst trees name.now) }
-        ensures applies { IfOk result (AppliesRule self.old self.new) }
-        ensures kept { OnErr result (self.new ≡ self.old) }
-    {
-        let theta = match self.replacements(alloc, pairs) {
-            Ok(theta) => theta,
-            Err(fault) => return Err(fault),
-        };
-        match self.library.store.get(name) {
-            Some(theorem) => self.library.recorder.inst(alloc, &theta, theorem),
-            None => Err(Fault::UnknownName),
-        }
-    }
-
-    // The type and the type variable of a pair.
-    fn type_replacement(&self, alloc: Global, pair: &TypePair) -> Result<(Ty, Ty), Fault>
-        requires { IsSession self.now }
-        ensures { (trees : TypeTree × List ℕ) → IsTypePair pair.now trees
-            → Answers result (spec.type_replacement (scope_in (state_of self.now)) trees) }
-    {
-        let new = match self.ty(alloc, &pair.new) {
-            Ok(new) => new,
-            Err(fault) => return Err(fault),
-        };
-        match Ty::tyvar(alloc, pair.old) {
-            Ok(old) => Ok((new, old)),
-            Err(fault) => Err(fault),
-        }
-    }
-
-    // The replacements that pairs of a type and a type variable are.
-    fn type_replacements(&self, alloc: Global, pairs: &[TypePair]) -> Result<Vec<(Ty, Ty)>, Fault>
-        requires { IsSession self.now }
-        ensures { (trees : List (TypeTree × List ℕ)) → AreTypePairs pairs.now trees
-            → AnswersItems result (each (spec.type_replacement (scope_in (state_of self.now))) trees) }
-    {
-        let mut theta = Vec::new(alloc);
-        for pair in pairs {
-            match self.type_replacement(alloc, pair) {
-                Ok(replacement) => theta.push(replacement)?,
-                Err(fault) => return Err(fault),
-            }
-        }
-        Ok(theta)
-    }
-
-    // INST_TYPE
-    fn inst_type(&mut self, alloc: Global, pairs: &[TypePair], name: &str) -> Result<Rec, Fault>
-        requires { IsSession self.old }
-        ensures answers { (trees : List (TypeTree × List ℕ)) → AreTypePairs pairs.now trees
-            → AnswersRule (theorem_in result) (state_of self.old) (by_inst_type trees name.now) }
-        ensures applies { IfOk result (AppliesRule self.old self.new) }
-        ensures kept { OnErr result (self.new ≡ self.old) }
-    {
-        let theta = match self.type_replacements(alloc, pairs) {
-            Ok(theta) => theta,
-            Err(fault) => return Err(fault),
-        };
-        match self.library.store.get(name) {
-            Some(theorem) => self.library.recorder.inst_type(alloc, &theta, theorem),
-            None => Err(Fault::UnknownName),
         }
     }
 }

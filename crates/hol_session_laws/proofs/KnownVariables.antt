@@ -139,8 +139,8 @@ outcome-known : (tools : Tools) (state : State) (text : Option (List ℕ)) (outc
 outcome-known tools state text outcome legal known grows finds_no_memory = known
 outcome-known tools state text outcome legal known grows is_unfinished = known
 outcome-known tools state text outcome legal known grows (is_no_command none) = known
-outcome-known tools state text outcome legal known grows (is_refused tree served spelled may) = known
-outcome-known tools state text outcome legal known grows (is_done {accepted} tree served spelled may) =
+outcome-known tools state text outcome legal known grows (is_refused tree spelled may) = known
+outcome-known tools state text outcome legal known grows (is_done {accepted} tree spelled may) =
     elim (command-fares tools state legal known tree accepted may) [
       | inl same ↦ fared tools state accepted.after grows (grows.stays_legal legal) known same
       | inr good ↦ good

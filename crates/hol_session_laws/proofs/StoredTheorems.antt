@@ -81,7 +81,7 @@ now_known theory name term = rw (eq_self name) refl
 
 -- ---- libraries
 
-keeps-itself : (library : Library) → Keeps library library
+pub keeps-itself : (library : Library) → Keeps library library
 keeps-itself library = record { is_told = λ told. told; stays = λ told name theorem is. is }
 
 -- what a name stands for once it is given a theorem
@@ -105,7 +105,7 @@ ends_so name =
     ap (λ (n : ℕ). drop n (name ++ codes "_def")) behind ∙ drop-append_seam name (codes "_def") in
     ap (λ (bytes : List ℕ). not (pointwise nat_eq (codes "_def") bytes)) last
 
-stored-keeps : (library : Library) (name : List ℕ) (theorem : Theorem) → is_theorem_name name ≡ true → library.theorems name ≡ None → Keeps library (with_theorem library name theorem)
+pub stored-keeps : (library : Library) (name : List ℕ) (theorem : Theorem) → is_theorem_name name ≡ true → library.theorems name ≡ None → Keeps library (with_theorem library name theorem)
 stored-keeps library name theorem is_name none = record {
   is_told = λ told. record { told = λ other there is. go told other there (bytes_eq name (definition_name other)) refl is };
   stays = λ told other there is. put-stays library.theorems name theorem other there none is;
@@ -119,7 +119,7 @@ stored-keeps library name theorem is_name none = record {
         cc
     go told other there false same is = told.told other there is
 
-defined-keeps : (library : Library) (name : List ℕ) (term : NamedTerm) (theorem : Theorem) → define_outcome library.theory name term ≡ Ok theorem → Keeps library (with_definition library name theorem)
+pub defined-keeps : (library : Library) (name : List ℕ) (term : NamedTerm) (theorem : Theorem) → define_outcome library.theory name term ≡ Ok theorem → Keeps library (with_definition library name theorem)
 defined-keeps library name term theorem outcome = record {
   is_told = λ told. record { told = λ other there is. subst (λ (t : Theory). is_new_name t other ≡ false) (sym grown) (go told other there (bytes_eq (definition_name name) (definition_name other)) refl is) };
   stays = λ told other there is. put-stays library.theorems (definition_name name) theorem other there (none told (library.theorems (definition_name name)) refl) is;
@@ -142,7 +142,7 @@ defined-keeps library name term theorem outcome = record {
         (append_cancel_right name other (codes "_def") (same_name (definition_name name) (definition_name other) same)) (now_known library.theory name term)
     go told other there false same is = still_known (definition name (own_type term) (image term)) library.theory other (told.told other there is)
 
-grown-keeps : (library : Library) (theory : Theory) (entry : Entry) → theory ≡ entry ∷ library.theory → Keeps library (over_theory library theory)
+pub grown-keeps : (library : Library) (theory : Theory) (entry : Entry) → theory ≡ entry ∷ library.theory → Keeps library (over_theory library theory)
 grown-keeps library theory entry grown = record {
   is_told = λ told. record { told = λ name theorem is. subst (λ (t : Theory). is_new_name t name ≡ false) (sym grown) (still_known entry library.theory name (told.told name theorem is)) };
   stays = λ told name theorem is. is;
@@ -353,8 +353,8 @@ outcome-follows : (tools : Tools) (state : State) (line : ℕ) (text : Option (L
 outcome-follows tools state line text outcome finds_no_memory = refused-follows state line (refusal_of Memory)
 outcome-follows tools state line text outcome is_unfinished = refused-follows state line (refusal_of Syntax)
 outcome-follows tools state line text outcome (is_no_command none) = refused-follows state line (refusal_of Syntax)
-outcome-follows tools state line text outcome (is_refused {refusal} tree served spelled may) = refused-follows state line refusal
-outcome-follows tools state line text outcome (is_done {text = t} {accepted} tree served spelled may) =
+outcome-follows tools state line text outcome (is_refused {refusal} tree spelled may) = refused-follows state line refusal
+outcome-follows tools state line text outcome (is_done {text = t} {accepted} tree spelled may) =
     let follows = command-follows tools state t tree accepted spelled may in
     record { keeps = follows.keeps; printed = λ shown is. follows.printed shown is; named = λ shown is. follows.named shown is }
 
@@ -427,7 +427,7 @@ not_there (Some other) x none there = cc
 start-untold : IsUntold first_library
 start-untold = untold-all (record { theory = logical_definitions; variables = λ _. None; theorems = λ _. None }) stored_theorems (refl, (refl, (refl, (refl, (refl, (refl, (refl, (refl, (refl, (refl, (refl, (refl, tt)))))))))))) (record { none = λ name. refl })
 
-start-told : IsTold first_library
+pub start-told : IsTold first_library
 start-told = record { told = λ name theorem is. not_there (first_library.theorems (definition_name name)) theorem (start-untold.none name) is }
 
 pub printed-stay : (tools : Tools) → PrintedTheoremsStay tools

@@ -247,8 +247,8 @@ module _ (texts : List (List ℕ)) where
   outcome-advances tools state text outcome one finds_no_memory = stands state
   outcome-advances tools state text outcome one is_unfinished = stands state
   outcome-advances tools state text outcome one (is_no_command none) = stands state
-  outcome-advances tools state text outcome one (is_refused tree served spelled may) = stands state
-  outcome-advances tools state text outcome one (is_done {text = t} {accepted} tree served spelled may) = command-advances tools state t tree accepted one spelled may
+  outcome-advances tools state text outcome one (is_refused tree spelled may) = stands state
+  outcome-advances tools state text outcome one (is_done {text = t} {accepted} tree spelled may) = command-advances tools state t tree accepted one spelled may
 
   turn-advances : (tools : Tools) (state : State) (request : Request) (turn : Turn) → IsOne request.text → Takes tools state request turn → Advances state turn.after
   turn-advances tools state request turn one takes =

@@ -78,7 +78,7 @@ module _ (theory : Theory) (read : TermTree → Result NamedTerm Fault) (reads :
   leaf-known (rewrite_tac names) tactic is = subst (λ (l : TacticLeaf NamedTerm). HasKnownWitnesses theory (tactic_of_leaf l)) (sym (same_ok (rewrite_tac names) tactic is)) tt
 
   mutual
-    tactic-known : (tree : Tactic TermTree) (tactic : Tactic NamedTerm) → read_tactic read tree ≡ Ok tactic → HasKnownWitnesses theory (tactic_of tactic)
+    pub tactic-known : (tree : Tactic TermTree) (tactic : Tactic NamedTerm) → read_tactic read tree ≡ Ok tactic → HasKnownWitnesses theory (tactic_of tactic)
     tactic-known (then_chain first links) tactic is =
         let f = followed (read_choice read first) (λ choice. read_links read links >>= λ others. Ok (then_chain choice others)) tactic is in
         let g = followed (read_links read links) (λ others. Ok (then_chain f.value others)) tactic f.is in

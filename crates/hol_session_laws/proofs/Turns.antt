@@ -177,8 +177,8 @@ outcome-grows : (tools : Tools) (state : State) (text : Option (List ℕ)) (outc
 outcome-grows tools state text outcome finds_no_memory = stays state.library.theory state.library.theory refl
 outcome-grows tools state text outcome is_unfinished = stays state.library.theory state.library.theory refl
 outcome-grows tools state text outcome (is_no_command none) = stays state.library.theory state.library.theory refl
-outcome-grows tools state text outcome (is_refused tree served spelled may) = stays state.library.theory state.library.theory refl
-outcome-grows tools state text outcome (is_done {accepted} tree served spelled may) = command-grows tools state tree accepted may
+outcome-grows tools state text outcome (is_refused tree spelled may) = stays state.library.theory state.library.theory refl
+outcome-grows tools state text outcome (is_done {accepted} tree spelled may) = command-grows tools state tree accepted may
 
 pub turn-grows : (tools : Tools) (state : State) (request : Request) (turn : Turn) → Takes tools state request turn → TheoryGrows state turn.after
 turn-grows tools state request turn takes =

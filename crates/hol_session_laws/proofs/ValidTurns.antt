@@ -245,8 +245,8 @@ outcome-valid : (tools : Tools) (state : State) (text : Option (List ℕ)) (outc
 outcome-valid tools state text outcome legal told sound valid keeps is_earlier now_legal finds_no_memory = valid
 outcome-valid tools state text outcome legal told sound valid keeps is_earlier now_legal is_unfinished = valid
 outcome-valid tools state text outcome legal told sound valid keeps is_earlier now_legal (is_no_command none) = valid
-outcome-valid tools state text outcome legal told sound valid keeps is_earlier now_legal (is_refused tree served spelled may) = valid
-outcome-valid tools state text outcome legal told sound valid keeps is_earlier now_legal (is_done {accepted} tree served spelled may) =
+outcome-valid tools state text outcome legal told sound valid keeps is_earlier now_legal (is_refused tree spelled may) = valid
+outcome-valid tools state text outcome legal told sound valid keeps is_earlier now_legal (is_done {accepted} tree spelled may) =
     elim (command-fares tools state legal sound valid tree accepted may) [
       | inl kept ↦ fared tools state accepted.after told valid keeps is_earlier now_legal kept.proof kept.lemmas
       | inr good ↦ good

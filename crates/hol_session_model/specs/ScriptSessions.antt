@@ -210,36 +210,14 @@ May tools state p_command = Plainly (Is (p_outcome state))
 May tools state (r_command digits) = Plainly (Is (r_outcome state digits))
 May tools state (save_command name) = NamesTheorem state name (Plainly (Is (save_outcome state name)))
 
--- The commands that are carried out so far: those of goals, and theorems by conversions, are answered as texts that are no
--- command.
-abbrev pub is_served_theorem : TheoremTree → Bool
-is_served_theorem (by_rule rule) = true
-is_served_theorem (by_tautology tree) = true
-is_served_theorem (by_conversion conversion tree) = false
-
-abbrev pub is_served : CommandTree → Bool
-is_served (var_command name tree) = true
-is_served (newtype_command name) = true
-is_served (newconst_command name tree) = true
-is_served (def_command name tree) = true
-is_served (thm_command name tree) = is_served_theorem tree
-is_served (show_command name) = true
-is_served (goal_command tree) = false
-is_served (e_command tree) = false
-is_served b_command = false
-is_served p_command = false
-is_served (r_command digits) = false
-is_served (save_command name) = false
-
 -- what may come of a text, or of what stands behind the last `;;`
 pub data Allows (tools : Tools) (state : State) : Option (List ℕ) → Outcome → Type 0 where
   finds_no_memory : {text : List ℕ} → Allows tools state (Some text) (Err (refusal_of Memory))
   is_unfinished : Allows tools state None (Err (refusal_of Syntax))
-  is_no_command : {text : List ℕ} → ((tree : CommandTree) → is_served tree ≡ true → ¬ (SpellsCommand text tree))
-      → Allows tools state (Some text) (Err (refusal_of Syntax))
-  is_refused : {text : List ℕ} {refusal : Refusal} (tree : CommandTree) → is_served tree ≡ true → SpellsCommand text tree → May tools state tree (Err refusal)
+  is_no_command : {text : List ℕ} → ((tree : CommandTree) → ¬ (SpellsCommand text tree)) → Allows tools state (Some text) (Err (refusal_of Syntax))
+  is_refused : {text : List ℕ} {refusal : Refusal} (tree : CommandTree) → SpellsCommand text tree → May tools state tree (Err refusal)
       → Allows tools state (Some text) (Err refusal)
-  is_done : {text : List ℕ} {accepted : Accepted} (tree : CommandTree) → is_served tree ≡ true → SpellsCommand text tree → May tools state tree (Ok accepted)
+  is_done : {text : List ℕ} {accepted : Accepted} (tree : CommandTree) → SpellsCommand text tree → May tools state tree (Ok accepted)
       → Allows tools state (Some text) (Ok accepted)
 
 -- ---- what is printed

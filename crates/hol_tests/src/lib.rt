@@ -5,6 +5,12 @@
 #[cfg(test)]
 mod derived_script_tests;
 #[cfg(test)]
+mod goal_script_tests;
+#[cfg(test)]
+mod host_functions;
+#[cfg(test)]
+mod refiner_script_tests;
+#[cfg(test)]
 mod replacement_tests;
 #[cfg(test)]
 mod rows;

@@ -1,7 +1,14 @@
 // Scripts as data, and what their runs write.
+use crate::host_functions::{
+    circular, deep, guess, mute, shapeless, shared, stranger, twin, twisted, wrong,
+};
 use crate::sinks::Compared;
+use hol_host::{Host, NoHost};
+use hol_just::Goal;
 use hol_model::{Fault, FromRead, IntoWrite};
+use hol_sample_host::{liar, liar2, peel, swap};
 use hol_script::{Summary, run};
+use hol_terms::Term;
 use std::alloc::Global;
 
 /// A script, and all that its run writes.
@@ -21,21 +28,62 @@ pub(crate) fn first_wrong(alloc: Global, rows: &[Row<'_>]) -> Option<usize> {
     None
 }
 
-/// Whether a script writes this, and no more.
+/// Whether a script writes this, and no more, with the sample refiners and conversions and those of these tests.
 pub(crate) fn writes(alloc: Global, script: &[u8], expected: &[u8]) -> Result<bool, Fault> {
+    let host = host_of_tests(alloc)?;
     let mut reader = FromRead::new(script);
     let mut writer = Compared::new(expected);
     let mut log = IntoWrite::new(Vec::new(alloc));
-    run(alloc, &mut reader, &mut writer, &mut log, false)?;
+    run(alloc, &mut reader, &mut writer, &mut log, false, &host)?;
     Ok(writer.is_whole())
 }
 
-/// What a script comes to.
+// The sample refiners and conversions, and those of these tests.
+fn host_of_tests(alloc: Global) -> Result<Host, Fault> {
+    let mut host = Host::new(alloc);
+    let peels = Box::new(alloc, |alloc: Global, goal: &Goal| peel(alloc, goal))?;
+    host.refiner(alloc, "peel", peels)?;
+    let lies = Box::new(alloc, |alloc: Global, goal: &Goal| liar(alloc, goal))?;
+    host.refiner(alloc, "liar", lies)?;
+    let lies_twice = Box::new(alloc, |alloc: Global, goal: &Goal| liar2(alloc, goal))?;
+    host.refiner(alloc, "liar2", lies_twice)?;
+    let swaps = Box::new(alloc, |alloc: Global, term: &Term| swap(alloc, term))?;
+    host.conv(alloc, "swap", swaps)?;
+    let halves = Box::new(alloc, |alloc: Global, goal: &Goal| twin(alloc, goal))?;
+    host.refiner(alloc, "twin", halves)?;
+    let errs = Box::new(alloc, |alloc: Global, term: &Term| wrong(alloc, term))?;
+    host.conv(alloc, "wrong", errs)?;
+    misbehaving(alloc, &mut host)?;
+    Ok(host)
+}
+
+// Refiners and conversions that have no answer, or a wrong one.
+fn misbehaving(alloc: Global, host: &mut Host) -> Result<(), Fault> {
+    let nothing = Box::new(alloc, |alloc: Global, goal: &Goal| mute(alloc, goal))?;
+    host.refiner(alloc, "mute", nothing)?;
+    let another = Box::new(alloc, |alloc: Global, goal: &Goal| stranger(alloc, goal))?;
+    host.refiner(alloc, "stranger", another)?;
+    let no_formula = Box::new(alloc, |alloc: Global, goal: &Goal| shapeless(alloc, goal))?;
+    host.refiner(alloc, "shapeless", no_formula)?;
+    let no_subgoal = Box::new(alloc, |alloc: Global, goal: &Goal| circular(alloc, goal))?;
+    host.refiner(alloc, "circular", no_subgoal)?;
+    let shares = Box::new(alloc, |alloc: Global, goal: &Goal| shared(alloc, goal))?;
+    host.refiner(alloc, "shared", shares)?;
+    let too_deep = Box::new(alloc, |alloc: Global, goal: &Goal| deep(alloc, goal))?;
+    host.refiner(alloc, "deep", too_deep)?;
+    let twists = Box::new(alloc, |alloc: Global, term: &Term| twisted(alloc, term))?;
+    host.conv(alloc, "twisted", twists)?;
+    let guesses = Box::new(alloc, |alloc: Global, term: &Term| guess(alloc, term))?;
+    host.conv(alloc, "guess", guesses)?;
+    Ok(())
+}
+
+/// What a script comes to, without a host.
 pub(crate) fn summary(alloc: Global, script: &[u8]) -> Result<Summary, Fault> {
     let mut reader = FromRead::new(script);
     let mut writer = IntoWrite::new(Vec::new(alloc));
     let mut log = IntoWrite::new(Vec::new(alloc));
-    run(alloc, &mut reader, &mut writer, &mut log, false)
+    run(alloc, &mut reader, &mut writer, &mut log, false, &NoHost)
 }
 
 /// Appends so many times the same bytes.

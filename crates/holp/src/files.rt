@@ -5,8 +5,13 @@ use crate::laws::logs_are_checked;
 use crate::new_file::NewFile;
 use crate::status::status;
 use hol_check::{Claim, check, check_log, migrate, write_claims, write_entries};
-use hol_model::{Fault, FromRead, IntoWrite};
-use hol_script::run;
+use hol_host::Host;
+use hol_just::Goal;
+use hol_model::{Fault, FromRead, IntoWrite, Sink, Source};
+use hol_sample_host::{liar, liar2, peel, swap};
+use hol_script::{Summary, run};
+use hol_terms::Term;
+use std::alloc::Global;
 use std::fs::File;
 use std::{fs, io};
 
@@ -31,13 +36,37 @@ fn create(rt: &HostRuntime, name: &str) -> Result<IntoWrite<File>, Fault>
     }
 }
 
+// Runs a script over a host with the sample refiners and conversions.
+fn run_hosted<R: Source, W: Sink, L: Sink>(
+    alloc: Global,
+    reader: &mut R,
+    writer: &mut W,
+    log: &mut L,
+    wants_log: bool,
+) -> Result<Summary, Fault>
+    requires reader_unfailed { R.has_failed reader.old ≡ false }
+    requires writer_unfailed { W.has_failed writer.old ≡ false }
+    requires log_unfailed { L.has_failed log.old ≡ false }
+{
+    let mut host = Host::new(alloc);
+    let peels = Box::new(alloc, |alloc: Global, goal: &Goal| peel(alloc, goal))?;
+    host.refiner(alloc, "peel", peels)?;
+    let lies = Box::new(alloc, |alloc: Global, goal: &Goal| liar(alloc, goal))?;
+    host.refiner(alloc, "liar", lies)?;
+    let lies_twice = Box::new(alloc, |alloc: Global, goal: &Goal| liar2(alloc, goal))?;
+    host.refiner(alloc, "liar2", lies_twice)?;
+    let swaps = Box::new(alloc, |alloc: Global, term: &Term| swap(alloc, term))?;
+    host.conv(alloc, "swap", swaps)?;
+    run(alloc, reader, writer, log, wants_log, &host)
+}
+
 /// Runs a script, and answers how many of its commands were refused.
 pub(crate) fn run_file(rt: &HostRuntime, script: &str) -> Result<u64, Fault> {
     let alloc = rt.alloc();
     let mut reader = open(rt, script)?;
     let mut writer = IntoWrite::new(io::writer(rt));
     let mut no_log = IntoWrite::new(Vec::new(alloc));
-    let summary = run(alloc, &mut reader, &mut writer, &mut no_log, false)?;
+    let summary = run_hosted(alloc, &mut reader, &mut writer, &mut no_log, false)?;
     Ok(summary.refused)
 }
 
@@ -48,7 +77,7 @@ pub(crate) fn run_file_with_log(rt: &HostRuntime, script: &str, log: &str) -> Re
     let mut reader = open(rt, script)?;
     let mut log = create(rt, log)?;
     let mut writer = IntoWrite::new(io::writer(rt));
-    let summary = run(rt.alloc(), &mut reader, &mut writer, &mut log, true)?;
+    let summary = run_hosted(rt.alloc(), &mut reader, &mut writer, &mut log, true)?;
     Ok(summary.refused)
 }
 

@@ -38,4 +38,5 @@ returns-in-Axiom c =
 pub returns-in-Derived : goal.returns-in-Derived
 returns-in-Derived c =
     let known : rule_kind_of c.in-Some.word.now ≡ Some (Derived c.in-Derived.kind) = cc (c.in-Some-rule_kind.ensures, c.in-Derived.is) in
-    rule-parsed c.parse_derived_rule.result (Derived c.in-Derived.kind) (tokens_of c.args.tokens.now) (tokens_of c.in-Some.arguments.now) c.in-Some.word.now c.in-Some.ensures known c.parse_derived_rule.ensures
+    let arguments = tokens_of c.in-Some.arguments.now in
+    rule-parsed c.parse_derived_rule.result (Derived c.in-Derived.kind) (tokens_of c.args.tokens.now) arguments c.in-Some.word.now c.in-Some.ensures known c.parse_derived_rule.ensures

@@ -6,4 +6,4 @@ use Rattle.hol_command.proofs.command.parse_show.Goals as goal
 pub returns : goal.returns
 returns c =
     let tree = show_command c.args.name.now in
-    (tree, record { served = refl; grammatical = tt; kind_is = refl; name_is = refl; spelled = no-tokens c.args.tokens.now c.if-not-is_empty.ensures }, record { is = refl })
+    (tree, record { grammatical = tt; kind_is = refl; name_is = refl; spelled = no-tokens c.args.tokens.now c.if-not-is_empty.ensures }, record { is = refl })

@@ -3,7 +3,8 @@ use Rattle.hol_model.specs.declared.symbol.Symbol.TheVariants.{Equal}
 use Rattle.hol_model.specs.Texts.Token.{Token, Mark}
 use Rattle.hol_session_model.specs.CommandGrammar.{thm_command}
 use Rattle.hol_grammar.specs.Views.{tokens_of}
-use Rattle.hol_command.proofs.ReadingLemmas.{behind-mark, thm-refused}
+use Rattle.hol_command.proofs.ReadingLemmas.{behind-mark}
+use Rattle.hol_command.proofs.CommandLemmas.{thm-refused}
 use Rattle.hol_command.proofs.command.parse_thm.Goals as goal
 
 pub parse_asked-requires : goal.parse_asked-requires
@@ -12,9 +13,9 @@ parse_asked-requires c = behind-mark Equal (tokens_of c.args.tokens.now) (tokens
 pub returns-in-Ok : goal.returns-in-Ok
 returns-in-Ok c =
     let read = c.in-Ok.ensures in
-    let spelled = c.in-Some.ensures ∙ ap (λ (ts : List Token). Mark Equal ∷ ts) read.3 in
+    let spelled = c.in-Some.ensures ∙ ap (λ (ts : List Token). Mark Equal ∷ ts) read.2 in
     let tree = thm_command c.args.name.now read.0 in
-    (tree, record { served = read.1; grammatical = read.2; kind_is = refl; name_is = refl; spelled = spelled }, record { theorem = read.0; is = refl; asks = read.4 })
+    (tree, record { grammatical = read.1; kind_is = refl; name_is = refl; spelled = spelled }, record { theorem = read.0; is = refl; asks = read.3 })
 
 pub returns-in-Err : goal.returns-in-Err
 returns-in-Err c = thm-refused c.in-Err.error c.args.name.now (tokens_of c.args.tokens.now) (tokens_of c.in-Some.asked.now) c.in-Some.ensures c.in-Err.ensures

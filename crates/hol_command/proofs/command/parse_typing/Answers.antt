@@ -1,5 +1,5 @@
 use Rattle.hol_grammar.specs.Views.{tokens_of}
-use Rattle.hol_command.proofs.ReadingLemmas.{typing-parsed}
+use Rattle.hol_command.proofs.CommandLemmas.{typing-parsed}
 use Rattle.hol_command.proofs.command.parse_typing.Goals as goal
 
 pub returns-in-Some : goal.returns-in-Some

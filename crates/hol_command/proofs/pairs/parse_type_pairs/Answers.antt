@@ -6,4 +6,5 @@ returns-in-Err c = types-refused c.in-Err.error c.args.pairs.now c.loop-pair.pai
 
 pub loop-pair-preserved : goal.loop-pair-preserved
 loop-pair-preserved c =
-    more-types c.args.pairs.now c.loop-pair.pair-index _ c.push.new.self.items c.loop-pair.parsed.items c.in-Ok.types c.loop-pair-test.true c.in_ok-push-in-Ok.ensures.items c.loop-pair.invariant c.in-Ok.ensures
+    more-types c.args.pairs.now c.loop-pair.pair-index _ c.push.new.self.items c.loop-pair.parsed.items c.in-Ok.types
+    c.loop-pair-test.true c.in_ok-push-in-Ok.ensures.items c.loop-pair.invariant c.in-Ok.ensures

@@ -1,6 +1,7 @@
 use Rattle.std.proofs.Common.{◌≡◌, List, ℕ, sym, subst, refl, length, ◌≤◌}
 use Rattle.hol_model.specs.Texts.KnownText.{Tells}
 use Rattle.hol_model.specs.declared.limits.TheConstants.{TEXT_BYTES_LIMIT}
+use Rattle.hol_session.specs.Answers.{session_tools}
 use Rattle.hol_script.specs.Runs.{source_use, sink_use}
 use Rattle.hol_script.proofs.HeadlineLemmas.{finishes_told, front_told, breaks_told, unread_told}
 use Rattle.hol_script.proofs.RunLogLemmas.{run-named}
@@ -9,20 +10,22 @@ use Rattle.hol_script.proofs.runner.run.Goals as goal
 
 pub returns-in-Err-clause-ends : goal.returns-in-Err-clause-ends
 returns-in-Err-clause-ends g c =
-    ends-unread (source_use (g.R.Source.remaining c.args.reader.now) (g.R.Source.has_failed c.read_all.new.reader))
+    ends-unread (session_tools (g.H.Refiners.refiners c.args.host.now) (g.H.Converters.conversions c.args.host.now))
+    (source_use (g.R.Source.remaining c.args.reader.now) (g.R.Source.has_failed c.read_all.new.reader))
     (sink_use (g.W.Sink.contents c.args.writer.now) (g.W.Sink.contents c.args.writer.now) (g.W.Sink.has_failed c.args.writer.now) (c.args.writer.now ≡ c.args.writer.now))
     (sink_use (g.L.Sink.contents c.args.log.now) (g.L.Sink.contents c.args.log.now) (g.L.Sink.has_failed c.args.log.now) (c.args.log.now ≡ c.args.log.now))
     c.in-Err.fault c.in-Err.ensures.refusals c.in-Err.ensures.failed c.in-Err.ensures.too_long refl refl
 
 pub returns-in-Err-clause-told_front : goal.returns-in-Err-clause-told_front
-returns-in-Err-clause-told_front g c = unread_told (g.R.Source.remaining c.args.reader.now) (g.W.Sink.contents c.args.writer.now)
+returns-in-Err-clause-told_front g c = unread_told (session_tools (g.H.Refiners.refiners c.args.host.now) (g.H.Converters.conversions c.args.host.now)) (g.R.Source.remaining c.args.reader.now) (g.W.Sink.contents c.args.writer.now)
 
 pub returns-in-Err-run_script-clause-ends : goal.returns-in-Err-run_script-clause-ends
 returns-in-Err-run_script-clause-ends g c =
     let script = c.as_slice.result.now in
     let told = subst (λ (bytes : List ℕ). Tells (g.R.Source.remaining c.args.reader.now) bytes) (sym c.as_slice.ensures.value) c.in-Ok.ensures.all in
     let within = subst (λ (bytes : List ℕ). length bytes ≤ TEXT_BYTES_LIMIT) (sym c.as_slice.ensures.value) c.in-Ok.ensures.within_limit in
-    ends-in_output (source_use (g.R.Source.remaining c.args.reader.now) (g.R.Source.has_failed c.read_all.new.reader))
+    ends-in_output (session_tools (g.H.Refiners.refiners c.args.host.now) (g.H.Converters.conversions c.args.host.now))
+    (source_use (g.R.Source.remaining c.args.reader.now) (g.R.Source.has_failed c.read_all.new.reader))
     (sink_use (g.W.Sink.contents c.args.writer.now) (g.W.Sink.contents c.run_script.new.writer) (g.W.Sink.has_failed c.run_script.new.writer) (c.run_script.new.writer ≡ c.args.writer.now))
     (sink_use (g.L.Sink.contents c.args.log.now) (g.L.Sink.contents c.args.log.now) (g.L.Sink.has_failed c.args.log.now) (c.args.log.now ≡ c.args.log.now))
     script told within c.in-Err-run_script.fault c.in-Err-run_script.ensures.refusals c.in-Err-run_script.ensures.err c.in-Err-run_script.ensures.failed c.in-Err-run_script.ensures.unwritten refl
@@ -30,7 +33,7 @@ returns-in-Err-run_script-clause-ends g c =
 pub returns-in-Err-run_script-clause-told_front : goal.returns-in-Err-run_script-clause-told_front
 returns-in-Err-run_script-clause-told_front g c =
     let told = subst (λ (bytes : List ℕ). Tells (g.R.Source.remaining c.args.reader.now) bytes) (sym c.as_slice.ensures.value) c.in-Ok.ensures.all in
-    breaks_told c.as_slice.result.now told c.in-Err-run_script.ensures.err
+    breaks_told (session_tools (g.H.Refiners.refiners c.args.host.now) (g.H.Converters.conversions c.args.host.now)) c.as_slice.result.now told c.in-Err-run_script.ensures.err
 
 pub write_log-requires-clause-named : goal.write_log-requires-clause-named
 write_log-requires-clause-named g c = run-named c.in-Ok-run_script.progress c.in-Ok-run_script.ensures.ok
@@ -40,7 +43,8 @@ returns-then-not-wants_log-clause-ends g c =
     let script = c.as_slice.result.now in
     let told = subst (λ (bytes : List ℕ). Tells (g.R.Source.remaining c.args.reader.now) bytes) (sym c.as_slice.ensures.value) c.in-Ok.ensures.all in
     let within = subst (λ (bytes : List ℕ). length bytes ≤ TEXT_BYTES_LIMIT) (sym c.as_slice.ensures.value) c.in-Ok.ensures.within_limit in
-    ends-unlogged (source_use (g.R.Source.remaining c.args.reader.now) (g.R.Source.has_failed c.read_all.new.reader))
+    ends-unlogged (session_tools (g.H.Refiners.refiners c.args.host.now) (g.H.Converters.conversions c.args.host.now))
+    (source_use (g.R.Source.remaining c.args.reader.now) (g.R.Source.has_failed c.read_all.new.reader))
     (sink_use (g.W.Sink.contents c.args.writer.now) (g.W.Sink.contents c.run_script.new.writer) (g.W.Sink.has_failed c.run_script.new.writer) (c.run_script.new.writer ≡ c.args.writer.now))
     (sink_use (g.L.Sink.contents c.args.log.now) (g.L.Sink.contents c.args.log.now) (g.L.Sink.has_failed c.args.log.now) (c.args.log.now ≡ c.args.log.now))
     script told within c.in-Ok-run_script.progress c.in-Ok-run_script.ensures.ok c.if-not-wants_log.true refl
@@ -50,7 +54,8 @@ returns-in-Ok-write_log-clause-ends g c =
     let script = c.as_slice.result.now in
     let told = subst (λ (bytes : List ℕ). Tells (g.R.Source.remaining c.args.reader.now) bytes) (sym c.as_slice.ensures.value) c.in-Ok.ensures.all in
     let within = subst (λ (bytes : List ℕ). length bytes ≤ TEXT_BYTES_LIMIT) (sym c.as_slice.ensures.value) c.in-Ok.ensures.within_limit in
-    ends-logged (source_use (g.R.Source.remaining c.args.reader.now) (g.R.Source.has_failed c.read_all.new.reader))
+    ends-logged (session_tools (g.H.Refiners.refiners c.args.host.now) (g.H.Converters.conversions c.args.host.now))
+    (source_use (g.R.Source.remaining c.args.reader.now) (g.R.Source.has_failed c.read_all.new.reader))
     (sink_use (g.W.Sink.contents c.args.writer.now) (g.W.Sink.contents c.run_script.new.writer) (g.W.Sink.has_failed c.run_script.new.writer) (c.run_script.new.writer ≡ c.args.writer.now))
     (sink_use (g.L.Sink.contents c.args.log.now) (g.L.Sink.contents c.write_log.new.log) (g.L.Sink.has_failed c.write_log.new.log) (c.write_log.new.log ≡ c.args.log.now))
     script told within c.in-Ok-run_script.progress c.in-Ok-run_script.ensures.ok c.if-not-wants_log.false c.in-Ok-write_log.ensures.ok
@@ -60,7 +65,8 @@ returns-clause-ends g c =
     let script = c.as_slice.result.now in
     let told = subst (λ (bytes : List ℕ). Tells (g.R.Source.remaining c.args.reader.now) bytes) (sym c.as_slice.ensures.value) c.in-Ok.ensures.all in
     let within = subst (λ (bytes : List ℕ). length bytes ≤ TEXT_BYTES_LIMIT) (sym c.as_slice.ensures.value) c.in-Ok.ensures.within_limit in
-    ends-in_log (source_use (g.R.Source.remaining c.args.reader.now) (g.R.Source.has_failed c.read_all.new.reader))
+    ends-in_log (session_tools (g.H.Refiners.refiners c.args.host.now) (g.H.Converters.conversions c.args.host.now))
+    (source_use (g.R.Source.remaining c.args.reader.now) (g.R.Source.has_failed c.read_all.new.reader))
     (sink_use (g.W.Sink.contents c.args.writer.now) (g.W.Sink.contents c.run_script.new.writer) (g.W.Sink.has_failed c.run_script.new.writer) (c.run_script.new.writer ≡ c.args.writer.now))
     (sink_use (g.L.Sink.contents c.args.log.now) (g.L.Sink.contents c.write_log.new.log) (g.L.Sink.has_failed c.write_log.new.log) (c.write_log.new.log ≡ c.args.log.now))
     script told within c.in-Ok-run_script.progress c.in-Ok-run_script.ensures.ok c.in-Err-write_log.fault c.if-not-wants_log.false c.in-Err-write_log.ensures.refusals
@@ -69,14 +75,14 @@ returns-clause-ends g c =
 pub returns-clause-told_front : goal.returns-clause-told_front
 returns-clause-told_front g c =
     let told = subst (λ (bytes : List ℕ). Tells (g.R.Source.remaining c.args.reader.now) bytes) (sym c.as_slice.ensures.value) c.in-Ok.ensures.all in
-    front_told (finishes_told c.as_slice.result.now told c.in-Ok-run_script.ensures.ok)
+    front_told (finishes_told (session_tools (g.H.Refiners.refiners c.args.host.now) (g.H.Converters.conversions c.args.host.now)) c.as_slice.result.now told c.in-Ok-run_script.ensures.ok)
 
 pub returns-then-not-wants_log-clause-told : goal.returns-then-not-wants_log-clause-told
 returns-then-not-wants_log-clause-told g c =
     let told = subst (λ (bytes : List ℕ). Tells (g.R.Source.remaining c.args.reader.now) bytes) (sym c.as_slice.ensures.value) c.in-Ok.ensures.all in
-    finishes_told c.as_slice.result.now told c.in-Ok-run_script.ensures.ok
+    finishes_told (session_tools (g.H.Refiners.refiners c.args.host.now) (g.H.Converters.conversions c.args.host.now)) c.as_slice.result.now told c.in-Ok-run_script.ensures.ok
 
 pub returns-in-Ok-write_log-clause-told : goal.returns-in-Ok-write_log-clause-told
 returns-in-Ok-write_log-clause-told g c =
     let told = subst (λ (bytes : List ℕ). Tells (g.R.Source.remaining c.args.reader.now) bytes) (sym c.as_slice.ensures.value) c.in-Ok.ensures.all in
-    finishes_told c.as_slice.result.now told c.in-Ok-run_script.ensures.ok
+    finishes_told (session_tools (g.H.Refiners.refiners c.args.host.now) (g.H.Converters.conversions c.args.host.now)) c.as_slice.result.now told c.in-Ok-run_script.ensures.ok

@@ -1,14 +1,15 @@
 use Rattle.std.proofs.Common.{◌≡◌, ◌≤◌, ◌+◌, false, length}
-use Rattle.hol_script.specs.Runs.{counts_of, names_of, state_in}
-use Rattle.hol_session.specs.SessionState.{state_of, IsSession}
+use Rattle.hol_script.specs.Runs.{counts_of, names_of}
+use Rattle.hol_session.specs.Answers.{session_tools}
+use Rattle.hol_proof_manager.specs.Managers.{state_of, IsManager}
 use Rattle.hol_script.proofs.RunLemmas.{Underway}
 use Rattle.hol_script.proofs.runner.run_script.Given as goal
 
 abbrev pub invariant-pieces : goal.invariant-pieces
 invariant-pieces g l = record {
-  underway : Underway l.fn.script (g.W.Sink.contents l.fn.writer) (g.W.Sink.contents l.writer) (state_in (state_of l.progress.session)) l.line l.rest (counts_of l.progress.summary)
-      (names_of l.progress);
-  session : IsSession l.progress.session;
+  underway : Underway (session_tools (g.H.Refiners.refiners l.fn.host) (g.H.Converters.conversions l.fn.host)) l.fn.script (g.W.Sink.contents l.fn.writer)
+      (g.W.Sink.contents l.writer) (state_of l.progress.manager) l.line l.rest (counts_of l.progress.summary) (names_of l.progress);
+  manager : IsManager l.progress.manager;
   unfailed : g.W.Sink.has_failed l.writer ≡ false;
   lines : l.line + length l.rest ≤ length l.fn.script + 1;
   accepted : l.progress.summary.accepted + length l.rest ≤ length l.fn.script;

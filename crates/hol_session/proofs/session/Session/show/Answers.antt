@@ -1,4 +1,4 @@
-use Rattle.std.proofs.Common.{sym, ◌∙◌, ap, subst, Some, Bor}
+use Rattle.std.proofs.Common.{sym, ◌∙◌, ap, subst, Bor}
 use Rattle.std.specs.Option.{option_map}
 use Rattle.hol_model.specs.declared.fault.Fault.TheVariants.{UnknownName}
 use Rattle.hol_model.specs.Texts.Reading.{Scope}
@@ -11,12 +11,12 @@ use Rattle.hol_session.proofs.SessionLemmas.{scope_same, refuses, forgets, print
 use Rattle.hol_session.proofs.session.Session.show.Goals as goal
 
 pub returns-in_default : goal.returns-in_default
-returns-in_default c = λ text spelled.
+returns-in_default c = λ lemmas text spelled.
     refuses (state_of c.args.self.now) text UnknownName
     (show_finds_none spelled (ap theorem_of (sym c.get.ensures.found ∙ ap (option_map (λ (made : Bor Recorded). made.now)) c.in_default.is)))
 
 pub returns-in-Ok : goal.returns-in-Ok
-returns-in-Ok c = λ text spelled.
+returns-in-Ok c = λ lemmas text spelled.
     let session = c.args.self.now in
     let theorem = c.in-Some.theorem.now.theorem in
     prints (state_of session) (state_of session) text c.args.name.now theorem c.in-Ok.line
@@ -25,4 +25,4 @@ returns-in-Ok c = λ text spelled.
     (subst (λ (scope : Scope). IsLineOf c.in-Ok.line scope c.args.name.now theorem) (scope_same session c.requires) (rw c.thm-thm.ensures at c.in-Ok.ensures.ok))
 
 pub returns-in-Err : goal.returns-in-Err
-returns-in-Err c = λ text spelled. forgets (state_of c.args.self.now) text c.in-Err.fault c.in-Err.ensures.err
+returns-in-Err c = λ lemmas text spelled. forgets (state_of c.args.self.now) text c.in-Err.fault c.in-Err.ensures.err

@@ -1,4 +1,4 @@
-use Rattle.std.proofs.Common.{drop, ◌+◌}
+use Rattle.std.proofs.Common.{drop, ◌+◌, ◌∙◌}
 use Rattle.hol_model.specs.Derived.Prelude.{stored_theorems}
 use Rattle.hol_session.specs.SessionState.{state_of}
 use Rattle.hol_session.proofs.BeginningLemmas.{storing-next, storing-further, next-number}
@@ -15,4 +15,5 @@ loop-at-preserved c = record {
       (storing-next (state_of c.args.self.now) (state_of c.loop-at.self) c.args.table.now c.loop-at.at _ stored_theorems c.loop-at-test.true c.loop-at.invariant.storing)
       c.in-Ok.ensures.ok;
   session = c.in-Ok.ensures.kept;
+  lemmas = c.in-Ok.ensures.lemmas ∙ c.loop-at.invariant.lemmas;
 }

@@ -1,0 +1,6 @@
+pub mod GoalTexts
+pub mod GoalTurns
+pub mod Shown
+pub mod Managing
+pub mod SettingGoals
+pub mod Expanding

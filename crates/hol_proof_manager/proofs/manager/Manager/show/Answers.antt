@@ -1,0 +1,10 @@
+use Rattle.std.proofs.Common.{refl, Some}
+use Rattle.hol_session.specs.SessionState.{lemmas_of}
+use Rattle.hol_session.specs.Answers.{plainly, Says}
+use Rattle.hol_proof_manager.proofs.Managing.{session_turn}
+use Rattle.hol_proof_manager.proofs.manager.Manager.show.Goals as goal
+
+pub returns : goal.returns
+returns c = λ text spelled.
+    let manager = c.args.self.now in
+    session_turn manager manager.prover.session (Some text) (Says (plainly c.show.result)) (c.show.ensures (lemmas_of manager.prover.session) text spelled).turns refl

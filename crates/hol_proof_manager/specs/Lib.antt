@@ -1,0 +1,3 @@
+pub mod GoalTexts
+pub mod Provers
+pub mod Managers

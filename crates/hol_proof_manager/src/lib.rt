@@ -1,0 +1,9 @@
+//! The proof manager (HOL Light's goalstack, tactics.ml): a session, the proof of a goal under way, and what the commands of
+//! goals do with them.
+#![tactic(auto)]
+
+mod goal_texts;
+mod manager;
+mod prover;
+
+pub use manager::Manager;

@@ -1,0 +1,164 @@
+// Further functions of the host of these tests.
+use hol_host::HostFail;
+use hol_just::{Goal, Just, Rule, Step, named, splice, step, sub};
+use hol_model::Fault;
+use hol_terms::{Term, mk_eq};
+use std::alloc::Global;
+
+/// On `p /\ p` without assumptions the subgoal `p`, once for both sides. Of other applications the step is wrong.
+pub(crate) fn twin(alloc: Global, goal: &Goal) -> Result<Step, HostFail> {
+    let Some((_, half)) = goal.concl.dest_comb() else {
+        return Err(HostFail);
+    };
+    match halved(alloc, half) {
+        Ok(step) => Ok(step),
+        Err(_) => Err(HostFail),
+    }
+}
+
+// CONJ of the theorem of one subgoal with itself.
+fn halved(alloc: Global, half: &Term) -> Result<Step, Fault> {
+    let just = step(alloc, Rule::Conj, &[sub(alloc, 0)?, sub(alloc, 0)?])?;
+    let mut goals = Vec::new(alloc);
+    goals.push(Goal {
+        asms: Vec::new(alloc),
+        concl: half.copy(alloc)?,
+    })?;
+    Ok(Step { goals, just })
+}
+
+/// No step of any goal.
+pub(crate) fn mute(_alloc: Global, _goal: &Goal) -> Result<Step, HostFail> {
+    Err(HostFail)
+}
+
+/// The step of the goal `T`, whatever the goal.
+pub(crate) fn stranger(alloc: Global, _goal: &Goal) -> Result<Step, HostFail> {
+    proved(alloc, named(alloc, "TRUTH"))
+}
+
+/// A subgoal that is no formula.
+pub(crate) fn shapeless(alloc: Global, goal: &Goal) -> Result<Step, HostFail> {
+    match to_a_predicate(alloc, &goal.concl) {
+        Ok(step) => Ok(step),
+        Err(_) => Err(HostFail),
+    }
+}
+
+/// No subgoals, by the subgoal of number 0.
+pub(crate) fn circular(alloc: Global, _goal: &Goal) -> Result<Step, HostFail> {
+    proved(alloc, sub(alloc, 0))
+}
+
+/// The step of the goal `T` by a tree of more than 2^1000 nodes, which stand in some 4,000 lines.
+pub(crate) fn shared(alloc: Global, _goal: &Goal) -> Result<Step, HostFail> {
+    proved(alloc, doubled(alloc))
+}
+
+/// The step of the goal `T` by a tree whose depth is one past the limit: no step.
+pub(crate) fn deep(alloc: Global, _goal: &Goal) -> Result<Step, HostFail> {
+    proved(alloc, towering(alloc))
+}
+
+// The step without subgoals by a justification, where it was made.
+fn proved(alloc: Global, made: Result<Just, Fault>) -> Result<Step, HostFail> {
+    match made {
+        Ok(just) => Ok(Step {
+            goals: Vec::new(alloc),
+            just,
+        }),
+        Err(_) => Err(HostFail),
+    }
+}
+
+// The subgoal `\x:bool. p` of p.
+fn to_a_predicate(alloc: Global, formula: &Term) -> Result<Step, Fault> {
+    let variable = Term::mk_var(alloc, "x", formula.ty())?;
+    let mut goals = Vec::new(alloc);
+    goals.push(Goal {
+        asms: Vec::new(alloc),
+        concl: Term::mk_abs(alloc, &variable, formula)?,
+    })?;
+    let just = sub(alloc, 0)?;
+    Ok(Step { goals, just })
+}
+
+// `T`, by the first conjunct of CONJ of a part with itself, 999 times.
+fn doubled(alloc: Global) -> Result<Just, Fault> {
+    let both = step(alloc, Rule::Conj, &[sub(alloc, 0)?, sub(alloc, 0)?])?;
+    let first = step(alloc, Rule::Conjunct1, &[both])?;
+    repeated(alloc, &first, named(alloc, "TRUTH")?)
+}
+
+// `T`, by EQT_INTRO and EQT_ELIM, 1,000 times each.
+fn towering(alloc: Global) -> Result<Just, Fault> {
+    let eliminated = step(alloc, Rule::EqtElim, &[sub(alloc, 0)?])?;
+    let introduced = step(alloc, Rule::EqtIntro, &[eliminated])?;
+    let equation = step(alloc, Rule::EqtIntro, &[named(alloc, "TRUTH")?])?;
+    let made = repeated(alloc, &introduced, equation)?;
+    step(alloc, Rule::EqtElim, &[made])
+}
+
+// 999 layers over a justification, 37 of them in one.
+fn repeated(alloc: Global, layer: &Just, inmost: Just) -> Result<Just, Fault> {
+    let mut block = sub(alloc, 0)?;
+    for _ in 0..37 {
+        block = around(alloc, layer, block)?;
+    }
+    let mut made = inmost;
+    for _ in 0..27 {
+        made = around(alloc, &block, made)?;
+    }
+    Ok(made)
+}
+
+// A layer over a justification, which stands in it once.
+fn around(alloc: Global, layer: &Just, just: Just) -> Result<Just, Fault> {
+    let part = Step {
+        goals: Vec::new(alloc),
+        just,
+    };
+    splice(alloc, layer, &[part])
+}
+
+/// The term itself, by a theorem that is no equation of the two.
+pub(crate) fn wrong(alloc: Global, term: &Term) -> Result<(Term, Just), HostFail> {
+    match (term.copy(alloc), named(alloc, "TRUTH")) {
+        (Ok(term), Ok(just)) => Ok((term, just)),
+        _ => Err(HostFail),
+    }
+}
+
+/// `T`, by the theorem that the formula equals itself.
+pub(crate) fn twisted(alloc: Global, term: &Term) -> Result<(Term, Just), HostFail> {
+    converted(reflexive(alloc, term))
+}
+
+/// `T`, by the assumption that the formula equals it.
+pub(crate) fn guess(alloc: Global, term: &Term) -> Result<(Term, Just), HostFail> {
+    converted(supposed(alloc, term))
+}
+
+fn converted(made: Result<(Term, Just), Fault>) -> Result<(Term, Just), HostFail> {
+    match made {
+        Ok(equal) => Ok(equal),
+        Err(_) => Err(HostFail),
+    }
+}
+
+fn reflexive(alloc: Global, formula: &Term) -> Result<(Term, Just), Fault> {
+    let just = step(alloc, Rule::Refl(formula.copy(alloc)?), &[])?;
+    Ok((truth(alloc, formula)?, just))
+}
+
+fn supposed(alloc: Global, formula: &Term) -> Result<(Term, Just), Fault> {
+    let truth = truth(alloc, formula)?;
+    let equation = mk_eq(alloc, formula, &truth)?;
+    let just = step(alloc, Rule::Assume(equation), &[])?;
+    Ok((truth, just))
+}
+
+// `T`, of the type of a formula.
+fn truth(alloc: Global, formula: &Term) -> Result<Term, Fault> {
+    Term::mk_const(alloc, "T", formula.ty())
+}
