@@ -8,3 +8,4 @@ pub mod Chaining
 pub mod Parting
 pub mod Arms
 pub mod Trying
+pub mod RulesBefore

@@ -2,4 +2,4 @@ pub mod Leaves
 pub mod Answers
 pub mod Chains
 pub mod Parts
-pub mod Rules
+pub mod Prepares

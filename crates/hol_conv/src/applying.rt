@@ -8,11 +8,14 @@ ghost use Rattle.hol_derivations.specs.Derivations.{AreMade, theorems};
 ghost use Rattle.hol_rewrite.specs.RuleSides.{AreEquations};
 ghost use Rattle.hol_library.specs.Library.{IsLibrary};
 ghost use Rattle.hol_conv_rules.specs.Makes.{Makes};
+ghost use Rattle.hol_conv_rules.specs.Prepared.{ArePrepared};
 ghost use Rattle.hol_conv.specs.Answers.{ConvertsOver};
 
 use crate::by_rules::ByRules;
 use crate::converting::convert;
 use crate::over_host::OverHost;
+use crate::preparing::prepare;
+use hol_conv_rules::NamedRules;
 use hol_exprs::{Conv, Fuel, Prefix};
 use hol_host::Converters;
 use hol_journal::Rec;
@@ -25,7 +28,8 @@ use std::alloc::Global;
 /// What the conversion proves of a known term, an equation of it: an answer that it may have, with the steps that it leaves
 /// (hol_model, Conversions; HOL Light's equal.ml). A host's conversions may be called, and what they answer is replayed.
 ///
-/// Each conversion without parts spends a step before anything else. Refused for the first refusal that is not caught:
+/// Each conversion without parts spends a step before anything else. The rules of theorems that it names are made before
+/// that, once for all places. Refused for the first refusal that is not caught:
 /// StepLimit where no step is left; ConvFails of NO_CONV, of BETA_CONV where there is no redex, of a host's conversion that
 /// fails, of a part that the term does not have, of ABS_CONV where its variable is free in a hypothesis; UnknownName where no
 /// theorem or conversion has the name; NoMatch where no rule of REWR_CONV's theorem applies; InvalidStep where a host's
@@ -45,7 +49,28 @@ pub fn apply<H: Converters>(
     ensures outcome { ConvertsOver library.old (H.conversions hosts.now) 0 fuel.old.left (conversion_of conv.now) t.now result fuel.new.left }
     ensures makes { Makes library.old library.new result }
 {
-    let leaves = OverHost { hosts };
+    let mut prepared = Vec::new(alloc);
+    prepare(library, alloc, conv, &mut prepared);
+    apply_prepared(library, alloc, hosts, &prepared, conv, t, fuel)
+}
+
+// The same, where the rules of some names are there.
+fn apply_prepared<H: Converters>(
+    library: &mut Library,
+    alloc: Global,
+    hosts: &H,
+    prepared: &[NamedRules],
+    conv: &Conv,
+    t: &Term,
+    fuel: &mut Fuel,
+) -> Result<Rec, Fault>
+    requires library { IsLibrary library.old }
+    requires prepared { ArePrepared library.old prepared.now }
+    requires known { is_known library.old.recorder.theory t.now ≡ true }
+    ensures outcome { ConvertsOver library.old (H.conversions hosts.now) 0 fuel.old.left (conversion_of conv.now) t.now result fuel.new.left }
+    ensures makes { Makes library.old library.new result }
+{
+    let leaves = OverHost { hosts, prepared };
     convert(library, alloc, &leaves, conv, t, 0, fuel)
 }
 

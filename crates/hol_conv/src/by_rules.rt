@@ -22,7 +22,7 @@ pub(crate) struct ByRules<'a, H> {
 impl<'a, H: Converters> Leaves for ByRules<'a, H> {
     ghost use Rattle.hol_model.specs.Refining.Conversions as conversions;
     ghost use Rattle.hol_derivations.specs.Derivations.{theorems};
-    ghost use Rattle.hol_conv.specs.Rules.{AreReady, stay-ready};
+    ghost use Rattle.hol_conv_rules.specs.Prepared.{AreReady, stay-ready};
 
     ghost means = { λ leaves conversion. conversions.rules_conv (theorems leaves.rules.now) };
 

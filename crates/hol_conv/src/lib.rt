@@ -10,6 +10,7 @@ mod joining;
 mod leaves;
 mod over_host;
 mod parts;
+mod preparing;
 
 pub use applying::{apply, rewrite};
 pub use converting::convert;

@@ -5,11 +5,13 @@ ghost use Rattle.hol_exprs.specs.Expressions.{conversion_of};
 ghost use Rattle.hol_journal.specs.Journal.{theorem_in};
 ghost use Rattle.hol_library.specs.Library.{IsLibrary, store_in};
 ghost use Rattle.hol_conv_rules.specs.Makes.{Makes};
-ghost use Rattle.hol_conv_rules.specs.OneStep.{ConvertsInStep};
+ghost use Rattle.hol_conv_rules.specs.OneStep.{ConvertsInStep, RewritesByName};
+ghost use Rattle.hol_conv_rules.specs.Prepared.{ArePrepared};
 ghost use Rattle.hol_conv.specs.Leaves.{IsLeaf};
 
 use crate::leaves::Leaves;
-use hol_conv_rules::{beta_conv, host_conv, refl, rewr_conv};
+use crate::preparing::prepared_for;
+use hol_conv_rules::{NamedRules, beta_conv, host_conv, prepared_rewr_conv, refl, rewr_conv};
 use hol_exprs::{Conv, Fuel};
 use hol_host::Converters;
 use hol_journal::Rec;
@@ -18,18 +20,21 @@ use hol_model::Fault;
 use hol_terms::Term;
 use std::alloc::Global;
 
-/// The conversions without parts, each as itself, over a host's conversions.
+/// The conversions without parts, each as itself, over a host's conversions. The rules of some names are there.
 #[derive(Drop)]
 pub(crate) struct OverHost<'a, H> {
     pub(crate) hosts: &'a H,
+    pub(crate) prepared: &'a [NamedRules],
 }
 
 impl<'a, H: Converters> Leaves for OverHost<'a, H> {
+    ghost use Rattle.hol_conv_rules.specs.Prepared.{ArePrepared, stay-prepared};
+
     ghost means = { λ leaves conversion. conversion };
 
     ghost hosts = { λ leaves. H.conversions leaves.hosts.now };
 
-    ghost is_ready = { λ leaves library. Unit {0} };
+    ghost is_ready = { λ leaves library. ArePrepared library leaves.prepared.now };
 
     fn try_leaf(
         &self,
@@ -42,10 +47,30 @@ impl<'a, H: Converters> Leaves for OverHost<'a, H> {
         if !fuel.spend() {
             return Err(Fault::StepLimit);
         }
-        one_step(library, alloc, self.hosts, leaf, t)
+        one_step(library, alloc, self.hosts, self.prepared, leaf, t)
     }
 
-    ghost stays_ready = { λ leaves old new continued ready. ready };
+    ghost stays_ready = { λ leaves old new continued ready. stay-prepared leaves.prepared.now old new continued ready };
+}
+
+// REWR_CONV, by the rules that are there, or those made now.
+fn rewritten(
+    library: &mut Library,
+    alloc: Global,
+    prepared: &[NamedRules],
+    name: &str,
+    t: &Term,
+) -> Result<Rec, Fault>
+    requires library { IsLibrary library.old }
+    requires prepared { ArePrepared library.old prepared.now }
+    requires known { is_known library.old.recorder.theory t.now ≡ true }
+    ensures makes { Makes library.old library.new result }
+    ensures rewrites { RewritesByName (store_in library.old) name.now t.now (theorem_in result) }
+{
+    match prepared_for(prepared, name) {
+        Some(named) => prepared_rewr_conv(library, alloc, named, t),
+        None => rewr_conv(library, alloc, name, t),
+    }
 }
 
 // What a conversion without parts answers for a step.
@@ -53,11 +78,13 @@ fn one_step<H: Converters>(
     library: &mut Library,
     alloc: Global,
     hosts: &H,
+    prepared: &[NamedRules],
     leaf: &Conv,
     t: &Term,
 ) -> Result<Rec, Fault>
     requires leaf { IsLeaf leaf.now }
     requires library { IsLibrary library.old }
+    requires prepared { ArePrepared library.old prepared.now }
     requires known { is_known library.old.recorder.theory t.now ≡ true }
     ensures converts { ConvertsInStep library.old.recorder.theory (store_in library.old) (H.conversions hosts.now) (conversion_of leaf.now) t.now (theorem_in result) }
     ensures makes { Makes library.old library.new result }
@@ -66,7 +93,7 @@ fn one_step<H: Converters>(
         Conv::All => refl(library, alloc, t),
         Conv::No => Err(Fault::ConvFails),
         Conv::Beta => beta_conv(library, alloc, t),
-        Conv::Rewr(name) => rewr_conv(library, alloc, name, t),
+        Conv::Rewr(name) => rewritten(library, alloc, prepared, name, t),
         Conv::Host(name) => host_conv(library, alloc, hosts, name, t),
         Conv::Then(_, _) | Conv::OrElse(_, _) | Conv::Prefixed(_, _) => unreachable!(),
     }

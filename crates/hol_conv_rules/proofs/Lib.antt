@@ -2,4 +2,5 @@ pub mod Making
 pub mod Joining
 pub mod RightSides
 pub mod Converting
+pub mod Preparing
 pub mod HostEquations

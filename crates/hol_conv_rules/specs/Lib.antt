@@ -1,3 +1,4 @@
 pub mod Makes
 pub mod OneStep
+pub mod Prepared
 pub mod HostAnswers

@@ -11,15 +11,13 @@ ghost use Rattle.hol_model.specs.Terms.Nameless.{image};
 ghost use Rattle.hol_journal.specs.Journal.{theorem_in};
 ghost use Rattle.hol_derivations.specs.Derivations.{AreMade, theorems};
 ghost use Rattle.hol_rewrite.specs.RuleSides.{AreEquations, sides_of_rules};
-ghost use Rattle.hol_library.specs.Library.{IsLibrary, store_in};
+ghost use Rattle.hol_library.specs.Library.{IsLibrary};
 ghost use Rattle.hol_conv_rules.specs.Makes.{Makes};
-ghost use Rattle.hol_conv_rules.specs.OneStep.{RewritesByName};
 
 use hol_journal::Rec;
 use hol_library::Library;
 use hol_model::Fault;
-use hol_rewrite::{Choice, choice_of, rewrite_at};
-use hol_rules::rules_of;
+use hol_rewrite::{Choice, rewrite_at};
 use hol_terms::{Parts, Term};
 use std::alloc::Global;
 
@@ -67,32 +65,4 @@ pub fn rules_conv(
     ensures rewrites { Rewrites (theorems rules.now) term.now (theorem_in result) ⊎ (theorem_in result ≡ Err Memory) }
 {
     rewrite_at(&mut library.recorder, alloc, rules, choice, term)
-}
-
-/// REWR_CONV: rewriting by the rules of a stored theorem, of the term and not of its parts. Refused, in this order: no
-/// theorem has the name (`UnknownName`); as `rules_of`; as `rewrite_at`.
-pub fn rewr_conv(
-    library: &mut Library,
-    alloc: Global,
-    name: &str,
-    term: &Term,
-) -> Result<Rec, Fault>
-    requires library { IsLibrary library.old }
-    requires known { is_known library.old.recorder.theory term.now ≡ true }
-    ensures makes { Makes library.old library.new result }
-    ensures rewrites { RewritesByName (store_in library.old) name.now term.now (theorem_in result) }
-{
-    let theorem = match library.store.get(name) {
-        Some(theorem) => theorem,
-        None => return Err(Fault::UnknownName),
-    };
-    let rules = match rules_of(&mut library.recorder, alloc, &library.logic, theorem) {
-        Ok(rules) => rules,
-        Err(fault) => return Err(fault),
-    };
-    let choice = match choice_of(alloc, &rules) {
-        Ok(choice) => choice,
-        Err(fault) => return Err(fault),
-    };
-    rules_conv(library, alloc, &rules, &choice, term)
 }

@@ -5,7 +5,9 @@
 mod conversions;
 mod hosts;
 mod joins;
+mod prepared;
 
-pub use conversions::{beta_conv, rewr_conv, rules_conv};
+pub use conversions::{beta_conv, rules_conv};
 pub use hosts::host_conv;
 pub use joins::{abs, ap_term, ap_thm, if_changed, mk_comb, refl, right_side, trans};
+pub use prepared::{NamedRules, prepared_rewr_conv, rewr_conv, rules_named};

@@ -100,6 +100,16 @@ fn reaches_the_greatest_depth(alloc: Global) -> Result<bool, Fault> {
     Ok(JUSTIFICATION_DEPTH_LIMIT == 2000 && deepest.steps() == 2000 && spliced.steps() == 2000)
 }
 
+// One rule more, or one part deeper, is too much.
+fn refuses_a_greater_depth(alloc: Global) -> Result<bool, Fault> {
+    let deepest = step_to(alloc, 1, chain(alloc, 1999)?)?;
+    let upper = chain(alloc, 1)?;
+    Ok(
+        matches!(chain(alloc, 2000), Err(Fault::TooLarge))
+            && matches!(splice(alloc, &upper, &[deepest]), Err(Fault::TooLarge)),
+    )
+}
+
 // Subgoals 0 and 1 by parts of two and of three subgoals; subgoal 4 comes behind their five.
 fn splices_in_order(alloc: Global) -> Result<bool, Fault> {
     let both = [conjunction(alloc, 1, 0)?, sub(alloc, 4)?];
@@ -150,6 +160,7 @@ fn tests_the_numbers_of_subgoals(alloc: Global) -> Result<bool, Fault> {
 fn justifications_are_made(rt: HostRuntime) {
     assert!(rt; makes_lines(rt.alloc()) == Ok(true));
     assert!(rt; reaches_the_greatest_depth(rt.alloc()) == Ok(true));
+    assert!(rt; refuses_a_greater_depth(rt.alloc()) == Ok(true));
 }
 
 #[test]

@@ -7,11 +7,12 @@ use hol_script::run;
 use std::process::ExitCode;
 use std::{fs, io};
 
-const SCRIPTS: [&str; 8] = [
+const SCRIPTS: [&str; 9] = [
     "first.hol",
     "rules.hol",
     "goals.hol",
     "quantifiers.hol",
+    "cases.hol",
     "definition.hol",
     "rewriting.hol",
     "tautologies.hol",

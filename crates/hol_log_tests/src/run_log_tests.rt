@@ -245,3 +245,85 @@ fn claims_high_negations(rt: HostRuntime) -> Result<(), Fail> {
     assert!(rt; has_claims(alloc, &script, 2)?);
     Ok(())
 }
+
+// The pieces, with the text between them.
+fn joined(alloc: Global, pieces: &[&[u8]], between: &[u8]) -> Result<Vec<u8>, Fault> {
+    let mut whole = Vec::new(alloc);
+    let mut is_first = true;
+    for piece in pieces {
+        if !is_first {
+            whole.extend_from_slice(between)?;
+        }
+        whole.extend_from_slice(piece)?;
+        is_first = false;
+    }
+    Ok(whole)
+}
+
+// So many times the first text, a variable, and so many times the second text.
+fn under(alloc: Global, first: &[u8], times: usize, second: &[u8]) -> Result<Vec<u8>, Fault> {
+    let mut whole = Vec::new(alloc);
+    for _ in 0..times {
+        whole.extend_from_slice(first)?;
+    }
+    whole.extend_from_slice(b"(p:bool)")?;
+    for _ in 0..times {
+        whole.extend_from_slice(second)?;
+    }
+    Ok(whole)
+}
+
+// Whether a formula under so many negations is assumed, discharged, proved as a tautology and by refiners, with a log that
+// claims the four theorems.
+fn proves_of_negations(alloc: Global, times: usize) -> Result<bool, Fault> {
+    let formula = under(alloc, b"~", times, b"")?;
+    let commands: [&[u8]; 7] = [
+        b"thm a = ASSUME `",
+        b"` ;; thm d = DISCH `",
+        b"` a ;; thm u = TAUT `",
+        b" ==> ",
+        b"` ;; goal `",
+        b" ==> ",
+        b"` ;; e DISCH_TAC THEN ASSUMPTION_TAC ;; save w ;;",
+    ];
+    let script = joined(alloc, &commands, &formula)?;
+    let mut log = Kept::new(alloc);
+    let summary = run(
+        alloc,
+        &mut FromRead::new(script.as_slice()),
+        &mut IntoWrite::new(Vec::new(alloc)),
+        &mut log,
+        true,
+        &NoHost,
+    )?;
+    let nameless = under(alloc, b"([~:bool->bool] ", times, b")")?;
+    let lines: [&[u8]; 9] = [
+        b"a: ",
+        b" |- ",
+        b"\nd: |- (([==>:bool->bool->bool] ",
+        b") ",
+        b")\nu: |- (([==>:bool->bool->bool] ",
+        b") ",
+        b")\nw: |- (([==>:bool->bool->bool] ",
+        b") ",
+        b")\n",
+    ];
+    let expected = joined(alloc, &lines, &nameless)?;
+    let claims = check(alloc, &mut FromRead::new(log.bytes.as_slice()))?;
+    let mut written = Kept::new(alloc);
+    write_claims(alloc, claims.as_slice(), &mut written)?;
+    Ok(
+        summary.accepted == 6
+            && summary.refused == 0
+            && summary.printed == 4
+            && written.bytes.as_slice() == expected.as_slice(),
+    )
+}
+
+#[test]
+fn ample_memory_is_enough(rt: HostRuntime) -> Result<(), Fail> {
+    for times in 0..100 {
+        assert!(rt; proves_of_negations(rt.alloc(), times)?);
+    }
+    Ok(())
+}

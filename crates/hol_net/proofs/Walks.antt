@@ -1,7 +1,6 @@
 -- What the walks over a tree's nodes collect.
-use Rattle.std.proofs.Common.{◌≡◌, ◌⊎◌, inl, inr, ℕ, zero, suc, ◌+◌, ◌<◌, ◌≤◌, List, [], ◌∷◌, ◌++◌, Bool, true, false, ◌&&◌, refl, sym, ◌∙◌, ap, subst}
-use Rattle.std.proofs.Common.{Option, Some, None, arith, length, drop, get_or, append_assoc, add-one, if◌then◌else◌}
-use Rattle.std.proofs.Math.Seq.{drop-cons}
+use Rattle.std.proofs.Common.{◌≡◌, inl, inr, ℕ, zero, suc, ◌+◌, ◌≤◌, List, [], ◌∷◌, ◌++◌, true, refl, sym, ◌∙◌, ap, subst}
+use Rattle.std.proofs.Common.{Option, Some, None, arith, length, append_assoc}
 use Rattle.std.proofs.lemmas.List.{append-nil}
 use Rattle.std.specs.Option.{option_and_then}
 use Rattle.std.specs.Prelude.{nat_eq}
@@ -17,18 +16,6 @@ use Rattle.hol_model.specs.Rewrites.Matching.{fits}
 use Rattle.hol_net.specs.declared.tree.Symbol.{Symbol}
 use Rattle.hol_net.specs.declared.tree.Symbol.TheVariants.{Variable, Combination, Abstraction}
 use Rattle.hol_net.specs.Tree.{Steps, Symbols, step_by, with_node, children, nodes_after, node_after, places_at, all_places}
-
--- one more node of a walk
-
-pub children_step : (steps : Steps) (symbol : Option Symbol) (nodes : List ℕ) (index node : ℕ) (found all : List ℕ) → index < length nodes → node ≡ get_or nodes index 0
-    → found ++ children steps symbol (drop index nodes) ≡ all → found ++ with_node (step_by steps node symbol) (children steps symbol (drop (index + 1) nodes)) ≡ all
-children_step steps symbol nodes index node found all within is before =
-    rw (is, add-one) (ap (λ rest. found ++ children steps symbol rest) (sym (drop-cons nodes index 0 within)) ∙ before)
-
-pub places_step : (ends : List (Vec ℕ Global)) (nodes : List ℕ) (index node : ℕ) (found all : List ℕ) → index < length nodes → node ≡ get_or nodes index 0
-    → found ++ all_places ends (drop index nodes) ≡ all → (found ++ places_at ends node) ++ all_places ends (drop (index + 1) nodes) ≡ all
-places_step ends nodes index node found all within is before =
-    rw (append_assoc, is, add-one) (ap (λ rest. found ++ all_places ends rest) (sym (drop-cons nodes index 0 within)) ∙ before)
 
 -- no pattern leads from no node
 pub none_after : (steps : Steps) (symbols : Symbols) (term : NamedTerm) → nodes_after steps symbols [] term ≡ []

@@ -1,6 +1,5 @@
 // A net of patterns: a list, and a tree that leads to the places of those that may fit.
-ghost use Rattle.std.specs.Prelude.{◌≡◌, [], ◌∷◌, ◌++◌, IfOk, IfErr, OnOk, OnErr, filter, slice_get};
-ghost use Rattle.std.specs.Option.{option_map_or};
+ghost use Rattle.std.specs.Prelude.{◌≡◌, [], ◌∷◌, ◌++◌, IfOk, IfErr, OnOk, OnErr, filter};
 ghost use Rattle.hol_model.specs.declared.fault.Fault.TheVariants.{Memory};
 ghost use Rattle.hol_model.specs.Rewrites.Matching.{fits};
 ghost use Rattle.hol_net.specs.Net.{IsNet};

@@ -1,6 +1,5 @@
 // A discrimination tree: where patterns end, by the way that their symbols lead.
-ghost use Rattle.std.specs.Prelude.{◌≡◌, ◌<◌, ℕ, ◌++◌, Some, None, IfOk, IfErr, OnOk, length};
-ghost use Rattle.std.specs.Option.{option_map};
+ghost use Rattle.std.specs.Prelude.{◌≡◌, ◌<◌, ◌++◌, Some, None, IfOk, IfErr, OnOk, length};
 ghost use Rattle.hol_model.specs.Logic.Derivable.{IsMember};
 ghost use Rattle.hol_model.specs.declared.fault.Fault.TheVariants.{Memory};
 ghost use Rattle.hol_net.specs.Tree as spec;

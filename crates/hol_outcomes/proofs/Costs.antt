@@ -10,9 +10,9 @@ use Rattle.hol_model.specs.Goals.ValidSteps.{Step}
 use Rattle.hol_model.specs.Goals.Replays.{Store}
 use Rattle.hol_model.specs.Refining.HostFunctions.{Host, HostConversions}
 use Rattle.hol_model.specs.Refining.Conversions as conv
-use Rattle.hol_model.specs.Refining.Conversions.{Conversion, Conversions, Converts, ConvertsOn}
+use Rattle.hol_model.specs.Refining.Conversions.{Conversion, Converts}
 use Rattle.hol_model.specs.Refining.Combinators as tac
-use Rattle.hol_model.specs.Refining.Combinators.{Tactic, Links, Stage, at, Runs, RunsOn, RunsEach}
+use Rattle.hol_model.specs.Refining.Combinators.{Tactic, Stage, Runs}
 use Rattle.hol_outcomes.specs.Laws.{CostsStep}
 use Rattle.hol_outcomes.proofs.Spending.{converts-spends, converts_on-spends}
 use Rattle.hol_outcomes.proofs.Later.{runs-later, runs_on-later}

@@ -28,8 +28,9 @@ use Rattle.hol_model.specs.Refining.HostFunctions.{Host, HostConversions, IsAcce
 use Rattle.hol_model.specs.Refining.Conversions as conv
 use Rattle.hol_model.specs.Refining.Refiners.{StatedGoal, AreGoals, all_tac, refl_tac, from_first, from_second, two_parts, table, toward}
 use Rattle.hol_model.specs.Refining.Combinators as tac
-use Rattle.hol_model.specs.Refining.Combinators.{Tactic, leaf, Stage, at, Runs, RunsOn, RunsEach, on_all}
-use Rattle.hol_outcomes.specs.Examples.{goal_of, all_then_all, TwoSteps, OneForTwoIsRefused, ListIsNotRun, FourStepsAtLeaf, LiarIsRefused, HostIsHeard, SecondIsTooLarge, BodyIsKept, ExamplesRun}
+use Rattle.hol_model.specs.Refining.Combinators.{leaf, Stage, at, Runs, RunsOn, RunsEach, on_all}
+use Rattle.hol_model.specs.Goals.GoalStates.{goal_of}
+use Rattle.hol_outcomes.specs.Examples.{all_then_all, TwoSteps, OneForTwoIsRefused, ListIsNotRun, FourStepsAtLeaf, LiarIsRefused, HostIsHeard, SecondIsTooLarge, BodyIsKept, ExamplesRun}
 use Rattle.hol_outcomes.proofs.Costs.{runs-costs}
 
 -- ---- ALL_TAC THEN ALL_TAC

@@ -67,9 +67,6 @@ without_last term h k included x member = go (of_append x k (term ∷ []) (inclu
     go (inr (inl same)) = let other : same_term x term ≡ false = differs x term h member in let is : same_term x term ≡ true = (same_term-Decides x term).1 same in cc
     go (inr (inr member)) = absurd member
 
-pub without_fewer : (term : Nameless) (h k : List Nameless) → Includes h k → Includes (without term h) k
-without_fewer term h k included x member = included x (of_without x term h member)
-
 same_term-self : (t : Nameless) → same_term t t ≡ true
 same_term-self t = (same_term-Decides t t).1 refl
 

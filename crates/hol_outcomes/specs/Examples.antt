@@ -14,18 +14,15 @@ use Rattle.hol_model.specs.Kernel.Rules.{dest_equation, is_formula, refl_outcome
 use Rattle.hol_model.specs.Derived.DerivedRules.{IsConclusion}
 use Rattle.hol_model.specs.Rewrites.RenamedBody.{renamed_body}
 use Rattle.hol_model.specs.Goals.Goals.{Goal}
+use Rattle.hol_model.specs.Goals.GoalStates.{goal_of}
 use Rattle.hol_model.specs.Derived.InferenceRules.{rule_contr, rule_assume}
 use Rattle.hol_model.specs.Goals.Justifications as tree
 use Rattle.hol_model.specs.Goals.ValidSteps.{Step}
 use Rattle.hol_model.specs.Goals.Replays.{Store, has_room_for_step}
 use Rattle.hol_model.specs.Refining.HostFunctions.{Host, IsAcceptable, HostConversions}
 use Rattle.hol_model.specs.Refining.Conversions.{Converts, rules_conv, top_depth_conv}
-use Rattle.hol_model.specs.Refining.Refiners.{all_tac, no_tac, refl_tac, conj_tac, eq_tac, table}
+use Rattle.hol_model.specs.Refining.Refiners.{Leaf, all_tac, no_tac, refl_tac, conj_tac, eq_tac, table}
 use Rattle.hol_model.specs.Refining.Combinators.{Tactic, leaf, host_tac, chain, one_link, one_more, then_all, then_each, Stage, at, Runs}
-
--- a term to be proved, from nothing
-abbrev pub goal_of : NamedTerm → Goal
-goal_of term = record { assumptions = []; target = term }
 
 -- ALL_TAC THEN ALL_TAC
 abbrev pub all_then_all : Tactic
@@ -36,18 +33,22 @@ pub record TwoSteps (theory : Theory) (host : Host) (store : Store) (term : Name
   pub suffice : (step : Step) × (step.goals ≡ goal_of term ∷ []) × Runs theory host (at store 2) all_then_all (goal_of term) (Ok step) (at store 0)
   pub are_needed : (step : Step) (after : Stage) → ¬ (Runs theory host (at store 1) all_then_all (goal_of term) (Ok step) after)
 
+-- FIRST THENL [ONE]
+abbrev pub then_one : Leaf → Leaf → Tactic
+then_one first one = chain (leaf first) (one_link (then_each (one_more (leaf one))))
+
 -- one refiner for the two subgoals of a conjunction
 abbrev pub OneForTwoIsRefused : Host → Type 0
 OneForTwoIsRefused host =
     (theory : Theory) (store : Store) (left : ℕ)
-    → Runs theory host (at store (suc left)) (chain (leaf conj_tac) (one_link (then_each (one_more (leaf all_tac))))) (goal_of (conjunction true_term true_term)) (Err LengthMismatch) (at store left)
+    → Runs theory host (at store (suc left)) (then_one conj_tac all_tac) (goal_of (conjunction true_term true_term)) (Err LengthMismatch) (at store left)
 
 -- where no subgoal is left the list is not run
 abbrev pub ListIsNotRun : Host → Type 0
 ListIsNotRun host =
     (theory : Theory) (store : Store) (left : ℕ) (name : List ℕ) (ty : HolType)
     → (step : Step) × (step.goals ≡ [])
-    × Runs theory host (at store (suc left)) (chain (leaf refl_tac) (one_link (then_each (one_more (leaf no_tac))))) (goal_of (equation (variable name ty) (variable name ty))) (Ok step) (at store left)
+    × Runs theory host (at store (suc left)) (then_one refl_tac no_tac) (goal_of (equation (variable name ty) (variable name ty))) (Ok step) (at store left)
 
 -- TOP_DEPTH_CONV at a variable that no rule rewrites: one step for the place, one for the end of REPEATC, one for the variable,
 -- one for what stays

@@ -71,6 +71,9 @@ impl Innermost {
         ensures { (bindings : Bindings) → IsInnermost self.now bindings
             → option_map (λ ty. ty.now) result ≡ bound_type bindings name.now }
     {
+        if self.types.is_empty() {
+            return None;
+        }
         self.types.get(name)
     }
 

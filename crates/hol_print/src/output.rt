@@ -24,11 +24,7 @@ pub fn open(out: &mut String, wanted: bool) -> Result<(), Fault>
     ensures ok { OnOk result (Appends (string_bytes out.old) (string_bytes out.new) (opening wanted)) }
     ensures err { IfErr result (λ fault. fault ≡ Memory) }
 {
-    if wanted {
-        append(out, "(")
-    } else {
-        append(out, "")
-    }
+    if wanted { append(out, "(") } else { Ok(()) }
 }
 
 /// Closes a parenthesis, where it is wanted.
@@ -36,11 +32,7 @@ pub fn close(out: &mut String, wanted: bool) -> Result<(), Fault>
     ensures ok { OnOk result (Appends (string_bytes out.old) (string_bytes out.new) (closing wanted)) }
     ensures err { IfErr result (λ fault. fault ≡ Memory) }
 {
-    if wanted {
-        append(out, ")")
-    } else {
-        append(out, "")
-    }
+    if wanted { append(out, ")") } else { Ok(()) }
 }
 
 /// Prints a type; on the left of an arrow a function type is in parentheses.

@@ -281,5 +281,3 @@ pub room-refused : {theory : Theory} {rule : InferenceRule} {premises : List The
 room-refused {theory} {rule} {premises} {result} is = rw is (record { finds = λ room. λ large. cc })
 
 pub ruleset kernel_rooms = (room-refl, room-assume, room-beta, room-trans, room-mk_comb, room-eq_mp, room-deduct_antisym, room-abs)
-
-pub ruleset refused_rooms = (room-refused)

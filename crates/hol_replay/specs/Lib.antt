@@ -1,5 +1,6 @@
 pub mod Named
 pub mod Room
+pub mod Outcomes
 pub mod Lines
 pub mod Achieving
 pub mod Accepting

@@ -1,13 +1,13 @@
 // A rule of inference on theorems.
-ghost use Rattle.std.specs.Prelude.{◌≡◌, ◌<◌, [], ◌∷◌, length, slice_get, Some, Err};
+ghost use Rattle.std.specs.Prelude.{◌≡◌, ◌<◌, [], ◌∷◌, length, Err};
 ghost use Rattle.hol_model.specs.declared.fault.Fault.TheVariants.{InvalidStep};
 ghost use Rattle.hol_journal.specs.Journal.{IsMade, theorem_in};
-ghost use Rattle.hol_derivations.specs.Derivations.{AreMade, theorems};
 ghost use Rattle.hol_prelude.specs.HasLogic.{HasLogic};
 ghost use Rattle.hol_equal.specs.Sequents.{Continues};
 ghost use Rattle.hol_equal.specs.Inferred.{Infers};
 ghost use Rattle.hol_just.specs.Rules.{rule_of};
 ghost use Rattle.hol_replay.specs.Room.{FindsRoom};
+ghost use Rattle.hol_replay.specs.Outcomes.{AnswersBy, AreLent, lent_theorems};
 
 use crate::primitive;
 use hol_bool::{
@@ -33,16 +33,12 @@ fn refuse(recorder: &mut Recorder) -> Result<Rec, Fault>
 
 // A rule without premises. Here and below a term's type and a premise's conclusion are read for what is known of them.
 #[tactic(auto, using(crate::proofs::DerivedRooms::equality_rooms))]
-pub(crate) fn on_none(
-    recorder: &mut Recorder,
-    alloc: Global,
-    logic: &Bool,
-    rule: &Rule,
-) -> Result<Rec, Fault>
+fn on_none(recorder: &mut Recorder, alloc: Global, logic: &Bool, rule: &Rule) -> Result<Rec, Fault>
     requires logic { HasLogic recorder.old logic.now }
     ensures continues { Continues recorder.old recorder.new result }
     ensures inferred { Infers recorder.old.theory (rule_of rule.now) [] (theorem_in result) }
     ensures room { FindsRoom recorder.old.theory (rule_of rule.now) [] (theorem_in result) }
+    ensures outcome { AnswersBy recorder.old.theory (rule_of rule.now) [] (theorem_in result) }
 {
     match rule {
         Rule::Refl(t) => primitive::refl(recorder, alloc, t),
@@ -60,7 +56,7 @@ pub(crate) fn on_none(
 
 // A rule of one premise.
 #[tactic(auto, using(crate::proofs::DerivedRooms::connective_rooms, crate::proofs::QuantifierRooms::quantifier_rooms))]
-pub(crate) fn on_one(
+fn on_one(
     recorder: &mut Recorder,
     alloc: Global,
     logic: &Bool,
@@ -72,6 +68,7 @@ pub(crate) fn on_one(
     ensures continues { Continues recorder.old recorder.new result }
     ensures inferred { Infers recorder.old.theory (rule_of rule.now) (premise.now.theorem ∷ []) (theorem_in result) }
     ensures room { FindsRoom recorder.old.theory (rule_of rule.now) (premise.now.theorem ∷ []) (theorem_in result) }
+    ensures outcome { AnswersBy recorder.old.theory (rule_of rule.now) (premise.now.theorem ∷ []) (theorem_in result) }
 {
     let _premise = conclusion_of(recorder, premise);
     match rule {
@@ -122,7 +119,7 @@ pub(crate) fn on_one(
 
 // A rule of two premises.
 #[tactic(auto, using(crate::proofs::DerivedRooms::connective_rooms, crate::proofs::QuantifierRooms::quantifier_rooms))]
-pub(crate) fn on_two(
+fn on_two(
     recorder: &mut Recorder,
     alloc: Global,
     logic: &Bool,
@@ -136,6 +133,7 @@ pub(crate) fn on_two(
     ensures continues { Continues recorder.old recorder.new result }
     ensures inferred { Infers recorder.old.theory (rule_of rule.now) (first.now.theorem ∷ second.now.theorem ∷ []) (theorem_in result) }
     ensures room { FindsRoom recorder.old.theory (rule_of rule.now) (first.now.theorem ∷ second.now.theorem ∷ []) (theorem_in result) }
+    ensures outcome { AnswersBy recorder.old.theory (rule_of rule.now) (first.now.theorem ∷ second.now.theorem ∷ []) (theorem_in result) }
 {
     let _first = conclusion_of(recorder, first);
     match rule {
@@ -153,7 +151,7 @@ pub(crate) fn on_two(
 
 // A rule of three premises.
 #[tactic(auto, using(crate::proofs::DerivedRooms::connective_rooms))]
-pub(crate) fn on_three(
+fn on_three(
     recorder: &mut Recorder,
     alloc: Global,
     logic: &Bool,
@@ -169,6 +167,7 @@ pub(crate) fn on_three(
     ensures continues { Continues recorder.old recorder.new result }
     ensures inferred { Infers recorder.old.theory (rule_of rule.now) (first.now.theorem ∷ second.now.theorem ∷ third.now.theorem ∷ []) (theorem_in result) }
     ensures room { FindsRoom recorder.old.theory (rule_of rule.now) (first.now.theorem ∷ second.now.theorem ∷ third.now.theorem ∷ []) (theorem_in result) }
+    ensures outcome { AnswersBy recorder.old.theory (rule_of rule.now) (first.now.theorem ∷ second.now.theorem ∷ third.now.theorem ∷ []) (theorem_in result) }
 {
     let _first = conclusion_of(recorder, first);
     match rule {
@@ -177,66 +176,43 @@ pub(crate) fn on_three(
     }
 }
 
-// A premise.
-#[tactic(auto, using(crate::proofs::Premises::premise_made))]
-fn premise_at<'a>(recorder: &Recorder, premises: &'a [Rec], at: usize) -> &'a Rec
-    requires premises { AreMade recorder.now premises.now }
-    requires within { at < length premises.now }
-    ensures made { IsMade recorder.now result.now }
-    ensures there { slice_get premises.now at ≡ Some result.now }
-{
-    let _entries = recorder.entries();
-    &premises[at]
-}
-
 // The refusal of too many premises.
-#[tactic(auto, using(crate::proofs::Premises::too_many_made, crate::proofs::KernelRooms::refused_rooms))]
-fn refuse_many(recorder: &mut Recorder, rule: &Rule, premises: &[Rec]) -> Result<Rec, Fault>
+#[tactic(auto, using(crate::proofs::Premises::too_many_lent))]
+fn refuse_many(recorder: &mut Recorder, rule: &Rule, premises: &[&Rec]) -> Result<Rec, Fault>
     requires { 3 < length premises.now }
     ensures continues { Continues recorder.old recorder.new result }
-    ensures inferred { Infers recorder.old.theory (rule_of rule.now) (theorems premises.now) (theorem_in result) }
-    ensures room { FindsRoom recorder.old.theory (rule_of rule.now) (theorems premises.now) (theorem_in result) }
+    ensures inferred { Infers recorder.old.theory (rule_of rule.now) (lent_theorems premises.now) (theorem_in result) }
+    ensures room { FindsRoom recorder.old.theory (rule_of rule.now) (lent_theorems premises.now) (theorem_in result) }
+    ensures outcome { AnswersBy recorder.old.theory (rule_of rule.now) (lent_theorems premises.now) (theorem_in result) }
 {
     let _rule = rule;
     let _premises = premises.len();
     refuse(recorder)
 }
 
-/// A rule on theorems that the recorder made, one for each premise (fusion.ml, equal.ml and bool.ml of HOL Light). The
-/// theorem has the sequent that the table of rules draws; where it draws none, the rule is refused. TooLarge comes only where
-/// a term that the rule takes, of a premise, or of what is drawn leaves no room.
-#[tactic(auto, using(crate::proofs::Premises::premises_are))]
+/// A rule on theorems that the recorder made, one for each premise (fusion.ml, equal.ml and bool.ml of HOL Light). It
+/// answers by the rule's own outcome, and the theorem has the sequent that the table of rules draws; where it draws none,
+/// the rule is refused. TooLarge comes only where a term that the rule takes, of a premise, or of what is drawn leaves no
+/// room.
 pub fn apply_rule(
     recorder: &mut Recorder,
     alloc: Global,
     logic: &Bool,
     rule: &Rule,
-    premises: &[Rec],
+    premises: &[&Rec],
 ) -> Result<Rec, Fault>
     requires logic { HasLogic recorder.old logic.now }
-    requires premises { AreMade recorder.old premises.now }
+    requires premises { AreLent recorder.old premises.now }
     ensures continues { Continues recorder.old recorder.new result }
-    ensures inferred { Infers recorder.old.theory (rule_of rule.now) (theorems premises.now) (theorem_in result) }
-    ensures room { FindsRoom recorder.old.theory (rule_of rule.now) (theorems premises.now) (theorem_in result) }
+    ensures inferred { Infers recorder.old.theory (rule_of rule.now) (lent_theorems premises.now) (theorem_in result) }
+    ensures room { FindsRoom recorder.old.theory (rule_of rule.now) (lent_theorems premises.now) (theorem_in result) }
+    ensures outcome { AnswersBy recorder.old.theory (rule_of rule.now) (lent_theorems premises.now) (theorem_in result) }
 {
-    let count = premises.len();
-    if count > 3 {
-        return refuse_many(recorder, rule, premises);
+    match premises {
+        [] => on_none(recorder, alloc, logic, rule),
+        [premise] => on_one(recorder, alloc, logic, rule, premise),
+        [first, second] => on_two(recorder, alloc, logic, rule, first, second),
+        [first, second, third] => on_three(recorder, alloc, logic, rule, first, second, third),
+        _ => refuse_many(recorder, rule, premises),
     }
-    if count == 3 {
-        let first = premise_at(recorder, premises, 0);
-        let second = premise_at(recorder, premises, 1);
-        let third = premise_at(recorder, premises, 2);
-        return on_three(recorder, alloc, logic, rule, first, second, third);
-    }
-    if count == 2 {
-        let first = premise_at(recorder, premises, 0);
-        let second = premise_at(recorder, premises, 1);
-        return on_two(recorder, alloc, logic, rule, first, second);
-    }
-    if count == 1 {
-        let premise = premise_at(recorder, premises, 0);
-        return on_one(recorder, alloc, logic, rule, premise);
-    }
-    on_none(recorder, alloc, logic, rule)
 }

@@ -1,4 +1,4 @@
-// The kernel's rules and axioms: what each draws from the sequents of its premises.
+// The kernel's rules and axioms: their outcomes, and what each draws from the sequents of its premises.
 ghost use Rattle.std.specs.Prelude.{[], ◌∷◌};
 ghost use Rattle.hol_model.specs.Derived.InferenceRules.{rule_refl, rule_trans, rule_mk_comb, rule_abs, rule_beta, rule_assume};
 ghost use Rattle.hol_model.specs.Derived.InferenceRules.{rule_eq_mp, rule_deduct_antisym, rule_inst, rule_inst_type, rule_eta_axiom, rule_select_axiom};
@@ -6,6 +6,7 @@ ghost use Rattle.hol_journal.specs.Journal.{IsMade, theorem_in};
 ghost use Rattle.hol_equal.specs.Sequents.{Continues};
 ghost use Rattle.hol_equal.specs.Inferred.{Infers};
 ghost use Rattle.hol_replay.specs.Room.{FindsRoom};
+ghost use Rattle.hol_replay.specs.Outcomes.{AnswersBy};
 
 use hol_bool::primitive_rules_infer;
 use hol_equal::conclusion_of;
@@ -20,6 +21,7 @@ pub(crate) fn refl(recorder: &mut Recorder, alloc: Global, term: &Term) -> Resul
     ensures continues { Continues recorder.old recorder.new result }
     ensures inferred { Infers recorder.old.theory (rule_refl term.now) [] (theorem_in result) }
     ensures room { FindsRoom recorder.old.theory (rule_refl term.now) [] (theorem_in result) }
+    ensures outcome { AnswersBy recorder.old.theory (rule_refl term.now) [] (theorem_in result) }
 {
     let _type = term.ty();
     recorder.theory_is_legal();
@@ -32,6 +34,7 @@ pub(crate) fn assume(recorder: &mut Recorder, alloc: Global, term: &Term) -> Res
     ensures continues { Continues recorder.old recorder.new result }
     ensures inferred { Infers recorder.old.theory (rule_assume term.now) [] (theorem_in result) }
     ensures room { FindsRoom recorder.old.theory (rule_assume term.now) [] (theorem_in result) }
+    ensures outcome { AnswersBy recorder.old.theory (rule_assume term.now) [] (theorem_in result) }
 {
     let _type = term.ty();
     recorder.theory_is_legal();
@@ -44,6 +47,7 @@ pub(crate) fn beta(recorder: &mut Recorder, alloc: Global, term: &Term) -> Resul
     ensures continues { Continues recorder.old recorder.new result }
     ensures inferred { Infers recorder.old.theory (rule_beta term.now) [] (theorem_in result) }
     ensures room { FindsRoom recorder.old.theory (rule_beta term.now) [] (theorem_in result) }
+    ensures outcome { AnswersBy recorder.old.theory (rule_beta term.now) [] (theorem_in result) }
 {
     let _type = term.ty();
     recorder.theory_is_legal();
@@ -63,6 +67,7 @@ pub(crate) fn trans(
     ensures continues { Continues recorder.old recorder.new result }
     ensures inferred { Infers recorder.old.theory rule_trans (first.now.theorem ∷ second.now.theorem ∷ []) (theorem_in result) }
     ensures room { FindsRoom recorder.old.theory rule_trans (first.now.theorem ∷ second.now.theorem ∷ []) (theorem_in result) }
+    ensures outcome { AnswersBy recorder.old.theory rule_trans (first.now.theorem ∷ second.now.theorem ∷ []) (theorem_in result) }
 {
     let _first = conclusion_of(recorder, first);
     let _second = conclusion_of(recorder, second);
@@ -82,6 +87,7 @@ pub(crate) fn mk_comb(
     ensures continues { Continues recorder.old recorder.new result }
     ensures inferred { Infers recorder.old.theory rule_mk_comb (first.now.theorem ∷ second.now.theorem ∷ []) (theorem_in result) }
     ensures room { FindsRoom recorder.old.theory rule_mk_comb (first.now.theorem ∷ second.now.theorem ∷ []) (theorem_in result) }
+    ensures outcome { AnswersBy recorder.old.theory rule_mk_comb (first.now.theorem ∷ second.now.theorem ∷ []) (theorem_in result) }
 {
     let _first = conclusion_of(recorder, first);
     let _second = conclusion_of(recorder, second);
@@ -101,6 +107,7 @@ pub(crate) fn eq_mp(
     ensures continues { Continues recorder.old recorder.new result }
     ensures inferred { Infers recorder.old.theory rule_eq_mp (first.now.theorem ∷ second.now.theorem ∷ []) (theorem_in result) }
     ensures room { FindsRoom recorder.old.theory rule_eq_mp (first.now.theorem ∷ second.now.theorem ∷ []) (theorem_in result) }
+    ensures outcome { AnswersBy recorder.old.theory rule_eq_mp (first.now.theorem ∷ second.now.theorem ∷ []) (theorem_in result) }
 {
     let _first = conclusion_of(recorder, first);
     let _second = conclusion_of(recorder, second);
@@ -120,6 +127,7 @@ pub(crate) fn deduct_antisym(
     ensures continues { Continues recorder.old recorder.new result }
     ensures inferred { Infers recorder.old.theory rule_deduct_antisym (first.now.theorem ∷ second.now.theorem ∷ []) (theorem_in result) }
     ensures room { FindsRoom recorder.old.theory rule_deduct_antisym (first.now.theorem ∷ second.now.theorem ∷ []) (theorem_in result) }
+    ensures outcome { AnswersBy recorder.old.theory rule_deduct_antisym (first.now.theorem ∷ second.now.theorem ∷ []) (theorem_in result) }
 {
     let _first = conclusion_of(recorder, first);
     let _second = conclusion_of(recorder, second);
@@ -138,6 +146,7 @@ pub(crate) fn abs(
     ensures continues { Continues recorder.old recorder.new result }
     ensures inferred { Infers recorder.old.theory (rule_abs binder.now) (premise.now.theorem ∷ []) (theorem_in result) }
     ensures room { FindsRoom recorder.old.theory (rule_abs binder.now) (premise.now.theorem ∷ []) (theorem_in result) }
+    ensures outcome { AnswersBy recorder.old.theory (rule_abs binder.now) (premise.now.theorem ∷ []) (theorem_in result) }
 {
     let _premise = conclusion_of(recorder, premise);
     primitive_rules_infer();
@@ -155,6 +164,7 @@ pub(crate) fn inst(
     ensures continues { Continues recorder.old recorder.new result }
     ensures inferred { Infers recorder.old.theory (rule_inst theta.now) (premise.now.theorem ∷ []) (theorem_in result) }
     ensures room { FindsRoom recorder.old.theory (rule_inst theta.now) (premise.now.theorem ∷ []) (theorem_in result) }
+    ensures outcome { AnswersBy recorder.old.theory (rule_inst theta.now) (premise.now.theorem ∷ []) (theorem_in result) }
 {
     recorder.theory_is_legal();
     primitive_rules_infer();
@@ -172,6 +182,7 @@ pub(crate) fn inst_type(
     ensures continues { Continues recorder.old recorder.new result }
     ensures inferred { Infers recorder.old.theory (rule_inst_type theta.now) (premise.now.theorem ∷ []) (theorem_in result) }
     ensures room { FindsRoom recorder.old.theory (rule_inst_type theta.now) (premise.now.theorem ∷ []) (theorem_in result) }
+    ensures outcome { AnswersBy recorder.old.theory (rule_inst_type theta.now) (premise.now.theorem ∷ []) (theorem_in result) }
 {
     recorder.theory_is_legal();
     primitive_rules_infer();
@@ -183,6 +194,7 @@ pub(crate) fn eta(recorder: &mut Recorder, alloc: Global) -> Result<Rec, Fault>
     ensures continues { Continues recorder.old recorder.new result }
     ensures inferred { Infers recorder.old.theory rule_eta_axiom [] (theorem_in result) }
     ensures room { FindsRoom recorder.old.theory rule_eta_axiom [] (theorem_in result) }
+    ensures outcome { AnswersBy recorder.old.theory rule_eta_axiom [] (theorem_in result) }
 {
     recorder.theory_is_legal();
     primitive_rules_infer();
@@ -194,6 +206,7 @@ pub(crate) fn select(recorder: &mut Recorder, alloc: Global) -> Result<Rec, Faul
     ensures continues { Continues recorder.old recorder.new result }
     ensures inferred { Infers recorder.old.theory rule_select_axiom [] (theorem_in result) }
     ensures room { FindsRoom recorder.old.theory rule_select_axiom [] (theorem_in result) }
+    ensures outcome { AnswersBy recorder.old.theory rule_select_axiom [] (theorem_in result) }
 {
     recorder.theory_is_legal();
     primitive_rules_infer();

@@ -16,10 +16,11 @@ ghost use Rattle.hol_just.specs.Steps.{tree_of};
 ghost use Rattle.hol_store.specs.Stored.{IsStoreOf, theorems_in};
 ghost use Rattle.hol_store.specs.Store.{stored_of};
 ghost use Rattle.hol_replay.specs.Named.{sequents_of};
+ghost use Rattle.hol_replay.specs.Outcomes.{AreLent, lent_theorems};
 ghost use Rattle.hol_replay.specs.Lines.{Expected, Meets, expected_in, AreMet, AreHeldLines, IsHeldLine, ContinuesLine};
 ghost use Rattle.hol_replay.specs.Lines.{Applies, AppliesAs, IsNamed, IsBroken, IsPremise, MeetsFrom, MeetsLine, premise_result, IsReplaying, IsReplayRefusal};
 
-use crate::apply::{on_none, on_one, on_three, on_two};
+use crate::apply::apply_rule;
 use hol_journal::{Rec, Recorder};
 use hol_just::{Just, Line, Rule};
 use hol_model::Fault;
@@ -75,83 +76,22 @@ fn premise(answers: &[LineAnswer], place: usize) -> Result<&Rec, LineAnswer>
     }
 }
 
-// A rule without premises, as a line.
+// A rule, as a line.
 #[tactic(auto, using(crate::proofs::Replaying::continued))]
-fn of_none(
+fn by_rule(
     recorder: &mut Recorder,
     alloc: Global,
     logic: &Bool,
     rule: &Rule,
+    premises: &[&Rec],
 ) -> Result<LineAnswer, Fault>
     requires logic { HasLogic recorder.old logic.now }
+    requires premises { AreLent recorder.old premises.now }
     ensures continues { ContinuesLine recorder.old recorder.new result }
-    ensures applied { IfOk result (Applies recorder.old.theory (rule_of rule.now) []) }
+    ensures applied { IfOk result (Applies recorder.old.theory (rule_of rule.now) (lent_theorems premises.now)) }
     ensures err { IfErr result (λ fault. fault ≡ Memory) }
 {
-    let outcome = on_none(recorder, alloc, logic, rule);
-    answered(outcome)
-}
-
-// A rule of one premise, as a line.
-#[tactic(auto, using(crate::proofs::Replaying::continued))]
-fn of_one(
-    recorder: &mut Recorder,
-    alloc: Global,
-    logic: &Bool,
-    rule: &Rule,
-    premise: &Rec,
-) -> Result<LineAnswer, Fault>
-    requires logic { HasLogic recorder.old logic.now }
-    requires premise { IsMade recorder.old premise.now }
-    ensures continues { ContinuesLine recorder.old recorder.new result }
-    ensures applied { IfOk result (Applies recorder.old.theory (rule_of rule.now) (premise.now.theorem ∷ [])) }
-    ensures err { IfErr result (λ fault. fault ≡ Memory) }
-{
-    let outcome = on_one(recorder, alloc, logic, rule, premise);
-    answered(outcome)
-}
-
-// A rule of two premises, as a line.
-#[tactic(auto, using(crate::proofs::Replaying::continued))]
-fn of_two(
-    recorder: &mut Recorder,
-    alloc: Global,
-    logic: &Bool,
-    rule: &Rule,
-    first: &Rec,
-    second: &Rec,
-) -> Result<LineAnswer, Fault>
-    requires logic { HasLogic recorder.old logic.now }
-    requires first { IsMade recorder.old first.now }
-    requires second { IsMade recorder.old second.now }
-    ensures continues { ContinuesLine recorder.old recorder.new result }
-    ensures applied { IfOk result (Applies recorder.old.theory (rule_of rule.now) (first.now.theorem ∷ second.now.theorem ∷ [])) }
-    ensures err { IfErr result (λ fault. fault ≡ Memory) }
-{
-    let outcome = on_two(recorder, alloc, logic, rule, first, second);
-    answered(outcome)
-}
-
-// A rule of three premises, as a line.
-#[tactic(auto, using(crate::proofs::Replaying::continued))]
-fn of_three(
-    recorder: &mut Recorder,
-    alloc: Global,
-    logic: &Bool,
-    rule: &Rule,
-    first: &Rec,
-    second: &Rec,
-    third: &Rec,
-) -> Result<LineAnswer, Fault>
-    requires logic { HasLogic recorder.old logic.now }
-    requires first { IsMade recorder.old first.now }
-    requires second { IsMade recorder.old second.now }
-    requires third { IsMade recorder.old third.now }
-    ensures continues { ContinuesLine recorder.old recorder.new result }
-    ensures applied { IfOk result (Applies recorder.old.theory (rule_of rule.now) (first.now.theorem ∷ second.now.theorem ∷ third.now.theorem ∷ [])) }
-    ensures err { IfErr result (λ fault. fault ≡ Memory) }
-{
-    let outcome = on_three(recorder, alloc, logic, rule, first, second, third);
+    let outcome = apply_rule(recorder, alloc, logic, rule, premises);
     answered(outcome)
 }
 
@@ -176,27 +116,27 @@ fn rule_answer(
         return kept(recorder, LineAnswer::Invalid);
     }
     if count == 0 {
-        return of_none(recorder, alloc, logic, rule);
+        return by_rule(recorder, alloc, logic, rule, &[]);
     }
     let first = match premise(answers, places[0]) {
         Ok(first) => first,
         Err(answer) => return kept(recorder, answer),
     };
     if count == 1 {
-        return of_one(recorder, alloc, logic, rule, first);
+        return by_rule(recorder, alloc, logic, rule, &[first]);
     }
     let second = match premise(answers, places[1]) {
         Ok(second) => second,
         Err(answer) => return kept(recorder, answer),
     };
     if count == 2 {
-        return of_two(recorder, alloc, logic, rule, first, second);
+        return by_rule(recorder, alloc, logic, rule, &[first, second]);
     }
     let third = match premise(answers, places[2]) {
         Ok(third) => third,
         Err(answer) => return kept(recorder, answer),
     };
-    of_three(recorder, alloc, logic, rule, first, second, third)
+    by_rule(recorder, alloc, logic, rule, &[first, second, third])
 }
 
 // A subgoal's theorem.

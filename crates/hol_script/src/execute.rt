@@ -16,7 +16,7 @@ use hol_session::reply::{Printed, Refused, plainly};
 use std::alloc::Global;
 
 /// Answers a command, which may call a host's functions: what it prints, or a refusal, which changes nothing.
-pub(crate) fn execute<H: Refiners>(
+pub fn execute<H: Refiners>(
     manager: &mut Manager,
     alloc: Global,
     host: &H,

@@ -1,7 +1,7 @@
 //! Proof scripts: runs and their logs.
 #![tactic(auto, using(hol_model::proofs::Kernel::Refusals::refusals))]
 
-mod execute;
+pub mod execute;
 mod progress;
 mod runner;
 

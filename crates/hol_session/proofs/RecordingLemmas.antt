@@ -1,21 +1,12 @@
--- What was recorded stays made by the recorder, and what the rules answer stands on its theory.
-use Rattle.std.proofs.Common.{◌≡◌, ℕ, List, [], ◌∷◌, refl, sym, subst, ap, ◌∙◌, append-nil, Option, None, Some, Result, Ok, Err}
-use Rattle.std.specs.Prelude.{Bool, true, false, cond, slice_get, IfOk, OnErr}
+-- What was recorded stays made by the recorder.
+use Rattle.std.proofs.Common.{◌≡◌, ℕ, List, [], refl, sym, subst, ap, ◌∙◌, append-nil, Some, Result, Err}
+use Rattle.std.specs.Prelude.{Bool, true, false, cond, slice_get}
 use Rattle.std.specs.Str.{bytes_eq}
 use Rattle.hol_model.specs.declared.fault.Fault.{Fault}
-use Rattle.hol_model.specs.declared.fault.Fault.TheVariants.{NotBool, NotTrivialBeta}
-use Rattle.hol_model.specs.declared.rule.TermRule.{TermRule}
-use Rattle.hol_model.specs.declared.rule.TermRule.TheVariants.{Refl, Beta, Assume}
-use Rattle.hol_model.specs.Terms.NamedTerm.{NamedTerm, equation, is_within_limits}
 use Rattle.hol_model.specs.Logic.Theory.{Theory, IsLegal}
-use Rattle.hol_model.specs.Kernel.Theorem.{Theorem}
 use Rattle.hol_model.specs.Goals.Replays.{IsStoreOver}
-use Rattle.hol_model.specs.Kernel.Outcome.{Answers, unless, given, refused}
-use Rattle.hol_model.specs.Kernel.Rules.{first_unknown, dest_trivial_redex, is_formula, concluded}
-use Rattle.hol_model.specs.Kernel.RuleOutcomes.{term_rule_outcome}
-use Rattle.hol_journal.specs.Journal.{Journal, Recorded, IsRecorded, theorem_in}
-use Rattle.hol_journal.specs.Steps.{Step}
-use Rattle.hol_journal.specs.Growth.{IsGrown, JournalsGrow}
+use Rattle.hol_journal.specs.Journal.{Journal, Recorded}
+use Rattle.hol_journal.specs.Growth.{IsGrown}
 use Rattle.hol_prelude.specs.HasLogic.{HasLogic}
 use Rattle.hol_taut_laws.specs.HasLaws.{HasLaws}
 use Rattle.hol_equal.specs.Sequents.{Continues}
@@ -30,7 +21,7 @@ use Rattle.hol_store.specs.declared.store.Store.{Store}
 use Rattle.hol_store.specs.Store.{stored_of}
 use Rattle.hol_store.proofs.StoreLemmas.{stores-stay}
 use Rattle.hol_session.specs.SessionState.{state_of, theorem_of, lemmas_of, IsSession, StaysMade, LibrariesGrow}
-use Rattle.hol_session.specs.Recording.{Records, over_journal, AppliesRule, GrowsJournal, MakesTheorem}
+use Rattle.hol_session.specs.Recording.{over_journal, GrowsJournal, MakesTheorem}
 
 -- ---- stored theorems
 
@@ -49,42 +40,6 @@ stored_theorem answer name old new stores other = ap theorem_of (stores.theorems
     go : (test : Bool) → theorem_of (cond test (Some answer) (old.theorems other)) ≡ cond test (Some answer.theorem) (theorem_of (old.theorems other))
     go true = refl
     go false = refl
-
--- ---- the theory of an outcome's theorem
-
--- the theorem stands on this theory
-abbrev pub StandsOn : Theory → Result Theorem Fault → Type 0
-StandsOn theory (Ok theorem) = theorem.theory ≡ theory
-StandsOn theory (Err fault) = Unit {0}
-
-unless-stands : (theory : Theory) (test : Bool) (fault : Fault) (next : Result Theorem Fault) → StandsOn theory next → StandsOn theory (unless test fault next)
-unless-stands theory true fault next stands = stands
-unless-stands theory false fault next stands = tt
-
-refused-stands : (theory : Theory) (refusal : Option Fault) (next : Result Theorem Fault) → StandsOn theory next → StandsOn theory (refused refusal next)
-refused-stands theory None next stands = stands
-refused-stands theory (Some fault) next stands = tt
-
-given-stands : {A : Type 0} (theory : Theory) (found : Option A) (fault : Fault) (next : A → Result Theorem Fault) → ((x : A) → StandsOn theory (next x)) → StandsOn theory (given found fault next)
-given-stands theory None fault next stands = tt
-given-stands theory (Some x) fault next stands = stands x
-
-concluded-stands : (theory : Theory) (hypotheses : List NamedTerm) (conclusion : NamedTerm) → StandsOn theory (concluded theory hypotheses conclusion)
-concluded-stands theory hypotheses conclusion = unless-stands theory (is_within_limits conclusion) _ _ refl
-
-term_rule-stands : (rule : TermRule) (theory : Theory) (term : NamedTerm) → StandsOn theory (term_rule_outcome rule theory term)
-term_rule-stands Refl theory term =
-    refused-stands theory (first_unknown theory term) (concluded theory [] (equation term term)) (concluded-stands theory [] (equation term term))
-term_rule-stands Beta theory term =
-    given-stands theory (dest_trivial_redex term) NotTrivialBeta (λ body. refused (first_unknown theory term) (concluded theory [] (equation term body)))
-    (λ body. refused-stands theory (first_unknown theory term) (concluded theory [] (equation term body)) (concluded-stands theory [] (equation term body)))
-term_rule-stands Assume theory term =
-    let assumed : Result Theorem Fault = Ok (record { theory = theory; hypotheses = term ∷ []; conclusion = term }) in
-    unless-stands theory (is_formula term) NotBool (refused (first_unknown theory term) assumed) (refused-stands theory (first_unknown theory term) assumed refl)
-
--- so does what a call answers
-answer-stands : (theory : Theory) (outcome : Result Theorem Fault) (theorem : Theorem) → StandsOn theory outcome → outcome ≡ Ok theorem → theorem.theory ≡ theory
-answer-stands theory outcome theorem stands is = subst (StandsOn theory) is stands
 
 -- ---- libraries
 
@@ -106,19 +61,6 @@ store-stays stay old new known grown logic laws same =
 
 -- ---- what a rule leaves
 
--- what the recorder answered for a rule on a term
-pub term_rule-answered : (session : Session) (new : Journal) (result : Result Recorded Fault) (rule : TermRule) (term : NamedTerm)
-    → Answers (theorem_in result) (term_rule_outcome rule session.library.recorder.theory term)
-    → IfOk result (Records session.library.recorder new) → IfOk result (AppliesRule session (over_journal session new))
-term_rule-answered session new (Ok made) rule term answers records =
-    let theory = session.library.recorder.theory in
-    record {
-      records = records;
-      stands_on = answer-stands theory (term_rule_outcome rule theory term) made.theorem (term_rule-stands rule theory term) answers;
-      kept = refl;
-    }
-term_rule-answered session new (Err fault) rule term answers records = tt
-
 no_growth : (journal : Journal) → IsGrown journal journal
 no_growth journal = record { added = []; entries = sym (append-nil journal.entries); earlier = record { added = []; is_added = refl } }
 
@@ -129,32 +71,6 @@ nothing-grows session fault = record { continues = record { grown = no_growth se
 -- it does not matter for which fault a rule is refused
 pub refused-grows : (session : Session) (new : Journal) (fault other : Fault) → Continues session.library.recorder new (Err fault) → GrowsJournal session (over_journal session new) (Err other)
 refused-grows session new fault other continues = record { continues = record { grown = continues.grown; theory = continues.theory; held = tt }; kept = refl }
-
--- one more entry is a growth
-pub rule-grows : (old new : Session) (result : Result Recorded Fault) → JournalsGrow → IfOk result (AppliesRule old new) → OnErr result (new ≡ old) → GrowsJournal old new result
-rule-grows old new (Ok made) grow applies kept =
-    let before = old.library.recorder in
-    let after = new.library.recorder in
-    let recorded = applies.records.is_recorded in
-    record {
-      continues = record {
-        grown = grow.grown before after applies.records.step made recorded;
-        theory = sym recorded.stands_on ∙ applies.stands_on;
-        held = record { made = grow.made before after applies.records.step made recorded; stands_on = recorded.stands_on };
-      };
-      kept = applies.kept;
-    }
-rule-grows old new (Err fault) grow applies kept = subst (λ (s : Session). GrowsJournal old s (Err fault)) (sym kept) (nothing-grows old fault)
-
--- so is the entry of an axiom
-pub axiom-grows : (session : Session) (new : Journal) (result : Result Recorded Fault) (step : Step) (theorem : Theorem) → JournalsGrow → theorem.theory ≡ session.library.recorder.theory
-    → IfOk result (λ made. made.theorem ≡ theorem) → IfOk result (IsRecorded session.library.recorder new step) → OnErr result (new ≡ session.library.recorder)
-    → GrowsJournal session (over_journal session new) result
-axiom-grows session new (Ok made) step theorem grow over is recorded kept =
-    rule-grows session (over_journal session new) (Ok made) grow
-    (record { records = record { step = step; is_recorded = recorded }; stands_on = ap (λ (t : Theorem). t.theory) is ∙ over; kept = refl }) tt
-axiom-grows session new (Err fault) step theorem grow over is recorded kept =
-    subst (λ (j : Journal). GrowsJournal session (over_journal session j) (Err fault)) (sym kept) (nothing-grows session fault)
 
 -- the session after what is made for `thm`
 module _ (old new : Session) (result : Result Recorded Fault) (makes : MakesTheorem old new result) where

@@ -69,16 +69,16 @@ rule-refused refusal fact read theta state a theorem fault is known (inl memory)
 rule-refused refusal fact read theta state a theorem fault is known (inr because) =
     inr (subst (λ (r : Result (_ × Theorem) Fault). IsAnswerFor refusal fact r (Err fault)) (sym (stored-is read theta state a (Some theorem) is known)) because)
 
-pub inst-answers : (result : Result Theorem Fault) (state : State) (pairs : List (TermTree × TermTree)) (a : List ℕ) (theta given_theta : List (NamedTerm × NamedTerm)) (theorem : Theorem) → each (replacement (scope_in state)) pairs ≡ Ok theta → given_theta ≡ theta
-    → state.theorems a ≡ Some theorem → AnswersSuch result (inst_refusal state.theory given_theta theorem) (IsInst state.theory given_theta theorem) → AnswersRule result state (by_inst pairs a)
-inst-answers (Ok answer) state pairs a theta given_theta theorem is same known settled =
-    rule-answers (inst_refusal state.theory) (IsInst state.theory) (each (replacement (scope_in state)) pairs) given_theta state a theorem answer (is ∙ ap (λ t. Ok t) (sym same)) known settled
-inst-answers (Err fault) state pairs a theta given_theta theorem is same known settled =
-    rule-refused (inst_refusal state.theory) (IsInst state.theory) (each (replacement (scope_in state)) pairs) given_theta state a theorem fault (is ∙ ap (λ t. Ok t) (sym same)) known settled
+pub inst-answers : (result : Result Theorem Fault) (state : State) (pairs : List (TermTree × TermTree)) (a : List ℕ) (theta : List (NamedTerm × NamedTerm)) (theorem : Theorem) → each (replacement (scope_in state)) pairs ≡ Ok theta
+    → state.theorems a ≡ Some theorem → AnswersSuch result (inst_refusal state.theory theta theorem) (IsInst state.theory theta theorem) → AnswersRule result state (by_inst pairs a)
+inst-answers (Ok answer) state pairs a theta theorem is known settled =
+    rule-answers (inst_refusal state.theory) (IsInst state.theory) (each (replacement (scope_in state)) pairs) theta state a theorem answer is known settled
+inst-answers (Err fault) state pairs a theta theorem is known settled =
+    rule-refused (inst_refusal state.theory) (IsInst state.theory) (each (replacement (scope_in state)) pairs) theta state a theorem fault is known settled
 
-pub inst_type-answers : (result : Result Theorem Fault) (state : State) (pairs : List (TypeTree × List ℕ)) (a : List ℕ) (theta given_theta : List (HolType × HolType)) (theorem : Theorem) → each (type_replacement (scope_in state)) pairs ≡ Ok theta → given_theta ≡ theta
-    → state.theorems a ≡ Some theorem → AnswersSuch result (inst_type_refusal state.theory given_theta theorem) (IsInstType state.theory given_theta theorem) → AnswersRule result state (by_inst_type pairs a)
-inst_type-answers (Ok answer) state pairs a theta given_theta theorem is same known settled =
-    rule-answers (inst_type_refusal state.theory) (IsInstType state.theory) (each (type_replacement (scope_in state)) pairs) given_theta state a theorem answer (is ∙ ap (λ t. Ok t) (sym same)) known settled
-inst_type-answers (Err fault) state pairs a theta given_theta theorem is same known settled =
-    rule-refused (inst_type_refusal state.theory) (IsInstType state.theory) (each (type_replacement (scope_in state)) pairs) given_theta state a theorem fault (is ∙ ap (λ t. Ok t) (sym same)) known settled
+pub inst_type-answers : (result : Result Theorem Fault) (state : State) (pairs : List (TypeTree × List ℕ)) (a : List ℕ) (theta : List (HolType × HolType)) (theorem : Theorem) → each (type_replacement (scope_in state)) pairs ≡ Ok theta
+    → state.theorems a ≡ Some theorem → AnswersSuch result (inst_type_refusal state.theory theta theorem) (IsInstType state.theory theta theorem) → AnswersRule result state (by_inst_type pairs a)
+inst_type-answers (Ok answer) state pairs a theta theorem is known settled =
+    rule-answers (inst_type_refusal state.theory) (IsInstType state.theory) (each (type_replacement (scope_in state)) pairs) theta state a theorem answer is known settled
+inst_type-answers (Err fault) state pairs a theta theorem is known settled =
+    rule-refused (inst_type_refusal state.theory) (IsInstType state.theory) (each (type_replacement (scope_in state)) pairs) theta state a theorem fault is known settled

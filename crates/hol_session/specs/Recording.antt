@@ -2,27 +2,15 @@
 use Rattle.std.specs.Prelude.{◌≡◌, Result, Ok, Err, IfOk}
 use Rattle.hol_model.specs.declared.fault.Fault.{Fault}
 use Rattle.hol_model.specs.Kernel.Theorem.{Theorem}
-use Rattle.hol_journal.specs.Steps.{Step}
-use Rattle.hol_journal.specs.Journal.{Journal, Recorded, IsMade, IsRecorded}
+use Rattle.hol_journal.specs.Journal.{Journal, Recorded, IsMade}
 use Rattle.hol_journal.specs.Growth.{IsGrown}
 use Rattle.hol_equal.specs.Sequents.{Continues}
 use Rattle.hol_session.specs.declared.reply.Refused.{Refused}
 use Rattle.hol_session.specs.declared.session.Session.{Session}
 
--- the theorem was recorded as one more entry
-pub record Records (old new : Journal) (made : Recorded) : Type 0 where
-  pub step : Step
-  pub is_recorded : IsRecorded old new step made
-
 -- the session with this journal
 abbrev pub over_journal : Session → Journal → Session
 over_journal session recorder = record session { library = record session.library { recorder = recorder } }
-
--- the theorem of a rule of the kernel was recorded, over the same theory, and all else is as before
-pub record AppliesRule (old new : Session) (made : Recorded) : Type 0 where
-  pub records : Records old.library.recorder new.library.recorder made
-  pub stands_on : made.theorem.theory ≡ old.library.recorder.theory
-  pub kept : new ≡ over_journal old new.library.recorder
 
 -- after a rule the journal has grown over the same theory, what the rule answers is held, and all else is as before
 pub record GrowsJournal (old new : Session) (result : Result Recorded Fault) : Type 0 where

@@ -2,12 +2,12 @@
 #![tactic(auto, using(hol_model::proofs::Kernel::Refusals::refusals))]
 
 mod beginning;
-mod derivation;
 mod growth;
 mod known;
 mod lines;
 pub mod reply;
 mod rows;
+mod rules;
 pub mod session;
 mod stored_claims;
 mod theorems;

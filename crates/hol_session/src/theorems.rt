@@ -1,6 +1,6 @@
 // What `thm` asks for: rules, tautologies and conversions over a session.
-ghost use Rattle.std.specs.Prelude.{◌≡◌, ℕ, true, List, [], OnErr, IfOk};
-ghost use Rattle.hol_session_model.specs.Commands.{DerivedTree, by_conversion, by_premise, by_premises, by_term_and_premise, by_cases, by_witness, by_choice, RuleTree, by_term, by_pair, by_abs, by_inst, by_inst_type, by_derived};
+ghost use Rattle.std.specs.Prelude.{◌≡◌, ℕ, true, List, [], IfOk};
+ghost use Rattle.hol_session_model.specs.Commands.{DerivedTree, by_conversion, by_premise, by_premises, by_term_and_premise, by_cases, by_witness, by_choice, RuleTree, by_term, by_pair, by_abs, by_inst, by_inst_type, by_axiom, by_derived};
 ghost use Rattle.hol_session_model.specs.CommandGrammar.{TheoremTree, by_tautology};
 ghost use Rattle.hol_session_model.specs.CommandGrammar as asked;
 ghost use Rattle.hol_session_model.specs.ConversionGrammar.{ConversionUnit};
@@ -20,28 +20,27 @@ ghost use Rattle.hol_grammar.specs.Views.{steps_of};
 ghost use Rattle.hol_journal.specs.Journal.{theorem_in};
 ghost use Rattle.hol_command.specs.Views.{IsAsked, IsRule, IsDerived, IsTermPair, AreTermPairs, IsTypePair, AreTypePairs};
 ghost use Rattle.hol_session.specs.Answers.{session_tools, hostless, AnswersRule, AnswersItems, AnswersPlainly, AnswersTheorem};
-ghost use Rattle.hol_session.specs.Recording.{AppliesRule, GrowsJournal, MakesTheorem, theorem_given, without_row};
+ghost use Rattle.hol_session.specs.Recording.{GrowsJournal, MakesTheorem, theorem_given, without_row};
 ghost use Rattle.hol_session.specs.SessionState.{state_of, lemmas_of, IsSession};
 
-use crate::derivation::{on_premise, on_premises, on_term, on_term_and_premise, on_theorems};
 use crate::known::knows_type;
 use crate::reply::Refused;
 use crate::rows::refusal_with_row;
+use crate::rules::{of_axiom, of_pair, of_premise, of_premises, of_term, of_term_and_premise};
 use crate::session::Session;
-use hol_bool::disj_cases;
-use hol_command::command::{Asked, Rule};
+use hol_command::command::{Asked, Rule as AskedRule};
 use hol_command::derived::Derived;
 use hol_command::pairs::{TermPair, TypePair};
 use hol_conv::apply;
-use hol_equal::beta_conv;
 use hol_exprs::{Conv, Fuel};
 use hol_grammar::{TermStep, TypeStep};
 use hol_host::Refiners;
-use hol_journal::{Rec, journals_grow};
+use hol_journal::Rec;
+use hol_just::Rule;
 use hol_model::{
     Axiom, Fault, PairRule, PremiseRule, PremisesRule, STEPS_LIMIT, TermPremiseRule, TermRule,
 };
-use hol_quant::{choose, exists};
+use hol_replay::apply_rule;
 use hol_syntax::{build_type, term_of_steps};
 use hol_taut::taut;
 use hol_terms::Term;
@@ -116,21 +115,19 @@ impl Session {
     }
 
     // What a rule gives: its arguments from left to right, then the rule. The state stays.
-    fn apply(&mut self, alloc: Global, rule: &Rule) -> Result<Rec, Fault>
+    fn apply(&mut self, alloc: Global, rule: &AskedRule) -> Result<Rec, Fault>
         requires { IsSession self.old }
         ensures answers { (tree : RuleTree) → IsRule rule.now tree → AnswersRule (theorem_in result) (state_of self.old) tree }
         ensures grows { GrowsJournal self.old self.new result }
     {
-        journals_grow();
         match rule {
-            Rule::OfTerm(rule, steps) => self.by_term(alloc, *rule, steps),
-            Rule::OfTheorems(rule, first, second) => self.by_pair(alloc, *rule, first, second),
-            Rule::Abs(steps, name) => self.abs(alloc, steps, name),
-            Rule::Inst(pairs, name) => self.inst(alloc, pairs, name),
-            Rule::InstType(pairs, name) => self.inst_type(alloc, pairs, name),
-            Rule::OfAxiom(Axiom::Eta) => self.library.recorder.eta(alloc),
-            Rule::OfAxiom(Axiom::Select) => self.library.recorder.select(alloc),
-            Rule::Derived(rule) => self.derive(alloc, rule),
+            AskedRule::OfTerm(rule, steps) => self.by_term(alloc, *rule, steps),
+            AskedRule::OfTheorems(rule, first, second) => self.by_pair(alloc, *rule, first, second),
+            AskedRule::Abs(steps, name) => self.abs(alloc, steps, name),
+            AskedRule::Inst(pairs, name) => self.inst(alloc, pairs, name),
+            AskedRule::InstType(pairs, name) => self.inst_type(alloc, pairs, name),
+            AskedRule::OfAxiom(rule) => self.by_axiom(alloc, *rule),
+            AskedRule::Derived(rule) => self.derive(alloc, rule),
         }
     }
 
@@ -208,13 +205,20 @@ impl Session {
         requires { IsSession self.old }
         ensures answers { (tree : TermTree) → flat_steps_of steps.now ≡ flat_steps (term_steps tree)
             → AnswersRule (theorem_in result) (state_of self.old) (by_term rule tree) }
-        ensures applies { IfOk result (AppliesRule self.old self.new) }
-        ensures kept { OnErr result (self.new ≡ self.old) }
+        ensures grows { GrowsJournal self.old self.new result }
     {
-        match self.term(alloc, steps) {
-            Ok(term) => on_term(alloc, &mut self.library.recorder, rule, &term),
-            Err(fault) => Err(fault),
-        }
+        let term = match self.term(alloc, steps) {
+            Ok(term) => term,
+            Err(fault) => return Err(fault),
+        };
+        let rule = of_term(rule, term);
+        apply_rule(
+            &mut self.library.recorder,
+            alloc,
+            &self.library.logic,
+            &rule,
+            &[],
+        )
     }
 
     // A rule on two stored theorems.
@@ -227,8 +231,7 @@ impl Session {
     ) -> Result<Rec, Fault>
         requires { IsSession self.old }
         ensures answers { AnswersRule (theorem_in result) (state_of self.old) (by_pair rule first.now second.now) }
-        ensures applies { IfOk result (AppliesRule self.old self.new) }
-        ensures kept { OnErr result (self.new ≡ self.old) }
+        ensures grows { GrowsJournal self.old self.new result }
     {
         let Some(first) = self.library.store.get(first) else {
             return Err(Fault::UnknownName);
@@ -236,7 +239,30 @@ impl Session {
         let Some(second) = self.library.store.get(second) else {
             return Err(Fault::UnknownName);
         };
-        on_theorems(alloc, &mut self.library.recorder, rule, first, second)
+        let rule = of_pair(rule);
+        apply_rule(
+            &mut self.library.recorder,
+            alloc,
+            &self.library.logic,
+            &rule,
+            &[first, second],
+        )
+    }
+
+    // An axiom.
+    fn by_axiom(&mut self, alloc: Global, rule: Axiom) -> Result<Rec, Fault>
+        requires { IsSession self.old }
+        ensures answers { AnswersRule (theorem_in result) (state_of self.old) (by_axiom rule) }
+        ensures grows { GrowsJournal self.old self.new result }
+    {
+        let rule = of_axiom(rule);
+        apply_rule(
+            &mut self.library.recorder,
+            alloc,
+            &self.library.logic,
+            &rule,
+            &[],
+        )
     }
 
     // ABS
@@ -244,17 +270,23 @@ impl Session {
         requires { IsSession self.old }
         ensures answers { (tree : TermTree) → flat_steps_of steps.now ≡ flat_steps (term_steps tree)
             → AnswersRule (theorem_in result) (state_of self.old) (by_abs tree name.now) }
-        ensures applies { IfOk result (AppliesRule self.old self.new) }
-        ensures kept { OnErr result (self.new ≡ self.old) }
+        ensures grows { GrowsJournal self.old self.new result }
     {
         let binder = match self.term(alloc, steps) {
             Ok(binder) => binder,
             Err(fault) => return Err(fault),
         };
-        match self.library.store.get(name) {
-            Some(theorem) => self.library.recorder.abs(alloc, &binder, theorem),
-            None => Err(Fault::UnknownName),
-        }
+        let Some(premise) = self.library.store.get(name) else {
+            return Err(Fault::UnknownName);
+        };
+        let rule = Rule::Abs(binder);
+        apply_rule(
+            &mut self.library.recorder,
+            alloc,
+            &self.library.logic,
+            &rule,
+            &[premise],
+        )
     }
 
     // BETA_CONV
@@ -264,10 +296,18 @@ impl Session {
             → AnswersRule (theorem_in result) (state_of self.old) (by_derived (by_conversion tree)) }
         ensures grows { GrowsJournal self.old self.new result }
     {
-        match self.term(alloc, steps) {
-            Ok(term) => beta_conv(&mut self.library.recorder, alloc, &term),
-            Err(fault) => Err(fault),
-        }
+        let term = match self.term(alloc, steps) {
+            Ok(term) => term,
+            Err(fault) => return Err(fault),
+        };
+        let rule = Rule::BetaConv(term);
+        apply_rule(
+            &mut self.library.recorder,
+            alloc,
+            &self.library.logic,
+            &rule,
+            &[],
+        )
     }
 
     // A derived rule on a stored theorem.
@@ -276,16 +316,17 @@ impl Session {
         ensures answers { AnswersRule (theorem_in result) (state_of self.old) (by_derived (by_premise rule name.now)) }
         ensures grows { GrowsJournal self.old self.new result }
     {
-        match self.library.store.get(name) {
-            Some(premise) => on_premise(
-                alloc,
-                &mut self.library.recorder,
-                &self.library.logic,
-                rule,
-                premise,
-            ),
-            None => Err(Fault::UnknownName),
-        }
+        let Some(premise) = self.library.store.get(name) else {
+            return Err(Fault::UnknownName);
+        };
+        let rule = of_premise(rule);
+        apply_rule(
+            &mut self.library.recorder,
+            alloc,
+            &self.library.logic,
+            &rule,
+            &[premise],
+        )
     }
 
     // A derived rule on two stored theorems.
@@ -306,13 +347,13 @@ impl Session {
         let Some(second) = self.library.store.get(second) else {
             return Err(Fault::UnknownName);
         };
-        on_premises(
-            alloc,
+        let rule = of_premises(rule);
+        apply_rule(
             &mut self.library.recorder,
+            alloc,
             &self.library.logic,
-            rule,
-            first,
-            second,
+            &rule,
+            &[first, second],
         )
     }
 
@@ -333,17 +374,17 @@ impl Session {
             Ok(term) => term,
             Err(fault) => return Err(fault),
         };
-        match self.library.store.get(name) {
-            Some(premise) => on_term_and_premise(
-                alloc,
-                &mut self.library.recorder,
-                &self.library.logic,
-                rule,
-                &term,
-                premise,
-            ),
-            None => Err(Fault::UnknownName),
-        }
+        let Some(premise) = self.library.store.get(name) else {
+            return Err(Fault::UnknownName);
+        };
+        let rule = of_term_and_premise(rule, term);
+        apply_rule(
+            &mut self.library.recorder,
+            alloc,
+            &self.library.logic,
+            &rule,
+            &[premise],
+        )
     }
 
     // DISJ_CASES
@@ -367,13 +408,13 @@ impl Session {
         let Some(second) = self.library.store.get(second) else {
             return Err(Fault::UnknownName);
         };
-        disj_cases(
+        let rule = Rule::DisjCases;
+        apply_rule(
             &mut self.library.recorder,
             alloc,
             &self.library.logic,
-            disjunction,
-            first,
-            second,
+            &rule,
+            &[disjunction, first, second],
         )
     }
 
@@ -398,17 +439,17 @@ impl Session {
             Ok(witness) => witness,
             Err(fault) => return Err(fault),
         };
-        match self.library.store.get(name) {
-            Some(premise) => exists(
-                &mut self.library.recorder,
-                alloc,
-                &self.library.logic,
-                &formula,
-                &witness,
-                premise,
-            ),
-            None => Err(Fault::UnknownName),
-        }
+        let Some(premise) = self.library.store.get(name) else {
+            return Err(Fault::UnknownName);
+        };
+        let rule = Rule::Exists(formula, witness);
+        apply_rule(
+            &mut self.library.recorder,
+            alloc,
+            &self.library.logic,
+            &rule,
+            &[premise],
+        )
     }
 
     // CHOOSE
@@ -434,13 +475,13 @@ impl Session {
         let Some(second) = self.library.store.get(second) else {
             return Err(Fault::UnknownName);
         };
-        choose(
+        let rule = Rule::Choose(variable);
+        apply_rule(
             &mut self.library.recorder,
             alloc,
             &self.library.logic,
-            &variable,
-            first,
-            second,
+            &rule,
+            &[first, second],
         )
     }
 
@@ -481,17 +522,23 @@ impl Session {
         requires { IsSession self.old }
         ensures answers { (trees : List (TermTree × TermTree)) → AreTermPairs pairs.now trees
             → AnswersRule (theorem_in result) (state_of self.old) (by_inst trees name.now) }
-        ensures applies { IfOk result (AppliesRule self.old self.new) }
-        ensures kept { OnErr result (self.new ≡ self.old) }
+        ensures grows { GrowsJournal self.old self.new result }
     {
         let theta = match self.replacements(alloc, pairs) {
             Ok(theta) => theta,
             Err(fault) => return Err(fault),
         };
-        match self.library.store.get(name) {
-            Some(theorem) => self.library.recorder.inst(alloc, &theta, theorem),
-            None => Err(Fault::UnknownName),
-        }
+        let Some(premise) = self.library.store.get(name) else {
+            return Err(Fault::UnknownName);
+        };
+        let rule = Rule::Inst(theta);
+        apply_rule(
+            &mut self.library.recorder,
+            alloc,
+            &self.library.logic,
+            &rule,
+            &[premise],
+        )
     }
 
     // The type and the type variable of a pair.
@@ -531,16 +578,22 @@ impl Session {
         requires { IsSession self.old }
         ensures answers { (trees : List (TypeTree × List ℕ)) → AreTypePairs pairs.now trees
             → AnswersRule (theorem_in result) (state_of self.old) (by_inst_type trees name.now) }
-        ensures applies { IfOk result (AppliesRule self.old self.new) }
-        ensures kept { OnErr result (self.new ≡ self.old) }
+        ensures grows { GrowsJournal self.old self.new result }
     {
         let theta = match self.type_replacements(alloc, pairs) {
             Ok(theta) => theta,
             Err(fault) => return Err(fault),
         };
-        match self.library.store.get(name) {
-            Some(theorem) => self.library.recorder.inst_type(alloc, &theta, theorem),
-            None => Err(Fault::UnknownName),
-        }
+        let Some(premise) = self.library.store.get(name) else {
+            return Err(Fault::UnknownName);
+        };
+        let rule = Rule::InstType(theta);
+        apply_rule(
+            &mut self.library.recorder,
+            alloc,
+            &self.library.logic,
+            &rule,
+            &[premise],
+        )
     }
 }

@@ -1,5 +1,5 @@
 -- How a theory grows by what a command accepts.
-use Rattle.std.proofs.Common.{◌≡◌, ℕ, List, [], ◌∷◌, Bool, true, refl, sym, subst, ap, Option, None, Some, Result, Ok}
+use Rattle.std.proofs.Common.{◌≡◌, ℕ, List, [], ◌∷◌, true, refl, sym, subst, ap, Option, None, Some, Result, Ok}
 use Rattle.std.specs.Prelude.{not, is_some}
 use Rattle.hol_model.specs.declared.fault.Fault.{Fault}
 use Rattle.hol_model.specs.declared.fault.Fault.TheVariants.{TooLarge, BadName, NotClosed, TypeVarsNotReflected, AlreadyDefined, UnknownType}

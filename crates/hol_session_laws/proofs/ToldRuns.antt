@@ -15,14 +15,14 @@ use Rattle.hol_model.specs.Kernel.Rules.{define_outcome, new_type_outcome, new_c
 use Rattle.hol_model.specs.Derived.Prelude.{stored_theorems}
 use Rattle.hol_model.specs.Texts.TypeGrammar.{TypeTree}
 use Rattle.hol_model.specs.Texts.TermGrammar.{TermTree}
-use Rattle.hol_model.specs.Texts.Lexing.{numeral_value}
+use Rattle.hol_model.specs.Texts.Lexing.{numeral_value, Lexes}
 use Rattle.hol_model.specs.Texts.Texts.{text_of_goal}
 use Rattle.hol_model.specs.Texts.Reading.{meaning, type_meaning, ◌>>=◌}
 use Rattle.hol_session_model.specs.Script.{Request, requested, request_and, is_blank_text, line_feeds, leading_line_feeds}
 use Rattle.hol_session_model.specs.Sessions.{with_variable, over_theory, is_theorem_name, definition_name, def_outcome, with_definition, newconst_outcome, with_theorem, with_theorems}
 use Rattle.hol_session_model.specs.Sessions.{State as Library}
 use Rattle.hol_session_model.specs.TacticGrammar.{Tactic}
-use Rattle.hol_session_model.specs.CommandGrammar.{CommandTree, var_command, newtype_command, newconst_command, def_command, thm_command, show_command, goal_command, e_command, b_command, p_command, r_command, save_command, SpellsCommand}
+use Rattle.hol_session_model.specs.CommandGrammar.{CommandTree, var_command, newtype_command, newconst_command, def_command, thm_command, show_command, goal_command, e_command, b_command, p_command, r_command, save_command, command_tokens, SpellsCommand}
 use Rattle.hol_model.specs.Kernel.Answers.{Is, Unless, Then, goes_on, stops}
 use Rattle.hol_model.specs.Goals.Goals.{Goal}
 use Rattle.hol_model.specs.Goals.GoalStates.{Proof, open_goals, set_outcome, back_outcome, rotate_outcome, top_outcome}
@@ -36,6 +36,10 @@ use Rattle.hol_session_laws.proofs.StoredTheorems.{turn-follows}
 use Rattle.hol_model.proofs.Logic.Earlier.{earlier-same}
 use Rattle.hol_session_laws.proofs.SetGoals.{set-goal, IsOfGoal, back-goal, rotate-goal, expansion-goal, HasSetGoal, HasSetGoalIfAny, set-kept, set-later, finished-told}
 use Rattle.hol_session_laws.proofs.ToldTexts.{theorem-told, goal-told, refusal-told}
+
+-- the tokens of a command's text
+lexed : (text : List ℕ) (tree : CommandTree) → SpellsCommand text tree → Lexes text (command_tokens tree)
+lexed text tree spelled = subst (λ tokens. Lexes text tokens) spelled.read.spelled spelled.lexed
 
 -- ---- theories grow by what the texts declare
 
@@ -94,7 +98,7 @@ module _ (texts : List (List ℕ)) where
       let f = followed (new_type_outcome state.library.theory name) (λ theory. Ok (says_nothing (with_library state (over_theory state.library theory)))) accepted (sym same) in
       advances-said state (says_nothing (with_library state (over_theory state.library f.value))) accepted f.is
       (entry-advances state (with_library state (over_theory state.library f.value))
-      (one-grown text (declaration_of_type name) state.library.theory f.value there spelled (type-added state.library.theory f.value name f.is_read)) refl)
+      (one-grown text (declaration_of_type name) state.library.theory f.value there (lexed text (newtype_command name) spelled) (type-added state.library.theory f.value name f.is_read)) refl)
 
   newconst-advances : (state : State) (text name : List ℕ) (tree : TypeTree) (accepted : Accepted) → IsMember text texts → SpellsCommand text (newconst_command name tree)
       → Ok accepted ≡ newconst_accepted state name tree → Advances state accepted.after
@@ -104,7 +108,8 @@ module _ (texts : List (List ℕ)) where
       let declares : DeclaresConstant state.library.theory text name g.value = record {
         tree = tree;
         variables = state.library.variables;
-        spelled = spelled;
+        within = spelled.read.grammatical;
+        spelled = lexed text (newconst_command name tree) spelled;
         meant = g.is_read;
       } in
       advances-said state (says_nothing (with_library state (over_theory state.library f.value))) accepted f.is
@@ -121,7 +126,8 @@ module _ (texts : List (List ℕ)) where
         tree = tree;
         variables = state.library.variables;
         term = g.value;
-        spelled = spelled;
+        quotable = spelled.read.grammatical;
+        spelled = lexed text (def_command name tree) spelled;
         meant = g.is_read;
         typed = refl;
         is_body = refl;
@@ -160,7 +166,13 @@ module _ (texts : List (List ℕ)) where
           there = there;
           earlier = theory;
           is_earlier = earlier-same theory theory refl;
-          sets = record { tree = tree; variables = state.library.variables; spelled = spelled; meant = g.is_read };
+          sets = record {
+            tree = tree;
+            variables = state.library.variables;
+            quotable = spelled.read.grammatical;
+            spelled = lexed text (goal_command tree) spelled;
+            meant = g.is_read;
+          };
         };
       } in
       advances-said state (record { message = goal_lines (open_goals f.value.stage); after = with_goal state f.value }) accepted f.is

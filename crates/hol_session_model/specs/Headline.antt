@@ -13,8 +13,11 @@ use Rattle.hol_model.specs.Logic.Derivable.{Derivable, IsMember}
 use Rattle.hol_model.specs.Logic.Logic.{logical_definitions}
 use Rattle.hol_model.specs.Models.Holds.{Holds}
 use Rattle.hol_model.specs.Kernel.Theorem.{Theorem, AreOrdered}
-use Rattle.hol_model.specs.Texts.TypeGrammar.{TypeTree}
-use Rattle.hol_model.specs.Texts.TermGrammar.{TermTree}
+use Rattle.hol_model.specs.declared.symbol.Symbol.TheVariants.{Colon, Equal}
+use Rattle.hol_model.specs.Texts.Token.{Name, Mark}
+use Rattle.hol_model.specs.Texts.Lexing.{Lexes}
+use Rattle.hol_model.specs.Texts.TypeGrammar.{TypeTree, type_tokens}
+use Rattle.hol_model.specs.Texts.TermGrammar.{TermTree, IsWithin}
 use Rattle.hol_model.specs.Goals.Goals.{Goal}
 use Rattle.hol_model.specs.Texts.Reading.{type_meaning, meaning}
 use Rattle.hol_model.specs.Texts.Texts.{text_of_sequent, text_of_goal, is_one_line}
@@ -23,7 +26,7 @@ use Rattle.hol_model.specs.Texts.SequentGrammar.{ReadsSequent}
 use Rattle.hol_model.specs.Texts.KnownText.{Tells}
 use Rattle.hol_model.specs.Texts.Scopes.{scope_with, scope_over}
 use Rattle.hol_session_model.specs.Script.{Cuts}
-use Rattle.hol_session_model.specs.CommandGrammar.{def_command, newtype_command, newconst_command, goal_command, SpellsCommand}
+use Rattle.hol_session_model.specs.Commands.{quote_tokens, IsQuotable}
 use Rattle.hol_session_model.specs.Replies.{Refusal, row_text, text_of_theorem, count_text, text_of_refusal}
 
 -- The line is a name and the text of a sequent, which reads back as that sequent; the sequent follows by the rules from the
@@ -63,12 +66,13 @@ pub record IsGoalLine (theory : Theory) (line : List ℕ) : Type 0 where
   pub readable_assumptions : AreReadableFormulas (scope_over theory) goal.assumptions
   pub readable_target : IsReadableFormula (scope_over theory) goal.target
 
--- The text is a command that sets this goal: what the command's term is read as over the theory, where some variables are
--- declared.
+-- The text is a command that sets this goal: `goal` and a quoted term, which over the theory, where some variables are
+-- declared, is read as the goal.
 pub record SetsGoal (theory : Theory) (text : List ℕ) (goal : NamedTerm) : Type 0 where
   pub tree : TermTree
   pub variables : List ℕ → Option HolType
-  pub spelled : SpellsCommand text (goal_command tree)
+  pub quotable : IsQuotable tree
+  pub spelled : Lexes text (Name (codes "goal") ∷ quote_tokens tree [])
   pub meant : meaning (scope_with theory variables) [] tree ≡ Ok goal
 
 -- One of the texts sets the goal over the theory, or over what it has grown from.
@@ -97,28 +101,30 @@ pub data IsTold (texts : List (List ℕ)) (theory : Theory) (line : List ℕ) : 
   of_goal : IsGoalLine theory line → IsTold texts theory line
   of_proof : IsProvedLine texts theory line → IsTold texts theory line
 
--- The text is a command that defines the constant by this body: what the command's term is read as over the theory, where
--- some variables are declared.
+-- The text is a command that defines the constant by this body: `def`, the name, `=` and a quoted term, which over the theory,
+-- where some variables are declared, is read as the body.
 pub record Defines (theory : Theory) (text name : List ℕ) (ty : HolType) (body : Nameless) : Type 0 where
   pub tree : TermTree
   pub variables : List ℕ → Option HolType
   pub term : NamedTerm
-  pub spelled : SpellsCommand text (def_command name tree)
+  pub quotable : IsQuotable tree
+  pub spelled : Lexes text (Name (codes "def") ∷ Name name ∷ Mark Equal ∷ quote_tokens tree [])
   pub meant : meaning (scope_with theory variables) [] tree ≡ Ok term
   pub typed : ty ≡ own_type term
   pub is_body : body ≡ image term
 
--- The text is a command that declares the constant at this type.
+-- The text is a command that declares the constant at this type: `newconst`, the name, `:` and the type.
 pub record DeclaresConstant (theory : Theory) (text name : List ℕ) (ty : HolType) : Type 0 where
   pub tree : TypeTree
   pub variables : List ℕ → Option HolType
-  pub spelled : SpellsCommand text (newconst_command name tree)
+  pub within : IsWithin tree
+  pub spelled : Lexes text (Name (codes "newconst") ∷ Name name ∷ Mark Colon ∷ type_tokens tree [])
   pub meant : type_meaning (scope_with theory variables) tree ≡ Ok ty
 
 -- over the theory the text is a command for the entry
 abbrev pub Declares : Theory → List ℕ → Entry → Type 0
 Declares theory text (definition name ty body) = Defines theory text name ty body
-Declares theory text (declaration_of_type name) = SpellsCommand text (newtype_command name)
+Declares theory text (declaration_of_type name) = Lexes text (Name (codes "newtype") ∷ Name name ∷ [])
 Declares theory text (declaration_of_constant name ty) = DeclaresConstant theory text name ty
 
 -- each of the entries, put before a theory, is declared by one of the texts over what stands behind it

@@ -11,3 +11,4 @@ pub mod AtomLemmas
 mod TautologyLemmas
 mod SmallLemmas
 mod TautAnswers
+mod ChainLemmas

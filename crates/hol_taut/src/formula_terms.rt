@@ -33,8 +33,8 @@ pub(crate) fn equivalence(alloc: Global, left: &Term, right: &Term) -> Result<Te
     mk_eq(alloc, left, right)
 }
 
-// The variable of this name of type `bool`.
-fn proposition(alloc: Global, name: &str) -> Result<Term, Fault>
+/// The variable of this name of type `bool`.
+pub(crate) fn proposition(alloc: Global, name: &str) -> Result<Term, Fault>
     requires { is_identifier name.now ≡ true }
     ensures ok { IfOk result (λ term. term ≡ variable name.now bool_type) }
     ensures err { IfErr result (λ fault. fault ≡ Memory) }
@@ -65,5 +65,26 @@ pub(crate) fn pass_formula(recorder: &Recorder, term: &Term) -> Result<(), Fault
     match recorder.theory().first_unknown(term) {
         Some(fault) => Err(fault),
         None => Ok(()),
+    }
+}
+
+/// The formulas for the variables `p`, `q` and `r`.
+pub(crate) fn for_p_q_r(
+    alloc: Global,
+    p: &Term,
+    q: &Term,
+    r: &Term,
+) -> Result<Vec<(Term, Term)>, Fault> {
+    let mut terms = for_p_q(alloc, p, q)?;
+    terms.push((r.copy(alloc)?, proposition(alloc, "r")?))?;
+    Ok(terms)
+}
+
+/// `(=)` at its first argument.
+pub(crate) fn equal_to(alloc: Global, left: &Term) -> Result<Term, Fault> {
+    let whole = equivalence(alloc, left, left)?;
+    match whole.dest_comb() {
+        Some((function, _)) => function.copy(alloc),
+        None => Err(Fault::BadShape),
     }
 }

@@ -1,14 +1,21 @@
 //! TAUT: formulas that are true in every row of values of their atoms, proved by a recorder. A tautology is proved by
-//! refuting its denial: a formula is proved as soon as the known atoms tell its value, and else the next atom is split.
+//! refuting its denial: a formula is proved as soon as the known atoms tell its value, and else the next atom is split. A long
+//! chain of `<=>` is first shortened by a search whose theorem is judged when it is made.
 #![tactic(auto)]
 
+mod chain_proofs;
+mod chain_steps;
+mod chains;
 mod denial;
 mod facts;
 mod formula_terms;
 mod known;
 mod leaves;
+mod pairs;
+mod pulled;
 mod refuted;
 mod shown;
+mod splits;
 mod steps;
 mod taken;
 mod tautology;

@@ -15,21 +15,20 @@ ghost use Rattle.hol_taut.specs.Refuted.{IsAlwaysTrue};
 ghost use Rattle.hol_model.specs.Propositional.Tautologies.{tautology_outcome};
 ghost use Rattle.hol_taut.specs.Ways.{IsSmallIf};
 
-use crate::denial::denied_by;
-use crate::facts::Facts;
+use crate::chain_proofs::{as_chain, if_of};
+use crate::chains::is_long_chain;
 use crate::formula_terms::{equivalence, false_formula, pass_formula};
-use crate::refuted::refuted;
-use crate::steps::by_one;
-use hol_equal::{assume, named};
+use crate::splits::split;
+use hol_equal::named;
 use hol_journal::{Rec, Recorder};
 use hol_model::Fault;
 use hol_propositions::atoms_of_tautology;
-use hol_taut_laws::{Law, Laws};
+use hol_taut_laws::Laws;
 use hol_terms::Term;
 use std::alloc::Global;
 
-/// A tautology, from its denial, which is handed in.
-#[tactic(none)]
+/// A tautology, from its denial, which is handed in: a long chain of `<=>` from what is left of it where the parts that stand
+/// in it twice are taken out, and each other by splits.
 pub(crate) fn proved(
     recorder: &mut Recorder,
     alloc: Global,
@@ -47,31 +46,21 @@ pub(crate) fn proved(
     ensures continues { Continues recorder.old recorder.new result }
     ensures proves { (room : Room) → IsSmallIf room (image term.now) → ProvesIf room result [] (image term.now) }
 {
-    let denied = match assume(recorder, alloc, denial) {
-        Ok(denied) => denied,
-        Err(fault) => return Err(fault),
-    };
-    let absurd = match refuted(recorder, alloc, laws, term, &denied, atoms, &Facts::Nothing) {
-        Ok(absurd) => absurd,
-        Err(fault) => return Err(fault),
-    };
-    let denied_denial = match denied_by(recorder, alloc, laws, denial, &absurd) {
-        Ok(denied_denial) => denied_denial,
-        Err(fault) => return Err(fault),
-    };
-    by_one(
-        recorder,
-        alloc,
-        laws,
-        Law::NotFalseElim,
-        term,
-        term,
-        &denied_denial,
-    )
+    if !is_long_chain(term) {
+        return split(recorder, alloc, laws, term, denial, atoms);
+    }
+    let tried = as_chain(recorder, alloc, laws, term);
+    if let Some(made) = if_of(recorder, tried, term) {
+        return Ok(made);
+    }
+    split(recorder, alloc, laws, term, denial, atoms)
 }
 
 /// TAUT: a formula that is true in each row of values of its atoms. Refused where the term is not of type `bool`, where
-/// the theory does not know a type or a constant of it, where it has too many atoms, and where it is false in a row.
+/// the theory does not know a type or a constant of it, where it has too many atoms, and where it is false in a row. A
+/// split takes about five inferences for each connective that tells the value, in each row that no earlier atom settles:
+/// 39 for Peirce's law, 602 for a conjunction of fourteen atoms that implies its last. A chain of at least eight parts takes
+/// about the square of its length instead: 494 for ten atoms against their mirror, 694 against the same backwards.
 #[tactic(none)]
 pub fn taut(recorder: &mut Recorder, alloc: Global, laws: &Laws, term: &Term) -> Result<Rec, Fault>
     requires laws { HasLaws recorder.old laws.now }

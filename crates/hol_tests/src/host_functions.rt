@@ -1,6 +1,6 @@
 // Further functions of the host of these tests.
 use hol_host::HostFail;
-use hol_just::{Goal, Just, Rule, Step, named, splice, step, sub};
+use hol_just::{Goal, Just, Rule, Step, lemma, named, splice, step, sub};
 use hol_model::Fault;
 use hol_terms::{Term, mk_eq};
 use std::alloc::Global;
@@ -60,6 +60,37 @@ pub(crate) fn deep(alloc: Global, _goal: &Goal) -> Result<Step, HostFail> {
     proved(alloc, towering(alloc))
 }
 
+/// The subgoal of the same conclusion with the assumption `p` alone, whether the goal has that assumption or not.
+pub(crate) fn presuming(alloc: Global, goal: &Goal) -> Result<Step, HostFail> {
+    match from_p(alloc, &goal.concl) {
+        Ok(step) => Ok(step),
+        Err(_) => Err(HostFail),
+    }
+}
+
+/// The step of the goal `T`, with a subgoal that names a constant which no theory of these tests has.
+pub(crate) fn foreign(alloc: Global, goal: &Goal) -> Result<Step, HostFail> {
+    match beside_unknown(alloc, &goal.concl) {
+        Ok(step) => Ok(step),
+        Err(_) => Err(HostFail),
+    }
+}
+
+/// No subgoals, by a theorem that is not stored.
+pub(crate) fn nameless(alloc: Global, _goal: &Goal) -> Result<Step, HostFail> {
+    proved(alloc, named(alloc, "nobody"))
+}
+
+/// No subgoals, by a lemma that there is not.
+pub(crate) fn without_lemma(alloc: Global, _goal: &Goal) -> Result<Step, HostFail> {
+    proved(alloc, lemma(alloc, 1000))
+}
+
+/// The step of the goal `T` by a tree of 2^2000 - 1 nodes, as deep as a tree may be.
+pub(crate) fn vast(alloc: Global, _goal: &Goal) -> Result<Step, HostFail> {
+    proved(alloc, doubled_to_the_limit(alloc))
+}
+
 // The step without subgoals by a justification, where it was made.
 fn proved(alloc: Global, made: Result<Just, Fault>) -> Result<Step, HostFail> {
     match made {
@@ -81,6 +112,36 @@ fn to_a_predicate(alloc: Global, formula: &Term) -> Result<Step, Fault> {
     })?;
     let just = sub(alloc, 0)?;
     Ok(Step { goals, just })
+}
+
+// The subgoal of a formula under the assumption `p`.
+fn from_p(alloc: Global, formula: &Term) -> Result<Step, Fault> {
+    let mut asms = Vec::new(alloc);
+    asms.push(Term::mk_var(alloc, "p", formula.ty())?)?;
+    let concl = formula.copy(alloc)?;
+    let mut goals = Vec::new(alloc);
+    goals.push(Goal { asms, concl })?;
+    let just = sub(alloc, 0)?;
+    Ok(Step { goals, just })
+}
+
+// The subgoal of an unknown constant of a formula's type, and the justification by `TRUTH`.
+fn beside_unknown(alloc: Global, formula: &Term) -> Result<Step, Fault> {
+    let mut goals = Vec::new(alloc);
+    goals.push(Goal {
+        asms: Vec::new(alloc),
+        concl: Term::mk_const(alloc, "unknown", formula.ty())?,
+    })?;
+    let just = named(alloc, "TRUTH")?;
+    Ok(Step { goals, just })
+}
+
+// `T`, by PROVE_HYP of a part with itself, 1,999 times.
+fn doubled_to_the_limit(alloc: Global) -> Result<Just, Fault> {
+    let layer = step(alloc, Rule::ProveHyp, &[sub(alloc, 0)?, sub(alloc, 0)?])?;
+    let once = repeated(alloc, &layer, named(alloc, "TRUTH")?)?;
+    let twice = repeated(alloc, &layer, once)?;
+    around(alloc, &layer, twice)
 }
 
 // `T`, by the first conjunct of CONJ of a part with itself, 999 times.
@@ -137,6 +198,38 @@ pub(crate) fn twisted(alloc: Global, term: &Term) -> Result<(Term, Just), HostFa
 /// `T`, by the assumption that the formula equals it.
 pub(crate) fn guess(alloc: Global, term: &Term) -> Result<(Term, Just), HostFail> {
     converted(supposed(alloc, term))
+}
+
+/// `\y:A. y` of `\x:A. x`, and no answer of a term that binds another name.
+pub(crate) fn renamed(alloc: Global, term: &Term) -> Result<(Term, Just), HostFail> {
+    match identity_renamed(alloc, term) {
+        Ok(Some(equal)) => Ok(equal),
+        Ok(None) => Err(HostFail),
+        Err(_) => Err(HostFail),
+    }
+}
+
+// By TRANS of the two reflexivities.
+fn identity_renamed(alloc: Global, identity: &Term) -> Result<Option<(Term, Just)>, Fault> {
+    let Some((variable, _)) = identity.dest_abs() else {
+        return Ok(None);
+    };
+    if !is_named_x(variable) {
+        return Ok(None);
+    }
+    let other = Term::mk_var(alloc, "y", variable.ty())?;
+    let other_identity = Term::mk_abs(alloc, &other, &other)?;
+    let left = step(alloc, Rule::Refl(identity.copy(alloc)?), &[])?;
+    let right = step(alloc, Rule::Refl(other_identity.copy(alloc)?), &[])?;
+    let just = step(alloc, Rule::Trans, &[left, right])?;
+    Ok(Some((other_identity, just)))
+}
+
+fn is_named_x(variable: &Term) -> bool {
+    match variable.dest_var() {
+        Some((name, _)) => name == "x",
+        None => false,
+    }
 }
 
 fn converted(made: Result<(Term, Just), Fault>) -> Result<(Term, Just), HostFail> {

@@ -9,6 +9,12 @@ mod goal_script_tests;
 #[cfg(test)]
 mod host_functions;
 #[cfg(test)]
+mod host_script_tests;
+#[cfg(test)]
+mod long_script_tests;
+#[cfg(test)]
+mod refiner_refusal_tests;
+#[cfg(test)]
 mod refiner_script_tests;
 #[cfg(test)]
 mod replacement_tests;

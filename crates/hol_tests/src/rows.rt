@@ -1,6 +1,7 @@
 // Scripts as data, and what their runs write.
 use crate::host_functions::{
-    circular, deep, guess, mute, shapeless, shared, stranger, twin, twisted, wrong,
+    circular, deep, foreign, guess, mute, nameless, presuming, renamed, shapeless, shared,
+    stranger, twin, twisted, vast, without_lemma, wrong,
 };
 use crate::sinks::Compared;
 use hol_host::{Host, NoHost};
@@ -54,6 +55,7 @@ fn host_of_tests(alloc: Global) -> Result<Host, Fault> {
     let errs = Box::new(alloc, |alloc: Global, term: &Term| wrong(alloc, term))?;
     host.conv(alloc, "wrong", errs)?;
     misbehaving(alloc, &mut host)?;
+    overreaching(alloc, &mut host)?;
     Ok(host)
 }
 
@@ -75,6 +77,25 @@ fn misbehaving(alloc: Global, host: &mut Host) -> Result<(), Fault> {
     host.conv(alloc, "twisted", twists)?;
     let guesses = Box::new(alloc, |alloc: Global, term: &Term| guess(alloc, term))?;
     host.conv(alloc, "guess", guesses)?;
+    Ok(())
+}
+
+// Refiners that go by what is not there or by as much as there may be, and a conversion that renames.
+fn overreaching(alloc: Global, host: &mut Host) -> Result<(), Fault> {
+    let presumes = Box::new(alloc, |alloc: Global, goal: &Goal| presuming(alloc, goal))?;
+    host.refiner(alloc, "presuming", presumes)?;
+    let unknown = Box::new(alloc, |alloc: Global, goal: &Goal| foreign(alloc, goal))?;
+    host.refiner(alloc, "foreign", unknown)?;
+    let no_theorem = Box::new(alloc, |alloc: Global, goal: &Goal| nameless(alloc, goal))?;
+    host.refiner(alloc, "nameless", no_theorem)?;
+    let no_lemma = Box::new(alloc, |alloc: Global, goal: &Goal| {
+        without_lemma(alloc, goal)
+    })?;
+    host.refiner(alloc, "without_lemma", no_lemma)?;
+    let to_the_limit = Box::new(alloc, |alloc: Global, goal: &Goal| vast(alloc, goal))?;
+    host.refiner(alloc, "vast", to_the_limit)?;
+    let renames = Box::new(alloc, |alloc: Global, term: &Term| renamed(alloc, term))?;
+    host.conv(alloc, "renamed", renames)?;
     Ok(())
 }
 

@@ -3,8 +3,11 @@ ghost use Rattle.std.specs.Prelude.{◌≡◌, false, IfOk};
 
 use crate::laws::logs_are_checked;
 use crate::new_file::NewFile;
+use crate::script_file::{Asked, ScriptFile, path_of};
 use crate::status::status;
+use hol_bytes::read_all;
 use hol_check::{Claim, check, check_log, migrate, write_claims, write_entries};
+use hol_explain::{Script, explain};
 use hol_host::Host;
 use hol_just::Goal;
 use hol_model::{Fault, FromRead, IntoWrite, Sink, Source};
@@ -19,8 +22,7 @@ use std::{fs, io};
 fn open(rt: &HostRuntime, name: &str) -> Result<FromRead<File>, Fault>
     ensures { IfOk result (λ reader. reader.failed ≡ false) }
 {
-    let path = if name == "-" { "/dev/stdin" } else { name };
-    match fs::open(rt, path) {
+    match fs::open(rt, path_of(name)) {
         Ok(file) => Ok(FromRead::new(file)),
         Err(_) => Err(Fault::ReadFault),
     }
@@ -36,18 +38,21 @@ fn create(rt: &HostRuntime, name: &str) -> Result<IntoWrite<File>, Fault>
     }
 }
 
-// Runs a script over a host with the sample refiners and conversions.
+// Runs a script over a host with the sample refiners and conversions. Where a script is given to be explained, what is said of
+// its refusals is written to standard error behind the run, and takes no part in how the run ends.
 fn run_hosted<R: Source, W: Sink, L: Sink>(
-    alloc: Global,
+    rt: &HostRuntime,
     reader: &mut R,
     writer: &mut W,
     log: &mut L,
     wants_log: bool,
+    explained: Option<&Script<'_>>,
 ) -> Result<Summary, Fault>
     requires reader_unfailed { R.has_failed reader.old ≡ false }
     requires writer_unfailed { W.has_failed writer.old ≡ false }
     requires log_unfailed { L.has_failed log.old ≡ false }
 {
+    let alloc = rt.alloc();
     let mut host = Host::new(alloc);
     let peels = Box::new(alloc, |alloc: Global, goal: &Goal| peel(alloc, goal))?;
     host.refiner(alloc, "peel", peels)?;
@@ -57,27 +62,84 @@ fn run_hosted<R: Source, W: Sink, L: Sink>(
     host.refiner(alloc, "liar2", lies_twice)?;
     let swaps = Box::new(alloc, |alloc: Global, term: &Term| swap(alloc, term))?;
     host.conv(alloc, "swap", swaps)?;
-    run(alloc, reader, writer, log, wants_log, &host)
+    let summary = run(alloc, reader, writer, log, wants_log, &host)?;
+    if let Some(script) = explained {
+        let mut errors = IntoWrite::new(rt.stderr());
+        let _ = explain(alloc, script, &host, &mut errors);
+    }
+    Ok(summary)
+}
+
+// The names of the functions of the host.
+fn host_names(alloc: Global) -> Result<Vec<String>, Fault> {
+    let mut names = Vec::new(alloc);
+    for name in ["peel", "liar", "liar2", "swap"] {
+        names.push(String::from_str(alloc, name)?)?;
+    }
+    Ok(names)
+}
+
+// Runs a script, and explains its refusals.
+fn run_explained<R: Source, W: Sink, L: Sink>(
+    rt: &HostRuntime,
+    file: &str,
+    reader: &mut R,
+    writer: &mut W,
+    log: &mut L,
+    wants_log: bool,
+) -> Result<Summary, Fault>
+    requires reader_unfailed { R.has_failed reader.old ≡ false }
+    requires writer_unfailed { W.has_failed writer.old ≡ false }
+    requires log_unfailed { L.has_failed log.old ≡ false }
+{
+    let alloc = rt.alloc();
+    let text = read_all(alloc, reader)?;
+    let host_names = host_names(alloc)?;
+    let script = Script {
+        file,
+        text: text.as_slice(),
+        host_names: &host_names,
+    };
+    let mut source = FromRead::new(text.as_slice());
+    run_hosted(rt, &mut source, writer, log, wants_log, Some(&script))
 }
 
 /// Runs a script, and answers how many of its commands were refused.
-pub(crate) fn run_file(rt: &HostRuntime, script: &str) -> Result<u64, Fault> {
-    let alloc = rt.alloc();
-    let mut reader = open(rt, script)?;
+pub(crate) fn run_file(rt: &HostRuntime, asked: &Asked<'_>) -> Result<u64, Fault> {
+    let mut reader = ScriptFile::open(rt, asked)?;
     let mut writer = IntoWrite::new(io::writer(rt));
-    let mut no_log = IntoWrite::new(Vec::new(alloc));
-    let summary = run_hosted(alloc, &mut reader, &mut writer, &mut no_log, false)?;
+    let mut no_log = IntoWrite::new(Vec::new(rt.alloc()));
+    let summary = if asked.explains {
+        run_explained(
+            rt,
+            asked.script,
+            &mut reader,
+            &mut writer,
+            &mut no_log,
+            false,
+        )?
+    } else {
+        run_hosted(rt, &mut reader, &mut writer, &mut no_log, false, None)?
+    };
     Ok(summary.refused)
 }
 
 /// Runs a script and writes its log, and answers how many commands were refused. The log's file is made once the script
 /// is open, before the run.
-pub(crate) fn run_file_with_log(rt: &HostRuntime, script: &str, log: &str) -> Result<u64, Fault> {
+pub(crate) fn run_file_with_log(
+    rt: &HostRuntime,
+    asked: &Asked<'_>,
+    log: &str,
+) -> Result<u64, Fault> {
     logs_are_checked();
-    let mut reader = open(rt, script)?;
+    let mut reader = ScriptFile::open(rt, asked)?;
     let mut log = create(rt, log)?;
     let mut writer = IntoWrite::new(io::writer(rt));
-    let summary = run_hosted(rt.alloc(), &mut reader, &mut writer, &mut log, true)?;
+    let summary = if asked.explains {
+        run_explained(rt, asked.script, &mut reader, &mut writer, &mut log, true)?
+    } else {
+        run_hosted(rt, &mut reader, &mut writer, &mut log, true, None)?
+    };
     Ok(summary.refused)
 }
 

@@ -1,13 +1,15 @@
-//! Runs proof scripts and checks proof logs: `holp run SCRIPT [--log FILE]`, `holp check [--theory] LOG`, `holp migrate LOG NEW`.
+//! Runs proof scripts and checks proof logs: `holp run SCRIPT [--log FILE] [--explain]`, `holp check [--theory] LOG`, `holp migrate LOG NEW`.
 #![tactic(auto)]
 
 mod files;
 mod laws;
 mod new_file;
+mod script_file;
 mod status;
 
 use clap::{Arg, ArgAction, ArgMatches, Command};
 use files::{check_file, check_file_with_theory, migrate_file, run_file, run_file_with_log, tell};
+use script_file::Asked;
 use std::alloc::Global;
 use std::env;
 use std::process::ExitCode;
@@ -35,6 +37,12 @@ fn command_line<'a>(alloc: Global) -> anyhow::Result<Command<'a>> {
                 .value_name("FILE")
                 .help("The file to write the proof log to")
                 .action(ArgAction::Set),
+        )?
+        .arg(
+            Arg::new(alloc, "explain")
+                .long("explain")
+                .help("Explains each refusal on standard error")
+                .action(ArgAction::SetTrue),
         )?;
     let check = Command::new(alloc, "check")
         .about("Checks a proof log and lists its claims")
@@ -88,10 +96,13 @@ fn run_command(rt: &HostRuntime) -> anyhow::Result<u8> {
         }
     };
     if let Some(run) = matches.subcommand_matches("run") {
-        let script = value(run, "SCRIPT");
+        let asked = Asked {
+            script: value(run, "SCRIPT"),
+            explains: run.get_flag("explain"),
+        };
         let answer = match run.get_str("log") {
-            Some(log) => run_file_with_log(rt, script, log),
-            None => run_file(rt, script),
+            Some(log) => run_file_with_log(rt, &asked, log),
+            None => run_file(rt, &asked),
         };
         return Ok(tell(rt, answer)?);
     }

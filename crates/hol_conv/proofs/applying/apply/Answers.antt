@@ -1,10 +1,11 @@
-use Rattle.hol_journal.specs.Journal.{theorem_in}
-use Rattle.hol_library.specs.Library.{store_in}
-use Rattle.hol_conv.proofs.Trying.{expression-converts}
+use Rattle.hol_conv.proofs.Asking.{known-later, makes-after, carried}
 use Rattle.hol_conv.proofs.applying.apply.Goals as goal
 
+pub apply_prepared-requires-clause-known : goal.apply_prepared-requires-clause-known
+apply_prepared-requires-clause-known g c = known-later c.args.t.now c.prepare.ensures.prepares.continued c.requires.known
+
 pub returns-clause-outcome : goal.returns-clause-outcome
-returns-clause-outcome g c =
-    let library = c.args.library.now in
-    expression-converts library.recorder.theory (store_in library) (g.H.Converters.conversions c.args.hosts.now) c.args.conv.now c.args.t.now (theorem_in c.convert.result) 0 c.args.fuel.now.left
-    c.convert.new.fuel.left c.convert.ensures.converts
+returns-clause-outcome g c = carried c.prepare.ensures.prepares.continued c.apply_prepared.ensures.outcome
+
+pub returns-clause-makes : goal.returns-clause-makes
+returns-clause-makes g c = makes-after c.prepare.ensures.prepares.continued c.apply_prepared.ensures.makes

@@ -23,7 +23,7 @@ pub returns-in-Rewr-clause-converts : goal.returns-in-Rewr-clause-converts
 returns-in-Rewr-clause-converts g c depth left =
     let library = c.args.library.now in
     rw (c.in-Rewr.is, ← c.deref.ensures)
-    (converts_named library.recorder.theory (store_in library) (g.H.Converters.conversions c.args.hosts.now) c.args.t.now _ (theorem_in c.rewr_conv.result) c.rewr_conv.ensures.rewrites depth left)
+    (converts_named library.recorder.theory (store_in library) (g.H.Converters.conversions c.args.hosts.now) c.args.t.now _ (theorem_in c.rewritten.result) c.rewritten.ensures.rewrites depth left)
 
 pub returns-in-Host-clause-converts : goal.returns-in-Host-clause-converts
 returns-in-Host-clause-converts g c depth left =

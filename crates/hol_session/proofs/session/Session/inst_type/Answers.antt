@@ -4,7 +4,7 @@ use Rattle.hol_session.specs.SessionState.{state_of, theorem_of}
 use Rattle.hol_session.proofs.ReplacementLemmas.{inst_type-answers}
 use Rattle.hol_session.proofs.session.Session.inst_type.Goals as goal
 
-pub returns-in-Some-clause-answers : goal.returns-in-Some-clause-answers
-returns-in-Some-clause-answers c = λ trees matched.
-    inst_type-answers (theorem_in c.inst_type.result) (state_of c.args.self.now) trees c.args.name.now c.in-Ok.theta.items c.deref.result.now c.in-Some.theorem.now.theorem
-    (c.in-Ok.ensures trees matched) c.deref.ensures.value (ap theorem_of (sym c.in-Some.ensures.found)) c.inst_type.ensures.outcome
+pub returns-clause-answers : goal.returns-clause-answers
+returns-clause-answers c = λ trees matched.
+    inst_type-answers (theorem_in c.apply_rule.result) (state_of c.args.self.now) trees c.args.name.now c.in-Ok.theta.items c.in-Some.premise.now.theorem
+    (c.in-Ok.ensures trees matched) (ap theorem_of (sym c.in-Some.ensures.found)) c.apply_rule.ensures.outcome.is

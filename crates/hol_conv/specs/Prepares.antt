@@ -1,0 +1,12 @@
+-- What making rules before a conversion is tried leaves.
+use Rattle.std.specs.Prelude.{List}
+use Rattle.hol_library.specs.Library.{IsLibrary, IsContinued}
+use Rattle.hol_library.specs.declared.library.Library.{Library}
+use Rattle.hol_conv_rules.specs.declared.prepared.NamedRules.{NamedRules}
+use Rattle.hol_conv_rules.specs.Prepared.{ArePrepared}
+
+-- it is a library still, its journal alone has grown, and the rules are ready for it
+pub record Prepares (old new : Library) (prepared : List NamedRules) : Type 0 where
+  pub library : IsLibrary new
+  pub continued : IsContinued old new
+  pub ready : ArePrepared new prepared

@@ -1,0 +1,78 @@
+// The rules that a conversion names, made before it is tried.
+ghost use Rattle.std.specs.Prelude.{IfSome};
+ghost use Rattle.hol_library.specs.Library.{IsLibrary};
+ghost use Rattle.hol_library.specs.declared.library.Library as library;
+ghost use Rattle.hol_conv_rules.specs.Prepared.{ArePrepared, IsPreparedFor};
+ghost use Rattle.hol_conv.specs.Prepares.{Prepares};
+
+use hol_conv_rules::{NamedRules, rules_named};
+use hol_exprs::Conv;
+use hol_library::Library;
+use std::alloc::Global;
+
+// So many names have their rules made before; those of others are made at each place.
+const PREPARED_LIMIT: usize = 64;
+
+/// The rules of this name, where they are there.
+pub(crate) fn prepared_for<'a>(prepared: &'a [NamedRules], name: &str) -> Option<&'a NamedRules>
+    ensures found { (library : library.Library) → ArePrepared library prepared.now → IfSome result (λ named. IsPreparedFor library name.now named.now) }
+{
+    for named in prepared {
+        if named.is_of(name) {
+            return Some(named);
+        }
+    }
+    None
+}
+
+// Puts the rules of a name behind the others, where they are not there and can be made.
+fn prepare_name(library: &mut Library, alloc: Global, name: &str, prepared: &mut Vec<NamedRules>)
+    requires library { IsLibrary library.old }
+    requires prepared { ArePrepared library.old prepared.old.items }
+    ensures prepares { Prepares library.old library.new prepared.new.items }
+{
+    if PREPARED_LIMIT <= prepared.len() || prepared_for(prepared, name).is_some() {
+        return;
+    }
+    match rules_named(library, alloc, name) {
+        Ok(named) => {
+            let _room = prepared.push(named);
+        }
+        Err(_) => {}
+    }
+}
+
+/// Puts the rules of the names in the conversion behind the others, where they can be made: others are made at each place.
+#[cycle(prepare)]
+pub(crate) fn prepare(
+    library: &mut Library,
+    alloc: Global,
+    conv: &Conv,
+    prepared: &mut Vec<NamedRules>,
+)
+    requires library { IsLibrary library.old }
+    requires prepared { ArePrepared library.old prepared.old.items }
+    ensures prepares { Prepares library.old library.new prepared.new.items }
+{
+    match conv {
+        Conv::All | Conv::No | Conv::Beta | Conv::Host(_) => {}
+        Conv::Rewr(name) => prepare_name(library, alloc, name, prepared),
+        Conv::Then(first, others) | Conv::OrElse(first, others) => {
+            prepare(library, alloc, first, prepared);
+            prepare_all(library, alloc, others, prepared);
+        }
+        Conv::Prefixed(_, part) => prepare(library, alloc, part, prepared),
+    }
+}
+
+// The same for each of these.
+#[cycle(prepare)]
+fn prepare_all(library: &mut Library, alloc: Global, convs: &[Conv], prepared: &mut Vec<NamedRules>)
+    requires library { IsLibrary library.old }
+    requires prepared { ArePrepared library.old prepared.old.items }
+    ensures prepares { Prepares library.old library.new prepared.new.items }
+{
+    for conv in convs {
+        prepare(library, alloc, conv, prepared);
+    }
+}

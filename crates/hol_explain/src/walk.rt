@@ -1,0 +1,211 @@
+// A script is run once more, and each refusal is explained.
+ghost use Rattle.std.specs.Prelude.{◌≡◌, ◌∷◌, [], false, IfErr, Contains, OnOk};
+ghost use Rattle.hol_model.specs.declared.fault.Fault.TheVariants.{Memory, WriteFault};
+ghost use Rattle.hol_proof_manager.specs.Managers.{IsManager};
+
+use crate::hints::message_of;
+use crate::place::Place;
+use hol_bytes::write_all;
+use hol_command::cut::{cut, is_blank_text};
+use hol_host::Refiners;
+use hol_model::{Fault, Sink};
+use hol_proof_manager::Manager;
+use hol_script::execute::execute;
+use hol_script_words::{Known, Message, NoMemory, Piece, between};
+use hol_session::reply::Refused;
+use std::alloc::Global;
+
+/// A script, the name of its file, and the names of the host's functions.
+#[derive(Clone, Copy)]
+pub struct Script<'a> {
+    pub file: &'a str,
+    pub text: &'a [u8],
+    pub host_names: &'a [String],
+}
+
+// The place in the script, the number and the name of a refusal, and what is said of it.
+fn told(
+    alloc: Global,
+    file: &str,
+    place: &Place,
+    fault: &Fault,
+    message: &Message,
+) -> Result<String, NoMemory> {
+    let line = place.line;
+    let column = place.column;
+    let number = fault.number();
+    let name = fault.name();
+    let said = message.text.as_str();
+    let mut text = String::new(alloc);
+    write!(text, "{file}:{line}:{column}: E{number} {name}: {said}\n")?;
+    Ok(text)
+}
+
+// What is said of a refused command that begins at a place.
+fn explained<H: Refiners>(
+    alloc: Global,
+    script: &Script<'_>,
+    host: &H,
+    known: &Known,
+    manager: &mut Manager,
+    piece: &Piece<'_>,
+    place: &Place,
+    refused: &Refused,
+) -> Result<String, NoMemory>
+    requires { IsManager manager.old }
+    ensures { OnOk result (IsManager manager.new) }
+{
+    let message = message_of(
+        alloc,
+        host,
+        script.host_names,
+        known,
+        manager,
+        piece,
+        refused,
+    )?;
+    let here = place.behind(between(piece.bytes, 0, message.at));
+    told(alloc, script.file, &here, &refused.fault, &message)
+}
+
+// Runs a command, and answers what is said of its refusal, if it is refused.
+fn answer<H: Refiners>(
+    alloc: Global,
+    script: &Script<'_>,
+    host: &H,
+    known: &mut Known,
+    manager: &mut Manager,
+    bytes: &[u8],
+    place: &Place,
+) -> Result<Option<String>, NoMemory>
+    requires { IsManager manager.old }
+    ensures { OnOk result (IsManager manager.new) }
+{
+    let piece = Piece::new(alloc, bytes)?;
+    match execute(manager, alloc, host, bytes) {
+        Ok(_) => {
+            known.learn(alloc, &piece)?;
+            Ok(None)
+        }
+        Err(refused) => {
+            let text = explained(alloc, script, host, known, manager, &piece, place, &refused)?;
+            Ok(Some(text))
+        }
+    }
+}
+
+// What is said of a rest without a mark behind it.
+fn unfinished(alloc: Global, file: &str, rest: &[u8], place: &Place) -> Result<String, NoMemory> {
+    let piece = Piece::new(alloc, rest)?;
+    let here = place.behind(between(rest, 0, piece.start(0)));
+    let message = Message::new(
+        alloc,
+        0,
+        "a command ends with `;;`, and here the script ends before one",
+    )?;
+    told(alloc, file, &here, &Fault::Syntax, &message)
+}
+
+// Runs a command, and writes what is said of its refusal, if it is refused.
+fn explain_piece<W: Sink, H: Refiners>(
+    alloc: Global,
+    script: &Script<'_>,
+    host: &H,
+    writer: &mut W,
+    known: &mut Known,
+    manager: &mut Manager,
+    piece: &[u8],
+    place: &Place,
+) -> Result<(), Fault>
+    requires unfailed { W.has_failed writer.old ≡ false }
+    requires manager { IsManager manager.old }
+    ensures unfailed { OnOk result (W.has_failed writer.new ≡ false) }
+    ensures manager { OnOk result (IsManager manager.new) }
+    ensures refusals { IfErr result (Contains (WriteFault ∷ Memory ∷ [])) }
+{
+    match answer(alloc, script, host, known, manager, piece, place) {
+        Ok(None) => Ok(()),
+        Ok(Some(text)) => match write_all(writer, text.as_bytes()) {
+            Ok(()) => Ok(()),
+            Err(_) => Err(Fault::WriteFault),
+        },
+        Err(_) => Err(Fault::Memory),
+    }
+}
+
+// Writes what is said of a rest without a mark behind it, where it holds more than white space.
+fn explain_rest<W: Sink>(
+    alloc: Global,
+    script: &Script<'_>,
+    writer: &mut W,
+    rest: &[u8],
+    place: &Place,
+) -> Result<(), Fault>
+    requires { W.has_failed writer.old ≡ false }
+    ensures { IfErr result (Contains (WriteFault ∷ Memory ∷ [])) }
+{
+    if is_blank_text(rest) {
+        return Ok(());
+    }
+    match unfinished(alloc, script.file, rest, place) {
+        Ok(text) => match write_all(writer, text.as_bytes()) {
+            Ok(()) => Ok(()),
+            Err(_) => Err(Fault::WriteFault),
+        },
+        Err(_) => Err(Fault::Memory),
+    }
+}
+
+// Runs the commands of a script, and writes what is said of each that is refused.
+fn explain_pieces<W: Sink, H: Refiners>(
+    alloc: Global,
+    script: &Script<'_>,
+    host: &H,
+    writer: &mut W,
+    known: &mut Known,
+    manager: &mut Manager,
+) -> Result<(), Fault>
+    requires unfailed { W.has_failed writer.old ≡ false }
+    requires manager { IsManager manager.old }
+    ensures { IfErr result (Contains (WriteFault ∷ Memory ∷ [])) }
+{
+    let mut rest = script.text;
+    let mut place = Place::start();
+    for _ in 0..script.text.len() {
+        let Some((piece, behind)) = cut(rest) else {
+            break;
+        };
+        if !is_blank_text(piece) {
+            match explain_piece(alloc, script, host, writer, known, manager, piece, &place) {
+                Ok(()) => {}
+                Err(fault) => return Err(fault),
+            }
+        }
+        place = place.behind(piece).behind(b";;");
+        rest = behind;
+    }
+    explain_rest(alloc, script, writer, rest, &place)
+}
+
+/// Runs the commands of a script once more, over a proof manager of its own, and writes a message for each that is refused:
+/// the file, the line and the column of the part in question, the refusal, and what was expected and what stands there.
+/// What the messages say takes part in no promise. Refused: Memory, and WriteFault where the sink failed.
+pub fn explain<W: Sink, H: Refiners>(
+    alloc: Global,
+    script: &Script<'_>,
+    host: &H,
+    writer: &mut W,
+) -> Result<(), Fault>
+    requires { W.has_failed writer.old ≡ false }
+    ensures { IfErr result (Contains (WriteFault ∷ Memory ∷ [])) }
+{
+    let mut known = match Known::new(alloc) {
+        Ok(known) => known,
+        Err(_) => return Err(Fault::Memory),
+    };
+    let mut manager = match Manager::new(alloc) {
+        Ok(manager) => manager,
+        Err(_) => return Err(Fault::Memory),
+    };
+    explain_pieces(alloc, script, host, writer, &mut known, &mut manager)
+}

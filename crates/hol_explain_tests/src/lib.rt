@@ -1,0 +1,9 @@
+//! Tests of the messages that explain refusals, which no contract tells.
+#![tactic(auto)]
+
+#[cfg(test)]
+mod message_tests;
+#[cfg(test)]
+mod rows;
+#[cfg(test)]
+mod sinks;

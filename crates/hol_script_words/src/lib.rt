@@ -1,0 +1,21 @@
+//! The words of a script's refused command: what they are, which names are known where they stand, and what could stand where a
+//! text stops being a command. Messages alone are made of it (`hol_explain`); no promise stands on it.
+#![tactic(auto)]
+
+mod command_words;
+mod known;
+mod messages;
+mod no_memory;
+mod piece;
+mod scanner;
+mod sentences;
+mod syntax;
+
+pub use command_words::{is_refiner, takes_theorem};
+pub use known::{Known, given, is_among};
+pub use messages::{Message, Unknown, unknown_name};
+pub use no_memory::NoMemory;
+pub use piece::{Piece, between, text_of};
+pub use scanner::{Kind, Word};
+pub use sentences::sentence;
+pub use syntax::no_command;

@@ -1,0 +1,132 @@
+use Rattle.std.proofs.Common.{List, [], ◌∷◌, false, Err, sym, subst}
+use Rattle.hol_model.specs.Terms.NamedTerm.{NamedTerm}
+use Rattle.hol_model.specs.Terms.Nameless.{Nameless, image}
+use Rattle.hol_bool.proofs.PreludeSteps.{still_formula}
+use Rattle.hol_equal.proofs.StepLemmas.{continues-twice}
+use Rattle.hol_taut.proofs.LawLemmas.{still_lawful}
+use Rattle.hol_model.specs.Propositional.Connectives.{fact}
+use Rattle.hol_taut.specs.declared.facts.Facts.{Nothing}
+use Rattle.hol_model.specs.Propositional.Propositions.{proposition}
+use Rattle.hol_taut.specs.Proved.{Proves}
+use Rattle.hol_taut.specs.Refuted.{AreTold, AreAllFormulas, AreAllSmall}
+use Rattle.hol_taut.proofs.RefutedLemmas.{assumed-proves, memory-past}
+use Rattle.hol_taut.proofs.AtomLemmas.{atoms-formulas, atoms-small, atoms-told}
+use Rattle.hol_taut.proofs.TautologyLemmas.{denial-image, denial-fits, denied-fits, denied-leads}
+use Rattle.hol_taut.proofs.splits.split.Goals as goal
+
+pub returns-in-Err-clause-continues : goal.returns-in-Err-clause-continues
+returns-in-Err-clause-continues c =
+    c.in-Err.ensures.continues
+
+pub returns-in-Err-clause-proves : goal.returns-in-Err-clause-proves
+returns-in-Err-clause-proves c = λ room small.
+    memory-past c.in-Err.fault (image c.args.denial.now ∷ []) (image c.args.denial.now) room (c.in-Err.ensures.gives c.requires.denies.known)
+
+pub refuted-requires-clause-laws : goal.refuted-requires-clause-laws
+refuted-requires-clause-laws c =
+    still_lawful c.args.recorder.now c.assume.new.recorder c.assume.result c.args.laws.now c.assume.ensures.continues c.requires.laws
+
+pub refuted-requires-clause-formula : goal.refuted-requires-clause-formula
+refuted-requires-clause-formula c =
+    still_formula c.args.recorder.now c.assume.new.recorder c.assume.result c.args.term.now c.assume.ensures.continues c.requires.formula
+
+pub refuted-requires-clause-always : goal.refuted-requires-clause-always
+refuted-requires-clause-always c =
+    c.requires.always
+
+pub refuted-requires-clause-denied : goal.refuted-requires-clause-denied
+refuted-requires-clause-denied c =
+    c.in-Ok.ensures.continues.held
+
+pub refuted-requires-clause-atoms : goal.refuted-requires-clause-atoms
+refuted-requires-clause-atoms c =
+    subst (λ (l : List NamedTerm). AreAllFormulas c.assume.new.recorder.theory l) (sym c.requires.atoms)
+    (atoms-formulas c.assume.new.recorder.theory c.args.term.now
+    (still_formula c.args.recorder.now c.assume.new.recorder c.assume.result c.args.term.now c.assume.ensures.continues c.requires.formula))
+
+pub refuted-requires-clause-told : goal.refuted-requires-clause-told
+refuted-requires-clause-told c =
+    subst (λ (l : List NamedTerm). AreTold Nothing l (proposition c.args.term.now)) (sym c.requires.atoms) (atoms-told c.args.term.now)
+
+pub refuted-requires-clause-held : goal.refuted-requires-clause-held
+refuted-requires-clause-held c =
+    tt
+
+pub returns-in-Err-refuted-clause-continues : goal.returns-in-Err-refuted-clause-continues
+returns-in-Err-refuted-clause-continues c =
+    continues-twice c.args.recorder.now c.assume.new.recorder c.refuted.new.recorder c.assume.result (Err c.in-Err-refuted.fault) c.assume.ensures.continues c.in-Err-refuted.ensures.continues
+
+pub returns-in-Err-refuted-clause-proves : goal.returns-in-Err-refuted-clause-proves
+returns-in-Err-refuted-clause-proves c = λ room small.
+    c.in-Err-refuted.ensures.proves (image c.args.denial.now ∷ []) room
+    (subst (λ (t : Nameless). Proves c.in-Ok.denied.theorem (image c.args.denial.now ∷ []) t)
+    (denial-image c.args.recorder.now.theory c.args.term.now c.args.denial.now c.requires.formula c.requires.denial)
+    (assumed-proves c.in-Ok.denied (image c.args.denial.now) [] (c.in-Ok.ensures.gives c.requires.denies.known))) tt small
+    (subst (λ (l : List NamedTerm). AreAllSmall room l) (sym c.requires.atoms) (atoms-small room c.args.term.now small))
+
+pub denied_by-requires-clause-laws : goal.denied_by-requires-clause-laws
+denied_by-requires-clause-laws c =
+    still_lawful c.args.recorder.now c.refuted.new.recorder c.refuted.result c.args.laws.now
+    (continues-twice c.args.recorder.now c.assume.new.recorder c.refuted.new.recorder c.assume.result c.refuted.result c.assume.ensures.continues c.refuted.ensures.continues) c.requires.laws
+
+pub denied_by-requires-clause-formula : goal.denied_by-requires-clause-formula
+denied_by-requires-clause-formula c =
+    still_formula c.args.recorder.now c.refuted.new.recorder c.refuted.result c.args.denial.now
+    (continues-twice c.args.recorder.now c.assume.new.recorder c.refuted.new.recorder c.assume.result c.refuted.result c.assume.ensures.continues c.refuted.ensures.continues) c.requires.denies
+
+pub denied_by-requires-clause-absurd : goal.denied_by-requires-clause-absurd
+denied_by-requires-clause-absurd c =
+    c.in-Ok-refuted.ensures.continues.held
+
+pub returns-in-Err-denied_by-clause-continues : goal.returns-in-Err-denied_by-clause-continues
+returns-in-Err-denied_by-clause-continues c =
+    continues-twice c.args.recorder.now c.refuted.new.recorder c.denied_by.new.recorder c.refuted.result (Err c.in-Err-denied_by.fault)
+    (continues-twice c.args.recorder.now c.assume.new.recorder c.refuted.new.recorder c.assume.result c.refuted.result c.assume.ensures.continues c.refuted.ensures.continues)
+    c.in-Err-denied_by.ensures.continues
+
+pub returns-in-Err-denied_by-clause-proves : goal.returns-in-Err-denied_by-clause-proves
+returns-in-Err-denied_by-clause-proves c = λ room small.
+    c.in-Err-denied_by.ensures.proves [] room (denial-fits room (image c.args.term.now) (image c.args.denial.now)
+    (denial-image c.args.recorder.now.theory c.args.term.now c.args.denial.now c.requires.formula c.requires.denial) small)
+    (denied-fits room (image c.args.term.now) (image c.args.denial.now) (denial-image c.args.recorder.now.theory c.args.term.now c.args.denial.now c.requires.formula c.requires.denial) small)
+    (c.in-Ok-refuted.ensures.proves (image c.args.denial.now ∷ []) room
+    (subst (λ (t : Nameless). Proves c.in-Ok.denied.theorem (image c.args.denial.now ∷ []) t)
+    (denial-image c.args.recorder.now.theory c.args.term.now c.args.denial.now c.requires.formula c.requires.denial)
+    (assumed-proves c.in-Ok.denied (image c.args.denial.now) [] (c.in-Ok.ensures.gives c.requires.denies.known))) tt small
+    (subst (λ (l : List NamedTerm). AreAllSmall room l) (sym c.requires.atoms) (atoms-small room c.args.term.now small)))
+
+pub by_one-requires-clause-laws : goal.by_one-requires-clause-laws
+by_one-requires-clause-laws c =
+    still_lawful c.args.recorder.now c.denied_by.new.recorder c.denied_by.result c.args.laws.now
+    (continues-twice c.args.recorder.now c.refuted.new.recorder c.denied_by.new.recorder c.refuted.result c.denied_by.result
+    (continues-twice c.args.recorder.now c.assume.new.recorder c.refuted.new.recorder c.assume.result c.refuted.result c.assume.ensures.continues c.refuted.ensures.continues)
+    c.denied_by.ensures.continues) c.requires.laws
+
+pub by_one-requires-clause-premise : goal.by_one-requires-clause-premise
+by_one-requires-clause-premise c =
+    c.in-Ok-denied_by.ensures.continues.held.made
+
+pub returns-clause-continues : goal.returns-clause-continues
+returns-clause-continues c =
+    continues-twice c.args.recorder.now c.denied_by.new.recorder c.by_one.new.recorder c.denied_by.result c.by_one.result
+    (continues-twice c.args.recorder.now c.refuted.new.recorder c.denied_by.new.recorder c.refuted.result c.denied_by.result
+    (continues-twice c.args.recorder.now c.assume.new.recorder c.refuted.new.recorder c.assume.result c.refuted.result c.assume.ensures.continues c.refuted.ensures.continues)
+    c.denied_by.ensures.continues) c.by_one.ensures.continues
+
+pub returns-clause-proves : goal.returns-clause-proves
+returns-clause-proves c = λ room small.
+    c.by_one.ensures.proves [] (fact false (image c.args.denial.now)) (image c.args.term.now) room
+    (denied-leads c.denied_by.new.recorder.theory c.args.term.now (image c.args.denial.now) room
+    (denial-image c.args.recorder.now.theory c.args.term.now c.args.denial.now c.requires.formula c.requires.denial)
+    (still_formula c.args.recorder.now c.denied_by.new.recorder c.denied_by.result c.args.term.now
+    (continues-twice c.args.recorder.now c.refuted.new.recorder c.denied_by.new.recorder c.refuted.result c.denied_by.result
+    (continues-twice c.args.recorder.now c.assume.new.recorder c.refuted.new.recorder c.assume.result c.refuted.result c.assume.ensures.continues c.refuted.ensures.continues)
+    c.denied_by.ensures.continues) c.requires.formula) small)
+    (c.in-Ok-denied_by.ensures.proves [] room (denial-fits room (image c.args.term.now) (image c.args.denial.now)
+    (denial-image c.args.recorder.now.theory c.args.term.now c.args.denial.now c.requires.formula c.requires.denial) small)
+    (denied-fits room (image c.args.term.now) (image c.args.denial.now) (denial-image c.args.recorder.now.theory c.args.term.now c.args.denial.now c.requires.formula c.requires.denial) small)
+    (c.in-Ok-refuted.ensures.proves (image c.args.denial.now ∷ []) room
+    (subst (λ (t : Nameless). Proves c.in-Ok.denied.theorem (image c.args.denial.now ∷ []) t)
+    (denial-image c.args.recorder.now.theory c.args.term.now c.args.denial.now c.requires.formula c.requires.denial)
+    (assumed-proves c.in-Ok.denied (image c.args.denial.now) [] (c.in-Ok.ensures.gives c.requires.denies.known))) tt small
+    (subst (λ (l : List NamedTerm). AreAllSmall room l) (sym c.requires.atoms) (atoms-small room c.args.term.now small))))

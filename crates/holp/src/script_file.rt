@@ -1,0 +1,76 @@
+// The file of a script, which can tell why it is not read.
+ghost use Rattle.std.specs.Prelude.{◌≡◌, false, IfOk};
+
+use hol_model::{DeviceFail, Fault, Source};
+use std::fs::{self, File};
+use std::io::{self, Read};
+
+/// How a script is run: the name of its file, where `-` names standard input, and whether standard error tells more of what
+/// is refused.
+#[derive(Clone, Copy)]
+pub(crate) struct Asked<'a> {
+    pub(crate) script: &'a str,
+    pub(crate) explains: bool,
+}
+
+/// The path of a file that a command names; `-` names standard input.
+pub(crate) fn path_of(name: &str) -> &str {
+    if name == "-" { "/dev/stdin" } else { name }
+}
+
+/// The file of a script as a source.
+#[derive(Drop)]
+pub struct ScriptFile<'a> {
+    rt: &'a HostRuntime,
+    asked: Asked<'a>,
+    file: File,
+    failed: bool,
+}
+
+// Where refusals are to be explained, tells on standard error the name of the script's file and the system's reason. The
+// message takes no part in how the run ends.
+fn tell_reason(rt: &HostRuntime, asked: &Asked<'_>, reason: &io::Error) {
+    if asked.explains {
+        let name = asked.script;
+        let _ = eprintln!(rt; "{name}: {reason}");
+    }
+}
+
+impl ScriptFile<'_> {
+    /// Opens the file of a script (`ReadFault`).
+    pub(crate) fn open<'a>(rt: &'a HostRuntime, asked: &Asked<'a>) -> Result<ScriptFile<'a>, Fault>
+        ensures { IfOk result (λ file. file.failed ≡ false) }
+    {
+        match fs::open(rt, path_of(asked.script)) {
+            Ok(file) => Ok(ScriptFile {
+                rt,
+                asked: *asked,
+                file,
+                failed: false,
+            }),
+            Err(reason) => {
+                tell_reason(rt, asked, &reason);
+                Err(Fault::ReadFault)
+            }
+        }
+    }
+}
+
+impl Source for ScriptFile<'_> {
+    ghost has_failed = { λ s. s.failed };
+
+    fn pull(&mut self, buf: &mut [u8]) -> Result<usize, DeviceFail> {
+        match self.file.read(buf) {
+            Ok(count) => Ok(count),
+            Err(reason) => {
+                self.failed = true;
+                tell_reason(self.rt, &self.asked, &reason);
+                Err(DeviceFail)
+            }
+        }
+    }
+
+    fn failed(&self) -> bool {
+        self.failed
+    }
+}
