@@ -16,7 +16,7 @@ use Rattle.hol_model.specs.Logic.Derivable.{nameless_equation}
 use Rattle.hol_model.specs.Kernel.Outcome.{Answers, unless}
 use Rattle.hol_model.specs.Kernel.Constructors.{combination_outcome}
 use Rattle.hol_model.specs.Kernel.Rules.{first_unknown}
-use Rattle.hol_model.specs.Derived.DerivedRules.{Stated, AnswersStated, up_to_names, terms_of_stated, is_roomy, is_roomy_type, has_roomy_types, beta_conv_outcome}
+use Rattle.hol_model.specs.Derived.DerivedRules.{Stated, AnswersStated, up_to_names, terms_of_stated, is_roomy, is_roomy_type, has_roomy_types}
 use Rattle.hol_model.proofs.Tests.{first_of_both, second_of_both, both, same_variable-self}
 use Rattle.hol_model.proofs.Terms.Filling.{fill_at-close_at}
 use Rattle.hol_model.proofs.Terms.Typing.{nameless_type-is}
@@ -29,6 +29,7 @@ use Rattle.hol_model.specs.Kernel.Instantiation.{replacements_refusal}
 use Rattle.hol_kernel.proofs.RuleLemmas.{known_term}
 use Rattle.hol_journal.specs.Journal.{Recorded, theorem_in}
 use Rattle.hol_equal.specs.Sequents.{DerivesInstance, IsPast}
+use Rattle.hol_equal.specs.Conversions.{beta_converted_outcome}
 use Rattle.hol_equal.proofs.StepLemmas.{application}
 use Rattle.hol_equal.proofs.CutLemmas.{answers-stated, derives-where}
 use Rattle.hol_equal.proofs.Sizes.{IsSized, leaves_room, sized-more, sized-app, sized-equation, sized-within, past-room}
@@ -204,12 +205,6 @@ module _ (theory : Theory) (name : List ℕ) (ty codomain : HolType) (body argum
       (sized-equation 1001 5002 5000 codomain (app closed (free name ty)) (image body) (omega arith) (omega arith) (trivial_sized room) (sized-more 1000 5000 1001 5000 (image body) room.body_sized (omega arith) (omega arith)))
       (omega arith) (omega arith)
 
-  reflexive-within : is_roomy (image redex) ≡ true → nameless_within_limits (nameless_equation codomain (image redex) (image redex)) ≡ true
-  reflexive-within roomy =
-      let few = (redex_room roomy).codomain_few in
-      let whole = (leaves_room (image redex) roomy).sized in
-      sized-within 1002 10003 (nameless_equation codomain (image redex) (image redex)) (sized-equation 1000 5000 5000 codomain (image redex) (image redex) (omega arith) (omega arith) whole whole) (omega arith) (omega arith)
-
   -- what is stated
   abbrev conversion : Nameless
   conversion = nameless_equation (nameless_type [] (image redex)) (image redex) (fill (image argument) (close name ty (image body)))
@@ -217,18 +212,18 @@ module _ (theory : Theory) (name : List ℕ) (ty codomain : HolType) (body argum
   abbrev converted : Stated
   converted = record { hypotheses = []; conclusion = up_to_names conversion }
 
-  outcome_is : first_unknown theory redex ≡ None → beta_conv_outcome theory redex ≡ Ok converted
+  outcome_is : first_unknown theory redex ≡ None → beta_converted_outcome theory redex ≡ Ok converted
   outcome_is none = rw none refl
 
   pub beta_conv-past : (fault : Fault) (within : Bool) → first_unknown theory redex ≡ None → IsPast fault within → (is_roomy (image redex) ≡ true → within ≡ true)
-      → AnswersStated (Err fault) (image redex ∷ []) (beta_conv_outcome theory redex)
+      → AnswersStated (Err fault) (image redex ∷ []) (beta_converted_outcome theory redex)
   beta_conv-past fault within none past fits =
       let rest = terms_of_stated converted in
       subst (λ (o : Result Stated Fault). AnswersStated (Err fault) (image redex ∷ []) o) (sym (outcome_is none))
       (past-room fault within (list_all is_roomy (image redex ∷ rest)) past (λ all. fits (first_of_both (is_roomy (image redex)) (list_all is_roomy rest) all)))
 
   -- the walk
-  pub beta_conv-walk : (fault : Fault) → first_unknown theory redex ≡ Some fault → AnswersStated (Err fault) (image redex ∷ []) (beta_conv_outcome theory redex)
+  pub beta_conv-walk : (fault : Fault) → first_unknown theory redex ≡ Some fault → AnswersStated (Err fault) (image redex ∷ []) (beta_converted_outcome theory redex)
   beta_conv-walk fault is = rw is (inr refl)
 
   -- the trivial redex is known where the redex is
@@ -262,7 +257,7 @@ module _ (theory : Theory) (name : List ℕ) (ty codomain : HolType) (body argum
 
   pub beta_conv-stated : (result : Result Recorded Fault) → first_unknown theory redex ≡ None → (theta : List (NamedTerm × NamedTerm)) → theta ≡ (argument, variable name ty) ∷ []
       → DerivesInstance result [] (put_all theta (nameless_equation codomain (app closed (free name ty)) (image body)))
-      → AnswersStated (theorem_in result) (image redex ∷ []) (beta_conv_outcome theory redex)
+      → AnswersStated (theorem_in result) (image redex ∷ []) (beta_converted_outcome theory redex)
   beta_conv-stated result none theta theta_is derives =
       let is : put_all theta (nameless_equation codomain (app closed (free name ty)) (image body)) ≡ conversion =
       ap (λ (l : List (NamedTerm × NamedTerm)). put_all l (nameless_equation codomain (app closed (free name ty)) (image body))) theta_is ∙ put-redex argument name ty codomain body body_typed ∙ sym stated_is in

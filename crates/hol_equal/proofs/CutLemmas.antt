@@ -21,7 +21,7 @@ use Rattle.hol_journal.specs.Journal.{Journal, Recorded, IsMade, theorem_in}
 use Rattle.hol_journal.proofs.Showing.{refused-is, unless-is, ok_is, formula_of}
 use Rattle.hol_equal.specs.Sequents.{Shows, DerivesIf, Gives}
 use Rattle.hol_equal.specs.Formulas.{IsFormula}
-use Rattle.hol_equal.proofs.StepLemmas.{same_sets, of_without, in_without, equation-dest, member_passes}
+use Rattle.hol_equal.proofs.StepLemmas.{same_sets, of_without, in_without, dest-equation, member_passes}
 use Rattle.hol_equal.proofs.Sizes.{leaves_room, past-room, sized-equation, sized-within}
 
 -- the conclusion of a theorem handed in is known
@@ -37,7 +37,7 @@ shown-known journal legal made is_made theorem same is h c shown =
 -- EQ_MP's very answer, where the equation is of a term and itself
 pub itself-names : (result : Result Recorded Fault) (conclusion term : NamedTerm) (ty : HolType) → type_of term ≡ Some ty → conclusion ≡ equation term term
     → IfOk result (λ made. (sides : NamedTerm × NamedTerm) → dest_equation conclusion ≡ Some sides → made.theorem.conclusion ≡ sides.1) → IfOk result (λ made. made.theorem.conclusion ≡ term)
-itself-names (Ok made) conclusion term ty typed is names = names (term, term) (ap dest_equation is ∙ equation-dest term term ty typed)
+itself-names (Ok made) conclusion term ty typed is names = names (term, term) (ap dest_equation is ∙ dest-equation term term)
 itself-names (Err fault) conclusion term ty typed is names = tt
 
 -- an equation of two formulas that leave room is within the limits
@@ -77,7 +77,7 @@ cut-derives fits (Err fault) h k p q gives = inl gives
 -- EQ_MP's very answer, where the equation is that of two formulas
 pub right-names : (result : Result Recorded Fault) (conclusion a b : NamedTerm) → type_of a ≡ Some bool_type → conclusion ≡ equation a b
     → IfOk result (λ made. (sides : NamedTerm × NamedTerm) → dest_equation conclusion ≡ Some sides → made.theorem.conclusion ≡ sides.1) → IfOk result (λ made. made.theorem.conclusion ≡ b)
-right-names (Ok made) conclusion a b typed is names = names (a, b) (ap dest_equation is ∙ equation-dest a b bool_type typed)
+right-names (Ok made) conclusion a b typed is names = names (a, b) (ap dest_equation is ∙ dest-equation a b)
 right-names (Err fault) conclusion a b typed is names = tt
 
 -- the term is among the hypotheses, as the program tests it

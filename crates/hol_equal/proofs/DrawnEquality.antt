@@ -12,7 +12,7 @@ use Rattle.hol_model.specs.Kernel.Theorem.{Theorem}
 use Rattle.hol_model.specs.Logic.Derivable.{without, nameless_equation}
 use Rattle.hol_model.specs.Kernel.Outcome.{given as stated_given, refused}
 use Rattle.hol_model.specs.Kernel.Rules.{dest_equation, first_unknown}
-use Rattle.hol_model.specs.Derived.DerivedRules.{Conclusion, images, is_among, stated, stated_up_to_names, beta_conv_outcome, sym_outcome, add_assum_outcome, prove_hyp_outcome, eqt_intro_outcome, conj_outcome}
+use Rattle.hol_model.specs.Derived.DerivedRules.{Conclusion, images, is_among, stated, stated_with_left, beta_conv_outcome, sym_outcome, add_assum_outcome, prove_hyp_outcome, eqt_intro_outcome, conj_outcome}
 use Rattle.hol_model.specs.Derived.InferenceRules.{rule_sym, rule_beta_conv, rule_add_assum, rule_prove_hyp, rule_eqt_intro, rule_conj}
 use Rattle.hol_model.specs.Logic.NamedLogic as named
 use Rattle.hol_model.specs.Logic.NamelessLogic as nameless
@@ -124,10 +124,10 @@ pub drawn-beta_conv : (theory : Theory) (t : NamedTerm) (ty : HolType) → type_
 drawn-beta_conv theory (combination (abstraction name s body) argument) ty typed =
     let redex : NamedTerm = combination (abstraction name s body) argument in
     let filled : Nameless = nameless_equation (nameless_type [] (image redex)) (image redex) (fill (image argument) (close name s (image body))) in
-    subst (λ (b : Nameless). StatesDrawn (refused (first_unknown theory redex) (stated_up_to_names [] filled))
+    subst (λ (b : Nameless). StatesDrawn (refused (first_unknown theory redex) (stated_with_left [] redex filled))
     (given (require (is_known_term theory (image redex)) (conclude [] (nameless_equation (nameless_type [] (image redex)) (image redex) (fill (image argument) b)))) (λ inference. drawn inference [])))
     (sym (body-image name s body))
-    (walked_known theory redex ty typed (stated_up_to_names [] filled) (record { passing = []; supposed = []; conclusion = filled }) (λ inference. drawn inference [])
+    (walked_known theory redex ty typed (stated_with_left [] redex filled) (record { passing = []; supposed = []; conclusion = filled }) (λ inference. drawn inference [])
     (record { hypotheses = same_set refl; conclusion = refl }))
 drawn-beta_conv theory (combination (variable name s) argument) ty typed = tt
 drawn-beta_conv theory (combination (constant name s) argument) ty typed = tt

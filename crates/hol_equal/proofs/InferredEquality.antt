@@ -7,7 +7,7 @@ use Rattle.hol_model.specs.Terms.Nameless.{Nameless, image}
 use Rattle.hol_model.specs.Logic.Theory.{Theory, IsLegal}
 use Rattle.hol_model.specs.Kernel.Theorem.{Theorem}
 use Rattle.hol_model.specs.Goals.Goals.{Sequent}
-use Rattle.hol_model.specs.Derived.DerivedRules.{Stated, Conclusion, named, up_to_names, IsConclusion, conclusion_image, AnswersStated, terms_of_theorem, sym_outcome, add_assum_outcome, prove_hyp_outcome, beta_conv_outcome}
+use Rattle.hol_model.specs.Derived.DerivedRules.{Stated, Conclusion, named, up_to_names, with_left, IsConclusion, conclusion_image, AnswersStated, terms_of_theorem, sym_outcome, add_assum_outcome, prove_hyp_outcome, beta_conv_outcome}
 use Rattle.hol_model.specs.Derived.InferenceRules.{InferenceRule, rule_sym, rule_add_assum, rule_prove_hyp, rule_beta_conv}
 use Rattle.hol_model.specs.Derived.Inference.{rule_sequent}
 use Rattle.hol_journal.specs.Steps.{sequent_of_theorem}
@@ -18,6 +18,7 @@ use Rattle.hol_equal.proofs.DrawnEquality.{drawn-sym, drawn-add_assum, drawn-pro
 concluded : (conclusion : Conclusion) (term : NamedTerm) → IsConclusion conclusion term → image term ≡ conclusion_image conclusion
 concluded (named term) found is = ap image is
 concluded (up_to_names term) found is = is
+concluded (with_left left term) found is = is.0
 
 pub infers : (theory : Theory) (rule : InferenceRule) (premises : List Theorem) (arguments : List Nameless) (outcome : Result Stated Fault) (result : Result Theorem Fault)
     → Draws theory rule premises outcome → AnswersStated result arguments outcome → Infers theory rule premises result

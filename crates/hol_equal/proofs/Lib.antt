@@ -4,6 +4,7 @@ pub mod CutLemmas
 pub mod SymLemmas
 pub mod LemmaLemmas
 pub mod BetaLemmas
+pub mod LeftSide
 pub mod ConversionLemmas
 pub mod DrawnTerms
 pub mod DrawnEquality

@@ -4,9 +4,9 @@ use Rattle.std.specs.Option.{is_some}
 use Rattle.std.specs.List.{list_all}
 use Rattle.std.proofs.lemmas.Slice.Eq.{bytes_eq-Decides}
 use Rattle.hol_model.specs.declared.fault.Fault.{Fault}
-use Rattle.hol_model.specs.declared.fault.Fault.TheVariants.{TooLarge, NotAlpha, TypeMismatch}
+use Rattle.hol_model.specs.declared.fault.Fault.TheVariants.{TooLarge, NotAlpha, NotEquation, TypeMismatch}
 use Rattle.hol_model.specs.Terms.HolType.{HolType, bool_type, function_type}
-use Rattle.hol_model.specs.Terms.NamedTerm.{NamedTerm, variable, constant, combination, abstraction, type_of, dest_variable, is_free, equation, is_within_limits}
+use Rattle.hol_model.specs.Terms.NamedTerm.{NamedTerm, variable, constant, combination, abstraction, type_of, dest_variable, is_free, equality, equation, is_within_limits}
 use Rattle.hol_model.specs.Terms.Nameless.{Nameless, free, app, lam, HasType, image, same_term}
 use Rattle.hol_model.specs.Terms.Measures.{nameless_within_limits}
 use Rattle.hol_model.specs.Logic.Theory.{Theory, IsKnown, IsKnownType, equality_name}
@@ -32,6 +32,7 @@ use Rattle.hol_journal.specs.Steps.{Step}
 use Rattle.hol_journal.specs.Journal.{Journal, Recorded, IsMade, IsRecorded, theorem_in}
 use Rattle.hol_journal.proofs.GrowthLemmas.{journals-grow}
 use Rattle.hol_journal.proofs.Showing.{unless-is, given-is, refused-is, concluded-is, ok_is, neither, sides_of, formula_of}
+use Rattle.hol_model.specs.Derived.DerivedRules.{HasLeftSide}
 use Rattle.hol_equal.specs.Sequents.{Shows, Derives, DerivesInstance, Gives, IsPast, Continues}
 
 -- the theory of what an outcome is
@@ -263,6 +264,28 @@ trans-derives result theory first second is_first is_second answers h k ty l m r
     (merged h k first.hypotheses second.hypotheses shown_first.same_set shown_second.same_set)
     (trans_outcome theory first second) (rw (e.dest, f.dest, meet) refl) answers
 
+-- the sides of an equation
+pub dest-equation : (a b : NamedTerm) → dest_equation (equation a b) ≡ Some (a, b)
+dest-equation a b = go (type_of a)
+  where
+    go : (ty : Option HolType) → dest_equation (combination (combination (equality ty) a) b) ≡ Some (a, b)
+    go None = refl
+    go (Some ty) = refl
+
+pub trans-names : (result : Result Recorded Fault) (theory : Theory) (first second : Theorem) → Answers (theorem_in result) (trans_outcome theory first second)
+    → IfOk result (λ made. (left : NamedTerm) → HasLeftSide left first.conclusion → HasLeftSide left made.theorem.conclusion)
+trans-names (Ok made) theory first second answers = λ left has. go left has.right (dest_equation second.conclusion) (rw has.sides at answers)
+  where
+    go : (left right : NamedTerm) (found : Option (NamedTerm × NamedTerm))
+        → given found NotEquation (λ sides. unless (are_alpha_equivalent right sides.0) NotAlpha (concluded theory (with_hypotheses first.hypotheses second.hypotheses) (equation left sides.1))) ≡ Ok made.theorem
+        → HasLeftSide left made.theorem.conclusion
+    go left right None is = cc
+    go left right (Some sides) is =
+        let next = concluded theory (with_hypotheses first.hypotheses second.hypotheses) (equation left sides.1) in
+        let made_is = concluded-is theory (with_hypotheses first.hypotheses second.hypotheses) (equation left sides.1) made.theorem (unless-is (are_alpha_equivalent right sides.0) NotAlpha next made.theorem is).1 in
+        subst (λ (c : NamedTerm). HasLeftSide left c) (sym (ap (λ (t : Theorem). t.conclusion) made_is)) (record { right = sides.1; sides = dest-equation left sides.1 })
+trans-names (Err fault) theory first second answers = tt
+
 -- EQ_MP
 pub eq_mp-stands : (theory : Theory) (first second : Theorem) → StandsOn theory (eq_mp_outcome theory first second)
 eq_mp-stands theory first second = search standing
@@ -463,7 +486,3 @@ still_made old new result made continues was = journals-grow.stays old new made 
 
 pub now_made : (old new : Journal) (made : Recorded) → Continues old new (Ok made) → IsMade new made
 now_made old new made continues = continues.held.made
-
--- the sides of an equation of two terms of one type
-pub equation-dest : (a b : NamedTerm) (ty : HolType) → type_of a ≡ Some ty → dest_equation (equation a b) ≡ Some (a, b)
-equation-dest a b ty typed = rw typed refl

@@ -16,7 +16,7 @@ use Rattle.hol_model.proofs.Logic.Known.{equation-sides, equality-known, IsKnown
 use Rattle.hol_journal.specs.Journal.{Journal, Recorded, IsMade, theorem_in}
 use Rattle.hol_journal.proofs.Showing.{sides_of}
 use Rattle.hol_equal.specs.Sequents.{Shows, Gives, IsPast}
-use Rattle.hol_equal.proofs.StepLemmas.{equation-dest, application}
+use Rattle.hol_equal.proofs.StepLemmas.{dest-equation}
 use Rattle.hol_equal.proofs.Sizes.{equation-room, equality-sized, sized-more, sized-app, sized-equation, sized-within, past-room}
 use Rattle.hol_equal.proofs.CutLemmas.{conclusion-known, answers-stated, given-derives}
 
@@ -151,13 +151,10 @@ pub sym-names : (result : Result Recorded Fault) (theory : Theory) (theorem same
     → IfOk result (λ made. made.theorem.conclusion ≡ equation b a)
 sym-names (Err fault) theory theorem same applied reflexive congruence relation a b parts one two three four five = tt
 sym-names (Ok made) theory theorem same applied reflexive congruence relation a b parts one two three four five =
-    let relation_typed : type_of relation ≡ Some (equality_type parts.ty) = ap type_of parts.relation_is in
-    let half : type_of (combination relation a) ≡ Some (function_type parts.ty bool_type) = application relation a parts.ty (function_type parts.ty bool_type) relation_typed parts.left_typed in
-    let whole : type_of (combination (combination relation a) a) ≡ Some bool_type = application (combination relation a) a parts.ty bool_type half parts.left_typed in
-    let applied_is = two (relation, relation) (a, b) (ap dest_equation one ∙ equation-dest relation relation (equality_type parts.ty) relation_typed) parts.dest in
+    let applied_is = two (relation, relation) (a, b) (ap dest_equation one ∙ dest-equation relation relation) parts.dest in
     let congruence_is =
-    four (combination relation a, combination relation b) (a, a) (ap dest_equation applied_is ∙ equation-dest (combination relation a) (combination relation b) (function_type parts.ty bool_type) half)
-    (ap dest_equation three ∙ equation-dest a a parts.ty parts.left_typed) in
+    four (combination relation a, combination relation b) (a, a) (ap dest_equation applied_is ∙ dest-equation (combination relation a) (combination relation b))
+    (ap dest_equation three ∙ dest-equation a a) in
     five (combination (combination relation a) a, combination (combination relation b) a)
-    (ap dest_equation congruence_is ∙ equation-dest (combination (combination relation a) a) (combination (combination relation b) a) bool_type whole)
+    (ap dest_equation congruence_is ∙ dest-equation (combination (combination relation a) a) (combination (combination relation b) a))
     ∙ ap (λ (t : NamedTerm). combination (combination t b) a) (parts.relation_is ∙ ap equality (sym parts.right_typed))

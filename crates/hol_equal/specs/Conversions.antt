@@ -1,12 +1,19 @@
 -- What beta conversion makes of an abstraction and an argument.
-use Rattle.std.specs.Prelude.{ℕ, List, [], ◌∷◌, Bool}
+use Rattle.std.specs.Prelude.{ℕ, List, [], ◌∷◌, Bool, Result}
 use Rattle.std.specs.List.{list_all}
+use Rattle.hol_model.specs.declared.fault.Fault.{Fault}
+use Rattle.hol_model.specs.declared.fault.Fault.TheVariants.{BadShape}
 use Rattle.hol_model.specs.Terms.HolType.{HolType}
 use Rattle.hol_model.specs.Terms.NamedTerm.{NamedTerm}
-use Rattle.hol_model.specs.Terms.Nameless.{Nameless, free, app, lam, image}
+use Rattle.hol_model.specs.Terms.Nameless.{Nameless, free, app, lam, image, nameless_type}
 use Rattle.hol_model.specs.Terms.Measures.{nameless_within_limits}
 use Rattle.hol_model.specs.Terms.Substitution.{close, fill}
+use Rattle.hol_model.specs.Logic.Theory.{Theory}
 use Rattle.hol_model.specs.Logic.Derivable.{nameless_equation}
+use Rattle.hol_model.specs.Logic.NamedLogic.{dest_redex}
+use Rattle.hol_model.specs.Kernel.Outcome.{given, refused}
+use Rattle.hol_model.specs.Kernel.Rules.{first_unknown}
+use Rattle.hol_model.specs.Derived.DerivedRules.{Stated, stated_up_to_names, body_with}
 
 -- \x. b
 abbrev pub closed : List ℕ → HolType → NamedTerm → Nameless
@@ -26,3 +33,10 @@ abbrev pub conversion_fits : List ℕ → HolType → HolType → NamedTerm → 
 conversion_fits name ty codomain body argument =
     list_all nameless_within_limits
     (trivial name ty body ∷ nameless_equation codomain (trivial name ty body) (image body) ∷ conversion name ty codomain body argument ∷ [])
+
+-- BETA_CONV up to the names of bound variables, those of the left side too
+abbrev pub beta_converted_outcome : Theory → NamedTerm → Result Stated Fault
+beta_converted_outcome theory term =
+    given (dest_redex term) BadShape (λ redex.
+    refused (first_unknown theory term)
+    (stated_up_to_names [] (nameless_equation (nameless_type [] (image term)) (image term) (body_with redex.0 redex.1))))

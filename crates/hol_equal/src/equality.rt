@@ -14,6 +14,7 @@ ghost use Rattle.hol_model.specs.Derived.InferenceRules.{rule_sym, rule_add_assu
 ghost use Rattle.hol_journal.specs.Journal.{IsMade, theorem_in};
 ghost use Rattle.hol_equal.specs.Sequents.{Shows, DerivesIf, Continues};
 ghost use Rattle.hol_equal.specs.Inferred.{Infers};
+ghost use Rattle.hol_equal.specs.Conversions.{beta_converted_outcome};
 
 use crate::steps::{self, conclusion_of};
 use hol_alpha::aconv;
@@ -207,13 +208,10 @@ fn is_alpha_among(term: &Term, terms: &[Term]) -> bool
     terms.iter().any(|other| aconv(term, other))
 }
 
-/// BETA_CONV: for `(\x. b) a` the theorem `(\x. b) a = b[a/x]`, in two steps. Refused where the term is no abstraction
-/// that is applied, and then where the theory does not know a type or a constant of it.
-#[tactic(auto, using(crate::proofs::InferredEquality::infers_beta_conv))]
-pub fn beta_conv(recorder: &mut Recorder, alloc: Global, term: &Term) -> Result<Rec, Fault>
+// BETA_CONV up to the names of bound variables: BETA at the abstraction's own variable, and the argument for it.
+fn beta_converted(recorder: &mut Recorder, alloc: Global, term: &Term) -> Result<Rec, Fault>
     ensures continues { Continues recorder.old recorder.new result }
-    ensures outcome { AnswersStated (theorem_in result) (image term.now ∷ []) (beta_conv_outcome recorder.old.theory term.now) }
-    ensures inferred { Infers recorder.old.theory (rule_beta_conv term.now) [] (theorem_in result) }
+    ensures outcome { AnswersStated (theorem_in result) (image term.now ∷ []) (beta_converted_outcome recorder.old.theory term.now) }
 {
     let _type = term.ty();
     let Some(redex) = redex_parts(term) else {
@@ -240,4 +238,24 @@ pub fn beta_conv(recorder: &mut Recorder, alloc: Global, term: &Term) -> Result<
         Err(fault) => return Err(fault),
     };
     steps::inst(recorder, alloc, &[(argument, binder)], &converted)
+}
+
+/// BETA_CONV: for `(\x. b) a` the theorem `(\x. b) a = b[a/x]`, the left side as it is. Refused where the term is no
+/// abstraction that is applied, and then where the theory does not know a type or a constant of it.
+#[tactic(auto, using(crate::proofs::InferredEquality::infers_beta_conv))]
+pub fn beta_conv(recorder: &mut Recorder, alloc: Global, term: &Term) -> Result<Rec, Fault>
+    ensures continues { Continues recorder.old recorder.new result }
+    ensures outcome { AnswersStated (theorem_in result) (image term.now ∷ []) (beta_conv_outcome recorder.old.theory term.now) }
+    ensures inferred { Infers recorder.old.theory (rule_beta_conv term.now) [] (theorem_in result) }
+{
+    let _type = term.ty();
+    let converted = match beta_converted(recorder, alloc, term) {
+        Ok(converted) => converted,
+        Err(fault) => return Err(fault),
+    };
+    let same = match steps::refl(recorder, alloc, term) {
+        Ok(same) => same,
+        Err(fault) => return Err(fault),
+    };
+    steps::trans(recorder, alloc, &same, &converted)
 }

@@ -9,6 +9,7 @@ ghost use Rattle.hol_model.specs.Kernel.Rules.{dest_equation, assume_outcome};
 ghost use Rattle.hol_model.specs.Kernel.Outcome.{Answers};
 ghost use Rattle.hol_model.specs.Logic.Theory.{IsKnown, IsKnownType, IsLegal};
 ghost use Rattle.hol_model.specs.Kernel.Theorem.{IsTheorem};
+ghost use Rattle.hol_model.specs.Derived.DerivedRules.{HasLeftSide};
 ghost use Rattle.hol_model.specs.Logic.Derivable.{NotFreeInAny, without, nameless_equation};
 ghost use Rattle.hol_journal.specs.Journal.{IsMade, theorem_in};
 ghost use Rattle.hol_equal.specs.Formulas.{IsFormula};
@@ -68,6 +69,7 @@ pub fn trans(
     requires first { IsMade recorder.old first.now }
     requires second { IsMade recorder.old second.now }
     ensures continues { Continues recorder.old recorder.new result }
+    ensures names { IfOk result (λ made. (left : NamedTerm) → HasLeftSide left first.now.theorem.conclusion → HasLeftSide left made.theorem.conclusion) }
     ensures derives { (h k : List Nameless) (ty : HolType) (l m r : Nameless) → Shows first.now.theorem h (nameless_equation ty l m) → Shows second.now.theorem k (nameless_equation ty m r) → Derives result (h ++ k) (nameless_equation ty l r) }
 {
     let _first = recorder.thm(first).concl();

@@ -1,13 +1,20 @@
-//! Runs the scripts of the tutorial (docs/TUTORIAL.md), one after another, and prints the name of each before its output.
+//! Runs the scripts of the README and of the tutorial (docs/TUTORIAL.md), one after another, and prints the name of each before
+//! its output; then checks the log of the first, and prints its claims.
 #![tactic(auto)]
 
+mod kept;
+
+use hol_check::{check, write_claims};
 use hol_host::NoHost;
 use hol_model::{Fault, FromRead, IntoWrite};
 use hol_script::run;
+use kept::Kept;
+use std::fs::File;
 use std::process::ExitCode;
 use std::{fs, io};
 
-const SCRIPTS: [&str; 9] = [
+const SCRIPTS: [&str; 10] = [
+    "derived.hol",
     "first.hol",
     "rules.hol",
     "goals.hol",
@@ -19,28 +26,65 @@ const SCRIPTS: [&str; 9] = [
     "declared.hol",
 ];
 
+// The script whose log is checked.
+const LOGGED: &str = "first.hol";
+
+// The file of a script.
+fn open(rt: &HostRuntime, name: &str) -> Result<File, Fault> {
+    match fs::open(rt, name) {
+        Ok(file) => Ok(file),
+        Err(_) => Err(Fault::ReadFault),
+    }
+}
+
+// Prints a line.
+fn print(rt: &HostRuntime, line: &str) -> Result<(), Fault> {
+    match println!(rt; "{line}") {
+        Ok(()) => Ok(()),
+        Err(_) => Err(Fault::WriteFault),
+    }
+}
+
 // Prints the name of a script, and what its run writes.
 fn run_script(rt: &HostRuntime, name: &str) -> Result<(), Fault> {
     let alloc = rt.alloc();
-    let mut reader = match fs::open(rt, name) {
-        Ok(file) => FromRead::new(file),
-        Err(_) => return Err(Fault::ReadFault),
-    };
-    match println!(rt; "== {name}") {
-        Ok(()) => {}
-        Err(_) => return Err(Fault::WriteFault),
-    }
+    let mut reader = FromRead::new(open(rt, name)?);
+    let title = format!(in alloc; "== {name}")?;
+    print(rt, title.as_str())?;
     let mut writer = IntoWrite::new(io::writer(rt));
     let mut no_log = IntoWrite::new(Vec::new(alloc));
     run(alloc, &mut reader, &mut writer, &mut no_log, false, &NoHost)?;
     Ok(())
 }
 
+// The log of a script.
+fn log_of(rt: &HostRuntime, name: &str) -> Result<Vec<u8>, Fault> {
+    let alloc = rt.alloc();
+    let mut reader = FromRead::new(open(rt, name)?);
+    let mut writer = IntoWrite::new(Vec::new(alloc));
+    let mut log = Kept::new(alloc);
+    run(alloc, &mut reader, &mut writer, &mut log, true, &NoHost)?;
+    Ok(log.bytes)
+}
+
+// Checks a log, and prints its claims and their number.
+fn check_log(rt: &HostRuntime, log: &[u8]) -> Result<(), Fault> {
+    let alloc = rt.alloc();
+    let mut reader = FromRead::new(log);
+    let claims = check(alloc, &mut reader)?;
+    let mut writer = IntoWrite::new(io::writer(rt));
+    write_claims(alloc, &claims, &mut writer)?;
+    let count = format!(in alloc; "claims: {}", claims.len())?;
+    print(rt, count.as_str())
+}
+
 fn run_all(rt: &HostRuntime) -> Result<(), Fault> {
     for at in 0..SCRIPTS.len() {
         run_script(rt, SCRIPTS[at])?;
     }
-    Ok(())
+    let log = log_of(rt, LOGGED)?;
+    print(rt, "== the log of first.hol, checked")?;
+    check_log(rt, &log)
 }
 
 fn main(rt: HostRuntime) -> ExitCode {

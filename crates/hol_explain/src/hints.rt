@@ -9,7 +9,8 @@ use hol_host::Refiners;
 use hol_model::Fault;
 use hol_proof_manager::Manager;
 use hol_script_words::{
-    Kind, Known, Message, NoMemory, Piece, Unknown, is_among, no_command, sentence, unknown_name,
+    Kind, Known, Message, NoMemory, Piece, Unknown, is_among, is_before_theorem, no_command,
+    sentence, unknown_name,
 };
 use hol_session::reply::Refused;
 use std::alloc::Global;
@@ -59,16 +60,6 @@ fn is_host_place(piece: &Piece<'_>, at: usize) -> bool {
     at > 0 && piece.text(at.saturating_sub(1)) == "HOST"
 }
 
-// Whether a word stands before the name of a theorem.
-fn takes_theorem(word: &str) -> bool {
-    word == "ACCEPT_TAC"
-        || word == "ASSUME_TAC"
-        || word == "MP_TAC"
-        || word == "DISJ_CASES_TAC"
-        || word == "CHOOSE_TAC"
-        || word == "REWR_CONV"
-}
-
 // The last word before a place in the list that is no part of a list of names.
 fn word_before_list(piece: &Piece<'_>, at: usize) -> usize {
     let mut before = at;
@@ -90,7 +81,7 @@ fn is_theorem_place(piece: &Piece<'_>, at: usize) -> bool {
     if command == "show" {
         return at == 1;
     }
-    if at > 0 && takes_theorem(piece.text(at.saturating_sub(1))) {
+    if at > 0 && is_before_theorem(piece.text(at.saturating_sub(1))) {
         return true;
     }
     if command == "thm" {
@@ -268,7 +259,7 @@ pub(crate) fn message_of<H: Refiners>(
 {
     let fault = &refused.fault;
     if *fault == Fault::Syntax {
-        return no_command(alloc, piece);
+        return no_command(alloc, known, piece);
     }
     if let Some(message) = in_words(alloc, host_names, known, piece, refused)? {
         return Ok(message);

@@ -2,27 +2,22 @@
 ghost use Rattle.std.specs.Prelude.{OnOk};
 ghost use Rattle.hol_proof_manager.specs.Managers.{IsManager};
 
+use crate::conversions::push_conversion;
 use crate::premises::{push_quoted, push_typed, quoted_term, stored_premise};
+use crate::quantifiers::push_types;
+use crate::search::{Found, Span, refused_part};
 use crate::shapes::goal_wanted;
 use hol_host::Refiners;
 use hol_model::Fault;
+use hol_print::text_of_term;
 use hol_proof_manager::Manager;
-use hol_script::execute::execute;
+use hol_propositions::atoms;
 use hol_script_words::{
-    Known, Message, NoMemory, Piece, between, given, is_refiner, sentence, takes_theorem,
+    Known, Message, NoMemory, Piece, given, is_before_theorem, is_refiner, sentence,
 };
-use hol_session::reply::Printed;
+use hol_syntax::read_term;
+use hol_terms::Term;
 use std::alloc::Global;
-
-// The text of the open goals.
-fn goals(alloc: Global, manager: &Manager) -> Result<String, NoMemory>
-    requires { IsManager manager.now }
-{
-    match given(manager.print(alloc))? {
-        Some(Printed::Goals(text)) => Ok(text),
-        _ => Ok(String::new(alloc)),
-    }
-}
 
 // The line of the first goal in the text of the open goals: the second line.
 fn first_goal(text: &str) -> Option<&str> {
@@ -31,93 +26,25 @@ fn first_goal(text: &str) -> Option<&str> {
     lines.next()
 }
 
-// How many goals the text of the open goals has: a line each, behind the first.
-fn count_of(text: &str) -> usize {
-    text.lines().count().saturating_sub(1)
-}
-
-// The places in the list of the words `THEN` and `THENL` outside of all brackets.
-fn joints(alloc: Global, piece: &Piece<'_>) -> Result<Vec<usize>, NoMemory> {
-    let mut places = Vec::new(alloc);
-    let mut depth = 0usize;
-    for at in 1..piece.words.len() {
-        let word = piece.text(at);
-        if word == "(" || word == "[" {
-            depth = depth.saturating_add(1);
-        } else if word == ")" || word == "]" {
-            depth = depth.saturating_sub(1);
-        } else if depth == 0 && (word == "THEN" || word == "THENL") {
-            places.push(at)?;
-        }
-    }
-    Ok(places)
-}
-
-// The goals that a command leaves, which is taken back; nothing where it is refused.
-fn tried<H: Refiners>(alloc: Global, host: &H, manager: &mut Manager, text: &[u8]) -> Option<String>
-    requires { IsManager manager.old }
-    ensures { IsManager manager.new }
-{
-    match execute(manager, alloc, host, text) {
-        Ok(Printed::Goals(goals)) => {
-            let _undone = execute(manager, alloc, host, b"b");
-            Some(goals)
-        }
-        _ => None,
-    }
-}
-
-// A part of a refiner expression that is refused: its first word, the word behind it, and the goals before it.
-#[derive(Drop)]
-struct Part {
-    from: usize,
-    to: usize,
-    goals: String,
-}
-
-// The first part between the words `THEN` and `THENL` that is refused.
-fn refused_part<H: Refiners>(
-    alloc: Global,
-    host: &H,
-    manager: &mut Manager,
-    piece: &Piece<'_>,
-) -> Result<Part, NoMemory>
-    requires { IsManager manager.old }
-    ensures { OnOk result (IsManager manager.new) }
-{
-    let joints = joints(alloc, piece)?;
-    let mut part = Part {
-        from: 1,
-        to: piece.words.len(),
-        goals: goals(alloc, manager)?,
+// The conclusion of the first goal in the text of the open goals.
+fn conclusion(alloc: Global, known: &Known, goals: &str) -> Result<Option<Term>, NoMemory> {
+    let Some(goal) = first_goal(goals) else {
+        return Ok(None);
     };
-    for at in &joints {
-        let front = between(piece.bytes, 0, piece.start(*at));
-        match tried(alloc, host, manager, front) {
-            Some(goals) => {
-                part = Part {
-                    from: *at,
-                    to: piece.words.len(),
-                    goals,
-                };
-            }
-            None => {
-                part.to = *at;
-                break;
-            }
-        }
+    match goal.split_once("?- ") {
+        Some((_, text)) => given(read_term(alloc, &known.scope, text.as_bytes())),
+        None => Ok(None),
     }
-    Ok(part)
 }
 
 // Whether a part is a refiner without parts.
-fn is_leaf(piece: &Piece<'_>, from: usize, to: usize) -> bool {
-    for at in from..to {
+fn is_leaf(piece: &Piece<'_>, span: Span) -> bool {
+    for at in span.from..span.to {
         if piece.text(at) == "ORELSE" {
             return false;
         }
     }
-    is_refiner(piece.text(from))
+    is_refiner(piece.text(span.from))
 }
 
 // Puts what a refiner wants at the end, and the theorem that it was given, where it is one of a theorem.
@@ -139,7 +66,7 @@ fn push_wanted(
     push_quoted(text, word)?;
     text.push_str(" wants ")?;
     text.push_str(wanted)?;
-    if !takes_theorem(word) {
+    if !is_before_theorem(word) {
         return Ok(());
     }
     let name = piece.text(from.saturating_add(1));
@@ -177,10 +104,74 @@ pub(crate) fn at_new_goal(
     piece: &Piece<'_>,
     fault: &Fault,
 ) -> Result<Message, NoMemory> {
-    match no_formula(alloc, known, piece)? {
-        Some(message) => Ok(message),
-        None => Message::new(alloc, piece.start(0), sentence(fault)),
+    if *fault == Fault::NotBool {
+        if let Some(message) = no_formula(alloc, known, piece)? {
+            return Ok(message);
+        }
     }
+    Message::new(alloc, piece.start(0), sentence(fault))
+}
+
+// Puts the row of values at the end that makes a formula false.
+fn push_row(
+    alloc: Global,
+    known: &Known,
+    formula: &Term,
+    row: &[bool],
+    text: &mut String,
+) -> Result<(), NoMemory> {
+    let Some(atoms) = given(atoms(alloc, formula))? else {
+        return Ok(());
+    };
+    for at in 0..atoms.len() {
+        let Some(value) = row.get(at) else {
+            break;
+        };
+        let Some(atom) = given(text_of_term(alloc, &known.scope, &atoms[at]))? else {
+            break;
+        };
+        text.push_str(if at == 0 { ": " } else { ", " })?;
+        text.push_str(atom.as_str())?;
+        text.push_str(if *value { "=T" } else { "=F" })?;
+    }
+    Ok(())
+}
+
+// Puts what a refiner without parts wants at the end, and what stands there, and answers the place in the list of the word in
+// question.
+fn push_reason(
+    alloc: Global,
+    known: &Known,
+    manager: &Manager,
+    piece: &Piece<'_>,
+    found: &Found,
+    fault: &Fault,
+    text: &mut String,
+) -> Result<usize, NoMemory>
+    requires { IsManager manager.now }
+{
+    let from = found.span.from;
+    if *fault == Fault::BadShape || *fault == Fault::RefineFails {
+        push_wanted(alloc, known, manager, piece, from, text)?;
+        return Ok(from);
+    }
+    let Some(conclusion) = conclusion(alloc, known, found.goals.as_str())? else {
+        return Ok(from);
+    };
+    let inside = from.saturating_add(1);
+    let word = piece.text(from);
+    if word == "CONV_TAC" {
+        return push_conversion(alloc, known, manager, piece, inside, &conclusion, text);
+    }
+    if word == "EXISTS_TAC" {
+        if let Some(witness) = quoted_term(alloc, known, piece, inside)? {
+            push_types(alloc, &known.scope, text, &conclusion, &witness)?;
+        }
+    }
+    if let Fault::NotTautology { row, .. } = fault {
+        push_row(alloc, known, &conclusion, row, text)?;
+    }
+    Ok(from)
 }
 
 /// What is said of a refused `e`: what the refiner wants that is at fault, and its first goal.
@@ -195,30 +186,36 @@ pub(crate) fn at_refiner<H: Refiners>(
     requires { IsManager manager.old }
     ensures { OnOk result (IsManager manager.new) }
 {
-    let before = count_of(goals(alloc, manager)?.as_str());
-    let part = refused_part(alloc, host, manager, piece)?;
-    let from = if piece.text(part.from) == "THEN" {
-        part.from.saturating_add(1)
-    } else {
-        part.from
-    };
+    let found = refused_part(alloc, host, manager, piece)?;
+    at_part(alloc, known, manager, piece, &found, fault)
+}
+
+// What is said of a part of a refiner expression that is refused.
+fn at_part(
+    alloc: Global,
+    known: &Known,
+    manager: &Manager,
+    piece: &Piece<'_>,
+    found: &Found,
+    fault: &Fault,
+) -> Result<Message, NoMemory>
+    requires { IsManager manager.now }
+{
+    let mut at = found.span.from;
     let mut text = String::new(alloc);
     text.push_str(sentence(fault))?;
     if *fault == Fault::LengthMismatch {
-        let subgoals = count_of(part.goals.as_str())
-            .saturating_add(1)
-            .saturating_sub(before);
+        let subgoals = found.subgoals;
         write!(text, "; the number of subgoals is {subgoals}")?;
+    } else if is_leaf(piece, found.span) {
+        at = push_reason(alloc, known, manager, piece, found, fault, &mut text)?;
     }
-    if *fault != Fault::NoGoal && is_leaf(piece, from, part.to) {
-        push_wanted(alloc, known, manager, piece, from, &mut text)?;
-    }
-    if let Some(goal) = first_goal(part.goals.as_str()) {
+    if let Some(goal) = first_goal(found.goals.as_str()) {
         text.push_str("; the first goal there is ")?;
         push_quoted(&mut text, goal)?;
     }
     Ok(Message {
-        at: piece.start(from),
+        at: piece.start(at),
         text,
     })
 }

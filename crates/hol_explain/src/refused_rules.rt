@@ -1,51 +1,19 @@
 // What is said of refused rules, of their theorems and their terms.
 ghost use Rattle.hol_proof_manager.specs.Managers.{IsManager};
 
-use crate::premises::{
-    Premise, differing, infix_parts, push_quoted, push_term, push_type, push_typed, quoted_term,
-    sides, stored_premise,
-};
+use crate::arguments::{Arguments, place, push_theorem, theorem};
+use crate::conversions::push_conversion;
+use crate::misfits::mistyped;
+use crate::premises::{Premise, push_quoted, push_term, push_type, push_typed, quoted_term, sides};
+use crate::quantifiers::body_at;
 use crate::shapes::rule_wanted;
+use crate::unlike::not_alpha;
+use hol_alpha::aconv;
 use hol_model::Fault;
 use hol_proof_manager::Manager;
 use hol_script_words::{Kind, Known, Message, NoMemory, Piece, given, sentence};
-use hol_terms::{Term, free_in, frees, type_vars};
+use hol_terms::{Parts, Term, free_in, frees, type_vars};
 use std::alloc::Global;
-
-// The words of a rule's arguments: quoted terms, and names of theorems.
-#[derive(Drop)]
-struct Arguments {
-    quotes: Vec<usize>,
-    names: Vec<usize>,
-}
-
-// The place in a list, or the first word behind the text.
-fn place(piece: &Piece<'_>, places: &[usize], at: usize) -> usize {
-    match places.get(at) {
-        Some(place) => *place,
-        None => piece.words.len(),
-    }
-}
-
-// The theorem of this number among the arguments.
-fn theorem(
-    alloc: Global,
-    known: &Known,
-    manager: &Manager,
-    piece: &Piece<'_>,
-    at: usize,
-) -> Result<Option<Premise>, NoMemory>
-    requires { IsManager manager.now }
-{
-    stored_premise(alloc, known, manager, piece.text(at))
-}
-
-// Puts the text of a theorem with its name at the end.
-fn push_theorem(out: &mut String, name: &str, theorem: &Premise) -> Result<(), NoMemory> {
-    push_quoted(out, name)?;
-    out.push_str(" is ")?;
-    push_quoted(out, theorem.text.as_str())
-}
 
 // What the rule wants, and the first theorem or the first term that it was given.
 fn bad_shape(
@@ -118,6 +86,16 @@ fn no_equation(
     Ok(None)
 }
 
+// What a term is.
+fn kind_of(term: &Term) -> &'static str {
+    match term.parts() {
+        Parts::Variable(_, _) => " is a variable",
+        Parts::Constant(_, _) => " is a constant, not a variable",
+        Parts::Combination(_, _) => " is an application, not a variable",
+        Parts::Abstraction(_, _, _) => " is an abstraction, not a variable",
+    }
+}
+
 // The first quoted term that is no variable, or no formula.
 fn at_term(
     alloc: Global,
@@ -140,7 +118,12 @@ fn at_term(
             let mut text = String::new(alloc);
             text.push_str(sentence(fault))?;
             text.push_str(", and ")?;
-            push_typed(alloc, &known.scope, &mut text, &term)?;
+            if *fault == Fault::NotVariable {
+                push_term(alloc, &known.scope, &mut text, &term)?;
+                text.push_str(kind_of(&term))?;
+            } else {
+                push_typed(alloc, &known.scope, &mut text, &term)?;
+            }
             return Ok(Some(Message {
                 at: piece.start(at),
                 text,
@@ -150,14 +133,47 @@ fn at_term(
     Ok(None)
 }
 
-// The first hypothesis in which a variable is free.
-fn hypothesis_with<'a>(premise: &'a Premise, variable: &Term) -> Option<&'a Term> {
+// Whether two terms are alike, where there is a second.
+fn is_like(term: &Term, other: &Option<Term>) -> bool {
+    match other {
+        Some(other) => aconv(term, other),
+        None => false,
+    }
+}
+
+// The first hypothesis in which a variable is free, but for one.
+fn hypothesis_with<'a>(
+    premise: &'a Premise,
+    variable: &Term,
+    but: &Option<Term>,
+) -> Option<&'a Term> {
     for hypothesis in &premise.hypotheses {
-        if free_in(variable, hypothesis) {
+        if free_in(variable, hypothesis) && !is_like(hypothesis, but) {
             return Some(hypothesis);
         }
     }
     None
+}
+
+// What `CHOOSE` takes out of the hypotheses of its last theorem: the body of the first one's conclusion at the variable.
+fn chosen(
+    alloc: Global,
+    known: &Known,
+    manager: &Manager,
+    piece: &Piece<'_>,
+    arguments: &Arguments,
+    variable: &Term,
+) -> Result<Option<Term>, NoMemory>
+    requires { IsManager manager.now }
+{
+    if piece.text(3) != "CHOOSE" {
+        return Ok(None);
+    }
+    let at = place(piece, &arguments.names, 0);
+    match theorem(alloc, known, manager, piece, at)? {
+        Some(premise) => body_at(alloc, &premise.conclusion, variable),
+        None => Ok(None),
+    }
 }
 
 // The variable, and the first hypothesis of the last theorem in which it is free.
@@ -193,7 +209,8 @@ fn free_in_hypothesis(
             text,
         }));
     }
-    match hypothesis_with(&premise, &variable) {
+    let chosen = chosen(alloc, known, manager, piece, arguments, &variable)?;
+    match hypothesis_with(&premise, &variable, &chosen) {
         Some(hypothesis) => {
             text.push_str(" is free in the hypothesis ")?;
             push_term(alloc, &known.scope, &mut text, hypothesis)?;
@@ -201,147 +218,13 @@ fn free_in_hypothesis(
             push_quoted(&mut text, piece.text(at))?;
         }
         None => {
-            text.push_str(" is free where it may not be: ")?;
-            push_theorem(&mut text, piece.text(at), &premise)?;
+            let first = piece.text(place(piece, &arguments.names, 0));
+            text.push_str(" is free in the conclusion of ")?;
+            push_quoted(&mut text, first)?;
         }
     }
     Ok(Some(Message {
         at: piece.start(quote),
-        text,
-    }))
-}
-
-// Two terms that have to be alike, and the first parts in which they differ.
-fn differ(
-    alloc: Global,
-    known: &Known,
-    at: usize,
-    first: (&str, &Term),
-    second: (&str, &Term),
-) -> Result<Message, NoMemory> {
-    let mut text = String::new(alloc);
-    text.push_str(first.0)?;
-    text.push_str(" ")?;
-    push_term(alloc, &known.scope, &mut text, first.1)?;
-    text.push_str(" and ")?;
-    text.push_str(second.0)?;
-    text.push_str(" ")?;
-    push_term(alloc, &known.scope, &mut text, second.1)?;
-    text.push_str(" have to be alike")?;
-    if let Some((part, other)) = differing(first.1, second.1) {
-        text.push_str("; they differ first at ")?;
-        push_term(alloc, &known.scope, &mut text, part)?;
-        text.push_str(" and ")?;
-        push_term(alloc, &known.scope, &mut text, other)?;
-    }
-    Ok(Message { at, text })
-}
-
-// The terms of two theorems that have to be alike.
-fn not_alpha(
-    alloc: Global,
-    known: &Known,
-    manager: &Manager,
-    piece: &Piece<'_>,
-    arguments: &Arguments,
-) -> Result<Option<Message>, NoMemory>
-    requires { IsManager manager.now }
-{
-    let rule = piece.text(3);
-    let from = if rule == "DISJ_CASES" { 1 } else { 0 };
-    let at = place(piece, &arguments.names, from + 1);
-    let Some(first) = theorem(
-        alloc,
-        known,
-        manager,
-        piece,
-        place(piece, &arguments.names, from),
-    )?
-    else {
-        return Ok(None);
-    };
-    let Some(second) = theorem(alloc, known, manager, piece, at)? else {
-        return Ok(None);
-    };
-    let one = &first.conclusion;
-    let other = &second.conclusion;
-    let here = piece.start(at);
-    if rule == "DISJ_CASES" {
-        let message = differ(
-            alloc,
-            known,
-            here,
-            ("the conclusion of the second theorem,", one),
-            ("that of the third,", other),
-        )?;
-        return Ok(Some(message));
-    }
-    if let (true, Some((_, middle)), Some((next, _))) = (
-        rule == "TRANS",
-        sides(one),
-        sides(other),
-    ) {
-        let message = differ(
-            alloc,
-            known,
-            here,
-            ("the right side of the first theorem,", middle),
-            ("the left side of the second,", next),
-        )?;
-        return Ok(Some(message));
-    }
-    let (said, left) = if rule == "MP" {
-        (
-            "the antecedent of the first theorem,",
-            infix_parts(one, "==>"),
-        )
-    } else {
-        ("the left side of the first theorem,", sides(one))
-    };
-    match left {
-        Some((wanted, _)) => {
-            let message = differ(
-                alloc,
-                known,
-                here,
-                (said, wanted),
-                ("the conclusion of the second,", other),
-            )?;
-            Ok(Some(message))
-        }
-        None => Ok(None),
-    }
-}
-
-// The types that do not fit, of the theorems and the terms of a rule.
-fn mistyped(
-    alloc: Global,
-    known: &Known,
-    manager: &Manager,
-    piece: &Piece<'_>,
-    arguments: &Arguments,
-) -> Result<Option<Message>, NoMemory>
-    requires { IsManager manager.now }
-{
-    let mut text = String::new(alloc);
-    push_quoted(&mut text, piece.text(3))?;
-    text.push_str(" finds types that do not fit")?;
-    for number in 0..arguments.quotes.len() {
-        let at = place(piece, &arguments.quotes, number);
-        if let Some(term) = quoted_term(alloc, known, piece, at)? {
-            text.push_str("; ")?;
-            push_typed(alloc, &known.scope, &mut text, &term)?;
-        }
-    }
-    for number in 0..arguments.names.len() {
-        let at = place(piece, &arguments.names, number);
-        if let Some(premise) = theorem(alloc, known, manager, piece, at)? {
-            text.push_str("; ")?;
-            push_theorem(&mut text, piece.text(at), &premise)?;
-        }
-    }
-    Ok(Some(Message {
-        at: piece.start(4),
         text,
     }))
 }
@@ -390,7 +273,31 @@ fn at_definition(
     }))
 }
 
-// The term that a rule or a conversion was given, behind the sentence of the refusal.
+// The conversion that does not apply, and the term that it is applied to.
+fn at_conversion(
+    alloc: Global,
+    known: &Known,
+    manager: &Manager,
+    piece: &Piece<'_>,
+    arguments: &Arguments,
+    fault: &Fault,
+) -> Result<Option<Message>, NoMemory>
+    requires { IsManager manager.now }
+{
+    let quoted = place(piece, &arguments.quotes, 0);
+    let Some(term) = quoted_term(alloc, known, piece, quoted)? else {
+        return Ok(None);
+    };
+    let mut text = String::new(alloc);
+    text.push_str(sentence(fault))?;
+    let at = push_conversion(alloc, known, manager, piece, 4, &term, &mut text)?;
+    Ok(Some(Message {
+        at: piece.start(at),
+        text,
+    }))
+}
+
+// The term that a rule was given, behind the sentence of the refusal.
 fn at_quoted_term(
     alloc: Global,
     known: &Known,
@@ -429,6 +336,9 @@ pub(crate) fn at_rule(
         quotes: piece.places_of(alloc, Kind::Quote, 4)?,
         names: piece.places_of(alloc, Kind::Name, 4)?,
     };
+    if piece.text(3) == "CONV" {
+        return at_conversion(alloc, known, manager, piece, &arguments, fault);
+    }
     match fault {
         Fault::BadShape => bad_shape(alloc, known, manager, piece, &arguments),
         Fault::NotEquation => no_equation(alloc, known, manager, piece, &arguments),
@@ -436,7 +346,7 @@ pub(crate) fn at_rule(
         Fault::FreeInHypothesis => free_in_hypothesis(alloc, known, manager, piece, &arguments),
         Fault::TypeMismatch => mistyped(alloc, known, manager, piece, &arguments),
         Fault::NotVariable | Fault::NotBool => at_term(alloc, known, piece, &arguments, fault),
-        Fault::NotTrivialBeta | Fault::ConvFails | Fault::NoMatch | Fault::TooManyAtoms => {
+        Fault::NotTrivialBeta | Fault::TooManyAtoms => {
             at_quoted_term(alloc, known, piece, &arguments, fault)
         }
         _ => Ok(None),

@@ -1,6 +1,6 @@
-// What rules and refiners want of what they are given.
+// What rules, refiners and conversions want of what they are given.
 
-// A rule or a refiner, and what it wants.
+// A rule, a refiner or a conversion, and what it wants.
 #[derive(Clone, Copy, Debug)]
 struct Wanted<'a> {
     word: &'a str,
@@ -152,7 +152,17 @@ const ASSUMPTION_TAC: Wanted<'static> = Wanted {
     form: "a goal that is one of its assumptions",
 };
 
-const REFINERS: [Wanted<'static>; 15] = [
+const CONV_TAC: Wanted<'static> = Wanted {
+    word: "CONV_TAC",
+    form: "a conversion whose equation has no other hypotheses than assumptions of the goal",
+};
+
+const REWRITE_TAC: Wanted<'static> = Wanted {
+    word: "REWRITE_TAC",
+    form: "theorems whose hypotheses are assumptions of the goal",
+};
+
+const REFINERS: [Wanted<'static>; 17] = [
     REFL_TAC,
     CONJ_TAC,
     EQ_TAC,
@@ -168,7 +178,26 @@ const REFINERS: [Wanted<'static>; 15] = [
     MP_TAC,
     UNDISCH_TAC,
     ASSUMPTION_TAC,
+    CONV_TAC,
+    REWRITE_TAC,
 ];
+
+const RAND_CONV: Wanted<'static> = Wanted {
+    word: "RAND_CONV",
+    form: "an application",
+};
+
+const RATOR_CONV: Wanted<'static> = Wanted {
+    word: "RATOR_CONV",
+    form: "an application",
+};
+
+const ABS_CONV: Wanted<'static> = Wanted {
+    word: "ABS_CONV",
+    form: "an abstraction",
+};
+
+const CONVERSIONS: [Wanted<'static>; 4] = [BETA_CONV, RAND_CONV, RATOR_CONV, ABS_CONV];
 
 fn form_in(table: &[Wanted<'static>], word: &str) -> Option<&'static str> {
     for at in 0..table.len() {
@@ -188,4 +217,9 @@ pub(crate) fn rule_wanted(word: &str) -> Option<&'static str> {
 /// What a refiner wants, where it asks for a form.
 pub(crate) fn goal_wanted(word: &str) -> Option<&'static str> {
     form_in(&REFINERS, word)
+}
+
+/// What a conversion wants, where it asks for a form.
+pub(crate) fn conversion_wanted(word: &str) -> Option<&'static str> {
+    form_in(&CONVERSIONS, word)
 }

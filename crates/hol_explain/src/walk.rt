@@ -94,6 +94,36 @@ fn answer<H: Refiners>(
     }
 }
 
+// What is said of the first command of a script that is refused when a script begins.
+fn explained_first<H: Refiners>(
+    alloc: Global,
+    script: &Script<'_>,
+    host: &H,
+    refused: &Refused,
+) -> Result<String, NoMemory> {
+    let known = Known::new(alloc)?;
+    let mut manager = match Manager::new(alloc) {
+        Ok(manager) => manager,
+        Err(_) => return Err(NoMemory),
+    };
+    let command = match cut(script.text) {
+        Some((command, _)) => command,
+        None => script.text,
+    };
+    let piece = Piece::new(alloc, command)?;
+    let place = Place::start();
+    explained(
+        alloc,
+        script,
+        host,
+        &known,
+        &mut manager,
+        &piece,
+        &place,
+        refused,
+    )
+}
+
 // What is said of a rest without a mark behind it.
 fn unfinished(alloc: Global, file: &str, rest: &[u8], place: &Place) -> Result<String, NoMemory> {
     let piece = Piece::new(alloc, rest)?;
@@ -208,4 +238,17 @@ pub fn explain<W: Sink, H: Refiners>(
         Err(_) => return Err(Fault::Memory),
     };
     explain_pieces(alloc, script, host, writer, &mut known, &mut manager)
+}
+
+/// What is said of the first command of a script, where that is refused so when a script begins. Refused: Memory.
+pub fn explain_refusal<H: Refiners>(
+    alloc: Global,
+    script: &Script<'_>,
+    host: &H,
+    refused: &Refused,
+) -> Result<String, Fault> {
+    match explained_first(alloc, script, host, refused) {
+        Ok(text) => Ok(text),
+        Err(_) => Err(Fault::Memory),
+    }
 }

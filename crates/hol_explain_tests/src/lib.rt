@@ -4,6 +4,8 @@
 #[cfg(test)]
 mod message_tests;
 #[cfg(test)]
+mod refiner_tests;
+#[cfg(test)]
 mod rows;
 #[cfg(test)]
 mod sinks;

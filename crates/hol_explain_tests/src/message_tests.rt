@@ -39,6 +39,30 @@ const NAMES: [Row<'static>; 8] = [
     },
 ];
 
+// Further names: the nearest that is known.
+const FURTHER_NAMES: [Row<'static>; 5] = [
+    Row {
+        script: "def nand = `\\p:bool. \\q:bool. ~(p /\\ q)` ;;\nthm a = REFL `[nan:bool]` ;;",
+        messages: "s:2:15: E5 UnknownConst: no constant is named `nan`; the nearest known name is `nand`\n",
+    },
+    Row {
+        script: "var part : bool ;;\nthm a = REFL `parts` ;;",
+        messages: "s:2:15: E21 UnknownName: no binder, constant or declared variable is named `parts`; the nearest known name is `part`\n",
+    },
+    Row {
+        script: "goal `T` ;;\ne HOST lair ;;",
+        messages: "s:2:8: E21 UnknownName: the host has no function of this kind under `lair`; the nearest known name is `liar`\n",
+    },
+    Row {
+        script: "thm a = REFL `(x:strange)` ;;",
+        messages: "s:1:18: E35 UnknownType: no type is named `strange`; `newtype` declares one, and a type variable begins with a capital letter\n",
+    },
+    Row {
+        script: "thm x_def = REFL `T` ;;",
+        messages: "s:1:5: E3 BadName: `x_def`: names of theorems that end in `_def` belong to definitions\n",
+    },
+];
+
 // Terms that do not fit.
 const TERMS: [Row<'static>; 8] = [
     Row {
@@ -87,7 +111,7 @@ const RULES: [Row<'static>; 9] = [
     },
     Row {
         script: "thm a = ASSUME `(p:bool)` ;;\nthm b = GEN `~(p:bool)` a ;;",
-        messages: "s:2:13: E10 NotVariable: a variable is wanted, and `~(p:bool)` has the type `bool`\n",
+        messages: "s:2:13: E10 NotVariable: a variable is wanted, and `~(p:bool)` is an application, not a variable\n",
     },
     Row {
         script: "thm a = ASSUME `(p:bool)` ;;\nthm b = SYM a ;;",
@@ -108,11 +132,77 @@ differ first at `(y:A)` and `(x:A)`\n",
     },
     Row {
         script: "thm a = REFL `(x:A)` ;;\nthm b = MK_COMB a a ;;",
-        messages: "s:2:17: E4 TypeMismatch: `MK_COMB` finds types that do not fit; `a` is `|- (x:A) = (x:A)`; `a` is `|- (x:A) = (x:A)`\n",
+        messages: "s:2:17: E4 TypeMismatch: `MK_COMB` finds types that do not fit: the function `(x:A)` has the type `A`, and its argument `(x:A)` has the type `A`\n",
     },
     Row {
         script: "thm a = CONV BETA_CONV `T` ;;",
-        messages: "s:1:24: E17 ConvFails: the conversion does not apply to the term, and the term is `T`\n",
+        messages: "s:1:14: E17 ConvFails: the conversion does not apply to the term: `BETA_CONV` wants a term `(\\x:ty. b) t`, and is applied to `T`\n",
+    },
+];
+
+// Types and variables that do not fit, and terms that are not alike.
+const MISFITS: [Row<'static>; 9] = [
+    Row {
+        script: "thm a = ASSUME `!x:A. (P:A->bool) x` ;;\nthm b = SPEC `T` a ;;",
+        messages: "s:2:14: E4 TypeMismatch: `SPEC` finds types that do not fit: the bound variable `x` of `!x:A. (P:A->bool) x` has the type `A`, and `T` has the type \
+`bool`\n",
+    },
+    Row {
+        script: "thm a = EXISTS `?x:A. T` `F` TRUTH ;;",
+        messages: "s:1:26: E4 TypeMismatch: `EXISTS` finds types that do not fit: the bound variable `x` of `?x:A. T` has the type `A`, and `F` has the type `bool`\n",
+    },
+    Row {
+        script: "thm a = ASSUME `?x:A. (P:A->bool) x` ;;\nthm b = CHOOSE `(p:bool)` a a ;;",
+        messages: "s:2:16: E4 TypeMismatch: `CHOOSE` finds types that do not fit: the bound variable `x` of `?x:A. (P:A->bool) x` has the type `A`, and `(p:bool)` has \
+the type `bool`\n",
+    },
+    Row {
+        script: "thm a = ASSUME `(P:A->bool) (x:A)` ;;\nthm b = INST [`T`, `(x:A)`] a ;;",
+        messages: "s:2:14: E4 TypeMismatch: `INST` finds types that do not fit: `T` has the type `bool`, and `(x:A)` has the type `A`\n",
+    },
+    Row {
+        script: "thm a = ASSUME `(P:A->bool) (x:A)` ;;\nthm b = EXISTS `?x:A. (P:A->bool) x` `(y:A)` a ;;",
+        messages: "s:2:46: E9 NotAlpha: the body of the first term at the witness, `(P:A->bool) (y:A)` and the conclusion of the theorem, `(P:A->bool) (x:A)` have to be \
+alike; they differ first at `(y:A)` and `(x:A)`\n",
+    },
+    Row {
+        script: "thm a = ASSUME `(p:bool) ==> (q:bool)` ;;\nthm b = MP a TRUTH ;;\nthm d = ASSUME `(p:bool) \\/ (q:bool)` ;;\nthm e = DISJ_CASES d TRUTH d ;;",
+        messages: "s:2:14: E9 NotAlpha: the antecedent of the first theorem, `(p:bool)` and the conclusion of the second, `T` have to be alike\ns:4:28: E9 NotAlpha: the \
+conclusion of the second theorem, `T` and that of the third, `(p:bool) \\/ (q:bool)` have to be alike\n",
+    },
+    Row {
+        script: "thm a = GEN `T` TRUTH ;;",
+        messages: "s:1:13: E10 NotVariable: a variable is wanted, and `T` is a constant, not a variable\n",
+    },
+    Row {
+        script: "thm a = ASSUME `(p:bool) <=> (q:bool)` ;;\nthm b = ABS `(p:bool)` a ;;",
+        messages: "s:2:13: E11 FreeInHypothesis: the variable `(p:bool)` is free in the hypothesis `(p:bool) <=> (q:bool)` of `a`\n",
+    },
+    Row {
+        script: "thm a = ASSUME `?y:A. (Q:A->A->bool) (x:A) y` ;;\nthm b = CHOOSE `(x:A)` a TRUTH ;;\nthm e = ASSUME `?x:A. (P:A->bool) x` ;;\nthm c = ADD_ASSUM \
+`(P:A->bool) (x:A)` TRUTH ;;\nthm d = ADD_ASSUM `(R:A->bool) (x:A)` c ;;\nthm f = CHOOSE `(x:A)` e d ;;",
+        messages: "s:2:16: E11 FreeInHypothesis: the variable `(x:A)` is free in the conclusion of `a`\ns:6:16: E11 FreeInHypothesis: the variable `(x:A)` is free in \
+the hypothesis `(R:A->bool) (x:A)` of `d`\n",
+    },
+];
+
+// Theorems and terms of another form than a rule wants.
+const SHAPES: [Row<'static>; 2] = [
+    Row {
+        script: "thm b = EQT_ELIM TRUTH ;;\nthm b = UNDISCH TRUTH ;;\nthm b = MP TRUTH TRUTH ;;\nthm b = SPEC `T` TRUTH ;;\nthm b = DISJ_CASES TRUTH TRUTH TRUTH \
+;;\nthm b = CONTR `F` TRUTH ;;\nthm b = NOT_INTRO TRUTH ;;\nthm b = NOT_ELIM TRUTH ;;\nthm b = CHOOSE `(x:A)` TRUTH TRUTH ;;\nthm b = CONJUNCT2 TRUTH \
+;;",
+        messages: "s:1:18: E16 BadShape: `EQT_ELIM` wants a theorem `p <=> T`, and `TRUTH` is `|- T`\ns:2:17: E16 BadShape: `UNDISCH` wants a theorem `p ==> q`, and \
+`TRUTH` is `|- T`\ns:3:12: E16 BadShape: `MP` wants a first theorem `p ==> q`, and `TRUTH` is `|- T`\ns:4:18: E16 BadShape: `SPEC` wants a theorem \
+`!x:ty. p`, and `TRUTH` is `|- T`\ns:5:20: E16 BadShape: `DISJ_CASES` wants a first theorem `p \\/ q`, and `TRUTH` is `|- T`\ns:6:19: E16 BadShape: \
+`CONTR` wants a theorem `F`, and `TRUTH` is `|- T`\ns:7:19: E16 BadShape: `NOT_INTRO` wants a theorem `p ==> F`, and `TRUTH` is `|- T`\ns:8:18: E16 \
+BadShape: `NOT_ELIM` wants a theorem `~p`, and `TRUTH` is `|- T`\ns:9:24: E16 BadShape: `CHOOSE` wants a first theorem `?x:ty. p`, and `TRUTH` is `|- \
+T`\ns:10:19: E16 BadShape: `CONJUNCT2` wants a theorem `p /\\ q`, and `TRUTH` is `|- T`\n",
+    },
+    Row {
+        script: "thm b = EXISTS `T` `T` TRUTH ;;\nthm b = BETA_CONV `T` ;;",
+        messages: "s:1:16: E16 BadShape: `EXISTS` wants a first term `?x:ty. p`, and `T` stands there\ns:2:19: E16 BadShape: `BETA_CONV` wants a term `(\\x:ty. b) t`, \
+and `T` stands there\n",
     },
 ];
 
@@ -151,10 +241,11 @@ is `(p:bool) ?- (p:bool)`\n",
 ];
 
 // Texts that are no commands.
-const COMMANDS: [Row<'static>; 8] = [
+const COMMANDS: [Row<'static>; 10] = [
     Row {
         script: "frobnicate ;;",
-        messages: "s:1:1: E28 Syntax: expected a command (`thm`, `show`, `var`, `def`, `newtype`, `newconst`, `goal`, `e`, `b`, `r`, `p` or `save`), found `frobnicate`\n",
+        messages: "s:1:1: E28 Syntax: expected a command, found `frobnicate`; the words that could stand here are `thm`, `show`, `var`, `def`, `newtype`, `newconst`, \
+`goal`, `e`, `b`, `r`, `p`, `save`\n",
     },
     Row {
         script: "thm x REFL `T` ;;",
@@ -162,7 +253,10 @@ const COMMANDS: [Row<'static>; 8] = [
     },
     Row {
         script: "thm x = RELF `T` ;;",
-        messages: "s:1:9: E28 Syntax: expected a rule, found `RELF`\n",
+        messages: "s:1:9: E28 Syntax: expected a rule, found `RELF`; the nearest known word is `REFL`; the words that could stand here are `REFL`, `ASSUME`, `BETA`, \
+`ABS`, `TRANS`, `MK_COMB`, `EQ_MP`, `DEDUCT_ANTISYM_RULE`, `INST`, `INST_TYPE`, `ETA`, `SELECT`, `SYM`, `ADD_ASSUM`, `PROVE_HYP`, `BETA_CONV`, \
+`EQT_INTRO`, `EQT_ELIM`, `CONJ`, `CONJUNCT1`, `CONJUNCT2`, `DISCH`, `UNDISCH`, `MP`, `SPEC`, `GEN`, `DISJ1`, `DISJ2`, `DISJ_CASES`, `CONTR`, \
+`NOT_INTRO`, `NOT_ELIM`, `EXISTS`, `CHOOSE`, `TAUT`, `CONV`\n",
     },
     Row {
         script: "thm x = REFL `T ;;",
@@ -170,7 +264,15 @@ const COMMANDS: [Row<'static>; 8] = [
     },
     Row {
         script: "e (CONJ_TAC THEN ;;",
-        messages: "s:1:18: E28 Syntax: expected a refiner, found the end of the command\n",
+        messages: "s:1:18: E28 Syntax: expected a refiner, found the end of the command; the words that could stand here are `ALL_TAC`, `NO_TAC`, `ACCEPT_TAC`, \
+`ASSUMPTION_TAC`, `ASSUME_TAC`, `REFL_TAC`, `CONJ_TAC`, `EQ_TAC`, `DISJ1_TAC`, `DISJ2_TAC`, `DISCH_TAC`, `GEN_TAC`, `EXISTS_TAC`, `MP_TAC`, \
+`DISJ_CASES_TAC`, `CHOOSE_TAC`, `UNDISCH_TAC`, `CONV_TAC`, `REWRITE_TAC`, `TAUT_TAC`, `HOST`, `REPEAT`, `TRY`, `(`\n",
+    },
+    Row {
+        script: "e CONV_TAC BETACONV ;;",
+        messages: "s:1:12: E28 Syntax: expected a conversion, found `BETACONV`; the nearest known word is `BETA_CONV`; the words that could stand here are `ALL_CONV`, \
+`NO_CONV`, `BETA_CONV`, `REWR_CONV`, `HOST`, `REPEATC`, `TRY_CONV`, `RAND_CONV`, `RATOR_CONV`, `ABS_CONV`, `SUB_CONV`, `DEPTH_CONV`, \
+`ONCE_DEPTH_CONV`, `TOP_DEPTH_CONV`, `(`\n",
     },
     Row {
         script: "e REWRITE_TAC [a b] ;;",
@@ -181,24 +283,33 @@ const COMMANDS: [Row<'static>; 8] = [
         messages: "s:1:3: E28 Syntax: expected a number, found the end of the command\n",
     },
     Row {
+        script: "newtype num ;;\nvar x : num-> ;;",
+        messages: "s:2:15: E28 Syntax: expected a type, or a type variable, which begins with a capital letter, found the end of the command; the words that could stand \
+here are `bool`, `num`, `(`\n",
+    },
+    Row {
         script: "show TRUTH",
         messages: "s:1:1: E28 Syntax: a command ends with `;;`, and here the script ends before one\n",
     },
 ];
 
 // Quoted texts that are no terms.
-const QUOTES: [Row<'static>; 7] = [
+const QUOTES: [Row<'static>; 8] = [
+    Row {
+        script: "thm x = REFL `` ;;",
+        messages: "s:1:15: E28 Syntax: expected a term (a name, `(`, `[`, `~`, `\\`, `!`, `?` or `@`), found the end of the quoted text\n",
+    },
     Row {
         script: "thm x = REFL `T /\\ ` ;;",
-        messages: "s:1:20: E28 Syntax: expected a term, found the end of the quoted text\n",
+        messages: "s:1:20: E28 Syntax: expected an operand (a name, `(`, `[` or `~`; a binder inside a term stands in parentheses), found the end of the quoted text\n",
     },
     Row {
         script: "thm x = REFL `(T` ;;",
-        messages: "s:1:17: E28 Syntax: expected an infix, an argument or a closing parenthesis, found the end of the quoted text\n",
+        messages: "s:1:17: E28 Syntax: expected an infix (`<=>`, `==>`, `\\/`, `/\\` or `=`), an argument (a name, `(` or `[`) or `)`, found the end of the quoted text\n",
     },
     Row {
         script: "thm x = REFL `T)` ;;",
-        messages: "s:1:16: E28 Syntax: expected an infix, an argument or the end of the term, found `)`\n",
+        messages: "s:1:16: E28 Syntax: expected an infix (`<=>`, `==>`, `\\/`, `/\\` or `=`), an argument (a name, `(` or `[`) or the end of the term, found `)`\n",
     },
     Row {
         script: "thm x = REFL `!x:bool x` ;;",
@@ -206,11 +317,12 @@ const QUOTES: [Row<'static>; 7] = [
     },
     Row {
         script: "thm x = REFL `T /\\ !x:bool. x` ;;",
-        messages: "s:1:20: E28 Syntax: expected an operand; a binder inside a term stands in parentheses, found `!`\n",
+        messages: "s:1:20: E28 Syntax: expected an operand (a name, `(`, `[` or `~`; a binder inside a term stands in parentheses), found `!`\n",
     },
     Row {
         script: "thm x = REFL `T # T` ;;",
-        messages: "s:1:17: E28 Syntax: expected an infix, an argument or the end of the term, found a byte that begins no word\n",
+        messages: "s:1:17: E28 Syntax: expected an infix (`<=>`, `==>`, `\\/`, `/\\` or `=`), an argument (a name, `(` or `[`) or the end of the term, found a byte that \
+begins no word\n",
     },
     Row {
         script: "thm x = INST_TYPE [`bool`, `a`] TRUTH ;;",
@@ -239,11 +351,13 @@ const LIMITS: [Row<'static>; 7] = [
     },
     Row {
         script: "thm a = CONV (REWR_CONV TRUTH) `(p:bool)` ;;",
-        messages: "s:1:32: E34 NoMatch: the left side of no equation of the theorem matches the term, and the term is `(p:bool)`\n",
+        messages: "s:1:15: E34 NoMatch: the left side of no equation of the theorem matches the term: `REWR_CONV TRUTH` is applied to `(p:bool)`, and \
+`TRUTH` is `|- T`\n",
     },
     Row {
         script: "goal `~T` ;;\ne CONV_TAC (REWR_CONV TRUTH) ;;",
-        messages: "s:2:3: E34 NoMatch: the left side of no equation of the theorem matches the term; the first goal there is `?- ~T`\n",
+        messages: "s:2:13: E34 NoMatch: the left side of no equation of the theorem matches the term: `REWR_CONV TRUTH` is applied to `~T`, and `TRUTH` \
+is `|- T`; the first goal there is `?- ~T`\n",
     },
     Row {
         script: "thm a = TAUT `(a:bool) /\\ (b:bool) /\\ (c:bool) /\\ (d:bool) /\\ (e:bool) /\\ (f:bool) /\\ (g:bool) /\\ (h:bool) /\\ (i:bool) /\\ (j:bool) /\\ \
@@ -270,6 +384,21 @@ fn tells_the_height(alloc: Global) -> Result<bool, Fault> {
 #[test]
 fn names_are_explained(rt: HostRuntime) {
     assert!(rt; first_wrong(rt.alloc(), &NAMES).is_none());
+}
+
+#[test]
+fn nearest_names_are_told(rt: HostRuntime) {
+    assert!(rt; first_wrong(rt.alloc(), &FURTHER_NAMES).is_none());
+}
+
+#[test]
+fn misfits_are_explained(rt: HostRuntime) {
+    assert!(rt; first_wrong(rt.alloc(), &MISFITS).is_none());
+}
+
+#[test]
+fn shapes_are_told(rt: HostRuntime) {
+    assert!(rt; first_wrong(rt.alloc(), &SHAPES).is_none());
 }
 
 #[test]

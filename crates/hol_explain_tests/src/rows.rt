@@ -1,10 +1,11 @@
 // Scripts as data, and what is said of their refusals.
 use crate::sinks::Compared;
-use hol_explain::{Script, explain};
-use hol_host::Host;
+use hol_explain::{Script, explain, explain_refusal};
+use hol_host::{Host, NoHost};
 use hol_just::Goal;
 use hol_model::Fault;
 use hol_sample_host::liar;
+use hol_session::reply::Refused;
 use std::alloc::Global;
 
 /// A script, and all that is said of its refusals.
@@ -39,4 +40,16 @@ pub(crate) fn says(alloc: Global, script: &[u8], messages: &[u8]) -> Result<bool
     let mut writer = Compared::new(messages);
     explain(alloc, &script, &host, &mut writer)?;
     Ok(writer.is_whole())
+}
+
+/// Whether this is said of the first command of a script, where it is refused so.
+pub(crate) fn says_of(alloc: Global, row: &Row<'_>, fault: Fault) -> Result<bool, Fault> {
+    let host_names = Vec::new(alloc);
+    let script = Script {
+        file: "s",
+        text: row.script.as_bytes(),
+        host_names: &host_names,
+    };
+    let text = explain_refusal(alloc, &script, &NoHost, &Refused::plain(fault))?;
+    Ok(text.as_str() == row.messages)
 }

@@ -273,4 +273,5 @@ logs-accepted journal marks claims is needed named may =
       state = s2;
       outcome = run-outcome (w1.lines ++ last ∷ []) s2 run named ended;
       are_claimed = append-nil s1.claims ∙ are;
+      entries = λ one m. subst (λ (t : Theory). IsMember one t) (sym is.theory) (covers.inside one (subst (λ (t : Theory). IsMember one t) wrote.theory m));
     }

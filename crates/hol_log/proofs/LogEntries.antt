@@ -20,7 +20,7 @@ use Rattle.hol_model.specs.Logs.LogLine.LogLine.{theorem_line, new_type_line, ne
 use Rattle.hol_model.specs.Logs.LogState.{LogState, first_state, term_type, no_sequent}
 use Rattle.hol_model.specs.Logs.LogSequents.{rule_entries, after_line}
 use Rattle.hol_model.specs.Logs.LogFaults.{is_first_version}
-use Rattle.hol_model.proofs.Terms.Membership.{IsMember-append_left, IsMember-append_right}
+use Rattle.hol_model.proofs.Terms.Membership.{of_append, IsMember-append_left, IsMember-append_right}
 use Rattle.hol_model.proofs.Tests.{both}
 use Rattle.hol_model.proofs.Terms.TypeTests.{knows_type-Decides, is_fixed-Decides, is_new_name-Decides}
 use Rattle.hol_kernel.proofs.DefinitionLemmas.{own_type-is}
@@ -30,6 +30,7 @@ use Rattle.hol_journal.specs.Lines.{Numbering, line_of, NamesTheorem, NamesParts
 use Rattle.hol_journal.specs.Journal.{Journal, added_by, grown_by, theory_of, KnowsParts, IsJournal, IsKnownWithin, IsKnownTypeWithin}
 use Rattle.hol_log.specs.Needed.{names_in_type, names_in_term, names_in, introduced_by, MarksNeeded}
 use Rattle.hol_log.specs.Needed.IsNeeded.{by_citation, by_name}
+use Rattle.hol_log.specs.LogAccepted.{IsPartOf}
 use Rattle.hol_log.specs.LogWriting.{Written, nothing_written, theorem_number, number_of_type, numbering, with_line, with_theorem, write_type, write_types, write_terms, write_entry, write_entries}
 use Rattle.hol_journal.proofs.SequentLemmas.{term_type-image}
 use Rattle.hol_journal.proofs.JournalLemmas.{grown_by-last}
@@ -103,6 +104,7 @@ module _ (journal : Journal) (claimed : List ℕ) (marks : List Bool) (is : IsJo
     pub fewer : length state.theory ≤ length (theory_of before)
     pub new_names : (name : List ℕ) → is_new_name (theory_of before) name ≡ true → is_new_name state.theory name ≡ true
     pub agree : (name : List ℕ) → IsKept before name → Agree (theory_of before) state.theory name
+    pub inside : IsPartOf state.theory (theory_of before)
     pub theorems : TheoremsStand written state
     pub listed : (number : ℕ) (step : Step) (sequent : Sequent) → slice_get before number ≡ Some (derived step sequent) → IsMarked number → list_any (λ other. number == other) written.theorems ≡ true
     pub claims : state.claims ≡ []
@@ -150,6 +152,7 @@ module _ (journal : Journal) (claimed : List ℕ) (marks : List Bool) (is : IsJo
     fewer = omega arith;
     new_names = λ name new. new;
     agree = λ name kept. record { generic = refl; declared = refl };
+    inside = λ one m. absurd m;
     theorems = record { count = refl; stand = λ place number there. cc };
     listed = λ number step sequent there marked. cc;
     claims = refl;
@@ -193,6 +196,7 @@ module _ (journal : Journal) (claimed : List ℕ) (marks : List Bool) (is : IsJo
       fewer = let sum = length-append (added_by entry) (theory_of before) in let same = ap length grown_is in let less = covers.fewer in omega arith;
       new_names = λ name new. covers.new_names name (less_new (adds entry) name (ap (λ t. is_new_name t name) (sym grown_is) ∙ new));
       agree = λ name kept. subst (λ (t : Theory). Agree t state.theory name) (sym grown_is) (less_agrees (adds entry) name kept);
+      inside = λ one m. subst (λ (t : Theory). IsMember one t) (sym grown_is) (IsMember-append_right one (added_by entry) (theory_of before) (covers.inside one m));
       theorems = covers.theorems;
       listed = λ number step sequent there marked. elim (get_last before entry number (derived step sequent) there) [
         | inl earlier ↦ covers.listed number step sequent earlier marked
@@ -225,6 +229,10 @@ module _ (journal : Journal) (claimed : List ℕ) (marks : List Bool) (is : IsJo
           let kept_sum = length-append (added_by entry) state.theory in let kept_same = ap length done.theory in let less = covers.fewer in omega arith;
       new_names = λ name is_new. ap (λ t. is_new_name t name) done.theory ∙ more_new (adds entry) name (ap (λ t. is_new_name t name) (sym grown_is) ∙ is_new);
       agree = λ name kept. subst (λ (t : Theory). Agree t done.after.theory name) (sym grown_is) (subst (λ (t : Theory). Agree (added_by entry ++ theory_of before) t name) (sym done.theory) (more_agrees (adds entry) name kept));
+      inside = λ one m. subst (λ (t : Theory). IsMember one t) (sym grown_is) (elim (of_append one (added_by entry) state.theory (subst (λ (t : Theory). IsMember one t) done.theory m)) [
+        | inl added ↦ IsMember-append_left one (added_by entry) (theory_of before) added
+        | inr earlier ↦ IsMember-append_right one (added_by entry) (theory_of before) (covers.inside one earlier)
+      ]);
       theorems = more_theorems entry entry_here done.theorems;
       listed = more_listed entry refl done.theorems;
       claims = done.claims ∙ covers.claims;

@@ -66,9 +66,9 @@ fitting_turn front longer claim is before one claimed member =
     push (first ∷ claims) = ap (λ l. claim_of first ∷ l) (push claims)
 
 pub accepted_answers : {A E : Type 0} (answer : Result A E) (lines : A → List LogLine) (journal : Journal) (claims : List Claimed) → LogsAreAccepted → IsJournal journal → AreMade journal claims → AreFitting claims
-    → IfOk answer (λ all. IsPruned journal claims (lines all)) → IfOk answer (λ all. HasNames (lines all)) → HaveIdentifiers claims → IfOk answer (λ all. IsAccepted (lines all) claims)
+    → IfOk answer (λ all. IsPruned journal claims (lines all)) → IfOk answer (λ all. HasNames (lines all)) → HaveIdentifiers claims → IfOk answer (λ all. IsAccepted journal.theory (lines all) claims)
 accepted_answers (Ok all) lines journal claims accepts is made fitting pruned named identifiers =
     let accepted = accepts journal pruned.marks claims is pruned.needed (subst HasNames pruned.is_log named)
     (λ claim member. record { is_name = identifiers claim member; made = made claim member; theorem = (fitting claim member).is_theorem; formulas = (fitting claim member).formulas }) in
-    subst (λ l. IsAccepted l claims) (sym pruned.is_log) accepted
+    subst (λ l. IsAccepted journal.theory l claims) (sym pruned.is_log) accepted
 accepted_answers (Err e) lines journal claims accepts is made fitting pruned named identifiers = tt

@@ -5,6 +5,7 @@ use Rattle.hol_model.specs.Terms.Name.{is_identifier, is_type_variable_name, is_
 use Rattle.hol_model.specs.Terms.HolType.{bool_type}
 use Rattle.hol_model.specs.Terms.NamedTerm.{NamedTerm, type_of, is_within_limits}
 use Rattle.hol_model.specs.Kernel.Theorem.{IsTheorem}
+use Rattle.hol_model.specs.Logic.Theory.{Theory, Entry}
 use Rattle.hol_model.specs.Logic.Derivable.{IsMember}
 use Rattle.hol_model.specs.Logs.LogLine.{LogLine}
 use Rattle.hol_model.specs.Logs.LogLine.LogLine.{type_variable_line, declared_type_line, variable_line, constant_line}
@@ -43,15 +44,20 @@ log_claim claim = record { name = claim.name; sequent = sequent_of_theorem claim
 abbrev pub log_of : List LogLine → LogText
 log_of lines = record { lines = map Some lines; rest = None }
 
--- the log is accepted, with these claims
-pub record IsAccepted (lines : List LogLine) (claims : List Claimed) : Type 0 where
+-- each entry of a theory is one of another
+abbrev pub IsPartOf : Theory → Theory → Type 0
+IsPartOf part whole = (entry : Entry) → IsMember entry part → IsMember entry whole
+
+-- the log is accepted, with these claims, over entries of this theory
+pub record IsAccepted (theory : Theory) (lines : List LogLine) (claims : List Claimed) : Type 0 where
   pub state : LogState
   pub outcome : log_outcome (log_of lines) ≡ Ok state
   pub are_claimed : state.claims ≡ map log_claim claims
+  pub entries : IsPartOf state.theory theory
 
 abbrev pub LogsAreAccepted : Type 0
 LogsAreAccepted = (journal : Journal) (marks : List Bool) (claims : List Claimed)
     → IsJournal journal → MarksNeeded journal.entries (map (λ claim. claim.made.entry) claims) marks
     → list_all has_name (log_lines journal.entries marks claims) ≡ true
     → ((claim : Claimed) → IsMember claim claims → MayClaim journal claim)
-    → IsAccepted (log_lines journal.entries marks claims) claims
+    → IsAccepted journal.theory (log_lines journal.entries marks claims) claims

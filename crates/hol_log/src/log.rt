@@ -13,7 +13,7 @@ use hol_model::{Fault, TEXT_BYTES_LIMIT};
 use std::alloc::Global;
 
 /// The text of the log of the claims, which `pruned` gives, within the limit on texts. Where each claim's name is an
-/// identifier, it is accepted, with these claims.
+/// identifier, it is accepted, with these claims, over entries of the recorder's theory.
 ///
 /// Refusals: Memory, and TooLong, where the text would be longer.
 pub fn log_text<'a>(
@@ -23,7 +23,7 @@ pub fn log_text<'a>(
 ) -> Result<Vec<u8>, Fault>
     requires { AreMade recorder.now (claims_of claims.now) }
     ensures pruned { IfOk result (λ text. IsPrunedText recorder.now (claims_of claims.now) text.items) }
-    ensures accepted { HaveIdentifiers (claims_of claims.now) → IfOk result (λ text. IsLogOf text.items (claims_of claims.now)) }
+    ensures accepted { HaveIdentifiers (claims_of claims.now) → IfOk result (λ text. IsLogOf recorder.now.theory text.items (claims_of claims.now)) }
     ensures within_limit { IfOk result (λ text. length text.items ≤ TEXT_BYTES_LIMIT) }
     ensures too_long { IsErrOf result TooLong → IsPastLimit recorder.now (claims_of claims.now) }
     ensures refusals { IfErr result (Contains (TooLong ∷ Memory ∷ [])) }

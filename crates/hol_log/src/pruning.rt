@@ -21,7 +21,7 @@ use hol_model::Fault;
 use std::alloc::Global;
 
 /// The log of the claims: the lines of the entries that they need, and of the claims. Where each claim's name is an
-/// identifier, the log is accepted.
+/// identifier, the log is accepted, over entries of the recorder's theory.
 pub fn pruned<'a>(
     recorder: &'a Recorder,
     alloc: Global,
@@ -30,7 +30,7 @@ pub fn pruned<'a>(
     requires { AreMade recorder.now (claims_of claims.now) }
     ensures lines { IfOk result (λ lines. IsPruned recorder.now (claims_of claims.now) (map line_of lines.items)) }
     ensures named { IfOk result (λ lines. HasNames (map line_of lines.items)) }
-    ensures accepted { HaveIdentifiers (claims_of claims.now) → IfOk result (λ lines. IsAccepted (map line_of lines.items) (claims_of claims.now)) }
+    ensures accepted { HaveIdentifiers (claims_of claims.now) → IfOk result (λ lines. IsAccepted recorder.now.theory (map line_of lines.items) (claims_of claims.now)) }
     ensures err { IfErr result (λ fault. fault ≡ Memory) }
 {
     let _entries = recorder.stored();

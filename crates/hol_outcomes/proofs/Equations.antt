@@ -17,7 +17,7 @@ use Rattle.hol_model.specs.Kernel.Outcome.{unless, given, refused}
 use Rattle.hol_model.specs.Texts.Reading.{◌>>=◌}
 use Rattle.hol_model.specs.Kernel.Theorem.{Theorem, are_alpha_equivalent}
 use Rattle.hol_model.specs.Kernel.Rules.{dest_equation, first_unknown, is_free_in_hypotheses, refl_outcome, trans_outcome, mk_comb_outcome, abs_outcome}
-use Rattle.hol_model.specs.Derived.DerivedRules.{Stated, AnswersStated, stated_up_to_names, body_with}
+use Rattle.hol_model.specs.Derived.DerivedRules.{Stated, AnswersStated, stated_with_left, body_with}
 use Rattle.hol_model.proofs.Terms.Images.{image-abstraction}
 use Rattle.hol_model.proofs.Logic.Later.{Derivable-earlier}
 use Rattle.hol_model.proofs.Logic.Known.{Derivable-known}
@@ -176,10 +176,10 @@ redex-equation : (theory : Theory) (t : NamedTerm) → StatesEquation t (redex_o
 redex-equation theory t = go (dest_redex t) (first_unknown theory t)
   where
     go : (found : Option (Abstracted × NamedTerm)) (unknown : Option Fault) → StatesEquation t (unless (is_some found) ConvFails (given found BadShape (λ redex. refused unknown
-        (stated_up_to_names [] (nameless_equation (nameless_type [] (image t)) (image t) (body_with redex.0 redex.1))))))
+        (stated_with_left [] t (nameless_equation (nameless_type [] (image t)) (image t) (body_with redex.0 redex.1))))))
     go None unknown = no-statement t ConvFails
     go (Some redex) (Some fault) = no-statement t fault
-    go (Some redex) None = record { equation_of = λ theorem arguments answers. from-image t theorem _ (body_with redex.0 redex.1) answers.conclusion }
+    go (Some redex) None = record { equation_of = λ theorem arguments answers. from-image t theorem _ (body_with redex.0 redex.1) answers.conclusion.0 }
 
 beta-equation : (theory : Theory) (t : NamedTerm) (answer : Result Theorem Fault) → AnswersStated answer (image t ∷ []) (redex_outcome theory t) → AnswersEquation t answer
 beta-equation theory t (Ok theorem) answers = eq-ok t theorem ((redex-equation theory t).equation_of theorem (image t ∷ []) answers)

@@ -6,7 +6,7 @@ use Rattle.hol_model.specs.Terms.NamedTerm.{NamedTerm}
 use Rattle.hol_model.specs.Terms.Nameless.{Nameless, image}
 use Rattle.hol_model.specs.Logic.Theory.{Theory, IsKnown}
 use Rattle.hol_model.specs.Logic.Derivable.{IsMember}
-use Rattle.hol_model.specs.Derived.DerivedRules.{Conclusion, named, up_to_names, IsConclusion, conclusion_image, is_among}
+use Rattle.hol_model.specs.Derived.DerivedRules.{Conclusion, named, up_to_names, with_left, IsConclusion, conclusion_image, is_among}
 use Rattle.hol_model.specs.Kernel.Outcome.{unless, given}
 use Rattle.hol_model.specs.Goals.Goals.{Sequent, Goal, AchieveEach, GivesAchieving}
 use Rattle.hol_model.proofs.Terms.Membership.{of_append, of_map, IsMember-map}
@@ -25,6 +25,7 @@ use Rattle.hol_outcomes.proofs.Proving.{Proves}
 conclusion-image : (stated : Conclusion) (term : NamedTerm) → IsConclusion stated term → image term ≡ conclusion_image stated
 conclusion-image (named t) term is = ap image is
 conclusion-image (up_to_names t) term is = is
+conclusion-image (with_left left t) term is = is.0
 
 conclusions-images : (stated : List Conclusion) (terms : List NamedTerm) → AreConclusions stated terms → map image terms ≡ map conclusion_image stated
 conclusions-images [] [] are = refl

@@ -4,3 +4,4 @@ pub mod Shown
 pub mod Managing
 pub mod SettingGoals
 pub mod Expanding
+mod Refusing

@@ -1,3 +1,4 @@
 pub mod GoalTexts
 pub mod Provers
 pub mod Managers
+pub mod Refusals

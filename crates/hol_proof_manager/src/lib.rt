@@ -3,7 +3,9 @@
 #![tactic(auto)]
 
 mod goal_texts;
+mod laws;
 mod manager;
 mod prover;
 
+pub use laws::managers_refuse;
 pub use manager::Manager;

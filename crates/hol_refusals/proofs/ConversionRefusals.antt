@@ -15,7 +15,7 @@ use Rattle.hol_model.specs.Kernel.Outcome.{unless, given, refused}
 use Rattle.hol_model.specs.Texts.Reading.{◌>>=◌}
 use Rattle.hol_model.specs.Kernel.Theorem.{Theorem, are_alpha_equivalent, with_hypotheses}
 use Rattle.hol_model.specs.Kernel.Rules.{dest_equation, first_unknown, concluded, is_free_in_hypotheses, refl_outcome, trans_outcome, mk_comb_outcome, abs_outcome}
-use Rattle.hol_model.specs.Derived.DerivedRules.{AnswersStated, stated_up_to_names, body_with}
+use Rattle.hol_model.specs.Derived.DerivedRules.{AnswersStated, stated_with_left, body_with}
 use Rattle.hol_model.specs.Rewrites.Rewriting.{Rewrites, none_matches, rewrites, instance_is_too_large, AnswersRules}
 use Rattle.hol_model.specs.Goals.Replays.{Store, IsWant, IsStoreOver}
 use Rattle.hol_model.specs.Refining.HostFunctions.{HostEquation, HostConversions, AnswersHostEquation, promised}
@@ -237,13 +237,13 @@ module _ (theory : Theory) (has : HasLogic theory) where
 
       go : (found : Option (Abstracted × NamedTerm)) → dest_redex t ≡ found → (unknown : Option Fault) → unknown ≡ None → (answer : Result Theorem Fault)
           → AnswersStated answer (image t ∷ []) (unless (is_some found) ConvFails (given found BadShape (λ redex. refused unknown
-          (stated_up_to_names [] (nameless_equation (nameless_type [] (image t)) (image t) (body_with redex.0 redex.1)))))) → IsFormulaOrFault answer
+          (stated_with_left [] t (nameless_equation (nameless_type [] (image t)) (image t) (body_with redex.0 redex.1)))))) → IsFormulaOrFault answer
       go None is unknown absent (Ok theorem) answers = absurd answers
       go None is unknown absent (Err refusal) (inl same) = fault refusal (fault-is refusal Memory same tt)
       go None is unknown absent (Err refusal) (inr same) = fault refusal (fault-is refusal ConvFails same tt)
       go (Some redex) is (Some other) absent answer answers = cc
       go (Some redex) is None absent (Ok theorem) answers =
-          formula theorem (subst (λ (u : Nameless). IsKnown theory u bool_type) (sym answers.conclusion)
+          formula theorem (subst (λ (u : Nameless). IsKnown theory u bool_type) (sym answers.conclusion.0)
           (equation-known theory has.legal s (image t) (body_with redex.0 redex.1) known_so (redex-known t redex s is known_so)))
       go (Some redex) is None absent (Err refusal) (inl same) = fault refusal (fault-is refusal Memory same tt)
       go (Some redex) is None absent (Err refusal) (inr same) = fault refusal (fault-is refusal TooLarge same.0 tt)

@@ -6,3 +6,5 @@ pub mod ConversionRefusals
 pub mod RewritingRefusals
 pub mod RefinerRefusals
 pub mod Expressions
+pub mod TreeRules
+pub mod SessionRefusals

@@ -1,3 +1,4 @@
 pub mod Faults
 pub mod KnownRules
 pub mod Laws
+pub mod SessionRefusals

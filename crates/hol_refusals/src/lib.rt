@@ -1,10 +1,11 @@
-//! The laws on what conversions and refiner expressions may be refused for.
+//! The laws on what conversions and refiner expressions may be refused for, and with them the commands of a session.
 //!
 //! Each function is a law: it does nothing, and its clause is the law's statement, for callers' proofs.
 #![tactic(auto)]
 
 ghost use Rattle.hol_model.specs.Refining.HostFunctions.{HostConversions, Host};
 ghost use Rattle.hol_refusals.specs.Laws.{ConversionsRefuse, RewritingRefuses, RefinersRefuse, ExpressionsHaveKnownRules};
+ghost use Rattle.hol_refusals.specs.SessionRefusals.{ExpandingRefuses, ConvertingRefuses};
 
 /// A host with conversions.
 pub trait Converting {
@@ -34,4 +35,15 @@ pub fn refiners_refuse<R: Refining>()
 /// The expressions of the program have no rules of their own, so that nothing is asked of them.
 pub fn expressions_have_known_rules()
     ensures { ExpressionsHaveKnownRules }
+{}
+
+/// In a sound session `e` is refused as its quoted terms are, as no goal is open, or for one of the refusals of refiner
+/// expressions, whatever a host's functions answer.
+pub fn expanding_refuses<R: Refining>()
+    ensures { ExpandingRefuses R.host }
+{}
+
+/// In a sound session the theorem of a conversion is refused as its quoted term is, or for one of the refusals of conversions.
+pub fn converting_refuses<R: Refining>()
+    ensures { ConvertingRefuses R.host }
 {}

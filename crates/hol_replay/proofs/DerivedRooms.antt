@@ -12,7 +12,7 @@ use Rattle.hol_model.specs.Logic.NamedLogic.{implication, disjunction, negation,
 use Rattle.hol_model.specs.Kernel.Outcome.{unless, refused}
 use Rattle.hol_model.specs.Kernel.Rules.{first_unknown, dest_equation, is_formula}
 use Rattle.hol_model.specs.Kernel.Theorem.{Theorem, are_alpha_equivalent}
-use Rattle.hol_model.specs.Derived.DerivedRules.{Stated, is_roomy, images, stated, stated_up_to_names, body_with, AnswersStated, terms_of_theorem, sym_outcome, add_assum_outcome, prove_hyp_outcome, beta_conv_outcome, eqt_intro_outcome, conj_outcome, eqt_elim_outcome, conjunct1_outcome, conjunct2_outcome, disch_outcome, undisch_outcome, mp_outcome, disj1_outcome, disj2_outcome, disj_cases_outcome, contr_outcome, not_intro_outcome, not_elim_outcome}
+use Rattle.hol_model.specs.Derived.DerivedRules.{Stated, is_roomy, images, stated, stated_with_left, body_with, AnswersStated, terms_of_theorem, sym_outcome, add_assum_outcome, prove_hyp_outcome, beta_conv_outcome, eqt_intro_outcome, conj_outcome, eqt_elim_outcome, conjunct1_outcome, conjunct2_outcome, disch_outcome, undisch_outcome, mp_outcome, disj1_outcome, disj2_outcome, disj_cases_outcome, contr_outcome, not_intro_outcome, not_elim_outcome}
 use Rattle.hol_model.specs.Derived.InferenceRules.{InferenceRule, rule_sym, rule_add_assum, rule_prove_hyp, rule_beta_conv, rule_eqt_intro, rule_conj, rule_eqt_elim, rule_conjunct1, rule_conjunct2, rule_disch, rule_undisch, rule_mp, rule_disj1, rule_disj2, rule_disj_cases, rule_contr, rule_not_intro, rule_not_elim}
 use Rattle.hol_model.proofs.Tests.{first_of_both, both}
 use Rattle.hol_journal.specs.Journal.{Journal}
@@ -61,8 +61,8 @@ room-prove_hyp {theory} {a} {b} {result} answers =
 pub room-beta_conv : {theory : Theory} {t : NamedTerm} {ty : HolType} {result : Result Theorem Fault} → type_of t ≡ Some ty → AnswersStated result (image t ∷ []) (beta_conv_outcome theory t) → FindsRoom theory (rule_beta_conv t) [] result
 room-beta_conv {theory} {t} {ty} {result} typed answers =
     stated-room theory (rule_beta_conv t) [] (image t ∷ []) (beta_conv_outcome theory t) result (drawn-beta_conv theory t ty typed)
-    (fits-given (dest_redex t) BadShape (λ redex. refused (first_unknown theory t) (stated_up_to_names [] (nameless_equation (nameless_type [] (image t)) (image t) (body_with redex.0 redex.1)))) (λ is. cc)
-    (λ redex. fits-refused theory t (stated_up_to_names [] (nameless_equation (nameless_type [] (image t)) (image t) (body_with redex.0 redex.1))) tt)) (λ room. room.taken) answers
+    (fits-given (dest_redex t) BadShape (λ redex. refused (first_unknown theory t) (stated_with_left [] t (nameless_equation (nameless_type [] (image t)) (image t) (body_with redex.0 redex.1)))) (λ is. cc)
+    (λ redex. fits-refused theory t (stated_with_left [] t (nameless_equation (nameless_type [] (image t)) (image t) (body_with redex.0 redex.1))) tt)) (λ room. room.taken) answers
 
 -- ---- connectives
 

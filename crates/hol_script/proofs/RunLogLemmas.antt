@@ -99,7 +99,7 @@ accepted-over journal claims text log = record {
   journal = journal;
   over = refl;
   is_log = log.is_log;
-  is_accepted = λ within. record { state = log.state; accepted = log.accepted; claimed = log.claimed };
+  is_accepted = λ within. record { state = log.state; accepted = log.accepted; claimed = log.claimed; entries = log.entries };
 }
 
 pub log-written : {logged now : Option (List ℕ)} (journal : Journal) (claims : List LogClaim) (text : List ℕ) → IsAcceptedLog journal claims text → Appends logged now text

@@ -8,7 +8,7 @@ use Rattle.hol_model.specs.Logs.LogText.{log_outcome}
 use Rattle.hol_logtext.specs.LogBytes.{log_text}
 use Rattle.hol_bytes.specs.Bytes.{AppendsFront}
 use Rattle.hol_journal.specs.Journal.{Journal}
-use Rattle.hol_log.specs.LogAccepted.{log_claim}
+use Rattle.hol_log.specs.LogAccepted.{log_claim, IsPartOf}
 use Rattle.hol_log.specs.LogWriting.{Claimed}
 use Rattle.hol_script.specs.declared.progress.Progress.{Progress}
 use Rattle.hol_script.specs.Runs.{names_of}
@@ -16,19 +16,20 @@ use Rattle.hol_session.specs.StoredClaims.{IsLog}
 use Rattle.hol_proof_manager.specs.Managers as managers
 use Rattle.hol_proof_manager.specs.Managers.{claims_of}
 
--- The text is a log that is accepted, with these claims.
-pub record IsAcceptedWith (claims : List LogClaim) (text : List ℕ) : Type 0 where
+-- The text is a log that is accepted, with these claims, over entries of this theory.
+pub record IsAcceptedWith (theory : Theory) (claims : List LogClaim) (text : List ℕ) : Type 0 where
   pub state : LogState
   pub accepted : log_outcome (log_text text) ≡ Ok state
   pub claimed : state.claims ≡ claims
+  pub entries : IsPartOf state.theory theory
 
 -- The text is the pruned log of these claims from a journal over this theory. Within the limit on texts it is accepted with
--- them.
+-- them, over entries of the theory.
 pub record IsLogOver (theory : Theory) (claims : List LogClaim) (text : List ℕ) : Type 0 where
   pub journal : Journal
   pub over : journal.theory ≡ theory
   pub is_log : IsLog journal claims text
-  pub is_accepted : length text ≤ TEXT_BYTES_LIMIT → IsAcceptedWith claims text
+  pub is_accepted : length text ≤ TEXT_BYTES_LIMIT → IsAcceptedWith theory claims text
 
 -- a log within the limit
 pub record IsShortLogOver (theory : Theory) (claims : List LogClaim) (text : List ℕ) : Type 0 where

@@ -1,8 +1,28 @@
-// The words of commands, rules, refiners and conversions, with the arguments that stand behind them.
+// The words of commands, rules, refiners and conversions, with what stands behind them.
 
+use crate::no_memory::NoMemory;
 use Argument::{Conversion, Name, Names, Pairs, Term};
+use std::alloc::Global;
 
-/// What stands behind a word.
+/// What stands behind the word of a command.
+#[derive(Clone, Copy, Debug, PartialEq, Eq)]
+pub enum Form {
+    Nothing,
+    Name,
+    Number,
+    /// A quoted term.
+    Term,
+    /// A refiner expression.
+    Refiner,
+    /// A name, a colon and a type.
+    Typing,
+    /// A name, `=` and a quoted term.
+    Definition,
+    /// A name, `=`, and a rule with its arguments.
+    Rule,
+}
+
+/// An argument of a rule, a refiner or a conversion.
 #[derive(Clone, Copy, Debug, PartialEq, Eq)]
 pub enum Argument {
     Name,
@@ -15,8 +35,46 @@ pub enum Argument {
     Pairs,
 }
 
+/// Of which words one could stand at a place.
+#[derive(Clone, Copy, Debug, PartialEq, Eq)]
+pub enum Choice {
+    Command,
+    Rule,
+    Refiner,
+    Conversion,
+    Type,
+}
+
+impl Choice {
+    /// What could stand there.
+    pub fn expected(self) -> &'static str {
+        match self {
+            Choice::Command => "a command",
+            Choice::Rule => "a rule",
+            Choice::Refiner => "a refiner",
+            Choice::Conversion => "a conversion",
+            Choice::Type => "a type, or a type variable, which begins with a capital letter",
+        }
+    }
+}
+
 // A word, and its arguments.
 type Entry = (&'static str, &'static [Argument]);
+
+const COMMANDS: [(&str, Form); 12] = [
+    ("thm", Form::Rule),
+    ("show", Form::Name),
+    ("var", Form::Typing),
+    ("def", Form::Definition),
+    ("newtype", Form::Name),
+    ("newconst", Form::Typing),
+    ("goal", Form::Term),
+    ("e", Form::Refiner),
+    ("b", Form::Nothing),
+    ("r", Form::Number),
+    ("p", Form::Nothing),
+    ("save", Form::Name),
+];
 
 const KERNEL_RULES: [Entry; 12] = [
     ("REFL", &[Term]),
@@ -84,6 +142,8 @@ const REFINERS: [Entry; 21] = [
     ("HOST", &[Name]),
 ];
 
+const REPETITIONS: [&str; 2] = ["REPEAT", "TRY"];
+
 const CONVERSIONS: [Entry; 5] = [
     ("ALL_CONV", &[]),
     ("NO_CONV", &[]),
@@ -114,6 +174,17 @@ fn find(table: &[Entry], word: &str) -> Option<&'static [Argument]> {
     None
 }
 
+/// What stands behind the word of a command.
+pub fn of_command(word: &str) -> Option<Form> {
+    for at in 0..COMMANDS.len() {
+        let (known, form) = COMMANDS[at];
+        if known == word {
+            return Some(form);
+        }
+    }
+    None
+}
+
 /// The arguments of a rule.
 pub fn of_rule(word: &str) -> Option<&'static [Argument]> {
     match find(&KERNEL_RULES, word) {
@@ -132,17 +203,85 @@ pub fn is_refiner(word: &str) -> bool {
     of_refiner(word).is_some()
 }
 
-/// Whether a word is a refiner by the name of a theorem or of a host's function.
-pub fn takes_theorem(word: &str) -> bool {
-    of_refiner(word) == Some(&[Name])
-}
-
 /// The arguments of a conversion without parts.
 pub fn of_conversion(word: &str) -> Option<&'static [Argument]> {
     find(&CONVERSIONS, word)
 }
 
+/// Whether the name of a theorem stands behind a refiner or a conversion.
+pub fn is_before_theorem(word: &str) -> bool {
+    let is_before_name = of_refiner(word) == Some(&[Name]) || of_conversion(word) == Some(&[Name]);
+    is_before_name && word != "HOST"
+}
+
+/// Whether a word stands before a refiner.
+pub fn is_repetition(word: &str) -> bool {
+    REPETITIONS.iter().any(|repetition| *repetition == word)
+}
+
 /// Whether a word stands before a conversion.
 pub fn is_prefix(word: &str) -> bool {
     PREFIXES.iter().any(|prefix| *prefix == word)
+}
+
+fn push_word(alloc: Global, words: &mut Vec<String>, word: &str) -> Result<(), NoMemory> {
+    words.push(String::from_str(alloc, word)?)?;
+    Ok(())
+}
+
+fn push_table(alloc: Global, words: &mut Vec<String>, table: &[Entry]) -> Result<(), NoMemory> {
+    for at in 0..table.len() {
+        let (word, _) = table[at];
+        push_word(alloc, words, word)?;
+    }
+    Ok(())
+}
+
+fn push_list(alloc: Global, words: &mut Vec<String>, list: &[&str]) -> Result<(), NoMemory> {
+    for at in 0..list.len() {
+        push_word(alloc, words, list[at])?;
+    }
+    Ok(())
+}
+
+fn push_commands(alloc: Global, words: &mut Vec<String>) -> Result<(), NoMemory> {
+    for at in 0..COMMANDS.len() {
+        let (word, _) = COMMANDS[at];
+        push_word(alloc, words, word)?;
+    }
+    Ok(())
+}
+
+fn push_types(alloc: Global, words: &mut Vec<String>, types: &[String]) -> Result<(), NoMemory> {
+    for ty in types {
+        push_word(alloc, words, ty.as_str())?;
+    }
+    push_word(alloc, words, "(")
+}
+
+/// Puts the words of a choice at the end, in the order of the tables; `types` are the names of types.
+pub fn push_words(
+    alloc: Global,
+    words: &mut Vec<String>,
+    choice: Choice,
+    types: &[String],
+) -> Result<(), NoMemory> {
+    match choice {
+        Choice::Command => push_commands(alloc, words),
+        Choice::Rule => {
+            push_table(alloc, words, &KERNEL_RULES)?;
+            push_table(alloc, words, &DERIVED_RULES)
+        }
+        Choice::Refiner => {
+            push_table(alloc, words, &REFINERS)?;
+            push_list(alloc, words, &REPETITIONS)?;
+            push_word(alloc, words, "(")
+        }
+        Choice::Conversion => {
+            push_table(alloc, words, &CONVERSIONS)?;
+            push_list(alloc, words, &PREFIXES)?;
+            push_word(alloc, words, "(")
+        }
+        Choice::Type => push_types(alloc, words, types),
+    }
 }

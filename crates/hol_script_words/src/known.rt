@@ -5,7 +5,7 @@ use crate::scanner::Kind;
 use hol_model::Fault;
 use hol_syntax::{Scope, read_term, read_type};
 use std::alloc::Global;
-use strsim::levenshtein;
+use strsim::osa_distance;
 
 /// What names stand for, and all names of each kind.
 #[derive(Drop)]
@@ -214,7 +214,7 @@ fn nearer<'a>(
         if candidate.len() > NAME_LENGTH {
             continue;
         }
-        let distance = levenshtein(alloc, name, candidate)?;
+        let distance = osa_distance(alloc, name, candidate)?;
         let is_nearer = match nearest {
             Some((_, least)) => distance < least,
             None => true,

@@ -9,13 +9,15 @@ mod no_memory;
 mod piece;
 mod scanner;
 mod sentences;
+mod stop;
 mod syntax;
+mod terms;
 
-pub use command_words::{is_refiner, takes_theorem};
+pub use command_words::{is_before_theorem, is_refiner};
 pub use known::{Known, given, is_among};
 pub use messages::{Message, Unknown, unknown_name};
 pub use no_memory::NoMemory;
 pub use piece::{Piece, between, text_of};
 pub use scanner::{Kind, Word};
 pub use sentences::sentence;
-pub use syntax::no_command;
+pub use syntax::{end_of_conversion, no_command};

@@ -1,275 +1,16 @@
 // Where a text stops being a command.
-use crate::command_words::{Argument, is_prefix, of_conversion, of_refiner, of_rule};
+use crate::command_words::{
+    Argument, Choice, Form, is_prefix, is_repetition, of_command, of_conversion, of_refiner,
+    of_rule, push_words,
+};
+use crate::known::{Known, nearest};
 use crate::messages::Message;
 use crate::no_memory::NoMemory;
 use crate::piece::Piece;
 use crate::scanner::Kind;
-use std::alloc::{AllocError, AllocFailed, Global};
-
-// Why a text is not read on: what could stand at the word at a place in the list.
-#[derive(Clone, Copy, Debug, Drop)]
-enum Stop {
-    Memory,
-    At(usize, &'static str),
-}
-
-impl From<AllocError> for Stop {
-    fn from(_error: AllocError) -> Stop {
-        Stop::Memory
-    }
-}
-
-impl<T: Drop> From<AllocFailed<T>> for Stop {
-    fn from(_error: AllocFailed<T>) -> Stop {
-        Stop::Memory
-    }
-}
-
-impl From<NoMemory> for Stop {
-    fn from(_error: NoMemory) -> Stop {
-        Stop::Memory
-    }
-}
-
-fn behind(at: usize) -> usize {
-    at.saturating_add(1)
-}
-
-fn name(piece: &Piece<'_>, at: usize, expected: &'static str) -> Result<usize, Stop> {
-    if piece.kind(at) == Kind::Name {
-        Ok(behind(at))
-    } else {
-        Err(Stop::At(at, expected))
-    }
-}
-
-fn mark(piece: &Piece<'_>, at: usize, text: &str, expected: &'static str) -> Result<usize, Stop> {
-    if piece.kind(at) == Kind::Mark && piece.text(at) == text {
-        Ok(behind(at))
-    } else {
-        Err(Stop::At(at, expected))
-    }
-}
-
-fn quote(piece: &Piece<'_>, at: usize) -> Result<usize, Stop> {
-    match piece.kind(at) {
-        Kind::Quote => Ok(behind(at)),
-        Kind::Unclosed => Err(Stop::At(piece.words.len(), "a closing backquote")),
-        _ => Err(Stop::At(at, "a backquote with a term behind it")),
-    }
-}
-
-fn end(piece: &Piece<'_>, at: usize) -> Result<(), Stop> {
-    if at >= piece.words.len() {
-        Ok(())
-    } else {
-        Err(Stop::At(at, "the end of the command"))
-    }
-}
-
-// A type, and where it ends.
-fn ty(piece: &Piece<'_>, from: usize) -> Result<usize, Stop> {
-    let mut at = from;
-    let mut depth = 0usize;
-    let mut wants = true;
-    for _ in 0..piece.words.len() {
-        let word = piece.text(at);
-        if wants {
-            if word == "(" {
-                depth = depth.saturating_add(1);
-            } else if piece.kind(at) == Kind::Name {
-                wants = false;
-            } else {
-                return Err(Stop::At(at, "a type"));
-            }
-        } else if word == "->" {
-            wants = true;
-        } else if word == ")" && depth > 0 {
-            depth = depth.saturating_sub(1);
-        } else {
-            break;
-        }
-        at = behind(at);
-    }
-    if wants {
-        return Err(Stop::At(at, "a type"));
-    }
-    if depth > 0 {
-        return Err(Stop::At(at, "`->` or a closing parenthesis"));
-    }
-    Ok(at)
-}
-
-// What may stand next in a term.
-#[derive(Clone, Copy, Debug, PartialEq, Eq)]
-enum Next {
-    /// A term, or a binder.
-    Term,
-    /// An operand.
-    Operand,
-    /// An argument, an infix, or the end.
-    Further,
-}
-
-// How far a term is read: the next word, the open parentheses, and what may stand there.
-#[derive(Clone, Copy, Debug)]
-struct Reading {
-    at: usize,
-    depth: usize,
-    next: Next,
-}
-
-fn is_binder(word: &str) -> bool {
-    word == "\\" || word == "!" || word == "?" || word == "@"
-}
-
-fn is_infix(word: &str) -> bool {
-    word == "<=>" || word == "==>" || word == "\\/" || word == "/\\" || word == "="
-}
-
-// A name, a colon, a type and a dot.
-fn binding(piece: &Piece<'_>, at: usize) -> Result<usize, Stop> {
-    let colon = name(piece, at, "the name of a bound variable")?;
-    let typed = mark(piece, colon, ":", "`:` and the type of the bound variable")?;
-    let dot = ty(piece, typed)?;
-    mark(piece, dot, ".", "`.` and the body of the binder")
-}
-
-// Behind an opening bracket: a constant, a colon, a type and a closing bracket.
-fn constant(piece: &Piece<'_>, at: usize) -> Result<usize, Stop> {
-    let word = piece.text(at);
-    let is_sign = word == "~" || is_binder(word) || is_infix(word);
-    let is_named = piece.kind(at) == Kind::Name || (is_sign && word != "\\" && word != "<=>");
-    if !is_named {
-        return Err(Stop::At(at, "the name of a constant"));
-    }
-    let typed = mark(piece, behind(at), ":", "`:` and the type of the constant")?;
-    let closing = ty(piece, typed)?;
-    mark(piece, closing, "]", "`->` or a closing bracket")
-}
-
-// A name, a typed variable, a typed constant or an opening parenthesis.
-fn atom(piece: &Piece<'_>, reading: Reading, expected: &'static str) -> Result<Reading, Stop> {
-    let at = reading.at;
-    let depth = reading.depth;
-    if piece.kind(at) == Kind::Name {
-        return Ok(Reading {
-            at: behind(at),
-            depth,
-            next: Next::Further,
-        });
-    }
-    if piece.text(at) == "[" {
-        let at = constant(piece, behind(at))?;
-        return Ok(Reading {
-            at,
-            depth,
-            next: Next::Further,
-        });
-    }
-    if piece.text(at) != "(" {
-        return Err(Stop::At(at, expected));
-    }
-    let inside = behind(at);
-    if piece.kind(inside) == Kind::Name && piece.text(behind(inside)) == ":" {
-        let closing = ty(piece, behind(behind(inside)))?;
-        let at = mark(piece, closing, ")", "`->` or a closing parenthesis")?;
-        return Ok(Reading {
-            at,
-            depth,
-            next: Next::Further,
-        });
-    }
-    Ok(Reading {
-        at: inside,
-        depth: depth.saturating_add(1),
-        next: Next::Term,
-    })
-}
-
-// One part of a term more; the same where the term ends.
-fn part(piece: &Piece<'_>, reading: Reading) -> Result<Reading, Stop> {
-    let at = reading.at;
-    let depth = reading.depth;
-    let word = piece.text(at);
-    if reading.next != Next::Further {
-        if word == "~" {
-            return Ok(Reading {
-                at: behind(at),
-                depth,
-                next: Next::Operand,
-            });
-        }
-        if !is_binder(word) {
-            return atom(piece, reading, "a term");
-        }
-        if reading.next == Next::Operand {
-            return Err(Stop::At(
-                at,
-                "an operand; a binder inside a term stands in parentheses",
-            ));
-        }
-        let at = binding(piece, behind(at))?;
-        return Ok(Reading {
-            at,
-            depth,
-            next: Next::Term,
-        });
-    }
-    if is_infix(word) {
-        return Ok(Reading {
-            at: behind(at),
-            depth,
-            next: Next::Operand,
-        });
-    }
-    if word == ")" && depth > 0 {
-        return Ok(Reading {
-            at: behind(at),
-            depth: depth.saturating_sub(1),
-            next: Next::Further,
-        });
-    }
-    if piece.kind(at) == Kind::Name || word == "(" || word == "[" {
-        return atom(piece, reading, "an argument");
-    }
-    Ok(reading)
-}
-
-// A whole term.
-fn term(piece: &Piece<'_>) -> Result<(), Stop> {
-    let mut reading = Reading {
-        at: 0,
-        depth: 0,
-        next: Next::Term,
-    };
-    for _ in 0..piece.words.len() {
-        let further = part(piece, reading)?;
-        if further.at == reading.at {
-            break;
-        }
-        reading = further;
-    }
-    if reading.next != Next::Further {
-        return Err(Stop::At(reading.at, "a term"));
-    }
-    if reading.depth > 0 {
-        return Err(Stop::At(reading.at, "an infix, an argument or a closing parenthesis"));
-    }
-    if reading.at < piece.words.len() {
-        return Err(Stop::At(reading.at, "an infix, an argument or the end of the term"));
-    }
-    Ok(())
-}
-
-// A whole type.
-fn whole_type(piece: &Piece<'_>) -> Result<(), Stop> {
-    let at = ty(piece, 0)?;
-    if at < piece.words.len() {
-        return Err(Stop::At(at, "`->` or the end of the type"));
-    }
-    Ok(())
-}
+use crate::stop::{Stop, behind, end, mark, name, quote};
+use crate::terms::{term, ty, whole_type};
+use std::alloc::Global;
 
 // A list of names in brackets.
 fn names(piece: &Piece<'_>, from: usize) -> Result<usize, Stop> {
@@ -317,7 +58,7 @@ fn conversion(piece: &Piece<'_>, from: usize) -> Result<usize, Stop> {
                 depth = depth.saturating_add(1);
             } else if !is_prefix(word) {
                 let Some(arguments) = of_conversion(word) else {
-                    return Err(Stop::At(at, "a conversion"));
+                    return Err(Stop::Word(at, Choice::Conversion));
                 };
                 wants = false;
                 if !arguments.is_empty() {
@@ -332,15 +73,15 @@ fn conversion(piece: &Piece<'_>, from: usize) -> Result<usize, Stop> {
         } else if word == ")" {
             depth = depth.saturating_sub(1);
         } else {
-            return Err(Stop::At(at, "`THENC`, `ORELSEC` or a closing parenthesis"));
+            return Err(Stop::At(at, "`THENC`, `ORELSEC` or `)`"));
         }
         at = behind(at);
     }
     if wants {
-        return Err(Stop::At(at, "a conversion"));
+        return Err(Stop::Word(at, Choice::Conversion));
     }
     if depth > 0 {
-        return Err(Stop::At(at, "`THENC`, `ORELSEC` or a closing parenthesis"));
+        return Err(Stop::At(at, "`THENC`, `ORELSEC` or `)`"));
     }
     Ok(at)
 }
@@ -377,7 +118,7 @@ struct Taken {
 // Where a refiner is wanted: one, or what stands before one.
 fn refiner(piece: &Piece<'_>, at: usize, opens: &mut Vec<Open>) -> Result<Taken, Stop> {
     let word = piece.text(at);
-    if word == "REPEAT" || word == "TRY" {
+    if is_repetition(word) {
         return Ok(Taken {
             at: behind(at),
             wants: true,
@@ -398,13 +139,13 @@ fn refiner(piece: &Piece<'_>, at: usize, opens: &mut Vec<Open>) -> Result<Taken,
         });
     }
     let Some(wanted) = of_refiner(word) else {
-        return Err(Stop::At(at, "a refiner"));
+        return Err(Stop::Word(at, Choice::Refiner));
     };
     let at = arguments(piece, behind(at), wanted)?;
     Ok(Taken { at, wants: false })
 }
 
-// Behind a refiner: what joins it to another, or closes what is open; the same where the expression ends.
+// Form a refiner: what joins it to another, or closes what is open; the same where the expression ends.
 fn joined(piece: &Piece<'_>, at: usize, opens: &mut Vec<Open>) -> Result<Taken, Stop> {
     let word = piece.text(at);
     let innermost = opens.last().copied();
@@ -442,8 +183,8 @@ fn joined(piece: &Piece<'_>, at: usize, opens: &mut Vec<Open>) -> Result<Taken, 
     Ok(Taken { at, wants: false })
 }
 
-// A whole refiner expression.
-fn expression(alloc: Global, piece: &Piece<'_>, from: usize) -> Result<(), Stop> {
+// A refiner expression up to the end of the command.
+fn expression(alloc: Global, piece: &Piece<'_>, from: usize) -> Result<usize, Stop> {
     let mut opens = Vec::new(alloc);
     let mut read = Taken {
         at: from,
@@ -461,7 +202,7 @@ fn expression(alloc: Global, piece: &Piece<'_>, from: usize) -> Result<(), Stop>
         read = further;
     }
     if read.wants {
-        return Err(Stop::At(read.at, "a refiner"));
+        return Err(Stop::Word(read.at, Choice::Refiner));
     }
     match opens.last().copied() {
         Some(Open::List) => Err(Stop::At(read.at, "`THEN`, `THENL`, `ORELSE`, `;` or `]`")),
@@ -473,73 +214,60 @@ fn expression(alloc: Global, piece: &Piece<'_>, from: usize) -> Result<(), Stop>
                     "`THEN`, `THENL`, `ORELSE` or the end of the command",
                 ));
             }
-            Ok(())
+            Ok(read.at)
         }
     }
 }
 
-// What stands behind the word of a command with a name.
-fn naming(piece: &Piece<'_>) -> Result<(), Stop> {
-    let word = piece.text(0);
-    let at = name(piece, 1, "a name")?;
-    if word == "var" || word == "newconst" {
-        let typed = mark(piece, at, ":", "`:` and a type")?;
-        let rest = ty(piece, typed)?;
-        return end(piece, rest);
-    }
-    if word == "def" {
-        let quoted = mark(piece, at, "=", "`=` and a quoted term")?;
-        let rest = quote(piece, quoted)?;
-        return end(piece, rest);
-    }
-    if word != "thm" {
-        return end(piece, at);
-    }
-    let rule = mark(piece, at, "=", "`=` and a rule")?;
-    let Some(wanted) = of_rule(piece.text(rule)) else {
-        return Err(Stop::At(rule, "a rule"));
-    };
-    let rest = arguments(piece, behind(rule), wanted)?;
-    end(piece, rest)
+// A name, a colon and a type.
+fn typing(piece: &Piece<'_>) -> Result<usize, Stop> {
+    let colon = name(piece, 1, "a name")?;
+    let typed = mark(piece, colon, ":", "`:` and a type")?;
+    ty(piece, typed)
 }
 
-const COMMANDS: &str =
-    "a command (`thm`, `show`, `var`, `def`, `newtype`, `newconst`, `goal`, `e`, `b`, `r`, `p` or `save`)";
+// A name, `=` and a quoted term.
+fn definition(piece: &Piece<'_>) -> Result<usize, Stop> {
+    let equal = name(piece, 1, "a name")?;
+    let quoted = mark(piece, equal, "=", "`=` and a quoted term")?;
+    quote(piece, quoted)
+}
 
-// Whether a name stands behind the word of a command.
-fn is_naming(word: &str) -> bool {
-    word == "thm"
-        || word == "show"
-        || word == "var"
-        || word == "def"
-        || word == "newtype"
-        || word == "newconst"
-        || word == "save"
+// A name, `=`, and a rule with its arguments.
+fn rule(piece: &Piece<'_>) -> Result<usize, Stop> {
+    let equal = name(piece, 1, "a name")?;
+    let at = mark(piece, equal, "=", "`=` and a rule")?;
+    let Some(wanted) = of_rule(piece.text(at)) else {
+        return Err(Stop::Word(at, Choice::Rule));
+    };
+    arguments(piece, behind(at), wanted)
+}
+
+// A number.
+fn number(piece: &Piece<'_>, at: usize) -> Result<usize, Stop> {
+    if piece.kind(at) == Kind::Number {
+        Ok(behind(at))
+    } else {
+        Err(Stop::At(at, "a number"))
+    }
 }
 
 // A whole command.
 fn command(alloc: Global, piece: &Piece<'_>) -> Result<(), Stop> {
-    let word = piece.text(0);
-    if is_naming(word) {
-        return naming(piece);
-    }
-    if word == "goal" {
-        let rest = quote(piece, 1)?;
-        return end(piece, rest);
-    }
-    if word == "e" {
-        return expression(alloc, piece, 1);
-    }
-    if word == "b" || word == "p" {
-        return end(piece, 1);
-    }
-    if word == "r" {
-        if piece.kind(1) != Kind::Number {
-            return Err(Stop::At(1, "a number"));
-        }
-        return end(piece, 2);
-    }
-    Err(Stop::At(0, COMMANDS))
+    let Some(wanted) = of_command(piece.text(0)) else {
+        return Err(Stop::Word(0, Choice::Command));
+    };
+    let rest = match wanted {
+        Form::Nothing => 1,
+        Form::Name => name(piece, 1, "a name")?,
+        Form::Number => number(piece, 1)?,
+        Form::Term => quote(piece, 1)?,
+        Form::Refiner => expression(alloc, piece, 1)?,
+        Form::Typing => typing(piece)?,
+        Form::Definition => definition(piece)?,
+        Form::Rule => rule(piece)?,
+    };
+    end(piece, rest)
 }
 
 // Puts what stands at a place in the list at the end.
@@ -561,19 +289,51 @@ fn push_found(out: &mut String, piece: &Piece<'_>, at: usize, whole: &str) -> Re
     Ok(())
 }
 
-// What could stand at a place in the list, and what stands there.
+// Puts the words of a choice at the end, with the nearest to the one that stands there.
+fn push_choice(
+    alloc: Global,
+    known: &Known,
+    choice: Choice,
+    found: &str,
+    out: &mut String,
+) -> Result<(), NoMemory> {
+    let mut words = Vec::new(alloc);
+    push_words(alloc, &mut words, choice, &known.types)?;
+    if let Some(word) = nearest(alloc, &words, &[], found)? {
+        out.push_str("; the nearest known word is `")?;
+        out.push_str(word)?;
+        out.push_str("`")?;
+    }
+    out.push_str("; the words that could stand here are")?;
+    for at in 0..words.len() {
+        out.push_str(if at == 0 { " `" } else { ", `" })?;
+        out.push_str(words[at].as_str())?;
+        out.push_str("`")?;
+    }
+    Ok(())
+}
+
+// What could stand where a text stops, and what stands there.
 fn said(
     alloc: Global,
+    known: &Known,
     piece: &Piece<'_>,
-    at: usize,
-    expected: &str,
+    stop: Stop,
     whole: &str,
 ) -> Result<Message, NoMemory> {
+    let (at, expected, choice) = match stop {
+        Stop::Memory => return Err(NoMemory),
+        Stop::At(at, expected) => (at, expected, None),
+        Stop::Word(at, choice) => (at, choice.expected(), Some(choice)),
+    };
     let mut text = String::new(alloc);
     text.push_str("expected ")?;
     text.push_str(expected)?;
     text.push_str(", found ")?;
     push_found(&mut text, piece, at, whole)?;
+    if let Some(choice) = choice {
+        push_choice(alloc, known, choice, piece.text(at), &mut text)?;
+    }
     Ok(Message {
         at: piece.start(at),
         text,
@@ -583,6 +343,7 @@ fn said(
 // Where the quoted text at a place in the list stops being a term or a type.
 fn in_quote(
     alloc: Global,
+    known: &Known,
     piece: &Piece<'_>,
     at: usize,
     is_type: bool,
@@ -595,9 +356,8 @@ fn in_quote(
     };
     match read {
         Ok(()) => Ok(None),
-        Err(Stop::Memory) => Err(NoMemory),
-        Err(Stop::At(stop, expected)) => {
-            let message = said(alloc, &inside, stop, expected, "quoted text")?;
+        Err(stop) => {
+            let message = said(alloc, known, &inside, stop, "quoted text")?;
             Ok(Some(Message {
                 at: piece.start(at).saturating_add(1).saturating_add(message.at),
                 text: message.text,
@@ -607,22 +367,21 @@ fn in_quote(
 }
 
 // Where the first faulty quoted text among the first words, so many, stops being a term or a type.
-fn in_quotes(alloc: Global, piece: &Piece<'_>, count: usize) -> Result<Option<Message>, NoMemory> {
+fn in_quotes(
+    alloc: Global,
+    known: &Known,
+    piece: &Piece<'_>,
+    count: usize,
+) -> Result<Option<Message>, NoMemory> {
     let is_type = piece.text(3) == "INST_TYPE";
     for at in 0..count {
         if piece.kind(at) == Kind::Quote {
-            if let Some(message) = in_quote(alloc, piece, at, is_type)? {
+            if let Some(message) = in_quote(alloc, known, piece, at, is_type)? {
                 return Ok(Some(message));
             }
             if is_type && is_replaced(piece, at) && !is_type_variable(piece.quoted(at)) {
-                let message = said(
-                    alloc,
-                    piece,
-                    at,
-                    "a type variable between backquotes",
-                    "command",
-                )?;
-                return Ok(Some(message));
+                let stop = Stop::At(at, "a type variable between backquotes");
+                return Ok(Some(said(alloc, known, piece, stop, "command")?));
             }
         }
     }
@@ -642,26 +401,38 @@ fn is_type_variable(text: &[u8]) -> bool {
     }
 }
 
+// How many words stand before the one where a text stops, if it does.
+fn words_before(piece: &Piece<'_>, stop: Option<Stop>) -> usize {
+    match stop {
+        Some(Stop::At(at, _)) => at.min(piece.words.len()),
+        Some(Stop::Word(at, _)) => at.min(piece.words.len()),
+        _ => piece.words.len(),
+    }
+}
+
 /// Where a text that is refused as no command stops being one, what could stand there, and what does.
-pub fn no_command(alloc: Global, piece: &Piece<'_>) -> Result<Message, NoMemory> {
+pub fn no_command(alloc: Global, known: &Known, piece: &Piece<'_>) -> Result<Message, NoMemory> {
     let stop = match command(alloc, piece) {
         Ok(()) => None,
-        Err(Stop::Memory) => return Err(NoMemory),
-        Err(Stop::At(at, expected)) => Some((at, expected)),
+        Err(stop) => Some(stop),
     };
-    let count = match stop {
-        Some((at, _)) => at.min(piece.words.len()),
-        None => piece.words.len(),
-    };
-    if let Some(message) = in_quotes(alloc, piece, count)? {
+    if let Some(message) = in_quotes(alloc, known, piece, words_before(piece, stop))? {
         return Ok(message);
     }
     match stop {
-        Some((at, expected)) => said(alloc, piece, at, expected, "command"),
+        Some(stop) => said(alloc, known, piece, stop, "command"),
         None => Message::new(
             alloc,
             piece.start(0),
             "the text is no command: it nests deeper than a command may, or a word in it is not of its kind",
         ),
+    }
+}
+
+/// Where the conversion that begins at a place in the list ends.
+pub fn end_of_conversion(piece: &Piece<'_>, from: usize) -> usize {
+    match conversion(piece, from) {
+        Ok(end) => end,
+        Err(_) => piece.words.len(),
     }
 }

@@ -56,7 +56,7 @@ pub stored_claims-made : (journal : Journal) (stored : Stored) (names : List (Li
 stored_claims-made journal stored names made claim member = made.theorems claim.name claim.made (member_of_stored_claims stored.theorems names claim member)
 
 pub log_answers : (result : Result (Vec ℕ Global) Fault) (journal : Journal) (given claimed : List Claimed) → IsJournal journal → given ≡ claimed → AreMade journal claimed
-    → IfOk result (λ (text : Vec ℕ Global). IsPrunedText journal given text.items) → IfOk result (λ (text : Vec ℕ Global). IsLogOf text.items given) → IfOk result (λ (text : Vec ℕ Global). length text.items ≤ TEXT_BYTES_LIMIT)
+    → IfOk result (λ (text : Vec ℕ Global). IsPrunedText journal given text.items) → IfOk result (λ (text : Vec ℕ Global). IsLogOf journal.theory text.items given) → IfOk result (λ (text : Vec ℕ Global). length text.items ≤ TEXT_BYTES_LIMIT)
     → IfOk result (λ (text : Vec ℕ Global). IsAcceptedLog journal (map log_claim claimed) text.items)
 log_answers (Ok text) journal given claimed is_journal same made pruned accepted within = record {
   is_log = record { is_journal = is_journal; claimed = claimed; made = made; are_claims = refl; pruned = subst (λ (cs : List Claimed). IsPrunedText journal cs text.items) same pruned };
@@ -64,6 +64,7 @@ log_answers (Ok text) journal given claimed is_journal same made pruned accepted
   state = accepted.state;
   accepted = accepted.accepted;
   claimed = accepted.claimed ∙ ap (map log_claim) same;
+  entries = accepted.entries;
 }
 log_answers (Err fault) journal given claimed is_journal same made pruned accepted within = tt
 

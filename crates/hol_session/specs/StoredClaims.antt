@@ -6,7 +6,7 @@ use Rattle.hol_model.specs.Logs.LogText.{log_outcome}
 use Rattle.hol_logtext.specs.LogBytes.{log_text}
 use Rattle.hol_journal.specs.Journal.{Journal, IsJournal, Recorded}
 use Rattle.hol_log.specs.LogWriting.{Claimed}
-use Rattle.hol_log.specs.LogAccepted.{log_claim}
+use Rattle.hol_log.specs.LogAccepted.{log_claim, IsPartOf}
 use Rattle.hol_log.specs.Pruning.{AreMade}
 use Rattle.hol_log.specs.LogOf.{IsPrunedText}
 
@@ -18,13 +18,15 @@ pub record IsLog (journal : Journal) (claims : List LogClaim) (text : List ℕ) 
   pub are_claims : map log_claim claimed ≡ claims
   pub pruned : IsPrunedText journal claimed text
 
--- The text is the journal's log of these claims, within the limit on texts, and it is accepted with them.
+-- The text is the journal's log of these claims, within the limit on texts, and it is accepted with them, over entries of the
+-- journal's theory.
 pub record IsAcceptedLog (journal : Journal) (claims : List LogClaim) (text : List ℕ) : Type 0 where
   pub is_log : IsLog journal claims text
   pub within_limit : length text ≤ TEXT_BYTES_LIMIT
   pub state : LogState
   pub accepted : log_outcome (log_text text) ≡ Ok state
   pub claimed : state.claims ≡ claims
+  pub entries : IsPartOf state.theory journal.theory
 
 -- The journal's log of these claims is past the limit on texts.
 pub record IsLongLog (journal : Journal) (claims : List LogClaim) : Type 0 where

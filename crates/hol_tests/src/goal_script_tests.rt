@@ -419,5 +419,5 @@ fn proves_doubled(alloc: Global, doublings: usize) -> Result<bool, Fault> {
 
 #[test]
 fn steps_are_shared(rt: HostRuntime) {
-    assert!(rt; proves_doubled(rt.alloc(), 10) == Ok(true));
+    assert!(rt; proves_doubled(rt.alloc(), 15) == Ok(true));
 }

@@ -8,5 +8,5 @@ mod variables;
 pub use instance::{is_instance, part_at};
 pub use ty::{Ty, TypeParts};
 pub use variables::{
-    add_tyvars, is_replaced_type, replaced_type, replaces_type_variables, type_subst, tyvars,
+    is_replaced_type, replaced_type, replaces_type_variables, type_subst, tyvars, with_tyvars,
 };

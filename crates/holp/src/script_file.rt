@@ -74,3 +74,14 @@ impl Source for ScriptFile<'_> {
         self.failed
     }
 }
+
+#[cfg(test)]
+mod tests {
+    use super::*;
+
+    #[test]
+    fn a_dash_names_standard_input(rt: HostRuntime) {
+        assert!(rt; path_of("-") == "/dev/stdin");
+        assert!(rt; path_of("first.hol") == "first.hol");
+    }
+}

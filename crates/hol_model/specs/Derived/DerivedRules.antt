@@ -1,6 +1,6 @@
 -- What each derived rule states for its arguments (HOL Light's `equal.ml` and `bool.ml`), or the first refusal that
 -- applies. Terms that come in are walked for unknown types and constants after shapes and types.
-use Rattle.std.specs.Prelude.{◌≡◌, ◌⊎◌, ℕ, List, [], ◌∷◌, ◌++◌, Bool, true, false, ◌&&◌, not, Result, Ok, Err, map, if◌then◌else◌, nat_le}
+use Rattle.std.specs.Prelude.{◌≡◌, ◌⊎◌, ℕ, List, [], ◌∷◌, ◌++◌, Bool, true, false, ◌&&◌, not, Result, Ok, Err, Some, map, if◌then◌else◌, nat_le}
 use Rattle.std.specs.Option.{option_map_or}
 use Rattle.std.specs.List.{list_any, list_all}
 use Rattle.hol_model.specs.declared.fault.Fault.{Fault}
@@ -20,19 +20,27 @@ use Rattle.hol_model.specs.Logic.NamedLogic.{true_term, false_term, conjunction,
 
 -- ---- stated sequents
 
--- a conclusion: a term, its bound names included, or a term up to the names of bound variables
+-- a conclusion: a term, its bound names included; a term up to the names of bound variables; or such a term that is an
+-- equation whose left side is told with its bound names
 pub data Conclusion : Type 0 where
   named : NamedTerm → Conclusion
   up_to_names : Nameless → Conclusion
+  with_left : NamedTerm → Nameless → Conclusion
 
 -- what a rule states: the hypotheses are a set
 pub record Stated : Type 0 where
   pub hypotheses : List Nameless
   pub conclusion : Conclusion
 
+-- the term is an equation with this left side
+pub record HasLeftSide (left term : NamedTerm) : Type 0 where
+  pub right : NamedTerm
+  pub sides : dest_equation term ≡ Some (left, right)
+
 abbrev pub IsConclusion : Conclusion → NamedTerm → Type 0
 IsConclusion (named term) conclusion = conclusion ≡ term
 IsConclusion (up_to_names term) conclusion = image conclusion ≡ term
+IsConclusion (with_left left term) conclusion = (image conclusion ≡ term) × HasLeftSide left conclusion
 
 -- the theorem's sequent is the stated one
 pub record States (stated : Stated) (theorem : Theorem) : Type 0 where
@@ -47,6 +55,9 @@ stated hypotheses conclusion = Ok (record { hypotheses = hypotheses; conclusion 
 
 abbrev pub stated_up_to_names : List Nameless → Nameless → Result Stated Fault
 stated_up_to_names hypotheses conclusion = Ok (record { hypotheses = hypotheses; conclusion = up_to_names conclusion })
+
+abbrev pub stated_with_left : List Nameless → NamedTerm → Nameless → Result Stated Fault
+stated_with_left hypotheses left conclusion = Ok (record { hypotheses = hypotheses; conclusion = with_left left conclusion })
 
 -- ---- room
 
@@ -80,6 +91,7 @@ terms_of_theorem theorem = image theorem.conclusion ∷ images theorem
 abbrev pub conclusion_image : Conclusion → Nameless
 conclusion_image (named term) = image term
 conclusion_image (up_to_names term) = term
+conclusion_image (with_left left term) = term
 
 abbrev pub terms_of_stated : Stated → List Nameless
 terms_of_stated sequent = conclusion_image sequent.conclusion ∷ sequent.hypotheses
@@ -121,12 +133,12 @@ prove_hyp_outcome first second =
 abbrev pub body_with : Abstracted → NamedTerm → Nameless
 body_with quantified term = fill (image term) (close quantified.name quantified.ty (image quantified.body))
 
--- BETA_CONV: (\x. b) a = b[a/x]
+-- BETA_CONV: (\x. b) a = b[a/x], the left side as it is
 abbrev pub beta_conv_outcome : Theory → NamedTerm → Result Stated Fault
 beta_conv_outcome theory term =
     given (dest_redex term) BadShape (λ redex.
     refused (first_unknown theory term)
-    (stated_up_to_names [] (nameless_equation (nameless_type [] (image term)) (image term) (body_with redex.0 redex.1))))
+    (stated_with_left [] term (nameless_equation (nameless_type [] (image term)) (image term) (body_with redex.0 redex.1))))
 
 -- ---- connectives
 

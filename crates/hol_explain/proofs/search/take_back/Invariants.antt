@@ -1,0 +1,5 @@
+use Rattle.hol_proof_manager.specs.Managers.{IsManager}
+use Rattle.hol_explain.proofs.search.take_back.Given as goal
+
+abbrev pub invariant-loop : goal.invariant-loop
+invariant-loop g l = IsManager l.manager
