@@ -1,10 +1,9 @@
 -- What is asked before a conversion is tried, after calls and of parts.
-use Rattle.std.proofs.Common.{◌≡◌, List, ℕ, Bool, true, false, ◌&&◌, refl, sym, ◌∙◌, subst, Result}
+use Rattle.std.proofs.Common.{◌≡◌, ℕ, Bool, true, false, ◌&&◌, refl, sym, ◌∙◌, subst, Result}
 use Rattle.hol_model.specs.declared.fault.Fault.{Fault}
-use Rattle.hol_model.specs.Terms.HolType.{HolType}
-use Rattle.hol_model.specs.Terms.NamedTerm.{NamedTerm, combination, abstraction}
+use Rattle.hol_model.specs.Terms.NamedTerm.{NamedTerm, combination}
 use Rattle.hol_model.specs.Logic.Theory.{Theory}
-use Rattle.hol_model.specs.Logic.KnownTerm.{knows_type, knows_types, knows_constants, has_instances, is_known}
+use Rattle.hol_model.specs.Logic.KnownTerm.{knows_types, knows_constants, has_instances, is_known}
 use Rattle.hol_model.specs.Kernel.Theorem.{Theorem}
 use Rattle.hol_model.specs.Refining.HostFunctions.{HostConversions}
 use Rattle.hol_model.specs.Refining.Conversions.{Conversion, Converts}
@@ -29,16 +28,9 @@ halves true true false d e f is = cc
 halves true false c d e f is = cc
 halves false b c d e f is = cc
 
-without-first : (a b c d : Bool) → (a && b && c && d) ≡ true → (b && c && d) ≡ true
-without-first true b c d is = is
-without-first false b c d is = cc
-
 known-halves : (theory : Theory) (f x : NamedTerm) → is_known theory (combination f x) ≡ true → (is_known theory f ≡ true) × (is_known theory x ≡ true)
 known-halves theory f x known =
     halves (knows_types theory f) (knows_types theory x) (knows_constants theory f) (knows_constants theory x) (has_instances theory f) (has_instances theory x) known
-
-known-body : (theory : Theory) (name : List ℕ) (ty : HolType) (body : NamedTerm) → is_known theory (abstraction name ty body) ≡ true → is_known theory body ≡ true
-known-body theory name ty body known = without-first (knows_type theory ty) (knows_types theory body) (knows_constants theory body) (has_instances theory body) known
 
 -- ---- of parts
 
@@ -48,22 +40,13 @@ with-term asked known = record { is_library = asked.is_library; ready = asked.re
 known-as : {ready : Library → Type 0} {library : Library} {t u : NamedTerm} → IsAsked ready library t → t ≡ u → is_known library.recorder.theory u ≡ true
 known-as {library} asked is = subst (λ (u : NamedTerm). is_known library.recorder.theory u ≡ true) is asked.known
 
-pub of-function : {ready : Library → Type 0} {library : Library} {t f x : NamedTerm} → IsAsked ready library t → t ≡ combination f x → IsAsked ready library f
-of-function {library} {f} {x} asked is = with-term asked (known-halves library.recorder.theory f x (known-as asked is)).0
-
 pub of-argument : {ready : Library → Type 0} {library : Library} {t f x : NamedTerm} → IsAsked ready library t → t ≡ combination f x → IsAsked ready library x
 of-argument {library} {f} {x} asked is = with-term asked (known-halves library.recorder.theory f x (known-as asked is)).1
-
-pub of-body : {ready : Library → Type 0} {library : Library} {t body : NamedTerm} {name : List ℕ} {ty : HolType} → IsAsked ready library t → t ≡ abstraction name ty body → IsAsked ready library body
-of-body {library} {body} {name} {ty} asked is = with-term asked (known-body library.recorder.theory name ty body (known-as asked is))
 
 -- ---- after calls
 
 pub known-later : {old new : Library} (t : NamedTerm) → IsContinued old new → is_known old.recorder.theory t ≡ true → is_known new.recorder.theory t ≡ true
 known-later t continued known = subst (λ (theory : Theory). is_known theory t ≡ true) (sym continued.theory) known
-
-pub known-before : {old new : Library} (t : NamedTerm) → IsContinued old new → is_known new.recorder.theory t ≡ true → is_known old.recorder.theory t ≡ true
-known-before t continued known = subst (λ (theory : Theory). is_known theory t ≡ true) continued.theory known
 
 pub continued-twice : {first second third : Library} → IsContinued first second → IsContinued second third → IsContinued first third
 continued-twice {first} {second} {third} before after = record {

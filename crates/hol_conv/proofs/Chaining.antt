@@ -1,5 +1,5 @@
 -- Theorems joined from the right, and ALL_CONV.
-use Rattle.std.proofs.Common.{◌≡◌, ℕ, suc, ◌<◌, List, [], ◌∷◌, ◌++◌, length, inl, inr, refl, sym, ap, ◌∙◌, subst, arith, Bool, true, false, Result, Ok, Err}
+use Rattle.std.proofs.Common.{◌≡◌, ℕ, suc, ◌<◌, List, [], ◌∷◌, ◌++◌, length, inl, inr, sym, ap, ◌∙◌, subst, arith, Bool, true, Result, Ok, Err}
 use Rattle.std.specs.List.{All}
 use Rattle.std.proofs.lemmas.List.{map-append, length-append}
 use Rattle.std.proofs.lemmas.List.Elements.{All-weaker, All-push}
@@ -57,18 +57,10 @@ pub joins-as : {a b answer : Result Theorem Fault} → a ≡ b → Joins b answe
 joins-as is (inl made) = inl (made ∙ sym is)
 joins-as is (inr made) = inr made
 
-pub all-joined : (theory : Theory) (before all : List Recorded) (last theorem : Theorem) → joined_from theory (theorems before) (Ok last) ≡ joined_from theory (theorems all) (Ok theorem) → all ≡ []
-    → Joins (joined_from theory (theorems before) (Ok last)) (Ok theorem)
-all-joined theory before all last theorem is none = inl (sym (is ∙ ap (λ (all : List Recorded). joined_from theory (theorems all) (Ok theorem)) none))
-
 pub one-less : (all rest : List Recorded) (theorem : Recorded) → all ≡ rest ++ theorem ∷ [] → length rest < length all
 one-less all rest theorem is = let counted = ap length is ∙ length-append rest (theorem ∷ []) in omega (arith, counted)
 
 -- ---- ends
-
-pub stops-uncaught : (theory : Theory) (proved : List Theorem) (t : NamedTerm) (fault : Fault) (steps : ℕ) → is_caught fault ≡ false → Finishes theory proved t fault steps (Err fault) steps
-stops-uncaught theory proved t fault steps passes =
-    subst (λ (caught : Bool). FinishesBy caught theory proved t fault steps (Err fault) steps) (sym passes) (refl, refl)
 
 pub ends-caught : {theory : Theory} (proved : List Theorem) {t : NamedTerm} (fault : Fault) {steps left : ℕ} {answer : Result Theorem Fault} (same : Result Theorem Fault) → is_caught fault ≡ true
     → Reflects theory t steps same left → Joins (joined_from theory proved same) answer → Finishes theory proved t fault steps answer left

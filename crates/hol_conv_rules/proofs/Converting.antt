@@ -1,15 +1,13 @@
 -- What calls that spend one step come to as conversions, whatever conversions a host has.
-use Rattle.std.proofs.Common.{◌≡◌, ◌⊎◌, ℕ, suc, ◌≤◌, List, [], ◌∷◌, Bool, true, false, sym, refl, subst, inl, inr, Option, Some, None, Result, Ok, Err, arith}
-use Rattle.std.specs.Option.{is_some}
+use Rattle.std.proofs.Common.{◌≡◌, ◌⊎◌, ℕ, suc, ◌≤◌, List, [], ◌∷◌, Bool, sym, subst, inl, inr, Option, Some, None, Result, Ok, Err, arith}
 use Rattle.hol_model.specs.declared.fault.Fault.{Fault}
 use Rattle.hol_model.specs.declared.fault.Fault.TheVariants.{Memory, ConvFails}
 use Rattle.hol_model.specs.Terms.NamedTerm.{NamedTerm}
 use Rattle.hol_model.specs.Terms.Nameless.{image}
 use Rattle.hol_model.specs.Logic.Theory.{Theory}
-use Rattle.hol_model.specs.Logic.NamedLogic.{dest_redex}
 use Rattle.hol_model.specs.Kernel.Rules.{refl_outcome}
 use Rattle.hol_model.specs.Kernel.Theorem.{Theorem}
-use Rattle.hol_model.specs.Derived.DerivedRules.{Stated, AnswersStated, beta_conv_outcome}
+use Rattle.hol_model.specs.Derived.DerivedRules.{Stated, AnswersStated}
 use Rattle.hol_model.specs.Goals.Replays.{Store}
 use Rattle.hol_model.specs.Rewrites.Rewriting.{Rewrites, AnswersRules}
 use Rattle.hol_model.specs.Refining.HostFunctions.{HostConversions}
@@ -20,13 +18,6 @@ use Rattle.hol_conv_rules.specs.OneStep as one_step
 use Rattle.hol_conv_rules.specs.OneStep.{ConvertsInStep, RewritesByName, is_unknown, rewrites_by_rules, has_no_memory}
 
 -- ---- BETA_CONV
-
-pub no-redex : (theory : Theory) (term : NamedTerm) → is_some (dest_redex term) ≡ false → AnswersStated (Err ConvFails) (image term ∷ []) (redex_outcome theory term)
-no-redex theory term none = rw none (inr refl)
-
-pub redex-answers : (theory : Theory) (term : NamedTerm) (answer : Result Theorem Fault) → is_some (dest_redex term) ≡ true
-    → AnswersStated answer (image term ∷ []) (beta_conv_outcome theory term) → AnswersStated answer (image term ∷ []) (redex_outcome theory term)
-redex-answers theory term answer is answers = rw is answers
 
 -- ---- REWR_CONV
 

@@ -1,9 +1,8 @@
 -- What a replay of a host's justification comes to.
-use Rattle.std.proofs.Common.{◌≡◌, ◌⊎◌, List, [], ◌∷◌, map, Bool, true, false, refl, sym, ◌∙◌, ap, subst, inl, inr, Option, Some, None, Result, Ok, Err, Decides, length, arith}
+use Rattle.std.proofs.Common.{◌≡◌, ◌⊎◌, List, [], ◌∷◌, map, Bool, true, false, refl, sym, ◌∙◌, ap, subst, inl, Option, Some, None, Result, Ok, Err, Decides, length, arith}
 use Rattle.std.proofs.lemmas.Bool.{eqb-true}
 use Rattle.std.specs.Prelude.{nat_eq}
 use Rattle.std.specs.Option.{option_map_or}
-use Rattle.hol_model.specs.declared.fault.Fault.{Fault}
 use Rattle.hol_model.specs.declared.fault.Fault.TheVariants.{InvalidStep}
 use Rattle.hol_model.specs.Terms.HolType.{HolType}
 use Rattle.hol_model.specs.Terms.NamedTerm.{NamedTerm, type_of}
@@ -99,14 +98,3 @@ host-differs theory store term answered theorem replay other = inl (refl, λ giv
         → HasSequent (promised term answered) theorem
     go None gives replay = absurd replay
     go (Some sequent) gives replay = let same : sequent ≡ promised term answered = cc in subst (λ (s : Sequent). HasSequent s theorem) same replay
-
--- the replay was refused
-pub host-refused : (theory : Theory) (store : Store) (term : NamedTerm) (answered : HostEquation) (fault : Fault) → IsReplay theory store [] answered.justification (Err fault)
-    → AnswersHostEquation theory store term answered (Err fault)
-host-refused theory store term answered fault replay = go (sequent_of theory (sequents_in store) [] answered.justification) refl replay
-  where
-    go : (found : Option Sequent) → sequent_of theory (sequents_in store) [] answered.justification ≡ found
-        → AnswersReplay (has_room theory (sequents_in store) [] answered.justification) found (Err fault) → AnswersHostEquation theory store term answered (Err fault)
-    go None is (inl invalid) = inl (invalid, λ gives. let no : None ≡ Some (promised term answered) = sym is ∙ gives in cc)
-    go None is (inr want) = inr want
-    go (Some sequent) is want = inr want

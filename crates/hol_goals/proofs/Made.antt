@@ -42,10 +42,6 @@ pub back_made : (journal : Journal) (change : Change) (old new : List Stage) →
 back_made journal change old new same made =
     subst (AreStagesMade journal) (sym same) (take-made journal (KEPT_EXPANSIONS_LIMIT + 1) (shown change old) (shown-made journal change old made))
 
--- the last change undone
-pub undone_made : (journal : Journal) (old new : List Stage) → new ≡ drop 1 old → AreStagesMade journal old → AreStagesMade journal new
-undone_made journal old new same made = subst (AreStagesMade journal) (sym same) (rest-made journal old made)
-
 -- the stage at hand, where one is lent
 pub stage_made : (journal : Journal) (attempt : Attempt) (lent : Option (Bor Stage)) → option_map (λ (stage : Bor Stage). stage.now) lent ≡ slice_get (shown attempt.change attempt.stages.items) 0
     → IsAttemptMade journal attempt → IfSome lent (λ stage. IsStageMade journal stage.now)

@@ -67,13 +67,6 @@ runs-first theory host before after tactic found goal answer told runs =
     let here = in_focus found goal told in
     runs_on here.focus here.is (subst (λ (g : Goal). Runs theory host before tactic g answer after) here.same runs)
 
-pub good-first : (theory : Theory) (store : Store) (found : Result Focus Fault) (goal : Goal) (step : Step) → Ok goal ≡ goal_in_focus found → IsGoodStep theory store goal step
-    → (focus : Focus) → found ≡ Ok focus → IsGoodStep theory store focus.goal step
-good-first theory store found goal step told good focus is =
-    let here = in_focus found goal told in
-    let one = same_focus found here.focus focus here.is is in
-    subst (λ (f : Focus). IsGoodStep theory store f.goal step) one (subst (λ (g : Goal). IsGoodStep theory store g step) here.same good)
-
 -- ---- what an expansion may come to
 
 module _ (theory : Theory) (host : Host) (before : combinators.Stage) (tactic : Tactic) where

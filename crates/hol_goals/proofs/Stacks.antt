@@ -1,5 +1,5 @@
 -- The stages of a stack, and what its calls make of them.
-use Rattle.std.proofs.Common.{◌≡◌, ℕ, zero, suc, ◌+◌, ◌-◌, ◌≤◌, ◌<◌, List, [], ◌∷◌, length, map, take, drop, refl, sym, ◌∙◌, ap, subst, Option, None, Some, arith}
+use Rattle.std.proofs.Common.{◌≡◌, ℕ, zero, suc, ◌+◌, ◌-◌, ◌<◌, List, [], ◌∷◌, length, map, take, refl, sym, ◌∙◌, ap, subst, Option, None, Some, arith}
 use Rattle.std.proofs.lemmas.List.{take-map, drop-map}
 use Rattle.hol_model.specs.declared.limits.TheConstants.{KEPT_EXPANSIONS_LIMIT}
 use Rattle.hol_model.specs.declared.fault.Fault.TheVariants.{NoGoal, NothingToUndo}
@@ -108,23 +108,6 @@ goes-back goal change old new same more =
     mapped (first ∷ second ∷ rest) more = omega arith
 
 -- the last change undone
-
-pub undoes-nothing : (goal : Goal) (stages : List states.Stage) → stack_at Nothing goal stages ≡ states.reverted (stack_at Nothing goal stages)
-undoes-nothing goal stages = refl
-
-pub undoes-back : (goal : Goal) (stages : List states.Stage) → stack_at Nothing goal stages ≡ states.reverted (stack_at Back goal stages)
-undoes-back goal [] = refl
-undoes-back goal (first ∷ rest) = refl
-
-pub undoes-forward : (goal : Goal) (stages : List Stage) → 1 < length stages → stack_at Nothing goal (map stage_of (drop 1 stages)) ≡ states.reverted (stack_at Forward goal (map stage_of stages))
-undoes-forward goal [] more = absurd (omega (arith, more))
-undoes-forward goal (first ∷ []) more = absurd (omega (arith, more))
-undoes-forward goal (first ∷ second ∷ rest) more = refl
-
-pub undoes-short : (goal : Goal) (stages : List Stage) → length stages ≤ 1 → stack_at Nothing goal (map stage_of stages) ≡ states.reverted (stack_at Forward goal (map stage_of stages))
-undoes-short goal [] short = refl
-undoes-short goal (first ∷ []) short = refl
-undoes-short goal (first ∷ second ∷ rest) short = absurd (omega (arith, short))
 
 -- the stage at hand
 

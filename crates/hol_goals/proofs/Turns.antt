@@ -164,16 +164,3 @@ whole-turns (suc times) n step =
 pub rest-of-turns : (n : ℕ) (step : Step) → rotated n step ≡ rotated (n % length step.goals) step
 rest-of-turns n step =
     ap (λ (k : ℕ). rotated k step) (sym (div-add-mod' n (length step.goals))) ∙ whole-turns (n / length step.goals) (n % length step.goals) step
-
--- where no goal is left, nothing turns
-pub no-turns : (n : ℕ) (step : Step) → step.goals ≡ [] → rotated n step ≡ step
-no-turns n step none =
-    let count : length step.goals ≡ 0 = ap length none in
-    let goals : goals_after n step.goals ≡ step.goals = ap (goals_after n) none ∙ nowhere n ∙ sym none in
-    let number = λ (i : ℕ). past-goals (length step.goals) n i (omega (arith, count)) in
-    let justification = same-numbers (λ (i : ℕ). sub (number_after (length step.goals) n i)) (λ i. ap sub (number i)) step.justification in
-    rotated-is n step ∙ (λ i. record { goals = goals i; justification = justification i })
-  where
-    nowhere : (n : ℕ) → goals_after n [] ≡ []
-    nowhere zero = refl
-    nowhere (suc n) = nowhere n

@@ -26,14 +26,6 @@ length-flat : (lines : List Line) → length (flat_lines lines) ≡ length lines
 length-flat [] = refl
 length-flat (line ∷ lines) = let rest = length-flat lines in omega (arith, rest)
 
-pub none-joined : (joined : Joined) (all : List FlatPortion) → joined.lines.items ≡ [] → joined.roots.items ≡ [] → IsJoined joined 0 all all
-none-joined joined all no_lines no_roots =
-    record {
-      lines = rw no_lines refl;
-      roots = rw (no_lines, no_roots) refl;
-      subgoals = omega arith;
-    }
-
 pub one-joined : (old new : Joined) (subgoals next : ℕ) (portion : FlatPortion) (left all : List FlatPortion) → IsJoined old subgoals (portion ∷ left) all → Adds old new subgoals portion.justification
     → next ≡ subgoals + portion.subgoals → IsJoined new next left all
 one-joined old new subgoals next portion left all is adds same =

@@ -1,18 +1,33 @@
 // Logs of scripts, with the expected bytes by hand, and their claims as the checker prints them.
 use crate::sinks::Kept;
 use hol_check::{check, check_log, write_claims, write_entries};
-use hol_host::NoHost;
+use hol_host::{Host, NoHost};
+use hol_just::Goal;
 use hol_model::{Fault, FromRead, IntoWrite};
+use hol_sample_host::{liar, liar2, peel};
 use hol_script::run;
 use std::alloc::Global;
 use std::test::Fail;
 
-// The log of a script.
+// A host with the sample refiners.
+fn host_of_samples(alloc: Global) -> Result<Host, Fault> {
+    let mut host = Host::new(alloc);
+    let peels = Box::new(alloc, |alloc: Global, goal: &Goal| peel(alloc, goal))?;
+    host.refiner(alloc, "peel", peels)?;
+    let lies = Box::new(alloc, |alloc: Global, goal: &Goal| liar(alloc, goal))?;
+    host.refiner(alloc, "liar", lies)?;
+    let lies_twice = Box::new(alloc, |alloc: Global, goal: &Goal| liar2(alloc, goal))?;
+    host.refiner(alloc, "liar2", lies_twice)?;
+    Ok(host)
+}
+
+// The log of a script, run with the sample refiners.
 fn log_of(alloc: Global, script: &[u8]) -> Result<Vec<u8>, Fault> {
+    let host = host_of_samples(alloc)?;
     let mut reader = FromRead::new(script);
     let mut writer = IntoWrite::new(Vec::new(alloc));
     let mut log = Kept::new(alloc);
-    run(alloc, &mut reader, &mut writer, &mut log, true, &NoHost)?;
+    run(alloc, &mut reader, &mut writer, &mut log, true, &host)?;
     Ok(log.bytes)
 }
 
@@ -199,6 +214,72 @@ fn claims_saved_theorems(rt: HostRuntime) -> Result<(), Fail> {
     let lines = b"w: |- ([!:(bool->bool)->bool] (\\bool. (([==>:bool->bool->bool] #0) #0)))\n";
     assert!(rt; claims(rt.alloc(), script, lines)?);
     Ok(())
+}
+
+// A script, and the claims of its log.
+struct Row<'a> {
+    script: &'a [u8],
+    claims: &'a [u8],
+}
+
+const GOALS: [Row<'static>; 8] = [
+    Row {
+        script: b"goal `!p:bool. p ==> p ==> p` ;; e GEN_TAC THEN REPEAT DISCH_TAC THEN ASSUMPTION_TAC ;; save w ;;",
+        claims: b"w: |- ([!:(bool->bool)->bool] (\\bool. (([==>:bool->bool->bool] #0) (([==>:bool->bool->bool] #0) #0))))\n",
+    },
+    Row {
+        script: b"goal `!p:bool. p ==> p ==> p` ;; e GEN_TAC ;; e DISCH_TAC ;; e DISCH_TAC ;; e ASSUMPTION_TAC ;; save w ;;",
+        claims: b"w: |- ([!:(bool->bool)->bool] (\\bool. (([==>:bool->bool->bool] #0) (([==>:bool->bool->bool] #0) #0))))\n",
+    },
+    // goals that are left open, taken back and rotated
+    Row {
+        script: b"goal `(x:bool) ==> (!x:bool. x)` ;; e DISCH_TAC ;; e GEN_TAC ;; b ;; b ;; b ;; goal `T /\\ (T ==> T)` ;; \
+e CONJ_TAC ;; r 0 ;; r 2 ;; r 1 ;; e CONJ_TAC THENL [ALL_TAC] ;;",
+        claims: b"",
+    },
+    // a goal that is proved and not saved
+    Row {
+        script: b"goal `(x:A) = (x:A)` ;; e REFL_TAC THENL [NO_TAC] ;;",
+        claims: b"",
+    },
+    Row {
+        script: b"thm nn = TAUT `~~(p:bool) <=> (p:bool)` ;; goal `~~~~(a:bool) ==> (a:bool)` ;; e REWRITE_TAC [nn] ;; \
+e DISCH_TAC THEN ASSUMPTION_TAC ;; save v ;;",
+        claims: b"nn: |- (([=:bool->bool->bool] ([~:bool->bool] ([~:bool->bool] (p:bool)))) (p:bool))\n\
+v: |- (([==>:bool->bool->bool] ([~:bool->bool] ([~:bool->bool] ([~:bool->bool] ([~:bool->bool] (a:bool)))))) (a:bool))\n",
+    },
+    // a host's refiners of which no step is taken, and one that is not there
+    Row {
+        script: b"goal `T /\\ T` ;;\ne CONJ_TAC ;;\ne HOST liar ;;\ne HOST liar2 ;;\ne HOST nobody ;;\np ;;",
+        claims: b"",
+    },
+    // a host's refiner whose steps are taken
+    Row {
+        script: b"goal `!p:bool. p ==> p` ;; e REPEAT (HOST peel) THEN ASSUMPTION_TAC ;; save w ;;",
+        claims: b"w: |- ([!:(bool->bool)->bool] (\\bool. (([==>:bool->bool->bool] #0) #0)))\n",
+    },
+    // a goal that stays behind a refusal
+    Row {
+        script: b"thm comm = TAUT `(p:bool) /\\ (q:bool) <=> (q:bool) /\\ (p:bool)` ;; goal `(a:bool) /\\ (b:bool)` ;; e NO_TAC ;;",
+        claims: b"comm: |- (([=:bool->bool->bool] (([/\\:bool->bool->bool] (p:bool)) (q:bool))) \
+(([/\\:bool->bool->bool] (q:bool)) (p:bool)))\n",
+    },
+];
+
+// The number of the first row whose log has other claims, if any.
+fn first_otherwise(alloc: Global, rows: &[Row<'_>]) -> Option<usize> {
+    for at in 0..rows.len() {
+        let row = &rows[at];
+        if claims(alloc, row.script, row.claims) != Ok(true) {
+            return Some(at);
+        }
+    }
+    None
+}
+
+#[test]
+fn claims_of_scripts_with_goals(rt: HostRuntime) {
+    assert!(rt; first_otherwise(rt.alloc(), &GOALS).is_none());
 }
 
 #[test]

@@ -1,19 +1,18 @@
 -- What the parts of the printer put at the end of a text is the text of the tree.
-use Rattle.std.proofs.Common.{OnOk, Result, Ok, Err, inl, inr, ◌⊎◌, ◌≤◌, ◌<◌, suc, ltb, arith, append_assoc, ◌≡◌, ℕ, Bool, true, false, not, List, [], ◌∷◌, ◌++◌, Option, None, Some, refl, sym, ap, ◌∙◌, subst, if◌then◌else◌, codes, nat_le, ◌||◌}
+use Rattle.std.proofs.Common.{OnOk, Result, Ok, Err, inl, inr, ◌⊎◌, ◌≤◌, ◌<◌, arith, append_assoc, ◌≡◌, ℕ, Bool, true, false, List, [], ◌∷◌, ◌++◌, refl, sym, ap, ◌∙◌, if◌then◌else◌, codes, nat_le, ◌||◌}
 use Rattle.std.specs.Str.{bytes_eq}
 use Rattle.std.proofs.lemmas.Slice.Eq.{bytes_eq-Decides}
 use Rattle.std.proofs.lemmas.List.{append-nil}
 use Rattle.std.proofs.lemmas.Bool.Decides.{leb_tells}
 use Rattle.hol_model.specs.declared.fault.Fault.{Fault}
 use Rattle.hol_model.specs.Terms.Name.{is_identifier, is_symbol, is_constant_name}
-use Rattle.hol_model.specs.Terms.HolType.{HolType, type_eq}
-use Rattle.hol_model.specs.Texts.TermGrammar.{Atom, Infix, Bare, Variable, Constant, TermTree, Leaf, Apply, Not, Join, Bind, Enclosed, infix_level, infix_symbol, Binder, binder_symbol, level}
+use Rattle.hol_model.specs.Terms.HolType.{type_eq}
+use Rattle.hol_model.specs.Texts.TermGrammar.{Infix, Variable, TermTree, Apply, Not, Join, Bind, Enclosed, infix_level, infix_symbol, Binder, binder_symbol, level}
 use Rattle.hol_model.specs.Texts.Token.{Token, Name, Mark, token_text, symbol_text}
 use Rattle.hol_model.specs.declared.symbol.Symbol.TheVariants.{Implies, And, Or, Equal, Exclamation, Question, At, Tilde}
-use Rattle.hol_model.specs.Texts.Reading.{Scope, Bindings, bound_type, is_closed_type}
-use Rattle.hol_model.specs.Texts.Printing.{type_tree, enclose, apply_tree, variable_tree, name_token, typed_constant, bare_tree, constant_tree}
-use Rattle.hol_model.specs.Texts.Texts.{type_bytes, term_bytes}
-use Rattle.hol_print.specs.Output.{Appends, opening, closing}
+use Rattle.hol_model.specs.Texts.Printing.{enclose, apply_tree, variable_tree, name_token}
+use Rattle.hol_model.specs.Texts.Texts.{type_bytes}
+use Rattle.hol_print.specs.Output.{Appends}
 
 pub joined : {a b c : List ℕ} {f g : List ℕ → List ℕ} → Appends a b f → Appends b c g → Appends a c (λ rest. f (g rest))
 joined {f} {g} h k = record { appended = λ rest. k.appended rest ∙ h.appended (g rest) }
@@ -21,14 +20,6 @@ joined {f} {g} h k = record { appended = λ rest. k.appended rest ∙ h.appended
 -- what is put at the end of no text
 pub from_nothing : (old new : List ℕ) (f : List ℕ → List ℕ) → old ≡ [] → Appends old new f → new ≡ f []
 from_nothing old new f e h = sym (append-nil new) ∙ h.appended [] ∙ ap (λ o. o ++ f []) e
-
--- a tree in parentheses, where its level is below
-pub enclosing : (n : ℕ) (b : Bool) (tree : TermTree) (o1 o2 o3 o4 : List ℕ) → not b ≡ nat_le n (level tree)
-    → Appends o1 o2 (opening b) → Appends o2 o3 (term_bytes tree) → Appends o3 o4 (closing b) → Appends o1 o4 (term_bytes (enclose n tree))
-enclosing n true tree o1 o2 o3 o4 e h k l =
-    subst (λ b. Appends o1 o4 (term_bytes (if b then tree else Enclosed tree))) e (joined h (joined k l))
-enclosing n false tree o1 o2 o3 o4 e h k l =
-    subst (λ b. Appends o1 o4 (term_bytes (if b then tree else Enclosed tree))) e (joined h (joined k l))
 
 -- one of the symbols, or a later one
 named_or : (name : List ℕ) (b : Bool) (text : List ℕ) (t u : Token) (more : Bool) → bytes_eq name text ≡ b → token_text t ≡ text
@@ -71,28 +62,6 @@ pub on_ok : {P Q : Type 0} (result : Result (Unit {0}) Fault) → OnOk result P 
 on_ok (Ok x) h f = f h
 on_ok (Err fault) h f = tt
 
-not_below : (n m : ℕ) → not (ltb m n) ≡ nat_le n m
-not_below n m = go (ltb m n) (leb_tells (suc m) n) (nat_le n m) (leb_tells n m) refl refl
-  where
-    go : (b : Bool) → ((b ≡ true) × (suc m ≤ n)) ⊎ ((b ≡ false) × (n < suc m)) → (d : Bool) → ((d ≡ true) × (n ≤ m)) ⊎ ((d ≡ false) × (m < n))
-        → ltb m n ≡ b → nat_le n m ≡ d → not b ≡ d
-    go true h true k e f = elim k [
-      | inl x ↦ absurd (elim h [ inl y ↦ absurd (omega (arith, x.1, y.1)) | inr y ↦ absurd (let bad : true ≡ false = y.0 in cc) ])
-      | inr x ↦ absurd (let bad : true ≡ false = x.0 in cc)
-    ]
-    go true h false k e f = refl
-    go false h true k e f = refl
-    go false h false k e f = elim k [
-      | inl x ↦ absurd (let bad : false ≡ true = x.0 in cc)
-      | inr x ↦ elim h [ inl y ↦ absurd (let bad : false ≡ true = y.0 in cc) | inr y ↦ absurd (omega (arith, x.1, y.1)) ]
-    ]
-
--- a whole term, by the tree of its form
-pub printed_form : (n m : ℕ) (tree whole : TermTree) (o1 o2 o3 o4 : List ℕ) → m ≡ level tree → tree ≡ whole
-    → Appends o1 o2 (opening (ltb m n)) → Appends o2 o3 (term_bytes tree) → Appends o3 o4 (closing (ltb m n)) → Appends o1 o4 (term_bytes (enclose n whole))
-printed_form n m tree whole o1 o2 o3 o4 l e h k c =
-    subst (λ w. Appends o1 o4 (term_bytes (enclose n w))) e (enclosing n (ltb m n) tree o1 o2 o3 o4 (not_below n m ∙ ap (nat_le n) l) h k c)
-
 -- every tree stands where no level is asked for
 pub enclose_none : (tree : TermTree) → enclose 0 tree ≡ tree
 enclose_none tree = ap (λ b. if b then tree else Enclosed tree) (go (nat_le 0 (level tree)) (leb_tells 0 (level tree)))
@@ -100,18 +69,3 @@ enclose_none tree = ap (λ b. if b then tree else Enclosed tree) (go (nat_le 0 (
     go : (b : Bool) → ((b ≡ true) × (0 ≤ level tree)) ⊎ ((b ≡ false) × (level tree < 0)) → b ≡ true
     go true h = refl
     go false h = elim h [ inl x ↦ x.0 | inr x ↦ absurd (omega (arith, x.1)) ]
-
-leaf_level : (b : Bool) (x y : Atom) → 20 ≡ level (if b then Leaf x else Leaf y)
-leaf_level true x y = refl
-leaf_level false x y = refl
-
-bare_level : (generic bound : Option HolType) (name : List ℕ) (ty : HolType) → 20 ≡ level (bare_tree generic bound name ty)
-bare_level (Some generic) None name ty = leaf_level (is_closed_type generic) (Bare name) (Constant (name_token name) (type_tree ty))
-bare_level _ _ name ty = refl
-
-constant_level : (scope : Scope) (bindings : Bindings) (name : List ℕ) (ty : HolType) → 20 ≡ level (constant_tree scope bindings name ty)
-constant_level scope bindings name ty = go (is_identifier name)
-  where
-    go : (b : Bool) → 20 ≡ level (if b then bare_tree (scope.generic_type name) (bound_type bindings name) name ty else typed_constant name ty)
-    go true = bare_level (scope.generic_type name) (bound_type bindings name) name ty
-    go false = refl

@@ -1,18 +1,12 @@
 -- Texts of goals, one after another.
-use Rattle.std.proofs.Common.{◌≡◌, ℕ, ◌+◌, ◌<◌, List, [], ◌∷◌, ◌++◌, length, take, get_or, refl, sym, ap, ◌∙◌, append-nil}
+use Rattle.std.proofs.Common.{◌≡◌, ℕ, ◌+◌, ◌<◌, List, [], ◌∷◌, ◌++◌, length, take, get_or, sym, ap, ◌∙◌, append-nil}
 use Rattle.std.proofs.lemmas.List.{append_assoc, take_more}
 use Rattle.hol_model.specs.Goals.Goals.{Goal}
 use Rattle.hol_model.specs.Texts.Reading.{Scope}
-use Rattle.hol_session_model.specs.Replies.{count_text, goals_text}
+use Rattle.hol_session_model.specs.Replies.{goals_text}
 use Rattle.hol_just.specs.declared.goal.Goal as code
 use Rattle.hol_just.specs.Steps.{goals_of}
-use Rattle.hol_proof_manager.specs.GoalTexts.{count_said, line_of_goal}
-
--- how many goals are open is said by their number
-pub count_same : (goals : List Goal) → count_text goals ≡ count_said (length goals)
-count_same [] = refl
-count_same (goal ∷ []) = refl
-count_same (goal ∷ next ∷ goals) = refl
+use Rattle.hol_proof_manager.specs.GoalTexts.{line_of_goal}
 
 -- the last goal's line
 last_line : (scope : Scope) (goals : List code.Goal) (goal : code.Goal) → goals_text scope (goals_of (goals ++ goal ∷ [])) ≡ goals_text scope (goals_of goals) ++ line_of_goal scope goal

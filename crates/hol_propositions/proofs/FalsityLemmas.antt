@@ -30,11 +30,6 @@ many n over = grind (arith, nat_tests)
 few : (n : ℕ) → n ≤ ATOMS_LIMIT → nat_le n ATOMS_LIMIT ≡ true
 few n within = grind (arith, nat_tests)
 
-pub too-many : (term : NamedTerm) (atoms : List NamedTerm) → atoms ≡ atoms_of term → ATOMS_LIMIT + 1 ≤ length atoms → falsity_of term ≡ Some TooManyAtoms
-too-many term atoms is over =
-    ap (λ test. if test then option_map (λ row. NotTautology (length (atoms_of term)) (row_in_full row)) (falsifying_row term) else Some TooManyAtoms)
-    (ap (λ some. nat_le (length some) ATOMS_LIMIT) (sym is) ∙ many (length atoms) over)
-
 pub within-limit : (term : NamedTerm) (atoms : List NamedTerm) → atoms ≡ atoms_of term → length atoms ≤ ATOMS_LIMIT
     → falsity_of term ≡ option_map (λ row. NotTautology (length atoms) (row_in_full row)) (falsifying_row term)
 within-limit term atoms is within =

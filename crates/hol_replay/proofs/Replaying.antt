@@ -1,5 +1,5 @@
 -- Replaying a justification line by line.
-use Rattle.std.proofs.Common.{◌≡◌, ℕ, zero, suc, ◌+◌, ◌<◌, List, [], ◌∷◌, ◌++◌, map, length, get_or, Bool, true, false, ◌&&◌, refl, sym, ap, ◌∙◌, subst, inl, inr, arith, Option, Some, None, Result, Ok, Err, length-append, drop, drop-cons, drop_of_length-le, ◌≤◌, Bor}
+use Rattle.std.proofs.Common.{◌≡◌, ℕ, zero, suc, ◌+◌, ◌<◌, List, [], ◌∷◌, ◌++◌, map, length, get_or, Bool, true, false, ◌&&◌, refl, sym, ap, ◌∙◌, subst, inl, inr, arith, Option, Some, None, Result, Ok, Err, length-append, drop, drop-cons, Bor}
 use Rattle.std.specs.Prelude.{slice_get, IfOk, IfErr, IfSome, nat_le, ◌⊎◌}
 use Rattle.std.proofs.lemmas.List.Folds.{list_all-append}
 use Rattle.std.specs.Option.{option_map}
@@ -28,7 +28,7 @@ use Rattle.hol_equal.specs.Sequents.{Shows, IsHeld, Continues}
 use Rattle.hol_equal.specs.Inferred.{IsDrawn, Infers}
 use Rattle.hol_just.specs.Flat.{FlatLine, cited, cited_parts, tree_of_line, trees_after, are_below, cites_below, cite_earlier}
 use Rattle.hol_just.specs.Lines.{flat_line, flat_lines}
-use Rattle.hol_just.specs.Steps.{flat_of, tree_of}
+use Rattle.hol_just.specs.Steps.{flat_of}
 use Rattle.hol_just.specs.declared.just.Just.{Just}
 use Rattle.hol_just.specs.declared.line.Line.{Line}
 use Rattle.hol_just.proofs.Joining.{well_cited}
@@ -431,9 +431,6 @@ one-line old now new expects line left all answers answer is continues drawn =
       };
     }
 
-pub none-yet : (journal : Journal) (expects : Justification → Expected) (all : List FlatLine) → cite_earlier 0 all ≡ true → IsReplaying journal journal expects all all []
-none-yet journal expects all cite = record { grown = same-grown journal; theory = refl; held = tt; cite = cite; replayed = record { trees = []; are = refl; met = tt } }
-
 here : (lines : List Line) (at : ℕ) (line : Line) → at < length lines → line ≡ get_or lines at line → drop at lines ≡ line ∷ drop (at + 1) lines
 here lines at line within is =
     let next : suc at ≡ at + 1 = omega arith in drop-cons lines at line within ∙ (λ i. sym is i ∷ drop (next i) lines)
@@ -452,11 +449,6 @@ pub line-cites : (old now : Journal) (expects : Justification → Expected) (lin
 line-cites old now expects lines at line answers within is replaying =
     let here_is = subst (λ (left : List Line). cite_earlier (length answers) (flat_lines left) ≡ true) (here lines at line within is) replaying.cite in
     first_of_both (cites_below (length answers) (flat_line line)) (cite_earlier (suc (length answers)) (flat_lines (drop (at + 1) lines))) here_is
-
-pub all-lines : (old now : Journal) (expects : Justification → Expected) (lines : List Line) (at : ℕ) (answers : List LineAnswer) → length lines ≤ at
-    → IsReplaying old now expects (flat_lines (drop at lines)) (flat_lines lines) answers → IsReplaying old now expects [] (flat_lines lines) answers
-all-lines old now expects lines at answers past replaying =
-    subst (λ (left : List Line). IsReplaying old now expects (flat_lines left) (flat_lines lines) answers) (drop_of_length-le lines past) replaying
 
 met-length : (expects : Justification → Expected) (trees : List Justification) (answers : List LineAnswer) → AreMet expects trees answers → length trees ≡ length answers
 met-length expects [] [] drawn = refl
@@ -477,25 +469,6 @@ root-there old now expects just lines answers are replaying =
 
 pub cites-from : (just : Just) (lines : List Line) → flat_lines lines ≡ (flat_of just).lines → cite_earlier 0 (flat_lines lines) ≡ true
 cites-from just lines are = ap (cite_earlier 0) are ∙ first_of_both (cite_earlier 0 (flat_of just).lines) (nat_le (suc (flat_of just).root) (length (flat_of just).lines)) just.node.value.well_cited
-
--- what the whole comes to
-pub whole-met : (old now : Journal) (expects : Justification → Expected) (just : Just) (lines : List Line) (root : ℕ) (answers : List LineAnswer) (result : Result Theorem Fault) → flat_lines lines ≡ (flat_of just).lines
-    → root ≡ (flat_of just).root → IsReplaying old now expects [] (flat_lines lines) answers
-    → ((trees : List Justification) → AreMet expects trees answers → Meets (expects (cited trees root)) result) → Meets (expects (tree_of just)) result
-whole-met old now expects just lines root answers result are root_is replaying drawn =
-    let same : cited replaying.replayed.trees root ≡ tree_of just =
-    (λ i. cited ((replaying.replayed.are ∙ ap (trees_after []) are) i) (root_is i)) in
-    subst (λ (tree : Justification). Meets (expects tree) result) same (drawn replaying.replayed.trees replaying.replayed.met)
-
--- the theorem of the line that stands for the whole, copied
-pub copied-met : (expected : Expected) (made : Recorded) (result : Result Recorded Fault) → Meets expected (Ok made.theorem) → IfOk result (λ copy. copy ≡ made) → IfErr result (λ fault. fault ≡ Memory)
-    → Meets expected (theorem_in result)
-copied-met expected made (Ok copy) met is memory = subst (λ (r : Recorded). Meets expected (Ok r.theorem)) (sym is) met
-copied-met expected made (Err fault) met is memory = record { drawn = lost expected.sequent; fits = λ room. λ large. cc; roomy = met.roomy }
-  where
-    lost : (found : Option Sequent) → IsDrawn found (Err fault)
-    lost None = tt
-    lost (Some sequent) = inl memory
 
 tree-roomy : (theory : Theory) (stored : Stored) (subgoals : List Recorded) (tree : Justification) → (expected_in theory stored subgoals tree).has_room ≡ true → are_roomy (terms_of_sequent (expected_in theory stored subgoals tree).sequent) ≡ true
 tree-roomy theory stored subgoals (sub i) room = room

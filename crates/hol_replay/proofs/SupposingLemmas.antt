@@ -30,7 +30,7 @@ use Rattle.hol_journal.proofs.GrowthLemmas.{journals-grow}
 use Rattle.hol_derivations.specs.Derivations.{AreMade}
 use Rattle.hol_prelude.specs.declared.stored.Bool.{Bool as Stored}
 use Rattle.hol_prelude.specs.HasLogic.{HasLogic}
-use Rattle.hol_equal.specs.Sequents.{IsHeld, Continues, Gives}
+use Rattle.hol_equal.specs.Sequents.{Continues, Gives}
 use Rattle.hol_equal.specs.Inferred.{IsDrawn, Infers}
 use Rattle.hol_bool.proofs.LogicLemmas.{logical-type}
 use Rattle.hol_equal.proofs.DrawnTerms.{one_premise, two_premises}
@@ -66,9 +66,6 @@ once-drawn journal logic has legal term is result gives =
     let known = subst (λ (t : Nameless). IsKnown journal.theory t bool_type) (sym image_is) (false-known journal logic has legal) in
     subst (λ (t : Nameless). IsDrawn (Some (record { hypotheses = t ∷ []; conclusion = t })) (theorem_in result)) image_is (gives-drawn result (image term ∷ []) (image term) (gives known))
 
-pub err-drawn : (found other : Sequent) (fault : Fault) → IsDrawn (Some found) (Err fault) → IsDrawn (Some other) (Err fault)
-err-drawn found other fault drawn = drawn
-
 -- the sequents are the same as sets
 module _ (s t : Sequent) (to : (x : Nameless) → IsMember x s.hypotheses → IsMember x t.hypotheses) (back : (x : Nameless) → IsMember x t.hypotheses → IsMember x s.hypotheses) (is : s.conclusion ≡ t.conclusion) where
   pub moved : (result : Result Theorem Fault) → IsDrawn (Some s) result → IsDrawn (Some t) result
@@ -87,14 +84,6 @@ conjoined-drawn theory once result shows infers =
     moved (record { hypotheses = h ++ h; conclusion = Rattle.hol_model.specs.Logic.Logic.conjunction c c }) (record { hypotheses = false_term ∷ []; conclusion = false_twice })
     (λ x m. elim (of_append x h h m) [ inl a ↦ shows.same_set.back x a | inr b ↦ shows.same_set.back x b ]) (λ x m. IsMember-append_left x h h (shows.same_set.to x m))
     (λ i. Rattle.hol_model.specs.Logic.Logic.conjunction (shows.concludes i) (shows.concludes i)) result drawn
-
--- ASSUME of the conclusion of a theorem
-pub assumed-drawn : (theory : Theory) (conjoined : Theorem) (term : NamedTerm) (result : Result Recorded Fault) → term ≡ conjoined.conclusion → image conjoined.conclusion ≡ false_twice → IsKnown theory (image conjoined.conclusion) bool_type
-    → (IsKnown theory (image term) bool_type → Gives result (image term ∷ []) (image term)) → IsDrawn (Some (record { hypotheses = false_twice ∷ []; conclusion = false_twice })) (theorem_in result)
-assumed-drawn theory conjoined term result is concludes known gives =
-    let image_is : image term ≡ false_twice = ap image is ∙ concludes in
-    subst (λ (t : Nameless). IsDrawn (Some (record { hypotheses = t ∷ []; conclusion = t })) (theorem_in result)) image_is
-    (gives-drawn result (image term ∷ []) (image term) (gives (subst (λ (t : NamedTerm). IsKnown theory (image t) bool_type) (sym is) known)))
 
 -- from `F /\ F`, `F`
 pub conjunct-drawn : (theory : Theory) (assumed : Theorem) (result : Result Theorem Fault) → IsDrawn (Some (record { hypotheses = false_twice ∷ []; conclusion = false_twice })) (Ok assumed) → Infers theory rule_conjunct1 (assumed ∷ []) result
@@ -185,16 +174,6 @@ one-more theory p rest made next result infers drawn_rest = go (is_known_formula
         from_next x (inl is) = IsMember-append_right x h (image p ∷ map image rest) (inl is)
         from_next x (inr m) = IsMember-append_left x h (image p ∷ map image rest) m
 
-not-added : (theory : Theory) (p : NamedTerm) (rest : List NamedTerm) (made : Theorem) (fault : Fault) → Infers theory (rule_add_assum p) (made ∷ []) (Err fault)
-    → IsDrawn (with_assumptions theory (map image made.hypotheses) (image made.conclusion) (p ∷ rest)) (Err fault)
-not-added theory p rest made fault infers = go (is_known_formula theory (image p)) infers.drawn (are_known_formulas theory rest)
-  where
-    go : (known : Bool) → IsDrawn (given (require known (conclude_supposing (all ∷ []) (image p) (image made.conclusion))) (λ inference. drawn inference (map image made.hypotheses ∷ []))) (Err fault)
-        → (others : Bool) → IsDrawn (require (known && others) (Some (record { hypotheses = map image made.hypotheses ++ image p ∷ map image rest; conclusion = image made.conclusion }))) (Err fault)
-    go false step others = tt
-    go true step false = tt
-    go true step true = step
-
 here : (items : List NamedTerm) (at : ℕ) (item : NamedTerm) → at < length items → item ≡ get_or items at item → drop at items ≡ item ∷ drop (at + 1) items
 here items at item within is = let next : suc at ≡ at + 1 = omega arith in drop-cons items at item within ∙ (λ i. sym is i ∷ drop (next i) items)
 
@@ -272,9 +251,6 @@ at-roomy items at item within is roomy =
     let here_roomy : are_roomy (map image (item ∷ drop (at + 1) items)) ≡ true = subst (λ (left : List NamedTerm). are_roomy (map image left) ≡ true) (here items at item within is) roomy in
     (first_of_both (is_roomy (image item)) (are_roomy (map image (drop (at + 1) items))) here_roomy, second_of_both (is_roomy (image item)) (are_roomy (map image (drop (at + 1) items))) here_roomy)
 
-pub none-assumed : (journal : Journal) (made : Recorded) (whole : List NamedTerm) → IsHeld journal made → IsAssuming journal journal (map image made.theorem.hypotheses) (image made.theorem.conclusion) whole whole made
-none-assumed journal made whole held = record { grown = same-grown journal; theory = refl; held = held; leads = λ result drawn. drawn; room = λ made_roomy all_roomy. (made_roomy, all_roomy) }
-
 pub assumes-next : (old now new : Journal) (hypotheses : List Nameless) (conclusion : Nameless) (whole items : List NamedTerm) (at : ℕ) (item : NamedTerm) (made next : Recorded) → at < length items → item ≡ get_or items at item
     → IsAssuming old now hypotheses conclusion whole (drop at items) made → Continues now new (Ok next) → Infers now.theory (rule_add_assum item) (made.theorem ∷ []) (Ok next.theorem)
     → IsAssuming old new hypotheses conclusion whole (drop (at + 1) items) next
@@ -298,29 +274,6 @@ pub assumes-fits : (old now : Journal) (hypotheses : List Nameless) (conclusion 
 assumes-fits old now hypotheses conclusion whole items at item made result within is assuming answers made_roomy all_roomy =
     let so_far = assuming.room made_roomy all_roomy in
     add_assum-fits now.theory item made.theorem result answers so_far.0 (at-roomy items at item within is so_far.1).0
-
-pub assumes-none : (old now new : Journal) (hypotheses : List Nameless) (conclusion : Nameless) (whole items : List NamedTerm) (at : ℕ) (item : NamedTerm) (made : Recorded) (fault : Fault) → at < length items → item ≡ get_or items at item
-    → IsAssuming old now hypotheses conclusion whole (drop at items) made → Infers now.theory (rule_add_assum item) (made.theorem ∷ []) (Err fault)
-    → IsDrawn (with_assumptions old.theory hypotheses conclusion whole) (Err fault)
-assumes-none old now new hypotheses conclusion whole items at item made fault within is assuming infers =
-    assuming.leads (Err fault)
-    (subst (λ (left : List NamedTerm). IsDrawn (with_assumptions old.theory (map image made.theorem.hypotheses) (image made.theorem.conclusion) left) (Err fault)) (sym (here items at item within is))
-    (not-added old.theory item (drop (at + 1) items) made.theorem fault (subst (λ (theory : Theory). Infers theory (rule_add_assum item) (made.theorem ∷ []) (Err fault)) assuming.theory infers)))
-
-pub assumes-continues : (old now new : Journal) (hypotheses : List Nameless) (conclusion : Nameless) (whole left : List NamedTerm) (made : Recorded) (result : Result Recorded Fault) → IsAssuming old now hypotheses conclusion whole left made
-    → Continues now new result → Continues old new result
-assumes-continues old now new hypotheses conclusion whole left made result assuming continues =
-    record { grown = journals-grow.twice old now new assuming.grown continues.grown; theory = continues.theory ∙ assuming.theory; held = continues.held }
-
-pub assumes-held : (old now : Journal) (hypotheses : List Nameless) (conclusion : Nameless) (whole left : List NamedTerm) (made : Recorded) → IsAssuming old now hypotheses conclusion whole left made → Continues old now (Ok made)
-assumes-held old now hypotheses conclusion whole left made assuming = record { grown = assuming.grown; theory = assuming.theory; held = assuming.held }
-
-pub assumes-all : (old now : Journal) (hypotheses : List Nameless) (conclusion : Nameless) (whole items : List NamedTerm) (at : ℕ) (made : Recorded) → length items ≤ at
-    → IsAssuming old now hypotheses conclusion whole (drop at items) made → IsDrawn (with_assumptions old.theory hypotheses conclusion whole) (Ok made.theorem)
-assumes-all old now hypotheses conclusion whole items at made past assuming =
-    assuming.leads (Ok made.theorem)
-    (subst (λ (left : List NamedTerm). IsDrawn (with_assumptions old.theory (map image made.theorem.hypotheses) (image made.theorem.conclusion) left) (Ok made.theorem)) (sym (drop_of_length-le items past))
-    (none-left old.theory made.theorem))
 
 -- ---- a goal's sequent
 
@@ -377,12 +330,6 @@ other-refusal fault true sequent memory large (inr is) = absurd (large is)
 pub ruleset unsupposing = (want-of-memory, want-of-room, other-refusal)
 
 -- ---- all goals
-
-pub none-supposed : (journal : Journal) (hypotheses : List Nameless) (goals : List Goal) → IsSupposing journal journal hypotheses goals goals []
-none-supposed journal hypotheses goals = record { are_made = record { each = λ number made there. absurd (empty number made there) }; grown = same-grown journal; theory = refl; known = refl; room = λ roomy. roomy; leads = λ others are. are }
-  where
-    empty : (number : ℕ) (made : Recorded) → slice_get [] number ≡ Some made → ⊥
-    empty number made there = cc
 
 both-known : (a b : Bool) → a ≡ true → (a && b) ≡ b
 both-known true b is = refl
@@ -445,13 +392,6 @@ pub supposes-all : (old now : Journal) (hypotheses : List Nameless) (whole : Lis
 supposes-all old now hypotheses whole items at made past supposing =
     subst (λ (l : List Recorded). AreSupposed old.theory hypotheses whole l) (append-nil made)
     (supposing.leads [] (subst (λ (left : List code_goal.Goal). AreSupposed old.theory hypotheses (goals_of left) []) (sym (drop_of_length-le items past)) tt))
-
-pub supposes-none : (old now : Journal) (hypotheses : List Nameless) (whole : List Goal) (items : List code_goal.Goal) (at : ℕ) (item : code_goal.Goal) (made : List Recorded) (fault : Fault) → at < length items → item ≡ get_or items at item
-    → IsSupposing old now hypotheses whole (goals_of (drop at items)) made → IsUnsupposed (is_known_goal now.theory (goal_of item)) fault → IsUnsupposed (are_known_goals old.theory whole) fault
-supposes-none old now hypotheses whole items at item made fault within is supposing (inr want) = inr want
-supposes-none old now hypotheses whole items at item made fault within is supposing (inl unknown) =
-    let one : is_known_goal old.theory (goal_of item) ≡ false = ap (λ (t : Theory). is_known_goal t (goal_of item)) (sym supposing.theory) ∙ unknown.1 in
-    inl (unknown.0, supposing.known ∙ ap (λ (left : List Goal). are_known_goals old.theory left) (goals-here items at item within is) ∙ ap (λ (b : Bool). b && are_known_goals old.theory (goals_of (drop (at + 1) items))) one)
 
 -- a formula that is assumed is not too large
 pub assumed-fits : (theory : Theory) (term : NamedTerm) (result : Result Theorem Fault) → Answers result (assume_outcome theory term) → IsNotLarge result

@@ -1,7 +1,6 @@
 -- The claims of a run are the theorems that it printed, and its log is theirs.
-use Rattle.std.proofs.Common.{◌≡◌, ℕ, List, [], ◌∷◌, ◌++◌, map, refl, sym, ap, subst, ◌∙◌, inl, inr, arith, Option, None, Some, Ok, Err, Result, lit<}
+use Rattle.std.proofs.Common.{◌≡◌, ℕ, List, [], ◌∷◌, ◌++◌, map, refl, sym, ap, subst, ◌∙◌, inl, inr, Option, None, Some, Ok, Err, Result, lit<}
 use Rattle.std.proofs.lemmas.List.{map-append}
-use Rattle.std.specs.Io.KnownBytes.{Appends}
 use Rattle.std.specs.Prelude.{true, IfErr, Contains}
 use Rattle.hol_model.specs.declared.fault.Fault.{Fault}
 use Rattle.hol_model.specs.declared.fault.Fault.TheVariants.{Memory, TooLong, WriteFault}
@@ -16,19 +15,18 @@ use Rattle.hol_session_model.specs.ScriptSessions.{State, start, Tools, last_sta
 use Rattle.hol_session_model.specs.Runs.{Counts, claim_of, claims_of_turns}
 use Rattle.hol_model.proofs.Terms.Membership.{of_append}
 use Rattle.hol_session_laws.proofs.StoredTheorems.{printed-stay}
-use Rattle.hol_bytes.specs.Bytes.{AppendsFront}
 use Rattle.hol_journal.specs.Steps.{sequent_of_theorem}
-use Rattle.hol_journal.specs.Journal.{Journal, Recorded}
+use Rattle.hol_journal.specs.Journal.{Recorded}
 use Rattle.hol_log.specs.LogWriting.{Claimed}
 use Rattle.hol_log.specs.LogAccepted.{log_claim}
 use Rattle.hol_log.specs.Pruning.{HaveIdentifiers}
 use Rattle.hol_store.specs.Store.{stored_of}
 use Rattle.hol_session.specs.SessionState.{theorem_of}
-use Rattle.hol_session.specs.StoredClaims.{IsAcceptedLog, IsLongLog, stored_claim, stored_claims}
+use Rattle.hol_session.specs.StoredClaims.{stored_claim, stored_claims}
 use Rattle.hol_proof_manager.specs.Managers.{state_of}
 use Rattle.hol_script.specs.declared.progress.Progress.{Progress}
 use Rattle.hol_script.specs.Runs.{names_of, Finishes}
-use Rattle.hol_script.specs.RunLogs.{IsLogOver, IsLongLogOver, WritesLog, WritesFront, claims_stored, claims_listed, theory_of}
+use Rattle.hol_script.specs.RunLogs.{claims_stored, claims_listed, theory_of}
 
 -- ---- claims of stored theorems
 
@@ -93,29 +91,6 @@ module _ {tools : Tools} {script : List ℕ} {written now : Option (List ℕ)} {
       subst (λ (state : State). Is state.library.theory (claims_of_turns f.turns)) (sym f.ends) (subst (λ (claims : List LogClaim). Is (theory_of progress) claims) claims-of_run is)
 
 -- ---- the text of a log
-
-accepted-over : (journal : Journal) (claims : List LogClaim) (text : List ℕ) → IsAcceptedLog journal claims text → IsLogOver journal.theory claims text
-accepted-over journal claims text log = record {
-  journal = journal;
-  over = refl;
-  is_log = log.is_log;
-  is_accepted = λ within. record { state = log.state; accepted = log.accepted; claimed = log.claimed; entries = log.entries };
-}
-
-pub log-written : {logged now : Option (List ℕ)} (journal : Journal) (claims : List LogClaim) (text : List ℕ) → IsAcceptedLog journal claims text → Appends logged now text
-    → WritesLog journal.theory claims logged now
-log-written journal claims text log wrote = record { log = text; is_log = record { is_log = accepted-over journal claims text log; within_limit = log.within_limit }; wrote = wrote }
-
-pub front-written : {logged now : Option (List ℕ)} (journal : Journal) (claims : List LogClaim) (text : List ℕ) → IsAcceptedLog journal claims text → AppendsFront logged now text
-    → WritesFront journal.theory claims logged now
-front-written journal claims text log wrote = record { log = text; is_log = record { is_log = accepted-over journal claims text log; within_limit = log.within_limit }; wrote = wrote }
-
-pub long-over : (journal : Journal) (claims : List LogClaim) → IsLongLog journal claims → IsLongLogOver journal.theory claims
-long-over journal claims long = record {
-  log = long.log;
-  is_log = record { journal = journal; over = refl; is_log = long.is_log; is_accepted = λ within. absurd (omega (arith, within, long.longer)) };
-  longer = long.longer;
-}
 
 pub write_fault-listed : {A : Type 0} (result : Result A Fault) → IfErr result (λ (fault : Fault). fault ≡ WriteFault) → IfErr result (Contains (WriteFault ∷ TooLong ∷ Memory ∷ []))
 write_fault-listed (Ok x) is = tt

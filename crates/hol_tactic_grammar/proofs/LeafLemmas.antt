@@ -294,28 +294,10 @@ names-stopped tokens left taken front no_end no_more names rest same = (let know
     go [] is = no_end rest is
     go (other ∷ others) is = no_more other (further_name_tokens others rest) is
 
-pub names-empty : (tokens inner rest : List Token) → tokens ≡ Mark OpenBracket ∷ inner → inner ≡ Mark CloseBracket ∷ rest → AreNames tokens rest []
-names-empty tokens inner rest begins ends = record { spelled = whole; only = only }
-  where
-    whole : tokens ≡ Mark OpenBracket ∷ Mark CloseBracket ∷ rest
-    whole = begins ∙ ap (λ (ts : List Token). Mark OpenBracket ∷ ts) ends
-
     only : (others : List (List ℕ)) (left : List Token) → tokens ≡ Mark OpenBracket ∷ name_tokens others left → left ≡ rest
     only [] left same = (let both : ◌≡◌ {A = List Token} (Mark OpenBracket ∷ Mark CloseBracket ∷ rest) (Mark OpenBracket ∷ Mark CloseBracket ∷ left) = sym whole ∙ same in cc)
     only (other ∷ others) left same =
         (let both : Mark OpenBracket ∷ Mark CloseBracket ∷ rest ≡ Mark OpenBracket ∷ Name other ∷ further_name_tokens others left = sym whole ∙ same in cc)
-
-pub names-none : (tokens inner : List Token) → tokens ≡ Mark OpenBracket ∷ inner → ((rest : List Token) → inner ≢ Mark CloseBracket ∷ rest)
-    → ((name : List ℕ) (rest : List Token) → inner ≢ Name name ∷ rest)
-    → (names : List (List ℕ)) (rest : List Token) → tokens ≢ Mark OpenBracket ∷ name_tokens names rest
-names-none tokens inner begins no_end no_name [] rest same =
-    let both : Mark OpenBracket ∷ inner ≡ Mark OpenBracket ∷ Mark CloseBracket ∷ rest = sym begins ∙ same in
-    let further : inner ≡ Mark CloseBracket ∷ rest = cc in
-    no_end rest further
-names-none tokens inner begins no_end no_name (name ∷ names) rest same =
-    let both : Mark OpenBracket ∷ inner ≡ Mark OpenBracket ∷ Name name ∷ further_name_tokens names rest = sym begins ∙ same in
-    let further : inner ≡ Name name ∷ further_name_tokens names rest = cc in
-    no_name name (further_name_tokens names rest) further
 
 behind-name : (name : List ℕ) (at : ℕ) (tokens : List TokenHere) → IsAt (Name name) (at + 1) tokens → behind (at + 1) tokens ≡ Name name ∷ behind (at + 2) tokens
 behind-name name at tokens is =

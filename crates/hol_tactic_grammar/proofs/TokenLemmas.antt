@@ -1,7 +1,7 @@
 -- Tokens from a place on, and which names are identifiers.
 use Rattle.std.proofs.Common.{◌≡◌, ℕ, zero, suc, ◌+◌, ◌<◌, ◌≤◌, arith, List, [], ◌∷◌, length, get_or, drop, true, false, ◌||◌, refl, sym, ◌∙◌, ap, subst, Option, None, Some, Bor, IsTrue, IsFalse, MatchOption}
 use Rattle.hol_model.specs.Terms.Name.{is_capital, is_small, continues_name, all_continue, is_identifier}
-use Rattle.hol_model.specs.Texts.Token.{Token, Name}
+use Rattle.hol_model.specs.Texts.Token.{Name}
 use Rattle.hol_model.specs.Texts.Lexing.{IsIdentifier, Every, is_name_byte}
 use Rattle.hol_model.proofs.Tests.{both}
 use Rattle.hol_grammar.specs.declared.token.Token.{Token as TokenHere}
@@ -27,12 +27,6 @@ nothing-at [] zero past = refl
 nothing-at [] (suc at) past = refl
 nothing-at (first ∷ tokens) zero past = absurd (omega (arith, past))
 nothing-at (first ∷ tokens) (suc at) past = nothing-at tokens at (omega (arith, past))
-
-pub another-at : {A : Type 0} (one other : Token) (at : ℕ) (tokens : List TokenHere) (rest : List Token) → IsAt one at tokens → behind at tokens ≡ other ∷ rest → (one ≡ other → A) → A
-another-at one other at tokens rest is same differ =
-    let both : one ∷ behind (at + 1) tokens ≡ other ∷ rest = sym is.front ∙ same in
-    let first : one ≡ other = cc in
-    differ first
 
 -- ---- names
 

@@ -147,18 +147,6 @@ pub record AreLinksReadSoFar (scope : Scope) (left : List (Link Kept)) (done : L
   pub read : AreLinksRead scope (expressions.all_links (map joint_here left)) rest
   pub is : outcome ≡ rest >>= λ others. Ok (linked_before done others)
 
-links-unchanged : (outcome : Result combinators.Links Fault) → outcome ≡ outcome >>= λ others. Ok others
-links-unchanged (Ok others) = refl
-links-unchanged (Err fault) = refl
-
-pub links-begins : (scope : Scope) (links : List (Link Kept)) (done : List (Link NamedTerm)) (outcome : Result combinators.Links Fault) → done ≡ []
-    → AreLinksRead scope (expressions.all_links (map joint_here links)) outcome → AreLinksReadSoFar scope links done outcome
-links-begins scope links done outcome none read = record {
-  rest = outcome;
-  read = read;
-  is = links-unchanged outcome ∙ ap (λ made. outcome >>= λ others. Ok (linked_before made others)) (sym none);
-}
-
 -- the first of what is left
 links-turn : (scope : Scope) (links : List (Link Kept)) (n : ℕ) (d : Link Kept) (rest : Result combinators.Links Fault) → n < length links
     → AreLinksRead scope (expressions.all_links (map joint_here (drop n links))) rest
@@ -182,12 +170,6 @@ links-goes-on scope links n d done now made outcome within front reads grown =
       is = front.is ∙ ap (λ rest. rest >>= λ others. Ok (linked_before done others)) (turn.is ∙ ap (λ first. joined combinators.link first turn.second) (reads turn.first turn.read_first))
           ∙ one-linked_before done made turn.second ∙ ap (λ ts. turn.second >>= λ others. Ok (linked_before ts others)) (sym grown);
     }
-
-pub links-broken : (scope : Scope) (links : List (Link Kept)) (n : ℕ) (d : Link Kept) (done : List (Link NamedTerm)) (fault : Fault) (outcome : Result combinators.Links Fault)
-    → n < length links → AreLinksReadSoFar scope (drop n links) done outcome → ReadsLink scope (get_or links n d) (Err fault) → (fault ≡ Memory) ⊎ (outcome ≡ Err fault)
-links-broken scope links n d done fault outcome within front reads =
-    ⊎_elim (λ memory. inl memory) (λ refusal. inr (front.is ∙ ap (λ rest. rest >>= λ others. Ok (linked_before done others)) refusal))
-    (refused-first fault front.rest (links-turn scope links n d front.rest within front.read) reads)
 
 pub links-ended : (scope : Scope) (links : List (Link Kept)) (n : ℕ) (done : List (Link NamedTerm)) (outcome : Result combinators.Links Fault) → length links ≤ n
     → AreLinksReadSoFar scope (drop n links) done outcome → outcome ≡ Ok (all_links (map link_of done))
