@@ -5,3 +5,4 @@ pub mod LimitLemmas
 pub mod DefinitionLemmas
 pub mod InstanceLemmas
 pub mod TheoremLemmas
+mod KnownLemmas

@@ -15,7 +15,7 @@ ghost use Rattle.hol_model.specs.declared.fault.Fault.TheVariants.{Memory, TooLa
 
 use crate::entries::Entries;
 use crate::hypotheses::in_order;
-use crate::known::{has_instances, knows_constants, knows_type, knows_types};
+use crate::known::{is_known, knows_constants, knows_type, knows_types};
 use crate::theory::Theory;
 use crate::thm::Thm;
 use hol_model::Fault;
@@ -128,14 +128,14 @@ fn replacements_refusal(theta: &[(Term, Term)], theory: &Theory) -> Option<Fault
         Some(Fault::NotVariable)
     } else if !keeps_types(theta) {
         Some(Fault::TypeMismatch)
+    } else if all_known(theta, theory) {
+        None
     } else if !all_know_types(theta, theory) {
         Some(Fault::UnknownType)
     } else if !all_know_constants(theta, theory) {
         Some(Fault::UnknownConst)
-    } else if !all_have_instances(theta, theory) {
-        Some(Fault::NotInstance)
     } else {
-        None
+        Some(Fault::NotInstance)
     }
 }
 
@@ -151,6 +151,12 @@ fn keeps_types(theta: &[(Term, Term)]) -> bool
     theta.iter().all(|pair| pair.0.ty().eq(pair.1.ty()))
 }
 
+fn all_known(theta: &[(Term, Term)], theory: &Theory) -> bool
+    ensures { result ≡ list_all (λ pair. known.is_known theory.now pair.0) theta.now }
+{
+    theta.iter().all(|pair| is_known(&pair.0, theory))
+}
+
 fn all_know_types(theta: &[(Term, Term)], theory: &Theory) -> bool
     ensures { result ≡ list_all (λ pair. known.knows_types theory.now pair.0) theta.now }
 {
@@ -161,10 +167,4 @@ fn all_know_constants(theta: &[(Term, Term)], theory: &Theory) -> bool
     ensures { result ≡ list_all (λ pair. known.knows_constants theory.now pair.0) theta.now }
 {
     theta.iter().all(|pair| knows_constants(&pair.0, theory))
-}
-
-fn all_have_instances(theta: &[(Term, Term)], theory: &Theory) -> bool
-    ensures { result ≡ list_all (λ pair. known.has_instances theory.now pair.0) theta.now }
-{
-    theta.iter().all(|pair| has_instances(&pair.0, theory))
 }

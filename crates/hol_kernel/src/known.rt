@@ -14,14 +14,14 @@ impl Theory {
     pub fn first_unknown(&self, term: &Term) -> Option<Fault>
         ensures { result ≡ rules.first_unknown self.now term.now }
     {
-        if !knows_types(term, self) {
+        if is_known(term, self) {
+            None
+        } else if !knows_types(term, self) {
             Some(Fault::UnknownType)
         } else if !knows_constants(term, self) {
             Some(Fault::UnknownConst)
-        } else if !has_instances(term, self) {
-            Some(Fault::NotInstance)
         } else {
-            None
+            Some(Fault::NotInstance)
         }
     }
 
@@ -29,7 +29,23 @@ impl Theory {
     pub fn known(&self, term: &Term) -> bool
         ensures { result ≡ spec.is_known self.now term.now }
     {
-        self.first_unknown(term).is_none()
+        is_known(term, self)
+    }
+}
+
+/// Whether each type in a term is known, and each constant there at an instance of its generic type: in one walk.
+pub fn is_known(term: &Term, theory: &Theory) -> bool
+    ensures { result ≡ spec.is_known theory.now term.now }
+{
+    match term.parts() {
+        Parts::Variable(_, ty) => knows_type(ty, theory),
+        Parts::Constant(name, ty) => match theory.const_type(name) {
+            Some(generic) => is_instance(generic, ty) && knows_type(ty, theory),
+            None => false,
+        },
+        Parts::Combination(function, argument) => is_known(function, theory)
+            && is_known(argument, theory),
+        Parts::Abstraction(_, ty, body) => knows_type(ty, theory) && is_known(body, theory),
     }
 }
 
@@ -67,21 +83,5 @@ pub fn knows_constants(term: &Term, theory: &Theory) -> bool
         Parts::Combination(function, argument) => knows_constants(function, theory)
             && knows_constants(argument, theory),
         Parts::Abstraction(_, _, body) => knows_constants(body, theory),
-    }
-}
-
-/// Whether each constant in a term is there at an instance of its generic type.
-pub fn has_instances(term: &Term, theory: &Theory) -> bool
-    ensures { result ≡ spec.has_instances theory.now term.now }
-{
-    match term.parts() {
-        Parts::Variable(_, _) => true,
-        Parts::Constant(name, ty) => match theory.const_type(name) {
-            Some(generic) => is_instance(generic, ty),
-            None => false,
-        },
-        Parts::Combination(function, argument) => has_instances(function, theory)
-            && has_instances(argument, theory),
-        Parts::Abstraction(_, _, body) => has_instances(body, theory),
     }
 }
