@@ -133,3 +133,26 @@ fn main(rt: HostRuntime) -> ExitCode {
         }
     }
 }
+
+#[cfg(test)]
+mod tests {
+    use super::*;
+
+    // What the command line answers to one word.
+    fn answer(alloc: Global, word: &str) -> anyhow::Result<String> {
+        let mut words = Vec::new(alloc);
+        words.push(String::from_str(alloc, "holp")?)?;
+        words.push(String::from_str(alloc, word)?)?;
+        let mut text = String::new(alloc);
+        if let Err(told) = command_line(alloc)?.try_get_matches_from(words.as_slice()) {
+            write!(text, "{told}")?;
+        }
+        Ok(text)
+    }
+
+    #[test]
+    fn the_version_is_told(rt: HostRuntime) -> anyhow::Result<()> {
+        assert!(rt; answer(rt.alloc(), "--version")?.as_str() == "holp 0.1.0\n");
+        Ok(())
+    }
+}

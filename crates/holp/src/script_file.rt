@@ -2,6 +2,7 @@
 ghost use Rattle.std.specs.Prelude.{◌≡◌, false, IfOk};
 
 use hol_model::{DeviceFail, Fault, Source};
+use std::fmt;
 use std::fs::{self, File};
 use std::io::{self, Read};
 
@@ -27,12 +28,25 @@ pub struct ScriptFile<'a> {
     failed: bool,
 }
 
+// The line that tells why the file of a script is not read: its name and the system's reason.
+struct Unread<'a> {
+    script: &'a str,
+    reason: &'a io::Error,
+}
+
+impl fmt::Display for Unread<'_> {
+    fn fmt<W: fmt::Write>(&self, f: &mut fmt::Formatter<W>) -> fmt::Result {
+        write!(f, "{}: {}", self.script, self.reason)
+    }
+}
+
 // Where refusals are to be explained, tells on standard error the name of the script's file and the system's reason. The
 // message takes no part in how the run ends.
 fn tell_reason(rt: &HostRuntime, asked: &Asked<'_>, reason: &io::Error) {
     if asked.explains {
-        let name = asked.script;
-        let _ = eprintln!(rt; "{name}: {reason}");
+        let script = asked.script;
+        let unread = Unread { script, reason };
+        let _ = eprintln!(rt; "{unread}");
     }
 }
 
@@ -83,5 +97,34 @@ mod tests {
     fn a_dash_names_standard_input(rt: HostRuntime) {
         assert!(rt; path_of("-") == "/dev/stdin");
         assert!(rt; path_of("first.hol") == "first.hol");
+    }
+
+    // Whether this is told of a script that is not there.
+    fn tells(rt: &HostRuntime, script: &str, line: &str) -> Result<bool, Fault> {
+        let Err(reason) = fs::open(rt, path_of(script)) else {
+            return Ok(false);
+        };
+        let mut told = String::new(rt.alloc());
+        let unread = Unread {
+            script,
+            reason: &reason,
+        };
+        write!(told, "{unread}")?;
+        Ok(told.as_str() == line)
+    }
+
+    #[test]
+    fn a_script_that_is_not_there_is_named_with_the_reason(rt: HostRuntime) {
+        let line = "no/such/script.hol: No such file or directory (os error 2)";
+        assert_eq!(rt; tells(&rt, "no/such/script.hol", line), Ok(true));
+    }
+
+    #[test]
+    fn a_script_that_is_not_there_is_a_read_fault(rt: HostRuntime) {
+        let asked = Asked {
+            script: "no/such/script.hol",
+            explains: false,
+        };
+        assert!(rt; matches!(ScriptFile::open(&rt, &asked), Err(Fault::ReadFault)));
     }
 }

@@ -1,0 +1,112 @@
+// A step that uses one part at two places, again and again: its rules, and the entries of its replay.
+ghost use Rattle.std.specs.Prelude.{◌≡◌, IfOk, true};
+ghost use Rattle.hol_model.specs.Goals.Replays.{IsKnownGoal};
+ghost use Rattle.hol_model.specs.Refining.RefinerConditions.{HasKnownWitnesses};
+ghost use Rattle.hol_model.specs.Logic.Theory.{Theory};
+ghost use Rattle.hol_exprs.specs.Expressions.{tactic_of};
+ghost use Rattle.hol_just.specs.Steps.{goal_of};
+ghost use Rattle.hol_session.specs.SessionState.{IsSession};
+
+use crate::bench::{Bench, step_of};
+use hol_exprs::{Leaf, Link, Tac};
+use hol_host::{Host, HostFail};
+use hol_just::{Goal, Rule, Step, step, sub};
+use hol_model::Fault;
+use hol_prover::prove;
+use hol_session::session::Session;
+use hol_terms::Term;
+use hol_types::Ty;
+use std::alloc::Global;
+
+// On `p /\ p` the subgoal `p`, once for both sides.
+fn twin(alloc: Global, goal: &Goal) -> Result<Step, HostFail> {
+    let Some((_, half)) = goal.concl.dest_comb() else {
+        return Err(HostFail);
+    };
+    match halved(alloc, half) {
+        Ok(step) => Ok(step),
+        Err(_) => Err(HostFail),
+    }
+}
+
+// CONJ of the theorem of one subgoal with itself.
+fn halved(alloc: Global, half: &Term) -> Result<Step, Fault> {
+    let just = step(alloc, Rule::Conj, &[sub(alloc, 0)?, sub(alloc, 0)?])?;
+    let mut goals = Vec::new(alloc);
+    goals.push(Goal {
+        asms: Vec::new(alloc),
+        concl: half.copy(alloc)?,
+    })?;
+    Ok(Step { goals, just })
+}
+
+fn host_of_twins(alloc: Global) -> Result<Host, Fault> {
+    let mut host = Host::new(alloc);
+    let halves = Box::new(alloc, |alloc: Global, goal: &Goal| twin(alloc, goal))?;
+    host.refiner(alloc, "twin", halves)?;
+    Ok(host)
+}
+
+// `REPEAT (HOST twin) THEN ACCEPT_TAC TRUTH`.
+fn halving(alloc: Global) -> Result<Tac<Term>, Fault>
+    ensures witnesses { IfOk result (λ tac. (theory : Theory) → HasKnownWitnesses theory (tactic_of tac)) }
+{
+    let twins = Tac::repeat(alloc, Tac::Host(String::from_str(alloc, "twin")?))?;
+    let truth = Tac::Leaf(Leaf::Accept(String::from_str(alloc, "TRUTH")?));
+    let mut links = Vec::new(alloc);
+    links.push(Link::Then(truth))?;
+    Tac::chain(alloc, twins, links)
+}
+
+// `T /\ T`, of which each side is doubled again, so many times in all.
+fn doubled(alloc: Global, times: u8) -> Result<Term, Fault> {
+    let truth = Ty::boolean(alloc)?;
+    let connective = Ty::fun(alloc, &truth, &Ty::fun(alloc, &truth, &truth)?)?;
+    let both = Term::mk_const(alloc, "/\\", &connective)?;
+    let mut term = Term::mk_const(alloc, "T", &truth)?;
+    for _ in 0..times {
+        let left = Term::mk_comb(alloc, &both, &term)?;
+        term = Term::mk_comb(alloc, &left, &term)?;
+    }
+    Ok(term)
+}
+
+// The goal of a formula that the session knows.
+fn known_goal(alloc: Global, session: &Session, term: Term) -> Result<Goal, Fault>
+    requires { IsSession session.now }
+    ensures { IfOk result (λ goal. IsKnownGoal session.now.library.recorder.theory (goal_of goal)) }
+{
+    if !term.ty().is_bool() || !session.library.recorder.theory().known(&term) {
+        return Err(Fault::UnknownConst);
+    }
+    Ok(Goal {
+        asms: Vec::new(alloc),
+        concl: term,
+    })
+}
+
+// The rules of the step that proves what is doubled so many times, and the entries that the step and its replay make.
+fn costs(alloc: Global, times: u8) -> Result<(usize, usize), Fault> {
+    let mut bench = Bench {
+        session: Session::new(alloc)?,
+    };
+    let goal = known_goal(alloc, &bench.session, doubled(alloc, times)?)?;
+    let tac = halving(alloc)?;
+    let host = host_of_twins(alloc)?;
+    let before = bench.session.library.recorder.entries();
+    let step = step_of(alloc, &mut bench, &tac, &goal, &host)?;
+    prove(&mut bench.session.library, alloc, &goal, &step.just)?;
+    let after = bench.session.library.recorder.entries();
+    Ok((step.just.steps(), after.saturating_sub(before)))
+}
+
+// Whether they are fewer than these.
+fn costs_less(alloc: Global, times: u8, rules: usize, entries: usize) -> Result<bool, Fault> {
+    let (made, replayed) = costs(alloc, times)?;
+    Ok(made < rules && replayed < entries)
+}
+
+#[test]
+fn steps_of_halves_are_shared(rt: HostRuntime) {
+    assert_eq!(rt; costs_less(rt.alloc(), 15, 100, 30_000), Ok(true));
+}
