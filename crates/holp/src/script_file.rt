@@ -29,6 +29,7 @@ pub struct ScriptFile<'a> {
 }
 
 // The line that tells why the file of a script is not read: its name and the system's reason.
+#[derive(Clone, Copy)]
 struct Unread<'a> {
     script: &'a str,
     reason: &'a io::Error,
