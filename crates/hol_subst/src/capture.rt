@@ -1,17 +1,15 @@
 // Which variables are free in a term after the replacement, and which binders would capture them.
-ghost use Rattle.std.specs.Prelude.{◌≡◌, List, [], ◌∷◌, IfOk, IfErr, fold, bit_or, if◌then◌else◌, ◌&&◌, IsTrue};
+ghost use Rattle.std.specs.Prelude.{◌≡◌, List, [], ◌∷◌, IfOk, IfErr, IsTrue};
 ghost use Rattle.hol_model.specs.Terms.HolType.{HolType, type_put};
 ghost use Rattle.hol_model.specs.Terms.NamedTerm.{NamedTerm, Binder, variable};
-ghost use Rattle.hol_model.specs.Terms.NamedTerm as terms;
 ghost use Rattle.hol_model.specs.Terms.Substitution.{occurs_free};
 ghost use Rattle.hol_model.specs.declared.fault.Fault.TheVariants.{Memory};
-ghost use Rattle.hol_terms.specs.Classes.{classes_of_names};
 ghost use Rattle.hol_subst.specs.Entries.{instance_of};
 ghost use Rattle.hol_subst.specs.Replacements.{entries_of, binders_of};
 ghost use Rattle.hol_subst.specs.Replacing.{term_after};
-ghost use Rattle.hol_subst.specs.Sought.{IsBroughtBy, IsBroughtFrom, IsKeptIn};
+ghost use Rattle.hol_subst.specs.Sought.{IsBroughtBy, IsBroughtFrom, IsKeptIn, classes_brought};
 ghost use Rattle.hol_subst.specs.Sought as spec;
-ghost use Rattle.hol_subst.specs.VariableTypes.{HasVariables, known_table, may_have, table_of};
+ghost use Rattle.hol_subst.specs.VariableTypes.{HasVariables, known_table, table_of};
 
 use crate::known_variables::{
     self, KnownVariables, admits, becomes, has_instance, has_other_instance,
@@ -154,7 +152,7 @@ fn brought_by_pairs(
     sought: Variable<'_>,
     known: &KnownVariables<'_>,
 ) -> NameClasses
-    ensures { result.bits ≡ fold (λ bits pair. if terms.is_free sought.entry.name.now sought.entry.ty.now pair.0 && may_have (known_table known.now) pair.1 then bit_or bits (classes_of_names pair.1) else bits) 0 pairs.now }
+    ensures { result.bits ≡ classes_brought (known_table known.now) sought.entry.name.now sought.entry.ty.now 0 pairs.now }
 {
     NameClasses {
         bits: pairs.iter().fold(0, |bits, pair| {

@@ -6,7 +6,8 @@ use Rattle.hol_subst.proofs.capture.+brought_by_entries.Goals as goal
 pub returns-in-Pairs : goal.returns-in-Pairs
 returns-in-Pairs t c =
     rw c.in-Pairs.is
-    (IsBroughtFrom-pairs (known_table c.args.known.now) c.brought_by_pairs.result.bits c.in-Pairs.pairs.now (binders_of c.args.passed.now) c.args.sought.name.now c.args.sought.ty.now c.brought_by_pairs.ensures)
+    (IsBroughtFrom-pairs (known_table c.args.known.now) c.brought_by_pairs.result.bits c.in-Pairs.pairs.now (binders_of c.args.passed.now)
+    c.args.sought.name.now c.args.sought.ty.now c.brought_by_pairs.ensures)
 
 pub returns-then-admits : goal.returns-then-admits
 returns-then-admits t c =
