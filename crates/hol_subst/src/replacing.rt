@@ -1,7 +1,7 @@
 // What is replaced in a term, and what that may touch.
 ghost use Rattle.std.specs.Prelude.{◌≡◌, ◌∷◌, None};
 ghost use Rattle.std.specs.Option.{option_map};
-ghost use Rattle.hol_subst.specs.Entries.{looked_up};
+ghost use Rattle.hol_subst.specs.Entries.{looked_up, KeepsTypes, KeepsTypes-prop};
 ghost use Rattle.hol_subst.specs.Replacements.{entries_of};
 ghost use Rattle.hol_subst.specs.Touched.{Covers, Covers-prop, ReplacesAlike};
 ghost use Rattle.hol_subst.specs.Touched as spec;
@@ -18,6 +18,7 @@ pub struct Replacing<'a> {
     pub replacements: &'a Replacements<'a>,
     // The classes of names that the replacements may touch.
     pub touched: Touched,
+    pub ghost keeps_types: { KeepsTypes (entries_of replacements.now) types.now } by { KeepsTypes-prop (entries_of replacements.now) types.now },
     pub ghost covered: { Covers touched.old.bits touched.new.bits (entries_of replacements.now) } by { Covers-prop touched.old.bits touched.new.bits (entries_of replacements.now) },
 }
 
