@@ -1,6 +1,6 @@
 -- Where a variable is sought after a replacement, and that it is nowhere else.
 use Rattle.std.proofs.Common.{◌≡◌, inl, inr, ℕ, suc, List, [], ◌∷◌, Bool, true, false, ◌&&◌, ◌||◌, not, Some, None, refl, sym, ◌∙◌, ap}
-use Rattle.std.specs.Prelude.{Option, if◌then◌else◌, fold, bit_and, bit_or}
+use Rattle.std.specs.Prelude.{Option, if◌then◌else◌, bit_and, bit_or}
 use Rattle.std.specs.Option.{option_map, option_map_or, is_some}
 use Rattle.hol_model.specs.Terms.HolType.{HolType, type_put}
 use Rattle.hol_model.specs.Terms.NamedTerm.{NamedTerm, variable, constant, combination, abstraction, Binder, same_variable, is_free}
@@ -14,7 +14,7 @@ use Rattle.hol_subst.specs.Entries.{Entry, entries, looked_up, instance_of, mapp
 use Rattle.hol_subst.specs.Touched.{Covers, changes_type, changes_types}
 use Rattle.hol_subst.specs.Occurrences.{IsFreeIn}
 use Rattle.hol_subst.specs.VariableTypes.{Admits, HasVariables, admits, may_have}
-use Rattle.hol_subst.specs.Sought.{IsBroughtBy, IsBroughtFrom, IsKeptIn, is_apart}
+use Rattle.hol_subst.specs.Sought.{IsBroughtBy, IsBroughtFrom, IsKeptIn, classes_brought, is_apart}
 use Rattle.hol_subst.proofs.Apart.{first_apart, second_apart, type_stays, function_stays, argument_stays, body_stays, leaf_stays}
 use Rattle.hol_subst.proofs.Variables.{admitted_test}
 
@@ -101,16 +101,12 @@ pub IsBroughtFrom-putting : (table : List ℕ → Option (List HolType)) (more c
 IsBroughtFrom-putting table more classes class env binders name ty put put_type new union is brought =
     rw (union, is) (IsBroughtFrom-union table classes env binders name ty put put_type new brought)
 
--- the classes of the variables of a table that a list of pairs replaces by terms in which the variable is free
+-- the pair replaces a variable of a table by a term in which the variable is free
 abbrev brings : (List ℕ → Option (List HolType)) → List ℕ → HolType → NamedTerm × NamedTerm → Bool
 brings table name ty pair = is_free name ty pair.0 && may_have table pair.1
 
-abbrev bringing : (List ℕ → Option (List HolType)) → List ℕ → HolType → ℕ → List (NamedTerm × NamedTerm) → ℕ
-bringing table name ty start theta =
-    fold (λ bits (pair : NamedTerm × NamedTerm). if is_free name ty pair.0 && may_have table pair.1 then bit_or bits (classes_of_names pair.1) else bits) start theta
-
 bringing-start : (table : List ℕ → Option (List HolType)) (name : List ℕ) (ty : HolType) (theta : List (NamedTerm × NamedTerm)) (start m : ℕ)
-    → bit_and (bringing table name ty start theta) m ≡ 0 → bit_and start m ≡ 0
+    → bit_and (classes_brought table name ty start theta) m ≡ 0 → bit_and start m ≡ 0
 bringing-start table name ty [] start m apart = apart
 bringing-start table name ty (pair ∷ rest) start m apart =
     go (brings table name ty pair) (bringing-start table name ty rest (if brings table name ty pair then bit_or start (classes_of_names pair.1) else start) m apart)
@@ -125,7 +121,7 @@ first_fails false q none second = refl
 
 bringing-absent : (table : List ℕ → Option (List HolType)) (name : List ℕ) (ty : HolType) (theta : List (NamedTerm × NamedTerm)) (start : ℕ)
     (other : List ℕ) (s : HolType) (term : NamedTerm) → admits (table other) s ≡ true
-    → bit_and (bringing table name ty start theta) (class_of_name other) ≡ 0 → looked_up (entries theta) other s ≡ Some term → is_free name ty term ≡ false
+    → bit_and (classes_brought table name ty start theta) (class_of_name other) ≡ 0 → looked_up (entries theta) other s ≡ Some term → is_free name ty term ≡ false
 bringing-absent table name ty [] start other s term known far looked = cc
 bringing-absent table name ty ((new, variable third t) ∷ rest) start other s term known far looked =
     go (same_variable third t other s) (is_free name ty new && admits (table third) t) refl refl looked
@@ -155,7 +151,7 @@ bringing-absent table name ty ((new, abstraction third t body) ∷ rest) start o
     other s term known far looked
 
 pub IsBroughtFrom-pairs : (table : List ℕ → Option (List HolType)) (classes : ℕ) (theta : List (NamedTerm × NamedTerm)) (binders : List Binder)
-    (name : List ℕ) (ty : HolType) → classes ≡ bringing table name ty 0 theta → IsBroughtFrom table classes (entries theta) binders name ty
+    (name : List ℕ) (ty : HolType) → classes ≡ classes_brought table name ty 0 theta → IsBroughtFrom table classes (entries theta) binders name ty
 IsBroughtFrom-pairs table classes theta binders name ty is = record {
   absent = λ other s term known far unbound looked.
       bringing-absent table name ty theta 0 other s term known (ap (λ n. bit_and n (class_of_name other)) (sym is) ∙ far) looked;

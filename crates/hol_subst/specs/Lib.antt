@@ -1,5 +1,6 @@
 pub mod Entries
 pub mod Replacements
+pub mod Replacing
 pub mod Fresh
 pub mod Touched
 pub mod Occurrences

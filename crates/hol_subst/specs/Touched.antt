@@ -1,7 +1,9 @@
 -- What a replacement may touch, told by the classes of names that terms keep.
 use Rattle.std.specs.Prelude.{◌≡◌, ℕ, List, [], ◌∷◌, Bool, false, not, ◌&&◌, Some, None, bit_and}
+use Rattle.std.specs.Coded.{Coded-set, coded_bool, coded_option}
 use Rattle.hol_model.specs.Terms.HolType.{HolType, type_eq, type_put}
 use Rattle.hol_model.specs.Terms.NamedTerm.{NamedTerm, variable, constant, combination, abstraction, is_free}
+use Rattle.hol_model.specs.Terms.NamedTermCode.{term_code}
 use Rattle.hol_types.specs.Variables as types_spec
 use Rattle.hol_terms.specs.Classes.{class_of_name, have_common_class, classes_of_names}
 use Rattle.hol_terms.specs.TypeVariables as terms_spec
@@ -15,6 +17,18 @@ pub record IsAbsent (env : List Entry) (name : List ℕ) (ty : HolType) : Type 0
 pub record Covers (old new : ℕ) (env : List Entry) : Type 0 where
   pub kept : (name : List ℕ) (ty : HolType) → bit_and old (class_of_name name) ≡ 0 → looked_up env name ty ≡ None
   pub absent : (name : List ℕ) (ty : HolType) → bit_and new (class_of_name name) ≡ 0 → IsAbsent env name ty
+
+-- either fact has one proof
+IsAbsent-prop : (env : List Entry) (name : List ℕ) (ty : HolType) → IsProp (IsAbsent env name ty)
+IsAbsent-prop env name ty x y = λ i. record {
+  absent = λ other s term looked. Coded-set coded_bool (is_free name ty term) false (x.absent other s term looked) (y.absent other s term looked) i;
+}
+
+pub Covers-prop : (old new : ℕ) (env : List Entry) → IsProp (Covers old new env)
+Covers-prop old new env x y = λ i. record {
+  kept = λ name ty apart. Coded-set (coded_option term_code) (looked_up env name ty) None (x.kept name ty apart) (y.kept name ty apart) i;
+  absent = λ name ty apart. IsAbsent-prop env name ty (x.absent name ty apart) (y.absent name ty apart) i;
+}
 
 -- two lists of entries replace each variable alike
 pub record ReplacesAlike (env other : List Entry) : Type 0 where

@@ -3,13 +3,11 @@ ghost use Rattle.std.specs.Prelude.{◌≡◌, [], ◌∷◌, ◌++◌, true, If
 ghost use Rattle.std.specs.String.{string_bytes};
 ghost use Rattle.hol_model.specs.Terms.NamedTerm.{variable, is_variable, type_of};
 ghost use Rattle.hol_model.specs.Terms.Name.{is_identifier};
-ghost use Rattle.hol_model.specs.Terms.Nameless.{image_under};
 ghost use Rattle.hol_model.specs.Terms.Substitution.{occurs_free, IsFirstFree, IsVariantOf};
 ghost use Rattle.hol_model.specs.Terms.Substitution as spec;
-ghost use Rattle.hol_subst.specs.Entries.{replaced};
-ghost use Rattle.hol_subst.specs.Replacements.{entries_of, binders_of};
-ghost use Rattle.hol_subst.specs.Touched.{Covers};
-ghost use Rattle.hol_subst.specs.Fresh.{IsFreshBinder};
+ghost use Rattle.hol_subst.specs.Replacements.{binders_of};
+ghost use Rattle.hol_subst.specs.Replacing.{term_after};
+ghost use Rattle.hol_subst.specs.Fresh.{IsFreshName, IsFreshBinder};
 ghost use Rattle.hol_subst.specs.Outcomes.{variant_refusal};
 ghost use Rattle.hol_subst.specs.VariableTypes.{HasVariables, known_table};
 ghost use Rattle.hol_model.specs.Kernel.Outcome.{AnswersSuch};
@@ -20,8 +18,8 @@ use crate::known_variables::KnownVariables;
 use crate::passed::Passed;
 use crate::place::Place;
 use crate::rebuild::variable_of;
-use crate::replacements::Replacements;
-use crate::touched::Touched;
+use crate::replacing::Replacing;
+use crate::variable::Variable;
 use hol_model::Fault;
 use hol_terms::{Term, is_free};
 use hol_types::Ty;
@@ -66,70 +64,51 @@ fn is_free_in_some(terms: &[Term], name: &str, ty: &Ty) -> bool
 pub(crate) fn fresh_binder(
     alloc: Global,
     body: &Term,
-    name: &str,
-    ty: &Ty,
-    types: &[(Ty, Ty)],
+    captured: Variable<'_>,
     passed: &Passed<'_>,
-    replacements: &Replacements<'_>,
+    replacing: &Replacing<'_>,
     hint: Place,
-    touched: Touched,
     known: &KnownVariables<'_>,
 ) -> Result<Term, Fault>
-    requires named { IsTrue (is_identifier name.now) }
-    requires covered { Covers touched.old.bits touched.new.bits (entries_of replacements.now) }
+    requires named { IsTrue (is_identifier captured.name.now) }
     requires known { HasVariables (known_table known.now) body.now }
-    requires taken { occurs_free name.now ty.now (replaced (entries_of replacements.now) types.now (image_under (binders_of passed.now) body.now)) ≡ true }
-    ensures fresh { IfOk result (IsFreshBinder (replaced (entries_of replacements.now) types.now (image_under (binders_of passed.now) body.now)) name.now ty.now) }
+    requires taken { occurs_free captured.name.now captured.ty.now (term_after replacing.now (binders_of passed.now) body.now) ≡ true }
+    ensures fresh { IfOk result (IsFreshBinder (term_after replacing.now (binders_of passed.now) body.now) captured.entry.name.now captured.entry.ty.now) }
     ensures variable { IfOk result (λ binder. IsTrue (is_variable binder)) }
-    ensures typed { IfOk result (λ binder. type_of binder ≡ Some ty.now) }
+    ensures typed { IfOk result (λ binder. type_of binder ≡ Some captured.entry.ty.now) }
     ensures err { IfErr result (λ fault. fault ≡ Memory) }
 {
-    let fresh = name_free_after(
-        alloc,
-        body,
-        name,
-        ty,
-        types,
-        &*passed,
-        &*replacements,
-        hint,
-        touched,
-        &*known,
-    )?;
-    variable_of(alloc, fresh.as_str(), ty)
+    let fresh = name_free_after(alloc, body, captured, &*passed, &*replacing, hint, &*known)?;
+    variable_of(alloc, fresh.as_str(), captured.ty)
 }
 
 // The name with so many primes that the variable of this name and type is not free in the term after the replacement.
 fn name_free_after(
     alloc: Global,
     body: &Term,
-    name: &str,
-    ty: &Ty,
-    types: &[(Ty, Ty)],
+    captured: Variable<'_>,
     passed: &Passed<'_>,
-    replacements: &Replacements<'_>,
+    replacing: &Replacing<'_>,
     hint: Place,
-    touched: Touched,
     known: &KnownVariables<'_>,
 ) -> Result<String, Fault>
-    requires named { IsTrue (is_identifier name.now) }
-    requires covered { Covers touched.old.bits touched.new.bits (entries_of replacements.now) }
+    requires named { IsTrue (is_identifier captured.name.now) }
     requires known { HasVariables (known_table known.now) body.now }
-    requires taken { occurs_free name.now ty.now (replaced (entries_of replacements.now) types.now (image_under (binders_of passed.now) body.now)) ≡ true }
-    ensures fresh { IfOk result (λ fresh. IsFirstFree (λ other. occurs_free other ty.now (replaced (entries_of replacements.now) types.now (image_under (binders_of passed.now) body.now))) name.now (string_bytes fresh)) }
+    requires taken { occurs_free captured.name.now captured.ty.now (term_after replacing.now (binders_of passed.now) body.now) ≡ true }
+    ensures fresh { IfOk result (λ fresh. IsFreshName (term_after replacing.now (binders_of passed.now) body.now) captured.entry.name.now captured.entry.ty.now (string_bytes fresh)) }
     ensures named { IfOk result (λ fresh. IsTrue (is_identifier (string_bytes fresh))) }
     ensures err { IfErr result (λ fault. fault ≡ Memory) }
 {
-    let mut fresh = with_prime(alloc, name)?;
+    let mut fresh = with_prime(alloc, captured.name)?;
     while is_free_after(
         body,
-        fresh.as_str(),
-        ty,
-        types,
+        Variable {
+            name: fresh.as_str(),
+            ty: captured.ty,
+        },
         &*passed,
-        &*replacements,
+        &*replacing,
         hint,
-        touched,
         &*known,
     ) {
         fresh.push_str("'")?;

@@ -75,13 +75,6 @@ pub(crate) fn changes_types(types: &[(Ty, Ty)], term: &Term) -> bool
     !types.is_empty() && term.has_tyvars()
 }
 
-/// Whether nothing that is replaced stands in the term.
-pub(crate) fn stays(term: &Term, types: &[(Ty, Ty)], touched: Touched) -> bool
-    ensures { result ≡ spec.stays touched.old.bits types.now term.now }
-{
-    !touched.old.meets(term.names()) && !changes_types(types, term)
-}
-
 /// Whether a list of pairs (new, old) changes no type that the term is written with.
 #[tactic(auto, using(crate::proofs::StayingTypes::closed))]
 pub(crate) fn keeps_all_types(types: &[(Ty, Ty)], term: &Term) -> bool
