@@ -1,12 +1,13 @@
 // The pieces of CONJ, CONJUNCT1 and CONJUNCT2, as data.
 use crate::derivation::Derivation;
 use crate::formulas::{AND_BODY, AND_P, P, P_AND_Q, Q, T, TEST, TESTED, TESTED_TRUE};
+use crate::numbers;
 use crate::sketch::TermSketch;
 use crate::truth::{EARLIER_TRUTH, EQ_BOOL};
 use hol_model::{PairRule, TermRule};
 
 // |- p /\ q <=> (\f. f p q) = (\f. f T T): AND_DEF at p and q
-const AND_DEF: Derivation<'static> = Derivation::Earlier(1);
+const AND_DEF: Derivation<'static> = Derivation::Earlier(numbers::AND_DEF);
 
 const AND_BODY_P: TermSketch<'static> = TermSketch::Combination(&AND_BODY, &P);
 
@@ -29,9 +30,9 @@ pub const AND_UNFOLDED: Derivation<'static> = Derivation::Pair(
 );
 
 // p, q |- p /\ q
-const P_AND_Q_IS: Derivation<'static> = Derivation::Earlier(11);
+const P_AND_Q_IS: Derivation<'static> = Derivation::Earlier(numbers::AND_UNFOLDED);
 
-pub const P_TRUE: Derivation<'static> = Derivation::Earlier(9);
+pub const P_TRUE: Derivation<'static> = Derivation::Earlier(numbers::EQT_INTRO);
 
 const ASSUME_Q: Derivation<'static> = Derivation::Term(TermRule::Assume, &Q);
 

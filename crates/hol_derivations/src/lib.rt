@@ -6,5 +6,6 @@ pub mod derivation;
 pub mod formulas;
 pub mod logic;
 pub mod making;
+pub mod numbers;
 pub mod sketch;
 pub mod truth;

@@ -4,12 +4,13 @@ use crate::formulas::{
     A, ALWAYS, BOOL, F, FALSE_BODY, FORALL, FORALL_BODY, FORALL_BOOL, IDENTITY, IMP_BODY, IMP_P,
     IS_ALWAYS, NOT, NOT_BODY, P, P_ABSORBS_Q, P_IMP, P_IMP_F, PRED, PRED_X, Q, T, UNARY, X,
 };
+use crate::numbers;
 use crate::sketch::TermSketch;
 use crate::truth::{ASSUME_P, EARLIER_TRUTH};
 use hol_model::{PairRule, TermRule};
 
 // |- p ==> q <=> (p /\ q <=> p): IMP_DEF at p and q
-const IMP_DEF: Derivation<'static> = Derivation::Earlier(2);
+const IMP_DEF: Derivation<'static> = Derivation::Earlier(numbers::IMP_DEF);
 
 const IMP_BODY_P: TermSketch<'static> = TermSketch::Combination(&IMP_BODY, &P);
 
@@ -32,7 +33,7 @@ pub const IMP_UNFOLDED: Derivation<'static> = Derivation::Pair(
 );
 
 // p /\ q <=> p |- p ==> q
-pub const P_IMP_Q_IS: Derivation<'static> = Derivation::Earlier(15);
+pub const P_IMP_Q_IS: Derivation<'static> = Derivation::Earlier(numbers::IMP_UNFOLDED);
 
 const P_IMP_Q: TermSketch<'static> = TermSketch::Combination(&P_IMP, &Q);
 
@@ -55,7 +56,7 @@ const SYM_ABSORBS: Derivation<'static> = Derivation::Sym(&ABSORBS);
 
 const BOTH: Derivation<'static> = Derivation::Pair(PairRule::EqMp, &SYM_ABSORBS, &ASSUME_P);
 
-const P_AND_Q_SECOND: Derivation<'static> = Derivation::Earlier(14);
+const P_AND_Q_SECOND: Derivation<'static> = Derivation::Earlier(numbers::CONJUNCT2);
 
 const BOTH_IS_Q: Derivation<'static> = Derivation::Pair(
     PairRule::DeductAntisym,
@@ -66,7 +67,7 @@ const BOTH_IS_Q: Derivation<'static> = Derivation::Pair(
 pub const MP: Derivation<'static> = Derivation::Pair(PairRule::EqMp, &BOTH_IS_Q, &BOTH);
 
 // p |- q <=> p /\ q
-const BOTH_FROM_PARTS: Derivation<'static> = Derivation::Earlier(12);
+const BOTH_FROM_PARTS: Derivation<'static> = Derivation::Earlier(numbers::BOTH);
 
 pub const CONJ_EQUATION: Derivation<'static> = Derivation::Pair(
     PairRule::DeductAntisym,
@@ -83,7 +84,7 @@ const BOTH_IS_P: Derivation<'static> = Derivation::Pair(
 
 const FOLLOWS: Derivation<'static> = Derivation::Pair(PairRule::EqMp, &SYM_P_IMP_Q_IS, &BOTH_IS_P);
 
-const Q_FROM_P: Derivation<'static> = Derivation::Earlier(17);
+const Q_FROM_P: Derivation<'static> = Derivation::Earlier(numbers::Q_FROM_P);
 
 pub const MP_EQUATION: Derivation<'static> = Derivation::Pair(
     PairRule::DeductAntisym,
@@ -92,7 +93,7 @@ pub const MP_EQUATION: Derivation<'static> = Derivation::Pair(
 );
 
 // |- (!) P <=> P = (\x. T): FORALL_DEF at P
-const FORALL_DEF: Derivation<'static> = Derivation::Earlier(3);
+const FORALL_DEF: Derivation<'static> = Derivation::Earlier(numbers::FORALL_DEF);
 
 const FORALL_BODY_PRED: TermSketch<'static> = TermSketch::Combination(&FORALL_BODY, &PRED);
 
@@ -107,7 +108,7 @@ pub const FORALL_UNFOLDED: Derivation<'static> = Derivation::Pair(
 );
 
 // P = (\x. T) |- (!) P
-pub const FORALL_PRED_IS: Derivation<'static> = Derivation::Earlier(18);
+pub const FORALL_PRED_IS: Derivation<'static> = Derivation::Earlier(numbers::FORALL_UNFOLDED);
 
 const FORALL_PRED: TermSketch<'static> = TermSketch::Combination(&FORALL, &PRED);
 
@@ -153,7 +154,7 @@ pub const SPEC: Derivation<'static> = Derivation::Pair(
 );
 
 // |- ~p <=> p ==> F: NOT_DEF at p
-const NOT_DEF: Derivation<'static> = Derivation::Earlier(7);
+const NOT_DEF: Derivation<'static> = Derivation::Earlier(numbers::NOT_DEF);
 
 const NOT_BODY_P: TermSketch<'static> = TermSketch::Combination(&NOT_BODY, &P);
 
@@ -168,7 +169,7 @@ pub const NOT_UNFOLDED: Derivation<'static> = Derivation::Pair(
 );
 
 // p ==> F |- ~p
-const NOT_P_IS: Derivation<'static> = Derivation::Earlier(21);
+const NOT_P_IS: Derivation<'static> = Derivation::Earlier(numbers::NOT_UNFOLDED);
 
 pub const NOT_P: TermSketch<'static> = TermSketch::Combination(&NOT, &P);
 
@@ -192,7 +193,7 @@ pub const NOT_ELIM: Derivation<'static> = Derivation::Pair(
 );
 
 // F |- p: F_DEF, and FORALL_DEF for formulas
-const F_DEF: Derivation<'static> = Derivation::Earlier(6);
+const F_DEF: Derivation<'static> = Derivation::Earlier(numbers::F_DEF);
 
 pub const FORMULA_PRED: TermSketch<'static> = TermSketch::Variable("P", &UNARY);
 

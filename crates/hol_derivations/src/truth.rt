@@ -1,11 +1,12 @@
 // T, and the pieces of EQT_INTRO and EQT_ELIM, as data.
 use crate::derivation::Derivation;
 use crate::formulas::{BINARY, IDENTITY, P, T};
+use crate::numbers;
 use crate::sketch::TermSketch;
 use hol_model::{PairRule, TermRule};
 
 // |- T: EQ_MP (SYM T_DEF) (REFL (\p. p))
-const T_DEF: Derivation<'static> = Derivation::Earlier(0);
+const T_DEF: Derivation<'static> = Derivation::Earlier(numbers::T_DEF);
 
 pub const EQ_BOOL: TermSketch<'static> = TermSketch::Constant("=", &BINARY);
 
@@ -18,7 +19,7 @@ const SYM_T_DEF: Derivation<'static> = Derivation::Sym(&T_DEF);
 pub const TRUTH: Derivation<'static> = Derivation::Pair(PairRule::EqMp, &SYM_T_DEF, &REFL_IDENTITY);
 
 // p |- p <=> T: DEDUCT_ANTISYM_RULE (ASSUME p) TRUTH
-pub const EARLIER_TRUTH: Derivation<'static> = Derivation::Earlier(8);
+pub const EARLIER_TRUTH: Derivation<'static> = Derivation::Earlier(numbers::TRUTH);
 
 pub const ASSUME_P: Derivation<'static> = Derivation::Term(TermRule::Assume, &P);
 

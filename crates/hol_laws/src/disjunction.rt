@@ -12,12 +12,13 @@ use hol_derivations::formulas::{
 use hol_derivations::logic::{
     FORALL_FORMULA, FORALL_FORMULA_IS, FORMULA, FORMULA_ALWAYS, FORMULA_IS_ALWAYS, FORMULA_PRED,
 };
+use hol_derivations::numbers;
 use hol_derivations::sketch::TermSketch;
 use hol_derivations::truth::{EARLIER_TRUTH, EQT_INTRO};
 use hol_model::{PairRule, TermRule};
 
 // |- p \/ q <=> (!r. (p ==> r) ==> (q ==> r) ==> r): OR_DEF at p and q
-const OR_DEF: Derivation<'static> = Derivation::Earlier(5);
+const OR_DEF: Derivation<'static> = Derivation::Earlier(numbers::OR_DEF);
 
 const OR_AT_P: Derivation<'static> = Derivation::ApThm(&OR_DEF, &P);
 

@@ -6,12 +6,13 @@ use hol_derivations::conjunction::{
 use hol_derivations::derivation::Derivation;
 use hol_derivations::formulas::{IMP, P, P_IMP, PRED_X, Q, T, TEST, TEST_P, TEST_T, TESTED_TRUE};
 use hol_derivations::logic::{BETA_ALWAYS, P_IMP_Q_IS, REFL_PRED_X};
+use hol_derivations::numbers;
 use hol_derivations::sketch::TermSketch;
 use hol_derivations::truth::{EARLIER_TRUTH, EQ_BOOL, EQT_INTRO};
 use hol_model::{PairRule, TermRule};
 
 // |- (p <=> T) <=> p
-const P_FROM_TRUE: Derivation<'static> = Derivation::Earlier(10);
+const P_FROM_TRUE: Derivation<'static> = Derivation::Earlier(numbers::EQT_ELIM);
 
 pub const TRUE_EQUATION: Derivation<'static> = Derivation::Pair(
     PairRule::DeductAntisym,
@@ -85,7 +86,7 @@ const FIRST_SIDES: Derivation<'static> = Derivation::Pair(
     &FIRST_TRUE,
 );
 
-const EQUALS_TRUE: Derivation<'static> = Derivation::Earlier(27);
+pub const EQUALS_TRUE: Derivation<'static> = Derivation::Earlier(27);
 
 const FIRST_IS_P: Derivation<'static> = Derivation::Pair(
     PairRule::Trans,

@@ -8,6 +8,7 @@ use hol_derivations::formulas::{
 use hol_derivations::logic::{
     ALWAYS_X, FORALL_FORMULA_IS, FORALL_PRED_IS, FORMULA, FORMULA_ALWAYS, FORMULA_PRED,
 };
+use hol_derivations::numbers;
 use hol_derivations::sketch::TermSketch;
 use hol_derivations::truth::EARLIER_TRUTH;
 use hol_laws::choice::PRED_X_HOLDS;
@@ -16,7 +17,7 @@ use hol_laws::laws::{DISCHARGE, EXISTS_PRED_IS, FIRST_OF_TESTS, FROM_TRUE, SPECI
 use hol_model::{PairRule, TermRule};
 
 // |- (?) P <=> (!q. (!x. P x ==> q) ==> q): EXISTS_DEF at P
-const EXISTS_DEF: Derivation<'static> = Derivation::Earlier(4);
+const EXISTS_DEF: Derivation<'static> = Derivation::Earlier(numbers::EXISTS_DEF);
 
 const EXISTS_AT_PRED: Derivation<'static> = Derivation::ApThm(&EXISTS_DEF, &PRED);
 

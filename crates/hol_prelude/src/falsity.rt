@@ -5,6 +5,7 @@ use hol_derivations::formulas::{
     F, FORALL_BOOL, IMP, P, P_CASE, P_IMP, P_IMP_R, Q, R, T, TEST, TEST_P, TESTED_TRUE,
 };
 use hol_derivations::logic::{ASSUME_F, FORMULA_ALWAYS, FORMULA_PRED};
+use hol_derivations::numbers;
 use hol_derivations::sketch::TermSketch;
 use hol_derivations::truth::{ASSUME_P, EARLIER_TRUTH, EQT_INTRO};
 use hol_laws::disjunction::{FROM_TRUE_R, GENERALIZES_FORMULA, P_OR, T_IMP_R};
@@ -26,7 +27,7 @@ const P_IS_F_FROM_P: Derivation<'static> = Derivation::Pair(PairRule::EqMp, &SYM
 
 const F_FROM_P: Derivation<'static> = Derivation::Pair(PairRule::EqMp, &P_IS_F_FROM_P, &ASSUME_P);
 
-pub(crate) const P_FROM_F: Derivation<'static> = Derivation::Earlier(24);
+pub(crate) const P_FROM_F: Derivation<'static> = Derivation::Earlier(numbers::CONTR);
 
 const DENIES_P: Derivation<'static> = Derivation::Pair(
     PairRule::DeductAntisym,

@@ -1,29 +1,10 @@
 // The numbers, among the theorems of the prelude, of those that rules are made from.
 
-/// `p |- p <=> T`.
-pub const EQT_INTRO: usize = 9;
-/// `p <=> T |- p`.
-pub const EQT_ELIM: usize = 10;
-/// `p /\ q |- p`.
-pub const CONJUNCT1: usize = 13;
-/// `p /\ q |- q`.
-pub const CONJUNCT2: usize = 14;
-/// `p /\ q <=> p |- p ==> q`.
-pub const DISCH: usize = 16;
-/// `P = (\x. T) |- (!) P`.
-pub const GEN: usize = 19;
-/// `(!) P |- P x`.
-pub const SPEC: usize = 20;
-/// `p ==> F |- ~p`.
-pub const NOT_INTRO: usize = 22;
-/// `~p |- p ==> F`.
-pub const NOT_ELIM: usize = 23;
-/// `F |- p`.
-pub const CONTR: usize = 24;
-/// `p |- q <=> p /\ q`.
-pub const CONJ: usize = 25;
-/// `p |- (p ==> q) <=> q`.
-pub const MP: usize = 26;
+pub use hol_derivations::numbers::{
+    CONJ, CONJUNCT1, CONJUNCT2, CONTR, DISCH, EQT_ELIM, EQT_INTRO, GEN, MP, NOT_ELIM, NOT_INTRO,
+    SPEC,
+};
+
 /// `p |- p \/ q`.
 pub const DISJ1: usize = 27;
 /// `q |- p \/ q`.

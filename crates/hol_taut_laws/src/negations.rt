@@ -4,13 +4,14 @@ use hol_derivations::conjunction::P_TRUE;
 use hol_derivations::derivation::Derivation;
 use hol_derivations::formulas::{F, IMP, P, P_IMP, Q};
 use hol_derivations::logic::SYM_NOT_P_IS;
+use hol_derivations::numbers;
 use hol_derivations::sketch::TermSketch;
 use hol_derivations::truth::ASSUME_P;
 use hol_laws::laws::{FROM_TRUE, T_IMP};
 use hol_model::{PairRule, TermRule};
 
 // p |- ~p <=> F
-const NOT_P_IS: Derivation<'static> = Derivation::Earlier(21);
+const NOT_P_IS: Derivation<'static> = Derivation::Earlier(numbers::NOT_UNFOLDED);
 
 const IMP_P_TRUE: Derivation<'static> = Derivation::ApTerm(&IMP, &P_TRUE);
 

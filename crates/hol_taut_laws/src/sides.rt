@@ -1,8 +1,10 @@
 // Laws of `/\` and `==>` of which one side is `T` or `F`, as data.
 use hol_derivations::derivation::Derivation;
 use hol_derivations::formulas::{F, P, Q, T};
+use hol_derivations::numbers;
 use hol_derivations::sketch::TermSketch;
 use hol_derivations::truth::{ASSUME_P, EARLIER_TRUTH, EQ_BOOL};
+use hol_laws::laws::EQUALS_TRUE;
 use hol_model::{PairRule, TermRule};
 
 // p <=> F |- p /\ q <=> F
@@ -32,8 +34,6 @@ const IDENTITY_SIDES: Derivation<'static> = Derivation::Pair(
     &BETA_P_ALWAYS,
 );
 
-const EQUALS_TRUE: Derivation<'static> = Derivation::Earlier(27);
-
 const IDENTITY_AGREES_IS_P: Derivation<'static> = Derivation::Pair(
     PairRule::Trans,
     &IDENTITY_SIDES,
@@ -58,7 +58,7 @@ const IDENTITY_AGREES_IS_Q: Derivation<'static> = Derivation::Inst(
     &IDENTITY_AGREES_AT_Q_IS_Q,
 );
 
-pub(crate) const P_FROM_F: Derivation<'static> = Derivation::Earlier(24);
+pub(crate) const P_FROM_F: Derivation<'static> = Derivation::Earlier(numbers::CONTR);
 
 const P_HOLDS_FROM_F: Derivation<'static> = Derivation::Pair(
     PairRule::DeductAntisym,
@@ -88,7 +88,7 @@ const Q_FROM_P: Derivation<'static> = Derivation::Pair(
     &F_FROM_P,
 );
 
-const BOTH_FROM_PARTS: Derivation<'static> = Derivation::Earlier(12);
+const BOTH_FROM_PARTS: Derivation<'static> = Derivation::Earlier(numbers::BOTH);
 
 const BOTH_FROM_P_EQUATED: Derivation<'static> = Derivation::Pair(
     PairRule::DeductAntisym,
@@ -102,7 +102,7 @@ const BOTH_FROM_P: Derivation<'static> = Derivation::Pair(
     &Q_FROM_P,
 );
 
-const P_FROM_BOTH: Derivation<'static> = Derivation::Earlier(13);
+const P_FROM_BOTH: Derivation<'static> = Derivation::Earlier(numbers::CONJUNCT1);
 
 const BOTH_IS_P: Derivation<'static> = Derivation::Pair(
     PairRule::DeductAntisym,
@@ -149,7 +149,7 @@ const BOTH_FROM_Q: Derivation<'static> = Derivation::Pair(
     &P_FROM_Q,
 );
 
-const Q_FROM_BOTH: Derivation<'static> = Derivation::Earlier(14);
+const Q_FROM_BOTH: Derivation<'static> = Derivation::Earlier(numbers::CONJUNCT2);
 
 const BOTH_IS_Q: Derivation<'static> = Derivation::Pair(
     PairRule::DeductAntisym,
@@ -164,7 +164,7 @@ pub(crate) const AND_FALSE_RIGHT: Derivation<'static> = Derivation::Pair(
 );
 
 // p <=> F |- p ==> q
-const P_IMP_Q_FROM_ABSORBS: Derivation<'static> = Derivation::Earlier(16);
+const P_IMP_Q_FROM_ABSORBS: Derivation<'static> = Derivation::Earlier(numbers::DISCH);
 
 const IMP_FALSE_LEFT_EQUATED: Derivation<'static> = Derivation::Pair(
     PairRule::DeductAntisym,
