@@ -4,3 +4,4 @@ mod Bits
 pub mod Rows
 mod RowWords
 mod FalsityLemmas
+mod FewTerms

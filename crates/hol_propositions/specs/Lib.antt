@@ -1,3 +1,4 @@
 pub mod FalseRows
 pub mod Forms
 pub mod Words
+pub mod FewTerms

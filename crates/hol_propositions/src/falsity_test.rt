@@ -5,19 +5,18 @@ ghost use Rattle.hol_model.specs.Propositional.Propositions.{atoms_of};
 ghost use Rattle.hol_model.specs.Propositional.Tautologies.{falsity_of, row_in_full};
 
 use crate::decision::first_false;
-use crate::occurrences::add_atoms;
+use crate::occurrences::add_few_atoms;
 use hol_model::{ATOMS_LIMIT, Fault};
 use hol_terms::Term;
 use std::alloc::Global;
 
-/// The atoms of a tautology. Refused where there are too many, and then where the formula is false in a row of their
-/// values.
+/// The atoms of a tautology. Refused where there are too many, of which those past the limit are not looked for, and then
+/// where the formula is false in a row of their values.
 pub fn atoms_of_tautology(alloc: Global, term: &Term) -> Result<Vec<Term>, Fault>
     ensures { AnswersSuch result (falsity_of term.now) (λ atoms. atoms.items ≡ atoms_of term.now) }
 {
     let mut atoms = Vec::new(alloc);
-    add_atoms(alloc, term, &mut atoms)?;
-    if atoms.len() > ATOMS_LIMIT {
+    if !add_few_atoms(alloc, term, &mut atoms)? {
         return Err(Fault::TooManyAtoms);
     }
     match first_false(alloc, term, &atoms, &[])? {

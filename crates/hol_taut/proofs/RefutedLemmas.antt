@@ -1,5 +1,5 @@
 -- Splits over the atoms of a formula that is always true.
-use Rattle.std.proofs.Common.{◌≡◌, ◌⊎◌, ◌<◌, ℕ, length, arith, List, [], ◌∷◌, Bool, true, false, Option, Some, None, Ok, Err, refl, sym, ◌∙◌, ap, subst, inl, inr, if◌then◌else◌}
+use Rattle.std.proofs.Common.{◌≡◌, ◌⊎◌, List, [], ◌∷◌, Bool, true, false, Option, Some, None, Ok, Err, refl, sym, ◌∙◌, ap, inl, inr, if◌then◌else◌}
 use Rattle.std.specs.Prelude.{unwrap_or}
 use Rattle.std.specs.Option.{is_some}
 use Rattle.hol_model.specs.declared.fault.Fault.{Fault}
@@ -24,10 +24,9 @@ use Rattle.hol_taut.specs.FactLists.{value_of, known_by, AreProved}
 use Rattle.hol_model.specs.Propositional.Propositions.{Proposition}
 use Rattle.hol_model.specs.Kernel.Theorem.{are_alpha_equivalent}
 use Rattle.hol_taut.specs.Proved.{Proves}
-use Rattle.hol_taut.specs.Refuted.{IsByImage, IsAlwaysTrue, is_listed, AreTold, AreAllFormulas, AreAllSmall}
-use Rattle.hol_taut.specs.Ways.{IsSmallIf}
+use Rattle.hol_taut.specs.Refuted.{IsByImage, IsAlwaysTrue, is_listed, AreTold}
 use Rattle.hol_taut.proofs.ProvedLemmas.{gives-proves}
-use Rattle.hol_taut.proofs.KnownValues.{Agrees, known-right, known-full, same_alpha, alpha_same, either-true}
+use Rattle.hol_taut.proofs.KnownValues.{Agrees, known-right, known-full}
 
 -- ---- theorems
 
@@ -55,7 +54,7 @@ all-proved-more (Fact' known value theorem at earlier) a allowed
 
 -- ---- values
 
-value-same : (facts : Facts) (a b : NamedTerm) → image a ≡ image b → value_of facts a ≡ value_of facts b
+pub value-same : (facts : Facts) (a b : NamedTerm) → image a ≡ image b → value_of facts a ≡ value_of facts b
 value-same Nothing a b is = refl
 value-same (Fact' known value theorem at earlier) a b is =
     ap (λ t. if same_term (image known.now) t then Some value else value_of earlier a) is
@@ -87,42 +86,3 @@ all-told facts formula always told = go (known_by (value_of facts) formula) refl
     go (Some v) is there =
         ap (λ o. unwrap_or o false) is ∙ sym (known-right (value_of facts) (λ t. unwrap_or (value_of facts t) false) agrees formula v is) ∙ always.each (λ t. unwrap_or (value_of facts t) false) by
     go None is there = let e : false ≡ true = sym (ap is_some is) ∙ there in cc
-
--- the next atom has its fact
-pub told-more : (facts more : Facts) (first : NamedTerm) (rest : List NamedTerm) (value : Bool) (formula : Proposition)
-    → ((t : NamedTerm) → value_of more t ≡ (if are_alpha_equivalent first t then Some value else value_of facts t)) → AreTold facts (first ∷ rest) formula → AreTold more rest formula
-told-more facts more first rest value formula is told = record {
-  each = λ place m. subst (λ (o : Option Bool). (is_some o ≡ true) ⊎ (is_listed place rest ≡ true)) (sym (is place))
-      (go place (are_alpha_equivalent first place) refl (told.each place m));
-}
-  where
-    go : (place : NamedTerm) (test : Bool) → are_alpha_equivalent first place ≡ test → (is_some (value_of facts place) ≡ true) ⊎ (is_listed place (first ∷ rest) ≡ true)
-        → (is_some (if test then Some value else value_of facts place) ≡ true) ⊎ (is_listed place rest ≡ true)
-    go place true same either = inl refl
-    go place false same (inl known) = inl known
-    go place false same (inr listed) = elim (either-true (are_alpha_equivalent place first) (is_listed place rest) listed) [
-      | inl here ↦ let e : true ≡ false = sym (alpha_same first place (sym (same_alpha place first here))) ∙ same in cc
-      | inr later ↦ inr later
-    ]
-
-pub rest-formulas : (theory : Theory) (first : NamedTerm) (rest : List NamedTerm) → AreAllFormulas theory (first ∷ rest) → AreAllFormulas theory rest
-rest-formulas theory first rest all = record { each = λ atom m. all.each atom (inr m) }
-
-pub first-is-formula : (theory : Theory) (first : NamedTerm) (rest : List NamedTerm) → AreAllFormulas theory (first ∷ rest) → IsFormula theory first
-first-is-formula theory first rest all = all.each first (inl refl)
-
-pub rest-small : (room : Bool) (first : NamedTerm) (rest : List NamedTerm) → AreAllSmall room (first ∷ rest) → AreAllSmall room rest
-rest-small room first rest all = record { each = λ atom m. all.each atom (inr m) }
-
-pub first-is-small : (room : Bool) (first : NamedTerm) (rest : List NamedTerm) → AreAllSmall room (first ∷ rest) → IsSmallIf room (image first)
-first-is-small room first rest all = all.each first (inl refl)
-
--- ---- lists of atoms
-
-pub rest-lower : (all : List NamedTerm) (first : NamedTerm) (rest : List NamedTerm) (t : ℕ) → all ≡ first ∷ rest → length all ≡ t → length rest < t
-rest-lower all first rest t is now = subst (λ (n : ℕ). length rest < n) (sym (ap (λ (l : List NamedTerm). length l) is) ∙ now) (omega arith)
-
-pub no-atom-left : (facts : Facts) (atoms : List NamedTerm) (formula : Proposition) (test : Bool) → length atoms ≡ 0 → IsAlwaysTrue formula → AreTold facts atoms formula
-    → test ≡ unwrap_or (known_by (value_of facts) formula) false → test ≡ false → ⊥
-no-atom-left facts [] formula test none always told is never = let e : false ≡ true = sym never ∙ is ∙ all-told facts formula always told in cc
-no-atom-left facts (first ∷ rest) formula test none always told is never = cc

@@ -7,3 +7,4 @@ pub mod Refuted
 pub mod Answers
 pub mod Steps
 pub mod Chains
+pub mod Next

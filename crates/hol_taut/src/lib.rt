@@ -1,6 +1,6 @@
 //! TAUT: formulas that are true in every row of values of their atoms, proved by a recorder. A tautology is proved by
-//! refuting its denial: a formula is proved as soon as the known atoms tell its value, and else the next atom is split. A long
-//! chain of `<=>` is first shortened by a search whose theorem is judged when it is made.
+//! refuting its denial: a formula is proved as soon as the known atoms tell its value, and else the atom is split whose
+//! values tell the most. A long chain of `<=>` is first shortened by a search whose theorem is judged when it is made.
 #![tactic(auto)]
 
 mod chain_proofs;
@@ -11,6 +11,7 @@ mod facts;
 mod formula_terms;
 mod known;
 mod leaves;
+mod next;
 mod pairs;
 mod pulled;
 mod refuted;

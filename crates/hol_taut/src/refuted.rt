@@ -17,6 +17,7 @@ ghost use Rattle.hol_taut.specs.Steps.{DenialRefutes};
 use crate::denial::denied_by;
 use crate::facts::Facts;
 use crate::known::known_value;
+use crate::next::next_atom;
 use crate::shown::shown;
 use crate::steps::by_equation;
 use hol_equal::assume;
@@ -36,7 +37,8 @@ fn is_told_true(term: &Term, facts: &Facts<'_>) -> bool
     }
 }
 
-/// `F`, from the denial of a tautology and the facts of some of its atoms, where these atoms have none.
+/// `F`, from the denial of a tautology and the facts of some of its atoms: of the others the one is split next whose
+/// values tell the most.
 #[tactic(none)]
 pub(crate) fn refuted(
     recorder: &mut Recorder,
@@ -64,7 +66,7 @@ pub(crate) fn refuted(
         };
         return by_equation(recorder, alloc, denied, &holds);
     }
-    let Some((atom, atoms)) = atoms.split_first() else {
+    let Some(atom) = next_atom(term, atoms, denied, &*facts) else {
         unreachable!();
     };
     let assumed = match assume(recorder, alloc, atom) {

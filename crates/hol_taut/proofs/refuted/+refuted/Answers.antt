@@ -1,5 +1,4 @@
-use Rattle.std.proofs.Common.{◌∙◌, List, [], ◌∷◌, true, false, Err, refl, sym, subst}
-use Rattle.hol_model.specs.Terms.NamedTerm.{NamedTerm}
+use Rattle.std.proofs.Common.{◌∙◌, [], ◌∷◌, true, false, Err, refl, sym, subst}
 use Rattle.hol_model.specs.Terms.Nameless.{image}
 use Rattle.hol_model.specs.Logic.Logic as nameless
 use Rattle.hol_model.specs.Logic.Theory.{Theory}
@@ -9,11 +8,11 @@ use Rattle.hol_taut.proofs.LawLemmas.{still_lawful}
 use Rattle.hol_model.specs.Propositional.Connectives.{fact}
 use Rattle.hol_taut.specs.FactLists.{value_of, known_by}
 use Rattle.hol_model.specs.Propositional.Propositions.{proposition}
-use Rattle.hol_taut.specs.Refuted.{AreTold, AreAllFormulas, AreAllSmall}
+use Rattle.hol_taut.specs.Refuted.{AreAllFormulas}
 use Rattle.hol_taut.proofs.ShownLemmas.{still_held, still_all_held}
 use Rattle.hol_taut.proofs.WayLemmas.{fact-fits}
-use Rattle.hol_taut.proofs.RefutedLemmas.{assumed-proves, memory-past, proves-more, all-proved-more, value-true, told-more}
-use Rattle.hol_taut.proofs.RefutedLemmas.{rest-formulas, first-is-formula, rest-small, first-is-small, rest-lower, no-atom-left}
+use Rattle.hol_taut.proofs.RefutedLemmas.{assumed-proves, memory-past, proves-more, all-proved-more, value-true}
+use Rattle.hol_taut.proofs.NextLemmas.{told-further, no-atom-open}
 use Rattle.hol_taut.proofs.refuted.+refuted.Goals as goal
 
 pub shown-requires-clause-laws : goal.shown-requires-clause-laws
@@ -58,12 +57,12 @@ returns-then-is_told_true-clause-proves t c = λ allowed room denial proved smal
 
 pub unreachable-requires : goal.unreachable-requires
 unreachable-requires t c =
-    no-atom-left c.args.facts.now c.args.atoms.now (proposition c.args.term.now) c.is_told_true.result c.in_default.ensures.cases c.requires.always c.requires.told
+    no-atom-open c.args.facts.now c.args.atoms.now (proposition c.args.term.now) c.is_told_true.result c.in_default.ensures c.requires.always c.requires.told
     c.is_told_true.ensures c.if-is_told_true.false
 
 pub unreachable-unreachable : goal.unreachable-unreachable
 unreachable-unreachable t c =
-    no-atom-left c.args.facts.now c.args.atoms.now (proposition c.args.term.now) c.is_told_true.result c.in_default.ensures.cases c.requires.always c.requires.told
+    no-atom-open c.args.facts.now c.args.atoms.now (proposition c.args.term.now) c.is_told_true.result c.in_default.ensures c.requires.always c.requires.told
     c.is_told_true.ensures c.if-is_told_true.false
 
 pub returns-in-Err-assume-clause-continues : goal.returns-in-Err-assume-clause-continues
@@ -73,35 +72,17 @@ returns-in-Err-assume-clause-continues t c =
 pub returns-in-Err-assume-clause-proves : goal.returns-in-Err-assume-clause-proves
 returns-in-Err-assume-clause-proves t c = λ allowed room denial proved small smalls.
     memory-past c.in-Err-assume.fault (image c.in-Some.atom.now ∷ []) (image c.in-Some.atom.now) room
-    (c.in-Err-assume.ensures.gives (first-is-formula c.args.recorder.now.theory c.in-Some.atom.now c.in-Some.atoms.now
-    (subst (λ (l : List NamedTerm). AreAllFormulas c.args.recorder.now.theory l) c.in-Some.ensures.cases.0 c.requires.atoms)).known)
+    (c.in-Err-assume.ensures.gives (c.requires.atoms.each c.in-Some.atom.now c.in-Some.ensures.listed).known)
 
 pub refuted-requires : goal.refuted-requires
-refuted-requires t c = (
-  rest-lower c.args.atoms.now c.in-Some.atom.now c.in-Some.atoms.now t c.in-Some.ensures.cases.0 c.decreases,
-  (
-    still_lawful c.args.recorder.now c.assume.new.recorder c.assume.result c.args.laws.now c.assume.ensures.continues c.requires.laws,
-    (
-      still_formula c.args.recorder.now c.assume.new.recorder c.assume.result c.args.term.now c.assume.ensures.continues c.requires.formula,
-      (
-        c.requires.always,
-        (
-          still_held c.args.recorder.now c.assume.new.recorder c.assume.result c.args.denied.now c.assume.ensures.continues c.requires.denied,
-          (
-            (subst (λ (y : Theory). AreAllFormulas y c.in-Some.atoms.now) (sym c.assume.ensures.continues.theory)
-                (rest-formulas c.args.recorder.now.theory c.in-Some.atom.now c.in-Some.atoms.now
-                (subst (λ (l : List NamedTerm). AreAllFormulas c.args.recorder.now.theory l) c.in-Some.ensures.cases.0 c.requires.atoms))),
-            (
-              told-more c.args.facts.now _ c.in-Some.atom.now c.in-Some.atoms.now true (proposition c.args.term.now) (λ place. refl)
-                  (subst (λ (l : List NamedTerm). AreTold c.args.facts.now l (proposition c.args.term.now)) c.in-Some.ensures.cases.0 c.requires.told),
-              (c.in-Ok-assume.ensures.continues.held, still_all_held c.args.recorder.now c.assume.new.recorder c.assume.result c.args.facts.now c.assume.ensures.continues c.requires.held),
-            ),
-          ),
-        ),
-      ),
-    ),
-  ),
-)
+refuted-requires t c =
+    told-further c.args.facts.now _ c.in-Some.atom.now true c.args.atoms.now (proposition c.args.term.now) t (λ place. refl) c.in-Some.ensures c.decreases c.requires.told
+    (still_lawful c.args.recorder.now c.assume.new.recorder c.assume.result c.args.laws.now c.assume.ensures.continues c.requires.laws)
+    (still_formula c.args.recorder.now c.assume.new.recorder c.assume.result c.args.term.now c.assume.ensures.continues c.requires.formula)
+    c.requires.always
+    (still_held c.args.recorder.now c.assume.new.recorder c.assume.result c.args.denied.now c.assume.ensures.continues c.requires.denied)
+    (subst (λ (y : Theory). AreAllFormulas y c.args.atoms.now) (sym c.assume.ensures.continues.theory) c.requires.atoms)
+    (c.in-Ok-assume.ensures.continues.held, still_all_held c.args.recorder.now c.assume.new.recorder c.assume.result c.args.facts.now c.assume.ensures.continues c.requires.held)
 
 pub returns-in-Err-refuted-clause-continues : goal.returns-in-Err-refuted-clause-continues
 returns-in-Err-refuted-clause-continues t c =
@@ -111,11 +92,10 @@ pub returns-in-Err-refuted-clause-proves : goal.returns-in-Err-refuted-clause-pr
 returns-in-Err-refuted-clause-proves t c = λ allowed room denial proved small smalls.
     c.in-Err-refuted.ensures.proves (image c.in-Some.atom.now ∷ allowed) room (proves-more c.args.denied.now.theorem (image c.in-Some.atom.now) allowed (fact false (image c.args.term.now)) denial) (
       (assumed-proves c.in-Ok-assume.assumed (image c.in-Some.atom.now) allowed
-          (c.in-Ok-assume.ensures.gives (first-is-formula c.args.recorder.now.theory c.in-Some.atom.now c.in-Some.atoms.now
-          (subst (λ (l : List NamedTerm). AreAllFormulas c.args.recorder.now.theory l) c.in-Some.ensures.cases.0 c.requires.atoms)).known)),
+          (c.in-Ok-assume.ensures.gives (c.requires.atoms.each c.in-Some.atom.now c.in-Some.ensures.listed).known)),
       all-proved-more c.args.facts.now
           (image c.in-Some.atom.now) allowed proved,
-    ) small (rest-small room c.in-Some.atom.now c.in-Some.atoms.now (subst (λ (l : List NamedTerm). AreAllSmall room l) c.in-Some.ensures.cases.0 smalls))
+    ) small smalls
 
 pub denied_by-requires-clause-laws : goal.denied_by-requires-clause-laws
 denied_by-requires-clause-laws t c =
@@ -126,8 +106,7 @@ pub denied_by-requires-clause-formula : goal.denied_by-requires-clause-formula
 denied_by-requires-clause-formula t c =
     still_formula c.args.recorder.now c.refuted.new.recorder c.refuted.result c.in-Some.atom.now
     (continues-twice c.args.recorder.now c.assume.new.recorder c.refuted.new.recorder c.assume.result c.refuted.result c.assume.ensures.continues c.refuted.ensures.continues)
-    (first-is-formula c.args.recorder.now.theory c.in-Some.atom.now c.in-Some.atoms.now
-    (subst (λ (l : List NamedTerm). AreAllFormulas c.args.recorder.now.theory l) c.in-Some.ensures.cases.0 c.requires.atoms))
+    (c.requires.atoms.each c.in-Some.atom.now c.in-Some.ensures.listed)
 
 pub denied_by-requires-clause-absurd : goal.denied_by-requires-clause-absurd
 denied_by-requires-clause-absurd t c =
@@ -142,62 +121,28 @@ returns-in-Err-denied_by-clause-continues t c =
 pub returns-in-Err-denied_by-clause-proves : goal.returns-in-Err-denied_by-clause-proves
 returns-in-Err-denied_by-clause-proves t c = λ allowed room denial proved small smalls.
     c.in-Err-denied_by.ensures.proves allowed room (fact-fits true room (image c.in-Some.atom.now)
-    (first-is-small room c.in-Some.atom.now c.in-Some.atoms.now (subst (λ (l : List NamedTerm). AreAllSmall room l) c.in-Some.ensures.cases.0 smalls)))
-    (fact-fits false room (image c.in-Some.atom.now) (first-is-small room c.in-Some.atom.now c.in-Some.atoms.now
-    (subst (λ (l : List NamedTerm). AreAllSmall room l) c.in-Some.ensures.cases.0 smalls)))
+    (smalls.each c.in-Some.atom.now c.in-Some.ensures.listed))
+    (fact-fits false room (image c.in-Some.atom.now) (smalls.each c.in-Some.atom.now c.in-Some.ensures.listed))
     (c.in-Ok-refuted.ensures.proves (image c.in-Some.atom.now ∷ allowed) room (proves-more c.args.denied.now.theorem (image c.in-Some.atom.now) allowed (fact false (image c.args.term.now)) denial) (
       (assumed-proves c.in-Ok-assume.assumed (image c.in-Some.atom.now) allowed
-          (c.in-Ok-assume.ensures.gives (first-is-formula c.args.recorder.now.theory c.in-Some.atom.now c.in-Some.atoms.now
-          (subst (λ (l : List NamedTerm). AreAllFormulas c.args.recorder.now.theory l) c.in-Some.ensures.cases.0 c.requires.atoms)).known)),
+          (c.in-Ok-assume.ensures.gives (c.requires.atoms.each c.in-Some.atom.now c.in-Some.ensures.listed).known)),
       all-proved-more c.args.facts.now
           (image c.in-Some.atom.now) allowed proved,
-    ) small (rest-small room c.in-Some.atom.now c.in-Some.atoms.now
-    (subst (λ (l : List NamedTerm). AreAllSmall room l) c.in-Some.ensures.cases.0 smalls)))
+    ) small smalls)
 
 pub refuted-requires-2 : goal.refuted-requires-2
-refuted-requires-2 t c = (
-  rest-lower c.args.atoms.now c.in-Some.atom.now c.in-Some.atoms.now t c.in-Some.ensures.cases.0 c.decreases,
-  (
-    still_lawful c.args.recorder.now c.denied_by.new.recorder c.denied_by.result c.args.laws.now
-        (continues-twice c.args.recorder.now c.refuted.new.recorder c.denied_by.new.recorder c.refuted.result c.denied_by.result
-        (continues-twice c.args.recorder.now c.assume.new.recorder c.refuted.new.recorder c.assume.result c.refuted.result c.assume.ensures.continues c.refuted.ensures.continues)
-        c.denied_by.ensures.continues) c.requires.laws,
-    (
-      still_formula c.args.recorder.now c.denied_by.new.recorder c.denied_by.result c.args.term.now
-          (continues-twice c.args.recorder.now c.refuted.new.recorder c.denied_by.new.recorder c.refuted.result c.denied_by.result
-          (continues-twice c.args.recorder.now c.assume.new.recorder c.refuted.new.recorder c.assume.result c.refuted.result c.assume.ensures.continues c.refuted.ensures.continues)
-          c.denied_by.ensures.continues) c.requires.formula,
-      (
-        c.requires.always,
-        (
-          still_held c.args.recorder.now c.denied_by.new.recorder c.denied_by.result c.args.denied.now
-              (continues-twice c.args.recorder.now c.refuted.new.recorder c.denied_by.new.recorder c.refuted.result c.denied_by.result
-              (continues-twice c.args.recorder.now c.assume.new.recorder c.refuted.new.recorder c.assume.result c.refuted.result c.assume.ensures.continues c.refuted.ensures.continues)
-              c.denied_by.ensures.continues) c.requires.denied,
-          (
-            (subst (λ (y : Theory). AreAllFormulas y c.in-Some.atoms.now)
-                (sym (continues-twice c.args.recorder.now c.refuted.new.recorder c.denied_by.new.recorder c.refuted.result c.denied_by.result
-                (continues-twice c.args.recorder.now c.assume.new.recorder c.refuted.new.recorder c.assume.result c.refuted.result c.assume.ensures.continues
-                c.refuted.ensures.continues) c.denied_by.ensures.continues).theory)
-                (rest-formulas c.args.recorder.now.theory c.in-Some.atom.now c.in-Some.atoms.now
-                (subst (λ (l : List NamedTerm). AreAllFormulas c.args.recorder.now.theory l) c.in-Some.ensures.cases.0 c.requires.atoms))),
-            (
-              told-more c.args.facts.now _ c.in-Some.atom.now c.in-Some.atoms.now false (proposition c.args.term.now) (λ place. refl)
-                  (subst (λ (l : List NamedTerm). AreTold c.args.facts.now l (proposition c.args.term.now)) c.in-Some.ensures.cases.0 c.requires.told),
-              (
-                c.in-Ok-denied_by.ensures.continues.held,
-                still_all_held c.args.recorder.now c.denied_by.new.recorder c.denied_by.result c.args.facts.now
-                    (continues-twice c.args.recorder.now c.refuted.new.recorder c.denied_by.new.recorder c.refuted.result c.denied_by.result
-                    (continues-twice c.args.recorder.now c.assume.new.recorder c.refuted.new.recorder c.assume.result c.refuted.result c.assume.ensures.continues
-                    c.refuted.ensures.continues) c.denied_by.ensures.continues) c.requires.held,
-              ),
-            ),
-          ),
-        ),
-      ),
-    ),
-  ),
-)
+refuted-requires-2 t c =
+    let continues =
+    continues-twice c.args.recorder.now c.refuted.new.recorder c.denied_by.new.recorder c.refuted.result c.denied_by.result
+    (continues-twice c.args.recorder.now c.assume.new.recorder c.refuted.new.recorder c.assume.result c.refuted.result c.assume.ensures.continues c.refuted.ensures.continues)
+    c.denied_by.ensures.continues in
+    told-further c.args.facts.now _ c.in-Some.atom.now false c.args.atoms.now (proposition c.args.term.now) t (λ place. refl) c.in-Some.ensures c.decreases c.requires.told
+    (still_lawful c.args.recorder.now c.denied_by.new.recorder c.denied_by.result c.args.laws.now continues c.requires.laws)
+    (still_formula c.args.recorder.now c.denied_by.new.recorder c.denied_by.result c.args.term.now continues c.requires.formula)
+    c.requires.always
+    (still_held c.args.recorder.now c.denied_by.new.recorder c.denied_by.result c.args.denied.now continues c.requires.denied)
+    (subst (λ (y : Theory). AreAllFormulas y c.args.atoms.now) (sym continues.theory) c.requires.atoms)
+    (c.in-Ok-denied_by.ensures.continues.held, still_all_held c.args.recorder.now c.denied_by.new.recorder c.denied_by.result c.args.facts.now continues c.requires.held)
 
 pub returns-clause-continues : goal.returns-clause-continues
 returns-clause-continues t c =
@@ -210,17 +155,15 @@ pub returns-clause-proves : goal.returns-clause-proves
 returns-clause-proves t c = λ allowed room denial proved small smalls.
     c.refuted-2.ensures.proves allowed room denial (
       c.in-Ok-denied_by.ensures.proves allowed room (fact-fits true room (image c.in-Some.atom.now)
-          (first-is-small room c.in-Some.atom.now c.in-Some.atoms.now (subst (λ (l : List NamedTerm). AreAllSmall room l) c.in-Some.ensures.cases.0 smalls)))
-          (fact-fits false room (image c.in-Some.atom.now) (first-is-small room c.in-Some.atom.now c.in-Some.atoms.now
-          (subst (λ (l : List NamedTerm). AreAllSmall room l) c.in-Some.ensures.cases.0 smalls)))
+          (smalls.each c.in-Some.atom.now c.in-Some.ensures.listed))
+          (fact-fits false room (image c.in-Some.atom.now) (smalls.each c.in-Some.atom.now c.in-Some.ensures.listed))
           (c.in-Ok-refuted.ensures.proves (image c.in-Some.atom.now ∷ allowed) room
           (proves-more c.args.denied.now.theorem (image c.in-Some.atom.now) allowed (fact false (image c.args.term.now)) denial) (
             (assumed-proves c.in-Ok-assume.assumed (image c.in-Some.atom.now) allowed
-                (c.in-Ok-assume.ensures.gives (first-is-formula c.args.recorder.now.theory c.in-Some.atom.now c.in-Some.atoms.now
-                (subst (λ (l : List NamedTerm). AreAllFormulas c.args.recorder.now.theory l) c.in-Some.ensures.cases.0 c.requires.atoms)).known)),
+                (c.in-Ok-assume.ensures.gives (c.requires.atoms.each c.in-Some.atom.now c.in-Some.ensures.listed).known)),
             all-proved-more c.args.facts.now
                 (image c.in-Some.atom.now) allowed proved,
           ) small
-          (rest-small room c.in-Some.atom.now c.in-Some.atoms.now (subst (λ (l : List NamedTerm). AreAllSmall room l) c.in-Some.ensures.cases.0 smalls))),
+          smalls),
       proved,
-    ) small (rest-small room c.in-Some.atom.now c.in-Some.atoms.now (subst (λ (l : List NamedTerm). AreAllSmall room l) c.in-Some.ensures.cases.0 smalls))
+    ) small smalls
