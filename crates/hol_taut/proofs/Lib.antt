@@ -11,4 +11,3 @@ pub mod AtomLemmas
 mod TautologyLemmas
 mod SmallLemmas
 mod TautAnswers
-mod ChainLemmas

@@ -6,4 +6,3 @@ pub mod Shown
 pub mod Refuted
 pub mod Answers
 pub mod Steps
-pub mod Chains
