@@ -11,5 +11,4 @@ pub mod AtomLemmas
 mod TautologyLemmas
 mod SmallLemmas
 mod TautAnswers
-mod ChainLemmas
 mod NextLemmas

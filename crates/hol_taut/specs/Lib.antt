@@ -6,5 +6,4 @@ pub mod Shown
 pub mod Refuted
 pub mod Answers
 pub mod Steps
-pub mod Chains
 pub mod Next

@@ -4,19 +4,17 @@ ghost use Rattle.hol_model.specs.Terms.Nameless.{image};
 ghost use Rattle.hol_journal.specs.Journal.{Journal, IsMade};
 ghost use Rattle.hol_equal.specs.Sequents.{Continues, IsHeld};
 ghost use Rattle.hol_taut_laws.specs.HasLaws.{HasLaws};
-ghost use Rattle.hol_taut.specs.Chains.{HasChainLaws};
+ghost use Rattle.hol_taut_chains.specs.Chains.{HasChainLaws};
 ghost use Rattle.hol_taut.specs.Proved.{Proves};
 
-use crate::chain_steps::reflexive;
-use crate::chains::{sides_of, twofold};
-use crate::formula_terms::{equivalence, proposition};
-use crate::pairs::{same_side, without_pairs};
-use crate::pulled::ChainLaws;
 use crate::splits::by_splits;
 use hol_alpha::aconv;
 use hol_equal::{conclusion_of, eq_mp, sym};
 use hol_journal::{Rec, Recorder};
 use hol_model::Fault;
+use hol_taut_chains::{
+    ChainLaws, commuted, exchanged, paired, reflexive, same_side, sides_of, twofold, without_pairs,
+};
 use hol_taut_laws::Laws;
 use hol_terms::Term;
 use std::alloc::Global;
@@ -60,7 +58,7 @@ fn rest(recorder: &mut Recorder, alloc: Global, laws: &Laws, shortest: &Rec) -> 
 }
 
 // The chain, from its equivalence with what is left of it.
-#[tactic(auto, using(hol_equal::proofs::StepLemmas::still_made, hol_equal::proofs::StepLemmas::now_made, crate::proofs::ChainLemmas::continued_twice, crate::proofs::LawLemmas::still_lawful))]
+#[tactic(auto, using(hol_equal::proofs::StepLemmas::still_made, hol_equal::proofs::StepLemmas::now_made, hol_taut_chains::proofs::ChainLemmas::continued_twice, crate::proofs::LawLemmas::still_lawful))]
 fn from_rest(
     recorder: &mut Recorder,
     alloc: Global,
@@ -83,7 +81,7 @@ fn from_rest(
 }
 
 // A chain, by these laws.
-#[tactic(auto, using(hol_equal::proofs::StepLemmas::still_made, hol_equal::proofs::StepLemmas::now_made, crate::proofs::ChainLemmas::continued_twice, crate::proofs::LawLemmas::still_lawful))]
+#[tactic(auto, using(hol_equal::proofs::StepLemmas::still_made, hol_equal::proofs::StepLemmas::now_made, hol_taut_chains::proofs::ChainLemmas::continued_twice, crate::proofs::LawLemmas::still_lawful))]
 fn by_pairs(
     recorder: &mut Recorder,
     alloc: Global,
@@ -101,39 +99,6 @@ fn by_pairs(
         Err(fault) => return Err(fault),
     };
     from_rest(recorder, alloc, laws, &shortest)
-}
-
-// `(p <=> q) <=> (q <=> p)`.
-fn commuted(alloc: Global) -> Result<Term, Fault> {
-    let p = proposition(alloc, "p")?;
-    let q = proposition(alloc, "q")?;
-    let left = equivalence(alloc, &p, &q)?;
-    let right = equivalence(alloc, &q, &p)?;
-    equivalence(alloc, &left, &right)
-}
-
-// `(p <=> q <=> r) <=> (q <=> p <=> r)`.
-fn exchanged(alloc: Global) -> Result<Term, Fault> {
-    let p = proposition(alloc, "p")?;
-    let q = proposition(alloc, "q")?;
-    let r = proposition(alloc, "r")?;
-    let left = front(alloc, &p, &q, &r)?;
-    let right = front(alloc, &q, &p, &r)?;
-    equivalence(alloc, &left, &right)
-}
-
-// `p <=> q <=> r`.
-fn front(alloc: Global, p: &Term, q: &Term, r: &Term) -> Result<Term, Fault> {
-    let rest = equivalence(alloc, q, r)?;
-    equivalence(alloc, p, &rest)
-}
-
-// `(p <=> p <=> q) <=> q`.
-fn paired(alloc: Global) -> Result<Term, Fault> {
-    let p = proposition(alloc, "p")?;
-    let q = proposition(alloc, "q")?;
-    let left = front(alloc, &p, &p, &q)?;
-    equivalence(alloc, &left, &q)
 }
 
 // A law of chains.

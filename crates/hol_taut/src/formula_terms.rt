@@ -1,18 +1,14 @@
 // Formulas that are made, and the test of one that comes in.
-ghost use Rattle.std.specs.Prelude.{◌≡◌, true, IfOk, IfErr, OnOk, Some};
+ghost use Rattle.std.specs.Prelude.{◌≡◌, IfOk, IfErr, OnOk};
 ghost use Rattle.hol_model.specs.declared.fault.Fault.TheVariants.{Memory};
-ghost use Rattle.hol_model.specs.Terms.HolType.{bool_type};
-ghost use Rattle.hol_model.specs.Terms.Name.{is_identifier};
-ghost use Rattle.hol_model.specs.Terms.NamedTerm.{variable, equation, type_of};
-ghost use Rattle.hol_model.specs.Terms.Nameless.{image};
 ghost use Rattle.hol_model.specs.Logic.NamedLogic.{false_term};
 ghost use Rattle.hol_equal.specs.Formulas.{IsPassed, IsRefused};
-ghost use Rattle.hol_equal.specs.Room.{Room, FitsIf, MakesIf};
 ghost use Rattle.hol_bool.specs.PreludeInstances.{at_p_q};
 ghost use Rattle.hol_taut.specs.Steps.{MakesEquivalence};
 
 use hol_journal::Recorder;
 use hol_model::Fault;
+use hol_taut_chains::proposition;
 use hol_terms::{Term, mk_eq};
 use hol_types::Ty;
 use std::alloc::Global;
@@ -31,16 +27,6 @@ pub(crate) fn equivalence(alloc: Global, left: &Term, right: &Term) -> Result<Te
     ensures { MakesEquivalence left.now right.now result }
 {
     mk_eq(alloc, left, right)
-}
-
-/// The variable of this name of type `bool`.
-pub(crate) fn proposition(alloc: Global, name: &str) -> Result<Term, Fault>
-    requires { is_identifier name.now ≡ true }
-    ensures ok { IfOk result (λ term. term ≡ variable name.now bool_type) }
-    ensures err { IfErr result (λ fault. fault ≡ Memory) }
-{
-    let boolean = Ty::boolean(alloc)?;
-    Term::mk_var(alloc, name, &boolean)
 }
 
 /// The formulas for the variables `p` and `q`.
@@ -65,26 +51,5 @@ pub(crate) fn pass_formula(recorder: &Recorder, term: &Term) -> Result<(), Fault
     match recorder.theory().first_unknown(term) {
         Some(fault) => Err(fault),
         None => Ok(()),
-    }
-}
-
-/// The formulas for the variables `p`, `q` and `r`.
-pub(crate) fn for_p_q_r(
-    alloc: Global,
-    p: &Term,
-    q: &Term,
-    r: &Term,
-) -> Result<Vec<(Term, Term)>, Fault> {
-    let mut terms = for_p_q(alloc, p, q)?;
-    terms.push((r.copy(alloc)?, proposition(alloc, "r")?))?;
-    Ok(terms)
-}
-
-/// `(=)` at its first argument.
-pub(crate) fn equal_to(alloc: Global, left: &Term) -> Result<Term, Fault> {
-    let whole = equivalence(alloc, left, left)?;
-    match whole.dest_comb() {
-        Some((function, _)) => function.copy(alloc),
-        None => Err(Fault::BadShape),
     }
 }

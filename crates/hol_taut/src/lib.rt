@@ -4,16 +4,12 @@
 #![tactic(auto)]
 
 mod chain_proofs;
-mod chain_steps;
-mod chains;
 mod denial;
 mod facts;
 mod formula_terms;
 mod known;
 mod leaves;
 mod next;
-mod pairs;
-mod pulled;
 mod refuted;
 mod shown;
 mod splits;

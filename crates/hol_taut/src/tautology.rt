@@ -16,13 +16,13 @@ ghost use Rattle.hol_model.specs.Propositional.Tautologies.{tautology_outcome};
 ghost use Rattle.hol_taut.specs.Ways.{IsSmallIf};
 
 use crate::chain_proofs::{as_chain, if_of};
-use crate::chains::is_long_chain;
 use crate::formula_terms::{equivalence, false_formula, pass_formula};
 use crate::splits::split;
 use hol_equal::named;
 use hol_journal::{Rec, Recorder};
 use hol_model::Fault;
 use hol_propositions::atoms_of_tautology;
+use hol_taut_chains::is_long_chain;
 use hol_taut_laws::Laws;
 use hol_terms::Term;
 use std::alloc::Global;

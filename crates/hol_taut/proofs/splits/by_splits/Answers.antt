@@ -1,4 +1,4 @@
-use Rattle.std.proofs.Common.{◌∙◌, false, refl}
+use Rattle.std.proofs.Common.{◌∙◌, refl}
 use Rattle.hol_model.specs.Logic.NamedLogic.{false_term}
 use Rattle.hol_bool.proofs.RoomLemmas.{equation-is}
 use Rattle.hol_taut.proofs.AtomLemmas.{accepted-true}

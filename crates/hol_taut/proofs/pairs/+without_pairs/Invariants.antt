@@ -1,4 +1,0 @@
-use Rattle.hol_taut.proofs.pairs.+without_pairs.Given as goal
-
-abbrev pub decreases-without_pairs : goal.decreases-without_pairs
-decreases-without_pairs l = l.more

@@ -1,9 +1,0 @@
--- The laws by which chains of `<=>` are shortened.
-use Rattle.hol_journal.specs.Journal.{Journal, IsMade}
-use Rattle.hol_taut.specs.declared.pulled.ChainLaws.{ChainLaws}
-
--- the recorder made them
-pub record HasChainLaws (journal : Journal) (laws : ChainLaws) : Type 0 where
-  pub commuted : IsMade journal laws.commuted
-  pub exchanged : IsMade journal laws.exchanged
-  pub paired : IsMade journal laws.paired

@@ -1,0 +1,18 @@
+-- Calls in a row, each of which goes on with the journal.
+use Rattle.hol_model.specs.declared.fault.Fault.{Fault}
+use Rattle.std.specs.Prelude.{Result}
+use Rattle.hol_journal.specs.Journal.{Journal, Recorded}
+use Rattle.hol_equal.specs.Sequents.{Continues}
+use Rattle.hol_equal.proofs.StepLemmas.{continues-twice, still_made}
+use Rattle.hol_taut_chains.specs.Chains.{HasChainLaws}
+use Rattle.hol_taut_chains.specs.declared.pulled.ChainLaws.{ChainLaws}
+
+pub continued_twice : (first second third : Journal) (one two : Result Recorded Fault) → Continues first second one → Continues second third two → Continues first third two
+continued_twice = continues-twice
+
+pub still_chain_laws : (old new : Journal) (result : Result Recorded Fault) (laws : ChainLaws) → Continues old new result → HasChainLaws old laws → HasChainLaws new laws
+still_chain_laws old new result laws continues has = record {
+  commuted = still_made old new result laws.commuted continues has.commuted;
+  exchanged = still_made old new result laws.exchanged continues has.exchanged;
+  paired = still_made old new result laws.paired continues has.paired;
+}

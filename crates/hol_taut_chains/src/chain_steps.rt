@@ -1,0 +1,60 @@
+// Steps that the search for a short proof takes: what they prove is judged at the end.
+ghost use Rattle.hol_journal.specs.Journal.{IsMade};
+ghost use Rattle.hol_equal.specs.Sequents.{Continues};
+
+use hol_equal::conclusion_of;
+use hol_journal::{Rec, Recorder};
+use hol_model::Fault;
+use hol_terms::Term;
+use std::alloc::Global;
+
+/// REFL.
+pub fn reflexive(recorder: &mut Recorder, alloc: Global, term: &Term) -> Result<Rec, Fault>
+    ensures continues { Continues recorder.old recorder.new result }
+{
+    recorder.refl(alloc, term)
+}
+
+/// MK_COMB.
+pub(crate) fn applied(
+    recorder: &mut Recorder,
+    alloc: Global,
+    first: &Rec,
+    second: &Rec,
+) -> Result<Rec, Fault>
+    requires first { IsMade recorder.old first.now }
+    requires second { IsMade recorder.old second.now }
+    ensures continues { Continues recorder.old recorder.new result }
+{
+    recorder.mk_comb(alloc, first, second)
+}
+
+/// INST.
+pub(crate) fn instance(
+    recorder: &mut Recorder,
+    alloc: Global,
+    terms: &[(Term, Term)],
+    law: &Rec,
+) -> Result<Rec, Fault>
+    requires { IsMade recorder.old law.now }
+    ensures continues { Continues recorder.old recorder.new result }
+{
+    recorder.inst(alloc, terms, law)
+}
+
+/// AP_TERM.
+pub(crate) fn under(
+    recorder: &mut Recorder,
+    alloc: Global,
+    function: &Term,
+    premise: &Rec,
+) -> Result<Rec, Fault>
+    requires { IsMade recorder.old premise.now }
+    ensures continues { Continues recorder.old recorder.new result }
+{
+    let same = match reflexive(recorder, alloc, function) {
+        Ok(same) => same,
+        Err(fault) => return Err(fault),
+    };
+    applied(recorder, alloc, &same, premise)
+}

@@ -1,0 +1,44 @@
+// Terms from which laws of chains and their instances are made.
+ghost use Rattle.std.specs.Prelude.{◌≡◌, true, IfOk, IfErr};
+ghost use Rattle.hol_model.specs.declared.fault.Fault.TheVariants.{Memory};
+ghost use Rattle.hol_model.specs.Terms.HolType.{bool_type};
+ghost use Rattle.hol_model.specs.Terms.Name.{is_identifier};
+ghost use Rattle.hol_model.specs.Terms.NamedTerm.{variable};
+
+use hol_model::Fault;
+use hol_terms::{Term, mk_eq};
+use hol_types::Ty;
+use std::alloc::Global;
+
+/// The variable of this name of type `bool`.
+pub fn proposition(alloc: Global, name: &str) -> Result<Term, Fault>
+    requires { is_identifier name.now ≡ true }
+    ensures ok { IfOk result (λ term. term ≡ variable name.now bool_type) }
+    ensures err { IfErr result (λ fault. fault ≡ Memory) }
+{
+    let boolean = Ty::boolean(alloc)?;
+    Term::mk_var(alloc, name, &boolean)
+}
+
+/// The formulas for the variables `p`, `q` and `r`.
+pub(crate) fn for_p_q_r(
+    alloc: Global,
+    p: &Term,
+    q: &Term,
+    r: &Term,
+) -> Result<Vec<(Term, Term)>, Fault> {
+    let mut terms = Vec::new(alloc);
+    terms.push((p.copy(alloc)?, proposition(alloc, "p")?))?;
+    terms.push((q.copy(alloc)?, proposition(alloc, "q")?))?;
+    terms.push((r.copy(alloc)?, proposition(alloc, "r")?))?;
+    Ok(terms)
+}
+
+/// `(=)` at its first argument.
+pub(crate) fn equal_to(alloc: Global, left: &Term) -> Result<Term, Fault> {
+    let whole = mk_eq(alloc, left, left)?;
+    match whole.dest_comb() {
+        Some((function, _)) => function.copy(alloc),
+        None => Err(Fault::BadShape),
+    }
+}

@@ -1,0 +1,158 @@
+// Chains of `<=>` without what occurs in them twice.
+ghost use Rattle.hol_journal.specs.Journal.{IsMade};
+ghost use Rattle.hol_equal.specs.Sequents.{Continues};
+ghost use Rattle.hol_taut_chains.specs.Chains.{HasChainLaws};
+
+use crate::chain_steps::under;
+use crate::chains::{sides_of, twofold};
+use crate::formula_terms::equal_to;
+use crate::pulled::{ChainLaws, front_and_rest, law_at, pulled};
+use hol_alpha::aconv;
+use hol_equal::{conclusion_of, trans};
+use hol_journal::{Rec, Recorder};
+use hol_model::Fault;
+use hol_terms::Term;
+use std::alloc::Global;
+
+// From `chain <=> part <=> rest`, `rest <=> part <=> shorter`.
+fn pulled_again(
+    recorder: &mut Recorder,
+    alloc: Global,
+    laws: &ChainLaws,
+    first: &Rec,
+) -> Result<Rec, Fault>
+    requires laws { HasChainLaws recorder.old laws.now }
+    requires first { IsMade recorder.old first.now }
+    ensures continues { Continues recorder.old recorder.new result }
+{
+    let Some((part, rest)) = front_and_rest(conclusion_of(recorder, first)) else {
+        return Err(Fault::BadShape);
+    };
+    pulled(recorder, alloc, laws, part, rest)
+}
+
+// From `rest <=> part <=> shorter`, `(part <=> part <=> shorter) <=> shorter`.
+fn without_both(
+    recorder: &mut Recorder,
+    alloc: Global,
+    laws: &ChainLaws,
+    second: &Rec,
+) -> Result<Rec, Fault>
+    requires laws { HasChainLaws recorder.old laws.now }
+    requires second { IsMade recorder.old second.now }
+    ensures continues { Continues recorder.old recorder.new result }
+{
+    let Some((part, shorter)) = front_and_rest(conclusion_of(recorder, second)) else {
+        return Err(Fault::BadShape);
+    };
+    law_at(recorder, alloc, &laws.paired, part, shorter, shorter)
+}
+
+// From `rest <=> part <=> shorter`, `(part <=> rest) <=> shorter`.
+#[tactic(auto, using(hol_equal::proofs::StepLemmas::still_made, hol_equal::proofs::StepLemmas::now_made, crate::proofs::ChainLemmas::continued_twice, crate::proofs::ChainLemmas::still_chain_laws))]
+fn paired(
+    recorder: &mut Recorder,
+    alloc: Global,
+    laws: &ChainLaws,
+    part: &Term,
+    second: &Rec,
+) -> Result<Rec, Fault>
+    requires laws { HasChainLaws recorder.old laws.now }
+    requires second { IsMade recorder.old second.now }
+    ensures continues { Continues recorder.old recorder.new result }
+{
+    let function = match equal_to(alloc, part) {
+        Ok(function) => function,
+        Err(fault) => return Err(fault),
+    };
+    let beside = match under(recorder, alloc, &function, second) {
+        Ok(beside) => beside,
+        Err(fault) => return Err(fault),
+    };
+    let without = match without_both(recorder, alloc, laws, second) {
+        Ok(without) => without,
+        Err(fault) => return Err(fault),
+    };
+    trans(recorder, alloc, &beside, &without)
+}
+
+// `chain <=> shorter`, where the part stands at two places of the chain.
+#[tactic(auto, using(hol_equal::proofs::StepLemmas::still_made, hol_equal::proofs::StepLemmas::now_made, crate::proofs::ChainLemmas::continued_twice, crate::proofs::ChainLemmas::still_chain_laws))]
+fn without_pair(
+    recorder: &mut Recorder,
+    alloc: Global,
+    laws: &ChainLaws,
+    part: &Term,
+    chain: &Term,
+) -> Result<Rec, Fault>
+    requires laws { HasChainLaws recorder.old laws.now }
+    ensures continues { Continues recorder.old recorder.new result }
+{
+    let first = match pulled(recorder, alloc, laws, part, chain) {
+        Ok(first) => first,
+        Err(fault) => return Err(fault),
+    };
+    let second = match pulled_again(recorder, alloc, laws, &first) {
+        Ok(second) => second,
+        Err(fault) => return Err(fault),
+    };
+    let shorter = match paired(recorder, alloc, laws, part, &second) {
+        Ok(shorter) => shorter,
+        Err(fault) => return Err(fault),
+    };
+    trans(recorder, alloc, &first, &shorter)
+}
+
+/// The side of an equivalence between formulas that are equal up to the names of bound variables.
+pub fn same_side(term: &Term) -> Option<&Term> {
+    match sides_of(term) {
+        Some((left, right)) => { if aconv(left, right) { Some(left) } else { None } }
+        None => None,
+    }
+}
+
+// What is left of a chain, and a part of it at two places.
+fn next_pair<'a>(recorder: &Recorder, shorter: &'a Rec) -> Option<(&'a Term, &'a Term)>
+    requires { IsMade recorder.now shorter.now }
+{
+    let Some((_, rest)) = sides_of(conclusion_of(recorder, shorter)) else {
+        return None;
+    };
+    if same_side(rest).is_some() {
+        return None;
+    }
+    match twofold(rest, rest) {
+        Some(part) => Some((part, rest)),
+        None => None,
+    }
+}
+
+/// `chain <=> shortest`, for a part at two places of the chain, and after it for so many more.
+#[tactic(auto, using(hol_equal::proofs::StepLemmas::still_made, hol_equal::proofs::StepLemmas::now_made, crate::proofs::ChainLemmas::continued_twice, crate::proofs::ChainLemmas::still_chain_laws))]
+pub fn without_pairs(
+    recorder: &mut Recorder,
+    alloc: Global,
+    laws: &ChainLaws,
+    part: &Term,
+    chain: &Term,
+    more: usize,
+) -> Result<Rec, Fault>
+    requires laws { HasChainLaws recorder.old laws.now }
+    ensures continues { Continues recorder.old recorder.new result }
+{
+    let shorter = match without_pair(recorder, alloc, laws, part, chain) {
+        Ok(shorter) => shorter,
+        Err(fault) => return Err(fault),
+    };
+    if more == 0 {
+        return Ok(shorter);
+    }
+    let Some((next, rest)) = next_pair(recorder, &shorter) else {
+        return Ok(shorter);
+    };
+    let shortest = match without_pairs(recorder, alloc, laws, next, rest, more - 1) {
+        Ok(shortest) => shortest,
+        Err(fault) => return Err(fault),
+    };
+    trans(recorder, alloc, &shorter, &shortest)
+}

@@ -1,0 +1,158 @@
+// A part of a chain of `<=>` at its front.
+ghost use Rattle.hol_journal.specs.Journal.{IsMade};
+ghost use Rattle.hol_equal.specs.Sequents.{Continues};
+ghost use Rattle.hol_taut_chains.specs.Chains.{HasChainLaws};
+
+use crate::chain_steps::{instance, reflexive, under};
+use crate::chains::{is_part, sides_of};
+use crate::formula_terms::{equal_to, for_p_q_r};
+use hol_alpha::aconv;
+use hol_equal::{conclusion_of, trans};
+use hol_journal::{Rec, Recorder};
+use hol_model::Fault;
+use hol_terms::Term;
+use std::alloc::Global;
+
+/// The laws by which chains are shortened.
+#[derive(Drop)]
+pub struct ChainLaws {
+    /// `|- (p <=> q) <=> (q <=> p)`.
+    pub commuted: Rec,
+    /// `|- (p <=> q <=> r) <=> (q <=> p <=> r)`.
+    pub exchanged: Rec,
+    /// `|- (p <=> p <=> q) <=> q`.
+    pub paired: Rec,
+}
+
+/// A law at three formulas.
+pub(crate) fn law_at(
+    recorder: &mut Recorder,
+    alloc: Global,
+    law: &Rec,
+    p: &Term,
+    q: &Term,
+    r: &Term,
+) -> Result<Rec, Fault>
+    requires { IsMade recorder.old law.now }
+    ensures continues { Continues recorder.old recorder.new result }
+{
+    let terms = match for_p_q_r(alloc, p, q, r) {
+        Ok(terms) => terms,
+        Err(fault) => return Err(fault),
+    };
+    instance(recorder, alloc, &terms, law)
+}
+
+/// Of `chain <=> part <=> rest`, the part and the rest.
+pub(crate) fn front_and_rest(equivalence: &Term) -> Option<(&Term, &Term)> {
+    match sides_of(equivalence) {
+        Some((_, right)) => sides_of(right),
+        None => None,
+    }
+}
+
+// From `right <=> part <=> rest`, `(left <=> part <=> rest) <=> (part <=> left <=> rest)`.
+fn exchanged(
+    recorder: &mut Recorder,
+    alloc: Global,
+    laws: &ChainLaws,
+    left: &Term,
+    inner: &Rec,
+) -> Result<Rec, Fault>
+    requires laws { HasChainLaws recorder.old laws.now }
+    requires inner { IsMade recorder.old inner.now }
+    ensures continues { Continues recorder.old recorder.new result }
+{
+    let Some((part, rest)) = front_and_rest(conclusion_of(recorder, inner)) else {
+        return Err(Fault::BadShape);
+    };
+    law_at(recorder, alloc, &laws.exchanged, left, part, rest)
+}
+
+// From `right <=> part <=> rest`, `(left <=> right) <=> (part <=> left <=> rest)`.
+#[tactic(auto, using(hol_equal::proofs::StepLemmas::still_made, hol_equal::proofs::StepLemmas::now_made, crate::proofs::ChainLemmas::continued_twice, crate::proofs::ChainLemmas::still_chain_laws))]
+fn carried(
+    recorder: &mut Recorder,
+    alloc: Global,
+    laws: &ChainLaws,
+    left: &Term,
+    inner: &Rec,
+) -> Result<Rec, Fault>
+    requires laws { HasChainLaws recorder.old laws.now }
+    requires inner { IsMade recorder.old inner.now }
+    ensures continues { Continues recorder.old recorder.new result }
+{
+    let function = match equal_to(alloc, left) {
+        Ok(function) => function,
+        Err(fault) => return Err(fault),
+    };
+    let beside = match under(recorder, alloc, &function, inner) {
+        Ok(beside) => beside,
+        Err(fault) => return Err(fault),
+    };
+    let exchanged = match exchanged(recorder, alloc, laws, left, inner) {
+        Ok(exchanged) => exchanged,
+        Err(fault) => return Err(fault),
+    };
+    trans(recorder, alloc, &beside, &exchanged)
+}
+
+// From `left <=> part <=> rest`, `(left <=> right) <=> (part <=> right <=> rest)`.
+#[tactic(auto, using(hol_equal::proofs::StepLemmas::still_made, hol_equal::proofs::StepLemmas::now_made, crate::proofs::ChainLemmas::continued_twice, crate::proofs::ChainLemmas::still_chain_laws))]
+fn turned(
+    recorder: &mut Recorder,
+    alloc: Global,
+    laws: &ChainLaws,
+    left: &Term,
+    right: &Term,
+    inner: &Rec,
+) -> Result<Rec, Fault>
+    requires laws { HasChainLaws recorder.old laws.now }
+    requires inner { IsMade recorder.old inner.now }
+    ensures continues { Continues recorder.old recorder.new result }
+{
+    let turned = match law_at(recorder, alloc, &laws.commuted, left, right, right) {
+        Ok(turned) => turned,
+        Err(fault) => return Err(fault),
+    };
+    let carried = match carried(recorder, alloc, laws, right, inner) {
+        Ok(carried) => carried,
+        Err(fault) => return Err(fault),
+    };
+    trans(recorder, alloc, &turned, &carried)
+}
+
+/// `chain <=> part <=> rest`, for a part of the chain.
+#[tactic(auto, using(hol_equal::proofs::StepLemmas::still_made, hol_equal::proofs::StepLemmas::now_made, crate::proofs::ChainLemmas::continued_twice, crate::proofs::ChainLemmas::still_chain_laws))]
+pub(crate) fn pulled(
+    recorder: &mut Recorder,
+    alloc: Global,
+    laws: &ChainLaws,
+    part: &Term,
+    chain: &Term,
+) -> Result<Rec, Fault>
+    requires laws { HasChainLaws recorder.old laws.now }
+    ensures continues { Continues recorder.old recorder.new result }
+{
+    let Some((left, right)) = sides_of(chain) else {
+        return Err(Fault::BadShape);
+    };
+    if aconv(part, left) {
+        return reflexive(recorder, alloc, chain);
+    }
+    if aconv(part, right) {
+        return law_at(recorder, alloc, &laws.commuted, left, right, right);
+    }
+    if is_part(part, right) {
+        let inner = match pulled(recorder, alloc, laws, part, right) {
+            Ok(inner) => inner,
+            Err(fault) => return Err(fault),
+        };
+        return carried(recorder, alloc, laws, left, &inner);
+    }
+    let inner = match pulled(recorder, alloc, laws, part, left) {
+        Ok(inner) => inner,
+        Err(fault) => return Err(fault),
+    };
+    turned(recorder, alloc, laws, left, right, &inner)
+}
