@@ -5,8 +5,12 @@
 #[cfg(test)]
 mod answers;
 #[cfg(test)]
+mod count_tests;
+#[cfg(test)]
 mod drawn_tests;
 #[cfg(test)]
 mod formulas;
+#[cfg(test)]
+mod refusal_tests;
 #[cfg(test)]
 mod tautology_tests;
