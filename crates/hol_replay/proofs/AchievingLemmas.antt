@@ -33,14 +33,13 @@ assumed-all goal terms each =
     list_all-from (λ term. is_assumed term goal) terms (λ term member. member-is_among (image term) (map image goal.assumptions) (each (image term) (IsMember-map image term terms member)))
 
 pub achieves-decides : (goal : Goal) (theorem : Theorem) → Decides (achieves goal theorem) (Achieves goal (sequent_of_theorem theorem))
-achieves-decides goal theorem = (
-  λ passed. record {
-    same_conclusion = (same_term-Decides (image theorem.conclusion) (image goal.target)).0 (first_of_both (are_alpha_equivalent theorem.conclusion goal.target) (are_assumed theorem.hypotheses goal) passed);
-    assumed = all-assumed goal theorem.hypotheses (second_of_both (are_alpha_equivalent theorem.conclusion goal.target) (are_assumed theorem.hypotheses goal) passed);
-  },
-  λ achieved. both (are_alpha_equivalent theorem.conclusion goal.target) (are_assumed theorem.hypotheses goal)
-      ((same_term-Decides (image theorem.conclusion) (image goal.target)).1 achieved.same_conclusion) (assumed-all goal theorem.hypotheses achieved.assumed),
-)
+achieves-decides goal theorem =
+    let same = are_alpha_equivalent theorem.conclusion goal.target in
+    let all = are_assumed theorem.hypotheses goal in
+    let decides = same_term-Decides (image theorem.conclusion) (image goal.target) in (
+      λ passed. record { same_conclusion = decides.0 (first_of_both same all passed); assumed = all-assumed goal theorem.hypotheses (second_of_both same all passed) },
+      λ achieved. both same all (decides.1 achieved.same_conclusion) (assumed-all goal theorem.hypotheses achieved.assumed),
+    )
 
 pub of-value : (goal : Goal) (theorem : Theorem) (result : Bool) → result ≡ achieves goal theorem → Decides result (Achieves goal (sequent_of_theorem theorem))
 of-value goal theorem result is = rw is (achieves-decides goal theorem)
