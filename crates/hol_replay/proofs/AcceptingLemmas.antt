@@ -7,12 +7,13 @@ use Rattle.hol_model.specs.declared.fault.Fault.{Fault}
 use Rattle.hol_model.specs.declared.fault.Fault.TheVariants.{TooLarge, InvalidStep}
 use Rattle.hol_model.specs.Terms.HolType.{bool_type}
 use Rattle.hol_model.specs.Terms.NamedTerm.{NamedTerm}
-use Rattle.hol_model.specs.Terms.Nameless.{Nameless, image}
+use Rattle.hol_model.specs.Terms.Nameless.{Nameless, image, same_term}
 use Rattle.hol_model.specs.Logic.Theory.{Theory, IsKnown}
-use Rattle.hol_model.specs.Kernel.Theorem.{Theorem, are_alpha_equivalent}
+use Rattle.hol_model.specs.Kernel.Theorem.{Theorem}
 use Rattle.hol_model.specs.Logic.Derivable.{IsMember}
 use Rattle.hol_model.specs.Logic.Logic.{false_term}
 use Rattle.hol_model.specs.Goals.Goals.{Sequent, Goal, Achieves}
+use Rattle.hol_model.specs.Goals.Achieving.{is_assumed, achieves}
 use Rattle.hol_model.specs.Derived.Inference.{require, is_known_formula}
 use Rattle.hol_model.proofs.Tests.{first_of_both, second_of_both, both}
 use Rattle.hol_model.proofs.Logic.Checks.{knows_nameless-Decides}
@@ -27,10 +28,9 @@ use Rattle.hol_equal.specs.Inferred.{IsDrawn}
 use Rattle.hol_store.specs.Stored.{Stored}
 use Rattle.hol_replay.specs.Named.{named_sequents, sequents_of}
 use Rattle.hol_replay.specs.Lines.{Meets, expected_in, IsReplayRefusal}
-use Rattle.hol_replay.specs.Achieving.{is_assumed, achieves}
 use Rattle.hol_replay.specs.Accepting.{are_known_formulas, is_known_goal, are_known_goals, falsity_from, supposed_from, AreSupposed, IsUnsupposed, HasRoomUnder, IsReplayedUnder, AnswersUnder, PassesUnder, sequent_under, goal_under}
 use Rattle.hol_model.specs.Goals.Replays.{Store, sequents_in, IsKnownGoal, AreKnownGoals, terms_of_rule, terms_of_sequent, terms_of_goals, has_room_over, have_room_over, has_room, has_room_for_step}
-use Rattle.hol_model.specs.Derived.DerivedRules.{is_roomy, terms_of_theorem}
+use Rattle.hol_model.specs.Derived.DerivedRules.{is_among, is_roomy, terms_of_theorem}
 use Rattle.hol_replay.specs.Room.{are_roomy}
 use Rattle.hol_model.specs.Refining.HostFunctions.{IsAcceptable, AnswersAccept}
 use Rattle.hol_replay.proofs.AchievingLemmas.{achieves-decides}
@@ -70,17 +70,20 @@ known-goals theory (g ∷ goals) known = both (is_known_goal theory g) (are_know
 
 -- ---- the test
 
-pub supposed-first : (extra assumptions : List NamedTerm) (term : NamedTerm) → is_assumed extra term ≡ true → true ≡ is_assumed (extra ++ assumptions) term
-supposed-first extra assumptions term is =
-    sym (list_any-append (λ other. are_alpha_equivalent term other) extra assumptions ∙ ap (λ (b : Bool). b || is_assumed assumptions term) is)
-
-pub supposed-second : (extra assumptions : List NamedTerm) (term : NamedTerm) (result : Bool) → is_assumed extra term ≡ false → result ≡ is_assumed assumptions term → result ≡ is_assumed (extra ++ assumptions) term
-supposed-second extra assumptions term result is_not is =
-    is ∙ sym (list_any-append (λ other. are_alpha_equivalent term other) extra assumptions ∙ ap (λ (b : Bool). b || is_assumed assumptions term) is_not)
-
 images-of : (extra others : List NamedTerm) → map image (extra ++ others) ≡ (map image extra ++ map image others)
 images-of [] others = refl
 images-of (e ∷ extra) others = ap (λ (l : List Nameless). image e ∷ l) (images-of extra others)
+
+-- what is among the images of either list
+among-either : (term : Nameless) (extra others : List NamedTerm) → is_among term (map image (extra ++ others)) ≡ (is_among term (map image extra) || is_among term (map image others))
+among-either term extra others = ap (is_among term) (images-of extra others) ∙ list_any-append (same_term term) (map image extra) (map image others)
+
+pub supposed-first : (extra : List NamedTerm) (goal : Goal) (term : NamedTerm) → is_among (image term) (map image extra) ≡ true → true ≡ is_assumed term (goal_under extra goal)
+supposed-first extra goal term is = sym (among-either (image term) extra goal.assumptions ∙ ap (λ (b : Bool). b || is_assumed term goal) is)
+
+pub supposed-second : (extra : List NamedTerm) (goal : Goal) (term : NamedTerm) (result : Bool) → is_among (image term) (map image extra) ≡ false → result ≡ is_assumed term goal
+    → result ≡ is_assumed term (goal_under extra goal)
+supposed-second extra goal term result is_not is = is ∙ sym (among-either (image term) extra goal.assumptions ∙ ap (λ (b : Bool). b || is_assumed term goal) is_not)
 
 -- what is assumed under hypotheses that are the one formula
 pub test-decides : (falsity : Theorem) (extra : Nameless) (goal : Goal) (theorem : Theorem) (result : Bool) → result ≡ achieves (goal_under falsity.hypotheses goal) theorem → IsDrawn (Some (falsity_from extra)) (Ok falsity)

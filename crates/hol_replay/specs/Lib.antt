@@ -2,5 +2,4 @@ pub mod Named
 pub mod Room
 pub mod Outcomes
 pub mod Lines
-pub mod Achieving
 pub mod Accepting

@@ -1,8 +1,9 @@
 // The test of a step by two replays over its subgoals.
 ghost use Rattle.std.specs.Bool.{Decides};
-ghost use Rattle.std.specs.Prelude.{◌≡◌, ◌++◌, Some, Ok, OnOk, IfErr};
+ghost use Rattle.std.specs.Prelude.{◌≡◌, Some, Ok, OnOk, IfErr};
 ghost use Rattle.hol_model.specs.Terms.Nameless.{Nameless, image};
 ghost use Rattle.hol_model.specs.Logic.Logic.{false_term};
+ghost use Rattle.hol_model.specs.Goals.Achieving.{is_assumed, are_assumed, achieves};
 ghost use Rattle.hol_model.specs.Goals.ValidSteps.{false_twice, AchievesUnder, IsValid};
 ghost use Rattle.hol_model.specs.Refining.HostFunctions.{AnswersAccept};
 ghost use Rattle.hol_journal.specs.Journal.{IsMade, theorem_in};
@@ -14,10 +15,9 @@ ghost use Rattle.hol_store.specs.Stored.{IsStoreOf, theorems_in};
 ghost use Rattle.hol_store.specs.Store.{stored_of};
 ghost use Rattle.hol_replay.specs.Named.{named_sequents, sequent_of_recorded};
 ghost use Rattle.hol_replay.specs.Lines.{IsReplayRefusal};
-ghost use Rattle.hol_replay.specs.Achieving.{is_assumed, are_assumed, achieves};
 ghost use Rattle.hol_replay.specs.Accepting.{falsity_from, goal_under, UnderFormula, IsReplayedUnder, AnswersUnder};
 
-use crate::achieving::is_assumed;
+use crate::achieving::is_among;
 use crate::replays::replayed;
 use crate::supposing::{falsity_once, falsity_twice, suppose_all};
 use hol_alpha::aconv;
@@ -30,24 +30,22 @@ use hol_terms::Term;
 use hol_valid::replays_show_valid;
 use std::alloc::Global;
 
-// Whether the term is one of either list, up to the names of bound variables.
+// Whether the term is one of these or the goal assumes it, up to the names of bound variables.
 #[tactic(auto, using(crate::proofs::AcceptingLemmas::testing))]
-fn is_supposed(term: &Term, extra: &[Term], assumptions: &[Term]) -> bool
-    ensures { result ≡ is_assumed (extra.now ++ assumptions.now) term.now }
+fn is_supposed(term: &Term, extra: &[Term], goal: &Goal) -> bool
+    ensures { result ≡ is_assumed term.now (goal_under extra.now (goal_of goal.now)) }
 {
-    if is_assumed(term, extra) {
+    if is_among(term, extra) {
         return true;
     }
-    is_assumed(term, assumptions)
+    is_among(term, &goal.asms)
 }
 
-// Whether each term is one of either list, up to the names of bound variables.
-fn are_supposed(terms: &[Term], extra: &[Term], assumptions: &[Term]) -> bool
-    ensures { result ≡ are_assumed (extra.now ++ assumptions.now) terms.now }
+// Whether each term is one of these or the goal assumes it, up to the names of bound variables.
+fn are_supposed(terms: &[Term], extra: &[Term], goal: &Goal) -> bool
+    ensures { result ≡ are_assumed terms.now (goal_under extra.now (goal_of goal.now)) }
 {
-    terms
-        .iter()
-        .all(|term| is_supposed(term, extra, assumptions))
+    terms.iter().all(|term| is_supposed(term, extra, goal))
 }
 
 // Whether the test passes, with the hypotheses of another theorem among the assumptions.
@@ -56,7 +54,7 @@ fn passes_under(recorder: &Recorder, theorem: &Rec, falsity: &Rec, goal: &Goal) 
 {
     let falsity = recorder.thm(falsity);
     let theorem = recorder.thm(theorem);
-    aconv(theorem.concl(), &goal.concl) && are_supposed(theorem.hyps(), falsity.hyps(), &goal.asms)
+    aconv(theorem.concl(), &goal.concl) && are_supposed(theorem.hyps(), falsity.hyps(), goal)
 }
 
 // Whether the theorem achieves the goal under the hypothesis of another theorem.
