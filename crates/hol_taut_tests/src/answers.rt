@@ -18,6 +18,18 @@ pub(crate) fn answer(alloc: Global, formula: &Term) -> Result<(), Fault> {
     }
 }
 
+/// How many inferences TAUT takes for a formula, right behind the prelude and the laws.
+pub(crate) fn inferences(alloc: Global, formula: &Term) -> Result<usize, Fault> {
+    let mut recorder = Recorder::new(alloc)?;
+    let logic = prelude(&mut recorder, alloc)?;
+    let laws = tautology_laws(&mut recorder, alloc, &logic)?;
+    let before = recorder.entries();
+    match taut(&mut recorder, alloc, &laws, formula) {
+        Ok(_theorem) => Ok(recorder.entries().saturating_sub(before)),
+        Err(fault) => Err(fault),
+    }
+}
+
 /// The refusal of a formula that is false in the row of these values of its atoms.
 pub(crate) fn false_in(values: &[bool]) -> Fault {
     let mut row = [false; ATOMS_LIMIT];

@@ -5,6 +5,8 @@
 #[cfg(test)]
 mod answers;
 #[cfg(test)]
+mod count_tests;
+#[cfg(test)]
 mod drawn_tests;
 #[cfg(test)]
 mod formulas;
