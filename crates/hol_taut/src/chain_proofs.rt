@@ -1,33 +1,36 @@
-// Tautologies that are long chains of `<=>`.
+// Tautologies in which long chains of `<=>` stand.
 ghost use Rattle.std.specs.Prelude.{IfOk, IfSome, []};
 ghost use Rattle.hol_model.specs.Terms.Nameless.{image};
 ghost use Rattle.hol_journal.specs.Journal.{Journal, IsMade};
+ghost use Rattle.hol_equal.specs.Room.{Room};
 ghost use Rattle.hol_equal.specs.Sequents.{Continues, IsHeld};
 ghost use Rattle.hol_taut_laws.specs.HasLaws.{HasLaws};
 ghost use Rattle.hol_taut_chains.specs.Chains.{HasChainLaws};
-ghost use Rattle.hol_taut.specs.Proved.{Proves};
+ghost use Rattle.hol_taut.specs.Proved.{ProvesIf};
 
+use crate::general::{by_chains, generally};
+use crate::leaves::constantly;
 use crate::splits::by_splits;
 use hol_alpha::aconv;
 use hol_equal::{conclusion_of, eq_mp, sym};
 use hol_journal::{Rec, Recorder};
 use hol_model::Fault;
-use hol_taut_chains::{
-    ChainLaws, commuted, exchanged, paired, reflexive, same_side, sides_of, twofold, without_pairs,
-};
-use hol_taut_laws::Laws;
+use hol_propositions::{Form, form_of};
+use hol_taut_chains::{ChainLaws, commuted, exchanged, normal_form, paired, sides_of};
+use hol_taut_laws::{Law, Laws, law_theorem};
 use hol_terms::Term;
 use std::alloc::Global;
 
-// How many pairs are taken out of a chain.
-const MOST_PAIRS: usize = 64;
-
-/// The theorem, where it is of this formula and has no hypotheses.
-pub(crate) fn if_of(recorder: &Recorder, made: Result<Rec, Fault>, term: &Term) -> Option<Rec>
-    ensures held { (journal : Journal) → IfOk made (IsHeld journal) → IfSome result (IsHeld journal) }
-    ensures proves { IfSome result (λ theorem. Proves theorem.theorem [] (image term.now)) }
+/// What the search for a theorem answers, where that is one of this formula without hypotheses, or a refusal for memory.
+pub(crate) fn judged(
+    recorder: &Recorder,
+    tried: Result<Rec, Fault>,
+    term: &Term,
+) -> Option<Result<Rec, Fault>>
+    ensures held { (journal : Journal) → IfOk tried (IsHeld journal) → IfSome result (λ answer. IfOk answer (IsHeld journal)) }
+    ensures proves { (room : Room) → IfSome result (λ answer. ProvesIf room answer [] (image term.now)) }
 {
-    match made {
+    match tried {
         Ok(made) => {
             let theorem = recorder.thm(&made);
             if !theorem.hyps().is_empty() {
@@ -36,13 +39,14 @@ pub(crate) fn if_of(recorder: &Recorder, made: Result<Rec, Fault>, term: &Term) 
             if !aconv(theorem.concl(), term) {
                 return None;
             }
-            Some(made)
+            Some(Ok(made))
         }
+        Err(Fault::Memory) => Some(Err(Fault::Memory)),
         Err(_) => None,
     }
 }
 
-// What is left of a chain, which is true with it.
+// What is left of a formula whose chains are in normal form, which is true with it.
 fn rest(recorder: &mut Recorder, alloc: Global, laws: &Laws, shortest: &Rec) -> Result<Rec, Fault>
     requires laws { HasLaws recorder.old laws.now }
     requires shortest { IsMade recorder.old shortest.now }
@@ -51,13 +55,13 @@ fn rest(recorder: &mut Recorder, alloc: Global, laws: &Laws, shortest: &Rec) -> 
     let Some((_, rest)) = sides_of(conclusion_of(recorder, shortest)) else {
         return Err(Fault::BadShape);
     };
-    match same_side(rest) {
-        Some(side) => reflexive(recorder, alloc, side),
-        None => by_splits(recorder, alloc, laws, rest),
+    match form_of(rest) {
+        Form::Constantly(true) => constantly(recorder, alloc, laws, true),
+        _ => by_chains(recorder, alloc, laws, rest),
     }
 }
 
-// The chain, from its equivalence with what is left of it.
+// The formula, from its equivalence with what is left of it.
 #[tactic(auto, using(hol_equal::proofs::StepLemmas::still_made, hol_equal::proofs::StepLemmas::now_made, hol_taut_chains::proofs::ChainLemmas::continued_twice, crate::proofs::LawLemmas::still_lawful))]
 fn from_rest(
     recorder: &mut Recorder,
@@ -80,21 +84,20 @@ fn from_rest(
     eq_mp(recorder, alloc, &back, &rest)
 }
 
-// A chain, by these laws.
+// A formula, by these laws.
 #[tactic(auto, using(hol_equal::proofs::StepLemmas::still_made, hol_equal::proofs::StepLemmas::now_made, hol_taut_chains::proofs::ChainLemmas::continued_twice, crate::proofs::LawLemmas::still_lawful))]
-fn by_pairs(
+fn by_chain_laws(
     recorder: &mut Recorder,
     alloc: Global,
     laws: &Laws,
     chain_laws: &ChainLaws,
-    part: &Term,
-    chain: &Term,
+    term: &Term,
 ) -> Result<Rec, Fault>
     requires laws { HasLaws recorder.old laws.now }
     requires chain_laws { HasChainLaws recorder.old chain_laws.now }
     ensures continues { Continues recorder.old recorder.new result }
 {
-    let shortest = match without_pairs(recorder, alloc, chain_laws, part, chain, MOST_PAIRS) {
+    let shortest = match normal_form(recorder, alloc, chain_laws, term, term) {
         Ok(shortest) => shortest,
         Err(fault) => return Err(fault),
     };
@@ -117,21 +120,18 @@ fn chain_law(
     }
 }
 
-/// A long chain, from what is left of it without the parts that stand in it twice, where there are such: a search whose
-/// answer is to be judged. Each pair takes inferences by the depth of its places, so that n pairs take about the square of
-/// n, and the laws of chains some three hundred once.
-pub(crate) fn as_chain(
+// A formula, from what is left of it where the chains that stand in it are in normal form. Each part of a chain takes
+// inferences by the depth of its place, so that n parts take about the square of n, and the laws of chains some four hundred
+// once.
+fn by_normal_form(
     recorder: &mut Recorder,
     alloc: Global,
     laws: &Laws,
-    chain: &Term,
+    term: &Term,
 ) -> Result<Rec, Fault>
     requires laws { HasLaws recorder.old laws.now }
     ensures continues { Continues recorder.old recorder.new result }
 {
-    let Some(part) = twofold(chain, chain) else {
-        return Err(Fault::BadShape);
-    };
     let commuted = match chain_law(recorder, alloc, laws, commuted(alloc)) {
         Ok(law) => law,
         Err(fault) => return Err(fault),
@@ -144,10 +144,34 @@ pub(crate) fn as_chain(
         Ok(law) => law,
         Err(fault) => return Err(fault),
     };
+    let truth = match law_theorem(recorder, laws, Law::Truth).copy(alloc) {
+        Ok(law) => law,
+        Err(fault) => return Err(fault),
+    };
     let chain_laws = ChainLaws {
+        truth,
         commuted,
         exchanged,
         paired,
     };
-    by_pairs(recorder, alloc, laws, &chain_laws, part, chain)
+    by_chain_laws(recorder, alloc, laws, &chain_laws, term)
+}
+
+/// A formula with long chains: by splits over its chains and its atoms, or else by normal forms. A search whose answer is to be
+/// judged.
+#[tactic(auto, using(hol_taut_chains::proofs::ChainLemmas::continued_twice, crate::proofs::LawLemmas::still_lawful))]
+pub(crate) fn shortened(
+    recorder: &mut Recorder,
+    alloc: Global,
+    laws: &Laws,
+    term: &Term,
+) -> Result<Rec, Fault>
+    requires laws { HasLaws recorder.old laws.now }
+    ensures continues { Continues recorder.old recorder.new result }
+{
+    match generally(recorder, alloc, laws, term) {
+        Ok(made) => Ok(made),
+        Err(Fault::Memory) => Err(Fault::Memory),
+        Err(_) => by_normal_form(recorder, alloc, laws, term),
+    }
 }

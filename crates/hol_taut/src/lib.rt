@@ -1,12 +1,13 @@
 //! TAUT: formulas that are true in every row of values of their atoms, proved by a recorder. A tautology is proved by
 //! refuting its denial: a formula is proved as soon as the known atoms tell its value, and else the atom is split whose
-//! values tell the most. A long chain of `<=>` is first shortened by a search whose theorem is judged when it is made.
+//! values tell the most. Long chains of `<=>` are first shortened by a search whose theorem is judged when it is made.
 #![tactic(auto)]
 
 mod chain_proofs;
 mod denial;
 mod facts;
 mod formula_terms;
+mod general;
 mod known;
 mod leaves;
 mod next;

@@ -15,20 +15,20 @@ ghost use Rattle.hol_taut.specs.Refuted.{IsAlwaysTrue};
 ghost use Rattle.hol_model.specs.Propositional.Tautologies.{tautology_outcome};
 ghost use Rattle.hol_taut.specs.Ways.{IsSmallIf};
 
-use crate::chain_proofs::{as_chain, if_of};
+use crate::chain_proofs::{judged, shortened};
 use crate::formula_terms::{equivalence, false_formula, pass_formula};
 use crate::splits::split;
 use hol_equal::named;
 use hol_journal::{Rec, Recorder};
 use hol_model::Fault;
 use hol_propositions::atoms_of_tautology;
-use hol_taut_chains::is_long_chain;
+use hol_taut_chains::has_long_chain;
 use hol_taut_laws::Laws;
 use hol_terms::Term;
 use std::alloc::Global;
 
-/// A tautology, from its denial, which is handed in: a long chain of `<=>` from what is left of it where the parts that stand
-/// in it twice are taken out, and each other by splits.
+/// A tautology, from its denial, which is handed in: where long chains of `<=>` stand in it, by a search that shortens them, if
+/// that gives its theorem, and else by splits.
 pub(crate) fn proved(
     recorder: &mut Recorder,
     alloc: Global,
@@ -46,12 +46,12 @@ pub(crate) fn proved(
     ensures continues { Continues recorder.old recorder.new result }
     ensures proves { (room : Room) → IsSmallIf room (image term.now) → ProvesIf room result [] (image term.now) }
 {
-    if !is_long_chain(term) {
+    if !has_long_chain(term) {
         return split(recorder, alloc, laws, term, denial, atoms);
     }
-    let tried = as_chain(recorder, alloc, laws, term);
-    if let Some(made) = if_of(recorder, tried, term) {
-        return Ok(made);
+    let tried = shortened(recorder, alloc, laws, term);
+    if let Some(answer) = judged(recorder, tried, term) {
+        return answer;
     }
     split(recorder, alloc, laws, term, denial, atoms)
 }
@@ -60,8 +60,10 @@ pub(crate) fn proved(
 /// the theory does not know a type or a constant of it, where it has too many atoms, and where it is false in a row. A
 /// split takes about five inferences for each connective that tells the value, in each row that no earlier atom settles,
 /// and the atom is split next whose values tell the most: 39 for Peirce's law, 82 for a conjunction of fourteen atoms that
-/// implies its last, 619 for fourteen atoms each of which implies the next. A chain of at least eight parts takes about the
-/// square of its length instead: 494 for ten atoms against their mirror, 694 against the same backwards.
+/// implies its last, 619 for fourteen atoms each of which implies the next. Chains of `<=>` take about the square of their
+/// length instead, where one of at least eight parts stands in the formula, or of five that differ: 500 for ten atoms against
+/// their mirror, 700 against the same backwards, 518 and 718 where `r` implies these, and 610 for ten atoms with another one
+/// before the same backwards.
 #[tactic(none)]
 pub fn taut(recorder: &mut Recorder, alloc: Global, laws: &Laws, term: &Term) -> Result<Rec, Fault>
     requires laws { HasLaws recorder.old laws.now }

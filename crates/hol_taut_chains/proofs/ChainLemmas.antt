@@ -12,6 +12,7 @@ continued_twice = continues-twice
 
 pub still_chain_laws : (old new : Journal) (result : Result Recorded Fault) (laws : ChainLaws) → Continues old new result → HasChainLaws old laws → HasChainLaws new laws
 still_chain_laws old new result laws continues has = record {
+  truth = still_made old new result laws.truth continues has.truth;
   commuted = still_made old new result laws.commuted continues has.commuted;
   exchanged = still_made old new result laws.exchanged continues has.exchanged;
   paired = still_made old new result laws.paired continues has.paired;

@@ -2,14 +2,13 @@
 ghost use Rattle.hol_journal.specs.Journal.{IsMade};
 ghost use Rattle.hol_equal.specs.Sequents.{Continues};
 
-use hol_equal::conclusion_of;
 use hol_journal::{Rec, Recorder};
 use hol_model::Fault;
 use hol_terms::Term;
 use std::alloc::Global;
 
 /// REFL.
-pub fn reflexive(recorder: &mut Recorder, alloc: Global, term: &Term) -> Result<Rec, Fault>
+pub(crate) fn reflexive(recorder: &mut Recorder, alloc: Global, term: &Term) -> Result<Rec, Fault>
     ensures continues { Continues recorder.old recorder.new result }
 {
     recorder.refl(alloc, term)
@@ -30,7 +29,7 @@ pub(crate) fn applied(
 }
 
 /// INST.
-pub(crate) fn instance(
+pub fn instance(
     recorder: &mut Recorder,
     alloc: Global,
     terms: &[(Term, Term)],

@@ -6,11 +6,17 @@ use hol_alpha::aconv;
 use hol_propositions::{Connective, Form, form_of};
 use hol_terms::Term;
 
-// The fewest parts of a chain that is shortened before it is split.
-const FEWEST_PARTS: usize = 8;
+// The fewest parts of a chain for whose sake a formula is shortened before it is split.
+const MANY_PARTS: usize = 8;
 
-// The most.
-const MOST_PARTS: usize = 128;
+// The same, where each part stands in it once.
+const MANY_OTHER_PARTS: usize = 5;
+
+// The fewest parts of the chains that are shortened in it.
+const FEWEST_PARTS: usize = 3;
+
+// The most places of atoms and constants in a formula that is shortened.
+const MOST_PLACES: usize = 128;
 
 /// The sides of a formula whose outermost connective is `<=>`.
 pub fn sides_of(term: &Term) -> Option<(&Term, &Term)>
@@ -44,7 +50,7 @@ fn is_part_twice(part: &Term, chain: &Term) -> bool {
 }
 
 /// The first part of a chain that is a part of the whole at two places.
-pub fn twofold<'a>(chain: &'a Term, whole: &Term) -> Option<&'a Term> {
+pub(crate) fn twofold<'a>(chain: &'a Term, whole: &Term) -> Option<&'a Term> {
     match sides_of(chain) {
         Some((left, right)) => match twofold(left, whole) {
             Some(part) => Some(part),
@@ -60,21 +66,85 @@ pub fn twofold<'a>(chain: &'a Term, whole: &Term) -> Option<&'a Term> {
     }
 }
 
-// How many parts more there may be behind those of a chain, where so many may stand in all.
-fn left_over(chain: &Term, most: usize) -> Option<usize> {
+// How many parts a chain has.
+fn parts(chain: &Term) -> usize {
     match sides_of(chain) {
-        Some((left, right)) => match left_over(left, most) {
-            Some(most) => left_over(right, most),
-            None => None,
-        },
-        None => most.checked_sub(1),
+        Some((left, right)) => parts(left).saturating_add(parts(right)),
+        None => 1,
     }
 }
 
-/// Whether a formula is a chain that is shortened before it is split: it has some parts, and not too many.
-pub fn is_long_chain(term: &Term) -> bool {
-    match left_over(term, MOST_PARTS) {
-        Some(over) => over <= MOST_PARTS - FEWEST_PARTS,
+/// Whether a formula is a chain that is shortened, where it stands in one that is.
+pub(crate) fn is_chain(term: &Term) -> bool {
+    parts(term) >= FEWEST_PARTS
+}
+
+// At how many places a formula has atoms and constants.
+fn places(term: &Term) -> usize {
+    match form_of(term) {
+        Form::Negated(part) => places(part),
+        Form::Connected(_, left, right) => places(left).saturating_add(places(right)),
+        _ => 1,
+    }
+}
+
+/// Whether a chain that is shortened stands in a formula.
+pub(crate) fn has_chain(term: &Term) -> bool {
+    if is_chain(term) {
+        return true;
+    }
+    match form_of(term) {
+        Form::Negated(part) => has_chain(part),
+        Form::Connected(_, left, right) => has_chain(left) || has_chain(right),
+        _ => false,
+    }
+}
+
+// Whether a formula is a chain for whose sake one is shortened.
+fn is_long(chain: &Term) -> bool {
+    let parts = parts(chain);
+    parts >= MANY_PARTS || (parts >= MANY_OTHER_PARTS && twofold(chain, chain).is_none())
+}
+
+// Whether such a chain stands in a formula.
+fn has_long(term: &Term) -> bool {
+    if is_long(term) {
+        return true;
+    }
+    match form_of(term) {
+        Form::Negated(part) => has_long(part),
+        Form::Connected(_, left, right) => has_long(left) || has_long(right),
+        _ => false,
+    }
+}
+
+/// Whether a formula is shortened before it is split: a long chain stands in it, and it is not too large.
+pub fn has_long_chain(term: &Term) -> bool {
+    places(term) <= MOST_PLACES && has_long(term)
+}
+
+/// The first formula in the whole, from the left, that is a part of a chain.
+pub(crate) fn first_part<'a>(whole: &'a Term, chain: &Term) -> Option<&'a Term> {
+    if is_part(whole, chain) {
+        return Some(whole);
+    }
+    match form_of(whole) {
+        Form::Negated(part) => first_part(part, chain),
+        Form::Connected(_, left, right) => match first_part(left, chain) {
+            Some(part) => Some(part),
+            None => first_part(right, chain),
+        },
+        _ => None,
+    }
+}
+
+/// Whether the parts of a chain stand as they do in the whole, and it is bracketed from the right.
+pub(crate) fn is_sorted(whole: &Term, chain: &Term) -> bool {
+    let Some((left, right)) = sides_of(chain) else {
+        return true;
+    };
+    match first_part(whole, chain) {
+        Some(part) => aconv(part, left) && is_sorted(whole, right),
         None => false,
     }
 }

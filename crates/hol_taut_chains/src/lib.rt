@@ -1,5 +1,5 @@
-//! Chains of `<=>` without the parts that stand in them twice: a search for tautologies' proofs. Each step is contracted as one of
-//! the recorder alone, so who takes its theorem judges it.
+//! Formulas whose chains of `<=>` are in normal form, without the parts that stand in them twice: a search for proofs of tautologies.
+//! Each step is contracted as one of the recorder alone, so who takes its theorem judges it.
 #![tactic(auto)]
 
 mod chain_steps;
@@ -7,11 +7,15 @@ mod chains;
 mod formula_terms;
 mod law_terms;
 mod pairs;
+mod parts;
 mod pulled;
+mod sorted;
+mod variables;
 
-pub use chain_steps::reflexive;
-pub use chains::{is_long_chain, sides_of, twofold};
+pub use chain_steps::instance;
+pub use chains::{has_long_chain, sides_of};
 pub use formula_terms::proposition;
 pub use law_terms::{commuted, exchanged, paired};
-pub use pairs::{same_side, without_pairs};
+pub use parts::normal_form;
 pub use pulled::ChainLaws;
+pub use variables::without_chains;

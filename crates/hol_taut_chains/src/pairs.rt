@@ -104,7 +104,7 @@ fn without_pair(
 }
 
 /// The side of an equivalence between formulas that are equal up to the names of bound variables.
-pub fn same_side(term: &Term) -> Option<&Term> {
+pub(crate) fn same_side(term: &Term) -> Option<&Term> {
     match sides_of(term) {
         Some((left, right)) => { if aconv(left, right) { Some(left) } else { None } }
         None => None,
@@ -129,7 +129,7 @@ fn next_pair<'a>(recorder: &Recorder, shorter: &'a Rec) -> Option<(&'a Term, &'a
 
 /// `chain <=> shortest`, for a part at two places of the chain, and after it for so many more.
 #[tactic(auto, using(hol_equal::proofs::StepLemmas::still_made, hol_equal::proofs::StepLemmas::now_made, crate::proofs::ChainLemmas::continued_twice, crate::proofs::ChainLemmas::still_chain_laws))]
-pub fn without_pairs(
+pub(crate) fn without_pairs(
     recorder: &mut Recorder,
     alloc: Global,
     laws: &ChainLaws,

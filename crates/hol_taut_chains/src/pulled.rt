@@ -16,6 +16,8 @@ use std::alloc::Global;
 /// The laws by which chains are shortened.
 #[derive(Drop)]
 pub struct ChainLaws {
+    /// `|- T`.
+    pub truth: Rec,
     /// `|- (p <=> q) <=> (q <=> p)`.
     pub commuted: Rec,
     /// `|- (p <=> q <=> r) <=> (q <=> p <=> r)`.

@@ -77,6 +77,23 @@ fn chain(alloc: Global) -> Result<Term, Fault> {
     joined(alloc, "=", &left, &right)
 }
 
+// The same beneath an implication.
+fn chain_as_part(alloc: Global) -> Result<Term, Fault> {
+    let part = chain(alloc)?;
+    let premise = variable(alloc, "r")?;
+    joined(alloc, "==>", &premise, &part)
+}
+
+// `(a <=> .. <=> j) /\ r ==> ((j <=> ..) <=> a)`.
+fn chain_as_premise(alloc: Global) -> Result<Term, Fault> {
+    let names = &NAMES[..10];
+    let left = in_order(alloc, "=", names)?;
+    let right = mirrored(alloc, "=", names)?;
+    let premise = variable(alloc, "r")?;
+    let premises = joined(alloc, "/\\", &left, &premise)?;
+    joined(alloc, "==>", &premises, &right)
+}
+
 // Whether TAUT proves the formula by fewer inferences.
 fn takes_fewer(alloc: Global, formula: Result<Term, Fault>, than: usize) -> bool {
     let Ok(formula) = formula else {
@@ -101,4 +118,11 @@ fn implications_of_fourteen(rt: HostRuntime) {
 #[test]
 fn chain_of_ten(rt: HostRuntime) {
     assert!(rt; takes_fewer(rt.alloc(), chain(rt.alloc()), 114_085));
+}
+
+// HOL Light's number for the chain alone.
+#[test]
+fn chains_of_ten_as_parts(rt: HostRuntime) {
+    assert!(rt; takes_fewer(rt.alloc(), chain_as_part(rt.alloc()), 114_085));
+    assert!(rt; takes_fewer(rt.alloc(), chain_as_premise(rt.alloc()), 114_085));
 }

@@ -1,0 +1,194 @@
+// Formulas whose chains of `<=>` are in normal form.
+ghost use Rattle.std.specs.Prelude.{◌<◌, IfOk, IfSome};
+ghost use Rattle.hol_model.specs.Terms.NamedTerm.{height};
+ghost use Rattle.hol_journal.specs.Journal.{IsMade};
+ghost use Rattle.hol_equal.specs.Sequents.{Continues, IsHeld};
+ghost use Rattle.hol_taut_chains.specs.Chains.{HasChainLaws};
+
+use crate::chain_steps::{applied, reflexive, under};
+use crate::chains::{has_chain, is_chain, sides_of};
+use crate::pairs::same_side;
+use crate::pulled::ChainLaws;
+use crate::sorted::normal_chain;
+use hol_equal::steps::deduct_antisym;
+use hol_equal::{conclusion_of, trans};
+use hol_journal::{Rec, Recorder};
+use hol_model::Fault;
+use hol_propositions::{Form, form_of};
+use hol_terms::Term;
+use std::alloc::Global;
+
+// The sides of a connective, where a chain stands in the left one.
+fn sides_with_chain(term: &Term) -> Option<(&Term, &Term)>
+    ensures { IfSome result (λ sides. (height sides.0.now < height term.now) × (height sides.1.now < height term.now)) }
+{
+    match form_of(term) {
+        Form::Connected(_, left, right) => {
+            if has_chain(left) {
+                Some((left, right))
+            } else {
+                None
+            }
+        }
+        _ => None,
+    }
+}
+
+// The last part of a formula of a connective.
+fn last_part(term: &Term) -> Option<&Term>
+    ensures { IfSome result (λ part. height part.now < height term.now) }
+{
+    match form_of(term) {
+        Form::Negated(part) => Some(part),
+        Form::Connected(_, _, right) => Some(right),
+        _ => None,
+    }
+}
+
+// What is applied to it.
+fn function_of(term: &Term) -> Option<&Term> {
+    match term.dest_comb() {
+        Some((function, _)) => Some(function),
+        None => None,
+    }
+}
+
+// The equation of a connective's formula, from those of its sides.
+#[tactic(auto, using(hol_equal::proofs::StepLemmas::still_made, hol_equal::proofs::StepLemmas::now_made, crate::proofs::ChainLemmas::continued_twice))]
+fn joined(
+    recorder: &mut Recorder,
+    alloc: Global,
+    term: &Term,
+    left: &Rec,
+    right: Result<Rec, Fault>,
+) -> Result<Rec, Fault>
+    requires left { IsMade recorder.old left.now }
+    requires right { IfOk right (IsHeld recorder.old) }
+    ensures continues { Continues recorder.old recorder.new result }
+{
+    let right = match right {
+        Ok(right) => right,
+        Err(fault) => return Err(fault),
+    };
+    let Some(function) = function_of(term) else {
+        return Err(Fault::BadShape);
+    };
+    let Some(connective) = function_of(function) else {
+        return Err(Fault::BadShape);
+    };
+    let first = match under(recorder, alloc, connective, left) {
+        Ok(first) => first,
+        Err(fault) => return Err(fault),
+    };
+    applied(recorder, alloc, &first, &right)
+}
+
+// The equation of a connective's formula, from that of its last part.
+fn beneath(
+    recorder: &mut Recorder,
+    alloc: Global,
+    term: &Term,
+    part: Result<Rec, Fault>,
+) -> Result<Rec, Fault>
+    requires part { IfOk part (IsHeld recorder.old) }
+    ensures continues { Continues recorder.old recorder.new result }
+{
+    let part = match part {
+        Ok(part) => part,
+        Err(fault) => return Err(fault),
+    };
+    match function_of(term) {
+        Some(function) => under(recorder, alloc, function, &part),
+        None => Err(Fault::BadShape),
+    }
+}
+
+// `(p <=> p) <=> T`.
+#[tactic(auto, using(hol_equal::proofs::StepLemmas::still_made, hol_equal::proofs::StepLemmas::now_made, crate::proofs::ChainLemmas::continued_twice))]
+fn truth_of(recorder: &mut Recorder, alloc: Global, truth: &Rec, side: &Term) -> Result<Rec, Fault>
+    requires { IsMade recorder.old truth.now }
+    ensures continues { Continues recorder.old recorder.new result }
+{
+    let same = match reflexive(recorder, alloc, side) {
+        Ok(same) => same,
+        Err(fault) => return Err(fault),
+    };
+    deduct_antisym(recorder, alloc, &same, truth)
+}
+
+// From `chain <=> p <=> p`, `chain <=> T`; what else a chain is equal to stays.
+#[tactic(auto, using(hol_equal::proofs::StepLemmas::still_made, hol_equal::proofs::StepLemmas::now_made, crate::proofs::ChainLemmas::continued_twice))]
+fn with_truth(
+    recorder: &mut Recorder,
+    alloc: Global,
+    truth: &Rec,
+    normal: Rec,
+) -> Result<Rec, Fault>
+    requires truth { IsMade recorder.old truth.now }
+    requires normal { IsHeld recorder.old normal }
+    ensures continues { Continues recorder.old recorder.new result }
+{
+    let Some((_, rest)) = sides_of(conclusion_of(recorder, &normal)) else {
+        return Err(Fault::BadShape);
+    };
+    let Some(side) = same_side(rest) else {
+        return Ok(normal);
+    };
+    let same = match truth_of(recorder, alloc, truth, side) {
+        Ok(same) => same,
+        Err(fault) => return Err(fault),
+    };
+    trans(recorder, alloc, &normal, &same)
+}
+
+// `chain <=> normal`, or `chain <=> T`.
+#[tactic(auto, using(hol_equal::proofs::StepLemmas::still_made, crate::proofs::ChainLemmas::continued_twice))]
+fn chain_equation(
+    recorder: &mut Recorder,
+    alloc: Global,
+    laws: &ChainLaws,
+    whole: &Term,
+    chain: &Term,
+) -> Result<Rec, Fault>
+    requires { HasChainLaws recorder.old laws.now }
+    ensures continues { Continues recorder.old recorder.new result }
+{
+    let normal = match normal_chain(recorder, alloc, laws, whole, chain) {
+        Ok(normal) => normal,
+        Err(fault) => return Err(fault),
+    };
+    with_truth(recorder, alloc, &laws.truth, normal)
+}
+
+/// `formula <=> normal`, by the equations of the chains that stand in the formula.
+#[tactic(auto, using(hol_equal::proofs::StepLemmas::still_made, crate::proofs::ChainLemmas::continued_twice, crate::proofs::ChainLemmas::still_chain_laws))]
+pub fn normal_form(
+    recorder: &mut Recorder,
+    alloc: Global,
+    laws: &ChainLaws,
+    whole: &Term,
+    term: &Term,
+) -> Result<Rec, Fault>
+    requires laws { HasChainLaws recorder.old laws.now }
+    ensures continues { Continues recorder.old recorder.new result }
+{
+    if is_chain(term) {
+        return chain_equation(recorder, alloc, laws, whole, term);
+    }
+    if !has_chain(term) {
+        return reflexive(recorder, alloc, term);
+    }
+    if let Some((left, right)) = sides_with_chain(term) {
+        let left = match normal_form(recorder, alloc, laws, whole, left) {
+            Ok(left) => left,
+            Err(fault) => return Err(fault),
+        };
+        let right = normal_form(recorder, alloc, laws, whole, right);
+        return joined(recorder, alloc, term, &left, right);
+    }
+    let Some(last) = last_part(term) else {
+        return Err(Fault::BadShape);
+    };
+    let last = normal_form(recorder, alloc, laws, whole, last);
+    beneath(recorder, alloc, term, last)
+}

@@ -1,0 +1,142 @@
+// Chains of `<=>` with their parts in the order of a whole.
+ghost use Rattle.hol_journal.specs.Journal.{IsMade};
+ghost use Rattle.hol_equal.specs.Sequents.{Continues};
+ghost use Rattle.hol_taut_chains.specs.Chains.{HasChainLaws};
+
+use crate::chain_steps::{reflexive, under};
+use crate::chains::{first_part, is_sorted, sides_of, twofold};
+use crate::formula_terms::equal_to;
+use crate::pairs::{same_side, without_pairs};
+use crate::pulled::{ChainLaws, front_and_rest, pulled};
+use hol_equal::{conclusion_of, trans};
+use hol_journal::{Rec, Recorder};
+use hol_model::Fault;
+use hol_terms::Term;
+use std::alloc::Global;
+
+// How many parts are put in their order, or taken out by pairs.
+const MOST_PARTS: usize = 128;
+
+// `chain <=> part <=> rest`, for the part that stands first in the whole.
+fn first_pulled(
+    recorder: &mut Recorder,
+    alloc: Global,
+    laws: &ChainLaws,
+    whole: &Term,
+    chain: &Term,
+) -> Result<Rec, Fault>
+    requires laws { HasChainLaws recorder.old laws.now }
+    ensures continues { Continues recorder.old recorder.new result }
+{
+    match first_part(whole, chain) {
+        Some(part) => pulled(recorder, alloc, laws, part, chain),
+        None => Err(Fault::BadShape),
+    }
+}
+
+// From `chain <=> part <=> rest` and `rest <=> sorted`, `chain <=> part <=> sorted`.
+#[tactic(auto, using(hol_equal::proofs::StepLemmas::still_made, hol_equal::proofs::StepLemmas::now_made, crate::proofs::ChainLemmas::continued_twice))]
+fn with_sorted(
+    recorder: &mut Recorder,
+    alloc: Global,
+    part: &Term,
+    first: &Rec,
+    inner: &Rec,
+) -> Result<Rec, Fault>
+    requires first { IsMade recorder.old first.now }
+    requires inner { IsMade recorder.old inner.now }
+    ensures continues { Continues recorder.old recorder.new result }
+{
+    let function = match equal_to(alloc, part) {
+        Ok(function) => function,
+        Err(fault) => return Err(fault),
+    };
+    let beside = match under(recorder, alloc, &function, inner) {
+        Ok(beside) => beside,
+        Err(fault) => return Err(fault),
+    };
+    trans(recorder, alloc, first, &beside)
+}
+
+// Whether its parts are in their order, or it has equal sides.
+fn is_normal(whole: &Term, chain: &Term) -> bool {
+    same_side(chain).is_some() || is_sorted(whole, chain)
+}
+
+// `chain <=> sorted`, where it has at most so many parts.
+#[tactic(auto, using(hol_equal::proofs::StepLemmas::still_made, hol_equal::proofs::StepLemmas::now_made, crate::proofs::ChainLemmas::continued_twice, crate::proofs::ChainLemmas::still_chain_laws))]
+fn sorted(
+    recorder: &mut Recorder,
+    alloc: Global,
+    laws: &ChainLaws,
+    whole: &Term,
+    chain: &Term,
+    most: usize,
+) -> Result<Rec, Fault>
+    requires laws { HasChainLaws recorder.old laws.now }
+    ensures continues { Continues recorder.old recorder.new result }
+{
+    if is_normal(whole, chain) {
+        return reflexive(recorder, alloc, chain);
+    }
+    if most == 0 {
+        return Err(Fault::BadShape);
+    }
+    let first = match first_pulled(recorder, alloc, laws, whole, chain) {
+        Ok(first) => first,
+        Err(fault) => return Err(fault),
+    };
+    let Some((part, rest)) = front_and_rest(conclusion_of(recorder, &first)) else {
+        return Err(Fault::BadShape);
+    };
+    let inner = match sorted(recorder, alloc, laws, whole, rest, most - 1) {
+        Ok(inner) => inner,
+        Err(fault) => return Err(fault),
+    };
+    with_sorted(recorder, alloc, part, &first, &inner)
+}
+
+// From `chain <=> shortest`, `chain <=> sorted`.
+#[tactic(auto, using(hol_equal::proofs::StepLemmas::still_made, hol_equal::proofs::StepLemmas::now_made, crate::proofs::ChainLemmas::continued_twice, crate::proofs::ChainLemmas::still_chain_laws))]
+fn sorted_behind(
+    recorder: &mut Recorder,
+    alloc: Global,
+    laws: &ChainLaws,
+    whole: &Term,
+    shortest: &Rec,
+) -> Result<Rec, Fault>
+    requires laws { HasChainLaws recorder.old laws.now }
+    requires shortest { IsMade recorder.old shortest.now }
+    ensures continues { Continues recorder.old recorder.new result }
+{
+    let Some((_, chain)) = sides_of(conclusion_of(recorder, shortest)) else {
+        return Err(Fault::BadShape);
+    };
+    let sorted = match sorted(recorder, alloc, laws, whole, chain, MOST_PARTS) {
+        Ok(sorted) => sorted,
+        Err(fault) => return Err(fault),
+    };
+    trans(recorder, alloc, shortest, &sorted)
+}
+
+/// `chain <=> normal`: without the pairs of its parts, and those that are left in the order of the whole.
+#[tactic(auto, using(hol_equal::proofs::StepLemmas::still_made, hol_equal::proofs::StepLemmas::now_made, crate::proofs::ChainLemmas::continued_twice, crate::proofs::ChainLemmas::still_chain_laws))]
+pub(crate) fn normal_chain(
+    recorder: &mut Recorder,
+    alloc: Global,
+    laws: &ChainLaws,
+    whole: &Term,
+    chain: &Term,
+) -> Result<Rec, Fault>
+    requires laws { HasChainLaws recorder.old laws.now }
+    ensures continues { Continues recorder.old recorder.new result }
+{
+    let Some(part) = twofold(chain, chain) else {
+        return sorted(recorder, alloc, laws, whole, chain, MOST_PARTS);
+    };
+    let shortest = match without_pairs(recorder, alloc, laws, part, chain, MOST_PARTS) {
+        Ok(shortest) => shortest,
+        Err(fault) => return Err(fault),
+    };
+    sorted_behind(recorder, alloc, laws, whole, &shortest)
+}
