@@ -161,12 +161,18 @@ fn at_new_name(
         }
         Fault::NameTaken => {
             if word == "thm" || word == "save" {
-                " is the name of a theorem that is stored already"
+                " is the name of a theorem that is stored already, and stays its name"
             } else {
                 " is taken, or a theorem is stored under it with `_def` behind it"
             }
         }
         Fault::AlreadyDefined => " is the name of a constant or a type already",
+        Fault::TypeVarsNotReflected => {
+            if word != "newconst" {
+                return Ok(None);
+            }
+            " is declared at a type with type variables, and a declared constant has none"
+        }
         _ => return Ok(None),
     };
     let mut text = String::new(alloc);

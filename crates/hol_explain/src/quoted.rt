@@ -213,7 +213,7 @@ fn unknown_bare(alloc: Global, known: &Known, name: &[u8]) -> Result<Message, No
         name,
         first: &known.constants,
         second: &known.variables,
-        otherwise: "; a free variable is written `(name:type)`, or declared by `var`",
+        otherwise: "; a free variable is written `(name:type)` at each place, or declared by `var`",
     };
     unknown_name(alloc, 0, &unknown)
 }

@@ -11,7 +11,7 @@ const NAMES: [Row<'static>; 8] = [
     },
     Row {
         script: "thm a = REFL `w` ;;",
-        messages: "s:1:15: E21 UnknownName: no binder, constant or declared variable is named `w`; a free variable is written `(name:type)`, or declared by `var`\n",
+        messages: "s:1:15: E21 UnknownName: no binder, constant or declared variable is named `w`; a free variable is written `(name:type)` at each place, or declared by `var`\n",
     },
     Row {
         script: "thm a = REFL `[foo:bool]` ;;",
@@ -35,12 +35,16 @@ const NAMES: [Row<'static>; 8] = [
     },
     Row {
         script: "thm TRUTH = REFL `T` ;;",
-        messages: "s:1:5: E29 NameTaken: `TRUTH` is the name of a theorem that is stored already\n",
+        messages: "s:1:5: E29 NameTaken: `TRUTH` is the name of a theorem that is stored already, and stays its name\n",
     },
 ];
 
 // Further names: the nearest that is known.
-const FURTHER_NAMES: [Row<'static>; 5] = [
+const FURTHER_NAMES: [Row<'static>; 6] = [
+    Row {
+        script: "newconst f : A->A ;;",
+        messages: "s:1:10: E14 TypeVarsNotReflected: `f` is declared at a type with type variables, and a declared constant has none\n",
+    },
     Row {
         script: "def nand = `\\p:bool. \\q:bool. ~(p /\\ q)` ;;\nthm a = REFL `[nan:bool]` ;;",
         messages: "s:2:15: E5 UnknownConst: no constant is named `nan`; the nearest known name is `nand`\n",
@@ -241,11 +245,20 @@ is `(p:bool) ?- (p:bool)`\n",
 ];
 
 // Texts that are no commands.
-const COMMANDS: [Row<'static>; 10] = [
+const COMMANDS: [Row<'static>; 12] = [
     Row {
         script: "frobnicate ;;",
         messages: "s:1:1: E28 Syntax: expected a command, found `frobnicate`; the words that could stand here are `thm`, `show`, `var`, `def`, `newtype`, `newconst`, \
 `goal`, `e`, `b`, `r`, `p`, `save`\n",
+    },
+    Row {
+        script: "(* a remark *) show TRUTH ;;",
+        messages: "s:1:1: E28 Syntax: expected a command, found `(`; a script has no comments; the words that could stand here are `thm`, `show`, `var`, `def`, \
+`newtype`, `newconst`, `goal`, `e`, `b`, `r`, `p`, `save`\n",
+    },
+    Row {
+        script: "e MP_TAC (SPEC `T` a) ;;",
+        messages: "s:1:10: E28 Syntax: expected a name (rules do not nest: a theorem is made by a command of its own, `thm`), found `(`\n",
     },
     Row {
         script: "thm x REFL `T` ;;",
@@ -294,7 +307,7 @@ here are `bool`, `num`, `(`\n",
 ];
 
 // Quoted texts that are no terms.
-const QUOTES: [Row<'static>; 8] = [
+const QUOTES: [Row<'static>; 9] = [
     Row {
         script: "thm x = REFL `` ;;",
         messages: "s:1:15: E28 Syntax: expected a term (a name, `(`, `[`, `~`, `\\`, `!`, `?` or `@`), found the end of the quoted text\n",
@@ -312,6 +325,10 @@ const QUOTES: [Row<'static>; 8] = [
         messages: "s:1:16: E28 Syntax: expected an infix (`<=>`, `==>`, `\\/`, `/\\` or `=`), an argument (a name, `(` or `[`) or the end of the term, found `)`\n",
     },
     Row {
+        script: "thm x = REFL `!x y. T` ;;",
+        messages: "s:1:18: E28 Syntax: expected `:` and the type of the bound variable (a binder binds one variable, as in `!p:bool. !q:bool. p`), found `y`\n",
+    },
+    Row {
         script: "thm x = REFL `!x:bool x` ;;",
         messages: "s:1:23: E28 Syntax: expected `.` and the body of the binder, found `x`\n",
     },
@@ -321,7 +338,7 @@ const QUOTES: [Row<'static>; 8] = [
     },
     Row {
         script: "thm x = REFL `T # T` ;;",
-        messages: "s:1:17: E28 Syntax: expected an infix (`<=>`, `==>`, `\\/`, `/\\` or `=`), an argument (a name, `(` or `[`) or the end of the term, found a byte that \
+        messages: "s:1:17: E28 Syntax: expected an infix (`<=>`, `==>`, `\\/`, `/\\` or `=`), an argument (a name, `(` or `[`) or the end of the term, found `#`, which \
 begins no word\n",
     },
     Row {
@@ -343,7 +360,7 @@ const LIMITS: [Row<'static>; 7] = [
     },
     Row {
         script: "goal `T` ;;\ne REPEAT ALL_TAC ;;",
-        messages: "s:2:3: E20 StepLimit: the command would take more steps than one command may; the first goal there is `?- T`\n",
+        messages: "s:2:3: E20 StepLimit: the command would take more than 100,000 steps: a repetition or a rewriting may have no end; the first goal there is `?- T`\n",
     },
     Row {
         script: "goal `T` ;;\ne HOST liar ;;",

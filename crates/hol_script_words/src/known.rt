@@ -240,8 +240,8 @@ pub fn nearest<'a>(
     match nearer(alloc, second, name, among_first)? {
         Some((found, distance)) => {
             let length = name.len();
-            let is_near = distance < length
-                && (distance <= 1 || distance.saturating_mul(3) <= length);
+            let is_near = distance.saturating_mul(2) < length
+                && (distance <= 1 || distance.saturating_mul(5) <= length);
             Ok(if is_near { Some(found) } else { None })
         }
         None => Ok(None),

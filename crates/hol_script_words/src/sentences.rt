@@ -50,7 +50,8 @@ fn of_expression(fault: &Fault) -> &'static str {
         Fault::LengthMismatch => {
             "`THENL` wants one refiner in its list for each subgoal, and their numbers differ"
         }
-        Fault::StepLimit => "the command would take more steps than one command may",
+        Fault::StepLimit =>
+            "the command would take more than 100,000 steps: a repetition or a rewriting may have no end",
         Fault::NoMatch => "the left side of no equation of the theorem matches the term",
         _ => "what a host's function answered does not prove what it claims",
     }

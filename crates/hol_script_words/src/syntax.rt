@@ -86,12 +86,16 @@ fn conversion(piece: &Piece<'_>, from: usize) -> Result<usize, Stop> {
     Ok(at)
 }
 
+// The name of what was made before.
+const A_STORED_NAME: &str =
+    "a name (rules do not nest: a theorem is made by a command of its own, `thm`)";
+
 // The arguments of a word.
 fn arguments(piece: &Piece<'_>, from: usize, wanted: &[Argument]) -> Result<usize, Stop> {
     let mut at = from;
     for argument in wanted {
         at = match *argument {
-            Argument::Name => name(piece, at, "a name")?,
+            Argument::Name => name(piece, at, A_STORED_NAME)?,
             Argument::Term => quote(piece, at)?,
             Argument::Conversion => conversion(piece, at)?,
             Argument::Names => names(piece, at)?,
@@ -270,6 +274,18 @@ fn command(alloc: Global, piece: &Piece<'_>) -> Result<(), Stop> {
     end(piece, rest)
 }
 
+// Puts a byte that begins no word at the end.
+fn push_odd(out: &mut String, byte: &str) -> Result<(), NoMemory> {
+    if byte.len() != 1 {
+        out.push_str("a byte that begins no word")?;
+        return Ok(());
+    }
+    out.push_str("`")?;
+    out.push_str(byte)?;
+    out.push_str("`, which begins no word")?;
+    Ok(())
+}
+
 // Puts what stands at a place in the list at the end.
 fn push_found(out: &mut String, piece: &Piece<'_>, at: usize, whole: &str) -> Result<(), NoMemory> {
     match piece.kind(at) {
@@ -279,7 +295,7 @@ fn push_found(out: &mut String, piece: &Piece<'_>, at: usize, whole: &str) -> Re
         }
         Kind::Quote => out.push_str("a quoted text")?,
         Kind::Unclosed => out.push_str("a backquote without another behind it")?,
-        Kind::Odd => out.push_str("a byte that begins no word")?,
+        Kind::Odd => push_odd(out, piece.text(at))?,
         _ => {
             out.push_str("`")?;
             out.push_str(piece.text(at))?;
@@ -331,6 +347,9 @@ fn said(
     text.push_str(expected)?;
     text.push_str(", found ")?;
     push_found(&mut text, piece, at, whole)?;
+    if choice == Some(Choice::Command) && piece.text(at) == "(" {
+        text.push_str("; a script has no comments")?;
+    }
     if let Some(choice) = choice {
         push_choice(alloc, known, choice, piece.text(at), &mut text)?;
     }
@@ -424,7 +443,7 @@ pub fn no_command(alloc: Global, known: &Known, piece: &Piece<'_>) -> Result<Mes
         None => Message::new(
             alloc,
             piece.start(0),
-            "the text is no command: it nests deeper than a command may, or a word in it is not of its kind",
+            "the text is no command: it nests deeper than a command may, a number in it is too large, or a word is not of its kind",
         ),
     }
 }

@@ -75,10 +75,13 @@ fn is_infix(word: &str) -> bool {
     word == "<=>" || word == "==>" || word == "\\/" || word == "/\\" || word == "="
 }
 
+const TYPE_OF_BOUND: &str =
+    "`:` and the type of the bound variable (a binder binds one variable, as in `!p:bool. !q:bool. p`)";
+
 // A name, a colon, a type and a dot.
 fn binding(piece: &Piece<'_>, at: usize) -> Result<usize, Stop> {
     let colon = name(piece, at, "the name of a bound variable")?;
-    let typed = mark(piece, colon, ":", "`:` and the type of the bound variable")?;
+    let typed = mark(piece, colon, ":", TYPE_OF_BOUND)?;
     let dot = ty(piece, typed)?;
     mark(piece, dot, ".", "`.` and the body of the binder")
 }
