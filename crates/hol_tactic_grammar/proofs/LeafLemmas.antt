@@ -294,11 +294,6 @@ names-stopped tokens left taken front no_end no_more names rest same = (let know
     go [] is = no_end rest is
     go (other ∷ others) is = no_more other (further_name_tokens others rest) is
 
-    only : (others : List (List ℕ)) (left : List Token) → tokens ≡ Mark OpenBracket ∷ name_tokens others left → left ≡ rest
-    only [] left same = (let both : ◌≡◌ {A = List Token} (Mark OpenBracket ∷ Mark CloseBracket ∷ rest) (Mark OpenBracket ∷ Mark CloseBracket ∷ left) = sym whole ∙ same in cc)
-    only (other ∷ others) left same =
-        (let both : Mark OpenBracket ∷ Mark CloseBracket ∷ rest ≡ Mark OpenBracket ∷ Name other ∷ further_name_tokens others left = sym whole ∙ same in cc)
-
 behind-name : (name : List ℕ) (at : ℕ) (tokens : List TokenHere) → IsAt (Name name) (at + 1) tokens → behind (at + 1) tokens ≡ Name name ∷ behind (at + 2) tokens
 behind-name name at tokens is =
     let two : at + 1 + 1 ≡ at + 2 = omega arith in
