@@ -11,6 +11,7 @@ use hol_combine::{Leaves, refine_goal};
 use hol_exprs::{Fuel, Leaf, Tac};
 use hol_host::{Host, Refiners};
 use hol_just::{Goal, Step};
+use hol_library::libraries_continue;
 use hol_model::{Fault, STEPS_LIMIT};
 use hol_prover::ByExpression;
 use hol_refine::refine;
@@ -26,7 +27,6 @@ pub(crate) struct Bench {
 }
 
 impl Leaves for Bench {
-    ghost use Rattle.std.specs.Prelude.{Unit, tt};
     ghost use Rattle.hol_library.specs.Library.{IsLibrary, store_in};
 
     ghost theory = { λ bench. bench.session.library.recorder.theory };
@@ -57,6 +57,7 @@ impl Leaves for Bench {
     }
 
     fn accept(&mut self, alloc: Global, goal: &Goal, step: &Step) -> Result<(), Fault> {
+        libraries_continue();
         let library = &mut self.session.library;
         accept(
             &mut library.recorder,
