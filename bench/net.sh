@@ -1,5 +1,5 @@
 #!/bin/sh
-# Times look-ups in nets of 1,000 and 10,000 patterns of which two fit: `net.sh FOLDER`.
+# Times look-ups in nets of 2, 1,000 and 10,000 patterns, of which two fit: `net.sh FOLDER`.
 # The folder, which is made, gets a copy of the crates up to `hol_net`, with their proofs so far, and the program beside
 # them: each .rt file of this repository belongs to a crate, so the program's texts stand in bench/net as .txt. The times,
 # in microseconds, come on standard error.

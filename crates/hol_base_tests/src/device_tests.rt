@@ -1,5 +1,8 @@
 // Devices over memory, and over readers and writers that fail in mid-stream.
-use hol_model::{DeviceFail, FromRead, IntoWrite, Sink, Source};
+ghost use Rattle.std.specs.Prelude.{⊤};
+
+use hol_devices::{FromRead, IntoWrite, Reader, Writer};
+use hol_model::{DeviceFail, Sink, Source};
 use std::alloc::Global;
 use std::io;
 use std::io::{Read, Write};
@@ -21,6 +24,14 @@ impl Read for FailsThird {
         }
         buf[0] = if self.calls == 1 { b'a' } else { b'b' };
         Ok(1)
+    }
+}
+
+impl Reader for FailsThird {
+    ghost read_gives = { λ _ _ _. ⊤ };
+
+    fn read_some(&mut self, buf: &mut [u8]) -> io::Result<usize> {
+        self.read(buf)
     }
 }
 
@@ -47,6 +58,14 @@ impl Write for TakesTwo {
     }
 }
 
+impl Writer for TakesTwo {
+    ghost write_gives = { λ _ _ _ _. ⊤ };
+
+    fn write_some(&mut self, piece: &[u8]) -> io::Result<usize> {
+        self.write(piece)
+    }
+}
+
 // Takes nothing, without an error.
 #[derive(Drop)]
 struct TakesNone;
@@ -58,6 +77,14 @@ impl Write for TakesNone {
 
     fn flush(&mut self) -> io::Result<()> {
         Ok(())
+    }
+}
+
+impl Writer for TakesNone {
+    ghost write_gives = { λ _ _ _ _. ⊤ };
+
+    fn write_some(&mut self, piece: &[u8]) -> io::Result<usize> {
+        self.write(piece)
     }
 }
 
@@ -111,7 +138,7 @@ fn emits_so<W: Sink>(sink: &mut W, wanted: &Emit<'_>) -> bool {
 }
 
 // Whether a source over a reader answers so, call by call.
-fn reads<R: Read + Drop>(reader: R, pulls: &[Pull<'_>]) -> bool {
+fn reads<R: Reader + Drop>(reader: R, pulls: &[Pull<'_>]) -> bool {
     let mut source = FromRead::new(reader);
     for at in 0..pulls.len() {
         let pull = &pulls[at];
@@ -123,7 +150,7 @@ fn reads<R: Read + Drop>(reader: R, pulls: &[Pull<'_>]) -> bool {
 }
 
 // Whether a sink over a writer answers so, call by call.
-fn writes<W: Write + Drop>(writer: W, emits: &[Emit<'_>]) -> bool {
+fn writes<W: Writer + Drop>(writer: W, emits: &[Emit<'_>]) -> bool {
     let mut sink = IntoWrite::new(writer);
     for at in 0..emits.len() {
         let emit = &emits[at];
@@ -134,8 +161,19 @@ fn writes<W: Write + Drop>(writer: W, emits: &[Emit<'_>]) -> bool {
     true
 }
 
+// How many bytes of memory a first pull gives: no such pull fails, by its contract.
+fn first_pull(bytes: &[u8]) -> usize {
+    let mut buffer = [0u8; 2];
+    let mut source = FromRead::new(bytes);
+    match source.pull(&mut buffer) {
+        Ok(count) => count,
+        Err(_) => unreachable!(),
+    }
+}
+
 #[test]
 fn sources(rt: HostRuntime) {
+    assert!(rt; first_pull(b"abc".as_slice()) == 2);
     assert!(rt; reads(b"abc".as_slice(), &FROM_MEMORY));
     assert!(rt; reads(FailsThird { calls: 0 }, &FROM_A_READER_THAT_FAILS));
 }

@@ -4,23 +4,25 @@ use Rattle.std.specs.Option.{option_map, option_map_or}
 use Rattle.hol_model.specs.declared.fault.Fault.{Fault}
 use Rattle.hol_model.specs.declared.fault.Fault.TheVariants.{NotBool}
 use Rattle.hol_model.specs.Terms.HolType.{HolType, type_variable, bool_type, type_eq}
-use Rattle.hol_model.specs.Terms.NamedTerm.{NamedTerm, type_of}
+use Rattle.hol_model.specs.Terms.NamedTerm.{NamedTerm, constant, equation, type_of}
 use Rattle.hol_model.specs.Terms.Nameless.{Nameless, const, app, image}
 use Rattle.hol_model.specs.Logic.Derivable.{nameless_equation}
-use Rattle.hol_model.proofs.Logic.Known.{equation-sides, app-known}
+use Rattle.hol_model.proofs.Logic.Known.{equation-sides, equation-known, app-known}
+use Rattle.hol_model.proofs.Terms.Images.{image-equation}
 use Rattle.hol_model.specs.Logic.Theory.{Theory, IsLegal, IsKnown, generic_type}
 use Rattle.hol_model.specs.Logic.Logic.{logical_definitions, true_name, false_name, not_name, unary, binary}
-use Rattle.hol_model.specs.Logic.NamedLogic.{true_term, false_term, is_true, is_false, connected, dest_connected, dest_negation}
+use Rattle.hol_model.specs.Logic.NamedLogic.{true_term, false_term, is_true, is_false, connected, negation, dest_connected, dest_negation}
 use Rattle.hol_model.specs.Kernel.Theorem.{Theorem, IsTheorem}
 use Rattle.hol_model.specs.Kernel.Rules.{dest_equation, is_formula, first_unknown}
 use Rattle.hol_model.proofs.Terms.HolTypeEq.{type_eq-Decides}
 use Rattle.hol_kernel.proofs.RuleLemmas.{known_term}
 use Rattle.hol_journal.specs.Journal.{Journal}
 use Rattle.hol_journal.proofs.Showing.{sides_of}
+use Rattle.hol_equal.proofs.StepLemmas.{equation-typed}
 use Rattle.hol_prelude.specs.HasLogic.{HasLogic}
 use Rattle.hol_equal.specs.Formulas.{IsFormula, AreSides, IsNegated, IsPassed, IsRefused}
 use Rattle.hol_prelude.specs.declared.stored.Bool.{Bool as Stored}
-use Rattle.hol_bool.proofs.RoomLemmas.{connected-typed}
+use Rattle.hol_bool.proofs.RoomLemmas.{connected-typed, negation-typed}
 use Rattle.hol_bool.proofs.LogicLemmas.{logical-type, connected-parts, negated-part, constant-is}
 
 abbrev pub sides_in : {S : Type 0} → (S → NamedTerm) → (S → NamedTerm) → Option S → Option (NamedTerm × NamedTerm)
@@ -43,6 +45,52 @@ connected-formula theory name generic left right one two =
       typed = connected-typed name left right one.typed two.typed;
       known = app-known theory bool_type bool_type (app (const name binary) (image left)) (image right) (app-known theory bool_type unary (const name binary) (image left) connective one.known) two.known;
     }
+
+-- an equation of two formulas
+pub equation-formula : (theory : Theory) → IsLegal theory → (left right : NamedTerm) → IsFormula theory left → IsFormula theory right → IsFormula theory (equation left right)
+equation-formula theory legal left right one two = record {
+  typed = equation-typed left right bool_type one.typed two.typed;
+  known = subst (λ (t : Nameless). IsKnown theory t bool_type) (sym (image-equation left right bool_type one.typed)) (equation-known theory legal bool_type (image left) (image right) one.known two.known);
+}
+
+-- a negated formula
+pub negation-formula : (theory : Theory) → generic_type theory not_name ≡ Some unary → (part : NamedTerm) → IsFormula theory part → IsFormula theory (negation part)
+negation-formula theory generic part formula =
+    let connective : IsKnown theory (const not_name unary) unary = record {
+      typed = refl;
+      parts = ((tt, tt), record { generic = unary; is_generic = generic; is_instance = record { instance = type_variable; is_instance = refl } });
+    } in
+    record { typed = negation-typed part formula.typed; known = app-known theory bool_type bool_type (const not_name unary) (image part) connective formula.known }
+
+-- `T` and `F`
+pub constant-formula : (theory : Theory) (name : List ℕ) → generic_type theory name ≡ Some bool_type → IsFormula theory (constant name bool_type)
+constant-formula theory name generic = record {
+  typed = refl;
+  known = record { typed = refl; parts = (tt, record { generic = bool_type; is_generic = generic; is_instance = record { instance = type_variable; is_instance = refl } }) };
+}
+
+-- the same, where the theory has the logical constants
+module _ (journal : Journal) (logic : Stored) (has : HasLogic journal logic) (legal : IsLegal journal.theory) where
+  pub connects : (name : List ℕ) → generic_type logical_definitions name ≡ Some binary → (left right : NamedTerm) → IsFormula journal.theory left → IsFormula journal.theory right
+      → IsFormula journal.theory (connected name left right)
+  connects name generic left right one two = connected-formula journal.theory name (logical-type journal logic has legal name binary generic) left right one two
+
+  pub negates : (part : NamedTerm) → IsFormula journal.theory part → IsFormula journal.theory (negation part)
+  negates part formula = negation-formula journal.theory (logical-type journal logic has legal not_name unary refl) part formula
+
+  pub truth_is_formula : IsFormula journal.theory true_term
+  truth_is_formula = constant-formula journal.theory true_name (logical-type journal logic has legal true_name bool_type refl)
+
+  pub falsity_is_formula : IsFormula journal.theory false_term
+  falsity_is_formula = constant-formula journal.theory false_name (logical-type journal logic has legal false_name bool_type refl)
+
+-- a term that is made as a formula is made is one
+pub made-formula : (theory : Theory) (made term : NamedTerm) → made ≡ term → IsFormula theory term → IsFormula theory made
+made-formula theory made term is formula = subst (λ (t : NamedTerm). IsFormula theory t) (sym is) formula
+
+-- and a formula stays one
+pub formula_in : (now old : Theory) (term : NamedTerm) → now ≡ old → IsFormula old term → IsFormula now term
+formula_in now old term same formula = subst (λ (t : Theory). IsFormula t term) (sym same) formula
 
 abbrev pub part_in : {S : Type 0} → (S → NamedTerm) → Option S → Option NamedTerm
 part_in part found = option_map part found

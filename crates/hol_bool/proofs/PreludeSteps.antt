@@ -107,3 +107,19 @@ p_q_r-passes theory a b c one two three =
     let t = tests theory b two in
     let u = tests theory c three in
     rw (one.typed, two.typed, three.typed, s.0, s.1, s.2, t.0, t.1, t.2, u.0, u.1, u.2) refl
+
+-- so may lists of them, as the program makes these
+
+pub p-known : (theory : Theory) (a : NamedTerm) (terms : List (NamedTerm × NamedTerm)) → terms ≡ at_p a → IsFormula theory a → replacements_refusal theory terms ≡ None
+p-known theory a terms are one = subst (λ (l : List (NamedTerm × NamedTerm)). replacements_refusal theory l ≡ None) (sym are) (p-passes theory a one)
+
+pub p_q-known : (theory : Theory) (a b : NamedTerm) (terms : List (NamedTerm × NamedTerm)) → terms ≡ at_p_q a b → IsFormula theory a → IsFormula theory b → replacements_refusal theory terms ≡ None
+p_q-known theory a b terms are one two = subst (λ (l : List (NamedTerm × NamedTerm)). replacements_refusal theory l ≡ None) (sym are) (p_q-passes theory a b one two)
+
+pub p_q_r-known : (theory : Theory) (a b c : NamedTerm) (terms : List (NamedTerm × NamedTerm)) → terms ≡ at_p_q_r a b c → IsFormula theory a → IsFormula theory b → IsFormula theory c
+    → replacements_refusal theory terms ≡ None
+p_q_r-known theory a b c terms are one two three = subst (λ (l : List (NamedTerm × NamedTerm)). replacements_refusal theory l ≡ None) (sym are) (p_q_r-passes theory a b c one two three)
+
+-- and they stay so
+pub still_known : (now old : Theory) (terms : List (NamedTerm × NamedTerm)) → now ≡ old → replacements_refusal old terms ≡ None → replacements_refusal now terms ≡ None
+still_known now old terms same known = subst (λ (t : Theory). replacements_refusal t terms ≡ None) (sym same) known

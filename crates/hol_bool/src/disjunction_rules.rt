@@ -124,6 +124,7 @@ fn eliminated(
     ensures continues { Continues recorder.old recorder.new result }
     ensures derives { (h : List Nameless) (room : Room) → Shows theorem.now.theorem h (image (disjunction sides.entry.left.now sides.entry.right.now)) → FitsIf room (image (disjunction sides.entry.left.now sides.entry.right.now)) → FitsIf room (image (both_cases sides.entry.left.now sides.entry.right.now r.now)) → DerivesIf room result h (image (both_cases sides.entry.left.now sides.entry.right.now r.now)) }
 {
+    recorder.theory_is_legal();
     let case = match connect(alloc, "==>", sides.left, r) {
         Ok(case) => case,
         Err(fault) => return Err(fault),

@@ -105,7 +105,7 @@ fn first_of_both(
     ensures names { IfOk result (λ made. made.theorem.conclusion ≡ p.now) }
     ensures derives { (room : Room) → FitsIf room (image both.now) → DerivesIf room result (image both.now ∷ []) (image p.now) }
 {
-    let assumed = match steps::assume(recorder, alloc, both) {
+    let assumed = match steps::assume_known(recorder, alloc, both) {
         Ok(assumed) => assumed,
         Err(fault) => return Err(fault),
     };
@@ -131,7 +131,7 @@ fn absorbed(
     ensures continues { Continues recorder.old recorder.new result }
     ensures derives { (h : List Nameless) (q : Nameless) (room : Room) → Shows premise.now.theorem h q → FitsIf room (nameless_equation bool_type (nameless.conjunction (image p.now) q) (nameless.conjunction (image p.now) q)) → DerivesIf room result (without (image p.now) h) (nameless_equation bool_type (nameless.conjunction (image p.now) q) (image p.now)) }
 {
-    let assumed = match steps::assume(recorder, alloc, p) {
+    let assumed = match steps::assume_known(recorder, alloc, p) {
         Ok(assumed) => assumed,
         Err(fault) => return Err(fault),
     };
@@ -222,7 +222,7 @@ pub fn undisch(
     let Some(sides) = sides_of(recorder, logic, premise, "==>") else {
         return Err(Fault::BadShape);
     };
-    let assumed = match steps::assume(recorder, alloc, sides.left) {
+    let assumed = match steps::assume_known(recorder, alloc, sides.left) {
         Ok(assumed) => assumed,
         Err(fault) => return Err(fault),
     };

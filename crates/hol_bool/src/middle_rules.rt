@@ -27,6 +27,7 @@ pub fn excluded_middle(
     ensures continues { Continues recorder.old recorder.new result }
     ensures outcome { AnswersStated (theorem_in result) (image p.now ∷ []) (excluded_middle_outcome recorder.old.theory p.now) }
 {
+    recorder.theory_is_legal();
     match pass_formula(recorder, p) {
         Ok(()) => {}
         Err(fault) => return Err(fault),

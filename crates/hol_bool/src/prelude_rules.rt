@@ -1,10 +1,11 @@
 // Steps by the theorems of the prelude.
-ghost use Rattle.std.specs.Prelude.{◌≡◌, ◌<◌, List, [], IfOk, IfErr, OnOk, IfSome, Some, length};
+ghost use Rattle.std.specs.Prelude.{◌≡◌, ◌<◌, List, [], IfOk, IfErr, OnOk, IfSome, Some, None, length};
 ghost use Rattle.std.specs.Option.{option_map};
 ghost use Rattle.hol_model.specs.Logic.Theory.{IsLegal, generic_type};
 ghost use Rattle.hol_model.specs.Logic.Logic.{logical_definitions, binary};
 ghost use Rattle.hol_model.specs.Logic.NamedLogic.{dest_connected, dest_negation};
 ghost use Rattle.hol_model.specs.Terms.Nameless.{Nameless, image};
+ghost use Rattle.hol_model.specs.Kernel.Instantiation.{replacements_refusal};
 ghost use Rattle.hol_journal.specs.Journal.{IsMade};
 ghost use Rattle.hol_prelude.specs.Prelude.{prelude_theorems};
 ghost use Rattle.hol_prelude.specs.HasLogic.{HasLogic};
@@ -14,14 +15,15 @@ ghost use Rattle.hol_equal.specs.Sequents.{Shows, DerivesIf, Continues};
 ghost use Rattle.hol_bool.specs.PreludeInstances.{LeadsTo, Says};
 
 use crate::formula_terms::{Sides, connected_sides, negated_part};
-use hol_equal::{by_lemma, conclusion_of, instance, named};
+use hol_equal::{by_lemma_known, conclusion_of, instance_known, named_known};
 use hol_journal::{Rec, Recorder};
 use hol_model::Fault;
 use hol_prelude::{Bool, theorem_of};
 use hol_terms::Term;
 use std::alloc::Global;
 
-/// From the hypothesis of a theorem of the prelude at these terms, its conclusion there with these names, in six steps.
+/// From the hypothesis of a theorem of the prelude at these terms, its conclusion there with these names, in six steps. The
+/// theory knows the terms and what is stated, which are not walked for it.
 pub(crate) fn by_theorem(
     recorder: &mut Recorder,
     alloc: Global,
@@ -34,19 +36,22 @@ pub(crate) fn by_theorem(
     requires logic { HasLogic recorder.old logic.now }
     requires number { number < length prelude_theorems }
     requires premise { IsMade recorder.old premise.now }
+    requires known { replacements_refusal recorder.old.theory terms.now ≡ None }
+    requires stated { IsFormula recorder.old.theory stated.now }
     ensures continues { Continues recorder.old recorder.new result }
     ensures names { IfOk result (λ made. made.theorem.conclusion ≡ stated.now) }
     ensures derives { (h : List Nameless) (p : Nameless) (room : Room) → LeadsTo recorder.old.theory number terms.now room p (image stated.now) → Shows premise.now.theorem h p → DerivesIf room result h (image stated.now) }
 {
     let lemma = theorem_of(recorder, logic, number);
-    let answer = match by_lemma(recorder, alloc, &[], terms, lemma, premise) {
+    let answer = match by_lemma_known(recorder, alloc, &[], terms, lemma, premise) {
         Ok(answer) => answer,
         Err(fault) => return Err(fault),
     };
-    named(recorder, alloc, stated, &answer)
+    named_known(recorder, alloc, stated, &answer)
 }
 
-/// A theorem of the prelude without hypotheses, at these terms and with these names, in four steps.
+/// A theorem of the prelude without hypotheses, at these terms and with these names, in four steps. The theory knows the
+/// terms and what is stated, which are not walked for it.
 pub(crate) fn instance_of_theorem(
     recorder: &mut Recorder,
     alloc: Global,
@@ -57,16 +62,18 @@ pub(crate) fn instance_of_theorem(
 ) -> Result<Rec, Fault>
     requires logic { HasLogic recorder.old logic.now }
     requires number { number < length prelude_theorems }
+    requires known { replacements_refusal recorder.old.theory terms.now ≡ None }
+    requires stated { IsFormula recorder.old.theory stated.now }
     ensures continues { Continues recorder.old recorder.new result }
     ensures names { IfOk result (λ made. made.theorem.conclusion ≡ stated.now) }
     ensures derives { (room : Room) → Says recorder.old.theory number terms.now room (image stated.now) → DerivesIf room result [] (image stated.now) }
 {
     let lemma = theorem_of(recorder, logic, number);
-    let answer = match instance(recorder, alloc, &[], terms, lemma) {
+    let answer = match instance_known(recorder, alloc, &[], terms, lemma) {
         Ok(answer) => answer,
         Err(fault) => return Err(fault),
     };
-    named(recorder, alloc, stated, &answer)
+    named_known(recorder, alloc, stated, &answer)
 }
 
 /// The sides of a conclusion with the binary connective of this name.

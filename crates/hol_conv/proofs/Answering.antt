@@ -136,12 +136,6 @@ module _ (theory : Theory) (store : Store) (hosts : HostConversions) where
       → Converts theory store hosts depth left (sub_conv c) t (Err TooLarge) left
   parts-too-deep {depth} {left} {c} is deep = subst (λ (t : NamedTerm). Converts theory store hosts depth left (sub_conv c) t (Err TooLarge) left) is (conv.is_too_deep refl deep)
 
-  pub only-part-answers : {depth steps left : ℕ} {c : Conversion} {t body : NamedTerm} {name : List ℕ} {ty : HolType} {answer : Result Theorem Fault} → abstraction name ty body ≡ t
-      → Converts theory store hosts depth steps (abs_conv c) t answer left → Converts theory store hosts depth steps (sub_conv c) t answer left
-  only-part-answers {depth} {steps} {left} {c} {t} {body} {name} {ty} {answer} is r =
-      subst (λ (t : NamedTerm). Converts theory store hosts depth steps (sub_conv c) t answer left) is
-      (conv.only_part_converts (subst (λ (t : NamedTerm). Converts theory store hosts depth steps (abs_conv c) t answer left) (sym is) r))
-
   lacks-rand : (c : Conversion) (t : NamedTerm) → dest_combination t ≡ None → lacks_part (rand_conv c) t ≡ true
   lacks-rand c (combination f x) is = cc
   lacks-rand c (variable name ty) is = refl

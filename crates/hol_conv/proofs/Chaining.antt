@@ -57,9 +57,6 @@ pub joins-as : {a b answer : Result Theorem Fault} → a ≡ b → Joins b answe
 joins-as is (inl made) = inl (made ∙ sym is)
 joins-as is (inr made) = inr made
 
-pub one-less : (all rest : List Recorded) (theorem : Recorded) → all ≡ rest ++ theorem ∷ [] → length rest < length all
-one-less all rest theorem is = let counted = ap length is ∙ length-append rest (theorem ∷ []) in omega (arith, counted)
-
 -- ---- ends
 
 pub ends-caught : {theory : Theory} (proved : List Theorem) {t : NamedTerm} (fault : Fault) {steps left : ℕ} {answer : Result Theorem Fault} (same : Result Theorem Fault) → is_caught fault ≡ true
@@ -81,15 +78,4 @@ pub chain-later : {old new : Library} {chain : Chain} → IsContinued old new �
 chain-later {chain} continued is = record {
   made = made-later chain.theorems.items continued is.made;
   known = subst (λ (theory : Theory). is_known theory chain.current ≡ true) (sym continued.theory) is.known;
-}
-
-pub extended : (chain grown : Chain) (made : Recorded) → grown.theorems.items ≡ chain.theorems.items ++ made ∷ [] → IsRightSide made.theorem grown.current
-    → IsExtended (theorems chain.theorems.items) made.theorem grown
-extended chain grown made is right = record { theorems = ap theorems is ∙ map-append (λ (made : Recorded). made.theorem) chain.theorems.items (made ∷ []); right = right }
-
-pub longer : {library : Library} {chain grown : Chain} {made : Recorded} → IsChain library chain → IsMade library.recorder made → is_known library.recorder.theory grown.current ≡ true
-    → grown.theorems.items ≡ chain.theorems.items ++ made ∷ [] → IsChain library grown
-longer {library} {chain} {made} is this known grows = record {
-  made = subst (All (IsMade library.recorder)) (sym grows) (All-push (IsMade library.recorder) chain.theorems.items made is.made this);
-  known = known;
 }

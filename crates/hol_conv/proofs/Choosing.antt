@@ -17,10 +17,6 @@ module _ (theory : Theory) (store : Store) (hosts : HostConversions) (depth : �
     pub decides : (answer : Result Theorem Fault) (left : ℕ) → Converts theory store hosts depth before (orelsec refused rest) t answer left
         → Converts theory store hosts depth first whole t answer left
 
-  pub chooses_start : {first steps : ℕ} {c : Conversion} {cs : Conversions} {t : NamedTerm} {fault : Fault} → Converts theory store hosts depth first c t (Err fault) steps
-      → ChoosesSoFar first (orelsec c cs) t steps fault cs
-  chooses_start {first} {c} r = record { before = first; refused = c; refuses = r; decides = λ answer left s. s }
-
   pub chooses_next : {first steps left : ℕ} {whole c : Conversion} {cs : Conversions} {t : NamedTerm} {fault next : Fault} → ChoosesSoFar first whole t steps fault (more c cs)
       → is_caught fault ≡ true → Converts theory store hosts depth steps c t (Err next) left → ChoosesSoFar first whole t left next cs
   chooses_next {steps} {c} so_far caught r = record {

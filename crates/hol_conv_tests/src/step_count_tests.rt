@@ -31,7 +31,7 @@ const NO: Sketch<'static> = Sketch::No;
 
 const BETA: Sketch<'static> = Sketch::Beta;
 
-const ROWS: [Row<'static>; 11] = [
+const ROWS: [Row<'static>; 12] = [
     Row(ALL, "(x:A)", 1),
     Row(Sketch::Twice(&ALL), "(x:A)", 2),
     // what was refused stays spent
@@ -47,6 +47,12 @@ const ROWS: [Row<'static>; 11] = [
     // at a leaf 3, at an application 2 behind its parts
     Row(Sketch::Under(Prefix::Depth, &NO), "(x:A)", 3),
     Row(Sketch::Under(Prefix::Depth, &NO), "(f:A->B) (x:A)", 8),
+    // at a redex 3 behind its parts, at an abstraction 2 behind its body
+    Row(
+        Sketch::Under(Prefix::Depth, &BETA),
+        "(\\x:bool. x) ((\\y:bool. y) (z:bool))",
+        19,
+    ),
     // at a leaf 2, at an application 1 before its parts
     Row(Sketch::Under(Prefix::OnceDepth, &NO), "(f:A->B) (x:A)", 5),
     // at a leaf 4, at an application 2 before its parts and 1 behind them

@@ -15,7 +15,7 @@ use Rattle.hol_model.specs.Kernel.Theorem.{Theorem, IsTheorem, are_alpha_equival
 use Rattle.hol_model.specs.Kernel.Outcome.{Answers, AnswersSuch, unless, given, refused}
 use Rattle.hol_model.specs.Kernel.Instantiation.{IsChanged, all_fit, or_too_large}
 use Rattle.hol_model.specs.Kernel.Rules.{first_unknown, is_formula, dest_equation, dest_trivial_redex, is_free_in_hypotheses, concluded, refl_outcome, assume_outcome, trans_outcome, eq_mp_outcome, mk_comb_outcome, abs_outcome, deduct_antisym_outcome, beta_outcome}
-use Rattle.hol_model.specs.Logic.KnownTerm.{knows_types, knows_constants, has_instances}
+use Rattle.hol_model.specs.Logic.KnownTerm.{knows_types, knows_constants, has_instances, is_known}
 use Rattle.hol_model.specs.Terms.Substitution.{close}
 use Rattle.hol_model.proofs.Terms.NamedTests.{is_known-Decides}
 use Rattle.hol_model.proofs.Terms.TypeTests.{knows_type-Decides}
@@ -26,6 +26,7 @@ use Rattle.hol_model.proofs.Tests.{first_of_both, second_of_both, both, same_ter
 use Rattle.hol_model.proofs.Terms.Images.{image-typed, image-type, image-equation, image-abstraction, occurs_free-image}
 use Rattle.hol_model.proofs.Terms.Measures.{past_limits-image}
 use Rattle.hol_model.proofs.Terms.Membership.{of_append, of_map, IsMember-map, IsMember-append_left, IsMember-append_right}
+use Rattle.hol_kernel.specs.KnownFormula.{IsKnownFormula}
 use Rattle.hol_kernel.proofs.HypothesesLemmas.{with_hypotheses-same_set, image-without_hypothesis}
 use Rattle.hol_kernel.proofs.RuleLemmas.{mk_comb-concluded, abs-concluded}
 use Rattle.hol_journal.specs.Steps.{Step}
@@ -33,6 +34,7 @@ use Rattle.hol_journal.specs.Journal.{Journal, Recorded, IsMade, IsRecorded, the
 use Rattle.hol_journal.proofs.GrowthLemmas.{journals-grow}
 use Rattle.hol_journal.proofs.Showing.{unless-is, given-is, refused-is, concluded-is, ok_is, neither, sides_of, formula_of}
 use Rattle.hol_model.specs.Derived.DerivedRules.{HasLeftSide}
+use Rattle.hol_equal.specs.Formulas.{IsFormula}
 use Rattle.hol_equal.specs.Sequents.{Shows, Derives, DerivesInstance, Gives, IsPast, Continues}
 
 -- the theory of what an outcome is
@@ -222,6 +224,13 @@ no_unknown theory term ty known = go (knows_types theory term) (knows_constants 
     go true true false known = cc
     go true false instances known = cc
     go false constants instances known = cc
+
+-- and passes the test of known terms
+pub is_known-where : (theory : Theory) (term : NamedTerm) (ty : HolType) → IsKnown theory (image term) ty → is_known theory term ≡ true
+is_known-where theory term ty known = (is_known-Decides theory term ty (image-type term ty known.typed)).1 known
+
+pub formula-known : (theory : Theory) (term : NamedTerm) → IsFormula theory term → IsKnownFormula theory term
+formula-known theory term formula = record { known = is_known-where theory term bool_type formula.known; typed = formula.typed }
 
 no_member : {A : Type 0} → IsSameSet {A = A} [] []
 no_member = record { to = λ x m. m; back = λ x m. m }

@@ -4,7 +4,7 @@ ghost use Rattle.hol_model.specs.Terms.HolType.{HolType};
 ghost use Rattle.hol_model.specs.Terms.NamedTerm.{NamedTerm, variable, combination, abstraction, type_of};
 ghost use Rattle.hol_model.specs.Kernel.Rules.{first_unknown};
 ghost use Rattle.hol_equal.specs.Sequents.{DerivesIf, Continues};
-ghost use Rattle.hol_equal.specs.Conversions.{conversion, conversion_fits};
+ghost use Rattle.hol_equal.specs.Conversions.{conversion, conversion_fits, IsKnownRedex};
 
 use crate::steps;
 use hol_journal::{Rec, Recorder};
@@ -13,7 +13,7 @@ use hol_terms::Term;
 use std::alloc::Global;
 
 /// For an abstraction `\x. b`, its variable and a term `a`, all of them known, the theorem `(\x. b) a = b[a/x]`, in two
-/// steps.
+/// steps. Walks them; where a proof shows that the theory knows them, `converted_known`.
 pub fn converted(
     recorder: &mut Recorder,
     alloc: Global,
@@ -41,4 +41,35 @@ pub fn converted(
         Err(fault) => return Err(fault),
     };
     steps::inst(recorder, alloc, &[(new, old)], &equation)
+}
+
+/// As `converted`, of an abstraction, its variable and a term that the theory knows, which are not walked for it.
+pub fn converted_known(
+    recorder: &mut Recorder,
+    alloc: Global,
+    function: &Term,
+    binder: &Term,
+    argument: &Term,
+) -> Result<Rec, Fault>
+    requires { IsKnownRedex recorder.old.theory function.now binder.now argument.now }
+    ensures continues { Continues recorder.old recorder.new result }
+    ensures derives { (name : List ℕ) (ty codomain : HolType) (body : NamedTerm) → function.now ≡ abstraction name ty body → binder.now ≡ variable name ty → type_of body ≡ Some codomain → type_of argument.now ≡ Some ty → first_unknown recorder.old.theory (combination (abstraction name ty body) argument.now) ≡ None → DerivesIf (conversion_fits name ty codomain body argument.now) result [] (conversion name ty codomain body argument.now) }
+{
+    let trivial = match Term::mk_comb(alloc, function, binder) {
+        Ok(trivial) => trivial,
+        Err(fault) => return Err(fault),
+    };
+    let equation = match steps::beta_known(recorder, alloc, &trivial) {
+        Ok(equation) => equation,
+        Err(fault) => return Err(fault),
+    };
+    let new = match argument.copy(alloc) {
+        Ok(new) => new,
+        Err(fault) => return Err(fault),
+    };
+    let old = match binder.copy(alloc) {
+        Ok(old) => old,
+        Err(fault) => return Err(fault),
+    };
+    steps::inst_known(recorder, alloc, &[(new, old)], &equation)
 }

@@ -12,6 +12,7 @@ ghost use Rattle.hol_model.specs.Logic.Derivable.{without, nameless_equation};
 ghost use Rattle.hol_model.specs.Derived.DerivedRules.{AnswersStated, terms_of_theorem, sym_outcome, add_assum_outcome, prove_hyp_outcome, beta_conv_outcome};
 ghost use Rattle.hol_model.specs.Derived.InferenceRules.{rule_sym, rule_add_assum, rule_prove_hyp, rule_beta_conv};
 ghost use Rattle.hol_journal.specs.Journal.{IsMade, theorem_in};
+ghost use Rattle.hol_equal.specs.Formulas.{IsFormula};
 ghost use Rattle.hol_equal.specs.Sequents.{Shows, DerivesIf, Continues};
 ghost use Rattle.hol_equal.specs.Inferred.{Infers};
 ghost use Rattle.hol_equal.specs.Conversions.{beta_converted_outcome};
@@ -98,7 +99,7 @@ pub fn sym(recorder: &mut Recorder, alloc: Global, premise: &Rec) -> Result<Rec,
     let Some(parts) = equation_parts(conclusion_of(recorder, premise)) else {
         return Err(Fault::NotEquation);
     };
-    let same = match steps::refl(recorder, alloc, parts.relation) {
+    let same = match steps::refl_known(recorder, alloc, parts.relation) {
         Ok(same) => same,
         Err(fault) => return Err(fault),
     };
@@ -106,7 +107,7 @@ pub fn sym(recorder: &mut Recorder, alloc: Global, premise: &Rec) -> Result<Rec,
         Ok(applied) => applied,
         Err(fault) => return Err(fault),
     };
-    let reflexive = match steps::refl(recorder, alloc, parts.left) {
+    let reflexive = match steps::refl_known(recorder, alloc, parts.left) {
         Ok(reflexive) => reflexive,
         Err(fault) => return Err(fault),
     };
@@ -117,7 +118,8 @@ pub fn sym(recorder: &mut Recorder, alloc: Global, premise: &Rec) -> Result<Rec,
     steps::eq_mp(recorder, alloc, &congruence, &reflexive)
 }
 
-/// The theorem with this conclusion, which differs from its own in the names of bound variables alone, in two steps.
+/// The theorem with this conclusion, which differs from its own in the names of bound variables alone, in two
+/// steps. Walks the term; where a proof shows that the theory knows it, `named_known`.
 pub fn named(
     recorder: &mut Recorder,
     alloc: Global,
@@ -133,6 +135,30 @@ pub fn named(
     let _type = term.ty();
     recorder.theory_is_legal();
     let reflexive = match steps::refl(recorder, alloc, term) {
+        Ok(reflexive) => reflexive,
+        Err(fault) => return Err(fault),
+    };
+    steps::eq_mp(recorder, alloc, &reflexive, premise)
+}
+
+/// The theorem with this conclusion, which differs from its own in the names of bound variables alone, in two steps: of
+/// a formula that the theory knows, which is not walked for it.
+pub fn named_known(
+    recorder: &mut Recorder,
+    alloc: Global,
+    term: &Term,
+    premise: &Rec,
+) -> Result<Rec, Fault>
+    requires premise { IsMade recorder.old premise.now }
+    requires formula { IsFormula recorder.old.theory term.now }
+    ensures continues { Continues recorder.old recorder.new result }
+    ensures names { IfOk result (λ made. made.theorem.conclusion ≡ term.now) }
+    ensures derives { (h : List Nameless) → Shows premise.now.theorem h (image term.now) → DerivesIf (nameless_within_limits (nameless_equation bool_type (image term.now) (image term.now))) result h (image term.now) }
+{
+    let _premise = recorder.thm(premise).concl();
+    let _type = term.ty();
+    recorder.theory_is_legal();
+    let reflexive = match steps::refl_known(recorder, alloc, term) {
         Ok(reflexive) => reflexive,
         Err(fault) => return Err(fault),
     };
@@ -225,7 +251,7 @@ fn beta_converted(recorder: &mut Recorder, alloc: Global, term: &Term) -> Result
         Ok(trivial) => trivial,
         Err(fault) => return Err(fault),
     };
-    let converted = match steps::beta(recorder, alloc, &trivial) {
+    let converted = match steps::beta_known(recorder, alloc, &trivial) {
         Ok(converted) => converted,
         Err(fault) => return Err(fault),
     };
@@ -237,7 +263,7 @@ fn beta_converted(recorder: &mut Recorder, alloc: Global, term: &Term) -> Result
         Ok(binder) => binder,
         Err(fault) => return Err(fault),
     };
-    steps::inst(recorder, alloc, &[(argument, binder)], &converted)
+    steps::inst_known(recorder, alloc, &[(argument, binder)], &converted)
 }
 
 /// BETA_CONV: for `(\x. b) a` the theorem `(\x. b) a = b[a/x]`, the left side as it is. Refused where the term is no
@@ -253,7 +279,7 @@ pub fn beta_conv(recorder: &mut Recorder, alloc: Global, term: &Term) -> Result<
         Ok(converted) => converted,
         Err(fault) => return Err(fault),
     };
-    let same = match steps::refl(recorder, alloc, term) {
+    let same = match steps::refl_known(recorder, alloc, term) {
         Ok(same) => same,
         Err(fault) => return Err(fault),
     };

@@ -18,7 +18,8 @@ use hol_terms::Term;
 use hol_types::Ty;
 use std::alloc::Global;
 
-/// The instance of a lemma with these types for type variables, and then these terms for variables, in two steps.
+/// The instance of a lemma with these types for type variables, and then these terms for variables, in two
+/// steps. Walks the terms; where a proof shows that the theory knows them, `instance_known`.
 pub fn instance(
     recorder: &mut Recorder,
     alloc: Global,
@@ -37,9 +38,31 @@ pub fn instance(
     steps::inst(recorder, alloc, terms, &typed)
 }
 
+/// The instance of a lemma with these types for type variables, and then these terms, which the theory knows and which
+/// are not walked for it, for variables of their types, in two steps.
+pub fn instance_known(
+    recorder: &mut Recorder,
+    alloc: Global,
+    types: &[(Ty, Ty)],
+    terms: &[(Term, Term)],
+    lemma: &Rec,
+) -> Result<Rec, Fault>
+    requires lemma { IsMade recorder.old lemma.now }
+    requires known { replacements_refusal recorder.old.theory terms.now ≡ None }
+    ensures continues { Continues recorder.old recorder.new result }
+    ensures derives { type_replacements_refusal recorder.old.theory types.now ≡ None → replacements_refusal recorder.old.theory terms.now ≡ None → (h : List Nameless) (c : Nameless) → Shows lemma.now.theorem h c → DerivesIf (list_all nameless_within_limits (map (instantiate_all types.now) (c ∷ h) ++ map (instance_of types.now terms.now) (c ∷ h))) result (map (instance_of types.now terms.now) h) (instance_of types.now terms.now c) }
+{
+    let typed = match steps::inst_type(recorder, alloc, types, lemma) {
+        Ok(typed) => typed,
+        Err(fault) => return Err(fault),
+    };
+    steps::inst_known(recorder, alloc, terms, &typed)
+}
+
 /// From the lemma's hypothesis at an instance, its conclusion there, in four steps. A rule of two premises takes a
 /// lemma whose conclusion is an equation, `p |- q = r`, and uses it on the second premise by EQ_MP: to take away two
 /// hypotheses one after another would take the second from the hypotheses of the first premise too.
+/// Walks the terms; where a proof shows that the theory knows them, `by_lemma_known`.
 pub fn by_lemma(
     recorder: &mut Recorder,
     alloc: Global,
@@ -54,6 +77,29 @@ pub fn by_lemma(
     ensures derives { type_replacements_refusal recorder.old.theory types.now ≡ None → replacements_refusal recorder.old.theory terms.now ≡ None → (h : List Nameless) (p c : Nameless) → Shows lemma.now.theorem (p ∷ []) c → Shows premise.now.theorem h (instance_of types.now terms.now p) → DerivesIf (list_all nameless_within_limits (instantiate_all types.now c ∷ instantiate_all types.now p ∷ instance_of types.now terms.now c ∷ instance_of types.now terms.now p ∷ nameless_equation bool_type (instance_of types.now terms.now p) (instance_of types.now terms.now c) ∷ [])) result h (instance_of types.now terms.now c) }
 {
     let stated = match instance(recorder, alloc, types, terms, lemma) {
+        Ok(stated) => stated,
+        Err(fault) => return Err(fault),
+    };
+    cut(recorder, alloc, premise, &stated)
+}
+
+/// From the lemma's hypothesis at an instance, its conclusion there, as `by_lemma`, by terms that the theory knows and
+/// which are not walked for it.
+pub fn by_lemma_known(
+    recorder: &mut Recorder,
+    alloc: Global,
+    types: &[(Ty, Ty)],
+    terms: &[(Term, Term)],
+    lemma: &Rec,
+    premise: &Rec,
+) -> Result<Rec, Fault>
+    requires lemma { IsMade recorder.old lemma.now }
+    requires premise { IsMade recorder.old premise.now }
+    requires known { replacements_refusal recorder.old.theory terms.now ≡ None }
+    ensures continues { Continues recorder.old recorder.new result }
+    ensures derives { type_replacements_refusal recorder.old.theory types.now ≡ None → replacements_refusal recorder.old.theory terms.now ≡ None → (h : List Nameless) (p c : Nameless) → Shows lemma.now.theorem (p ∷ []) c → Shows premise.now.theorem h (instance_of types.now terms.now p) → DerivesIf (list_all nameless_within_limits (instantiate_all types.now c ∷ instantiate_all types.now p ∷ instance_of types.now terms.now c ∷ instance_of types.now terms.now p ∷ nameless_equation bool_type (instance_of types.now terms.now p) (instance_of types.now terms.now c) ∷ [])) result h (instance_of types.now terms.now c) }
+{
+    let stated = match instance_known(recorder, alloc, types, terms, lemma) {
         Ok(stated) => stated,
         Err(fault) => return Err(fault),
     };

@@ -1,5 +1,5 @@
 // The kernel's rules by image: what each derives from theorems that show sequents.
-ghost use Rattle.std.specs.Prelude.{◌≡◌, List, ℕ, [], ◌∷◌, ◌++◌, map, Some, None, IfOk};
+ghost use Rattle.std.specs.Prelude.{◌≡◌, List, ℕ, [], ◌∷◌, ◌++◌, map, true, Some, None, IfOk};
 ghost use Rattle.hol_model.specs.Terms.HolType.{HolType, bool_type, function_type};
 ghost use Rattle.hol_model.specs.Terms.NamedTerm.{NamedTerm, variable, combination, abstraction, equation, type_of};
 ghost use Rattle.hol_model.specs.Terms.Nameless.{Nameless, free, app, lam, image};
@@ -8,6 +8,7 @@ ghost use Rattle.hol_model.specs.Kernel.Instantiation.{instantiate_all, replacem
 ghost use Rattle.hol_model.specs.Kernel.Rules.{dest_equation, assume_outcome};
 ghost use Rattle.hol_model.specs.Kernel.Outcome.{Answers};
 ghost use Rattle.hol_model.specs.Logic.Theory.{IsKnown, IsKnownType, IsLegal};
+ghost use Rattle.hol_model.specs.Logic.KnownTerm.{is_known};
 ghost use Rattle.hol_model.specs.Kernel.Theorem.{IsTheorem};
 ghost use Rattle.hol_model.specs.Derived.DerivedRules.{HasLeftSide};
 ghost use Rattle.hol_model.specs.Logic.Derivable.{NotFreeInAny, without, nameless_equation};
@@ -33,7 +34,7 @@ pub fn conclusion_of<'a>(recorder: &Recorder, premise: &'a Rec) -> &'a Term
     recorder.thm(premise).concl()
 }
 
-// REFL, of a known term.
+// REFL, which walks the term.
 pub(crate) fn refl(recorder: &mut Recorder, alloc: Global, term: &Term) -> Result<Rec, Fault>
     ensures continues { Continues recorder.old recorder.new result }
     ensures names { IfOk result (λ made. made.theorem.conclusion ≡ equation term.now term.now) }
@@ -42,7 +43,17 @@ pub(crate) fn refl(recorder: &mut Recorder, alloc: Global, term: &Term) -> Resul
     recorder.refl(alloc, term)
 }
 
-/// ASSUME, of a known formula.
+// REFL, of a term that the theory knows, which is not walked for it.
+pub(crate) fn refl_known(recorder: &mut Recorder, alloc: Global, term: &Term) -> Result<Rec, Fault>
+    requires { is_known recorder.old.theory term.now ≡ true }
+    ensures continues { Continues recorder.old recorder.new result }
+    ensures names { IfOk result (λ made. made.theorem.conclusion ≡ equation term.now term.now) }
+    ensures derives { (ty : HolType) → IsKnown recorder.old.theory (image term.now) ty → Derives result [] (nameless_equation ty (image term.now) (image term.now)) }
+{
+    recorder.refl_known(alloc, term)
+}
+
+/// ASSUME, which walks the term; for a formula that the theory knows, `assume_known`.
 pub fn assume(recorder: &mut Recorder, alloc: Global, term: &Term) -> Result<Rec, Fault>
     ensures continues { Continues recorder.old recorder.new result }
     ensures outcome { Answers (theorem_in result) (assume_outcome recorder.old.theory term.now) }
@@ -51,12 +62,31 @@ pub fn assume(recorder: &mut Recorder, alloc: Global, term: &Term) -> Result<Rec
     recorder.assume(alloc, term)
 }
 
-// BETA, of a known redex.
+/// ASSUME, of a formula that the theory knows, which is not walked for it.
+pub fn assume_known(recorder: &mut Recorder, alloc: Global, term: &Term) -> Result<Rec, Fault>
+    requires { IsFormula recorder.old.theory term.now }
+    ensures continues { Continues recorder.old recorder.new result }
+    ensures outcome { Answers (theorem_in result) (assume_outcome recorder.old.theory term.now) }
+    ensures gives { IsKnown recorder.old.theory (image term.now) bool_type → Gives result (image term.now ∷ []) (image term.now) }
+{
+    recorder.assume_known(alloc, term)
+}
+
+// BETA, which walks the redex.
 pub(crate) fn beta(recorder: &mut Recorder, alloc: Global, term: &Term) -> Result<Rec, Fault>
     ensures continues { Continues recorder.old recorder.new result }
     ensures derives { (name : List ℕ) (domain codomain : HolType) (body : NamedTerm) → term.now ≡ combination (abstraction name domain body) (variable name domain) → type_of body ≡ Some codomain → IsKnown recorder.old.theory (image term.now) codomain → Derives result [] (nameless_equation codomain (app (lam domain (close name domain (image body))) (free name domain)) (image body)) }
 {
     recorder.beta(alloc, term)
+}
+
+// BETA, of a redex that the theory knows, which is not walked for it.
+pub(crate) fn beta_known(recorder: &mut Recorder, alloc: Global, term: &Term) -> Result<Rec, Fault>
+    requires { is_known recorder.old.theory term.now ≡ true }
+    ensures continues { Continues recorder.old recorder.new result }
+    ensures derives { (name : List ℕ) (domain codomain : HolType) (body : NamedTerm) → term.now ≡ combination (abstraction name domain body) (variable name domain) → type_of body ≡ Some codomain → IsKnown recorder.old.theory (image term.now) codomain → Derives result [] (nameless_equation codomain (app (lam domain (close name domain (image body))) (free name domain)) (image body)) }
+{
+    recorder.beta_known(alloc, term)
 }
 
 /// TRANS, of theorems that show sequents.
@@ -146,7 +176,7 @@ pub fn abs(
     recorder.abs(alloc, binder, premise)
 }
 
-// INST, by known terms of the variables' types.
+// INST, which walks the terms.
 pub(crate) fn inst(
     recorder: &mut Recorder,
     alloc: Global,
@@ -158,6 +188,21 @@ pub(crate) fn inst(
     ensures derives { replacements_refusal recorder.old.theory theta.now ≡ None → (h : List Nameless) (c : Nameless) → Shows premise.now.theorem h c → DerivesInstance result (map (put_all theta.now) h) (put_all theta.now c) }
 {
     recorder.inst(alloc, theta, premise)
+}
+
+// INST, by terms of the variables' types that the theory knows, which are not walked for it.
+pub(crate) fn inst_known(
+    recorder: &mut Recorder,
+    alloc: Global,
+    theta: &[(Term, Term)],
+    premise: &Rec,
+) -> Result<Rec, Fault>
+    requires premise { IsMade recorder.old premise.now }
+    requires known { replacements_refusal recorder.old.theory theta.now ≡ None }
+    ensures continues { Continues recorder.old recorder.new result }
+    ensures derives { replacements_refusal recorder.old.theory theta.now ≡ None → (h : List Nameless) (c : Nameless) → Shows premise.now.theorem h c → DerivesInstance result (map (put_all theta.now) h) (put_all theta.now c) }
+{
+    recorder.inst_known(alloc, theta, premise)
 }
 
 // INST_TYPE, by known types.

@@ -5,15 +5,16 @@
 mod kept;
 
 use hol_check::{check, write_claims};
+use hol_devices::{FromRead, IntoWrite};
 use hol_host::NoHost;
-use hol_model::{Fault, FromRead, IntoWrite};
+use hol_model::Fault;
 use hol_script::run;
 use kept::Kept;
 use std::fs::File;
 use std::process::ExitCode;
 use std::{fs, io};
 
-const SCRIPTS: [&str; 10] = [
+const SCRIPTS: [&str; 11] = [
     "derived.hol",
     "first.hol",
     "rules.hol",
@@ -24,6 +25,7 @@ const SCRIPTS: [&str; 10] = [
     "rewriting.hol",
     "tautologies.hol",
     "declared.hol",
+    "habits.hol",
 ];
 
 // The script whose log is checked.

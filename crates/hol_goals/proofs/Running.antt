@@ -2,7 +2,7 @@
 use Rattle.std.proofs.Common.{◌≡◌, ◌∙◌, ℕ, ◌⊎◌, inl, inr, List, [], ◌∷◌, refl, sym, ap, subst, true, false, Option, None, Some, Result, Ok, Err}
 use Rattle.std.specs.Prelude.{IfOk}
 use Rattle.hol_model.specs.declared.fault.Fault.{Fault}
-use Rattle.hol_model.specs.declared.fault.Fault.TheVariants.{Memory, TooLarge, NoGoal, StepLimit}
+use Rattle.hol_model.specs.declared.fault.Fault.TheVariants.{Memory, TooLarge, NoGoal, StepLimit, InvalidStep}
 use Rattle.hol_model.specs.Terms.NamedTerm.{NamedTerm}
 use Rattle.hol_model.specs.Logic.Theory.{Theory, IsLegal}
 use Rattle.hol_model.proofs.Logic.Earlier.{earlier-same}
@@ -33,7 +33,7 @@ use Rattle.hol_just.specs.declared.goal.Step as code
 use Rattle.hol_host.specs.Host.{HostRefiners, host_of}
 use Rattle.hol_goals.specs.declared.expanding.Expansion.{Expansion}
 use Rattle.hol_goals.specs.Expansions.{told_of, ExpandsBy, FailsBy, IsExpandedBy}
-use Rattle.hol_goals.specs.Running.{RunsFirst, none_is_open, runs_on, RefinesFirst, IsGoodFirst, IsExpandedTo}
+use Rattle.hol_goals.specs.Running.{RunsFirst, none_is_open, runs_on, RefinesFirst, IsGoodFirst, IsExpandedTo, ClosesIfValid}
 
 -- ---- the goal in focus
 
@@ -50,13 +50,6 @@ in_focus (Err fault) goal told = cc
 pub no_focus : (found : Result Focus Fault) (fault : Fault) → Err fault ≡ goal_in_focus found → found ≡ Err fault
 no_focus (Ok focus) fault told = cc
 no_focus (Err other) fault told = cc
-
--- it is known
-pub focus-known : (theory : Theory) (store : Store) (found : Option Proof) (goal : Goal) → IsValidIfAny theory store found → Ok goal ≡ goal_in_focus (focus_outcome found) → IsKnownGoal theory goal
-focus-known theory store found goal valid told =
-    let here = in_focus (focus_outcome found) goal told in
-    let sound = focus-sound theory store found here.focus valid here.is in
-    subst (IsKnownGoal theory) (sym here.same) (subst (λ (goals : List Goal). AreKnownGoals theory goals) sound.goals sound.opening.known).0
 
 same_focus : (found : Result Focus Fault) (a b : Focus) → found ≡ Ok a → found ≡ Ok b → a ≡ b
 same_focus found a b first second = (let same : ◌≡◌ {A = Result Focus Fault} (Ok a) (Ok b) = sym first ∙ second in cc)
@@ -152,6 +145,21 @@ module _ (theory : Theory) (host : Host) (before : combinators.Stage) (tactic : 
       for_size (inl memory) limit = cc
       for_size (inr large) limit = cc
 
+  -- the replay of a whole proof finds no invalid step
+  pub closes : (after : combinators.Stage) (step : Step) (old : Stack) (fault : Fault) → IsValidIfAny theory after.store old.proof
+      → ((focus : Focus) → focus_outcome old.proof ≡ Ok focus → IsGoodStep theory after.store focus.goal step)
+      → RunsFirst theory host before tactic (focus_outcome old.proof) (Ok step) after
+      → (fault ≡ Memory) ⊎ ((focus_outcome old.proof ≡ Err fault) ⊎ FailsBy theory after.store step old fault) → fault ≡ InvalidStep → ⊥
+  closes after step old fault valid good (none_is_open other is same) by invalid = cc
+  closes after step old fault valid good (runs_on focus is runs) (inl memory) invalid = cc
+  closes after step old fault valid good (runs_on focus is runs) (inr (inl none)) invalid = cc
+  closes after step old fault valid good (runs_on focus is runs) (inr (inr fails)) invalid = for_room
+      (expand-refused theory after.store (has_room theory (sequents_in after.store) []) old.proof fails.focus step fault valid fails.found (good fails.focus fails.found) fails.fails) invalid
+    where
+      for_room : {fault : Fault} → (fault ≡ Memory) ⊎ (fault ≡ TooLarge) → fault ≡ InvalidStep → ⊥
+      for_room (inl memory) invalid = cc
+      for_room (inr large) invalid = cc
+
 -- ---- the stack stays sound
 
 module _ (theory : Theory) where
@@ -192,6 +200,27 @@ module _ (refiners : HostRefiners) (conversions : HostConversions) (theory : The
   expanded-to now last step old new result same kept legal later valid good runs by =
       subst (λ (s : Store). IsExpandedTo refiners conversions theory before steps tac old new result s left) (sym kept)
       (expanded-at step old new result legal later valid good runs (subst (λ (t : Theory). IsExpandedBy t after (step_of step) old new result) same by))
+
+pub refused-itself : (refiners : HostRefiners) (conversions : HostConversions) (theory : Theory) (before after : Store) (steps left : ℕ) (tac : Tac NamedTerm) (old : Stack) (fault : Fault)
+    → RefinesFirst refiners conversions theory before steps tac old (Err fault) after left → ClosesIfValid refiners conversions theory before steps tac old (Err fault) after left
+refused-itself refiners conversions theory before after steps left tac old fault runs is =
+    let one : fault ≡ InvalidStep = cc in
+    subst (λ (f : Fault). RunsFirst theory (host_of refiners conversions) (at before steps) (tactic_of tac) (focus_outcome old.proof) (Err f) (at after left)) one runs
+
+closes-at : (refiners : HostRefiners) (conversions : HostConversions) (theory : Theory) (before after : Store) (steps left : ℕ) (tac : Tac NamedTerm) (step : code.Step) (old new : Stack)
+    (result : Result Expansion Fault) → IsValidStack theory after old → IsGoodFirst theory after old step → RefinesFirst refiners conversions theory before steps tac old (Ok step) after left
+    → IsExpandedBy theory after (step_of step) old new result → result ≡ Err InvalidStep → ⊥
+closes-at refiners conversions theory before after steps left tac step old new (Ok expansion) valid good runs by is = cc
+closes-at refiners conversions theory before after steps left tac step old new (Err fault) valid good runs by is =
+    closes theory (host_of refiners conversions) (at before steps) (tactic_of tac) (at after left) (step_of step) old fault valid.proof good runs by.0 cc
+
+pub closes-if-valid : (refiners : HostRefiners) (conversions : HostConversions) (theory now : Theory) (before after last : Store) (steps left : ℕ) (tac : Tac NamedTerm) (step : code.Step) (old new : Stack)
+    (result : Result Expansion Fault) → now ≡ theory → IsLegal theory → IsLater theory (at before steps) (at after left) → IsValidStack theory before old → IsGoodFirst theory after old step
+    → RefinesFirst refiners conversions theory before steps tac old (Ok step) after left → IsExpandedBy now after (step_of step) old new result
+    → ClosesIfValid refiners conversions theory before steps tac old result last left
+closes-if-valid refiners conversions theory now before after last steps left tac step old new result same legal later valid good runs by is =
+    absurd (closes-at refiners conversions theory before after steps left tac step old new result
+    (stack-later theory legal (at before steps) (at after left) old later valid) good runs (subst (λ (t : Theory). IsExpandedBy t after (step_of step) old new result) same by) is)
 
 valid-at : (theory : Theory) (store : Store) (step : code.Step) (old new : Stack) (result : Result Expansion Fault) → IsValidStack theory store old → IsGoodFirst theory store old step
     → IsExpandedBy theory store (step_of step) old new result → IsValidStack theory store new

@@ -1,6 +1,7 @@
 -- What running an expression on the first open goal makes of a stack.
-use Rattle.std.specs.Prelude.{◌≡◌, ℕ, Result, Ok, Err}
+use Rattle.std.specs.Prelude.{◌≡◌, ℕ, Result, Ok, Err, IsErrOf}
 use Rattle.hol_model.specs.declared.fault.Fault.{Fault}
+use Rattle.hol_model.specs.declared.fault.Fault.TheVariants.{InvalidStep}
 use Rattle.hol_model.specs.Terms.NamedTerm.{NamedTerm}
 use Rattle.hol_model.specs.Logic.Theory.{Theory}
 use Rattle.hol_model.specs.Goals.ValidSteps.{Step}
@@ -38,6 +39,11 @@ IsGoodFirst theory store stack step = (focus : Focus) → focus_outcome stack.pr
 abbrev pub May : HostRefiners → HostConversions → Theory → Store → ℕ → Tac NamedTerm → Stack → Result states.Expansion Fault → Type 0
 May refiners conversions theory before steps tac stack =
     IsStackExpansion theory (host_of refiners conversions) (at before steps) (tactic_of tac) stack.proof
+
+-- an invalid step is the expression's own: the replay of a whole proof is refused for memory or room alone
+abbrev pub ClosesIfValid : HostRefiners → HostConversions → Theory → Store → ℕ → Tac NamedTerm → Stack → Result Expansion Fault → Store → ℕ → Type 0
+ClosesIfValid refiners conversions theory before steps tac stack result after left =
+    IsErrOf result InvalidStep → RunsFirst theory (host_of refiners conversions) (at before steps) (tactic_of tac) (focus_outcome stack.proof) (Err InvalidStep) (at after left)
 
 -- the stack is expanded so; or it is refused so, and the stack is as before
 abbrev pub IsExpandedTo : HostRefiners → HostConversions → Theory → Store → ℕ → Tac NamedTerm → Stack → Stack → Result Expansion Fault → Store → ℕ → Type 0

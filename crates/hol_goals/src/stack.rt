@@ -123,7 +123,7 @@ impl Stack {
     ghost use Rattle.hol_model.specs.Refining.RefinerConditions.{HasKnownWitnesses};
     ghost use Rattle.hol_exprs.specs.Expressions.{tactic_of};
     ghost use Rattle.hol_combine.specs.Posed.{IsGrounded};
-    ghost use Rattle.hol_goals.specs.Running.{RefinesFirst, IsGoodFirst, IsExpandedTo};
+    ghost use Rattle.hol_goals.specs.Running.{RefinesFirst, IsGoodFirst, IsExpandedTo, ClosesIfValid};
 
     /// The stack without a goal.
     pub fn new() -> Stack
@@ -302,7 +302,8 @@ impl Stack {
     /// term is the next stage. Lemmas are added to what is stored, also where it is refused.
     ///
     /// Refused, where nothing of the stack changes: NoGoal where no goal is open; what the expression is refused for, StepLimit
-    /// only where no step is left; TooLarge where the justification is deeper than the limit, or the replay has no room; Memory.
+    /// only where no step is left; TooLarge where the justification is deeper than the limit, or the replay has no room; Memory. The
+    /// replay of a whole proof is refused for memory or room alone.
     pub fn expand<P: Prover, H: Refiners>(
         &mut self,
         alloc: Global,
@@ -317,6 +318,7 @@ impl Stack {
         requires witnesses { HasKnownWitnesses (P.theory prover.old) (tactic_of tac.now) }
         requires valid { IsValidStack (P.theory prover.old) (P.store prover.old) (stack_of self.old) }
         ensures expanded { IsExpandedTo (H.refiners host.now) (H.conversions host.now) (P.theory prover.old) (P.store prover.old) fuel.old.left tac.now (stack_of self.old) (stack_of self.new) result (P.store prover.new) fuel.new.left }
+        ensures closing { ClosesIfValid (H.refiners host.now) (H.conversions host.now) (P.theory prover.old) (P.store prover.old) fuel.old.left tac.now (stack_of self.old) result (P.store prover.new) fuel.new.left }
         ensures later { IsLater (P.theory prover.old) (at (P.store prover.old) fuel.old.left) (at (P.store prover.new) fuel.new.left) }
         ensures valid { IsValidStack (P.theory prover.old) (P.store prover.new) (stack_of self.new) }
         ensures theory { P.theory prover.new ≡ P.theory prover.old }

@@ -4,11 +4,13 @@ use Rattle.std.specs.List.{list_all}
 use Rattle.hol_model.specs.Terms.HolType.{HolType}
 use Rattle.hol_model.specs.Terms.NamedTerm.{NamedTerm, type_of, is_within_limits}
 use Rattle.hol_model.specs.Kernel.NamedAxioms.{eta_conclusion, select_hypothesis, select_conclusion}
+use Rattle.hol_model.specs.Logic.KnownTerm.{is_known}
 use Rattle.hol_model.specs.Logic.Derivable.{IsMember}
 use Rattle.hol_model.specs.Goals.Goals.{Sequent}
 use Rattle.hol_model.specs.Kernel.Theorem.{Theorem, IsTheorem}
 use Rattle.hol_model.specs.Kernel.Rules.{refl_outcome, assume_outcome, trans_outcome, eq_mp_outcome, mk_comb_outcome, abs_outcome, beta_outcome, deduct_antisym_outcome, define_outcome}
-use Rattle.hol_model.specs.Kernel.Instantiation.{IsInst, IsInstType, inst_refusal, inst_type_refusal}
+use Rattle.hol_model.specs.Kernel.Instantiation.{IsInst, IsInstType, replacements_refusal, inst_refusal, inst_type_refusal}
+use Rattle.hol_kernel.specs.KnownFormula.{IsKnownFormula}
 use Rattle.hol_journal.specs.Steps.{Step, by_refl, by_trans, by_mk_comb, by_abs, by_beta, by_assume, by_eq_mp, by_deduct, by_inst, by_inst_type, by_eta, by_select, by_definition, sequent_of_theorem}
 use Rattle.hol_journal.specs.Limits.{FitsLog, pair_fits, type_pair_fits}
 use Rattle.hol_journal.specs.Journal.{Journal, Recorded, HasTheorem, Follows, IsJournal, IsMade}
@@ -25,6 +27,17 @@ in_view shown now step sequent same follows = subst (λ (j : Journal). Follows j
 
 pub made_in_view : (shown now : Journal) (made given : Recorded) → shown ≡ now → made ≡ given → IsMade now given → IsMade shown made
 made_in_view shown now made given one two is = rw (one, two) is
+
+-- so is what is known of a value, by its fields
+
+pub known_in_view : (shown now : Journal) (term : NamedTerm) → shown ≡ now → is_known now.theory term ≡ true → is_known shown.theory term ≡ true
+known_in_view shown now term same known = subst (λ (j : Journal). is_known j.theory term ≡ true) (sym same) known
+
+pub formula_in_view : (shown now : Journal) (term : NamedTerm) → shown ≡ now → IsKnownFormula now.theory term → IsKnownFormula shown.theory term
+formula_in_view shown now term same known = subst (λ (j : Journal). IsKnownFormula j.theory term) (sym same) known
+
+pub pairs_in_view : (shown now : Journal) (theta : List (NamedTerm × NamedTerm)) → shown ≡ now → replacements_refusal now.theory theta ≡ None → replacements_refusal shown.theory theta ≡ None
+pairs_in_view shown now theta same known = subst (λ (j : Journal). replacements_refusal j.theory theta ≡ None) (sym same) known
 
 -- what a step cites
 

@@ -1,10 +1,12 @@
 // The recorder.
-ghost use Rattle.std.specs.Prelude.{◌≡◌, [], ◌∷◌, ◌++◌, length, IfOk, IfErr, OnErr, OnOk};
+ghost use Rattle.std.specs.Prelude.{◌≡◌, [], ◌∷◌, ◌++◌, true, None, length, IfOk, IfErr, OnErr, OnOk};
 ghost use Rattle.hol_model.specs.Kernel.Instantiation as instance;
 ghost use Rattle.hol_model.specs.Kernel.NamedAxioms as axioms;
 ghost use Rattle.hol_model.specs.Kernel.Outcome.{Answers, AnswersSuch};
 ghost use Rattle.hol_model.specs.Logic.Theory.{IsLegal};
+ghost use Rattle.hol_model.specs.Logic.KnownTerm.{is_known};
 ghost use Rattle.hol_model.specs.Kernel.Rules as outcome;
+ghost use Rattle.hol_kernel.specs.KnownFormula.{IsKnownFormula};
 ghost use Rattle.hol_kernel.specs.Leaving.{leaving};
 ghost use Rattle.hol_model.specs.declared.fault.Fault.TheVariants.{Memory};
 ghost use Rattle.hol_journal.specs.Steps as steps;
@@ -157,7 +159,7 @@ impl Recorder {
         Ok(Rec { theorem, entry })
     }
 
-    /// REFL: `|- t = t`.
+    /// REFL: `|- t = t`. Walks the term; for one that a proof shows to be known, `refl_known`.
     pub fn refl(&mut self, alloc: Global, term: &Term) -> Result<Rec, Fault>
         ensures outcome { Answers (theorem_in result) (outcome.refl_outcome self.old.theory term.now) }
         ensures recorded { IfOk result (IsRecorded self.old self.new (steps.by_refl term.now)) }
@@ -174,7 +176,25 @@ impl Recorder {
         self.record(alloc, rule, theorem)
     }
 
-    /// ASSUME: `p |- p`.
+    /// REFL of a term that the theory knows, which is not walked for it.
+    pub fn refl_known(&mut self, alloc: Global, term: &Term) -> Result<Rec, Fault>
+        requires { is_known self.old.theory term.now ≡ true }
+        ensures outcome { Answers (theorem_in result) (outcome.refl_outcome self.old.theory term.now) }
+        ensures recorded { IfOk result (IsRecorded self.old self.new (steps.by_refl term.now)) }
+        ensures kept { OnErr result (self.new ≡ self.old) }
+    {
+        let theorem = match self.theory.refl_known(alloc, term) {
+            Ok(theorem) => theorem,
+            Err(fault) => return Err(fault),
+        };
+        within_limits(&theorem);
+        term.well_formed();
+        let _type = term.ty();
+        let rule = Rule::Refl(term.copy(alloc)?);
+        self.record(alloc, rule, theorem)
+    }
+
+    /// ASSUME: `p |- p`. Walks the term; for a formula that a proof shows to be known, `assume_known`.
     pub fn assume(&mut self, alloc: Global, term: &Term) -> Result<Rec, Fault>
         ensures outcome { Answers (theorem_in result) (outcome.assume_outcome self.old.theory term.now) }
         ensures recorded { IfOk result (IsRecorded self.old self.new (steps.by_assume term.now)) }
@@ -191,13 +211,49 @@ impl Recorder {
         self.record(alloc, rule, theorem)
     }
 
-    /// BETA: `|- (\x. t) x = t`.
+    /// ASSUME of a formula that the theory knows, which is not walked for it.
+    pub fn assume_known(&mut self, alloc: Global, term: &Term) -> Result<Rec, Fault>
+        requires { IsKnownFormula self.old.theory term.now }
+        ensures outcome { Answers (theorem_in result) (outcome.assume_outcome self.old.theory term.now) }
+        ensures recorded { IfOk result (IsRecorded self.old self.new (steps.by_assume term.now)) }
+        ensures kept { OnErr result (self.new ≡ self.old) }
+    {
+        let theorem = match self.theory.assume_known(alloc, term) {
+            Ok(theorem) => theorem,
+            Err(fault) => return Err(fault),
+        };
+        within_limits(&theorem);
+        term.well_formed();
+        let _type = term.ty();
+        let rule = Rule::Assume(term.copy(alloc)?);
+        self.record(alloc, rule, theorem)
+    }
+
+    /// BETA: `|- (\x. t) x = t`. Walks the redex; for a term that a proof shows to be known, `beta_known`.
     pub fn beta(&mut self, alloc: Global, term: &Term) -> Result<Rec, Fault>
         ensures outcome { Answers (theorem_in result) (outcome.beta_outcome self.old.theory term.now) }
         ensures recorded { IfOk result (IsRecorded self.old self.new (steps.by_beta term.now)) }
         ensures kept { OnErr result (self.new ≡ self.old) }
     {
         let theorem = match self.theory.beta(alloc, term) {
+            Ok(theorem) => theorem,
+            Err(fault) => return Err(fault),
+        };
+        within_limits(&theorem);
+        term.well_formed();
+        let _type = term.ty();
+        let rule = Rule::Beta(term.copy(alloc)?);
+        self.record(alloc, rule, theorem)
+    }
+
+    /// BETA of a term that the theory knows, which is not walked for it.
+    pub fn beta_known(&mut self, alloc: Global, term: &Term) -> Result<Rec, Fault>
+        requires { is_known self.old.theory term.now ≡ true }
+        ensures outcome { Answers (theorem_in result) (outcome.beta_outcome self.old.theory term.now) }
+        ensures recorded { IfOk result (IsRecorded self.old self.new (steps.by_beta term.now)) }
+        ensures kept { OnErr result (self.new ≡ self.old) }
+    {
+        let theorem = match self.theory.beta_known(alloc, term) {
             Ok(theorem) => theorem,
             Err(fault) => return Err(fault),
         };
@@ -305,7 +361,8 @@ impl Recorder {
         self.record(alloc, rule, answer)
     }
 
-    /// INST: free variables replaced by terms of their types, all at once, by a list of pairs (new, old).
+    /// INST: free variables replaced by terms of their types, all at once, by a list of pairs (new, old). Walks the new
+    /// terms; for replacements that a proof shows to be accepted, `inst_known`.
     pub fn inst(
         &mut self,
         alloc: Global,
@@ -326,6 +383,30 @@ impl Recorder {
         let _theorem = theorem.theorem.concl();
         let rule = Rule::Inst(theorem.entry, copied_terms(alloc, theta)?);
         self.record(alloc, rule, answer)
+    }
+
+    /// INST by terms that the theory knows, for variables of their types, which are not walked for it.
+    pub fn inst_known(
+        &mut self,
+        alloc: Global,
+        theta: &[(Term, Term)],
+        theorem: &Rec,
+    ) -> Result<Rec, Fault>
+        requires theorem { IsMade self.old theorem.now }
+        requires known { instance.replacements_refusal self.old.theory theta.now ≡ None }
+        ensures outcome { AnswersSuch (theorem_in result) (instance.inst_refusal self.old.theory theta.now theorem.now.theorem) (instance.IsInst self.old.theory theta.now theorem.now.theorem) }
+        ensures recorded { IfOk result (IsRecorded self.old self.new (steps.by_inst theorem.now.entry theta.now)) }
+        ensures kept { OnErr result (self.new ≡ self.old) }
+    {
+        let answer = match self.theory.inst_known(alloc, theta, &theorem.theorem) {
+            Ok(answer) => answer,
+            Err(fault) => return Err(fault),
+        };
+        within_limits(&answer);
+        pairs_fit(theta);
+        let _theorem = theorem.theorem.concl();
+        let pairs = copied_terms(alloc, theta)?;
+        self.record(alloc, Rule::Inst(theorem.entry, pairs), answer)
     }
 
     /// INST_TYPE: type variables replaced by types, all at once, by a list of pairs (new, old).

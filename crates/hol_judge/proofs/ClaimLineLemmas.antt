@@ -59,21 +59,6 @@ module _ (state : LogState) (lines : List ℕ) (index line : ℕ) (within : inde
   neither-here : (test rest : Bool) → test ≡ false → (test || rest) ≡ rest
   neither-here test rest fails = cc
 
-  pub one-missing : is_no_term state line ≡ true → list_any (is_no_term state) lines ≡ true
-  one-missing missing = numbered.there ∙ (ap (list_any (is_no_term state)) here ∙ either-here (is_no_term state line) (list_any (is_no_term state) (drop (index + 1) lines)) missing)
-
-  pub one-numbered : (number : ℕ) (now : List ℕ) → NamesTerm state line terms number → now ≡ numbers ++ number ∷ [] → AreNumbered state lines (index + 1) terms now
-  one-numbered number now names pushed = record {
-    there = numbered.there ∙ (ap (list_any (is_no_term state)) here ∙ neither-here (is_no_term state line) (list_any (is_no_term state) (drop (index + 1) lines)) names.is_there);
-    named =
-        let pushes : terms_in terms now ≡ terms_in terms numbers ++ term_at terms number ∷ [] = ap (terms_in terms) pushed ∙ map_push (term_at terms) numbers number in
-        let rest : List Nameless = terms_at state (drop (index + 1) lines) in
-        ap (λ l. l ++ rest) pushes
-        ∙ (append_assoc (terms_in terms numbers) (term_at terms number ∷ []) rest
-        ∙ (ap (λ t. terms_in terms numbers ++ t ∷ rest) (sym names.named) ∙ (ap (λ l. terms_in terms numbers ++ terms_at state l) (sym here) ∙ numbered.named)));
-    fitting = subst (All (IsFitting terms)) (sym pushed) (All-push (IsFitting terms) numbers number numbered.fitting names.fits);
-  }
-
 none-of-three : (p q r : Bool) → p ≡ false → q ≡ false → r ≡ false → (p || q || r) ≡ false
 none-of-three p q r one two three = cc
 

@@ -43,12 +43,6 @@ module _ (state : LogState) (line : LogLine) where
   abbrev after-shape : List (Bool × Cause)
   after-shape = (has_number_fault state line, Number) ∷ after-number
 
-  pub shape-fault : has_shape_fault state line ≡ true → first_fault state line ≡ Some Shape
-  shape-fault is = applies (has_shape_fault state line) Shape after-shape is
-
-  pub number-fault : has_shape_fault state line ≡ false → has_number_fault state line ≡ true → first_fault state line ≡ Some Number
-  number-fault h0 is = skipped (has_shape_fault state line) Shape after-shape h0 ∙ (applies (has_number_fault state line) Number after-number is)
-
   pub name-fault : has_shape_fault state line ≡ false → has_number_fault state line ≡ false → has_name_fault state line ≡ true → first_fault state line ≡ Some Name
   name-fault h0 h1 is = skipped (has_shape_fault state line) Shape after-shape h0 ∙ (skipped (has_number_fault state line) Number after-number h1 ∙ (applies (has_name_fault state line) Name after-name is))
 
@@ -60,9 +54,6 @@ module _ (state : LogState) (line : LogLine) where
 
   pub rule-fault : has_shape_fault state line ≡ false → has_number_fault state line ≡ false → has_name_fault state line ≡ false → has_type_fault state line ≡ false → has_constant_fault state line ≡ false → has_rule_fault state line ≡ true → first_fault state line ≡ Some Rule
   rule-fault h0 h1 h2 h3 h4 is = skipped (has_shape_fault state line) Shape after-shape h0 ∙ (skipped (has_number_fault state line) Number after-number h1 ∙ (skipped (has_name_fault state line) Name after-name h2 ∙ (skipped (has_type_fault state line) Kind after-type h3 ∙ (skipped (has_constant_fault state line) Const after-constant h4 ∙ (applies (has_rule_fault state line) Rule after-rule is)))))
-
-  pub claim-fault : has_shape_fault state line ≡ false → has_number_fault state line ≡ false → has_name_fault state line ≡ false → has_type_fault state line ≡ false → has_constant_fault state line ≡ false → has_rule_fault state line ≡ false → has_claim_fault state line ≡ true → first_fault state line ≡ Some Claim
-  claim-fault h0 h1 h2 h3 h4 h5 is = skipped (has_shape_fault state line) Shape after-shape h0 ∙ (skipped (has_number_fault state line) Number after-number h1 ∙ (skipped (has_name_fault state line) Name after-name h2 ∙ (skipped (has_type_fault state line) Kind after-type h3 ∙ (skipped (has_constant_fault state line) Const after-constant h4 ∙ (skipped (has_rule_fault state line) Rule after-rule h5 ∙ (applies (has_claim_fault state line) Claim after-claim is))))))
 
   pub size-fault : has_shape_fault state line ≡ false → has_number_fault state line ≡ false → has_name_fault state line ≡ false → has_type_fault state line ≡ false → has_constant_fault state line ≡ false → has_rule_fault state line ≡ false → has_claim_fault state line ≡ false → has_size_fault state line ≡ true → first_fault state line ≡ Some Large
   size-fault h0 h1 h2 h3 h4 h5 h6 is = skipped (has_shape_fault state line) Shape after-shape h0 ∙ (skipped (has_number_fault state line) Number after-number h1 ∙ (skipped (has_name_fault state line) Name after-name h2 ∙ (skipped (has_type_fault state line) Kind after-type h3 ∙ (skipped (has_constant_fault state line) Const after-constant h4 ∙ (skipped (has_rule_fault state line) Rule after-rule h5 ∙ (skipped (has_claim_fault state line) Claim after-claim h6 ∙ (applies (has_size_fault state line) Large [] is)))))))

@@ -19,19 +19,6 @@ pub record ArePaired {Value : Type 0} (missing : ℕ × ℕ → Bool) (at here :
   pub fitting : All P pairs
 
 module _ {Value : Type 0} (missing : ℕ × ℕ → Bool) (at here : ℕ × ℕ → Value) (P : ℕ × ℕ → Type 0) (lines : List (ℕ × ℕ)) where
-  pub none-paired : (pairs : List (ℕ × ℕ)) → pairs ≡ [] → ArePaired missing at here P lines 0 pairs
-  none-paired pairs none = record {
-    there = refl;
-    named = ap (λ l. map here l ++ map at lines) none;
-    fitting = subst (All P) (sym none) (λ k d within. absurd (omega (arith, within)));
-  }
-
-  pub all-paired-there : (index : ℕ) (pairs : List (ℕ × ℕ)) → length lines ≤ index → ArePaired missing at here P lines index pairs → list_any missing lines ≡ false
-  all-paired-there index pairs past paired = paired.there ∙ ap (list_any missing) (drop_all index lines past)
-
-  pub all-paired-named : (index : ℕ) (pairs : List (ℕ × ℕ)) → length lines ≤ index → ArePaired missing at here P lines index pairs → map at lines ≡ map here pairs
-  all-paired-named index pairs past paired = sym (sym (append-nil (map here pairs)) ∙ (ap (λ l. map here pairs ++ map at l) (sym (drop_all index lines past)) ∙ paired.named))
-
   module _ (index : ℕ) (d : ℕ × ℕ) (within : index < length lines) (pairs : List (ℕ × ℕ)) (paired : ArePaired missing at here P lines index pairs) where
     line : ℕ × ℕ
     line = get_or lines index d

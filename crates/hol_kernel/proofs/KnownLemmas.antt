@@ -2,10 +2,11 @@
 use Rattle.std.proofs.Common.{◌≡◌, List, [], ◌∷◌, Bool, true, false, ◌&&◌, not, Option, None, Some, if◌then◌else◌, refl, sym, ap, ◌∙◌}
 use Rattle.std.specs.List.{list_all}
 use Rattle.hol_model.specs.declared.fault.Fault.{Fault}
-use Rattle.hol_model.specs.declared.fault.Fault.TheVariants.{NotInstance}
+use Rattle.hol_model.specs.declared.fault.Fault.TheVariants.{UnknownType, UnknownConst, NotInstance}
 use Rattle.hol_model.specs.Terms.NamedTerm.{NamedTerm}
 use Rattle.hol_model.specs.Logic.Theory.{Theory}
 use Rattle.hol_model.specs.Logic.KnownTerm.{knows_types, knows_constants, has_instances, is_known}
+use Rattle.hol_model.specs.Kernel.Rules.{first_unknown}
 
 by-threes : (a b c d e f : Bool) → (a && b && c) && (d && e && f) ≡ (a && d) && (b && e) && (c && f)
 by-threes false b c d e f = refl
@@ -61,3 +62,17 @@ pub unknown-refusal : (theory : Theory) (theta : List (NamedTerm × NamedTerm)) 
     → Some NotInstance ≡ unknown (know-types theory theta) (know-constants theory theta) (have-instances theory theta) no_type no_constant
 unknown-refusal theory theta no_type no_constant unknowns types constants =
     last-unknown (know-types theory theta) (know-constants theory theta) (have-instances theory theta) no_type no_constant (sym (all-known theory theta) ∙ unknowns) types constants
+
+-- a term is known where there is no refusal for it, and only there
+pub no_unknown : (theory : Theory) (term : NamedTerm) → is_known theory term ≡ true → first_unknown theory term ≡ None
+no_unknown theory term known =
+    sym (none-unknown (knows_types theory term) (knows_constants theory term) (has_instances theory term) (Some UnknownType) (Some UnknownConst) known)
+
+pub known_where_none : (theory : Theory) (term : NamedTerm) → first_unknown theory term ≡ None → is_known theory term ≡ true
+known_where_none theory term none = go (knows_types theory term) (knows_constants theory term) (has_instances theory term) none
+  where
+    go : (types constants instances : Bool) → unknown types constants instances (Some UnknownType) (Some UnknownConst) ≡ None → types && constants && instances ≡ true
+    go true true true none = refl
+    go true true false none = cc
+    go true false instances none = cc
+    go false constants instances none = cc

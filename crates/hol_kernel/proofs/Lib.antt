@@ -1,5 +1,6 @@
 pub mod HypothesesLemmas
 pub mod OrderLemmas
+pub mod PlaceLemmas
 pub mod RuleLemmas
 pub mod LimitLemmas
 pub mod DefinitionLemmas

@@ -10,12 +10,16 @@ use Rattle.hol_model.specs.Kernel.Theorem.{IsBefore, AreOrdered, by_order, with_
 use Rattle.hol_model.proofs.Terms.TotalOrders.{nameless_cmp-IsOrder}
 use Rattle.hol_kernel.proofs.HypothesesLemmas.{drop-here}
 
-reversed : (s t : Nameless) (order : Ordering) → nameless_cmp s t ≡ order → nameless_cmp t s ≡ ordering_reverse order
+pub reversed : (s t : Nameless) (order : Ordering) → nameless_cmp s t ≡ order → nameless_cmp t s ≡ ordering_reverse order
 reversed s t order is = nameless_cmp-IsOrder.total.antisymm t s ∙ ap ordering_reverse is
 
-before-rest : (x y : NamedTerm) (ys : List NamedTerm) → nameless_cmp (image x) (image y) ≡ Less → IsBefore y ys → IsBefore x ys
+pub before-rest : (x y : NamedTerm) (ys : List NamedTerm) → nameless_cmp (image x) (image y) ≡ Less → IsBefore y ys → IsBefore x ys
 before-rest x y [] first second = tt
 before-rest x y (z ∷ zs) first second = nameless_cmp-IsOrder.total.trans (image x) (image y) (image z) first second
+
+pub before-same : (x y : NamedTerm) (ys : List NamedTerm) → nameless_cmp (image x) (image y) ≡ Equal → IsBefore y ys → IsBefore x ys
+before-same x y [] same before = tt
+before-same x y (z ∷ zs) same before = nameless_cmp-IsOrder.total.congr (image x) (image y) (image z) same ∙ before
 
 -- one more hypothesis
 
@@ -28,7 +32,7 @@ before-with_hypothesis x (y ∷ ys) new before less = go (nameless_cmp (image ne
     go Equal = before
     go Greater = before
 
-with_hypothesis-ordered : (xs : List NamedTerm) (new : NamedTerm) → AreOrdered xs → AreOrdered (with_hypothesis xs new)
+pub with_hypothesis-ordered : (xs : List NamedTerm) (new : NamedTerm) → AreOrdered xs → AreOrdered (with_hypothesis xs new)
 with_hypothesis-ordered [] new ordered = (tt, tt)
 with_hypothesis-ordered (x ∷ xs) new ordered = go (nameless_cmp (image new) (image x)) refl (with_hypothesis-ordered xs new ordered.1)
   where
@@ -63,31 +67,27 @@ kept-ordered keep (x ∷ xs) ordered = go (keep x) (before-kept keep x xs ordere
 -- merging
 
 -- a hypothesis before all others stays in front
-in_front : (x : NamedTerm) (xs ys : List NamedTerm) → IsBefore x ys → AreOrdered ys → with_hypotheses (x ∷ xs) ys ≡ x ∷ with_hypotheses xs ys
+pub in_front : (x : NamedTerm) (xs ys : List NamedTerm) → IsBefore x ys → AreOrdered ys → with_hypotheses (x ∷ xs) ys ≡ x ∷ with_hypotheses xs ys
 in_front x xs [] before ordered = refl
 in_front x xs (y ∷ ys) before ordered =
     let placed : with_hypothesis (x ∷ xs) y ≡ x ∷ with_hypothesis xs y = ap (λ o. by_order o (y ∷ x ∷ xs) (x ∷ xs) (x ∷ with_hypothesis xs y)) (reversed (image x) (image y) Less before) in
     ap (λ l. with_hypotheses l ys) placed ∙ in_front x (with_hypothesis xs y) ys (before-rest x y ys before ordered.0) ordered.1
 
-merge-same : (x y : NamedTerm) (xs ys : List NamedTerm) → nameless_cmp (image x) (image y) ≡ Equal → AreOrdered (y ∷ ys) → with_hypotheses (x ∷ xs) (y ∷ ys) ≡ x ∷ with_hypotheses xs ys
+pub merge-same : (x y : NamedTerm) (xs ys : List NamedTerm) → nameless_cmp (image x) (image y) ≡ Equal → AreOrdered (y ∷ ys) → with_hypotheses (x ∷ xs) (y ∷ ys) ≡ x ∷ with_hypotheses xs ys
 merge-same x y xs ys is ordered =
     let placed : with_hypothesis (x ∷ xs) y ≡ x ∷ xs = ap (λ o. by_order o (y ∷ x ∷ xs) (x ∷ xs) (x ∷ with_hypothesis xs y)) (reversed (image x) (image y) Equal is) in
-    ap (λ l. with_hypotheses l ys) placed ∙ in_front x xs ys (before ys ordered.0) ordered.1
-  where
-    before : (zs : List NamedTerm) → IsBefore y zs → IsBefore x zs
-    before [] less = tt
-    before (z ∷ zs) less = nameless_cmp-IsOrder.total.congr (image x) (image y) (image z) is ∙ less
+    ap (λ l. with_hypotheses l ys) placed ∙ in_front x xs ys (before-same x y ys is ordered.0) ordered.1
 
-merge-after : (x y : NamedTerm) (xs ys : List NamedTerm) → nameless_cmp (image x) (image y) ≡ Greater → AreOrdered (y ∷ ys) → with_hypotheses (x ∷ xs) (y ∷ ys) ≡ y ∷ with_hypotheses (x ∷ xs) ys
+pub merge-after : (x y : NamedTerm) (xs ys : List NamedTerm) → nameless_cmp (image x) (image y) ≡ Greater → AreOrdered (y ∷ ys) → with_hypotheses (x ∷ xs) (y ∷ ys) ≡ y ∷ with_hypotheses (x ∷ xs) ys
 merge-after x y xs ys is ordered =
     let placed : with_hypothesis (x ∷ xs) y ≡ y ∷ x ∷ xs = ap (λ o. by_order o (y ∷ x ∷ xs) (x ∷ xs) (x ∷ with_hypothesis xs y)) (reversed (image x) (image y) Greater is) in
     ap (λ l. with_hypotheses l ys) placed ∙ in_front y (x ∷ xs) ys ordered.0 ordered.1
 
-merge-none : (ys : List NamedTerm) → AreOrdered ys → with_hypotheses [] ys ≡ ys
+pub merge-none : (ys : List NamedTerm) → AreOrdered ys → with_hypotheses [] ys ≡ ys
 merge-none [] ordered = refl
 merge-none (y ∷ ys) ordered = in_front y [] ys ordered.0 ordered.1 ∙ ap (λ l. y ∷ l) (merge-none ys ordered.1)
 
-ordered-drop : (n : ℕ) (xs : List NamedTerm) → AreOrdered xs → AreOrdered (drop n xs)
+pub ordered-drop : (n : ℕ) (xs : List NamedTerm) → AreOrdered xs → AreOrdered (drop n xs)
 ordered-drop zero xs ordered = ordered
 ordered-drop (suc n) [] ordered = tt
 ordered-drop (suc n) (x ∷ xs) ordered = ordered-drop n xs ordered.1

@@ -1,9 +1,10 @@
 -- What each rule answers is a theorem.
-use Rattle.std.proofs.Common.{◌≡◌, ◌⊎◌, ℕ, List, [], ◌∷◌, ◌++◌, map, Bool, true, false, ◌&&◌, ◌||◌, not, refl, sym, ◌∙◌, ap, subst, inl, inr, Option, Some, None, Result, if◌then◌else◌}
+use Rattle.std.proofs.Common.{◌≡◌, ◌⊎◌, ℕ, List, [], ◌∷◌, ◌++◌, map, Bool, true, false, ◌&&◌, ◌||◌, not, refl, sym, ◌∙◌, ap, subst, inl, inr, Option, Some, None, Result, Ok, Err, IfOk, IfErr, if◌then◌else◌}
 use Rattle.std.specs.Option.{option_map, option_map_or}
 use Rattle.std.specs.Str.{bytes_eq}
 use Rattle.std.proofs.lemmas.Slice.Eq.{bytes_eq-Decides}
 use Rattle.hol_model.specs.declared.fault.Fault.{Fault}
+use Rattle.hol_model.specs.declared.fault.Fault.TheVariants.{Memory}
 use Rattle.hol_model.specs.Terms.HolType.{HolType, bool_type, function_type, type_eq, instantiate_type}
 use Rattle.hol_model.specs.Terms.NamedTerm.{NamedTerm, variable, constant, combination, abstraction, type_of, application_type, same_variable, is_free, dest_variable, equation}
 use Rattle.hol_model.specs.Terms.Nameless.{free, const, app, lam, HasType, image}
@@ -22,7 +23,9 @@ use Rattle.hol_model.proofs.Logic.KnownTerms.{image-known, knows_type-IsKnownTyp
 use Rattle.hol_model.specs.Kernel.NamedAxioms.{eta_conclusion, select_hypothesis, select_conclusion}
 use Rattle.hol_model.specs.Kernel.Outcome.{Answers}
 use Rattle.hol_model.specs.Kernel.Theorem.{Theorem, IsTheorem, are_alpha_equivalent, with_hypotheses, without_hypothesis}
-use Rattle.hol_model.specs.Kernel.Rules.{first_unknown, dest_equation, dest_trivial_redex, is_formula, is_free_in_hypotheses, concluded, mk_comb_outcome, abs_outcome}
+use Rattle.hol_model.specs.Kernel.Rules.{first_unknown, dest_equation, dest_trivial_redex, is_formula, is_free_in_hypotheses, concluded, assume_outcome, mk_comb_outcome, abs_outcome}
+use Rattle.hol_kernel.specs.KnownFormula.{IsKnownFormula}
+use Rattle.hol_kernel.proofs.KnownLemmas.{no_unknown, known_where_none}
 use Rattle.hol_kernel.proofs.HypothesesLemmas.{with_hypotheses-same_set, image-without_hypothesis}
 use Rattle.hol_kernel.proofs.OrderLemmas.{with_hypotheses-ordered, kept-ordered}
 
@@ -43,6 +46,17 @@ passes_tests theory term none = go (knows_types theory term) refl (knows_constan
     go true is_types false instances is_instances none = cc
     go true is_types true false is_instances none = cc
     go true is_types true true is_instances none = record { types = is_types; instances = is_instances }
+
+-- a formula that is known passes the test of formulas, and one that passes both tests is a known formula
+pub known_is_formula : (theory : Theory) (term : NamedTerm) → IsKnownFormula theory term → is_formula term ≡ true
+known_is_formula theory term known = rw known.typed refl
+
+pub passed_formula : (theory : Theory) (term : NamedTerm) → is_formula term ≡ true → first_unknown theory term ≡ None → IsKnownFormula theory term
+passed_formula theory term formula none = record { known = known_where_none theory term none; typed = is_typed (type_of term) refl formula }
+  where
+    is_typed : (found : Option HolType) → type_of term ≡ found → option_map_or (λ ty. type_eq ty bool_type) found false ≡ true → type_of term ≡ Some bool_type
+    is_typed None is passed = cc
+    is_typed (Some ty) is passed = is ∙ ap Some ((type_eq-Decides ty bool_type).0 passed)
 
 pub known_term : (theory : Theory) (term : NamedTerm) (ty : HolType) → first_unknown theory term ≡ None → type_of term ≡ Some ty → IsKnown theory (image term) ty
 known_term theory term ty none typed =
@@ -358,6 +372,17 @@ pub answers-concluded : (result outcome : Result Theorem Fault) (theory entries 
 answers-concluded result outcome theory entries hypotheses items a b left right is one two three four answers =
     let parts : concluded entries items (equation left right) ≡ concluded theory hypotheses (equation a b) = λ i. concluded (one i) (two i) (equation (three i) (four i)) in
     subst (λ (o : Result Theorem Fault). Answers result o) (parts ∙ sym is) answers
+
+-- the outcome of ASSUME of a known formula, as the program makes its parts
+pub assume-answers : (theory : Theory) (term : NamedTerm) → IsKnownFormula theory term → (result : Result Theorem Fault) (entries : Theory) (items : List NamedTerm) (conclusion : NamedTerm)
+    → entries ≡ theory → items ≡ term ∷ [] → conclusion ≡ term
+    → IfOk result (λ made. made ≡ record { theory = entries; hypotheses = items; conclusion = conclusion }) → IfErr result (λ fault. fault ≡ Memory) → Answers result (assume_outcome theory term)
+assume-answers theory term known (Ok made) entries items conclusion one two three ok err =
+    let assumed : Theorem = record { theory = theory; hypotheses = term ∷ []; conclusion = term } in
+    let outcome : assume_outcome theory term ≡ Ok assumed = rw (known_is_formula theory term known, no_unknown theory term known.known) refl in
+    let parts : record { theory = entries; hypotheses = items; conclusion = conclusion } ≡ assumed = λ i. record { theory = one i; hypotheses = two i; conclusion = three i } in
+    outcome ∙ ap Ok (sym (ok ∙ parts))
+assume-answers theory term known (Err fault) entries items conclusion one two three ok err = inl err
 
 -- the axioms
 

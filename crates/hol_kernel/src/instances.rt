@@ -25,7 +25,8 @@ use hol_types::{Ty, replaces_type_variables};
 use std::alloc::Global;
 
 impl Theory {
-    /// INST: free variables replaced by terms of their types, all at once, by a list of pairs (new, old).
+    /// INST: free variables replaced by terms of their types, all at once, by a list of pairs (new, old). Walks the new
+    /// terms, to see that the theory knows them; for replacements that a proof shows to be accepted, `inst_known`.
     pub fn inst(&self, alloc: Global, theta: &[(Term, Term)], theorem: &Thm) -> Result<Thm, Fault>
         requires { IsEarlier theorem.now.theory self.now }
         ensures outcome { AnswersSuch result (spec.inst_refusal self.now theta.now theorem.now) (spec.IsInst self.now theta.now theorem.now) }
@@ -34,6 +35,21 @@ impl Theory {
         if let Some(fault) = replacements_refusal(theta, self) {
             return Err(fault);
         }
+        self.inst_known(alloc, theta, theorem)
+    }
+
+    /// INST by terms that the theory knows, for variables of their types, which are not walked for it.
+    pub fn inst_known(
+        &self,
+        alloc: Global,
+        theta: &[(Term, Term)],
+        theorem: &Thm,
+    ) -> Result<Thm, Fault>
+        requires theorem { IsEarlier theorem.now.theory self.now }
+        requires known { spec.replacements_refusal self.now theta.now ≡ None }
+        ensures outcome { AnswersSuch result (spec.inst_refusal self.now theta.now theorem.now) (spec.IsInst self.now theta.now theorem.now) }
+        ensures stands_on { IfOk result (λ answer. answer.theory ≡ self.now) }
+    {
         changed(alloc, self.entries()?, &Change::Variables(theta), theorem)
     }
 

@@ -1,12 +1,14 @@
 // The rules of the kernel (those of HOL Light's `fusion.ml`). A theorem handed in stands on this theory or an earlier
 // state of it.
-ghost use Rattle.std.specs.Prelude.{◌≡◌, [], ◌∷◌, Some, IfOk};
+ghost use Rattle.std.specs.Prelude.{◌≡◌, [], ◌∷◌, Some, true, IfOk};
 ghost use Rattle.hol_model.specs.Terms.HolType.{HolType};
 ghost use Rattle.hol_model.specs.Terms.NamedTerm.{type_of, equation};
 ghost use Rattle.hol_model.specs.Logic.Theory.{IsEarlier};
+ghost use Rattle.hol_model.specs.Logic.KnownTerm.{is_known};
 ghost use Rattle.hol_model.specs.Kernel.Theorem.{IsTheorem};
 ghost use Rattle.hol_model.specs.Kernel.Rules as outcome;
 ghost use Rattle.hol_model.specs.Kernel.Outcome.{Answers};
+ghost use Rattle.hol_kernel.specs.KnownFormula.{IsKnownFormula};
 
 use crate::entries::Entries;
 use crate::equation::{
@@ -41,7 +43,8 @@ fn equation_theorem(
 }
 
 impl Theory {
-    /// REFL: `|- t = t`.
+    /// REFL: `|- t = t`. Walks the term, to see that the theory knows it; for a term that a proof shows to be known,
+    /// `refl_known`.
     pub fn refl(&self, alloc: Global, term: &Term) -> Result<Thm, Fault>
         ensures outcome { Answers result (outcome.refl_outcome self.now term.now) }
         ensures stands_on { IfOk result (λ answer. answer.theory ≡ self.now) }
@@ -49,10 +52,20 @@ impl Theory {
         if let Some(fault) = self.first_unknown(term) {
             return Err(fault);
         }
+        self.refl_known(alloc, term)
+    }
+
+    /// REFL of a term that the theory knows, which is not walked for it.
+    pub fn refl_known(&self, alloc: Global, term: &Term) -> Result<Thm, Fault>
+        requires { is_known self.now term.now ≡ true }
+        ensures outcome { Answers result (outcome.refl_outcome self.now term.now) }
+        ensures stands_on { IfOk result (λ answer. answer.theory ≡ self.now) }
+    {
         equation_theorem(alloc, self.entries()?, Vec::new(alloc), term, term)
     }
 
-    /// ASSUME: `p |- p`.
+    /// ASSUME: `p |- p`. Walks the term, to see that the theory knows it; for a formula that a proof shows to be known,
+    /// `assume_known`.
     pub fn assume(&self, alloc: Global, term: &Term) -> Result<Thm, Fault>
         ensures outcome { Answers result (outcome.assume_outcome self.now term.now) }
         ensures stands_on { IfOk result (λ answer. answer.theory ≡ self.now) }
@@ -63,6 +76,15 @@ impl Theory {
         if let Some(fault) = self.first_unknown(term) {
             return Err(fault);
         }
+        self.assume_known(alloc, term)
+    }
+
+    /// ASSUME of a formula that the theory knows, which is not walked for it.
+    pub fn assume_known(&self, alloc: Global, term: &Term) -> Result<Thm, Fault>
+        requires { IsKnownFormula self.now term.now }
+        ensures outcome { Answers result (outcome.assume_outcome self.now term.now) }
+        ensures stands_on { IfOk result (λ answer. answer.theory ≡ self.now) }
+    {
         let mut hypotheses = Vec::new(alloc);
         hypotheses.push(term.copy(alloc)?)?;
         Thm::new(alloc, self.entries()?, hypotheses, term.copy(alloc)?)
@@ -150,17 +172,30 @@ impl Theory {
         equation_theorem(alloc, entries, hypotheses, &left, &right)
     }
 
-    /// BETA: `|- (\x. t) x = t`.
+    /// BETA: `|- (\x. t) x = t`. Walks the redex, to see that the theory knows it; for a term that a proof shows to be
+    /// known, `beta_known`.
     pub fn beta(&self, alloc: Global, term: &Term) -> Result<Thm, Fault>
+        ensures outcome { Answers result (outcome.beta_outcome self.now term.now) }
+        ensures stands_on { IfOk result (λ answer. answer.theory ≡ self.now) }
+    {
+        if dest_trivial_redex(term).is_none() {
+            return Err(Fault::NotTrivialBeta);
+        }
+        if let Some(fault) = self.first_unknown(term) {
+            return Err(fault);
+        }
+        self.beta_known(alloc, term)
+    }
+
+    /// BETA of a term that the theory knows, which is not walked for it.
+    pub fn beta_known(&self, alloc: Global, term: &Term) -> Result<Thm, Fault>
+        requires { is_known self.now term.now ≡ true }
         ensures outcome { Answers result (outcome.beta_outcome self.now term.now) }
         ensures stands_on { IfOk result (λ answer. answer.theory ≡ self.now) }
     {
         let Some(body) = dest_trivial_redex(term) else {
             return Err(Fault::NotTrivialBeta);
         };
-        if let Some(fault) = self.first_unknown(term) {
-            return Err(fault);
-        }
         equation_theorem(alloc, self.entries()?, Vec::new(alloc), term, body)
     }
 

@@ -3,8 +3,16 @@
 #![tactic(auto)]
 
 #[cfg(test)]
+mod claim_tests;
+#[cfg(test)]
+mod device_tests;
+#[cfg(test)]
 mod log_tests;
 #[cfg(test)]
 mod run_log_tests;
 #[cfg(test)]
+mod runs;
+#[cfg(test)]
 mod sinks;
+#[cfg(test)]
+mod sources;

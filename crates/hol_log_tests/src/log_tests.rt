@@ -1,9 +1,9 @@
 // Whole logs with the answers that they must have.
-ghost use Rattle.std.specs.Prelude.{◌≡◌, false};
-
 use crate::sinks::Kept;
+use crate::sources::{Endless, FailsSecond};
 use hol_check::{TermParts, TermView, check, migrate, write_claims};
-use hol_model::{Cause, DeviceFail, Fault, FromRead, Source};
+use hol_devices::FromRead;
+use hol_model::{Cause, Fault};
 use itoa::Buffer;
 use std::alloc::Global;
 use std::test::Fail;
@@ -206,21 +206,42 @@ fn limits_the_height_of_terms(rt: HostRuntime) -> Result<(), Fail> {
     Ok(())
 }
 
-// Gives line feeds without an end.
-#[derive(Drop)]
-struct Endless;
+// Appends `t a` and two numbers as a line.
+fn push_application(log: &mut Vec<u8>, function: u32, argument: u32) -> Result<(), Fault> {
+    let mut digits = Buffer::new();
+    log.extend_from_slice(b"t a ")?;
+    log.extend_from_slice(digits.format(function).as_bytes())?;
+    log.push(b' ')?;
+    log.extend_from_slice(digits.format(argument).as_bytes())?;
+    log.push(b'\n')?;
+    Ok(())
+}
 
-impl Source for Endless {
-    ghost has_failed = { λ _. false };
-
-    fn pull(&mut self, buf: &mut [u8]) -> Result<usize, DeviceFail> {
-        buf.fill(b'\n');
-        Ok(buf.len())
+// The refusal, if there is one, of a log of the variable `x` and of so many steps from a term t to `f t t`.
+fn doublings(alloc: Global, count: u32) -> Result<Option<Fault>, Fault> {
+    let mut last = 1u32;
+    let mut log = Vec::new(alloc);
+    log.extend_from_slice(b"holp-log 1\ny b\ny f 0 0\ny f 0 1\nt v f 2\nt v x 0\n")?;
+    for _ in 0..count {
+        let applied = last.wrapping_add(1);
+        push_application(&mut log, 0, last)?;
+        push_application(&mut log, applied, last)?;
+        last = applied.wrapping_add(1);
     }
+    log.extend_from_slice(b"end 0\n")?;
+    let mut reader = FromRead::new(log.as_slice());
+    Ok(check(alloc, &mut reader).err())
+}
 
-    fn failed(&self) -> bool {
-        false
-    }
+// Twenty doublings have 4,194,301 nodes, nineteen 2,097,149.
+#[test]
+fn limits_the_nodes_of_terms(rt: HostRuntime) {
+    let refusal = Fault::LogFault {
+        line: 46,
+        cause: Cause::Large,
+    };
+    assert!(rt; doublings(rt.alloc(), 19) == Ok(None));
+    assert!(rt; doublings(rt.alloc(), 20) == Ok(Some(refusal)));
 }
 
 #[test]
@@ -228,41 +249,8 @@ fn too_long_a_log_comes_before_its_fault(rt: HostRuntime) {
     assert!(rt; check(rt.alloc(), &mut Endless).err() == Some(Fault::TooLong));
 }
 
-// Gives a line that is no header, and fails in the second call.
-#[derive(Drop)]
-struct FailsSecond {
-    called: bool,
-    failed: bool,
-}
-
-impl Source for FailsSecond {
-    ghost has_failed = { λ s. s.failed };
-
-    fn pull(&mut self, buf: &mut [u8]) -> Result<usize, DeviceFail> {
-        if self.called {
-            self.failed = true;
-            return Err(DeviceFail);
-        }
-        self.called = true;
-        match buf.first_mut() {
-            Some(byte) => {
-                *byte = b'\n';
-                Ok(1)
-            }
-            None => Ok(0),
-        }
-    }
-
-    fn failed(&self) -> bool {
-        self.failed
-    }
-}
-
 #[test]
 fn failed_source_comes_before_a_fault(rt: HostRuntime) {
-    let mut source = FailsSecond {
-        called: false,
-        failed: false,
-    };
+    let mut source = FailsSecond::new(b"\n");
     assert!(rt; check(rt.alloc(), &mut source).err() == Some(Fault::ReadFault));
 }

@@ -1,4 +1,4 @@
-// A sink that keeps what it takes.
+// Sinks that keep what they take.
 ghost use Rattle.std.specs.Prelude.{◌≡◌, false};
 
 use hol_model::{DeviceFail, Sink};
@@ -29,6 +29,53 @@ impl Sink for Kept {
     fn emit(&mut self, piece: &[u8]) -> Result<usize, DeviceFail> {
         match self.bytes.extend_from_slice(piece) {
             Ok(()) => Ok(piece.len()),
+            Err(_) => {
+                self.failed = true;
+                Err(DeviceFail)
+            }
+        }
+    }
+
+    fn failed(&self) -> bool {
+        self.failed
+    }
+}
+
+/// A sink that keeps what it takes, and fails once so many bytes are taken.
+#[derive(Drop)]
+pub(crate) struct Narrow {
+    pub(crate) bytes: Vec<u8>,
+    room: usize,
+    failed: bool,
+}
+
+impl Narrow {
+    /// A sink that has taken nothing, with room for so many bytes.
+    pub(crate) fn new(alloc: Global, room: usize) -> Narrow
+        ensures { result.failed ≡ false }
+    {
+        Narrow {
+            bytes: Vec::new(alloc),
+            room,
+            failed: false,
+        }
+    }
+}
+
+impl Sink for Narrow {
+    ghost has_failed = { λ s. s.failed };
+
+    fn emit(&mut self, piece: &[u8]) -> Result<usize, DeviceFail> {
+        let count = self.room.min(piece.len());
+        if count == 0 && !piece.is_empty() {
+            self.failed = true;
+            return Err(DeviceFail);
+        }
+        match self.bytes.extend_from_slice(&piece[..count]) {
+            Ok(()) => {
+                self.room -= count;
+                Ok(count)
+            }
             Err(_) => {
                 self.failed = true;
                 Err(DeviceFail)

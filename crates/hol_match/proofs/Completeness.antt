@@ -10,6 +10,7 @@ use Rattle.hol_model.specs.Terms.Substitution.{replacement, is_variable_named, i
 use Rattle.hol_model.proofs.Terms.HolTypeEq.{type_eq-Decides}
 use Rattle.hol_model.proofs.Terms.Images.{image-typed}
 use Rattle.hol_model.specs.Rewrites.Matching.{is_fixed, is_fixed_type, PutsType, PutsTerm, Matches}
+use Rattle.hol_match.specs.Once.{IsOnce}
 use Rattle.hol_match.specs.Walk.{Types, Terms, Found, match_part}
 use Rattle.hol_match.proofs.TypeMatching.{found_member, found_passes, KeepsTypes, Solves, IsTypeTable}
 use Rattle.hol_match.proofs.TermMatching.{named_variable, KeepsVariables, SolvesTerms, IsTermTable, IsTypePairFor, IsTermPairFor, PartFound, PartAnswer, part_answer}
@@ -75,10 +76,10 @@ terms_typed fixed terms table name ty = go (find (λ pair. is_variable_named nam
         image-typed pair.0 ty (known.is_typed ∙ ap Some same_type)
 
 empty_types : (fixed : List NamedTerm) → IsTypeTable fixed []
-empty_types fixed = record { pairs = λ pair member. absurd member }
+empty_types fixed = record { pairs = λ pair member. absurd member; once = tt }
 
 empty_terms : (fixed : List NamedTerm) → IsTermTable fixed []
-empty_terms fixed = record { pairs = λ pair member. absurd member }
+empty_terms fixed = record { pairs = λ pair member. absurd member; once = tt }
 
 is_match : (fixed : List NamedTerm) (pattern term : NamedTerm) (more : Found) → PartFound fixed ([], []) (image pattern) (image term) more
     → Matches fixed pattern term more.0 more.1
@@ -138,13 +139,23 @@ is_match fixed pattern term more found = record {
         }
 
 -- where the walk finds something
+whole_found : (fixed : List NamedTerm) (pattern term : NamedTerm) (types : Types) (terms : Terms) (fits : Bool)
+    → match_part fixed [] ([], []) pattern term ≡ (if fits then Some (types, terms) else None) → fits ≡ true
+    → PartFound fixed ([], []) (image pattern) (image term) (types, terms)
+whole_found fixed pattern term types terms fits found passed =
+    subst (λ (o : Option Found). PartAnswer fixed ([], []) (image pattern) (image term) o)
+    (found ∙ ap (λ (test : Bool). if test then Some (types, terms) else None) passed)
+    (part_answer fixed [] ([], []) pattern term)
+
 pub match_found : (fixed : List NamedTerm) (pattern term : NamedTerm) (types : Types) (terms : Terms) (fits : Bool)
     → match_part fixed [] ([], []) pattern term ≡ (if fits then Some (types, terms) else None) → fits ≡ true → Matches fixed pattern term types terms
 match_found fixed pattern term types terms fits found passed =
-    let answer : PartAnswer fixed ([], []) (image pattern) (image term) (Some (types, terms)) =
-    subst (λ (o : Option Found). PartAnswer fixed ([], []) (image pattern) (image term) o)
-    (found ∙ ap (λ (test : Bool). if test then Some (types, terms) else None) passed)
-    (part_answer fixed [] ([], []) pattern term) in
-    is_match fixed pattern term (types, terms) answer
+    is_match fixed pattern term (types, terms) (whole_found fixed pattern term types terms fits found passed)
+
+pub match_once : (fixed : List NamedTerm) (pattern term : NamedTerm) (types : Types) (terms : Terms) (fits : Bool)
+    → match_part fixed [] ([], []) pattern term ≡ (if fits then Some (types, terms) else None) → fits ≡ true → IsOnce types × IsOnce terms
+match_once fixed pattern term types terms fits found passed =
+    let whole = whole_found fixed pattern term types terms fits found passed in
+    ((whole.type_table (empty_types fixed)).once, (whole.term_table (empty_terms fixed)).once)
 
 pub ruleset matching = (match_found, part_answer)

@@ -14,9 +14,11 @@ use Rattle.hol_model.proofs.Tests.{same_name, same_variable-type, same_variable-
 use Rattle.hol_model.proofs.Terms.Typing.{HasType-more}
 use Rattle.hol_model.proofs.Terms.Images.{binder_types, image_under-type}
 use Rattle.hol_model.specs.Rewrites.Matching.{is_fixed, MayBePut}
+use Rattle.hol_match.specs.Once.{IsOnce}
 use Rattle.hol_match.specs.Walk.{Types, Terms, Found, Sides, left_of, right_of, match_type, bound_alike, stays_inside, with_known_term, with_term, match_free, match_variable, match_part}
 use Rattle.hol_match.proofs.BoundVariables.{BoundAlike, bound_alike-is}
 use Rattle.hol_match.proofs.ClosedParts.{image_of_closed, stays_where_typed}
+use Rattle.hol_match.proofs.Once.{once_more, not_found}
 use Rattle.hol_match.proofs.TypeMatching.{found_member, found_passes, found_before, found_last, KeepsTypes, Solves, IsTypeTable, IsPairFor, TypesFound, TypeAnswer, type_answer}
 
 -- what passes the test for a variable
@@ -56,6 +58,7 @@ pub record IsTermPair (fixed : List NamedTerm) (terms : Terms) (pair : NamedTerm
 
 pub record IsTermTable (fixed : List NamedTerm) (terms : Terms) : Type 0 where
   pub pairs : (pair : NamedTerm × NamedTerm) → IsMember pair terms → IsTermPair fixed terms pair
+  pub once : IsOnce terms
 
 -- a pair is for this variable
 pub record IsPairOf (name : List ℕ) (ty : HolType) (pair : NamedTerm × NamedTerm) : Type 0 where
@@ -89,7 +92,10 @@ one_more fixed terms name ty term typed changes absent = record {
   solves_more = λ theta keeps solves e. record { puts = λ pair member. put_one theta solves e pair (of_append pair terms (new ∷ []) member) };
   solved_before = λ theta solves. record { puts = λ pair member. solves.puts pair (IsMember-append_left pair terms (new ∷ []) member) };
   gives = λ theta keeps solves. solves.puts new (IsMember-append_right new terms (new ∷ []) (inl refl));
-  table = λ table. record { pairs = λ pair member. is_pair table pair (of_append pair terms (new ∷ []) member) };
+  table = λ table. record {
+    pairs = λ pair member. is_pair table pair (of_append pair terms (new ∷ []) member);
+    once = once_more terms new table.once (not_found (λ other. is_variable_named name ty other.1) terms new absent (same_variable-self name ty));
+  };
   named = λ pair member. is_named pair (of_append pair terms (new ∷ []) member);
 }
   where

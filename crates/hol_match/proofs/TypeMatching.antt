@@ -11,7 +11,9 @@ use Rattle.hol_model.specs.Terms.NamedTerm.{NamedTerm}
 use Rattle.hol_model.proofs.Terms.HolTypeEq.{type_eq-Decides, type_eq-self}
 use Rattle.hol_model.proofs.Terms.Membership.{of_append, IsMember-append_left, IsMember-append_right}
 use Rattle.hol_model.specs.Rewrites.Matching.{is_fixed_type}
+use Rattle.hol_match.specs.Once.{IsOnce}
 use Rattle.hol_match.specs.Walk.{Types, with_type, with_known_type, match_type}
+use Rattle.hol_match.proofs.Once.{once_more, not_found}
 
 -- the first element that passes is an element, and passes
 pub found_member : {A : Type 0} (p : A → Bool) (xs : List A) (x : A) → find p xs ≡ Some x → IsMember x xs
@@ -54,6 +56,7 @@ pub record IsTypePair (fixed : List NamedTerm) (types : Types) (pair : HolType �
 
 pub record IsTypeTable (fixed : List NamedTerm) (types : Types) : Type 0 where
   pub pairs : (pair : HolType × HolType) → IsMember pair types → IsTypePair fixed types pair
+  pub once : IsOnce types
 
 -- a pair is for a type variable of a type
 pub record IsPairFor (generic : HolType) (pair : HolType × HolType) : Type 0 where
@@ -93,7 +96,10 @@ more_pairs fixed types name ty changes absent = record {
   solves_more = λ tau keeps solves e. record { puts = λ pair member. put_one tau solves e pair (of_append pair types (new ∷ []) member) };
   solved_before = λ tau solves. record { puts = λ pair member. solves.puts pair (IsMember-append_left pair types (new ∷ []) member) };
   gives = λ tau keeps solves. solves.puts new (IsMember-append_right new types (new ∷ []) (inl refl));
-  table = λ table. record { pairs = λ pair member. is_pair table pair (of_append pair types (new ∷ []) member) };
+  table = λ table. record {
+    pairs = λ pair member. is_pair table pair (of_append pair types (new ∷ []) member);
+    once = once_more types new table.once (not_found (λ other. type_eq other.1 (type_variable name)) types new absent (type_eq-self (type_variable name)));
+  };
   named = λ pair member. is_named pair (of_append pair types (new ∷ []) member);
 }
   where

@@ -1,3 +1,4 @@
 pub mod Walk
 pub mod Frames
 pub mod Inside
+pub mod Once

@@ -8,6 +8,7 @@ ghost use Rattle.hol_model.specs.declared.fault.Fault.TheVariants.{Memory, NoMat
 ghost use Rattle.hol_model.specs.Rewrites.Matching.{HasNoMatch, Matches};
 ghost use Rattle.hol_model.specs.Rewrites.Matching as definitions;
 ghost use Rattle.hol_match.specs.Frames.{sides_of};
+ghost use Rattle.hol_match.specs.Once.{IsOnce};
 ghost use Rattle.hol_match.specs.Walk as spec;
 
 use crate::frames::{Frames, Named, bound_alike, is_variable_named};
@@ -32,7 +33,7 @@ pub struct Match {
 /// The variables in `fixed` and the type variables in their types stay. Other members of `fixed` count for nothing.
 ///
 /// Each pair is for a type variable of the pattern, or for a variable that is free in it once types are put in, and is the
-/// first for it. Variables that become one as types are put in have one pair.
+/// only one for it. Variables that become one as types are put in have one pair.
 ///
 /// Refused: NoMatch, exactly where there is no match, and Memory.
 #[tactic(auto, using(crate::proofs::Completeness::matching))]
@@ -43,6 +44,7 @@ pub fn term_match(
     term: &Term,
 ) -> Result<Match, Fault>
     ensures ok { IfOk result (λ found. Matches fixed.now pattern.now term.now found.types.items found.terms.items) }
+    ensures once { IfOk result (λ found. IsOnce found.types.items × IsOnce found.terms.items) }
     ensures err { IfErr result (λ fault. (fault ≡ Memory) ⊎ ((fault ≡ NoMatch) × HasNoMatch fixed.now pattern.now term.now)) }
 {
     let mut found = Match {

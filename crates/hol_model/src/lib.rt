@@ -26,6 +26,6 @@ pub use name::{is_constant_name, is_declared_type_name, is_identifier, is_type_v
 pub use rule::{
     Axiom, DerivedKind, PairRule, PremiseRule, PremisesRule, RuleKind, TermPremiseRule, TermRule,
 };
-pub use sink::{IntoWrite, Sink};
-pub use source::{FromRead, Source};
+pub use sink::Sink;
+pub use source::Source;
 pub use symbol::Symbol;

@@ -1,10 +1,9 @@
 // The devices that a run writes to.
-ghost use Rattle.std.specs.Prelude.{◌≡◌, ◌||◌, Bool, false, ℕ, List, [], Option, None, is_err, IfOk};
+ghost use Rattle.std.specs.Prelude.{◌≡◌, ◌||◌, Bool, ℕ, List, [], Option, None, is_err, IfOk};
 ghost use Rattle.std.specs.Io.{WritesAtMost};
 ghost use Rattle.std.specs.Io.KnownBytes.{WriteAppends};
 
 use crate::DeviceFail;
-use std::io::Write;
 
 /// A device that takes bytes.
 pub trait Sink {
@@ -24,50 +23,4 @@ pub trait Sink {
     /// Whether a call has failed.
     fn failed(&self) -> bool
         ensures { result ≡ has_failed self.now };
-}
-
-/// A writer of std as a sink.
-#[derive(Drop)]
-pub struct IntoWrite<W: Write + Drop> {
-    writer: W,
-    failed: bool,
-}
-
-impl<W: Write + Drop> IntoWrite<W> {
-    /// A sink over a writer. It tells the bytes that the writer tells.
-    pub fn new(writer: W) -> IntoWrite<W>
-        ensures bytes { ⟦<IntoWrite<W> as Sink>⟧.contents result ≡ W.contents writer }
-        ensures unfailed { ⟦<IntoWrite<W> as Sink>⟧.has_failed result ≡ false }
-    {
-        IntoWrite {
-            writer,
-            failed: false,
-        }
-    }
-}
-
-impl<W: Write + Drop> Sink for IntoWrite<W> {
-    ghost contents = { λ s. W.contents s.writer };
-
-    ghost has_failed = { λ s. s.failed };
-
-    fn emit(&mut self, piece: &[u8]) -> Result<usize, DeviceFail> {
-        match self.writer.write(piece) {
-            Ok(n) => {
-                if n == 0 && !piece.is_empty() {
-                    self.failed = true;
-                    return Err(DeviceFail);
-                }
-                Ok(n)
-            }
-            Err(_) => {
-                self.failed = true;
-                Err(DeviceFail)
-            }
-        }
-    }
-
-    fn failed(&self) -> bool {
-        self.failed
-    }
 }

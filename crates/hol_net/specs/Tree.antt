@@ -76,8 +76,9 @@ abbrev pub all_places : List (Vec ℕ Global) → List ℕ → List ℕ
 all_places ends [] = []
 all_places ends (node ∷ nodes) = places_at ends node ++ all_places ends nodes
 
--- each edge leads to a node
+-- there is a root, and each edge leads to a node
 pub record IsTree (tree : Tree) : Type 0 where
+  pub root : 0 < length tree.ends.items
   pub leads : (from : ℕ) (symbol : Symbol) (to : ℕ) → steps_of tree from symbol ≡ Some to → to < length tree.ends.items
 
 -- what is in a tree stays

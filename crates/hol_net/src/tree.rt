@@ -1,5 +1,5 @@
 // A discrimination tree: where patterns end, by the way that their symbols lead.
-ghost use Rattle.std.specs.Prelude.{◌≡◌, ◌<◌, ◌++◌, Some, None, IfOk, IfErr, OnOk, length};
+ghost use Rattle.std.specs.Prelude.{◌≡◌, ◌<◌, [], ◌∷◌, ◌++◌, Some, None, IfOk, IfErr, OnOk, length, map};
 ghost use Rattle.hol_model.specs.Logic.Derivable.{IsMember};
 ghost use Rattle.hol_model.specs.declared.fault.Fault.TheVariants.{Memory};
 ghost use Rattle.hol_net.specs.Tree as spec;
@@ -41,9 +41,12 @@ pub struct Tree {
 }
 
 impl Tree {
-    /// The tree of no patterns.
+    /// The tree of no patterns: its root alone.
     pub fn new(alloc: Global) -> Result<Tree, Fault>
         ensures tree { IfOk result IsTree }
+        ensures names { IfOk result (λ tree. tree.names.entries ≡ []) }
+        ensures edges { IfOk result (λ tree. tree.edges.entries ≡ []) }
+        ensures root { IfOk result (λ tree. map (λ places. places.items) tree.ends.items ≡ [] ∷ []) }
         ensures err { IfErr result (λ fault. fault ≡ Memory) }
     {
         let mut ends = Vec::new(alloc);

@@ -4,7 +4,6 @@ use Rattle.std.specs.Str.{bytes_eq}
 use Rattle.std.proofs.lemmas.Slice.Eq.{bytes_eq-Decides}
 use Rattle.std.proofs.lemmas.List.{append-nil}
 use Rattle.std.proofs.lemmas.Bool.Decides.{leb_tells}
-use Rattle.hol_model.specs.declared.fault.Fault.{Fault}
 use Rattle.hol_model.specs.Terms.Name.{is_identifier, is_symbol, is_constant_name}
 use Rattle.hol_model.specs.Terms.HolType.{type_eq}
 use Rattle.hol_model.specs.Texts.TermGrammar.{Infix, Variable, TermTree, Apply, Not, Join, Bind, Enclosed, infix_level, infix_symbol, Binder, binder_symbol, level}
@@ -58,9 +57,9 @@ pub token_named : (name : List ℕ) → is_constant_name name ≡ true → token
 token_named name h = identifier_or (is_identifier name) name _ (is_symbol name) h (symbol_named name)
 
 -- an answer that holds where another does
-pub on_ok : {P Q : Type 0} (result : Result (Unit {0}) Fault) → OnOk result P → (P → Q) → OnOk result Q
+pub on_ok : {P Q E : Type 0} (result : Result (Unit {0}) E) → OnOk result P → (P → Q) → OnOk result Q
 on_ok (Ok x) h f = f h
-on_ok (Err fault) h f = tt
+on_ok (Err error) h f = tt
 
 -- every tree stands where no level is asked for
 pub enclose_none : (tree : TermTree) → enclose 0 tree ≡ tree

@@ -1,15 +1,13 @@
 // The types of the innermost binders, by name.
-ghost use Rattle.std.specs.Prelude.{◌≡◌, [], ◌∷◌, Some, IfOk, IfErr, OnOk};
+ghost use Rattle.std.specs.Prelude.{◌≡◌, [], ◌∷◌, Some, IfOk, OnOk};
 ghost use Rattle.std.specs.Option.{option_map};
 ghost use Rattle.std.specs.HashMap as map;
-ghost use Rattle.hol_model.specs.declared.fault.Fault.TheVariants.{Memory};
 ghost use Rattle.hol_model.specs.Terms.HolType.{HolType};
 ghost use Rattle.hol_model.specs.Texts.Reading.{Bindings, bound_type};
 ghost use Rattle.hol_print.specs.Innermost.{SetsBound, IsInnermost};
 
-use hol_model::Fault;
 use hol_types::Ty;
-use std::alloc::Global;
+use std::alloc::{AllocError, Global};
 use std::collections::HashMap;
 
 /// The type of the innermost open binder of each name.
@@ -24,10 +22,9 @@ fn set_type(
     types: &mut HashMap<String, Ty>,
     name: &str,
     ty: Ty,
-) -> Result<Option<Ty>, Fault>
+) -> Result<Option<Ty>, AllocError>
     ensures old { IfOk result (λ hidden. hidden ≡ map.get_by_text types.old name.now) }
     ensures new { OnOk result (SetsBound (map.get_by_text types.old) (map.get_by_text types.new) name.now (Some ty)) }
-    ensures err { IfErr result (λ fault. fault ≡ Memory) }
 {
     let key = String::from_str(alloc, name)?;
     let hidden = types.insert(key, ty)?;
@@ -40,9 +37,8 @@ fn reset_type(
     types: &mut HashMap<String, Ty>,
     name: &str,
     hidden: Option<Ty>,
-) -> Result<(), Fault>
+) -> Result<(), AllocError>
     ensures new { OnOk result (SetsBound (map.get_by_text types.old) (map.get_by_text types.new) name.now hidden) }
-    ensures err { IfErr result (λ fault. fault ≡ Memory) }
 {
     match hidden {
         Some(ty) => match set_type(alloc, types, name, ty) {
@@ -78,20 +74,20 @@ impl Innermost {
     }
 
     /// Opens a binder, and hands out the type that its name stood for.
-    pub fn enter(&mut self, alloc: Global, name: &str, ty: &Ty) -> Result<Option<Ty>, Fault>
+    pub fn enter(&mut self, alloc: Global, name: &str, ty: &Ty) -> Result<Option<Ty>, AllocError>
         ensures hidden { (bindings : Bindings) → IsInnermost self.old bindings → IfOk result (λ hidden. hidden ≡ bound_type bindings name.now) }
         ensures opened { (bindings : Bindings) → IsInnermost self.old bindings → OnOk result (IsInnermost self.new ((name.now, ty.now) ∷ bindings)) }
-        ensures err { IfErr result (λ fault. fault ≡ Memory) }
     {
-        let ty = ty.copy(alloc)?;
+        let Ok(ty) = ty.copy(alloc) else {
+            return Err(AllocError);
+        };
         set_type(alloc, &mut self.types, name, ty)
     }
 
     /// Closes the innermost binder, which has this name, and gives the name back the type that it stood for.
-    pub fn leave(&mut self, alloc: Global, name: &str, hidden: Option<Ty>) -> Result<(), Fault>
+    pub fn leave(&mut self, alloc: Global, name: &str, hidden: Option<Ty>) -> Result<(), AllocError>
         ensures closed { (ty : HolType) (bindings : Bindings) → IsInnermost self.old ((name.now, ty) ∷ bindings) → hidden ≡ bound_type bindings name.now
             → OnOk result (IsInnermost self.new bindings) }
-        ensures err { IfErr result (λ fault. fault ≡ Memory) }
     {
         reset_type(alloc, &mut self.types, name, hidden)
     }

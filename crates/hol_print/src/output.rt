@@ -1,44 +1,46 @@
 // Bytes at the end of a text.
-ghost use Rattle.std.specs.Prelude.{◌≡◌, ◌∷◌, ◌++◌, OnOk, IfErr};
+ghost use Rattle.std.specs.Prelude.{◌≡◌, ◌∷◌, ◌++◌, OnOk};
 ghost use Rattle.std.specs.String.{string_bytes};
-ghost use Rattle.hol_model.specs.declared.fault.Fault.TheVariants.{Memory};
 ghost use Rattle.hol_model.specs.Texts.Printing.{type_tree};
 ghost use Rattle.hol_model.specs.Texts.Texts.{type_bytes};
 ghost use Rattle.hol_print.specs.Output.{Appends, opening, closing};
 ghost use Rattle.hol_print.specs.PrintedType.{placed};
 
-use hol_model::Fault;
 use hol_types::{Ty, TypeParts};
+use std::alloc::AllocError;
 
-/// Puts a text at the end.
-pub fn append(out: &mut String, text: &str) -> Result<(), Fault>
+/// Puts a text at the end. One of a byte or two, as marks and most names are, is put there without a call.
+#[inline(always)]
+pub fn append(out: &mut String, text: &str) -> Result<(), AllocError>
     ensures ok { OnOk result (Appends (string_bytes out.old) (string_bytes out.new) (λ rest. text.now ++ rest)) }
-    ensures err { IfErr result (λ fault. fault ≡ Memory) }
 {
-    out.push_str(text)?;
-    Ok(())
+    match text.as_bytes() {
+        [byte] if *byte < 128 => out.push(*byte as char),
+        [first, second] if *first < 128 && *second < 128 => {
+            out.push(*first as char)?;
+            out.push(*second as char)
+        }
+        _ => out.push_str(text),
+    }
 }
 
 /// Opens a parenthesis, where it is wanted.
-pub fn open(out: &mut String, wanted: bool) -> Result<(), Fault>
+pub fn open(out: &mut String, wanted: bool) -> Result<(), AllocError>
     ensures ok { OnOk result (Appends (string_bytes out.old) (string_bytes out.new) (opening wanted)) }
-    ensures err { IfErr result (λ fault. fault ≡ Memory) }
 {
     if wanted { append(out, "(") } else { Ok(()) }
 }
 
 /// Closes a parenthesis, where it is wanted.
-pub fn close(out: &mut String, wanted: bool) -> Result<(), Fault>
+pub fn close(out: &mut String, wanted: bool) -> Result<(), AllocError>
     ensures ok { OnOk result (Appends (string_bytes out.old) (string_bytes out.new) (closing wanted)) }
-    ensures err { IfErr result (λ fault. fault ≡ Memory) }
 {
     if wanted { append(out, ")") } else { Ok(()) }
 }
 
 /// Prints a type; on the left of an arrow a function type is in parentheses.
-pub fn print_type(ty: &Ty, on_left: bool, out: &mut String) -> Result<(), Fault>
+pub fn print_type(ty: &Ty, on_left: bool, out: &mut String) -> Result<(), AllocError>
     ensures ok { OnOk result (Appends (string_bytes out.old) (string_bytes out.new) (type_bytes (placed on_left (type_tree ty.now)))) }
-    ensures err { IfErr result (λ fault. fault ≡ Memory) }
 {
     match ty.parts() {
         TypeParts::Variable(name) => append(out, name),
@@ -55,16 +57,16 @@ pub fn print_type(ty: &Ty, on_left: bool, out: &mut String) -> Result<(), Fault>
 }
 
 /// Prints a name with its type, between two texts.
+#[inline(always)]
 pub fn print_typed(
     before: &str,
     name: &str,
     ty: &Ty,
     after: &str,
     out: &mut String,
-) -> Result<(), Fault>
+) -> Result<(), AllocError>
     ensures ok { OnOk result (Appends (string_bytes out.old) (string_bytes out.new)
         (λ rest. before.now ++ (name.now ++ 58 ∷ type_bytes (type_tree ty.now) (after.now ++ rest)))) }
-    ensures err { IfErr result (λ fault. fault ≡ Memory) }
 {
     append(out, before)?;
     append(out, name)?;

@@ -27,13 +27,17 @@ use hol_model::Fault;
 use hol_syntax::Scope;
 use hol_terms::Term;
 use hol_types::Ty;
-use std::alloc::Global;
+use std::alloc::{AllocError, Global};
 
 // Prints a variable: its bare name where the innermost binder of that name is its own, else its type too.
-fn print_variable(binders: &Innermost, name: &str, ty: &Ty, out: &mut String) -> Result<(), Fault>
+fn print_variable(
+    binders: &Innermost,
+    name: &str,
+    ty: &Ty,
+    out: &mut String,
+) -> Result<(), AllocError>
     ensures ok { (bindings : Bindings) → IsInnermost binders.now bindings → OnOk result (Appends (string_bytes out.old) (string_bytes out.new)
         (term_bytes (variable_tree (bound_type bindings name.now) name.now ty.now))) }
-    ensures err { IfErr result (λ fault. fault ≡ Memory) }
 {
     if is_bound(binders, name, ty) {
         append(out, name)
@@ -49,11 +53,10 @@ fn print_constant(
     name: &str,
     ty: &Ty,
     out: &mut String,
-) -> Result<(), Fault>
+) -> Result<(), AllocError>
     requires { IsTrue (is_constant_name name.now) }
     ensures ok { (bindings : Bindings) → IsInnermost binders.now bindings → OnOk result (Appends (string_bytes out.old) (string_bytes out.new)
         (term_bytes (constant_tree (scope_of scope.now) bindings name.now ty.now))) }
-    ensures err { IfErr result (λ fault. fault ≡ Memory) }
 {
     if is_bare_constant(scope, binders, name) {
         append(out, name)
@@ -71,11 +74,10 @@ fn print_term(
     min_level: u8,
     binders: &mut Innermost,
     out: &mut String,
-) -> Result<(), Fault>
+) -> Result<(), AllocError>
     ensures ok { (bindings : Bindings) → IsInnermost binders.old bindings → OnOk result (Appends (string_bytes out.old) (string_bytes out.new)
         (term_bytes (enclose min_level (term_tree (scope_of scope.now) bindings term.now)))) }
     ensures kept { (bindings : Bindings) → IsInnermost binders.old bindings → OnOk result (IsInnermost binders.new bindings) }
-    ensures err { IfErr result (λ fault. fault ≡ Memory) }
 {
     let shape = shape_of(term);
     let enclosed = level(shape) < min_level;
@@ -92,12 +94,11 @@ fn print_shape(
     scope: &Scope,
     binders: &mut Innermost,
     out: &mut String,
-) -> Result<(), Fault>
+) -> Result<(), AllocError>
     requires { IsNamed shape }
     ensures ok { (bindings : Bindings) → IsInnermost binders.old bindings → OnOk result (Appends (string_bytes out.old) (string_bytes out.new)
         (term_bytes (shape_tree (scope_of scope.now) bindings shape.entry))) }
     ensures kept { (bindings : Bindings) → IsInnermost binders.old bindings → OnOk result (IsInnermost binders.new bindings) }
-    ensures err { IfErr result (λ fault. fault ≡ Memory) }
 {
     match shape {
         Shape::Variable(name, ty) => print_variable(binders, name, ty, out),
@@ -123,11 +124,10 @@ fn print_application(
     scope: &Scope,
     binders: &mut Innermost,
     out: &mut String,
-) -> Result<(), Fault>
+) -> Result<(), AllocError>
     ensures ok { (bindings : Bindings) → IsInnermost binders.old bindings → OnOk result (Appends (string_bytes out.old) (string_bytes out.new)
         (term_bytes (apply_tree (term_tree (scope_of scope.now) bindings function.now) (term_tree (scope_of scope.now) bindings argument.now)))) }
     ensures kept { (bindings : Bindings) → IsInnermost binders.old bindings → OnOk result (IsInnermost binders.new bindings) }
-    ensures err { IfErr result (λ fault. fault ≡ Memory) }
 {
     print_term(function, alloc, scope, 16, binders, out)?;
     append(out, " ")?;
@@ -141,11 +141,10 @@ fn print_negation(
     scope: &Scope,
     binders: &mut Innermost,
     out: &mut String,
-) -> Result<(), Fault>
+) -> Result<(), AllocError>
     ensures ok { (bindings : Bindings) → IsInnermost binders.old bindings → OnOk result (Appends (string_bytes out.old) (string_bytes out.new)
         (term_bytes (grammar.Not (enclose 14 (term_tree (scope_of scope.now) bindings operand.now))))) }
     ensures kept { (bindings : Bindings) → IsInnermost binders.old bindings → OnOk result (IsInnermost binders.new bindings) }
-    ensures err { IfErr result (λ fault. fault ≡ Memory) }
 {
     append(out, "~")?;
     print_term(operand, alloc, scope, 14, binders, out)
@@ -160,11 +159,10 @@ fn print_infix(
     scope: &Scope,
     binders: &mut Innermost,
     out: &mut String,
-) -> Result<(), Fault>
+) -> Result<(), AllocError>
     ensures ok { (bindings : Bindings) → IsInnermost binders.old bindings → OnOk result (Appends (string_bytes out.old) (string_bytes out.new)
         (term_bytes (joined_tree (infix_here operation) (term_tree (scope_of scope.now) bindings left.now) (term_tree (scope_of scope.now) bindings right.now)))) }
     ensures kept { (bindings : Bindings) → IsInnermost binders.old bindings → OnOk result (IsInnermost binders.new bindings) }
-    ensures err { IfErr result (λ fault. fault ≡ Memory) }
 {
     let level = infix_level(operation);
     print_term(left, alloc, scope, level + 1, binders, out)?;
@@ -182,11 +180,10 @@ fn print_binding(
     scope: &Scope,
     binders: &mut Innermost,
     out: &mut String,
-) -> Result<(), Fault>
+) -> Result<(), AllocError>
     ensures ok { (bindings : Bindings) → IsInnermost binders.old bindings → OnOk result (Appends (string_bytes out.old) (string_bytes out.new)
         (term_bytes (grammar.Bind (binder_here binder) name.now (type_tree ty.now) (term_tree (scope_of scope.now) ((name.now, ty.now) ∷ bindings) body.now)))) }
     ensures kept { (bindings : Bindings) → IsInnermost binders.old bindings → OnOk result (IsInnermost binders.new bindings) }
-    ensures err { IfErr result (λ fault. fault ≡ Memory) }
 {
     print_typed(binder_text(binder), name, ty, ". ", out)?;
     let hidden = binders.enter(alloc, name, ty)?;
@@ -195,9 +192,13 @@ fn print_binding(
 }
 
 // Prints a term that stands under no binder.
-fn print_whole(alloc: Global, scope: &Scope, term: &Term, out: &mut String) -> Result<(), Fault>
+fn print_whole(
+    alloc: Global,
+    scope: &Scope,
+    term: &Term,
+    out: &mut String,
+) -> Result<(), AllocError>
     ensures ok { OnOk result (Appends (string_bytes out.old) (string_bytes out.new) (term_bytes (term_tree (scope_of scope.now) [] term.now))) }
-    ensures err { IfErr result (λ fault. fault ≡ Memory) }
 {
     let mut binders = Innermost::new(alloc);
     print_term(term, alloc, scope, 0, &mut binders, out)
@@ -209,9 +210,8 @@ fn print_further(
     scope: &Scope,
     terms: &[Term],
     out: &mut String,
-) -> Result<(), Fault>
+) -> Result<(), AllocError>
     ensures ok { OnOk result (Appends (string_bytes out.old) (string_bytes out.new) (further_bytes (scope_of scope.now) terms.now)) }
-    ensures err { IfErr result (λ fault. fault ≡ Memory) }
 {
     for term in terms {
         append(out, ", ")?;
@@ -221,9 +221,13 @@ fn print_further(
 }
 
 // Prints the terms with commas between them and a space behind, if there are any.
-fn print_listed(alloc: Global, scope: &Scope, terms: &[Term], out: &mut String) -> Result<(), Fault>
+fn print_listed(
+    alloc: Global,
+    scope: &Scope,
+    terms: &[Term],
+    out: &mut String,
+) -> Result<(), AllocError>
     ensures ok { OnOk result (Appends (string_bytes out.old) (string_bytes out.new) (listed_bytes (scope_of scope.now) terms.now)) }
-    ensures err { IfErr result (λ fault. fault ≡ Memory) }
 {
     match terms {
         [] => Ok(()),

@@ -13,7 +13,7 @@ ghost use Rattle.hol_quant.specs.PredicateLemmas.{applied, over_predicate};
 
 use crate::instances::by_predicate_lemma;
 use crate::parts::quantified_parts;
-use hol_equal::{conclusion_of, converted, eq_mp};
+use hol_equal::{conclusion_of, converted_known, eq_mp};
 use hol_journal::{Rec, Recorder};
 use hol_model::Fault;
 use hol_prelude::{Bool, numbers, theorem_of};
@@ -51,7 +51,7 @@ pub(crate) fn specialized(
         Ok(redex) => redex,
         Err(fault) => return Err(fault),
     };
-    let equation = match converted(recorder, alloc, parts.predicate, parts.binder, term) {
+    let equation = match converted_known(recorder, alloc, parts.predicate, parts.binder, term) {
         Ok(equation) => equation,
         Err(fault) => return Err(fault),
     };

@@ -16,9 +16,6 @@ store-same old new is = ap (λ store. theorems_in (stored_of store)) is.stored
 
 -- a lemma more
 
-abbrev theorem_of : Recorded → Theorem
-theorem_of made = made.theorem
-
 -- one call after another, where the journal alone grows
 
 pub continued-same : (library : Library) → IsContinued library library

@@ -12,7 +12,7 @@ use hol_exprs::{Fuel, Leaf, Tac};
 use hol_host::{Host, Refiners};
 use hol_just::{Goal, Step};
 use hol_library::libraries_continue;
-use hol_model::{Fault, STEPS_LIMIT};
+use hol_model::Fault;
 use hol_prover::ByExpression;
 use hol_refine::refine;
 use hol_replay::accept;
@@ -74,19 +74,37 @@ impl Leaves for Bench {
     ghost extends_twice = { λ first second third one two. tt };
 }
 
-/// The step of an expression on a known goal, with as many steps as a command may spend.
+/// The step of an expression on a known goal, where so many steps may be spent.
 pub(crate) fn step_of(
     alloc: Global,
     bench: &mut Bench,
     tac: &Tac<Term>,
     goal: &Goal,
     host: &Host,
+    steps: u32,
 ) -> Result<Step, Fault>
     requires session { IsSession bench.old.session }
     requires witnesses { HasKnownWitnesses bench.old.session.library.recorder.theory (tactic_of tac.now) }
     requires known { IsKnownGoal bench.old.session.library.recorder.theory (goal_of goal.now) }
     ensures library { IsLibrary bench.new.session.library }
 {
-    let mut fuel = Fuel::new(STEPS_LIMIT);
+    let mut fuel = Fuel::new(steps);
     refine_goal(alloc, tac, goal, host, bench, &mut fuel)
+}
+
+/// The goal of a formula that the session knows.
+pub(crate) fn known_goal(alloc: Global, session: &Session, term: Term) -> Result<Goal, Fault>
+    requires { IsSession session.now }
+    ensures { IfOk result (λ goal. IsKnownGoal session.now.library.recorder.theory (goal_of goal)) }
+{
+    if !term.ty().is_bool() {
+        return Err(Fault::NotBool);
+    }
+    match session.library.recorder.theory().first_unknown(&term) {
+        Some(fault) => Err(fault),
+        None => Ok(Goal {
+            asms: Vec::new(alloc),
+            concl: term,
+        }),
+    }
 }

@@ -7,11 +7,11 @@ ghost use Rattle.hol_exprs.specs.Expressions.{tactic_of};
 ghost use Rattle.hol_just.specs.Steps.{goal_of};
 ghost use Rattle.hol_session.specs.SessionState.{IsSession};
 
-use crate::bench::{Bench, step_of};
+use crate::bench::{Bench, known_goal, step_of};
 use hol_exprs::{Leaf, Link, Tac};
 use hol_host::{Host, HostFail};
 use hol_just::{Goal, Rule, Step, step, sub};
-use hol_model::Fault;
+use hol_model::{Fault, STEPS_LIMIT};
 use hol_prover::prove;
 use hol_session::session::Session;
 use hol_terms::Term;
@@ -71,23 +71,6 @@ fn doubled(alloc: Global, times: u8) -> Result<Term, Fault> {
     Ok(term)
 }
 
-// The goal of a formula that the session knows.
-fn known_goal(alloc: Global, session: &Session, term: Term) -> Result<Goal, Fault>
-    requires { IsSession session.now }
-    ensures { IfOk result (λ goal. IsKnownGoal session.now.library.recorder.theory (goal_of goal)) }
-{
-    if !term.ty().is_bool() {
-        return Err(Fault::NotBool);
-    }
-    match session.library.recorder.theory().first_unknown(&term) {
-        Some(fault) => Err(fault),
-        None => Ok(Goal {
-            asms: Vec::new(alloc),
-            concl: term,
-        }),
-    }
-}
-
 // How many rules a step has, and how many entries it and its replay have made.
 #[derive(Clone, Copy)]
 struct Spent {
@@ -108,7 +91,7 @@ fn cost_of(
     requires known { IsKnownGoal bench.old.session.library.recorder.theory (goal_of goal.now) }
 {
     let before = bench.session.library.recorder.entries();
-    let step = step_of(alloc, &mut *bench, tac, goal, host)?;
+    let step = step_of(alloc, &mut *bench, tac, goal, host, STEPS_LIMIT)?;
     let _theorem = prove(&mut bench.session.library, alloc, goal, &step.just)?;
     let after = bench.session.library.recorder.entries();
     Ok(Spent {

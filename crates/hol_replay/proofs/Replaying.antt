@@ -299,19 +299,6 @@ from-many theory rule expects trees places many = record {
 
 -- places among the lines
 
-pub below-at : (limit : ℕ) (places : List ℕ) (at : ℕ) → are_below limit places ≡ true → at < length places → get_or places at 0 < limit
-below-at limit [] at below within = absurd (omega arith)
-below-at limit (p ∷ places) zero below within = let h = leb-true (suc p) limit (first (nat_le (suc p) limit) (are_below limit places) below) in omega (arith, h)
-  where
-    first : (a b : Bool) → (a && b) ≡ true → a ≡ true
-    first true b passed = refl
-    first false b passed = cc
-below-at limit (p ∷ places) (suc at) below within = below-at limit places at (second (nat_le (suc p) limit) (are_below limit places) below) (omega arith)
-  where
-    second : (a b : Bool) → (a && b) ≡ true → b ≡ true
-    second true b passed = passed
-    second false b passed = cc
-
 pub ruleset continued = (continued-line)
 
 pub kept-from : (theory : Theory) (rule : InferenceRule) (expects : Justification → Expected) (trees : List Justification) (places : List ℕ) (answer : LineAnswer) (result : Result LineAnswer Fault)
@@ -319,15 +306,6 @@ pub kept-from : (theory : Theory) (rule : InferenceRule) (expects : Justificatio
 kept-from theory rule expects trees places answer result is drawn = rw is drawn
 
 -- what a line names
-
-pub made-at : (journal : Journal) (all : List Recorded) (at : ℕ) (found : Option (Bor Recorded)) → AreMade journal all → option_map (λ theorem. theorem.now) found ≡ slice_get all at → IfSome found (λ theorem. IsMade journal theorem.now)
-made-at journal all at None made is = tt
-made-at journal all at (Some theorem) made is = made.each at theorem.now (sym is)
-
-pub stored-made : (journal : Journal) (stored : Stored) (name : List ℕ) (found : Option (Bor Recorded)) → IsStoreOf journal stored → option_map (λ theorem. theorem.now) found ≡ stored.theorems name
-    → IfSome found (λ theorem. IsMade journal theorem.now)
-stored-made journal stored name None made is = tt
-stored-made journal stored name (Some theorem) made is = made.theorems name theorem.now (sym is)
 
 pub named-made : (made copy : Recorded) → copy ≡ made → IsNamed (Some made) (Made copy)
 named-made made copy is = rw is (record { drawn = record { same_set = record { to = λ x m. m; back = λ x m. m }; concludes = refl }; fits = tt })
@@ -466,9 +444,6 @@ root-there old now expects just lines answers are replaying =
     let same : length replaying.replayed.trees ≡ length (trees_after [] (flat_of just).lines) = ap length (replaying.replayed.are ∙ ap (trees_after []) are) in
     let each = met-length expects replaying.replayed.trees answers replaying.replayed.met in
     omega (arith, root, many, same, each)
-
-pub cites-from : (just : Just) (lines : List Line) → flat_lines lines ≡ (flat_of just).lines → cite_earlier 0 (flat_lines lines) ≡ true
-cites-from just lines are = ap (cite_earlier 0) are ∙ first_of_both (cite_earlier 0 (flat_of just).lines) (nat_le (suc (flat_of just).root) (length (flat_of just).lines)) just.node.value.well_cited
 
 tree-roomy : (theory : Theory) (stored : Stored) (subgoals : List Recorded) (tree : Justification) → (expected_in theory stored subgoals tree).has_room ≡ true → are_roomy (terms_of_sequent (expected_in theory stored subgoals tree).sequent) ≡ true
 tree-roomy theory stored subgoals (sub i) room = room

@@ -133,13 +133,6 @@ conjunct-fits theory assumed result shows finds =
 
 -- ---- assumptions
 
-none-left : (theory : Theory) (made : Theorem) → IsDrawn (with_assumptions theory (map image made.hypotheses) (image made.conclusion) []) (Ok made)
-none-left theory made =
-    record {
-      same_set = record { to = λ x m. elim (of_append x (map image made.hypotheses) [] m) [ inl a ↦ a | inr b ↦ absurd b ]; back = λ x m. IsMember-append_left x (map image made.hypotheses) [] m };
-      concludes = refl;
-    }
-
 -- what ADD_ASSUM draws
 abbrev added_assumption : Theory → Nameless → List Nameless → Nameless → Option Sequent
 added_assumption theory p h c = given (require (is_known_formula theory p) (conclude_supposing (all ∷ []) p c)) (λ inference. drawn inference (h ∷ []))

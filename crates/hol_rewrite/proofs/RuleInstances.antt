@@ -48,6 +48,14 @@ instance_derives theory by types terms rule term ty result types_are terms_are a
     (terms-pass theory (fixed_variables rule.hypotheses) applies.sides.0 term by.types by.terms applies.matches parts)
     (images rule) (image rule.conclusion) (record { same_set = record { to = λ x m. m; back = λ x m. m }; concludes = refl })
 
+-- and the terms that are put by such a match are known, and of the types of their variables
+pub terms_known : (theory : Theory) (by : Replacements) (terms : List (NamedTerm × NamedTerm)) (rule : Theorem) (term : NamedTerm) (ty : HolType) → terms ≡ by.terms → Applies rule term by
+    → type_of term ≡ Some ty → is_known theory term ≡ true → replacements_refusal theory terms ≡ None
+terms_known theory by terms rule term ty terms_are applies typed known =
+    let parts : HasKnownParts theory (image term) = ((is_known-Decides theory term ty typed).0 known).parts in
+    subst (λ (l : List (NamedTerm × NamedTerm)). replacements_refusal theory l ≡ None) (sym terms_are)
+    (terms-pass theory (fixed_variables rule.hypotheses) applies.sides.0 term by.types by.terms applies.matches parts)
+
 pub instance_is : (rule : Theorem) (by : Replacements) (made : Theorem)
     → Shows made (map (replaced by) (images rule)) (replaced by (image rule.conclusion)) → IsRewritten rule by made
 instance_is rule by made shown = record { hypotheses = record { to = shown.same_set.back; back = shown.same_set.to }; conclusion = shown.concludes }

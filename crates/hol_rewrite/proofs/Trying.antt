@@ -25,11 +25,6 @@ side_here [] place side other within is = absurd (omega arith)
 side_here (first ∷ rest) zero side other within is = ap (λ (s : LeftSide). Some (s.fixed.items, s.pattern)) (sym is)
 side_here (first ∷ rest) (suc place) side other within is = side_here rest place side other (omega arith) is
 
-pub none_here : (sides : List LeftSide) (place : ℕ) → length sides ≤ place → slice_get (viewed_sides sides) place ≡ None
-none_here [] place past = refl
-none_here (first ∷ rest) zero past = absurd (omega arith)
-none_here (first ∷ rest) (suc place) past = none_here rest place (omega arith)
-
 -- a refusal says that there is no match
 pub refused_match : (fault : Fault) (fixed : List NamedTerm) (pattern term : NamedTerm) → (fault ≡ Memory) ⊎ ((fault ≡ NoMatch) × HasNoMatch fixed pattern term) → fault ≡ NoMatch
     → HasNoMatch fixed pattern term

@@ -13,7 +13,7 @@ ghost use Rattle.hol_rewrite.specs.RuleSides.{AreEquations, sides_of_rules};
 ghost use Rattle.hol_rewrite.specs.Instances.{replacements_of, image_fits};
 
 use crate::choice::Choice;
-use hol_equal::instance;
+use hol_equal::instance_known;
 use hol_journal::{Rec, Recorder};
 use hol_kernel::Thm;
 use hol_match::Match;
@@ -67,7 +67,7 @@ fn rule_instance(
 {
     let _conclusion = recorder.thm(rule).concl();
     let _type = term.ty();
-    let made = match instance(recorder, alloc, &found.types, &found.terms, rule) {
+    let made = match instance_known(recorder, alloc, &found.types, &found.terms, rule) {
         Ok(made) => made,
         Err(fault) => return Err(fault),
     };

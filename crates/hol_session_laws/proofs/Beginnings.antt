@@ -44,11 +44,9 @@ behind-identifier (byte ∷ bytes) rest is =
 
 -- ---- theorems
 
-pub theorem-colon : (name text : List ℕ) → is_identifier name ≡ true → has_colon (name ++ codes ": " ++ text ++ codes "\n") ≡ true
-theorem-colon name text is =
-    let whole : name ++ codes ": " ++ text ++ codes "\n" ≡ name ++ 58 ∷ (32 ∷ (text ++ codes "\n")) =
-    append_assoc (name ++ codes ": ") text (codes "\n") ∙ append_assoc name (codes ": ") (text ++ codes "\n") in
-    ap has_colon whole ∙ ap (λ (rest : List ℕ). nat_eq (first_byte rest) 58) (behind-identifier name (58 ∷ (32 ∷ (text ++ codes "\n"))) is)
+pub theorem-colon : (name rest : List ℕ) → is_identifier name ≡ true → has_colon (name ++ codes ": " ++ rest) ≡ true
+theorem-colon name rest is =
+    ap has_colon (append_assoc name (codes ": ") rest) ∙ ap (λ (text : List ℕ). nat_eq (first_byte text) 58) (behind-identifier name (58 ∷ (32 ∷ rest)) is)
 
 -- ---- texts of terms
 
@@ -153,7 +151,7 @@ goal-no_colon scope (term ∷ terms) target =
 
 -- ---- numbers
 
-digit-continues : (d : ℕ) → d < 10 → continues_name (digit_glyph false d) ≡ true
+pub digit-continues : (d : ℕ) → d < 10 → continues_name (digit_glyph false d) ≡ true
 digit-continues zero below = refl
 digit-continues (suc zero) below = refl
 digit-continues (suc (suc zero)) below = refl

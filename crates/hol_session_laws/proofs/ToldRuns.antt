@@ -58,7 +58,7 @@ module _ (texts : List (List ℕ)) where
       let one = entries_are.0 in
       ((one.0, one.1, subst (λ (t : Theory). Declares t one.0 entry) whole one.2), more-declared entries before theory middle is entries_are.1 before_are)
 
-  twice-grown : (first second third : Theory) → IsGrownBy texts first second → IsGrownBy texts second third → IsGrownBy texts first third
+  pub twice-grown : (first second third : Theory) → IsGrownBy texts first second → IsGrownBy texts second third → IsGrownBy texts first third
   twice-grown first second third one two = record {
     added = two.added ++ one.added;
     is_added = two.is_added ∙ ap (λ (l : Theory). two.added ++ l) one.is_added ∙ sym (append_assoc two.added one.added first);

@@ -43,7 +43,7 @@ module _ (state : State) where
 
 -- ---- lines
 
-joined : (a b : List ℕ) → is_one_line a ≡ true → is_one_line b ≡ true → is_one_line (a ++ b) ≡ true
+pub joined : (a b : List ℕ) → is_one_line a ≡ true → is_one_line b ≡ true → is_one_line (a ++ b) ≡ true
 joined a b first second = list_all-append (λ (byte : ℕ). not (nat_eq byte 10)) a b ∙ both (is_one_line a) (is_one_line b) first second
   where
     both : (p q : Bool) → p ≡ true → q ≡ true → (p && q) ≡ true

@@ -3,9 +3,9 @@ use Rattle.std.specs.Prelude.{◌≡◌, ℕ, true, List, [], ◌∷◌, Option,
 use Rattle.hol_model.specs.declared.fault.Fault.{Fault}
 use Rattle.hol_model.specs.declared.fault.Fault.TheVariants.{Memory, Syntax}
 use Rattle.hol_model.specs.Terms.Name.{is_identifier}
-use Rattle.hol_model.specs.Logic.Theory.{IsLegal, IsEarlier}
+use Rattle.hol_model.specs.Logic.Theory.{Theory, IsLegal, IsEarlier}
 use Rattle.hol_model.specs.Logic.Derivable.{IsMember}
-use Rattle.hol_model.specs.Kernel.Theorem.{Theorem}
+use Rattle.hol_model.specs.Kernel.Theorem.{Theorem, IsTheorem}
 use Rattle.hol_session_model.specs.Script.{Request}
 use Rattle.hol_model.specs.Texts.SequentGrammar.{ReadsSequent}
 use Rattle.hol_model.specs.Texts.SequentTexts.{SequentsReadBack}
@@ -68,3 +68,8 @@ pub record PrintedTheoremsStay (tools : Tools) : Type 0 where
       → (shown : NamedTheorem) → IsMember shown (theorems_in_turns turns) → is_identifier shown.name ≡ true
   pub stays : (requests : List Request) (turns : List Turn) → Session tools start requests turns
       → (shown : NamedTheorem) → IsMember shown (theorems_in_turns turns) → (last_state start turns).library.theorems shown.name ≡ Some shown.theorem
+
+-- a theorem over an earlier state of the theory is one over each later state, so what is stored needs no theory beside its sequent
+abbrev pub SequentsSuffice : Type 0
+SequentsSuffice = (theorem : Theorem) (theory : Theory) → IsTheorem theorem → IsEarlier theorem.theory theory → IsLegal theory
+    → IsTheorem (record { theory = theory; hypotheses = theorem.hypotheses; conclusion = theorem.conclusion })

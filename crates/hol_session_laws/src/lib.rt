@@ -11,8 +11,8 @@ ghost use Rattle.hol_session_laws.specs.Examples.{ExpressionsAreSpelled, GoalsAr
 ghost use Rattle.hol_session_laws.specs.ReadTerms.{ReadTermsAreKnown, VariablesStayKnown, ScopesAreOver};
 ghost use Rattle.hol_session_laws.specs.ValidSessions.{TurnsKeepValid, ExpansionsAreRefused};
 ghost use Rattle.hol_session_laws.specs.UniqueReadings.{QuotesAreUnambiguous, ConversionsAreUnambiguous, TacticsAreUnambiguous, PartsAreUnambiguous, CommandsAreUnambiguous};
-ghost use Rattle.hol_session_laws.specs.HeadlineLaws.{NoLineIsFalsity, RefusalsAreNoTheorems, GoalsAreNoTheorems, RunsAreTold};
-ghost use Rattle.hol_session_laws.specs.SessionLaws.{MayLackMemory, RefusalsChangeNothing, TheoriesStayLegal, TheoriesGrow, PrintedTheoremsAreProved, NoSubgoalsMeansProved, PrintedTheoremsStay};
+ghost use Rattle.hol_session_laws.specs.HeadlineLaws.{NoLineIsFalsity, RefusalsAreNoTheorems, GoalsAreNoTheorems, TheoremsAreSeen, ToldLinesAreLines, WrittenLinesAreTold, RunsAreTold};
+ghost use Rattle.hol_session_laws.specs.SessionLaws.{MayLackMemory, RefusalsChangeNothing, TheoriesStayLegal, TheoriesGrow, PrintedTheoremsAreProved, NoSubgoalsMeansProved, PrintedTheoremsStay, SequentsSuffice};
 
 use hol_sound::consistent;
 
@@ -161,6 +161,11 @@ pub fn expansions_spend<H: Hosted>()
     ensures { ExpansionsSpend H.host }
 {}
 
+/// A stored theorem needs no theory beside its sequent: it is one over each later state of the theory.
+pub fn sequents_suffice()
+    ensures { SequentsSuffice }
+{}
+
 /// No line of a script's output tells falsity without hypotheses.
 pub fn no_line_is_falsity()
     ensures { NoLineIsFalsity }
@@ -168,14 +173,29 @@ pub fn no_line_is_falsity()
     consistent();
 }
 
-/// A line that tells a refusal is no theorem's.
+/// No line that tells a refusal begins as a theorem's.
 pub fn refusals_are_no_theorems()
     ensures { RefusalsAreNoTheorems }
 {}
 
-/// A line that tells a goal, how many are open, or that none is, is no theorem's.
+/// No line that tells a goal, how many are open, or that none is, begins as a theorem's.
 pub fn goals_are_no_theorems()
     ensures { GoalsAreNoTheorems }
+{}
+
+/// A line of a script's output is a theorem's exactly where it begins with an identifier, a colon and a space.
+pub fn lines_that_begin_so_are_theorems()
+    ensures { TheoremsAreSeen }
+{}
+
+/// Each line that a script's output tells ends in its one line feed, so that the output is cut into these lines.
+pub fn told_lines_are_lines()
+    ensures { ToldLinesAreLines }
+{}
+
+/// Each line that a run wrote whole is told over a theory that the script declares.
+pub fn written_lines_are_told()
+    ensures { WrittenLinesAreTold }
 {}
 
 /// What a run writes is told by the pieces of its script, in lines of theorems, of refusals and of goals.

@@ -12,3 +12,4 @@ pub mod TermBuilding
 pub mod TermEvaluation
 pub mod TypeBuilding
 pub mod Unambiguous
+pub mod UniqueSequents

@@ -3,7 +3,7 @@ use Rattle.std.proofs.Common.{◌≡◌, ℕ, suc, ◌+◌, ◌-◌, ◌<◌, Li
 use Rattle.std.specs.List.{slice_split, onto_first}
 use Rattle.std.proofs.lemmas.List.{length-drop, take-append-drop}
 use Rattle.std.proofs.lemmas.List.Splits.{slice_split-cons_yes, slice_split-cons_no}
-use Rattle.hol_model.specs.declared.symbol.Symbol.TheVariants.{Equal, And, Or, Implies, Tilde, Exclamation, Question, At, Comma, Turnstile}
+use Rattle.hol_model.specs.declared.symbol.Symbol.TheVariants.{Equal, And, Or, Implies, Tilde, Exclamation, Question, At, Comma, Turnstile, Backquote}
 use Rattle.hol_model.specs.Texts.Token.{Token, Name, Number, Mark}
 use Rattle.hol_model.specs.Texts.TypeGrammar.{TypeTree, Named, Enclosed, Function, type_tokens}
 use Rattle.hol_model.specs.Texts.TermGrammar.{TermTree, IffInfix, ImpliesInfix, OrInfix, AndInfix, EqualInfix, Lambda, ForAll, Exists, Choice, Bare, Variable, Constant, IsConstantName, Lexeme, AtomPiece, OpenPiece, ClosePiece, NotPiece, InfixPiece, BinderPiece, all_tokens, IsReadTerm}
@@ -14,10 +14,11 @@ use Rattle.hol_syntax.specs.SequentStates.{separates, Without, IsFound}
 use Rattle.hol_grammar.proofs.TermReading.{ArePieces}
 use Rattle.hol_grammar.proofs.Pieces.{to_read}
 
--- a comma or a turnstile
-abbrev is_separator : Token → Bool
+-- a comma, a turnstile or a backquote
+abbrev pub is_separator : Token → Bool
 is_separator (Mark Comma) = true
 is_separator (Mark Turnstile) = true
+is_separator (Mark Backquote) = true
 is_separator _ = false
 
 no_separator : (separator : Separator) (token : Token) → is_separator token ≡ false → separates separator token ≡ false
@@ -34,7 +35,7 @@ narrow : (separator : Separator) (tokens : List Token) → Without is_separator 
 narrow separator [] h = tt
 narrow separator (token ∷ tokens) h = (no_separator separator token h.0, narrow separator tokens h.1)
 
-type_without : (t : TypeTree) (rest : List Token) → Without is_separator rest → Without is_separator (type_tokens t rest)
+pub type_without : (t : TypeTree) (rest : List Token) → Without is_separator rest → Without is_separator (type_tokens t rest)
 type_without (Named name) rest h = (refl, h)
 type_without (Enclosed t) rest h = (refl, type_without t _ (refl, h))
 type_without (Function a b) rest h = type_without a _ (refl, type_without b rest h)
@@ -70,10 +71,13 @@ pieces_without (BinderPiece ForAll name t ∷ rest) v = (refl, (refl, (refl, typ
 pieces_without (BinderPiece Exists name t ∷ rest) v = (refl, (refl, (refl, type_without t _ (refl, pieces_without rest v.1))))
 pieces_without (BinderPiece Choice name t ∷ rest) v = (refl, (refl, (refl, type_without t _ (refl, pieces_without rest v.1))))
 
-pub term_without : (separator : Separator) (tokens : List Token) (tree : TermTree) → IsReadTerm tokens tree → Without (separates separator) tokens
-term_without separator tokens tree h =
+pub none_without : (tokens : List Token) (tree : TermTree) → IsReadTerm tokens tree → Without is_separator tokens
+none_without tokens tree h =
     let r = to_read tokens tree h in
-    narrow separator tokens (subst (λ l. Without is_separator l) (sym r.spelled) (pieces_without r.pieces r.valid))
+    subst (λ l. Without is_separator l) (sym r.spelled) (pieces_without r.pieces r.valid)
+
+pub term_without : (separator : Separator) (tokens : List Token) (tree : TermTree) → IsReadTerm tokens tree → Without (separates separator) tokens
+term_without separator tokens tree h = narrow separator tokens (none_without tokens tree h)
 
 split_at : (test : Token → Bool) (a : List Token) (y : Token) (ys : List Token) → Without test a → test y ≡ true → slice_split test (a ++ y ∷ ys) ≡ a ∷ slice_split test ys
 split_at test [] y ys h k = slice_split-cons_yes test y ys k

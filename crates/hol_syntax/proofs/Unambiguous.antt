@@ -37,7 +37,7 @@ one_list bytes (t ∷ ts) b h k =
     let rest : ts ≡ y.2 = one_list y.1 ts y.2 others y.5 in
     ap (λ u. u ∷ ts) (token ∙ ap (λ p. p.0) pair) ∙ ap (λ l. y.0 ∷ l) rest ∙ sym y.3
 
-one_tree : (tokens : List Token) (a b : TypeTree) → IsRead tokens a [] → IsRead tokens b [] → a ≡ b
+pub one_tree : (tokens : List Token) (a b : TypeTree) → IsRead tokens a [] → IsRead tokens b [] → a ≡ b
 one_tree tokens a b h k =
     let x : run tokens [] None ≡ Some (a, []) = ap (λ l. run l [] None) h.spelled ∙ complete a [] h.grammatical h.depth tt in
     let y : run tokens [] None ≡ Some (b, []) = ap (λ l. run l [] None) k.spelled ∙ complete b [] k.grammatical k.depth tt in
@@ -59,7 +59,7 @@ same_pieces (x ∷ xs) (y ∷ ys) v w e =
     some_pair (x, all_tokens xs) (y, all_tokens ys) (sym (piece_found x xs v.0) ∙ ap piece_at e ∙ piece_found y ys w.0) in
     ap (λ p. p ∷ xs) (ap (λ p. p.0) pair) ∙ ap (λ l. y ∷ l) (same_pieces xs ys v.1 w.1 (ap (λ p. p.1) pair))
 
-one_term : (tokens : List Token) (a b : TermTree) → IsReadTerm tokens a → IsReadTerm tokens b → a ≡ b
+pub one_term : (tokens : List Token) (a b : TermTree) → IsReadTerm tokens a → IsReadTerm tokens b → a ≡ b
 one_term tokens a b h k =
     let x = to_read tokens a h in
     let y = to_read tokens b k in

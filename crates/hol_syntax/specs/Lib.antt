@@ -4,3 +4,4 @@ pub mod OpenBinders
 pub mod Scope
 pub mod SequentStates
 pub mod TypeStack
+pub mod UniqueSequents

@@ -12,6 +12,6 @@ mod types;
 
 pub use evaluate::term_of_steps;
 pub use scope::Scope;
-pub use sequents::read_sequent;
+pub use sequents::{read_sequent, sequents_are_unambiguous};
 pub use terms::{read_term, terms_are_unambiguous};
 pub use types::{build_type, identifier, parse_type, read_type, types_are_unambiguous};

@@ -9,6 +9,7 @@ ghost use Rattle.hol_grammar.specs.Steps.{flat_steps_of};
 ghost use Rattle.hol_grammar.specs.TermSteps.{flat_steps, term_steps};
 ghost use Rattle.hol_grammar.specs.Views.{token_of, tokens_of};
 ghost use Rattle.hol_syntax.specs.SequentStates.{separates, IsFound, ParsesList, ParsesSequent, MeansFormulas};
+ghost use Rattle.hol_syntax.specs.UniqueSequents.{SequentsAreUnambiguous};
 
 use crate::evaluate::term_of_steps;
 use crate::scope::Scope;
@@ -159,3 +160,8 @@ pub fn read_sequent(alloc: Global, scope: &Scope, text: &[u8]) -> Result<(Vec<Te
         Err(fault) => Err(fault),
     }
 }
+
+/// A text is spelled as one tree of a sequent.
+pub fn sequents_are_unambiguous()
+    ensures { SequentsAreUnambiguous }
+{}

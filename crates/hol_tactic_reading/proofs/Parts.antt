@@ -81,14 +81,6 @@ unchanged : (outcome : Result combinators.Tactics Fault) → outcome ≡ outcome
 unchanged (Ok others) = refl
 unchanged (Err fault) = refl
 
-pub list-begins : (scope : Scope) (tacs : List (Tac Kept)) (done : List (Tac NamedTerm)) (outcome : Result combinators.Tactics Fault) → done ≡ []
-    → AreRead scope (all_expressions (map expression_here tacs)) outcome → AreReadSoFar scope tacs done outcome
-list-begins scope tacs done outcome none read = record {
-  rest = outcome;
-  read = read;
-  is = unchanged outcome ∙ ap (λ made. outcome >>= λ others. Ok (before made others)) (sym none);
-}
-
 -- the first of what is left
 list-turn : (scope : Scope) (tacs : List (Tac Kept)) (n : ℕ) (d : Tac Kept) (rest : Result combinators.Tactics Fault) → n < length tacs
     → AreRead scope (all_expressions (map expression_here (drop n tacs))) rest
@@ -112,12 +104,6 @@ list-goes-on scope tacs n d done now made outcome within front reads grown =
       is = front.is ∙ ap (λ rest. rest >>= λ others. Ok (before done others)) (turn.is ∙ ap (λ first. joined combinators.more first turn.second) (reads turn.first turn.read_first))
           ∙ one-before done made turn.second ∙ ap (λ ts. turn.second >>= λ others. Ok (before ts others)) (sym grown);
     }
-
-pub list-broken : (scope : Scope) (tacs : List (Tac Kept)) (n : ℕ) (d : Tac Kept) (done : List (Tac NamedTerm)) (fault : Fault) (outcome : Result combinators.Tactics Fault)
-    → n < length tacs → AreReadSoFar scope (drop n tacs) done outcome → ReadsExpression scope (get_or tacs n d) (Err fault) → (fault ≡ Memory) ⊎ (outcome ≡ Err fault)
-list-broken scope tacs n d done fault outcome within front reads =
-    ⊎_elim (λ memory. inl memory) (λ refusal. inr (front.is ∙ ap (λ rest. rest >>= λ others. Ok (before done others)) refusal))
-    (refused-first fault front.rest (list-turn scope tacs n d front.rest within front.read) reads)
 
 pub list-ended : (scope : Scope) (tacs : List (Tac Kept)) (n : ℕ) (done : List (Tac NamedTerm)) (outcome : Result combinators.Tactics Fault) → length tacs ≤ n
     → AreReadSoFar scope (drop n tacs) done outcome → outcome ≡ Ok (all_tactics (map tactic_of done))

@@ -55,9 +55,6 @@ falsity room = record { sized = λ is. record { height = omega arith; nodes = om
 equated : (room : Bool) (tall many more : ℕ) (l r : Nameless) → 1 ≤ tall → IsModerate room tall many l → IsModerate room tall more r → IsModerate room (tall + 2) (many + more + 3) (equation_of l r)
 equated room tall many more l r low one two = record { sized = λ is. sized-equation tall many more bool_type l r low (omega arith) (one.sized is) (two.sized is) }
 
-taller : (room : Bool) (tall many : ℕ) (term : Nameless) → tall ≤ 510 → many ≤ 20000 → IsModerate room tall many term → IsModerate room 510 20000 term
-taller room tall many term low few one = record { sized = λ is. sized-more tall many 510 20000 term (one.sized is) low few }
-
 fact-moderate : (value room : Bool) (term : Nameless) → IsSmallIf room term → IsModerate room 502 4003 (fact value term)
 fact-moderate true room term small = record { sized = λ is. sized-more 500 2000 502 4003 term (small is) (omega arith) (omega arith) }
 fact-moderate false room term small = equated room 500 2000 2000 term nameless.false_term (omega arith) (small-moderate room term small) (falsity room)

@@ -1,4 +1,4 @@
-// How many inferences TAUT takes, beside what HOL Light's TAUT takes for the same formulas.
+// How many inferences TAUT takes, where HOL Light's TAUT takes 2,639, 3,741 and 114,085 for the first three of these formulas.
 use crate::answers::inferences;
 use crate::formulas::{joined, variable};
 use hol_model::Fault;
@@ -107,22 +107,22 @@ fn takes_fewer(alloc: Global, formula: Result<Term, Fault>, than: usize) -> bool
 
 #[test]
 fn conjunction_of_fourteen(rt: HostRuntime) {
-    assert!(rt; takes_fewer(rt.alloc(), conjunction(rt.alloc()), 2_639));
+    assert!(rt; takes_fewer(rt.alloc(), conjunction(rt.alloc()), 83));
 }
 
 #[test]
 fn implications_of_fourteen(rt: HostRuntime) {
-    assert!(rt; takes_fewer(rt.alloc(), implications(rt.alloc()), 3_741));
+    assert!(rt; takes_fewer(rt.alloc(), implications(rt.alloc()), 620));
 }
 
 #[test]
 fn chain_of_ten(rt: HostRuntime) {
-    assert!(rt; takes_fewer(rt.alloc(), chain(rt.alloc()), 114_085));
+    assert!(rt; takes_fewer(rt.alloc(), chain(rt.alloc()), 501));
 }
 
-// HOL Light's number for the chain alone.
+// HOL Light's number for the chain alone is the bound of the second.
 #[test]
 fn chains_of_ten_as_parts(rt: HostRuntime) {
-    assert!(rt; takes_fewer(rt.alloc(), chain_as_part(rt.alloc()), 114_085));
+    assert!(rt; takes_fewer(rt.alloc(), chain_as_part(rt.alloc()), 519));
     assert!(rt; takes_fewer(rt.alloc(), chain_as_premise(rt.alloc()), 114_085));
 }

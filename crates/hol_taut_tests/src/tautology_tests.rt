@@ -1,7 +1,8 @@
-// Formulas with what TAUT answers to them, by hand.
+// Formulas with their atoms, and what TAUT answers to them, by hand.
 use crate::answers::{answer, false_in};
 use crate::formulas::{always, applied, joined, negated, variable};
 use hol_model::Fault;
+use hol_propositions::atoms;
 use hol_terms::Term;
 use std::alloc::Global;
 
@@ -181,4 +182,37 @@ fn quantified_formulas_are_atoms(rt: HostRuntime) {
     const INSTANCE: Formula = Formula::Joined("==>", &ALWAYS_P, &P_X);
     assert!(rt; answers(rt.alloc(), &ALWAYS, &Wanted::False(&[false])));
     assert!(rt; answers(rt.alloc(), &INSTANCE, &Wanted::False(&[true, false])));
+}
+
+// Whether a term is the variable of this name, of type `bool`.
+fn is_variable(term: &Term, wanted: &str) -> bool {
+    match term.dest_var() {
+        Some((name, ty)) => name == wanted && ty.is_bool(),
+        None => false,
+    }
+}
+
+// Whether terms are the variables of these names.
+fn are_variables(terms: &[Term], names: &[&str]) -> bool {
+    for (term, name) in terms.iter().zip(names) {
+        if !is_variable(term, name) {
+            return false;
+        }
+    }
+    terms.len() == names.len()
+}
+
+// Whether the atoms of a formula are the variables of these names.
+fn has_atoms(alloc: Global, formula: &Formula, names: &[&str]) -> Result<bool, Fault> {
+    let term = term_of(alloc, formula)?;
+    let atoms = atoms(alloc, &term)?;
+    Ok(are_variables(&atoms, names))
+}
+
+// In order of first occurrence.
+#[test]
+fn atoms_of_an_implication(rt: HostRuntime) {
+    const BACK: Formula = Formula::Joined("==>", &Q, &P_IMPLIES_Q);
+    assert!(rt; has_atoms(rt.alloc(), &P_IMPLIES_Q, &["p", "q"]) == Ok(true));
+    assert!(rt; has_atoms(rt.alloc(), &BACK, &["q", "p"]) == Ok(true));
 }

@@ -299,7 +299,7 @@ fn the_height_of_negations_is_limited(rt: HostRuntime) {
 }
 
 // Tautologies, and the rows that falsify what is none.
-const TAUTOLOGIES: [Row<'static>; 3] = [
+const TAUTOLOGIES: [Row<'static>; 4] = [
     // TAUT, with a quantified formula as an atom up to bound names
     Row {
         script: "thm a = TAUT `(p:bool) \\/ ~(p:bool)` ;;\n\
@@ -322,6 +322,20 @@ line 4: E26 NotTautology !x:bool. x=T\n\
 line 5: E26 NotTautology\n\
 line 6: E7 NotBool\n\
 line 7: E28 Syntax\n",
+    },
+    // conjunctions of eleven and of fourteen atoms, false in the second row, and what is true of the fourteen
+    Row {
+        script: "var a:bool ;; var b:bool ;; var c:bool ;; var d:bool ;; var e:bool ;; var f:bool ;; var g:bool ;; \
+var h:bool ;; var i:bool ;; var j:bool ;; var k:bool ;; var l:bool ;; var m:bool ;; var n:bool ;; \
+thm t = TAUT `a /\\ b /\\ c /\\ d /\\ e /\\ f /\\ g /\\ h /\\ i /\\ j /\\ k` ;; \
+thm t = TAUT `a /\\ b /\\ c /\\ d /\\ e /\\ f /\\ g /\\ h /\\ i /\\ j /\\ k /\\ l /\\ m /\\ n` ;; \
+thm t = TAUT `a /\\ b /\\ c /\\ d /\\ e /\\ f /\\ g /\\ h /\\ i /\\ j /\\ k /\\ l /\\ m /\\ n ==> n` ;;",
+        output: "line 1: E26 NotTautology (a:bool)=T, (b:bool)=T, (c:bool)=T, (d:bool)=T, (e:bool)=T, (f:bool)=T, (g:bool)=T, \
+(h:bool)=T, (i:bool)=T, (j:bool)=T, (k:bool)=F\n\
+line 1: E26 NotTautology (a:bool)=T, (b:bool)=T, (c:bool)=T, (d:bool)=T, (e:bool)=T, (f:bool)=T, (g:bool)=T, \
+(h:bool)=T, (i:bool)=T, (j:bool)=T, (k:bool)=T, (l:bool)=T, (m:bool)=T, (n:bool)=F\n\
+t: |- (a:bool) /\\ (b:bool) /\\ (c:bool) /\\ (d:bool) /\\ (e:bool) /\\ (f:bool) /\\ (g:bool) /\\ \
+(h:bool) /\\ (i:bool) /\\ (j:bool) /\\ (k:bool) /\\ (l:bool) /\\ (m:bool) /\\ (n:bool) ==> (n:bool)\n",
     },
     // fifteen atoms
     Row {

@@ -1,4 +1,4 @@
-// Scripts of many commands of goals, with the output that each must have.
+// Scripts of many commands of goals, and of long and deep expressions, with the output that each must have.
 use crate::rows::{push_times, writes};
 use hol_model::Fault;
 use std::alloc::Global;
@@ -86,4 +86,56 @@ line 3: E20 StepLimit\n\
 #[test]
 fn rewriting_without_end(rt: HostRuntime) {
     assert!(rt; rewrites_until_no_step_is_left(rt.alloc()) == Ok(true));
+}
+
+// Whether a chain of so many refiners, and one more, is refused for want of steps.
+fn spends_all_steps(alloc: Global, links: usize) -> Result<bool, Fault> {
+    let mut script = Vec::new(alloc);
+    script.extend_from_slice(b"goal `T` ;;\ne ALL_TAC")?;
+    push_times(&mut script, b" THEN ALL_TAC", links)?;
+    script.extend_from_slice(b" ;;")?;
+    let expected = b"1 subgoal\n?- T\nline 2: E20 StepLimit\n";
+    writes(alloc, &script, expected)
+}
+
+#[test]
+fn a_million_refiners_in_a_chain(rt: HostRuntime) {
+    assert!(rt; spends_all_steps(rt.alloc(), 1_000_000) == Ok(true));
+}
+
+// Whether a refiner in so many parentheses is answered so.
+fn answers_in_parentheses(alloc: Global, depth: usize, answer: &[u8]) -> Result<bool, Fault> {
+    let mut script = Vec::new(alloc);
+    script.extend_from_slice(b"goal `T` ;; e ")?;
+    push_times(&mut script, b"(", depth)?;
+    script.extend_from_slice(b"ALL_TAC")?;
+    push_times(&mut script, b")", depth)?;
+    script.extend_from_slice(b" ;;")?;
+    let mut expected = Vec::new(alloc);
+    expected.extend_from_slice(b"1 subgoal\n?- T\n")?;
+    expected.extend_from_slice(answer)?;
+    writes(alloc, &script, &expected)
+}
+
+#[test]
+fn parentheses_of_refiners_are_limited(rt: HostRuntime) {
+    let alloc = rt.alloc();
+    assert!(rt; answers_in_parentheses(alloc, 1000, b"1 subgoal\n?- T\n") == Ok(true));
+    assert!(rt; answers_in_parentheses(alloc, 1001, b"line 1: E28 Syntax\n") == Ok(true));
+}
+
+// Whether a conversion under so many prefixes is answered so.
+fn answers_under_prefixes(alloc: Global, depth: usize, answer: &[u8]) -> Result<bool, Fault> {
+    let mut script = Vec::new(alloc);
+    script.extend_from_slice(b"thm a = CONV ")?;
+    push_times(&mut script, b"TRY_CONV ", depth)?;
+    script.extend_from_slice(b"ALL_CONV `T` ;; ")?;
+    writes(alloc, &script, answer)
+}
+
+#[test]
+fn prefixes_of_conversions_are_limited(rt: HostRuntime) {
+    let alloc = rt.alloc();
+    assert!(rt; answers_under_prefixes(alloc, 1000, b"a: |- T <=> T\n") == Ok(true));
+    assert!(rt; answers_under_prefixes(alloc, 1001, b"line 1: E28 Syntax\n") == Ok(true));
 }

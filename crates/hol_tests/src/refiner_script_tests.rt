@@ -367,3 +367,50 @@ t: |- (f:A->A) (x:A) = (f:A->A) (x:A)\n",
 fn conversions(rt: HostRuntime) {
     assert!(rt; first_wrong(rt.alloc(), &CONVERSIONS).is_none());
 }
+
+// Conversions by the rules of theorems.
+const RULES_OF_THEOREMS: [Row<'static>; 5] = [
+    // a formula that is no equation
+    Row {
+        script: "thm t = CONV (REWR_CONV TRUTH) `T` ;;",
+        output: "t: |- T <=> T\n",
+    },
+    // a variable of a hypothesis stays fixed
+    Row {
+        script: "thm h = ASSUME `(p:bool) <=> (q:bool)` ;;\n\
+thm n = CONV (REWR_CONV h) `(r:bool)` ;;\n\
+thm a = CONV (REWR_CONV h) `(p:bool)` ;;\n",
+        output: "h: (p:bool) <=> (q:bool) |- (p:bool) <=> (q:bool)\n\
+line 2: E34 NoMatch\n\
+a: (p:bool) <=> (q:bool) |- (p:bool) <=> (q:bool)\n",
+    },
+    // a variable of the right side alone stays
+    Row {
+        script: "thm r = TAUT `(p:bool) /\\ ~(p:bool) <=> (q:bool) /\\ ~(q:bool)` ;; thm a = CONV (REWR_CONV r) `T /\\ ~T` ;;",
+        output: "r: |- (p:bool) /\\ ~(p:bool) <=> (q:bool) /\\ ~(q:bool)\n\
+a: |- T /\\ ~T <=> (q:bool) /\\ ~(q:bool)\n",
+    },
+    // the rules of a conjunction, the first before the second
+    Row {
+        script: "thm s = TAUT `(p:bool) /\\ (q:bool) <=> (q:bool) /\\ (p:bool)` ;; thm i = TAUT `(p:bool) /\\ T <=> (p:bool)` ;; \
+thm c = CONJ s i ;; thm d = CONJ i s ;; \
+thm a = CONV (REWR_CONV c) `(a:bool) /\\ T` ;; thm b = CONV (REWR_CONV d) `(a:bool) /\\ T` ;;",
+        output: "s: |- (p:bool) /\\ (q:bool) <=> (q:bool) /\\ (p:bool)\n\
+i: |- (p:bool) /\\ T <=> (p:bool)\n\
+c: |- ((p:bool) /\\ (q:bool) <=> (q:bool) /\\ (p:bool)) /\\ ((p:bool) /\\ T <=> (p:bool))\n\
+d: |- ((p:bool) /\\ T <=> (p:bool)) /\\ ((p:bool) /\\ (q:bool) <=> (q:bool) /\\ (p:bool))\n\
+a: |- (a:bool) /\\ T <=> T /\\ (a:bool)\n\
+b: |- (a:bool) /\\ T <=> (a:bool)\n",
+    },
+    // bound variables become free ones, of which one is replaced and one stays
+    Row {
+        script: "thm r = ASSUME `!x:A. !y:A. (f:A->bool) x <=> (g:A->A->bool) x y` ;; thm a = CONV (REWR_CONV r) `(f:A->bool) (z:A)` ;;",
+        output: "r: !x:A. !y:A. (f:A->bool) x <=> (g:A->A->bool) x y |- !x:A. !y:A. (f:A->bool) x <=> (g:A->A->bool) x y\n\
+a: !x:A. !y:A. (f:A->bool) x <=> (g:A->A->bool) x y |- (f:A->bool) (z:A) <=> (g:A->A->bool) (z:A) (y:A)\n",
+    },
+];
+
+#[test]
+fn rules_of_theorems(rt: HostRuntime) {
+    assert!(rt; first_wrong(rt.alloc(), &RULES_OF_THEOREMS).is_none());
+}

@@ -5,7 +5,7 @@ use hol_script::Summary;
 use std::alloc::Global;
 
 // The kernel's rules.
-const RULES: [Row<'static>; 13] = [
+const RULES: [Row<'static>; 14] = [
     // no command
     Row {
         script: "",
@@ -95,6 +95,11 @@ r: (p:bool), (q:bool) |- (p:bool) <=> (q:bool)\n\
 s: |- (p:bool) <=> (p:bool)\n\
 line 3: E8 NotEquation\n\
 line 3: E12 NotTrivialBeta\n",
+    },
+    // BETA of the variable that is bound
+    Row {
+        script: "thm k = BETA `(\\x:bool. x) (x:bool)` ;;",
+        output: "k: |- (\\x:bool. x) (x:bool) <=> (x:bool)\n",
     },
     // the axioms as the kernel states them
     Row {

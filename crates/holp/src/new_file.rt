@@ -1,7 +1,8 @@
 // A file that is made once there are bytes for it.
 ghost use Rattle.std.specs.Prelude.{◌≡◌, false};
 
-use hol_model::{DeviceFail, IntoWrite, Sink};
+use hol_devices::IntoWrite;
+use hol_model::{DeviceFail, Sink};
 use std::fs::{self, File};
 
 /// A sink that makes the file of its name when the first bytes come.

@@ -1,10 +1,13 @@
 // The file of a script, which can tell why it is not read.
-ghost use Rattle.std.specs.Prelude.{◌≡◌, false, IfOk};
+ghost use Rattle.std.specs.Prelude.{◌≡◌, ◌||◌, false, is_err, IfOk};
+ghost use Rattle.std.specs.Result.{result_ok};
+ghost use Rattle.std.specs.Io.{ReadsAtMost};
+ghost use Rattle.std.specs.Io.KnownBytes.{ReadConsumes};
 
+use hol_devices::Reader;
 use hol_model::{DeviceFail, Fault, Source};
-use std::fmt;
 use std::fs::{self, File};
-use std::io::{self, Read};
+use std::{fmt, io};
 
 /// How a script is run: the name of its file, where `-` names standard input, and whether standard error tells more of what
 /// is refused.
@@ -19,12 +22,12 @@ pub(crate) fn path_of(name: &str) -> &str {
     if name == "-" { "/dev/stdin" } else { name }
 }
 
-/// The file of a script as a source.
+/// The file of a script as a source, over what reads it.
 #[derive(Drop)]
-pub struct ScriptFile<'a> {
+pub struct ScriptFile<'a, R: Reader + Drop> {
     rt: &'a HostRuntime,
     asked: Asked<'a>,
-    file: File,
+    file: R,
     failed: bool,
 }
 
@@ -51,9 +54,12 @@ fn tell_reason(rt: &HostRuntime, asked: &Asked<'_>, reason: &io::Error) {
     }
 }
 
-impl ScriptFile<'_> {
+impl ScriptFile<'_, File> {
     /// Opens the file of a script (`ReadFault`).
-    pub(crate) fn open<'a>(rt: &'a HostRuntime, asked: &Asked<'a>) -> Result<ScriptFile<'a>, Fault>
+    pub(crate) fn open<'a>(
+        rt: &'a HostRuntime,
+        asked: &Asked<'a>,
+    ) -> Result<ScriptFile<'a, File>, Fault>
         ensures { IfOk result (λ file. file.failed ≡ false) }
     {
         match fs::open(rt, path_of(asked.script)) {
@@ -71,11 +77,19 @@ impl ScriptFile<'_> {
     }
 }
 
-impl Source for ScriptFile<'_> {
+impl<R: Reader + Drop> Source for ScriptFile<'_, R> {
+    ghost remaining = { λ s. R.remaining s.file };
+
     ghost has_failed = { λ s. s.failed };
 
-    fn pull(&mut self, buf: &mut [u8]) -> Result<usize, DeviceFail> {
-        match self.file.read(buf) {
+    // One call of the reader, and its answer.
+    fn pull(&mut self, buf: &mut [u8]) -> Result<usize, DeviceFail>
+        ensures bound { ReadsAtMost result buf.new }
+        ensures bytes { ReadConsumes (R.remaining self.old.file) (R.remaining self.new.file) result buf.new }
+        ensures failure { self.new.failed ≡ (self.old.failed || is_err result) }
+        ensures gives { R.read_gives self.old.file (result_ok result) self.new.file }
+    {
+        match self.file.read_some(buf) {
             Ok(count) => Ok(count),
             Err(reason) => {
                 self.failed = true;

@@ -4,9 +4,10 @@
 mod functions;
 
 use functions::{both, same};
+use hol_devices::{FromRead, IntoWrite};
 use hol_host::Host;
 use hol_just::Goal;
-use hol_model::{Fault, FromRead, IntoWrite};
+use hol_model::Fault;
 use hol_script::{Summary, run};
 use hol_terms::Term;
 use std::alloc::Global;

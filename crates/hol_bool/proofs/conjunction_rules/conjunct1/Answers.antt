@@ -9,6 +9,7 @@ use Rattle.hol_prelude.specs.Prelude.{p, q}
 use Rattle.hol_equal.proofs.CutLemmas.{shows-itself}
 use Rattle.hol_bool.proofs.RuleAnswers.{answered-one, leads-p_q, roomy-fits}
 use Rattle.hol_bool.proofs.InferredRules.{infers_conjunct1}
+use Rattle.hol_bool.proofs.PreludeSteps.{p_q-known}
 use Rattle.hol_bool.proofs.conjunction_rules.conjunct1.Goals as goal
 
 pub returns-clause-outcome : goal.returns-clause-outcome
@@ -28,3 +29,12 @@ returns-clause-outcome c =
 
 pub returns-clause-inferred : goal.returns-clause-inferred
 returns-clause-inferred c = infers_conjunct1 c.requires.logic c.in-Some.ensures.legal c.in-Some.ensures.formula (returns-clause-outcome c)
+
+pub by_theorem-requires-clause-known : goal.by_theorem-requires-clause-known
+by_theorem-requires-clause-known c =
+    let parts = c.in-Some.ensures.parts in
+    p_q-known c.args.recorder.now.theory c.in-Some.sides.left.now c.in-Some.sides.right.now c.deref.result.now (c.deref.ensures.value ∙ c.in-Ok.ensures.ok) parts.left_formula parts.right_formula
+
+pub by_theorem-requires-clause-stated : goal.by_theorem-requires-clause-stated
+by_theorem-requires-clause-stated c =
+    c.in-Some.ensures.parts.left_formula

@@ -1,4 +1,4 @@
-use Rattle.std.proofs.Common.{◌≡◌, ◌∙◌, [], ◌∷◌, ◌++◌, Err, sym, subst}
+use Rattle.std.proofs.Common.{◌≡◌, ◌∙◌, [], ◌∷◌, ◌++◌, Err, refl, sym, subst}
 use Rattle.hol_model.specs.Terms.HolType.{bool_type}
 use Rattle.hol_model.specs.Terms.NamedTerm.{NamedTerm, equation}
 use Rattle.hol_model.specs.Terms.Nameless.{Nameless, image}
@@ -12,6 +12,8 @@ use Rattle.hol_bool.specs.PreludeInstances.{LeadsTo, at_p_q}
 use Rattle.hol_equal.proofs.CutLemmas.{right-names, given-derives}
 use Rattle.hol_bool.proofs.RoomLemmas.{equation-is, equation-past, connected-is, connected-past, connected-typed}
 use Rattle.hol_bool.proofs.ConjunctionAnswers.{conj_equation, conj-fits-at, conj-both-fits, conj-leads}
+use Rattle.hol_bool.proofs.PreludeSteps.{p_q-known}
+use Rattle.hol_bool.proofs.FormulaLemmas.{equation-formula, connects, made-formula}
 use Rattle.hol_bool.proofs.conjunction_rules.joined.Goals as goal
 
 pub returns-in-Err-clause-derives : goal.returns-in-Err-clause-derives
@@ -82,3 +84,25 @@ returns-clause-derives c h k s t room first second fits =
     let path : conj_equation (image a) (image b) ≡ conj_equation s t = λ i. conj_equation (first.concludes i) (second.concludes i) in
     given-derives room c.eq_mp.result (h ++ k) (nameless.conjunction s t)
     (c.eq_mp.ensures.gives h k t (nameless.conjunction s t) (subst (λ (u : Nameless). Shows c.in-Ok-by_theorem.equation.theorem h u) path at_images) second)
+
+pub by_theorem-requires-clause-known : goal.by_theorem-requires-clause-known
+by_theorem-requires-clause-known c =
+    let a = c.args.first.now.theorem.conclusion in
+    let b = c.args.second.now.theorem.conclusion in
+    let one = c.conclusion_of-p.ensures in
+    let two = c.conclusion_of-q.ensures in
+    let terms_are : c.deref.result.now ≡ at_p_q a b = c.deref.ensures.value ∙ c.in-Ok-for_p_q.ensures.ok ∙ (λ i. (one.value i, p) ∷ (two.value i, q) ∷ []) in
+    p_q-known c.args.recorder.now.theory a b c.deref.result.now terms_are one.formula two.formula
+
+pub by_theorem-requires-clause-stated : goal.by_theorem-requires-clause-stated
+by_theorem-requires-clause-stated c =
+    let journal = c.args.recorder.now in
+    let a = c.args.first.now.theorem.conclusion in
+    let b = c.args.second.now.theorem.conclusion in
+    let one = c.conclusion_of-p.ensures in
+    let two = c.conclusion_of-q.ensures in
+    let both_is = connected-is c.in-Ok.both and_name a b c.conclusion_of-p.result.now c.conclusion_of-q.result.now one.formula.typed two.formula.typed one.value two.value c.in-Ok.ensures in
+    let stated_is =
+    equation-is c.in-Ok-equivalence.stated b (conjunction a b) c.conclusion_of-q.result.now c.in-Ok.both two.formula.typed (connected-typed and_name a b one.formula.typed two.formula.typed) two.value both_is c.in-Ok-equivalence.ensures in
+    made-formula journal.theory c.in-Ok-equivalence.stated (equation b (conjunction a b)) stated_is
+    (equation-formula journal.theory one.legal b (conjunction a b) two.formula (connects journal c.args.logic.now c.requires.logic one.legal and_name refl a b one.formula two.formula))

@@ -11,6 +11,8 @@ use Rattle.hol_bool.proofs.RoomLemmas.{connected-is, connected-past}
 use Rattle.hol_bool.proofs.RuleAnswers.{roomy-fits}
 use Rattle.hol_bool.proofs.DisjunctionAnswers.{disj1-answered, disj1-leads}
 use Rattle.hol_bool.proofs.InferredRules.{infers_disj1}
+use Rattle.hol_bool.proofs.PreludeSteps.{p_q-known}
+use Rattle.hol_bool.proofs.FormulaLemmas.{connects, made-formula}
 use Rattle.hol_bool.proofs.disjunction_rules.disj1.Goals as goal
 
 pub returns-in-Err-connect-clause-outcome : goal.returns-in-Err-connect-clause-outcome
@@ -48,3 +50,20 @@ returns-clause-outcome c =
 
 pub returns-clause-inferred : goal.returns-clause-inferred
 returns-clause-inferred c = infers_disj1 c.ty-type.ensures (returns-clause-outcome c)
+
+pub by_theorem-requires-clause-known : goal.by_theorem-requires-clause-known
+by_theorem-requires-clause-known c =
+    let a = c.args.premise.now.theorem.conclusion in
+    let b = c.args.q.now in
+    let concluded = c.conclusion_of-p.ensures in
+    p_q-known c.args.recorder.now.theory a b c.deref.result.now (c.deref.ensures.value ∙ c.in-Ok-for_p_q.ensures.ok ∙ ap (λ (t : NamedTerm). at_p_q t b) concluded.value) concluded.formula c.in-Ok.ensures.ok.formula
+
+pub by_theorem-requires-clause-stated : goal.by_theorem-requires-clause-stated
+by_theorem-requires-clause-stated c =
+    let journal = c.args.recorder.now in
+    let a = c.args.premise.now.theorem.conclusion in
+    let b = c.args.q.now in
+    let passed = c.in-Ok.ensures.ok in
+    let concluded = c.conclusion_of-p.ensures in
+    let stated_is = connected-is c.in-Ok-connect.stated or_name a b c.conclusion_of-p.result.now b concluded.formula.typed passed.formula.typed concluded.value refl c.in-Ok-connect.ensures in
+    made-formula journal.theory c.in-Ok-connect.stated (disjunction a b) stated_is (connects journal c.args.logic.now c.requires.logic concluded.legal or_name refl a b concluded.formula passed.formula)

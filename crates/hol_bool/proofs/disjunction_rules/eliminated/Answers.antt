@@ -8,6 +8,9 @@ use Rattle.hol_bool.specs.Disjunctions.{other_case, both_cases}
 use Rattle.hol_bool.specs.PreludeInstances.{LeadsTo, at_p_q_r}
 use Rattle.hol_bool.proofs.RoomLemmas.{connected-is, connected-past, connected-typed, fits-left}
 use Rattle.hol_bool.proofs.DisjunctionAnswers.{other-typed, cases-leads}
+use Rattle.hol_bool.proofs.PreludeSteps.{p_q_r-known}
+use Rattle.hol_bool.proofs.FormulaLemmas.{connects, made-formula}
+use Rattle.hol_equal.specs.Formulas.{IsFormula}
 use Rattle.hol_bool.proofs.disjunction_rules.eliminated.Goals as goal
 
 pub returns-in-Err-clause-derives : goal.returns-in-Err-clause-derives
@@ -43,3 +46,25 @@ returns-clause-derives c h room shown whole stated =
     subst (λ (s : NamedTerm). LeadsTo theory 29 terms room premise (image s) → DerivesIf room c.by_theorem.result h (image s)) stated_is
     (λ leads. c.by_theorem.ensures.derives h premise room leads shown)
     (cases-leads theory p q r terms c.requires.left c.requires.right c.requires.r terms_are room whole stated)
+
+pub by_theorem-requires-clause-known : goal.by_theorem-requires-clause-known
+by_theorem-requires-clause-known c =
+    let p = c.args.sides.left.now in
+    let q = c.args.sides.right.now in
+    let r = c.args.r.now in
+    p_q_r-known c.args.recorder.now.theory p q r c.deref.result.now (c.deref.ensures.value ∙ c.in-Ok-for_p_q_r.ensures.ok) c.requires.left c.requires.right c.requires.r
+
+pub by_theorem-requires-clause-stated : goal.by_theorem-requires-clause-stated
+by_theorem-requires-clause-stated c =
+    let journal = c.args.recorder.now in
+    let p = c.args.sides.left.now in
+    let q = c.args.sides.right.now in
+    let r = c.args.r.now in
+    let case_is = connected-is c.in-Ok.case implies_name p r p r c.requires.left.typed c.requires.r.typed refl refl c.in-Ok.ensures in
+    let stated_is : c.in-Ok-connect.stated ≡ both_cases p q r =
+    connected-is c.in-Ok-connect.stated implies_name (implication p r) (other_case q r) c.in-Ok.case c.args.rest.now (connected-typed implies_name p r c.requires.left.typed c.requires.r.typed)
+    (other-typed q r c.requires.right.typed c.requires.r.typed) case_is c.requires.rest c.in-Ok-connect.ensures in
+    let implies : (left right : NamedTerm) → IsFormula journal.theory left → IsFormula journal.theory right → IsFormula journal.theory (implication left right) =
+    λ left right one two. connects journal c.args.logic.now c.requires.logic c.theory_is_legal.ensures implies_name refl left right one two in
+    made-formula journal.theory c.in-Ok-connect.stated (both_cases p q r) stated_is
+    (implies (implication p r) (other_case q r) (implies p r c.requires.left c.requires.r) (implies (implication q r) r (implies q r c.requires.right c.requires.r) c.requires.r))

@@ -20,8 +20,8 @@ returns-in-Err-joined-clause-derives c h q room shown fits =
 
 pub conclusion_of-q-requires : goal.conclusion_of-q-requires
 conclusion_of-q-requires c =
-    still_made c.assume.new.recorder c.joined.new.recorder (Ok c.in-Ok-joined.joined) c.args.premise.now c.in-Ok-joined.ensures.continues
-    (still_made c.args.recorder.now c.assume.new.recorder (Ok c.in-Ok.assumed) c.args.premise.now c.in-Ok.ensures.continues c.requires.premise)
+    still_made c.assume_known.new.recorder c.joined.new.recorder (Ok c.in-Ok-joined.joined) c.args.premise.now c.in-Ok-joined.ensures.continues
+    (still_made c.args.recorder.now c.assume_known.new.recorder (Ok c.in-Ok.assumed) c.args.premise.now c.in-Ok.ensures.continues c.requires.premise)
 
 pub returns-in-Err-first_of_both-clause-derives : goal.returns-in-Err-first_of_both-clause-derives
 returns-in-Err-first_of_both-clause-derives c h q room shown fits =

@@ -12,6 +12,8 @@ use Rattle.hol_equal.specs.Sequents.{Shows, DerivesIf}
 use Rattle.hol_bool.specs.PreludeInstances.{LeadsTo, at_p_q}
 use Rattle.hol_bool.proofs.RoomLemmas.{connected-is, connected-past}
 use Rattle.hol_bool.proofs.ImplicationAnswers.{disch_equation, disch-implication-fits, disch-leads}
+use Rattle.hol_bool.proofs.PreludeSteps.{p_q-known, still_known}
+use Rattle.hol_bool.proofs.FormulaLemmas.{connects, made-formula, formula_in}
 use Rattle.hol_bool.proofs.implication_rules.discharged.Goals as goal
 
 pub returns-in-Err-clause-derives : goal.returns-in-Err-clause-derives
@@ -47,3 +49,23 @@ returns-clause-derives c h q room shown fits =
     subst (λ (t : NamedTerm). LeadsTo c.absorbed.new.recorder.theory 16 terms room from (image t) → DerivesIf room c.by_theorem.result left (image t)) stated_is
     (λ l. c.by_theorem.ensures.derives left from room l equation) leads in
     subst (λ (t : Nameless). DerivesIf room c.by_theorem.result left (nameless.implication (image a) t)) shown.concludes answer
+
+pub by_theorem-requires-clause-known : goal.by_theorem-requires-clause-known
+by_theorem-requires-clause-known c =
+    let a = c.args.p.now in
+    let b = c.args.premise.now.theorem.conclusion in
+    let concluded = c.conclusion_of-q.ensures in
+    let theory = c.args.recorder.now.theory in
+    let terms_are : c.deref.result.now ≡ at_p_q a b = c.deref.ensures.value ∙ c.in-Ok-for_p_q.ensures.ok ∙ ap (at_p_q a) concluded.value in
+    still_known c.absorbed.new.recorder.theory theory c.deref.result.now c.in-Ok-absorbed.ensures.continues.theory
+    (p_q-known theory a b c.deref.result.now terms_are c.requires.formula concluded.formula)
+
+pub by_theorem-requires-clause-stated : goal.by_theorem-requires-clause-stated
+by_theorem-requires-clause-stated c =
+    let journal = c.args.recorder.now in
+    let a = c.args.p.now in
+    let b = c.args.premise.now.theorem.conclusion in
+    let concluded = c.conclusion_of-q.ensures in
+    let stated_is = connected-is c.in-Ok.stated implies_name a b a c.conclusion_of-q.result.now c.requires.formula.typed concluded.formula.typed refl concluded.value c.in-Ok.ensures in
+    formula_in c.absorbed.new.recorder.theory journal.theory c.in-Ok.stated c.in-Ok-absorbed.ensures.continues.theory
+    (made-formula journal.theory c.in-Ok.stated (implication a b) stated_is (connects journal c.args.logic.now c.requires.logic concluded.legal implies_name refl a b c.requires.formula concluded.formula))

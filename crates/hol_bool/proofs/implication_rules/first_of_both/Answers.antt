@@ -2,6 +2,8 @@ use Rattle.std.proofs.Common.{◌∙◌, [], ◌∷◌, sym, subst}
 use Rattle.hol_model.specs.Terms.Nameless.{image}
 use Rattle.hol_model.specs.Logic.Theory.{Theory}
 use Rattle.hol_bool.proofs.ImplicationAnswers.{conjunct-leads}
+use Rattle.hol_bool.proofs.PreludeSteps.{p_q-known, still_known}
+use Rattle.hol_bool.proofs.FormulaLemmas.{formula_in}
 use Rattle.hol_bool.proofs.implication_rules.first_of_both.Goals as goal
 use Rattle.hol_bool.specs.PreludeInstances.{LeadsTo}
 
@@ -16,3 +18,14 @@ returns-clause-derives c room fits =
     c.by_theorem.ensures.derives (image whole ∷ []) (image whole) room
     (subst (λ (t : Theory). LeadsTo t 13 terms room (image whole) (image a)) (sym c.in-Ok.ensures.continues.theory) leads)
     (c.in-Ok.ensures.gives c.requires.both.known)
+
+pub by_theorem-requires-clause-known : goal.by_theorem-requires-clause-known
+by_theorem-requires-clause-known c =
+    let sides = c.requires.sides in
+    let theory = c.args.recorder.now.theory in
+    still_known c.assume_known.new.recorder.theory theory c.deref.result.now c.in-Ok.ensures.continues.theory
+    (p_q-known theory c.args.p.now c.args.q.now c.deref.result.now (c.deref.ensures.value ∙ c.in-Ok-for_p_q.ensures.ok) sides.left_formula sides.right_formula)
+
+pub by_theorem-requires-clause-stated : goal.by_theorem-requires-clause-stated
+by_theorem-requires-clause-stated c =
+    formula_in c.assume_known.new.recorder.theory c.args.recorder.now.theory c.args.p.now c.in-Ok.ensures.continues.theory c.requires.sides.left_formula

@@ -11,6 +11,8 @@ use Rattle.hol_bool.specs.PreludeInstances.{LeadsTo, at_p_q}
 use Rattle.hol_equal.proofs.CutLemmas.{right-names, given-derives}
 use Rattle.hol_bool.proofs.RoomLemmas.{equation-is, equation-past}
 use Rattle.hol_bool.proofs.ConjunctionAnswers.{mp_equation, mp-leads}
+use Rattle.hol_bool.proofs.PreludeSteps.{p_q-known}
+use Rattle.hol_bool.proofs.FormulaLemmas.{equation-formula, made-formula}
 use Rattle.hol_bool.proofs.implication_rules.implied.Goals as goal
 
 pub returns-in-Err-clause-derives : goal.returns-in-Err-clause-derives
@@ -67,3 +69,20 @@ returns-clause-derives c h k s room first second fits =
     subst (λ (u : Nameless). Shows c.in-Ok-by_theorem.equation.theorem k u) (image-equation whole b bool_type zero.formula.typed ∙ ap (λ (u : Nameless). nameless_equation bool_type u (image b)) first.concludes) equation_shown in
     given-derives room c.eq_mp.result (k ++ h) (image b)
     (c.eq_mp.ensures.gives k h (nameless.implication s (image b)) (image b) at_images first)
+
+pub by_theorem-requires-clause-known : goal.by_theorem-requires-clause-known
+by_theorem-requires-clause-known c =
+    let a = c.args.second.now.theorem.conclusion in
+    let b = c.args.consequent.now in
+    let one = c.conclusion_of-antecedent.ensures in
+    let terms_are : c.deref.result.now ≡ at_p_q a b = c.deref.ensures.value ∙ c.in-Ok-for_p_q.ensures.ok ∙ ap (λ (u : NamedTerm). at_p_q u b) one.value in
+    p_q-known c.args.recorder.now.theory a b c.deref.result.now terms_are one.formula c.requires.consequent
+
+pub by_theorem-requires-clause-stated : goal.by_theorem-requires-clause-stated
+by_theorem-requires-clause-stated c =
+    let theory = c.args.recorder.now.theory in
+    let whole = c.args.first.now.theorem.conclusion in
+    let b = c.args.consequent.now in
+    let zero = c.conclusion_of-whole.ensures in
+    let stated_is = equation-is c.in-Ok.stated whole b c.conclusion_of-whole.result.now b zero.formula.typed c.requires.consequent.typed zero.value refl c.in-Ok.ensures in
+    made-formula theory c.in-Ok.stated (equation whole b) stated_is (equation-formula theory zero.legal whole b zero.formula c.requires.consequent)

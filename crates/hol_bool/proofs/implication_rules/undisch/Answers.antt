@@ -31,3 +31,6 @@ returns-clause-outcome c =
 
 pub returns-clause-inferred : goal.returns-clause-inferred
 returns-clause-inferred c = infers_undisch c.requires.logic c.in-Some.ensures.legal c.in-Some.ensures.formula (returns-clause-outcome c)
+
+pub assume_known-requires : goal.assume_known-requires
+assume_known-requires c = c.in-Some.ensures.parts.left_formula

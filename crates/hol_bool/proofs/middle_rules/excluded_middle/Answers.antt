@@ -9,6 +9,8 @@ use Rattle.hol_equal.specs.Sequents.{DerivesIf}
 use Rattle.hol_bool.specs.PreludeInstances.{Says}
 use Rattle.hol_bool.proofs.RoomLemmas.{negation-is, negation-typed, connected-is, connected-past, fits-argument}
 use Rattle.hol_bool.proofs.RuleAnswers.{answered, says-p, roomy-fits}
+use Rattle.hol_bool.proofs.PreludeSteps.{p-known}
+use Rattle.hol_bool.proofs.FormulaLemmas.{connects, negates, made-formula}
 use Rattle.hol_bool.proofs.middle_rules.excluded_middle.Goals as goal
 
 pub returns-in-Err-negate-clause-outcome : goal.returns-in-Err-negate-clause-outcome
@@ -53,3 +55,19 @@ returns-clause-outcome c =
     (says-p theory 34 middle a terms refl refl passed.formula (c.deref.ensures.value ∙ c.in-Ok-for_p.ensures.ok) room (image whole) refl
     (roomy-fits room (image whole) (roomy (image whole) (inr (inl refl))))))
     (subst (λ (s : NamedTerm). IfOk result (λ made. made.theorem.conclusion ≡ s)) stated_is c.instance_of_theorem.ensures.names)
+
+pub instance_of_theorem-requires-clause-known : goal.instance_of_theorem-requires-clause-known
+instance_of_theorem-requires-clause-known c =
+    p-known c.args.recorder.now.theory c.args.p.now c.deref.result.now (c.deref.ensures.value ∙ c.in-Ok-for_p.ensures.ok) c.in-Ok.ensures.ok.formula
+
+pub instance_of_theorem-requires-clause-stated : goal.instance_of_theorem-requires-clause-stated
+instance_of_theorem-requires-clause-stated c =
+    let journal = c.args.recorder.now in
+    let a = c.args.p.now in
+    let formula = c.in-Ok.ensures.ok.formula in
+    let typed = formula.typed in
+    let legal = c.theory_is_legal.ensures in
+    let negated_is = negation-is c.in-Ok-negate.negated a typed c.in-Ok-negate.ensures in
+    let stated_is = connected-is c.in-Ok-connect.stated or_name a (negation a) a c.in-Ok-negate.negated typed (negation-typed a typed) refl negated_is c.in-Ok-connect.ensures in
+    made-formula journal.theory c.in-Ok-connect.stated (disjunction a (negation a)) stated_is
+    (connects journal c.args.logic.now c.requires.logic legal or_name refl a (negation a) formula (negates journal c.args.logic.now c.requires.logic legal a formula))

@@ -8,6 +8,7 @@ use Rattle.hol_equal.proofs.CutLemmas.{shows-itself}
 use Rattle.hol_bool.proofs.FormulaLemmas.{false-is}
 use Rattle.hol_bool.proofs.RuleAnswers.{answered, leads-p, roomy-fits}
 use Rattle.hol_bool.proofs.InferredRules.{infers_contr}
+use Rattle.hol_bool.proofs.PreludeSteps.{p-known}
 use Rattle.hol_bool.proofs.negation_rules.contr.Goals as goal
 
 pub returns-clause-outcome : goal.returns-clause-outcome
@@ -29,3 +30,11 @@ returns-clause-outcome c =
 
 pub returns-clause-inferred : goal.returns-clause-inferred
 returns-clause-inferred c = infers_contr c.requires.logic c.conclusion_of-conclusion.ensures.legal c.ty-type.ensures c.conclusion_of-conclusion.ensures.formula (returns-clause-outcome c)
+
+pub by_theorem-requires-clause-known : goal.by_theorem-requires-clause-known
+by_theorem-requires-clause-known c =
+    p-known c.args.recorder.now.theory c.args.p.now c.deref.result.now (c.deref.ensures.value ∙ c.in-Ok-for_p.ensures.ok) c.in-Ok.ensures.ok.formula
+
+pub by_theorem-requires-clause-stated : goal.by_theorem-requires-clause-stated
+by_theorem-requires-clause-stated c =
+    c.in-Ok.ensures.ok.formula

@@ -13,6 +13,8 @@ use Rattle.hol_equal.proofs.CutLemmas.{shows-itself}
 use Rattle.hol_bool.proofs.RoomLemmas.{connected-is, connected-past}
 use Rattle.hol_bool.proofs.RuleAnswers.{answered-one, leads-p, roomy-fits}
 use Rattle.hol_bool.proofs.InferredRules.{infers_not_elim}
+use Rattle.hol_bool.proofs.PreludeSteps.{p-known}
+use Rattle.hol_bool.proofs.FormulaLemmas.{connects, falsity_is_formula, made-formula}
 use Rattle.hol_bool.proofs.negation_rules.not_elim.Goals as goal
 
 pub returns-in-Err-connect-clause-outcome : goal.returns-in-Err-connect-clause-outcome
@@ -46,3 +48,16 @@ returns-clause-outcome c =
 
 pub returns-clause-inferred : goal.returns-clause-inferred
 returns-clause-inferred c = infers_not_elim c.requires.logic c.in-Some.ensures.legal c.in-Some.ensures.formula (returns-clause-outcome c)
+
+pub by_theorem-requires-clause-known : goal.by_theorem-requires-clause-known
+by_theorem-requires-clause-known c =
+    p-known c.args.recorder.now.theory c.in-Some.part.now c.deref.result.now (c.deref.ensures.value ∙ c.in-Ok-for_p.ensures.ok) c.in-Some.ensures.part.formula
+
+pub by_theorem-requires-clause-stated : goal.by_theorem-requires-clause-stated
+by_theorem-requires-clause-stated c =
+    let journal = c.args.recorder.now in
+    let a = c.in-Some.part.now in
+    let negated = c.in-Some.ensures.part in
+    let stated_is = connected-is c.in-Ok-connect.stated implies_name a false_term a c.in-Ok.falsity negated.formula.typed refl refl c.in-Ok.ensures.ok c.in-Ok-connect.ensures in
+    made-formula journal.theory c.in-Ok-connect.stated (implication a false_term) stated_is
+    (connects journal c.args.logic.now c.requires.logic c.in-Some.ensures.legal implies_name refl a false_term negated.formula (falsity_is_formula journal c.args.logic.now c.requires.logic c.in-Some.ensures.legal))

@@ -10,9 +10,10 @@ use Rattle.hol_equal.specs.Sequents.{DerivesIf}
 use Rattle.hol_bool.specs.PreludeInstances.{LeadsTo}
 use Rattle.hol_equal.proofs.CutLemmas.{shows-itself}
 use Rattle.hol_bool.proofs.RoomLemmas.{negation-is}
-use Rattle.hol_bool.proofs.FormulaLemmas.{false-is}
+use Rattle.hol_bool.proofs.FormulaLemmas.{false-is, negates, made-formula}
 use Rattle.hol_bool.proofs.RuleAnswers.{answered-one, leads-p, roomy-fits}
 use Rattle.hol_bool.proofs.InferredRules.{infers_not_intro}
+use Rattle.hol_bool.proofs.PreludeSteps.{p-known}
 use Rattle.hol_bool.proofs.negation_rules.not_intro.Goals as goal
 
 pub returns-in-Err-clause-outcome : goal.returns-in-Err-clause-outcome
@@ -53,3 +54,15 @@ returns-clause-outcome c =
 
 pub returns-clause-inferred : goal.returns-clause-inferred
 returns-clause-inferred c = infers_not_intro c.requires.logic c.in-Some.ensures.legal c.in-Some.ensures.formula (returns-clause-outcome c)
+
+pub by_theorem-requires-clause-known : goal.by_theorem-requires-clause-known
+by_theorem-requires-clause-known c =
+    p-known c.args.recorder.now.theory c.in-Some.sides.left.now c.deref.result.now (c.deref.ensures.value ∙ c.in-Ok-for_p.ensures.ok) c.in-Some.ensures.parts.left_formula
+
+pub by_theorem-requires-clause-stated : goal.by_theorem-requires-clause-stated
+by_theorem-requires-clause-stated c =
+    let journal = c.args.recorder.now in
+    let a = c.in-Some.sides.left.now in
+    let parts = c.in-Some.ensures.parts in
+    let stated_is = negation-is c.in-Ok.stated a parts.left_formula.typed c.in-Ok.ensures in
+    made-formula journal.theory c.in-Ok.stated (negation a) stated_is (negates journal c.args.logic.now c.requires.logic c.theory_is_legal.ensures a parts.left_formula)

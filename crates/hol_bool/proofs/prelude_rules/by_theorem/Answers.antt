@@ -9,6 +9,8 @@ use Rattle.hol_equal.specs.Sequents.{Shows, instance_of}
 use Rattle.hol_equal.proofs.Sizes.{past-room}
 use Rattle.hol_equal.proofs.CutLemmas.{derives-where}
 use Rattle.hol_bool.proofs.PreludeSteps.{leads-shows, way-fits, equation-fits}
+use Rattle.hol_model.specs.Logic.Theory.{Theory}
+use Rattle.hol_equal.specs.Formulas.{IsFormula}
 use Rattle.hol_bool.proofs.prelude_rules.by_theorem.Goals as goal
 
 pub returns-in-Err-clause-derives : goal.returns-in-Err-clause-derives
@@ -35,6 +37,9 @@ returns-clause-derives c h premise room leads shows =
     let answer : Shows c.in-Ok.answer.theorem h (at d) =
     c.in-Ok.ensures.derives refl leads.may_replace h p d (leads-shows theory c.args.number terms room premise stated leads c.theorem_of-lemma.result.now.theorem c.theorem_of-lemma.ensures.theorem)
     (subst (λ (t : Nameless). Shows c.args.premise.now.theorem h t) leads.premise_is shows) in
-    derives-where (nameless_within_limits (nameless_equation bool_type stated stated)) room c.named.result h stated
+    derives-where (nameless_within_limits (nameless_equation bool_type stated stated)) room c.named_known.result h stated
     (equation-fits room stated stated leads.conclusion_fits leads.conclusion_fits)
-    (c.named.ensures.derives h (subst (λ (t : Nameless). Shows c.in-Ok.answer.theorem h t) (sym leads.conclusion_is) answer))
+    (c.named_known.ensures.derives h (subst (λ (t : Nameless). Shows c.in-Ok.answer.theorem h t) (sym leads.conclusion_is) answer))
+
+pub named_known-requires-clause-formula : goal.named_known-requires-clause-formula
+named_known-requires-clause-formula c = subst (λ (t : Theory). IsFormula t c.args.stated.now) (sym c.in-Ok.ensures.continues.theory) c.requires.stated

@@ -9,6 +9,8 @@ use Rattle.hol_equal.specs.Sequents.{Shows, instance_of}
 use Rattle.hol_equal.proofs.Sizes.{past-room}
 use Rattle.hol_equal.proofs.CutLemmas.{derives-where}
 use Rattle.hol_bool.proofs.PreludeSteps.{says-shows, says-fits, equation-fits}
+use Rattle.hol_model.specs.Logic.Theory.{Theory}
+use Rattle.hol_equal.specs.Formulas.{IsFormula}
 use Rattle.hol_bool.proofs.prelude_rules.instance_of_theorem.Goals as goal
 
 pub returns-in-Err-clause-derives : goal.returns-in-Err-clause-derives
@@ -29,6 +31,9 @@ returns-clause-derives c room says =
     let d = image says.stated in
     let answer : Shows c.in-Ok.answer.theorem [] (instance_of [] terms d) =
     c.in-Ok.ensures.derives refl says.may_replace [] d (says-shows theory c.args.number terms room stated says c.theorem_of-lemma.result.now.theorem c.theorem_of-lemma.ensures.theorem) in
-    derives-where (nameless_within_limits (nameless_equation bool_type stated stated)) room c.named.result [] stated
+    derives-where (nameless_within_limits (nameless_equation bool_type stated stated)) room c.named_known.result [] stated
     (equation-fits room stated stated says.conclusion_fits says.conclusion_fits)
-    (c.named.ensures.derives [] (subst (λ (t : Nameless). Shows c.in-Ok.answer.theorem [] t) (sym says.conclusion_is) answer))
+    (c.named_known.ensures.derives [] (subst (λ (t : Nameless). Shows c.in-Ok.answer.theorem [] t) (sym says.conclusion_is) answer))
+
+pub named_known-requires-clause-formula : goal.named_known-requires-clause-formula
+named_known-requires-clause-formula c = subst (λ (t : Theory). IsFormula t c.args.stated.now) (sym c.in-Ok.ensures.continues.theory) c.requires.stated

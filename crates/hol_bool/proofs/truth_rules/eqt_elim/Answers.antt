@@ -11,6 +11,7 @@ use Rattle.hol_equal.proofs.CutLemmas.{shows-itself}
 use Rattle.hol_bool.proofs.FormulaLemmas.{sides_as, truth-equation}
 use Rattle.hol_bool.proofs.RuleAnswers.{answered-one, leads-p, roomy-fits}
 use Rattle.hol_bool.proofs.InferredRules.{infers_eqt_elim}
+use Rattle.hol_bool.proofs.PreludeSteps.{p-known}
 use Rattle.hol_bool.proofs.truth_rules.eqt_elim.Goals as goal
 
 pub returns-clause-outcome : goal.returns-clause-outcome
@@ -34,3 +35,26 @@ returns-clause-outcome c =
 
 pub returns-clause-inferred : goal.returns-clause-inferred
 returns-clause-inferred c = infers_eqt_elim c.requires.logic c.conclusion_of-conclusion.ensures.legal c.conclusion_of-conclusion.ensures.formula (returns-clause-outcome c)
+
+pub by_theorem-requires-clause-known : goal.by_theorem-requires-clause-known
+by_theorem-requires-clause-known c =
+    let journal = c.args.recorder.now in
+    let premise = c.args.premise.now.theorem in
+    let concluded = c.conclusion_of-conclusion.ensures in
+    let a = c.in-Some.parts.left.now in
+    let b = c.in-Some.parts.right.now in
+    let dest : sides_as a b ≡ dest_equation premise.conclusion = c.in-Some.ensures.sides ∙ ap dest_equation concluded.value in
+    let true_right : is_true b ≡ true = sym c.is_named.ensures ∙ c.if-not-is_named.false in
+    let parts = truth-equation journal c.args.logic.now c.requires.logic concluded.legal premise concluded.theorem concluded.formula a b (sym dest) true_right in
+    p-known journal.theory a c.deref.result.now (c.deref.ensures.value ∙ c.in-Ok.ensures.ok) parts.formula
+
+pub by_theorem-requires-clause-stated : goal.by_theorem-requires-clause-stated
+by_theorem-requires-clause-stated c =
+    let journal = c.args.recorder.now in
+    let premise = c.args.premise.now.theorem in
+    let concluded = c.conclusion_of-conclusion.ensures in
+    let a = c.in-Some.parts.left.now in
+    let b = c.in-Some.parts.right.now in
+    let dest : sides_as a b ≡ dest_equation premise.conclusion = c.in-Some.ensures.sides ∙ ap dest_equation concluded.value in
+    let true_right : is_true b ≡ true = sym c.is_named.ensures ∙ c.if-not-is_named.false in
+    (truth-equation journal c.args.logic.now c.requires.logic concluded.legal premise concluded.theorem concluded.formula a b (sym dest) true_right).formula

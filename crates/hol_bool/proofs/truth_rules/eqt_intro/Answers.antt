@@ -13,6 +13,8 @@ use Rattle.hol_bool.proofs.RoomLemmas.{equation-is, equation-past}
 use Rattle.hol_bool.proofs.RuleAnswers.{answered-one, leads-p, roomy-fits}
 use Rattle.hol_bool.proofs.TruthAnswers.{truth-fits}
 use Rattle.hol_bool.proofs.InferredRules.{infers_eqt_intro}
+use Rattle.hol_bool.proofs.PreludeSteps.{p-known}
+use Rattle.hol_bool.proofs.FormulaLemmas.{equation-formula, truth_is_formula, made-formula}
 use Rattle.hol_bool.proofs.truth_rules.eqt_intro.Goals as goal
 
 pub returns-in-Err-equivalence-clause-outcome : goal.returns-in-Err-equivalence-clause-outcome
@@ -48,3 +50,19 @@ returns-clause-outcome c =
 
 pub returns-clause-inferred : goal.returns-clause-inferred
 returns-clause-inferred c = infers_eqt_intro c.conclusion_of-conclusion.ensures.formula (returns-clause-outcome c)
+
+pub by_theorem-requires-clause-known : goal.by_theorem-requires-clause-known
+by_theorem-requires-clause-known c =
+    let concluded = c.conclusion_of-conclusion.ensures in
+    p-known c.args.recorder.now.theory c.args.premise.now.theorem.conclusion c.deref.result.now
+    (c.deref.ensures.value ∙ c.in-Ok-for_p.ensures.ok ∙ ap (λ (t : NamedTerm). (t, p) ∷ []) concluded.value) concluded.formula
+
+pub by_theorem-requires-clause-stated : goal.by_theorem-requires-clause-stated
+by_theorem-requires-clause-stated c =
+    let journal = c.args.recorder.now in
+    let a = c.args.premise.now.theorem.conclusion in
+    let concluded = c.conclusion_of-conclusion.ensures in
+    let stated_is =
+    equation-is c.in-Ok-equivalence.stated a true_term c.conclusion_of-conclusion.result.now c.in-Ok.truth concluded.formula.typed refl concluded.value c.in-Ok.ensures.ok c.in-Ok-equivalence.ensures in
+    made-formula journal.theory c.in-Ok-equivalence.stated (equation a true_term) stated_is
+    (equation-formula journal.theory concluded.legal a true_term concluded.formula (truth_is_formula journal c.args.logic.now c.requires.logic concluded.legal))

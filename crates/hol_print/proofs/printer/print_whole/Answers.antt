@@ -7,7 +7,8 @@ use Rattle.hol_syntax.specs.Scope.{scope_of}
 use Rattle.hol_print.proofs.Printed.{on_ok, enclose_none}
 use Rattle.hol_print.proofs.printer.print_whole.Goals as goal
 
-pub returns-clause-ok : goal.returns-clause-ok
-returns-clause-ok c =
-    on_ok c.print_term.result (c.print_term.ensures.ok [] c.new-binders.ensures)
-    (subst (λ tree. Appends (string_bytes c.args.out.now) (string_bytes c.print_term.new.out) (term_bytes tree)) (enclose_none (term_tree (scope_of c.args.scope.now) [] c.args.term.now)))
+pub returns : goal.returns
+returns c = record {
+  ok = on_ok c.print_term.result (c.print_term.ensures.ok [] c.new-binders.ensures)
+      (subst (λ tree. Appends (string_bytes c.args.out.now) (string_bytes c.print_term.new.out) (term_bytes tree)) (enclose_none (term_tree (scope_of c.args.scope.now) [] c.args.term.now)));
+}

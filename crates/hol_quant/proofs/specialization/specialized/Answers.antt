@@ -61,8 +61,40 @@ returns-in-Err-clause-outcome c =
     (c.in-Err.ensures.derives at.ty function_known term_known (images premise) (over_predicate forall_name) applied c.requires.shows premise_shows)
     (spec-lemma-within theory term premise function binder body at start.typed))
 
-pub returns-in-Err-converted-clause-outcome : goal.returns-in-Err-converted-clause-outcome
-returns-in-Err-converted-clause-outcome c =
+pub converted_known-requires : goal.converted_known-requires
+converted_known-requires c =
+    let journal = c.args.recorder.now in
+    let theory = journal.theory in
+    let term = c.args.term.now in
+    let premise = c.args.premise.now.theorem in
+    let function = c.in-Some.parts.predicate.now in
+    let binder = c.in-Some.parts.binder.now in
+    let body = c.in-Some.parts.body.now in
+    let start =
+    spec-start journal c.theory_is_legal.ensures c.args.premise.now c.requires.premise c.thm.result.now c.thm.ensures c.concl-formula.ensures.theorem c.requires.generic term c.concl-formula.result.now
+    c.in-Some.parts.quantifier.now function binder body c.concl-formula.ensures.value c.in-Some.ensures.whole c.in-Some.ensures.named c.in-Some.ensures.abstraction
+    c.ty.result.now c.ty-2.result.now c.ty.ensures c.ty-2.ensures (c.eq.ensures.same.0 c.if-not-eq.false) in
+    let at = start.at in
+    let none = sym (rw c.theory.ensures at c.in-None.ensures) in
+    let term_known = known_term theory term at.ty none start.typed in
+    let later : c.by_predicate_lemma.new.recorder.theory ≡ theory = c.in-Ok.ensures.continues.theory in
+    let redex_none = subst (λ (th : Theory). first_unknown th (combination (abstraction at.name at.ty body) term) ≡ None) (sym later)
+    (no_unknown theory (combination (abstraction at.name at.ty body) term) bool_type
+    (subst (λ (t : Nameless). IsKnown theory (app t (image term)) bool_type) (sym (image-abstraction at.name at.ty body)) (app-known theory at.ty bool_type (closed at.name at.ty body) (image term) at.function_known term_known))) in
+    record {
+      name = at.name;
+      ty = at.ty;
+      codomain = bool_type;
+      body = body;
+      function_is = at.function_is;
+      binder_is = at.binder_is;
+      body_typed = at.body_typed;
+      argument_typed = start.typed;
+      known = redex_none;
+    }
+
+pub returns-in-Err-converted_known-clause-outcome : goal.returns-in-Err-converted_known-clause-outcome
+returns-in-Err-converted_known-clause-outcome c =
     let journal = c.args.recorder.now in
     let theory = journal.theory in
     let term = c.args.term.now in
@@ -86,15 +118,15 @@ returns-in-Err-converted-clause-outcome c =
     let redex_none = subst (λ (th : Theory). first_unknown th (combination (abstraction at.name at.ty body) term) ≡ None) (sym later)
     (no_unknown theory (combination (abstraction at.name at.ty body) term) bool_type
     (subst (λ (t : Nameless). IsKnown theory (app t (image term)) bool_type) (sym (image-abstraction at.name at.ty body)) (app-known theory at.ty bool_type (closed at.name at.ty body) (image term) at.function_known term_known))) in
-    let fault = c.in-Err-converted.fault in
+    let fault = c.in-Err-converted_known.fault in
     spec-answers theory term premise function binder body at start.typed (Err fault) none
     (past-room fault (conversion_fits at.name at.ty bool_type body term) fits
-    (c.in-Err-converted.ensures.derives at.name at.ty bool_type body at.function_is at.binder_is at.body_typed start.typed redex_none)
+    (c.in-Err-converted_known.ensures.derives at.name at.ty bool_type body at.function_is at.binder_is at.body_typed start.typed redex_none)
     (spec-conversion-within theory term premise function binder body at start.typed))
 
 pub eq_mp-requires-clause-second : goal.eq_mp-requires-clause-second
 eq_mp-requires-clause-second c =
-    journals-grow.stays c.by_predicate_lemma.new.recorder c.converted.new.recorder c.in-Ok.redex c.in-Ok-converted.ensures.continues.grown c.in-Ok.ensures.continues.held.made
+    journals-grow.stays c.by_predicate_lemma.new.recorder c.converted_known.new.recorder c.in-Ok.redex c.in-Ok-converted_known.ensures.continues.grown c.in-Ok.ensures.continues.held.made
 
 pub returns-clause-outcome : goal.returns-clause-outcome
 returns-clause-outcome c =
@@ -122,6 +154,6 @@ returns-clause-outcome c =
     (no_unknown theory (combination (abstraction at.name at.ty body) term) bool_type
     (subst (λ (t : Nameless). IsKnown theory (app t (image term)) bool_type) (sym (image-abstraction at.name at.ty body)) (app-known theory at.ty bool_type (closed at.name at.ty body) (image term) at.function_known term_known))) in
     let result = specialized_body theory term premise function binder body at start.typed in
-    let equation = c.in-Ok-converted.ensures.derives at.name at.ty bool_type body at.function_is at.binder_is at.body_typed start.typed redex_none in
+    let equation = c.in-Ok-converted_known.ensures.derives at.name at.ty bool_type body at.function_is at.binder_is at.body_typed start.typed redex_none in
     spec-answers theory term premise function binder body at start.typed c.eq_mp.result none
     (given-derives fits c.eq_mp.result (images premise) result (c.eq_mp.ensures.gives [] (images premise) (app (closed at.name at.ty body) (image term)) result equation redex))

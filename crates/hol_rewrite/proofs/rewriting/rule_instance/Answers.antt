@@ -1,8 +1,13 @@
 -- What the instance of the rule states, and what its refusal for size says.
 use Rattle.std.proofs.Common.{Ok, Err}
 use Rattle.hol_rewrite.specs.Instances.{replacements_of}
-use Rattle.hol_rewrite.proofs.RuleInstances.{instance_derives, instance_is, instance_fits, instance_past}
+use Rattle.hol_rewrite.proofs.RuleInstances.{instance_derives, terms_known, instance_is, instance_fits, instance_past}
 use Rattle.hol_rewrite.proofs.rewriting.rule_instance.Goals as goal
+
+pub instance_known-requires-clause-known : goal.instance_known-requires-clause-known
+instance_known-requires-clause-known c =
+    terms_known c.args.recorder.now.theory (replacements_of c.args.found.now) c.deref-2.result.now c.args.rule.now.theorem c.args.term.now c.ty-type.result.now
+    c.deref-2.ensures.value c.requires.applies c.ty-type.ensures c.requires.known
 
 pub returns-in-Err-clause-err : goal.returns-in-Err-clause-err
 returns-in-Err-clause-err c =

@@ -1,16 +1,8 @@
 use Rattle.std.proofs.Common.{◌≡◌, None}
-use Rattle.hol_model.specs.Terms.Substitution.{replacement}
 use Rattle.hol_model.specs.Kernel.Instantiation.{replacements_refusal}
-use Rattle.hol_model.specs.Logic.Derivable.Derivable.{inst_rule}
-use Rattle.hol_kernel.proofs.RuleLemmas.{standing}
-use Rattle.hol_kernel.proofs.InstanceLemmas.{replacement-MayReplace, passes_inst}
 use Rattle.hol_kernel.proofs.theory.Theory.inst.Goals as goal
 
-pub changed-requires-clause-derivable : goal.changed-requires-clause-derivable
-changed-requires-clause-derivable c = λ is.
-    let theta = c.args.theta.now in
-    let none : replacements_refusal c.args.self.now theta ≡ None = cc (c.replacements_refusal.ensures) in
-    let passes = passes_inst c.args.self.now theta none in
-    rw c.in_ok-entries.ensures.ok
-    (inst_rule (replacement theta) (replacement-MayReplace c.args.self.now theta passes.keeps passes.types passes.instances)
-    (standing c.args.self.now c.entries.ensures.legal c.args.theorem.now c.requires is))
+pub inst_known-requires-clause-known : goal.inst_known-requires-clause-known
+inst_known-requires-clause-known c =
+    let none : replacements_refusal c.args.self.now c.args.theta.now ≡ None = cc (c.replacements_refusal.ensures) in
+    none

@@ -36,6 +36,7 @@ returns-clause-tree c =
     let more = length-append c.args.self.now.ends.items (c.new.result ∷ []) in
     let len : c.len-to.result ≡ length c.args.self.now.ends.items = search rules in
     record {
+      root = rw items (omega (arith, more));
       leads = λ from symbol to is. rw items
           (elim (edge_new (λ e. get_by (edge_eq e) c.args.self.now.edges) (λ e. get_by (edge_eq e) c.insert.new.self) key c.len-to.result
           (edges_updated c.args.self.now.edges c.insert.new.self key c.len-to.result c.in_ok-insert.ensures.updates.0) (record { from = from; symbol = symbol }) to is)
