@@ -85,7 +85,7 @@ module _ (theory : Theory) (has : HasLogic theory) where
     rules_of_form-known : {hypotheses : List NamedTerm} {whole : NamedTerm} {form : RuleForm} {rules : List Nameless} → RulesOfForm hypotheses whole form rules
         → IsKnownForm whole form → AreFormulas theory rules
     rules_of_form-known (of_both whole p q first second one two) known = formulas-append first second (rules_of-known one known.0) (rules_of-known two known.1)
-    rules_of_form-known (of_every whole at fresh instance rules is_fresh is_instance stays rest) known =
+    rules_of_form-known (of_every whole at fresh instance rules is_fresh is_instance keeps_names rest) known =
         rules_of-known rest (subst (λ (t : Nameless). IsKnown theory t bool_type) (sym is_instance)
         (put-known theory (only at.name at.ty (free fresh at.ty)) (renames theory at.name fresh at.ty known.0) (image at.body) bool_type known.1))
     rules_of_form-known (of_equal whole a b) known = (known, tt)

@@ -71,7 +71,7 @@ mutual
 
   images-of-form : (hypotheses : List NamedTerm) (whole : NamedTerm) (form : RuleForm) (equations : List Nameless) → rule_form whole ≡ form → RulesOfForm hypotheses whole form equations → AreEqualityImages equations
   images-of-form hypotheses whole form equations is (of_both w p q first second one two) = are-append first second (images-of hypotheses p first one) (images-of hypotheses q second two)
-  images-of-form hypotheses whole form equations is (of_every w bound fresh instance rules first put unprimed of) = images-of hypotheses instance equations of
+  images-of-form hypotheses whole form equations is (of_every w bound fresh instance rules first put keeps_names of) = images-of hypotheses instance equations of
   images-of-form hypotheses whole form equations is (of_equal w a b) =
       (equation-image whole a b (equal-tested (dest_conjunction whole) (dest_forall whole) (dest_equation whole) (dest_negation whole) whole a b is), tt)
   images-of-form hypotheses whole form equations is (of_denied w p) = (stated-image p false_term, tt)

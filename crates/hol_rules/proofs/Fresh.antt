@@ -7,7 +7,7 @@ use Rattle.hol_model.specs.Terms.NamedTerm.{NamedTerm, variable, constant, combi
 use Rattle.hol_model.specs.Logic.NamedLogic.{is_constant_named, dest_forall}
 use Rattle.hol_model.specs.Terms.Nameless.{Nameless, free, const, bound, app, lam, image}
 use Rattle.hol_model.specs.Logic.Logic.{forall_name}
-use Rattle.hol_model.specs.Terms.Substitution.{IsFirstFree, IsVariantOf, is_free_in_some, put, only, close, fill}
+use Rattle.hol_model.specs.Terms.Substitution.{IsFirstFree, IsVariantOf, is_free_in_some, put, only, close, fill, with_new_name}
 use Rattle.hol_model.specs.Logic.Theory.{Theory, IsKnown, IsKnownType, HasKnownParts}
 use Rattle.hol_model.specs.Kernel.Theorem.{Theorem}
 use Rattle.hol_model.specs.Kernel.Rules.{first_unknown}
@@ -24,7 +24,8 @@ use Rattle.hol_equal.specs.Sequents.{Shows, DerivesIf, IsPast}
 use Rattle.hol_equal.proofs.StepLemmas.{no_unknown}
 use Rattle.hol_equal.proofs.Sizes.{past-room}
 use Rattle.hol_quant.proofs.PartLemmas.{HasParts, has-parts}
-use Rattle.hol_rules.specs.Rules.{IsFreshInstance, are_small}
+use Rattle.hol_rules.specs.Rules.{IsFreshInstance, IsRenamed, are_small}
+use Rattle.hol_rules.proofs.KeptSizes.{same-name}
 use Rattle.hol_rules.proofs.SmallParts.{IsSmallBody, small_bound, put-small, small_roomy, variable_roomy, body_roomy, roomy_more, roomy_small}
 use Rattle.hol_rules.proofs.RoomSteps.{IsRoom, room_all, roomy_within, conclusion_small, small_again}
 
@@ -131,9 +132,6 @@ module _ (theory : Theory) (hypotheses : List NamedTerm) (premise : Theorem) (bi
       (subst (λ (o : Result Stated Fault). AnswersStated (Err fault) (image term ∷ terms_of_theorem premise) o) at.outcome answers)
       (λ all. room_all (image term ∷ terms_of_theorem premise) instance (images premise) (instance-room all))
 
-  pub named-room : are_small premise ≡ true → nameless_within_limits (nameless_equation bool_type (image body) (image body)) ≡ true
-  named-room all = roomy_within (nameless_equation bool_type (image body) (image body)) (body_roomy body (small-body all).body_small)
-
   stays-small : (theorem : Theorem) → image theorem.conclusion ≡ instance → IsSameSet (images theorem) (images premise) → are_small premise ≡ true → are_small theorem ≡ true
   stays-small theorem is same all = small_again premise theorem same (ap is_small is ∙ small-instance all) all
 
@@ -141,43 +139,61 @@ module _ (theory : Theory) (hypotheses : List NamedTerm) (premise : Theorem) (bi
       → States (record { hypotheses = images premise; conclusion = up_to_names instance }) theorem
   instance-states theorem arguments answers = subst (λ (o : Result Stated Fault). AnswersStated (Ok theorem) arguments o) at.outcome answers
 
-  -- where the variable has primes
-  pub primed-instance : (theorem : Theorem) → States (record { hypotheses = images premise; conclusion = up_to_names instance }) theorem → (test : Bool)
-      → (image term ≡ image binder → test ≡ true) → test ≡ false
-      → IsFreshInstance hypotheses premise theorem
-  primed-instance theorem states test same other = record {
+  -- the body with the fresh name
+  abbrev renamed : NamedTerm
+  renamed = with_new_name at.name at.ty at.fresh body
+
+  pub is-renamed : (made : NamedTerm) → IsRenamed binder term body made → made ≡ renamed
+  is-renamed made is = subst (λ (v : NamedTerm). IsRenamed (variable at.name at.ty) v body made) at.term_is (subst (λ (v : NamedTerm). IsRenamed v term body made) at.binder_is is)
+
+  -- where a binder captures the fresh name
+  pub captured-instance : (theorem : Theorem) (made : NamedTerm) → States (record { hypotheses = images premise; conclusion = up_to_names instance }) theorem → made ≡ renamed
+      → (test : Bool) → (image made ≡ image theorem.conclusion → test ≡ true) → test ≡ false → IsFreshInstance hypotheses premise theorem
+  captured-instance theorem made states made_is test same other = record {
     bound = record { name = at.name; ty = at.ty; body = body };
     dest = at.dest;
     fresh = at.fresh;
     is_fresh = at.is_first;
     instance = states.conclusion;
-    unprimed = λ is. let t : test ≡ true = same (ap image at.term_is ∙ ap (λ (n : List ℕ). free n at.ty) is ∙ sym (ap image at.binder_is)) in let no : true ≡ false = sym t ∙ other in cc;
+    keeps_names = λ is. let t : test ≡ true = same (ap image made_is ∙ is ∙ sym states.conclusion) in let no : true ≡ false = sym t ∙ other in cc;
     same_hypotheses = states.hypotheses;
     stays_small = stays-small theorem states.conclusion states.hypotheses;
   }
 
-  same-name : image term ≡ image binder → at.fresh ≡ at.name
-  same-name same = let e : free at.fresh at.ty ≡ free at.name at.ty = sym (ap image at.term_is) ∙ same ∙ ap image at.binder_is in cc
+  -- where none does
+  pub shows-renamed : (theorem : Theorem) (made : NamedTerm) → States (record { hypotheses = images premise; conclusion = up_to_names instance }) theorem
+      → image made ≡ image theorem.conclusion → Shows theorem (images premise) (image made)
+  shows-renamed theorem made states same = record { same_set = record { to = states.hypotheses.back; back = states.hypotheses.to }; concludes = sym same }
 
-  body-is : image term ≡ image binder → instance ≡ image body
-  body-is same = ap (λ (n : List ℕ). put (only at.name at.ty (free n at.ty)) (image body)) (same-name same) ∙ put-itself at.name at.ty (image body)
+  pub renamed-room : (theorem : Theorem) (made : NamedTerm) → States (record { hypotheses = images premise; conclusion = up_to_names instance }) theorem
+      → image made ≡ image theorem.conclusion → are_small premise ≡ true → nameless_within_limits (nameless_equation bool_type (image made) (image made)) ≡ true
+  renamed-room theorem made states same all = roomy_within (nameless_equation bool_type (image made) (image made))
+      (body_roomy made (ap is_small (same ∙ states.conclusion) ∙ small-instance all))
 
-  -- where it has none
-  pub shows-body : (theorem : Theorem) → States (record { hypotheses = images premise; conclusion = up_to_names instance }) theorem → image term ≡ image binder
-      → Shows theorem (images premise) (image body)
-  shows-body theorem states same = record { same_set = record { to = states.hypotheses.back; back = states.hypotheses.to }; concludes = states.conclusion ∙ body-is same }
-
-  pub named-instance : (result : Result Recorded Fault) (fits : Bool) → image term ≡ image binder → IfOk result (λ made. made.theorem.conclusion ≡ body)
-      → DerivesIf fits result (images premise) (image body)
-      → IfOk result (λ made. IsFreshInstance hypotheses premise made.theorem)
-  named-instance (Ok made) fits same names shown = record {
+  pub named-instance : (result : Result Recorded Fault) (fits : Bool) (theorem : Theorem) (made : NamedTerm)
+      → States (record { hypotheses = images premise; conclusion = up_to_names instance }) theorem → made ≡ renamed → image made ≡ image theorem.conclusion
+      → IfOk result (λ answer. answer.theorem.conclusion ≡ made) → DerivesIf fits result (images premise) (image made)
+      → IfOk result (λ answer. IsFreshInstance hypotheses premise answer.theorem)
+  named-instance (Ok answer) fits theorem made states made_is same names shown = record {
     bound = record { name = at.name; ty = at.ty; body = body };
     dest = at.dest;
     fresh = at.fresh;
     is_fresh = at.is_first;
-    instance = ap image names ∙ sym (body-is same);
-    unprimed = λ is. names;
+    instance = shown.concludes ∙ same ∙ states.conclusion;
+    keeps_names = λ is. names ∙ made_is;
     same_hypotheses = record { to = shown.same_set.back; back = shown.same_set.to };
-    stays_small = stays-small made.theorem (ap image names ∙ sym (body-is same)) (record { to = shown.same_set.back; back = shown.same_set.to });
+    stays_small = stays-small answer.theorem (shown.concludes ∙ same ∙ states.conclusion) (record { to = shown.same_set.back; back = shown.same_set.to });
   }
-  named-instance (Err fault) fits same names shown = tt
+  named-instance (Err fault) fits theorem made states made_is same names shown = tt
+
+-- where the variable keeps its name, the body itself is stated
+pub unprimed-instance : (hypotheses : List NamedTerm) (premise theorem : Theorem) (at : IsFreshInstance hypotheses premise theorem) → at.fresh ≡ at.bound.name
+    → theorem.conclusion ≡ at.bound.body
+unprimed-instance hypotheses premise theorem at keeps =
+    let name = at.bound.name in
+    let ty = at.bound.ty in
+    let body = at.bound.body in
+    let stays : with_new_name name ty at.fresh body ≡ body = ap (λ (n : List ℕ). with_new_name name ty n body) keeps ∙ same-name name ty body in
+    let put_stays : put (only name ty (free at.fresh ty)) (image body) ≡ image body =
+    ap (λ (n : List ℕ). put (only name ty (free n ty)) (image body)) keeps ∙ put-itself name ty (image body) in
+    at.keeps_names (ap image stays ∙ sym put_stays) ∙ stays

@@ -32,7 +32,7 @@ pub every-has : (hypotheses : List NamedTerm) (premise theorem : Theorem) (rs : 
 every-has hypotheses premise theorem rs at form has = record {
   equations = has.equations;
   rules_of = rules_of_form premise.conclusion has.equations (subst (λ f. RulesOfForm hypotheses premise.conclusion f has.equations) (sym form)
-      (of_every premise.conclusion at.bound at.fresh theorem.conclusion has.equations at.is_fresh at.instance at.unprimed has.rules_of));
+      (of_every premise.conclusion at.bound at.fresh theorem.conclusion has.equations at.is_fresh at.instance at.keeps_names has.rules_of));
   are_rules = has.are_rules;
 }
 

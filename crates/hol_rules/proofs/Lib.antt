@@ -3,6 +3,7 @@ pub mod FormLemmas
 pub mod Fresh
 pub mod JoinedRules
 pub mod Joining
+pub mod KeptSizes
 pub mod Reducing
 pub mod RoomSteps
 pub mod SmallParts

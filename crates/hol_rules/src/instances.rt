@@ -10,6 +10,7 @@ ghost use Rattle.hol_prelude.specs.HasLogic.{HasLogic};
 ghost use Rattle.hol_equal.specs.Sequents.{Continues, IsPast};
 ghost use Rattle.hol_rules.specs.Rules.{IsFreshInstance, are_small};
 
+use crate::renaming::with_variable_renamed;
 use hol_alpha::aconv;
 use hol_equal::{conclusion_of, named};
 use hol_journal::{Rec, Recorder};
@@ -80,7 +81,8 @@ fn with_others(alloc: Global, first: &Term, others: &[Term]) -> Result<Vec<Term>
     Ok(all)
 }
 
-// From `!x. p`, `p`, with primes at `x` where it is free in the conclusion or in the hypotheses.
+// From `!x. p`, `p`, with primes at `x` where it is free in the conclusion or in the hypotheses; the other bound names stay,
+// but where a binder captures the primed one.
 pub(crate) fn at_fresh_variable(
     recorder: &mut Recorder,
     alloc: Global,
@@ -113,8 +115,12 @@ pub(crate) fn at_fresh_variable(
         Ok(instance) => instance,
         Err(fault) => return Err(fault),
     };
-    if !aconv(&fresh, parts.binder) {
-        return Ok(instance);
+    let stated = match with_variable_renamed(alloc, parts.binder, &fresh, parts.body) {
+        Ok(stated) => stated,
+        Err(fault) => return Err(fault),
+    };
+    if aconv(&stated, conclusion_of(recorder, &instance)) {
+        return named(recorder, alloc, &stated, &instance);
     }
-    named(recorder, alloc, parts.body, &instance)
+    Ok(instance)
 }

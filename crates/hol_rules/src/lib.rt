@@ -5,6 +5,7 @@ mod denial;
 mod forms;
 mod instances;
 mod reduction;
+mod renaming;
 mod rules;
 mod sides;
 

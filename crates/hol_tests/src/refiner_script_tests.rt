@@ -369,7 +369,7 @@ fn conversions(rt: HostRuntime) {
 }
 
 // Conversions by the rules of theorems.
-const RULES_OF_THEOREMS: [Row<'static>; 5] = [
+const RULES_OF_THEOREMS: [Row<'static>; 6] = [
     // a formula that is no equation
     Row {
         script: "thm t = CONV (REWR_CONV TRUTH) `T` ;;",
@@ -407,6 +407,14 @@ b: |- (a:bool) /\\ T <=> (a:bool)\n",
         script: "thm r = ASSUME `!x:A. !y:A. (f:A->bool) x <=> (g:A->A->bool) x y` ;; thm a = CONV (REWR_CONV r) `(f:A->bool) (z:A)` ;;",
         output: "r: !x:A. !y:A. (f:A->bool) x <=> (g:A->A->bool) x y |- !x:A. !y:A. (f:A->bool) x <=> (g:A->A->bool) x y\n\
 a: !x:A. !y:A. (f:A->bool) x <=> (g:A->A->bool) x y |- (f:A->bool) (z:A) <=> (g:A->A->bool) (z:A) (y:A)\n",
+    },
+    // a variable that is free in the hypothesis gets a prime, and the quantifier under it keeps its name
+    Row {
+        script: "thm h = ASSUME `(!x:A. !y:A. (f:A->bool) x <=> (g:A->A->bool) x y) /\\ (p:A->bool) (x:A)` ;;\n\
+thm r = CONJUNCT1 h ;; thm a = CONV (REWR_CONV r) `(f:A->bool) (z:A)` ;;",
+        output: "h: (!x:A. !y:A. (f:A->bool) x <=> (g:A->A->bool) x y) /\\ (p:A->bool) (x:A) |- (!x:A. !y:A. (f:A->bool) x <=> (g:A->A->bool) x y) /\\ (p:A->bool) (x:A)\n\
+r: (!x:A. !y:A. (f:A->bool) x <=> (g:A->A->bool) x y) /\\ (p:A->bool) (x:A) |- !x:A. !y:A. (f:A->bool) x <=> (g:A->A->bool) x y\n\
+a: (!x:A. !y:A. (f:A->bool) x <=> (g:A->A->bool) x y) /\\ (p:A->bool) (x:A) |- (f:A->bool) (z:A) <=> (g:A->A->bool) (z:A) (y:A)\n",
     },
 ];
 

@@ -2,7 +2,7 @@
 use Rattle.std.specs.Prelude.{◌≡◌, ℕ, List, [], ◌∷◌, ◌++◌, Option, Some, None}
 use Rattle.hol_model.specs.Terms.NamedTerm.{NamedTerm, equation}
 use Rattle.hol_model.specs.Terms.Nameless.{Nameless, free, image}
-use Rattle.hol_model.specs.Terms.Substitution.{IsFirstFree, is_free_in_some, put, only}
+use Rattle.hol_model.specs.Terms.Substitution.{IsFirstFree, is_free_in_some, put, only, with_new_name}
 use Rattle.hol_model.specs.Logic.NamedLogic.{true_term, false_term, Abstracted, dest_conjunction, dest_forall, dest_negation}
 use Rattle.hol_model.specs.Kernel.Rules.{dest_equation}
 
@@ -48,12 +48,13 @@ mutual
   pub data RulesOfForm (hypotheses : List NamedTerm) : NamedTerm → RuleForm → List Nameless → Type 0 where
     of_both : (whole p q : NamedTerm) (first second : List Nameless) → RulesOf hypotheses p first → RulesOf hypotheses q second
         → RulesOfForm hypotheses whole (both p q) (first ++ second)
-    -- the variable gets primes until it is free neither in the hypotheses nor in the conclusion; where it needs none, the
-    -- instance is the body itself, bound names included
+    -- the variable gets primes until it is free neither in the hypotheses nor in the conclusion; where no binder in the body
+    -- captures the new name, the instance is the body with that name, and bound names are the body's
     of_every : (whole : NamedTerm) (bound : Abstracted) (fresh : List ℕ) (instance : NamedTerm) (rules : List Nameless)
         → IsFirstFree (λ other. is_free_in_some (whole ∷ hypotheses) other bound.ty) bound.name fresh
         → image instance ≡ put (only bound.name bound.ty (free fresh bound.ty)) (image bound.body)
-        → (fresh ≡ bound.name → instance ≡ bound.body)
+        → (image (with_new_name bound.name bound.ty fresh bound.body) ≡ put (only bound.name bound.ty (free fresh bound.ty)) (image bound.body)
+        → instance ≡ with_new_name bound.name bound.ty fresh bound.body)
         → RulesOf hypotheses instance rules → RulesOfForm hypotheses whole (every bound) rules
     of_equal : (whole a b : NamedTerm) → RulesOfForm hypotheses whole (equal a b) (image whole ∷ [])
     of_denied : (whole p : NamedTerm) → RulesOfForm hypotheses whole (denied p) (image (equation p false_term) ∷ [])

@@ -4,7 +4,7 @@ use Rattle.std.specs.Prelude.{◌≡◌, ◌⊎◌, ℕ, zero, suc, ◌<◌, Lis
 use Rattle.std.specs.List.{list_all, list_any}
 use Rattle.std.specs.Option.{option_map_or}
 use Rattle.hol_model.specs.Terms.HolType.{HolType, type_eq, TypeInstance, instantiate_type, OccursInType}
-use Rattle.hol_model.specs.Terms.NamedTerm.{NamedTerm, variable, same_variable, is_variable, is_free, type_of}
+use Rattle.hol_model.specs.Terms.NamedTerm.{NamedTerm, variable, constant, combination, abstraction, same_variable, is_variable, is_free, type_of}
 use Rattle.hol_model.specs.Terms.Nameless.{Nameless, free, const, bound, app, lam, HasType, image}
 
 -- the variable becomes that of the binder outside the `passed` binders around the term
@@ -46,6 +46,13 @@ put theta (lam ty body) = lam ty (put theta body)
 -- one variable replaced
 abbrev pub only : List ℕ → HolType → Nameless → TermInstance
 only name ty new other s = if same_variable name ty other s then new else free other s
+
+-- one variable renamed at each free occurrence; binders keep their names, so one may capture the new name
+abbrev pub with_new_name : List ℕ → HolType → List ℕ → NamedTerm → NamedTerm
+with_new_name name ty fresh (variable other s) = variable (if same_variable name ty other s then fresh else other) s
+with_new_name name ty fresh (constant other s) = constant other s
+with_new_name name ty fresh (combination function argument) = combination (with_new_name name ty fresh function) (with_new_name name ty fresh argument)
+with_new_name name ty fresh (abstraction other s body) = abstraction other s (if same_variable name ty other s then body else with_new_name name ty fresh body)
 
 -- each type variable replaced in all types, all at once
 abbrev pub instantiate : TypeInstance → Nameless → Nameless
