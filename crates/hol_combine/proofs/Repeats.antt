@@ -78,16 +78,6 @@ module _ (theory : Theory) (host : Host) (t : Tactic) where
             → EachSoFar theory host mid (on_all (repeat t) frame.step.goals) now (on_all (repeat t) (drop (length frame.done) frame.step.goals)) frame.done → Waits frames before goal
             → Opened (frame ∷ frames) now
 
-    abbrev SomeFrame : List Frame → Type 0
-    SomeFrame [] = ⊥
-    SomeFrame (frame ∷ frames) = Unit {0}
-
-    some-frame : {frames : List Frame} {now : Stage} → Opened frames now → SomeFrame frames
-    some-frame (opened here each below) = tt
-
-    pub never-empty : {now : Stage} → Opened [] now → ⊥
-    never-empty open_now = some-frame open_now
-
     pub next-waits : (frame : code.Frame) {frames : List Frame} {now : Stage} (goal : code_goal.Goal) → Opened (frame_of frame ∷ frames) now
         → length frame.done.items < length frame.step.goals.items → goal ≡ get_or frame.step.goals.items (length frame.done.items) goal → Waits (frame_of frame ∷ frames) now (goal_of goal)
     next-waits frame goal open_now within is =

@@ -65,9 +65,6 @@ module _ (theory : Theory) (host : Host) where
   pub record OthersSoFar (first : Stage) (refused : Fault) (all : Tactics) (goal : Goal) (now : Stage) (fault : Fault) (left : Tactics) : Type 0 where
     pub decides : (answer : Result Step Fault) (after : Stage) → GoesOnAfter theory host now fault left goal answer after → GoesOnAfter theory host first refused all goal answer after
 
-  pub others-begun : {first : Stage} {fault : Fault} {ts : Tactics} {goal : Goal} → OthersSoFar first fault ts goal first fault ts
-  others-begun = record { decides = λ answer after goes. goes }
-
   pub others-next : {first now mid : Stage} {refused fault next : Fault} {all ts : Tactics} {u : Tactic} {goal : Goal} → OthersSoFar first refused all goal now fault (more u ts)
       → is_caught fault ≡ true → Runs theory host now u goal (Err next) mid → OthersSoFar first refused all goal mid next ts
   others-next {now} {u} so_far caught here = record {
@@ -126,9 +123,6 @@ module _ (theory : Theory) (host : Host) where
     pub decides : (others : Result (List Step) Fault) (after : Stage) → RunsPaired theory host now ts_left goals_left others after
         → RunsPaired theory host first ts goals (after_done done others) after
 
-  pub paired-begun : {first : Stage} {ts : Tactics} {goals : List Goal} → PairedSoFar first ts goals first ts goals []
-  paired-begun = record { decides = λ others after r. rw (done-none others) r }
-
   pub paired-next : {first now mid : Stage} {ts ts_left : Tactics} {goals goals_left : List Goal} {t : Tactic} {goal : Goal} {done : List Step} {step : Step}
       → PairedSoFar first ts goals now (more t ts_left) (goal ∷ goals_left) done → Runs theory host now t goal (Ok step) mid → PairedSoFar first ts goals mid ts_left goals_left (done ++ step ∷ [])
   paired-next {t} {goal} {done} {step} so_far here = record {
@@ -157,9 +151,6 @@ module _ (theory : Theory) (host : Host) where
 
   pub record OnSoFar (first : Stage) (start : Step) (all : Links) (now : Stage) (step : Step) (left : Links) : Type 0 where
     pub decides : (answer : Result Step Fault) (after : Stage) → RunsOn theory host now step left answer after → RunsOn theory host first start all answer after
-
-  pub on-begun : {first : Stage} {start : Step} {all : Links} → OnSoFar first start all first start all
-  on-begun = record { decides = λ answer after r. r }
 
   on-linked : {now mid : Stage} {goals : List Goal} {step made : Step} {l : Link} {ls : Links} {steps : List Step} {answer : Result Step Fault} {after : Stage} → goals ≡ step.goals
       → RunsLink theory host now l goals (Ok steps) mid → AnswersSpliced step steps (Ok made) → RunsOn theory host mid made ls answer after → RunsOn theory host now step (link l ls) answer after

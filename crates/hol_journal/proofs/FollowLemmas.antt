@@ -3,7 +3,6 @@ use Rattle.std.proofs.Common.{◌≡◌, ℕ, List, [], ◌∷◌, true, refl, s
 use Rattle.std.specs.List.{list_all}
 use Rattle.hol_model.specs.Terms.HolType.{HolType}
 use Rattle.hol_model.specs.Terms.NamedTerm.{NamedTerm, type_of, is_within_limits}
-use Rattle.hol_model.specs.Kernel.NamedAxioms.{eta_conclusion, select_hypothesis, select_conclusion}
 use Rattle.hol_model.specs.Logic.KnownTerm.{is_known}
 use Rattle.hol_model.specs.Logic.Derivable.{IsMember}
 use Rattle.hol_model.specs.Goals.Goals.{Sequent}
@@ -11,11 +10,11 @@ use Rattle.hol_model.specs.Kernel.Theorem.{Theorem, IsTheorem}
 use Rattle.hol_model.specs.Kernel.Rules.{refl_outcome, assume_outcome, trans_outcome, eq_mp_outcome, mk_comb_outcome, abs_outcome, beta_outcome, deduct_antisym_outcome, define_outcome}
 use Rattle.hol_model.specs.Kernel.Instantiation.{IsInst, IsInstType, replacements_refusal, inst_refusal, inst_type_refusal}
 use Rattle.hol_kernel.specs.KnownFormula.{IsKnownFormula}
-use Rattle.hol_journal.specs.Steps.{Step, by_refl, by_trans, by_mk_comb, by_abs, by_beta, by_assume, by_eq_mp, by_deduct, by_inst, by_inst_type, by_eta, by_select, by_definition, sequent_of_theorem}
+use Rattle.hol_journal.specs.Steps.{Step, by_refl, by_trans, by_mk_comb, by_abs, by_beta, by_assume, by_eq_mp, by_deduct, by_inst, by_inst_type, by_definition, sequent_of_theorem}
 use Rattle.hol_journal.specs.Limits.{FitsLog, pair_fits, type_pair_fits}
 use Rattle.hol_journal.specs.Journal.{Journal, Recorded, HasTheorem, Follows, IsJournal, IsMade}
 use Rattle.hol_journal.proofs.RuleLaws.{refl-gives, assume-gives, trans-gives, eq_mp-gives, mk_comb-gives, abs-gives, beta-gives, deduct-gives}
-use Rattle.hol_journal.proofs.DefinitionLaws.{eta-gives, select-gives, define-known, define-gives}
+use Rattle.hol_journal.proofs.DefinitionLaws.{define-known, define-gives}
 use Rattle.hol_journal.proofs.InstanceLaws.{inst-gives, inst_type-gives}
 use Rattle.hol_journal.proofs.KnownParts.{known_of, knows_none, knows_one, refl-known, assume-known, beta-known, binder_known, pairs_known, type_pairs_known}
 use Rattle.hol_journal.proofs.JournalLemmas.{given-follows, made-cited, made-there}
@@ -129,14 +128,6 @@ module _ (journal : Journal) (is : IsJournal journal) where
       (given-follows journal (by_inst_type theorem.entry pairs) (sequent_of_theorem answer) is (cites_one journal theorem made)
       (type_pairs_known journal.theory theorem.entry pairs theorem.theorem within none)
       (inst_type-gives journal.theory journal.entries theorem.entry pairs theorem.theorem answer (made-cited journal theorem made is_theorem) none instance fits))
-
-  pub eta-follows : (answer : Theorem) → answer ≡ record { theory = journal.theory; hypotheses = []; conclusion = eta_conclusion } → FitsLog answer
-      → Follows journal.entries by_eta (sequent_of_theorem answer)
-  eta-follows answer same fits = given-follows journal by_eta (sequent_of_theorem answer) is (cites_none journal) (knows_none journal.theory by_eta refl refl) (eta-gives journal.theory journal.entries answer same fits)
-
-  pub select-follows : (answer : Theorem) → answer ≡ record { theory = journal.theory; hypotheses = select_hypothesis ∷ []; conclusion = select_conclusion } → FitsLog answer
-      → Follows journal.entries by_select (sequent_of_theorem answer)
-  select-follows answer same fits = given-follows journal by_select (sequent_of_theorem answer) is (cites_none journal) (knows_none journal.theory by_select refl refl) (select-gives journal.theory journal.entries answer same fits)
 
   pub define-follows : (name : List ℕ) (term : NamedTerm) (ty : HolType) (answer : Theorem) → type_of term ≡ Some ty → is_within_limits term ≡ true → define_outcome journal.theory name term ≡ Ok answer → FitsLog answer
       → Follows journal.entries (by_definition name term) (sequent_of_theorem answer)

@@ -200,9 +200,3 @@ pub new_put-more : (first second : List NamedTerm) (index : ℕ) (all rest : Lis
 new_put-more first second index all rest new after behind ordered within is reached put =
     let here : drop index second ≡ new ∷ drop (index + 1) second = drop-here second index new within is in
     put.goes (drop (index + 1) second) (rw here at (ordered-drop index second ordered)) ∙ ap (λ l. all ++ with_hypotheses rest l) (sym here) ∙ reached
-
-pub old_put-more : (first second : List NamedTerm) (index : ℕ) (all rest : List NamedTerm) (old : NamedTerm) (after behind : List NamedTerm)
-    → index < length first → old ≡ get_or first index old → all ++ with_hypotheses (drop index first) rest ≡ with_hypotheses first second → IsOldPut rest old all after behind
-    → after ++ with_hypotheses (drop (index + 1) first) behind ≡ with_hypotheses first second
-old_put-more first second index all rest old after behind within is reached put =
-    put.goes (drop (index + 1) first) ∙ ap (λ l. all ++ with_hypotheses l rest) (sym (drop-here first index old within is)) ∙ reached

@@ -199,9 +199,6 @@ quantified-parts theory quantifier_name generic (combination (constant other s) 
     whole : Nameless
     whole = app (const other s) (lam ty (close name ty (image body)))
 
-    known_whole : IsKnown theory whole bool_type
-    known_whole = subst (λ (t : Nameless). IsKnown theory (app (const other s) t) bool_type) (image-abstraction name ty body) known
-
     of_found : other ≡ quantifier_name → IsKnown theory (app (const other s) (lam ty (close name ty (image body)))) bool_type
         → IsQuantified theory quantifier_name (combination (constant other s) (abstraction name ty body)) (record { name = name; ty = ty; body = body })
     of_found named k =

@@ -27,9 +27,6 @@ trans-uncaught theory a b sides is of =
     (subst (λ (found : Option (NamedTerm × NamedTerm)). FailsUncaught (given found NotEquation (λ right. joins sides right))) (sym of.is_equation)
     (go (are_alpha_equivalent sides.1 of.sides.0) (is_within_limits (equation sides.0 of.sides.1)) ((same_term-Decides (image sides.1) (image of.sides.0)).1 (sym of.same_left))))
   where
-    joined_theorem : NamedTerm → Theorem
-    joined_theorem conclusion = record { theory = theory; hypotheses = with_hypotheses a.hypotheses b.hypotheses; conclusion = conclusion }
-
     joins : NamedTerm × NamedTerm → NamedTerm × NamedTerm → Result Theorem Fault
     joins left right = unless (are_alpha_equivalent left.1 right.0) NotAlpha (unless (is_within_limits (equation left.0 right.1)) TooLarge (Ok (record { theory = theory; hypotheses = with_hypotheses a.hypotheses b.hypotheses; conclusion = equation left.0 right.1 })))
 
@@ -69,9 +66,6 @@ module _ (theory : Theory) (store : Store) (hosts : HostConversions) (depth : �
   pub record JoinedSoFar (first : ℕ) (whole : Conversion) (t : NamedTerm) (steps : ℕ) (rest : Conversion) (theorems : List Theorem) (current : NamedTerm) : Type 0 where
     pub decides : (answer : Result Theorem Fault) (left : ℕ) → IsFinal answer → Converts theory store hosts depth steps rest current answer left
         → Converts theory store hosts depth first whole t (joined_from theory theorems answer) left × IsFinal (joined_from theory theorems answer)
-
-  pub joined_start : (steps : ℕ) (c : Conversion) (t : NamedTerm) → JoinedSoFar steps c t steps c [] t
-  joined_start steps c t = record { decides = λ answer left final r. (r, final) }
 
   -- ---- what the rest is
 

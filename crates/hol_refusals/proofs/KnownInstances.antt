@@ -132,9 +132,6 @@ module _ (theory : Theory) where
   same-variable : (name other : List ℕ) (ty s : HolType) → variable name ty ≡ variable other s → (name ≡ other) × (ty ≡ s)
   same-variable name other ty s same = (cc, cc)
 
-  same-type-variable : (name other : List ℕ) → type_variable name ≡ type_variable other → name ≡ other
-  same-type-variable name other same = cc
-
   -- a known formula stays one, with the types and the terms put in by which a pattern becomes a known term
   pub replaced-known : (fixed : List NamedTerm) (pattern term : NamedTerm) (by : Replacements) (ty : HolType) (t : Nameless) → Matches fixed pattern term by.types by.terms
       → IsKnown theory (image term) ty

@@ -25,7 +25,6 @@ use Rattle.hol_equal.proofs.StepLemmas.{no_unknown}
 use Rattle.hol_equal.proofs.Sizes.{past-room}
 use Rattle.hol_quant.proofs.PartLemmas.{HasParts, has-parts}
 use Rattle.hol_rules.specs.Rules.{IsFreshInstance, IsRenamed, are_small}
-use Rattle.hol_rules.proofs.KeptSizes.{same-name}
 use Rattle.hol_rules.proofs.SmallParts.{IsSmallBody, small_bound, put-small, small_roomy, variable_roomy, body_roomy, roomy_more, roomy_small}
 use Rattle.hol_rules.proofs.RoomSteps.{IsRoom, room_all, roomy_within, conclusion_small, small_again}
 
@@ -185,15 +184,3 @@ module _ (theory : Theory) (hypotheses : List NamedTerm) (premise : Theorem) (bi
     stays_small = stays-small answer.theorem (shown.concludes ∙ same ∙ states.conclusion) (record { to = shown.same_set.back; back = shown.same_set.to });
   }
   named-instance (Err fault) fits theorem made states made_is same names shown = tt
-
--- where the variable keeps its name, the body itself is stated
-pub unprimed-instance : (hypotheses : List NamedTerm) (premise theorem : Theorem) (at : IsFreshInstance hypotheses premise theorem) → at.fresh ≡ at.bound.name
-    → theorem.conclusion ≡ at.bound.body
-unprimed-instance hypotheses premise theorem at keeps =
-    let name = at.bound.name in
-    let ty = at.bound.ty in
-    let body = at.bound.body in
-    let stays : with_new_name name ty at.fresh body ≡ body = ap (λ (n : List ℕ). with_new_name name ty n body) keeps ∙ same-name name ty body in
-    let put_stays : put (only name ty (free at.fresh ty)) (image body) ≡ image body =
-    ap (λ (n : List ℕ). put (only name ty (free n ty)) (image body)) keeps ∙ put-itself name ty (image body) in
-    at.keeps_names (ap image stays ∙ sym put_stays) ∙ stays
