@@ -13,7 +13,6 @@ use Rattle.hol_model.specs.declared.limits.TheConstants.{DEFINITIONS_LIMIT}
 use Rattle.hol_model.specs.Terms.HolType.{HolType}
 use Rattle.hol_model.specs.Terms.Name.{is_constant_name}
 use Rattle.hol_model.specs.Terms.NamedTerm.{NamedTerm, constant, type_of, equation}
-use Rattle.hol_model.specs.Kernel.NamedAxioms.{eta_conclusion, select_hypothesis, select_conclusion}
 use Rattle.hol_model.specs.Logic.Legality.{is_closed, reflects, is_new_name, own_type}
 use Rattle.hol_model.specs.Logic.Checks.{has_no_free, reflects_nameless}
 use Rattle.hol_model.specs.Kernel.Outcome.{unless, refused}
@@ -24,24 +23,9 @@ use Rattle.hol_model.proofs.Logs.LogTests.{not_true}
 use Rattle.hol_model.proofs.Logic.Checks.{has_no_free-Decides, reflects_nameless-Decides}
 use Rattle.hol_model.proofs.Logic.LegalEntries.{closed-HasNoFree, reflects-image}
 use Rattle.hol_kernel.proofs.DefinitionLemmas.{own_type-is, definition-legal}
-use Rattle.hol_journal.specs.Steps.{by_eta, by_select, by_definition}
+use Rattle.hol_journal.specs.Steps.{by_definition}
 use Rattle.hol_journal.proofs.SequentLemmas.{equation_of-images, term_type-image}
-use Rattle.hol_journal.proofs.Showing.{shown, refused-is, passed-none, unless-is, concluded-is, same_sequent, no_more}
-
--- ETA
-pub eta-gives : (theory : Theory) (entries : List JournalEntry) (answer : Theorem) → answer ≡ record { theory = theory; hypotheses = []; conclusion = eta_conclusion }
-    → FitsLog answer → Gives theory entries by_eta (sequent_of_theorem answer)
-eta-gives theory entries answer is fits =
-    shown theory entries by_eta answer fits (λ state numbers names. ap sequent_of_theorem (sym is))
-    (λ state numbers going names. record { number = refl; name = refl; kind = refl; condition = refl; room = no_more theory state going })
-
--- SELECT
-pub select-gives : (theory : Theory) (entries : List JournalEntry) (answer : Theorem)
-    → answer ≡ record { theory = theory; hypotheses = select_hypothesis ∷ []; conclusion = select_conclusion }
-    → FitsLog answer → Gives theory entries by_select (sequent_of_theorem answer)
-select-gives theory entries answer is fits =
-    shown theory entries by_select answer fits (λ state numbers names. ap sequent_of_theorem (sym is))
-    (λ state numbers going names. record { number = refl; name = refl; kind = refl; condition = refl; room = no_more theory state going })
+use Rattle.hol_journal.proofs.Showing.{shown, refused-is, passed-none, unless-is, concluded-is, same_sequent}
 
 -- where a theory has room, a log's theory with fewer entries has
 room_for_one : (fewer count limit : ℕ) → fewer ≤ count → nat_le limit count ≡ false → nat_le (1 + fewer) limit ≡ true

@@ -1,10 +1,10 @@
 -- The lines of claims.
-use Rattle.std.proofs.Common.{◌≡◌, ℕ, ◌+◌, ◌<◌, ◌||◌, List, [], ◌∷◌, ◌++◌, length, drop, get_or, Bool, true, false, not, ◌&&◌, refl, sym, ◌∙◌, ap, subst, Some, Ok, append_assoc, arith}
+use Rattle.std.proofs.Common.{◌≡◌, ℕ, ◌+◌, ◌<◌, ◌||◌, List, [], ◌∷◌, ◌++◌, length, drop, get_or, Bool, true, false, not, ◌&&◌, refl, sym, ◌∙◌, ap, subst, Some, Ok, arith}
 use Rattle.std.specs.Prelude.{slice_get, nat_eq, nat_le}
 use Rattle.std.specs.List.{All, list_any}
 use Rattle.std.specs.Str.{bytes_eq}
-use Rattle.std.proofs.lemmas.List.{map_push, length-map}
-use Rattle.std.proofs.lemmas.List.Elements.{All-head, All-tail, All-push}
+use Rattle.std.proofs.lemmas.List.{length-map}
+use Rattle.std.proofs.lemmas.List.Elements.{All-head, All-tail}
 use Rattle.std.proofs.lemmas.Option.{get_or_from_slice_get}
 use Rattle.hol_model.specs.Terms.Name.{is_identifier}
 use Rattle.hol_model.specs.Terms.Nameless.{Nameless, same_term}
@@ -52,12 +52,6 @@ pub record AreNumbered (state : LogState) (lines : List ℕ) (index : ℕ) (term
 module _ (state : LogState) (lines : List ℕ) (index line : ℕ) (within : index < length lines) (is : line ≡ get_or lines index 0) (terms : List Nameless) (numbers : List ℕ) (numbered : AreNumbered state lines index terms numbers) where
   here : drop index lines ≡ line ∷ drop (index + 1) lines
   here = drop-here lines index line within is
-
-  either-here : (test rest : Bool) → test ≡ true → (test || rest) ≡ true
-  either-here test rest holds = cc
-
-  neither-here : (test rest : Bool) → test ≡ false → (test || rest) ≡ rest
-  neither-here test rest fails = cc
 
 none-of-three : (p q r : Bool) → p ≡ false → q ≡ false → r ≡ false → (p || q || r) ≡ false
 none-of-three p q r one two three = cc
