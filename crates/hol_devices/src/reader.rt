@@ -1,10 +1,9 @@
 // Readers of std that tell what their calls may answer.
-ghost use Rattle.std.specs.Prelude.{ℕ, Option, ⊤, IsSome};
+ghost use Rattle.std.specs.Prelude.{ℕ, Option, IsSome};
 ghost use Rattle.std.specs.Result.{result_ok};
 ghost use Rattle.std.specs.Io.{ReadsAtMost};
 ghost use Rattle.std.specs.Io.KnownBytes.{ReadConsumes};
 
-use std::fs::File;
 use std::io::{self, Read};
 
 /// A reader that tells what its calls may answer, failures too.
@@ -17,14 +16,6 @@ pub trait Reader: Read {
         ensures bound { ReadsAtMost result buf.new }
         ensures bytes { ReadConsumes (Self.remaining self.old) (Self.remaining self.new) result buf.new }
         ensures gives { read_gives self.old (result_ok result) self.new };
-}
-
-impl Reader for File {
-    ghost read_gives = { λ _ _ _. ⊤ };
-
-    fn read_some(&mut self, buf: &mut [u8]) -> io::Result<usize> {
-        self.read(buf)
-    }
 }
 
 // Of bytes in memory no call fails.

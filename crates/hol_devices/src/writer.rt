@@ -1,12 +1,12 @@
 // Writers of std that tell what their calls may answer.
-ghost use Rattle.std.specs.Prelude.{◌≡◌, ℕ, List, length, Option, ⊤, IfSome};
+ghost use Rattle.std.specs.Prelude.{◌≡◌, ℕ, ◌+◌, ◌<◌, List, length, Option, MatchOption};
 ghost use Rattle.std.specs.Result.{result_ok};
+ghost use Rattle.std.specs.Vec.{vec_len, vec_capacity};
 ghost use Rattle.std.specs.Io.{WritesAtMost};
 ghost use Rattle.std.specs.Io.KnownBytes.{WriteAppends};
 
 use std::alloc::Allocator;
-use std::fs::File;
-use std::io::{self, Print, Printer, Stderr, Write};
+use std::io::{self, Write};
 
 /// A writer that tells what its calls may answer, failures too.
 pub trait Writer: Write {
@@ -20,35 +20,12 @@ pub trait Writer: Write {
         ensures gives { write_gives self.old piece.now (result_ok result) self.new };
 }
 
-impl Writer for File {
-    ghost write_gives = { λ _ _ _ _. ⊤ };
-
-    fn write_some(&mut self, piece: &[u8]) -> io::Result<usize> {
-        self.write(piece)
-    }
-}
-
-impl Writer for Stderr {
-    ghost write_gives = { λ _ _ _ _. ⊤ };
-
-    fn write_some(&mut self, piece: &[u8]) -> io::Result<usize> {
-        self.write(piece)
-    }
-}
-
-impl<P: Print> Writer for Printer<'_, P> {
-    ghost write_gives = { λ _ _ _ _. ⊤ };
-
-    fn write_some(&mut self, piece: &[u8]) -> io::Result<usize> {
-        self.write(piece)
-    }
-}
-
-// Memory takes the whole piece, or there is no room for it.
+// Memory takes the whole piece; it fails only where the room that it has does not do, and more is refused.
 impl<A: Allocator> Writer for Vec<u8, A> {
-    ghost write_gives = { λ _ piece answer _. IfSome answer (λ n. n ≡ length piece) };
+    ghost write_gives = { λ vec piece answer _. MatchOption answer (vec_capacity vec < vec_len vec + length piece) (λ n. n ≡ length piece) };
 
     fn write_some(&mut self, piece: &[u8]) -> io::Result<usize> {
-        self.write(piece)
+        self.extend_from_slice(piece)?;
+        Ok(piece.len())
     }
 }
