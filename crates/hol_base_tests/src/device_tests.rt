@@ -1,7 +1,6 @@
-// Devices over memory, and over readers and writers that fail in mid-stream.
-ghost use Rattle.std.specs.Prelude.{⊤};
+// Devices over memory, and over calls of readers and writers that fail in mid-stream.
 
-use hol_devices::{FromRead, IntoWrite, Reader, Writer};
+use hol_devices::{FromCall, FromRead, IntoCall, IntoWrite};
 use hol_model::{DeviceFail, Sink, Source};
 use std::alloc::Global;
 use std::io;
@@ -24,14 +23,6 @@ impl Read for FailsThird {
         }
         buf[0] = if self.calls == 1 { b'a' } else { b'b' };
         Ok(1)
-    }
-}
-
-impl Reader for FailsThird {
-    ghost read_gives = { λ _ _ _. ⊤ };
-
-    fn read_some(&mut self, buf: &mut [u8]) -> io::Result<usize> {
-        self.read(buf)
     }
 }
 
@@ -58,14 +49,6 @@ impl Write for TakesTwo {
     }
 }
 
-impl Writer for TakesTwo {
-    ghost write_gives = { λ _ _ _ _. ⊤ };
-
-    fn write_some(&mut self, piece: &[u8]) -> io::Result<usize> {
-        self.write(piece)
-    }
-}
-
 // Takes nothing, without an error.
 #[derive(Drop)]
 struct TakesNone;
@@ -77,14 +60,6 @@ impl Write for TakesNone {
 
     fn flush(&mut self) -> io::Result<()> {
         Ok(())
-    }
-}
-
-impl Writer for TakesNone {
-    ghost write_gives = { λ _ _ _ _. ⊤ };
-
-    fn write_some(&mut self, piece: &[u8]) -> io::Result<usize> {
-        self.write(piece)
     }
 }
 
@@ -137,24 +112,22 @@ fn emits_so<W: Sink>(sink: &mut W, wanted: &Emit<'_>) -> bool {
     answer == wanted.1 && sink.failed() == wanted.2
 }
 
-// Whether a source over a reader answers so, call by call.
-fn reads<R: Reader + Drop>(reader: R, pulls: &[Pull<'_>]) -> bool {
-    let mut source = FromRead::new(reader);
+// Whether a source answers so, call by call.
+fn reads<R: Source>(source: &mut R, pulls: &[Pull<'_>]) -> bool {
     for at in 0..pulls.len() {
         let pull = &pulls[at];
-        if !pulls_so(&mut source, pull) {
+        if !pulls_so(source, pull) {
             return false;
         }
     }
     true
 }
 
-// Whether a sink over a writer answers so, call by call.
-fn writes<W: Writer + Drop>(writer: W, emits: &[Emit<'_>]) -> bool {
-    let mut sink = IntoWrite::new(writer);
+// Whether a sink answers so, call by call.
+fn writes<W: Sink>(sink: &mut W, emits: &[Emit<'_>]) -> bool {
     for at in 0..emits.len() {
         let emit = &emits[at];
-        if !emits_so(&mut sink, emit) {
+        if !emits_so(sink, emit) {
             return false;
         }
     }
@@ -171,20 +144,45 @@ fn first_pull(bytes: &[u8]) -> usize {
     }
 }
 
+fn reads_memory(bytes: &[u8]) -> bool {
+    reads(&mut FromRead::new(bytes), &FROM_MEMORY)
+}
+
+fn reads_by_calls(alloc: Global, mut reader: FailsThird) -> bool {
+    match Box::new(alloc, move |buf: &mut [u8]| reader.read(buf)) {
+        Ok(call) => reads(&mut FromCall::new(call), &FROM_A_READER_THAT_FAILS),
+        Err(_) => false,
+    }
+}
+
 #[test]
 fn sources(rt: HostRuntime) {
     assert!(rt; first_pull(b"abc".as_slice()) == 2);
-    assert!(rt; reads(b"abc".as_slice(), &FROM_MEMORY));
-    assert!(rt; reads(FailsThird { calls: 0 }, &FROM_A_READER_THAT_FAILS));
+    assert!(rt; reads_memory(b"abc".as_slice()));
+    assert!(rt; reads_by_calls(rt.alloc(), FailsThird { calls: 0 }));
 }
 
 fn writes_memory(alloc: Global) -> bool {
-    writes(Vec::new(alloc), &TO_MEMORY)
+    writes(&mut IntoWrite::new(Vec::new(alloc)), &TO_MEMORY)
+}
+
+fn writes_two_by_calls(alloc: Global, mut writer: TakesTwo) -> bool {
+    match Box::new(alloc, move |piece: &[u8]| writer.write(piece)) {
+        Ok(call) => writes(&mut IntoCall::new(call), &TO_A_WRITER_THAT_FAILS),
+        Err(_) => false,
+    }
+}
+
+fn writes_none_by_calls(alloc: Global, mut writer: TakesNone) -> bool {
+    match Box::new(alloc, move |piece: &[u8]| writer.write(piece)) {
+        Ok(call) => writes(&mut IntoCall::new(call), &TO_A_WRITER_THAT_TAKES_NONE),
+        Err(_) => false,
+    }
 }
 
 #[test]
 fn sinks(rt: HostRuntime) {
     assert!(rt; writes_memory(rt.alloc()));
-    assert!(rt; writes(TakesTwo { calls: 0 }, &TO_A_WRITER_THAT_FAILS));
-    assert!(rt; writes(TakesNone, &TO_A_WRITER_THAT_TAKES_NONE));
+    assert!(rt; writes_two_by_calls(rt.alloc(), TakesTwo { calls: 0 }));
+    assert!(rt; writes_none_by_calls(rt.alloc(), TakesNone));
 }

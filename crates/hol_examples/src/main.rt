@@ -5,14 +5,14 @@
 mod kept;
 
 use hol_check::{check, write_claims};
-use hol_devices::{FromRead, IntoWrite};
+use hol_devices::{FromCall, FromRead, IntoCall, IntoWrite};
 use hol_host::NoHost;
 use hol_model::Fault;
 use hol_script::run;
 use kept::Kept;
-use std::fs::File;
+use std::fs::{self, File};
+use std::io::{Read, Write};
 use std::process::ExitCode;
-use std::{fs, io};
 
 const SCRIPTS: [&str; 11] = [
     "derived.hol",
@@ -50,10 +50,14 @@ fn print(rt: &HostRuntime, line: &str) -> Result<(), Fault> {
 // Prints the name of a script, and what its run writes.
 fn run_script(rt: &HostRuntime, name: &str) -> Result<(), Fault> {
     let alloc = rt.alloc();
-    let mut reader = FromRead::new(open(rt, name)?);
+    let mut script = open(rt, name)?;
+    let reads = Box::new(alloc, move |buf: &mut [u8]| script.read(buf))?;
+    let mut reader = FromCall::new(reads);
     let title = format!(in alloc; "== {name}")?;
     print(rt, title.as_str())?;
-    let mut writer = IntoWrite::new(io::writer(rt));
+    let mut output = rt.stdout();
+    let writes = Box::new(alloc, move |piece: &[u8]| output.write(piece))?;
+    let mut writer = IntoCall::new(writes);
     let mut no_log = IntoWrite::new(Vec::new(alloc));
     run(alloc, &mut reader, &mut writer, &mut no_log, false, &NoHost)?;
     Ok(())
@@ -62,7 +66,9 @@ fn run_script(rt: &HostRuntime, name: &str) -> Result<(), Fault> {
 // The log of a script.
 fn log_of(rt: &HostRuntime, name: &str) -> Result<Vec<u8>, Fault> {
     let alloc = rt.alloc();
-    let mut reader = FromRead::new(open(rt, name)?);
+    let mut script = open(rt, name)?;
+    let reads = Box::new(alloc, move |buf: &mut [u8]| script.read(buf))?;
+    let mut reader = FromCall::new(reads);
     let mut writer = IntoWrite::new(Vec::new(alloc));
     let mut log = Kept::new(alloc);
     run(alloc, &mut reader, &mut writer, &mut log, true, &NoHost)?;
@@ -74,7 +80,9 @@ fn check_log(rt: &HostRuntime, log: &[u8]) -> Result<(), Fault> {
     let alloc = rt.alloc();
     let mut reader = FromRead::new(log);
     let claims = check(alloc, &mut reader)?;
-    let mut writer = IntoWrite::new(io::writer(rt));
+    let mut output = rt.stdout();
+    let writes = Box::new(alloc, move |piece: &[u8]| output.write(piece))?;
+    let mut writer = IntoCall::new(writes);
     write_claims(alloc, &claims, &mut writer)?;
     let count = format!(in alloc; "claims: {}", claims.len())?;
     print(rt, count.as_str())

@@ -1,13 +1,13 @@
 // What the commands do with the files that they name.
-ghost use Rattle.std.specs.Prelude.{◌≡◌, false, IfOk};
+ghost use Rattle.std.specs.Prelude.{◌≡◌, false};
 
 use crate::laws::logs_are_checked;
 use crate::new_file::NewFile;
-use crate::script_file::{Asked, ScriptFile, path_of};
+use crate::script_file::{Asked, ScriptFile, open_script, path_of};
 use crate::status::status;
 use hol_bytes::read_all;
 use hol_check::{Claim, check, check_log, migrate, write_claims, write_entries};
-use hol_devices::{FromRead, IntoWrite};
+use hol_devices::{FromCall, FromRead, IntoCall, IntoWrite};
 use hol_explain::{Script, explain};
 use hol_host::Host;
 use hol_just::Goal;
@@ -16,25 +16,21 @@ use hol_sample_host::{liar, liar2, peel, swap};
 use hol_script::{Summary, run};
 use hol_terms::Term;
 use std::alloc::Global;
-use std::fs::File;
-use std::{fs, io};
+use std::fs::{self, File};
+use std::io::{self, Read, Write};
 
 // The file of this name, to be read; `-` names standard input.
-fn open(rt: &HostRuntime, name: &str) -> Result<FromRead<File>, Fault>
-    ensures { IfOk result (λ reader. reader.failed ≡ false) }
-{
+fn open(rt: &HostRuntime, name: &str) -> Result<File, Fault> {
     match fs::open(rt, path_of(name)) {
-        Ok(file) => Ok(FromRead::new(file)),
+        Ok(file) => Ok(file),
         Err(_) => Err(Fault::ReadFault),
     }
 }
 
 // The file of this name, made empty, to be written.
-fn create(rt: &HostRuntime, name: &str) -> Result<IntoWrite<File>, Fault>
-    ensures { IfOk result (λ writer. writer.failed ≡ false) }
-{
+fn create(rt: &HostRuntime, name: &str) -> Result<File, Fault> {
     match fs::create(rt, name) {
-        Ok(file) => Ok(IntoWrite::new(file)),
+        Ok(file) => Ok(file),
         Err(_) => Err(Fault::WriteFault),
     }
 }
@@ -65,8 +61,10 @@ fn run_hosted<R: Source, W: Sink, L: Sink>(
     host.conv(alloc, "swap", swaps)?;
     let summary = run(alloc, reader, writer, log, wants_log, &host)?;
     if let Some(script) = explained {
-        let mut errors = IntoWrite::new(rt.stderr());
-        let _ = explain(alloc, script, &host, &mut errors);
+        let mut output = rt.stderr();
+        if let Ok(writes) = Box::new(alloc, move |piece: &[u8]| output.write(piece)) {
+            let _ = explain(alloc, script, &host, &mut IntoCall::new(writes));
+        }
     }
     Ok(summary)
 }
@@ -107,9 +105,14 @@ fn run_explained<R: Source, W: Sink, L: Sink>(
 
 /// Runs a script, and answers how many of its commands were refused.
 pub(crate) fn run_file(rt: &HostRuntime, asked: &Asked<'_>) -> Result<u64, Fault> {
-    let mut reader = ScriptFile::open(rt, asked)?;
-    let mut writer = IntoWrite::new(io::writer(rt));
-    let mut no_log = IntoWrite::new(Vec::new(rt.alloc()));
+    let alloc = rt.alloc();
+    let mut script = open_script(rt, asked)?;
+    let reads = Box::new(alloc, move |buf: &mut [u8]| script.read(buf))?;
+    let mut reader = ScriptFile::new(rt, asked, reads);
+    let mut output = rt.stdout();
+    let writes = Box::new(alloc, move |piece: &[u8]| output.write(piece))?;
+    let mut writer = IntoCall::new(writes);
+    let mut no_log = IntoWrite::new(Vec::new(alloc));
     let summary = if asked.explains {
         run_explained(
             rt,
@@ -133,9 +136,16 @@ pub(crate) fn run_file_with_log(
     log: &str,
 ) -> Result<u64, Fault> {
     logs_are_checked();
-    let mut reader = ScriptFile::open(rt, asked)?;
-    let mut log = create(rt, log)?;
-    let mut writer = IntoWrite::new(io::writer(rt));
+    let alloc = rt.alloc();
+    let mut script = open_script(rt, asked)?;
+    let reads = Box::new(alloc, move |buf: &mut [u8]| script.read(buf))?;
+    let mut reader = ScriptFile::new(rt, asked, reads);
+    let mut file = create(rt, log)?;
+    let logs = Box::new(alloc, move |piece: &[u8]| file.write(piece))?;
+    let mut log = IntoCall::new(logs);
+    let mut output = rt.stdout();
+    let writes = Box::new(alloc, move |piece: &[u8]| output.write(piece))?;
+    let mut writer = IntoCall::new(writes);
     let summary = if asked.explains {
         run_explained(rt, asked.script, &mut reader, &mut writer, &mut log, true)?
     } else {
@@ -147,7 +157,9 @@ pub(crate) fn run_file_with_log(
 /// Checks a log, and prints its claims and their number.
 pub(crate) fn check_file(rt: &HostRuntime, log: &str) -> Result<u64, Fault> {
     let alloc = rt.alloc();
-    let mut reader = open(rt, log)?;
+    let mut file = open(rt, log)?;
+    let reads = Box::new(alloc, move |buf: &mut [u8]| file.read(buf))?;
+    let mut reader = FromCall::new(reads);
     let claims = check(alloc, &mut reader)?;
     print_claims(rt, &claims)
 }
@@ -155,15 +167,22 @@ pub(crate) fn check_file(rt: &HostRuntime, log: &str) -> Result<u64, Fault> {
 /// Checks a log, and prints the entries of its theory, then its claims and their number.
 pub(crate) fn check_file_with_theory(rt: &HostRuntime, log: &str) -> Result<u64, Fault> {
     let alloc = rt.alloc();
-    let mut reader = open(rt, log)?;
+    let mut file = open(rt, log)?;
+    let reads = Box::new(alloc, move |buf: &mut [u8]| file.read(buf))?;
+    let mut reader = FromCall::new(reads);
     let log = check_log(alloc, &mut reader)?;
-    write_entries(alloc, &log.entries, &mut IntoWrite::new(io::writer(rt)))?;
+    let mut output = rt.stdout();
+    let writes = Box::new(alloc, move |piece: &[u8]| output.write(piece))?;
+    write_entries(alloc, &log.entries, &mut IntoCall::new(writes))?;
     print_claims(rt, &log.claims)
 }
 
 // Prints claims and their number.
 fn print_claims(rt: &HostRuntime, claims: &[Claim]) -> Result<u64, Fault> {
-    write_claims(rt.alloc(), claims, &mut IntoWrite::new(io::writer(rt)))?;
+    let alloc = rt.alloc();
+    let mut output = rt.stdout();
+    let writes = Box::new(alloc, move |piece: &[u8]| output.write(piece))?;
+    write_claims(alloc, claims, &mut IntoCall::new(writes))?;
     match println!(rt; "claims: {}", claims.len()) {
         Ok(()) => Ok(0),
         Err(_) => Err(Fault::WriteFault),
@@ -173,9 +192,12 @@ fn print_claims(rt: &HostRuntime, claims: &[Claim]) -> Result<u64, Fault> {
 /// Checks a log, writes it in the second version to a new file, and prints the number of its claims. The log is read to
 /// its end before the new file is made, and the file is made for an accepted log alone.
 pub(crate) fn migrate_file(rt: &HostRuntime, log: &str, new: &str) -> Result<u64, Fault> {
-    let mut reader = open(rt, log)?;
+    let alloc = rt.alloc();
+    let mut file = open(rt, log)?;
+    let reads = Box::new(alloc, move |buf: &mut [u8]| file.read(buf))?;
+    let mut reader = FromCall::new(reads);
     let mut writer = NewFile::new(rt, new);
-    let claims = migrate(rt.alloc(), &mut reader, &mut writer)?;
+    let claims = migrate(alloc, &mut reader, &mut writer)?;
     match println!(rt; "migrated: {} claims", claims.len()) {
         Ok(()) => Ok(0),
         Err(_) => Err(Fault::WriteFault),

@@ -1,16 +1,16 @@
 // A file that is made once there are bytes for it.
 ghost use Rattle.std.specs.Prelude.{◌≡◌, false};
 
-use hol_devices::IntoWrite;
 use hol_model::{DeviceFail, Sink};
 use std::fs::{self, File};
+use std::io::Write;
 
 /// A sink that makes the file of its name when the first bytes come.
 #[derive(Drop)]
 pub struct NewFile<'a> {
     rt: &'a HostRuntime,
     name: &'a str,
-    file: Option<IntoWrite<File>>,
+    file: Option<File>,
     failed: bool,
 }
 
@@ -28,13 +28,13 @@ impl NewFile<'_> {
     }
 
     // The file, made where it is not there yet.
-    fn opened(&mut self) -> Result<IntoWrite<File>, DeviceFail>
+    fn opened(&mut self) -> Result<File, DeviceFail>
         ensures { self.new.failed ≡ self.old.failed }
     {
         match self.file.take() {
             Some(file) => Ok(file),
             None => match fs::create(self.rt, self.name) {
-                Ok(file) => Ok(IntoWrite::new(file)),
+                Ok(file) => Ok(file),
                 Err(_) => Err(DeviceFail),
             },
         }
@@ -52,14 +52,18 @@ impl Sink for NewFile<'_> {
                 return Err(failure);
             }
         };
-        match file.emit(piece) {
+        match file.write(piece) {
             Ok(count) => {
+                if count == 0 && !piece.is_empty() {
+                    self.failed = true;
+                    return Err(DeviceFail);
+                }
                 self.file = Some(file);
                 Ok(count)
             }
-            Err(failure) => {
+            Err(_) => {
                 self.failed = true;
-                Err(failure)
+                Err(DeviceFail)
             }
         }
     }

@@ -1,10 +1,10 @@
 // The file of a script, which can tell why it is not read.
-ghost use Rattle.std.specs.Prelude.{◌≡◌, ◌||◌, false, is_err, IfOk};
-ghost use Rattle.std.specs.Result.{result_ok};
+ghost use Rattle.std.specs.Prelude.{◌≡◌, ◌⊎◌, ◌<◌, ◌||◌, length, false, None, Ok, Err, is_err, IfOk, OnErr};
+ghost use Rattle.std.specs.Fn.{CalledAtMut};
 ghost use Rattle.std.specs.Io.{ReadsAtMost};
 ghost use Rattle.std.specs.Io.KnownBytes.{ReadConsumes};
 
-use hol_devices::Reader;
+use hol_devices::ReadCall;
 use hol_model::{DeviceFail, Fault, Source};
 use std::fs::{self, File};
 use std::{fmt, io};
@@ -22,13 +22,15 @@ pub(crate) fn path_of(name: &str) -> &str {
     if name == "-" { "/dev/stdin" } else { name }
 }
 
-/// The file of a script as a source, over what reads it.
+/// The file of a script as a source, over the call that reads it. It fails only where the call does, or says that it put more
+/// than the buffer has room for.
 #[derive(Drop)]
-pub struct ScriptFile<'a, R: Reader + Drop> {
+pub struct ScriptFile<'a> {
     rt: &'a HostRuntime,
     asked: Asked<'a>,
-    file: R,
+    call: ReadCall,
     failed: bool,
+    ghost callable: { ReadCall.IsAlwaysCallable call },
 }
 
 // The line that tells why the file of a script is not read: its name and the system's reason.
@@ -54,43 +56,58 @@ fn tell_reason(rt: &HostRuntime, asked: &Asked<'_>, reason: &io::Error) {
     }
 }
 
-impl ScriptFile<'_, File> {
-    /// Opens the file of a script (`ReadFault`).
-    pub(crate) fn open<'a>(
-        rt: &'a HostRuntime,
-        asked: &Asked<'a>,
-    ) -> Result<ScriptFile<'a, File>, Fault>
-        ensures { IfOk result (λ file. file.failed ≡ false) }
-    {
-        match fs::open(rt, path_of(asked.script)) {
-            Ok(file) => Ok(ScriptFile {
-                rt,
-                asked: *asked,
-                file,
-                failed: false,
-            }),
-            Err(reason) => {
-                tell_reason(rt, asked, &reason);
-                Err(Fault::ReadFault)
-            }
+/// Opens the file of a script (`ReadFault`).
+pub(crate) fn open_script(rt: &HostRuntime, asked: &Asked<'_>) -> Result<File, Fault> {
+    match fs::open(rt, path_of(asked.script)) {
+        Ok(file) => Ok(file),
+        Err(reason) => {
+            tell_reason(rt, asked, &reason);
+            Err(Fault::ReadFault)
         }
     }
 }
 
-impl<R: Reader + Drop> Source for ScriptFile<'_, R> {
-    ghost remaining = { λ s. R.remaining s.file };
+impl ScriptFile<'_> {
+    /// The source over a call, which may be called on any buffer.
+    pub(crate) fn new<'a>(
+        rt: &'a HostRuntime,
+        asked: &Asked<'a>,
+        call: ReadCall,
+    ) -> ScriptFile<'a>
+        requires callable { ReadCall.IsAlwaysCallable call }
+        ensures call { result.call ≡ call }
+        ensures unfailed { result.failed ≡ false }
+    {
+        ScriptFile {
+            rt,
+            asked: *asked,
+            call,
+            failed: false,
+        }
+    }
+}
 
+impl Source for ScriptFile<'_> {
     ghost has_failed = { λ s. s.failed };
 
-    // One call of the reader, and its answer.
+    // One call, and its answer; but a number past the buffer is a failure.
     fn pull(&mut self, buf: &mut [u8]) -> Result<usize, DeviceFail>
         ensures bound { ReadsAtMost result buf.new }
-        ensures bytes { ReadConsumes (R.remaining self.old.file) (R.remaining self.new.file) result buf.new }
+        ensures bytes { ReadConsumes None None result buf.new }
         ensures failure { self.new.failed ≡ (self.old.failed || is_err result) }
-        ensures gives { R.read_gives self.old.file (result_ok result) self.new.file }
+        ensures gives { IfOk result (λ count. CalledAtMut ReadCall.FnMut self.old.call buf.old (Ok count) self.new.call buf.new) }
+        ensures fails { OnErr result
+            (((reason : _) × CalledAtMut ReadCall.FnMut self.old.call buf.old (Err reason) self.new.call buf.new)
+            ⊎ ((count : _) × (length buf.new < count) × CalledAtMut ReadCall.FnMut self.old.call buf.old (Ok count) self.new.call buf.new)) }
     {
-        match self.file.read_some(buf) {
-            Ok(count) => Ok(count),
+        match (self.call)(buf) {
+            Ok(count) => {
+                if count > buf.len() {
+                    self.failed = true;
+                    return Err(DeviceFail);
+                }
+                Ok(count)
+            }
             Err(reason) => {
                 self.failed = true;
                 tell_reason(self.rt, &self.asked, &reason);
@@ -140,6 +157,6 @@ mod tests {
             script: "no/such/script.hol",
             explains: false,
         };
-        assert!(rt; matches!(ScriptFile::open(&rt, &asked), Err(Fault::ReadFault)));
+        assert!(rt; matches!(open_script(&rt, &asked), Err(Fault::ReadFault)));
     }
 }

@@ -4,15 +4,16 @@
 mod functions;
 
 use functions::{both, same};
-use hol_devices::{FromRead, IntoWrite};
+use hol_devices::{FromCall, IntoCall, IntoWrite};
 use hol_host::Host;
 use hol_just::Goal;
 use hol_model::Fault;
 use hol_script::{Summary, run};
 use hol_terms::Term;
 use std::alloc::Global;
+use std::fs;
+use std::io::{Read, Write};
 use std::process::ExitCode;
-use std::{fs, io};
 
 // Runs the script of this name.
 fn run_script(rt: &HostRuntime, name: &str) -> Result<Summary, Fault> {
@@ -22,11 +23,15 @@ fn run_script(rt: &HostRuntime, name: &str) -> Result<Summary, Fault> {
     host.refiner(alloc, "both", refiner)?;
     let conversion = Box::new(alloc, |alloc: Global, term: &Term| same(alloc, term))?;
     host.conv(alloc, "same", conversion)?;
-    let mut reader = match fs::open(rt, name) {
-        Ok(file) => FromRead::new(file),
+    let mut script = match fs::open(rt, name) {
+        Ok(file) => file,
         Err(_) => return Err(Fault::ReadFault),
     };
-    let mut writer = IntoWrite::new(io::writer(rt));
+    let reads = Box::new(alloc, move |buf: &mut [u8]| script.read(buf))?;
+    let mut reader = FromCall::new(reads);
+    let mut output = rt.stdout();
+    let writes = Box::new(alloc, move |piece: &[u8]| output.write(piece))?;
+    let mut writer = IntoCall::new(writes);
     let mut no_log = IntoWrite::new(Vec::new(alloc));
     run(alloc, &mut reader, &mut writer, &mut no_log, false, &host)
 }
