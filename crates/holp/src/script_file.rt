@@ -69,11 +69,7 @@ pub(crate) fn open_script(rt: &HostRuntime, asked: &Asked<'_>) -> Result<File, F
 
 impl ScriptFile<'_> {
     /// The source over a call, which may be called on any buffer.
-    pub(crate) fn new<'a>(
-        rt: &'a HostRuntime,
-        asked: &Asked<'a>,
-        call: ReadCall,
-    ) -> ScriptFile<'a>
+    pub(crate) fn new<'a>(rt: &'a HostRuntime, asked: &Asked<'a>, call: ReadCall) -> ScriptFile<'a>
         requires callable { ReadCall.IsAlwaysCallable call }
         ensures call { result.call ≡ call }
         ensures unfailed { result.failed ≡ false }
