@@ -2,10 +2,19 @@
 //! told by `hol_script` alone.
 #![tactic(auto)]
 
+mod arguments;
+mod conversions;
 mod hints;
+mod misfits;
 mod place;
+mod premises;
+mod quantifiers;
+mod quoted;
 mod refused_goals;
+mod refused_rules;
 mod search;
+mod shapes;
+mod unlike;
 mod walk;
 
 pub use walk::{Script, explain, explain_refusal};

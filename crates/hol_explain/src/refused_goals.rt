@@ -2,15 +2,16 @@
 ghost use Rattle.std.specs.Prelude.{OnOk};
 ghost use Rattle.hol_proof_manager.specs.Managers.{IsManager};
 
+use crate::conversions::push_conversion;
+use crate::premises::{push_quoted, push_typed, quoted_term, stored_premise};
+use crate::quantifiers::push_types;
 use crate::search::{Found, Span, refused_part};
+use crate::shapes::goal_wanted;
 use hol_host::Refiners;
 use hol_model::Fault;
 use hol_print::text_of_term;
 use hol_proof_manager::Manager;
 use hol_propositions::atoms;
-use hol_rule_messages::{
-    goal_wanted, push_conversion, push_quoted, push_typed, push_types, quoted_term, stored_premise,
-};
 use hol_script_words::{
     Known, Message, NoMemory, Piece, given, is_before_theorem, is_refiner, sentence,
 };

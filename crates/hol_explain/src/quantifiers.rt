@@ -33,7 +33,7 @@ pub(crate) fn body_at(
 }
 
 /// Puts the types at the end that the bound variable of a quantified formula, and what is to stand for it, have.
-pub fn push_types(
+pub(crate) fn push_types(
     alloc: Global,
     scope: &Scope,
     out: &mut String,

@@ -169,7 +169,7 @@ fn place_of_name(piece: &Piece<'_>, number: usize) -> usize {
 }
 
 /// The first name in the types of a text that stands for none, from a word on; where `in_type`, the text is a type itself.
-pub fn unknown_type(
+pub(crate) fn unknown_type(
     alloc: Global,
     known: &Known,
     piece: &Piece<'_>,
@@ -425,7 +425,7 @@ fn in_steps(
 }
 
 /// What is said of a quoted text that is refused so as a term, where it is.
-pub fn in_quote(
+pub(crate) fn in_quote(
     alloc: Global,
     known: &Known,
     text: &[u8],

@@ -52,7 +52,7 @@ fn text_between<'a>(piece: &'a Piece<'_>, from: usize, to: usize) -> &'a str {
 
 /// Puts the conversion that does not apply at the end, what it wants, and the term that it is applied to: that of the expression
 /// from a word on, or what `RAND_CONV`, `RATOR_CONV` and `ABS_CONV` make of both. Answers the place in the list of its word.
-pub fn push_conversion(
+pub(crate) fn push_conversion(
     alloc: Global,
     known: &Known,
     manager: &Manager,

@@ -215,7 +215,7 @@ pub(crate) fn rule_wanted(word: &str) -> Option<&'static str> {
 }
 
 /// What a refiner wants, where it asks for a form.
-pub fn goal_wanted(word: &str) -> Option<&'static str> {
+pub(crate) fn goal_wanted(word: &str) -> Option<&'static str> {
     form_in(&REFINERS, word)
 }
 

@@ -320,7 +320,7 @@ fn at_quoted_term(
 }
 
 /// What is said of a refused rule or definition, where something is known.
-pub fn at_rule(
+pub(crate) fn at_rule(
     alloc: Global,
     known: &Known,
     manager: &Manager,

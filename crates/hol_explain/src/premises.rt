@@ -14,17 +14,17 @@ use std::alloc::Global;
 
 /// A stored theorem: its hypotheses, its conclusion and its text.
 #[derive(Drop)]
-pub struct Premise {
-    pub hypotheses: Vec<Term>,
-    pub conclusion: Term,
-    pub text: String,
+pub(crate) struct Premise {
+    pub(crate) hypotheses: Vec<Term>,
+    pub(crate) conclusion: Term,
+    pub(crate) text: String,
 }
 
 // The longest text that is shown of a term or a type.
 const SHOWN: usize = 400;
 
 /// Puts a text between backquotes at the end, cut where it is long.
-pub fn push_quoted(out: &mut String, text: &str) -> Result<(), NoMemory> {
+pub(crate) fn push_quoted(out: &mut String, text: &str) -> Result<(), NoMemory> {
     out.push_str("`")?;
     if text.len() <= SHOWN {
         out.push_str(text)?;
@@ -58,7 +58,7 @@ pub(crate) fn push_type(alloc: Global, out: &mut String, ty: &Ty) -> Result<(), 
 }
 
 /// Puts a term and its type at the end.
-pub fn push_typed(
+pub(crate) fn push_typed(
     alloc: Global,
     scope: &Scope,
     out: &mut String,
@@ -80,7 +80,7 @@ fn shown(alloc: Global, manager: &Manager, name: &str) -> Result<Option<String>,
 }
 
 /// The theorem of a name.
-pub fn stored_premise(
+pub(crate) fn stored_premise(
     alloc: Global,
     known: &Known,
     manager: &Manager,
@@ -105,7 +105,7 @@ pub fn stored_premise(
 }
 
 /// The term that the word at a place in the list quotes.
-pub fn quoted_term(
+pub(crate) fn quoted_term(
     alloc: Global,
     known: &Known,
     piece: &Piece<'_>,
