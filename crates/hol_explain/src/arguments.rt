@@ -1,8 +1,8 @@
 // The arguments of a rule, as a command has them.
-ghost use Rattle.hol_proof_manager.specs.Managers.{IsManager};
+ghost use Rattle.hol_script.specs.Managers.{IsManager};
 
 use crate::premises::{Premise, push_quoted, stored_premise};
-use hol_proof_manager::Manager;
+use hol_script::Manager;
 use hol_script_words::{Known, NoMemory, Piece};
 use std::alloc::Global;
 

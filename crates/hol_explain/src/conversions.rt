@@ -1,9 +1,9 @@
 // Which conversion of an expression does not apply, and to which term.
-ghost use Rattle.hol_proof_manager.specs.Managers.{IsManager};
+ghost use Rattle.hol_script.specs.Managers.{IsManager};
 
 use crate::premises::{push_quoted, push_term, stored_premise};
 use crate::shapes::conversion_wanted;
-use hol_proof_manager::Manager;
+use hol_script::Manager;
 use hol_script_words::{
     Known, NoMemory, Piece, between, end_of_conversion, is_before_theorem, text_of,
 };

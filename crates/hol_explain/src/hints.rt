@@ -1,18 +1,17 @@
 // What is said of a refused command.
 ghost use Rattle.std.specs.Prelude.{OnOk};
-ghost use Rattle.hol_proof_manager.specs.Managers.{IsManager};
+ghost use Rattle.hol_script.specs.Managers.{IsManager};
 
 use crate::quoted::{in_quote, unknown_type};
 use crate::refused_goals::{at_new_goal, at_refiner};
 use crate::refused_rules::at_rule;
 use hol_host::Refiners;
 use hol_model::Fault;
-use hol_proof_manager::Manager;
+use hol_script::{Manager, Refused};
 use hol_script_words::{
     Kind, Known, Message, NoMemory, Piece, Unknown, is_among, is_before_theorem, no_command,
     sentence, unknown_name,
 };
-use hol_session::reply::Refused;
 use std::alloc::Global;
 
 // A message on a part of a quoted text, from the begin of the command.

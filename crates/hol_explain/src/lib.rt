@@ -17,4 +17,5 @@ mod shapes;
 mod unlike;
 mod walk;
 
+pub use hol_script::Refused;
 pub use walk::{Script, explain, explain_refusal};

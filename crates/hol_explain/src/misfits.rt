@@ -1,10 +1,10 @@
 // What is said of rules whose types do not fit.
-ghost use Rattle.hol_proof_manager.specs.Managers.{IsManager};
+ghost use Rattle.hol_script.specs.Managers.{IsManager};
 
 use crate::arguments::{Arguments, place, theorem};
 use crate::premises::{push_quoted, push_typed, quoted_term, sides};
 use crate::quantifiers::push_types;
-use hol_proof_manager::Manager;
+use hol_script::Manager;
 use hol_script_words::{Known, Message, NoMemory, Piece};
 use hol_terms::Term;
 use std::alloc::Global;

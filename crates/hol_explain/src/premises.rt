@@ -1,12 +1,11 @@
 // The stored theorems that a command names, and parts of terms.
-ghost use Rattle.hol_proof_manager.specs.Managers.{IsManager};
+ghost use Rattle.hol_script.specs.Managers.{IsManager};
 
 use hol_alpha::aconv;
 use hol_model::TERM_HEIGHT_LIMIT;
 use hol_print::{text_of_term, text_of_type};
-use hol_proof_manager::Manager;
+use hol_script::{Manager, Printed};
 use hol_script_words::{Known, NoMemory, Piece, between, given, text_of};
-use hol_session::reply::Printed;
 use hol_syntax::{Scope, read_sequent, read_term};
 use hol_terms::{Parts, Term};
 use hol_types::Ty;

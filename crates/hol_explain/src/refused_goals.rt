@@ -1,6 +1,6 @@
 // What is said of refused commands of goals.
 ghost use Rattle.std.specs.Prelude.{OnOk};
-ghost use Rattle.hol_proof_manager.specs.Managers.{IsManager};
+ghost use Rattle.hol_script.specs.Managers.{IsManager};
 
 use crate::conversions::push_conversion;
 use crate::premises::{push_quoted, push_typed, quoted_term, stored_premise};
@@ -10,8 +10,8 @@ use crate::shapes::goal_wanted;
 use hol_host::Refiners;
 use hol_model::Fault;
 use hol_print::text_of_term;
-use hol_proof_manager::Manager;
 use hol_propositions::atoms;
+use hol_script::Manager;
 use hol_script_words::{
     Known, Message, NoMemory, Piece, given, is_before_theorem, is_refiner, sentence,
 };

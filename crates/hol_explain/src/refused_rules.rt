@@ -1,5 +1,5 @@
 // What is said of refused rules, of their theorems and their terms.
-ghost use Rattle.hol_proof_manager.specs.Managers.{IsManager};
+ghost use Rattle.hol_script.specs.Managers.{IsManager};
 
 use crate::arguments::{Arguments, place, push_theorem, theorem};
 use crate::conversions::push_conversion;
@@ -10,7 +10,7 @@ use crate::shapes::rule_wanted;
 use crate::unlike::not_alpha;
 use hol_alpha::aconv;
 use hol_model::Fault;
-use hol_proof_manager::Manager;
+use hol_script::Manager;
 use hol_script_words::{Kind, Known, Message, NoMemory, Piece, given, sentence};
 use hol_terms::{Parts, Term, free_in, frees, type_vars};
 use std::alloc::Global;

@@ -1,12 +1,11 @@
 // Which part of a refused refiner expression is at fault, and at which goal.
 ghost use Rattle.std.specs.Prelude.{OnOk};
-ghost use Rattle.hol_proof_manager.specs.Managers.{IsManager};
+ghost use Rattle.hol_script.specs.Managers.{IsManager};
 
 use hol_host::Refiners;
-use hol_proof_manager::Manager;
 use hol_script::execute::execute;
+use hol_script::{Manager, Printed};
 use hol_script_words::{NoMemory, Piece, between, given};
-use hol_session::reply::Printed;
 use std::alloc::Global;
 
 /// A part of an expression: its first word, and the word behind its last.

@@ -1,10 +1,10 @@
 // What is said of rules whose terms are not alike.
-ghost use Rattle.hol_proof_manager.specs.Managers.{IsManager};
+ghost use Rattle.hol_script.specs.Managers.{IsManager};
 
 use crate::arguments::{Arguments, place, theorem};
 use crate::premises::{differing, infix_parts, push_term, quoted_term, sides};
 use crate::quantifiers::body_at;
-use hol_proof_manager::Manager;
+use hol_script::Manager;
 use hol_script_words::{Known, Message, NoMemory, Piece};
 use hol_terms::Term;
 use std::alloc::Global;

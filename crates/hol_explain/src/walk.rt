@@ -1,7 +1,7 @@
 // A script is run once more, and each refusal is explained.
 ghost use Rattle.std.specs.Prelude.{◌≡◌, ◌∷◌, [], false, IfErr, Contains, OnOk};
 ghost use Rattle.hol_model.specs.declared.fault.Fault.TheVariants.{Memory, WriteFault};
-ghost use Rattle.hol_proof_manager.specs.Managers.{IsManager};
+ghost use Rattle.hol_script.specs.Managers.{IsManager};
 
 use crate::hints::message_of;
 use crate::place::Place;
@@ -9,10 +9,9 @@ use hol_bytes::write_all;
 use hol_command::cut::{cut, is_blank_text};
 use hol_host::Refiners;
 use hol_model::{Fault, Sink};
-use hol_proof_manager::Manager;
 use hol_script::execute::execute;
+use hol_script::{Manager, Refused};
 use hol_script_words::{Known, Message, NoMemory, Piece, between};
-use hol_session::reply::Refused;
 use std::alloc::Global;
 
 /// A script, the name of its file, and the names of the host's functions.

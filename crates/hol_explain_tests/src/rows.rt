@@ -1,11 +1,10 @@
 // Scripts as data, and what is said of their refusals.
 use crate::sinks::Compared;
-use hol_explain::{Script, explain, explain_refusal};
+use hol_explain::{Refused, Script, explain, explain_refusal};
 use hol_host::{Host, NoHost};
 use hol_just::Goal;
 use hol_model::Fault;
 use hol_sample_host::liar;
-use hol_session::reply::Refused;
 use std::alloc::Global;
 
 /// A script, and all that is said of its refusals.

@@ -2,3 +2,4 @@ pub mod GoalTexts
 pub mod Provers
 pub mod Managers
 pub mod Refusals
+pub mod Session

@@ -7,5 +7,6 @@ mod laws;
 mod manager;
 mod prover;
 
+pub use hol_session::reply::{Printed, Refused, plainly};
 pub use laws::managers_refuse;
 pub use manager::Manager;

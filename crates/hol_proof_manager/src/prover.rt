@@ -2,13 +2,12 @@
 
 use hol_combine::Leaves;
 use hol_exprs::{Fuel, Leaf};
+use hol_goals::accept;
 use hol_host::Refiners;
 use hol_journal::Rec;
 use hol_just::{Goal, Just, Step};
 use hol_model::Fault;
-use hol_prover::{ByExpression, prove};
-use hol_refine::refine;
-use hol_replay::accept;
+use hol_prover::{ByExpression, prove, refine};
 use hol_session::session::Session;
 use hol_terms::Term;
 use std::alloc::Global;

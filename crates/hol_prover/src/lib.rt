@@ -6,4 +6,5 @@ mod converting;
 mod proving;
 
 pub use converting::ByExpression;
+pub use hol_refine::refine;
 pub use proving::prove;

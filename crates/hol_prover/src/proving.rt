@@ -5,12 +5,11 @@ ghost use Rattle.hol_just.specs.Steps.{goal_of, tree_of};
 ghost use Rattle.hol_goals.specs.Expansions.{Proves};
 ghost use Rattle.hol_library.specs.Library.{IsLibrary, IsContinued, store_in};
 
-use hol_goals::closed;
+use hol_goals::{closed, replay};
 use hol_journal::{Rec, journals_grow};
 use hol_just::{Goal, Just};
 use hol_library::{Library, libraries_continue};
 use hol_model::Fault;
-use hol_replay::replay;
 use std::alloc::Global;
 
 /// The theorem of the goal's own term by a justification without subgoals: the justification is replayed once, and what it

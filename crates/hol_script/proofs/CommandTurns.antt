@@ -8,10 +8,10 @@ use Rattle.hol_session_model.specs.CommandGrammar.{CommandTree, IsReadCommand, S
 use Rattle.hol_session_model.specs.Replies.{refusal_of}
 use Rattle.hol_session_model.specs.ScriptSessions.{State, Tools, Allows, finds_no_memory, is_no_command}
 use Rattle.hol_session_model.specs.SessionCalls.{Turns}
-use Rattle.hol_session.specs.declared.reply.Printed.{Printed}
-use Rattle.hol_session.specs.declared.reply.Refused.{Refused}
-use Rattle.hol_session.specs.Answers.{no_tools, Says, plain}
-use Rattle.hol_session.proofs.ToolLemmas.{any-tools-here}
+use Rattle.hol_proof_manager.specs.Session.{Printed}
+use Rattle.hol_proof_manager.specs.Session.{Refused}
+use Rattle.hol_proof_manager.specs.Session.{no_tools, Says, plain}
+use Rattle.hol_proof_manager.specs.Session.{any-tools-here}
 
 module _ (tools : Tools) (state : State) (text : List ℕ) where
   abbrev RefusesFor : Fault → Type 0

@@ -14,11 +14,11 @@ use Rattle.hol_session_model.specs.Running.{SoFar, unfinished}
 use Rattle.hol_session_model.specs.SessionCalls.{Turns, IsTurn}
 use Rattle.hol_bytes.specs.Bytes.{AppendsFront}
 use Rattle.hol_session_laws.proofs.RunProgress.{turns-add, begins, blank-passes, turn-passes, ends, ends-unfinished, stopped-begins, is_turn}
-use Rattle.hol_session.specs.declared.reply.Printed.{Printed}
-use Rattle.hol_session.specs.declared.reply.Printed.TheVariants.{Nothing, Line, Goals}
-use Rattle.hol_session.specs.declared.reply.Refused.{Refused}
-use Rattle.hol_session.specs.Answers.{printed_name, Says, answer_text, plain}
-use Rattle.hol_session.proofs.SessionLemmas.{said-text}
+use Rattle.hol_proof_manager.specs.Session.{Printed}
+use Rattle.hol_proof_manager.specs.Session.{Nothing, Line, Goals}
+use Rattle.hol_proof_manager.specs.Session.{Refused}
+use Rattle.hol_proof_manager.specs.Session.{printed_name, Says, answer_text, plain}
+use Rattle.hol_proof_manager.specs.Session.{said-text}
 use Rattle.hol_script.specs.Runs.{counting_answer, names_in_answer, printed_names, Finishes, Breaks}
 
 -- ---- what is seen of an answer is what is seen of its reply

@@ -21,8 +21,8 @@ use Rattle.hol_log.specs.LogWriting.{Claimed}
 use Rattle.hol_log.specs.LogAccepted.{log_claim}
 use Rattle.hol_log.specs.Pruning.{HaveIdentifiers}
 use Rattle.hol_store.specs.Store.{stored_of}
-use Rattle.hol_session.specs.SessionState.{theorem_of}
-use Rattle.hol_session.specs.StoredClaims.{stored_claim, stored_claims}
+use Rattle.hol_proof_manager.specs.Session.{theorem_of}
+use Rattle.hol_proof_manager.specs.Session.{stored_claim, stored_claims}
 use Rattle.hol_proof_manager.specs.Managers.{state_of}
 use Rattle.hol_script.specs.declared.progress.Progress.{Progress}
 use Rattle.hol_script.specs.Runs.{names_of, Finishes}

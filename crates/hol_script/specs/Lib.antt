@@ -1,3 +1,4 @@
 pub mod Commands
 pub mod Runs
 pub mod RunLogs
+pub mod Managers

@@ -12,7 +12,7 @@ use Rattle.hol_log.specs.LogAccepted.{log_claim, IsPartOf}
 use Rattle.hol_log.specs.LogWriting.{Claimed}
 use Rattle.hol_script.specs.declared.progress.Progress.{Progress}
 use Rattle.hol_script.specs.Runs.{names_of}
-use Rattle.hol_session.specs.StoredClaims.{IsLog}
+use Rattle.hol_proof_manager.specs.Session.{IsLog}
 use Rattle.hol_proof_manager.specs.Managers as managers
 use Rattle.hol_proof_manager.specs.Managers.{claims_of}
 

@@ -7,10 +7,10 @@ use Rattle.hol_session_model.specs.Runs.{Counts, no_counts, counts_after, IsRun,
 use Rattle.hol_bytes.specs.Bytes.{AppendsFront}
 use Rattle.hol_script.specs.declared.progress.Summary.{Summary}
 use Rattle.hol_script.specs.declared.progress.Progress.{Progress}
-use Rattle.hol_session.specs.declared.reply.Printed.{Printed}
-use Rattle.hol_session.specs.declared.reply.Printed.TheVariants.{Nothing, Line, Goals}
-use Rattle.hol_session.specs.declared.reply.Refused.{Refused}
-use Rattle.hol_session.specs.Answers.{printed_name}
+use Rattle.hol_proof_manager.specs.Session.{Printed}
+use Rattle.hol_proof_manager.specs.Session.{Nothing, Line, Goals}
+use Rattle.hol_proof_manager.specs.Session.{Refused}
+use Rattle.hol_proof_manager.specs.Session.{printed_name}
 
 -- ---- answers
 

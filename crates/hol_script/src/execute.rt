@@ -2,7 +2,7 @@
 ghost use Rattle.std.specs.Prelude.{List, ℕ, Some};
 ghost use Rattle.hol_session_model.specs.CommandGrammar.{CommandTree, SpellsCommand};
 ghost use Rattle.hol_session_model.specs.SessionCalls.{Turns};
-ghost use Rattle.hol_session.specs.Answers.{session_tools, Says};
+ghost use Rattle.hol_proof_manager.specs.Session.{session_tools, Says};
 ghost use Rattle.hol_command.specs.Views.{IsCommand};
 ghost use Rattle.hol_proof_manager.specs.Managers.{state_of, IsManager};
 ghost use Rattle.hol_script.specs.Commands.{IsOfTree};
@@ -11,8 +11,7 @@ use hol_command::command::{Command, parse_command};
 use hol_grammar::{ReadError, tokens_in};
 use hol_host::Refiners;
 use hol_model::Fault;
-use hol_proof_manager::Manager;
-use hol_session::reply::{Printed, Refused, plainly};
+use hol_proof_manager::{Manager, Printed, Refused, plainly};
 use std::alloc::Global;
 
 /// Answers a command, which may call a host's functions: what it prints, or a refusal, which changes nothing.

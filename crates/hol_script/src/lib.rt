@@ -5,5 +5,6 @@ pub mod execute;
 mod progress;
 mod runner;
 
+pub use hol_proof_manager::{Manager, Printed, Refused};
 pub use progress::Summary;
 pub use runner::run;

@@ -4,17 +4,16 @@ ghost use Rattle.hol_session_model.specs.ScriptSessions.{start};
 ghost use Rattle.hol_session_model.specs.SessionCalls.{Turns};
 ghost use Rattle.hol_model.specs.declared.fault.Fault.TheVariants.{Memory, TooLong};
 ghost use Rattle.hol_log.specs.Pruning.{HaveIdentifiers};
-ghost use Rattle.hol_session.specs.Answers.{session_tools, Says};
+ghost use Rattle.hol_proof_manager.specs.Session.{session_tools, Says};
 ghost use Rattle.hol_script.specs.Runs.{counts_of, counting_answer, names_of, names_in_answer};
 ghost use Rattle.hol_script.specs.RunLogs.{journal_of, claims_stored, claims_listed};
 ghost use Rattle.hol_proof_manager.specs.Managers.{state_of, IsManager};
-ghost use Rattle.hol_session.specs.StoredClaims.{IsAcceptedLog, IsLongLog};
+ghost use Rattle.hol_proof_manager.specs.Session.{IsAcceptedLog, IsLongLog};
 
 use crate::execute::execute;
 use hol_host::Refiners;
 use hol_model::Fault;
-use hol_proof_manager::Manager;
-use hol_session::reply::{Printed, Refused};
+use hol_proof_manager::{Manager, Printed, Refused};
 use std::alloc::Global;
 
 /// How many commands were accepted and refused, and how many theorems were printed.

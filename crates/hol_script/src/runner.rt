@@ -6,7 +6,7 @@ ghost use Rattle.hol_session_model.specs.Runs.{Ends};
 ghost use Rattle.hol_model.specs.declared.fault.Fault.TheVariants.{Memory, WriteFault, TooLong};
 ghost use Rattle.hol_log.specs.Pruning.{HaveIdentifiers};
 ghost use Rattle.hol_bytes.specs.Bytes.{AppendsFront};
-ghost use Rattle.hol_session.specs.Answers.{session_tools, row_bytes, answer_text};
+ghost use Rattle.hol_proof_manager.specs.Session.{session_tools, row_bytes, answer_text};
 ghost use Rattle.hol_proof_manager.specs.Managers.{state_of, IsManager};
 ghost use Rattle.hol_script.specs.Runs.{refusal_of_parts, counts_of, names_of, Finishes, Breaks, answer_of, source_use, sink_use, devices};
 ghost use Rattle.hol_script.specs.RunLogs.{claims_stored, claims_listed, theory_of, IsLogOver, IsLongLogOver, WritesLog, WritesFront};
@@ -16,7 +16,7 @@ use hol_bytes::{read_all, write_all, write_pieces};
 use hol_command::cut::{cut, is_blank_text, leading_line_feeds, line_feeds};
 use hol_host::Refiners;
 use hol_model::{Fault, Sink, Source, TEXT_BYTES_LIMIT};
-use hol_session::reply::{Printed, Refused};
+use hol_proof_manager::{Printed, Refused};
 use itoa::Buffer;
 use std::alloc::Global;
 

@@ -1,4 +1,4 @@
-use Rattle.hol_proof_manager.specs.Managers.{IsManager}
+use Rattle.hol_script.specs.Managers.{IsManager}
 use Rattle.hol_explain.proofs.search.refused_member.Given as goal
 
 abbrev pub invariant-loop : goal.invariant-loop

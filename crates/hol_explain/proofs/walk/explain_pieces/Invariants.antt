@@ -1,5 +1,5 @@
 use Rattle.std.proofs.Common.{◌≡◌, false}
-use Rattle.hol_proof_manager.specs.Managers.{IsManager}
+use Rattle.hol_script.specs.Managers.{IsManager}
 use Rattle.hol_explain.proofs.walk.explain_pieces.Given as goal
 
 abbrev pub invariant-loop : goal.invariant-loop

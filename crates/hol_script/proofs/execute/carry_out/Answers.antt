@@ -4,7 +4,7 @@ use Rattle.hol_grammar.specs.Steps.{flat_steps_of}
 use Rattle.hol_grammar.specs.Views.{steps_of}
 use Rattle.hol_command.specs.declared.command.Command.{Command}
 use Rattle.hol_command.specs.Views.{IsCommand}
-use Rattle.hol_session.specs.Answers.{session_tools}
+use Rattle.hol_proof_manager.specs.Session.{session_tools}
 use Rattle.hol_script.proofs.CommandTurns.{carried, carried-plainly}
 use Rattle.hol_script.proofs.execute.carry_out.Goals as goal
 

@@ -2,7 +2,7 @@ use Rattle.std.proofs.Common.{List, sym, subst, ap, ◌∙◌}
 use Rattle.hol_model.specs.Texts.Lexing.{Lexes}
 use Rattle.hol_grammar.specs.Views.{tokens_of}
 use Rattle.hol_command.proofs.ReadingLemmas.{tokens-lexed}
-use Rattle.hol_session.specs.Answers.{session_tools}
+use Rattle.hol_proof_manager.specs.Session.{session_tools}
 use Rattle.hol_proof_manager.specs.Managers.{state_of}
 use Rattle.hol_script.proofs.CommandTurns.{lacks_memory, unlexed, unread}
 use Rattle.hol_script.proofs.execute.execute.Goals as goal

@@ -1,4 +1,4 @@
-use Rattle.hol_session.specs.Answers.{session_tools}
+use Rattle.hol_proof_manager.specs.Session.{session_tools}
 use Rattle.hol_proof_manager.specs.Managers.{state_of}
 use Rattle.hol_script.proofs.CommandTurns.{lacks_memory}
 use Rattle.hol_script.proofs.progress.Progress.answer.Goals as goal

@@ -1,0 +1,3 @@
+-- What is said of managers, passed on from the crate below.
+pub use Rattle.hol_proof_manager.specs.Managers.{IsManager}
+pub use Rattle.hol_proof_manager.specs.Session.{IsAcceptedLog}
