@@ -1,5 +1,5 @@
 //! What refiner expressions and goal stacks run on, over a library: the conversions of expressions (hol_conv), by which the
-//! refiners without parts (hol_refine) convert, and the theorem of a goal by the replay of a finished proof (hol_replay).
+//! refiners without parts (hol_refine) convert, and the theorem of a goal by the replay of a finished proof (hol_goals).
 #![tactic(auto)]
 
 mod converting;
