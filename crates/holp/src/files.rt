@@ -1,9 +1,10 @@
 // What the commands do with the files that they name.
 ghost use Rattle.std.specs.Prelude.{◌≡◌, false};
 
+use crate::input::Input;
 use crate::laws::logs_are_checked;
 use crate::new_file::NewFile;
-use crate::script_file::{Asked, ScriptFile, open_script, path_of};
+use crate::script_file::{Asked, ScriptFile, open_script};
 use crate::status::status;
 use hol_bytes::read_all;
 use hol_check::{Claim, check, check_log, migrate, write_claims, write_entries};
@@ -17,12 +18,12 @@ use hol_script::{Summary, run};
 use hol_terms::Term;
 use std::alloc::Global;
 use std::fs::{self, File};
-use std::io::{self, Read, Write};
+use std::io::{self, Write};
 
 // The file of this name, to be read; `-` names standard input.
-fn open(rt: &HostRuntime, name: &str) -> Result<File, Fault> {
-    match fs::open(rt, path_of(name)) {
-        Ok(file) => Ok(file),
+fn open(rt: &HostRuntime, name: &str) -> Result<Input, Fault> {
+    match Input::open(rt, name) {
+        Ok(input) => Ok(input),
         Err(_) => Err(Fault::ReadFault),
     }
 }

@@ -2,6 +2,7 @@
 #![tactic(auto)]
 
 mod files;
+mod input;
 mod laws;
 mod new_file;
 mod script_file;

@@ -4,9 +4,9 @@ ghost use Rattle.std.specs.Fn.{CalledAtMut};
 ghost use Rattle.std.specs.Io.{ReadsAtMost};
 ghost use Rattle.std.specs.Io.KnownBytes.{ReadConsumes};
 
+use crate::input::Input;
 use hol_devices::ReadCall;
 use hol_model::{DeviceFail, Fault, Source};
-use std::fs::{self, File};
 use std::{fmt, io};
 
 /// How a script is run: the name of its file, where `-` names standard input, and whether standard error tells more of what
@@ -15,11 +15,6 @@ use std::{fmt, io};
 pub(crate) struct Asked<'a> {
     pub(crate) script: &'a str,
     pub(crate) explains: bool,
-}
-
-/// The path of a file that a command names; `-` names standard input.
-pub(crate) fn path_of(name: &str) -> &str {
-    if name == "-" { "/dev/stdin" } else { name }
 }
 
 /// The file of a script as a source, over the call that reads it. It fails only where the call does, or says that it put more
@@ -56,10 +51,10 @@ fn tell_reason(rt: &HostRuntime, asked: &Asked<'_>, reason: &io::Error) {
     }
 }
 
-/// Opens the file of a script (`ReadFault`).
-pub(crate) fn open_script(rt: &HostRuntime, asked: &Asked<'_>) -> Result<File, Fault> {
-    match fs::open(rt, path_of(asked.script)) {
-        Ok(file) => Ok(file),
+/// Opens the file of a script, or standard input (`ReadFault`).
+pub(crate) fn open_script(rt: &HostRuntime, asked: &Asked<'_>) -> Result<Input, Fault> {
+    match Input::open(rt, asked.script) {
+        Ok(input) => Ok(input),
         Err(reason) => {
             tell_reason(rt, asked, &reason);
             Err(Fault::ReadFault)
@@ -121,15 +116,9 @@ impl Source for ScriptFile<'_> {
 mod tests {
     use super::*;
 
-    #[test]
-    fn a_dash_names_standard_input(rt: HostRuntime) {
-        assert!(rt; path_of("-") == "/dev/stdin");
-        assert!(rt; path_of("first.hol") == "first.hol");
-    }
-
     // Whether this is told of a script that is not there.
     fn tells(rt: &HostRuntime, script: &str, line: &str) -> Result<bool, Fault> {
-        let Err(reason) = fs::open(rt, path_of(script)) else {
+        let Err(reason) = Input::open(rt, script) else {
             return Ok(false);
         };
         let mut told = String::new(rt.alloc());
