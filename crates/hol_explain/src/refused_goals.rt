@@ -5,7 +5,7 @@ ghost use Rattle.hol_script.specs.Managers.{IsManager};
 use crate::conversions::push_conversion;
 use crate::premises::{push_quoted, push_typed, quoted_term, stored_premise};
 use crate::quantifiers::push_types;
-use crate::search::{Found, Span, refused_part};
+use crate::search::{ALTERNATIVES, Found, Span, next_outside, refused_part};
 use crate::shapes::goal_wanted;
 use hol_host::Refiners;
 use hol_model::Fault;
@@ -62,7 +62,6 @@ fn push_wanted(
     let Some(wanted) = goal_wanted(word) else {
         return Ok(());
     };
-    text.push_str(": ")?;
     push_quoted(text, word)?;
     text.push_str(" wants ")?;
     text.push_str(wanted)?;
@@ -75,6 +74,34 @@ fn push_wanted(
         push_quoted(text, name)?;
         text.push_str(" is ")?;
         push_quoted(text, premise.text.as_str())?;
+    }
+    Ok(())
+}
+
+// Puts what the alternatives of a part want at the end, a part without alternatives being its only one.
+fn push_alternatives(
+    alloc: Global,
+    known: &Known,
+    manager: &Manager,
+    piece: &Piece<'_>,
+    span: Span,
+    text: &mut String,
+) -> Result<(), NoMemory>
+    requires { IsManager manager.now }
+{
+    let mut lead = ": ";
+    let mut rest = span;
+    for _ in 0..piece.words.len() {
+        if goal_wanted(piece.text(rest.from)).is_some() {
+            text.push_str(lead)?;
+            push_wanted(alloc, known, manager, piece, rest.from, text)?;
+            lead = "; ";
+        }
+        let joint = next_outside(piece, rest, ALTERNATIVES);
+        if joint >= rest.to {
+            break;
+        }
+        rest.from = joint.saturating_add(1);
     }
     Ok(())
 }
@@ -151,10 +178,6 @@ fn push_reason(
     requires { IsManager manager.now }
 {
     let from = found.span.from;
-    if *fault == Fault::BadShape || *fault == Fault::RefineFails {
-        push_wanted(alloc, known, manager, piece, from, text)?;
-        return Ok(from);
-    }
     let Some(conclusion) = conclusion(alloc, known, found.goals.as_str())? else {
         return Ok(from);
     };
@@ -207,6 +230,8 @@ fn at_part(
     if *fault == Fault::LengthMismatch {
         let subgoals = found.subgoals;
         write!(text, "; the number of subgoals is {subgoals}")?;
+    } else if *fault == Fault::BadShape || *fault == Fault::RefineFails {
+        push_alternatives(alloc, known, manager, piece, found.span, &mut text)?;
     } else if is_leaf(piece, found.span) {
         at = push_reason(alloc, known, manager, piece, found, fault, &mut text)?;
     }

@@ -36,6 +36,9 @@ struct Inside {
 
 const JOINTS: (&str, &str) = ("THEN", "THENL");
 
+/// What stands between alternatives.
+pub(crate) const ALTERNATIVES: (&str, &str) = ("ORELSE", "ORELSE");
+
 const MEMBER_ENDS: (&str, &str) = (";", "]");
 
 const CLOSING: (&str, &str) = (")", ")");
@@ -63,8 +66,8 @@ fn count(alloc: Global, manager: &Manager) -> Result<usize, NoMemory>
     Ok(count_of(goals.as_str()))
 }
 
-// The place in the list of the first of two words outside of all brackets, or the end of the part.
-fn next_outside(piece: &Piece<'_>, span: Span, words: (&str, &str)) -> usize {
+/// The place in the list of the first of two words outside of all brackets, or the end of the part.
+pub(crate) fn next_outside(piece: &Piece<'_>, span: Span, words: (&str, &str)) -> usize {
     let mut depth = 0usize;
     for at in span.from..span.to {
         let word = piece.text(at);

@@ -245,7 +245,7 @@ is `(p:bool) ?- (p:bool)`\n",
 ];
 
 // Texts that are no commands.
-const COMMANDS: [Row<'static>; 12] = [
+const COMMANDS: [Row<'static>; 14] = [
     Row {
         script: "frobnicate ;;",
         messages: "s:1:1: E28 Syntax: expected a command, found `frobnicate`; the words that could stand here are `thm`, `show`, `var`, `def`, `newtype`, `newconst`, \
@@ -255,6 +255,17 @@ const COMMANDS: [Row<'static>; 12] = [
         script: "(* a remark *) show TRUTH ;;",
         messages: "s:1:1: E28 Syntax: expected a command, found `(`; a script has no comments; the words that could stand here are `thm`, `show`, `var`, `def`, \
 `newtype`, `newconst`, `goal`, `e`, `b`, `r`, `p`, `save`\n",
+    },
+    Row {
+        script: "prove `T` ;;",
+        messages: "s:1:1: E28 Syntax: expected a command, found `prove`; in its place is written `goal`, then `e`, and `save` at the end; the words that could stand \
+here are `thm`, `show`, `var`, `def`, `newtype`, `newconst`, `goal`, `e`, `b`, `r`, `p`, `save`\n",
+    },
+    Row {
+        script: "e CONV_TAC (LAND_CONV BETA_CONV) ;;",
+        messages: "s:1:13: E28 Syntax: expected a conversion, found `LAND_CONV`; in its place is written `RATOR_CONV (RAND_CONV ..)`; the words that could stand here are \
+`ALL_CONV`, `NO_CONV`, `BETA_CONV`, `REWR_CONV`, `HOST`, `REPEATC`, `TRY_CONV`, `RAND_CONV`, `RATOR_CONV`, `ABS_CONV`, `SUB_CONV`, `DEPTH_CONV`, \
+`ONCE_DEPTH_CONV`, `TOP_DEPTH_CONV`, `(`\n",
     },
     Row {
         script: "e MP_TAC (SPEC `T` a) ;;",

@@ -26,8 +26,9 @@ goal there is `?- T`\n",
     },
     Row {
         script: "goal `T /\\ ((p:bool) ==> (q:bool))` ;;\ne CONJ_TAC THEN TRY DISCH_TAC THEN (ASSUMPTION_TAC ORELSE REFL_TAC) ;;\nb ;;",
-        messages: "s:2:37: E16 BadShape: a formula does not have the form that is wanted here; the first goal there is `?- T`\ns:3:1: E24 NothingToUndo: there is no `e` \
-or `r` behind the last `goal` to take back\n",
+        messages: "s:2:37: E16 BadShape: a formula does not have the form that is wanted here: `ASSUMPTION_TAC` wants a goal that is one of its assumptions; `REFL_TAC` \
+wants a goal `a = b` with alpha-equivalent sides; the first goal there is `?- T`\ns:3:1: E24 NothingToUndo: there is no `e` or `r` behind the last \
+`goal` to take back\n",
     },
 ];
 

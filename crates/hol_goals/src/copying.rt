@@ -7,31 +7,7 @@ ghost use Rattle.hol_just.specs.Steps.{goal_of, goals_of, step_of};
 
 use hol_just::{Goal, Step, sub};
 use hol_model::Fault;
-use hol_terms::Term;
 use std::alloc::Global;
-
-// The same terms.
-fn copied_terms(alloc: Global, terms: &[Term]) -> Result<Vec<Term>, Fault>
-    ensures ok { IfOk result (λ copies. copies.items ≡ terms.now) }
-    ensures err { IfErr result (λ fault. fault ≡ Memory) }
-{
-    let mut copies = Vec::new(alloc);
-    for term in terms {
-        copies.push(term.copy(alloc)?)?;
-    }
-    Ok(copies)
-}
-
-/// The same goal.
-pub(crate) fn copied_goal(alloc: Global, goal: &Goal) -> Result<Goal, Fault>
-    ensures ok { IfOk result (λ copy. goal_of copy ≡ goal_of goal.now) }
-    ensures err { IfErr result (λ fault. fault ≡ Memory) }
-{
-    Ok(Goal {
-        asms: copied_terms(alloc, &goal.asms)?,
-        concl: goal.concl.copy(alloc)?,
-    })
-}
 
 /// Puts copies of goals behind others.
 pub(crate) fn append_goals(alloc: Global, all: &mut Vec<Goal>, goals: &[Goal]) -> Result<(), Fault>
@@ -39,7 +15,7 @@ pub(crate) fn append_goals(alloc: Global, all: &mut Vec<Goal>, goals: &[Goal]) -
     ensures err { IfErr result (λ fault. fault ≡ Memory) }
 {
     for goal in goals {
-        all.push(copied_goal(alloc, goal)?)?;
+        all.push(goal.copy(alloc)?)?;
     }
     Ok(())
 }
@@ -50,7 +26,7 @@ fn untouched(alloc: Global, goal: &Goal) -> Result<Step, Fault>
     ensures err { IfErr result (λ fault. fault ≡ Memory) }
 {
     let mut goals = Vec::new(alloc);
-    goals.push(copied_goal(alloc, goal)?)?;
+    goals.push(goal.copy(alloc)?)?;
     Ok(Step {
         goals,
         just: sub(alloc, 0)?,

@@ -5,12 +5,31 @@ ghost use Rattle.hol_just.specs.Steps.{goal_of};
 ghost use Rattle.hol_host.specs.Host.{HostRefiners, no_host_refiners, equation_answered, step_answered};
 
 use hol_just::{Goal, Just, Step};
+use hol_model::Fault;
 use hol_terms::Term;
-use std::alloc::Global;
+use std::alloc::{AllocError, AllocFailed, Global};
 
-/// A host's function fails.
+/// A host's function fails. Each fault inside of it is such a failure, so that it may pass them on by `?`.
 #[derive(Clone, Copy, Debug, PartialEq, Eq)]
 pub struct HostFail;
+
+impl From<Fault> for HostFail {
+    fn from(_fault: Fault) -> HostFail {
+        HostFail
+    }
+}
+
+impl From<AllocError> for HostFail {
+    fn from(_error: AllocError) -> HostFail {
+        HostFail
+    }
+}
+
+impl<T: Drop> From<AllocFailed<T>> for HostFail {
+    fn from(_error: AllocFailed<T>) -> HostFail {
+        HostFail
+    }
+}
 
 /// Conversions under names. They may answer anything, and equal calls may answer differently.
 pub trait Converters {

@@ -9,22 +9,14 @@ use std::alloc::Global;
 
 /// `a = b` becomes `b = a`. Else it fails.
 pub fn swap(alloc: Global, term: &Term) -> Result<(Term, Just), HostFail> {
-    match swapped(alloc, term) {
-        Ok(Some(equal)) => Ok(equal),
-        Ok(None) => Err(HostFail),
-        Err(_) => Err(HostFail),
-    }
-}
-
-fn swapped(alloc: Global, term: &Term) -> Result<Option<(Term, Just)>, Fault> {
     let Some(sides) = dest_binary(term, "=") else {
-        return Ok(None);
+        return Err(HostFail);
     };
     let turned = mk_eq(alloc, sides.right, sides.left)?;
     let from_turned = turned_of(alloc, &turned)?;
     let from_term = turned_of(alloc, term)?;
     let just = step(alloc, Rule::DeductAntisym, &[from_turned, from_term])?;
-    Ok(Some((turned, just)))
+    Ok((turned, just))
 }
 
 // SYM of the assumption of the equation.

@@ -11,68 +11,44 @@ use std::alloc::Global;
 /// On `!x. p` the subgoal `p`, x with primes where a free variable of the goal has its name; on `p ==> q` the subgoal `q` with
 /// `p` assumed. Else it fails.
 pub fn peel(alloc: Global, goal: &Goal) -> Result<Step, HostFail> {
-    match peeled(alloc, goal) {
-        Ok(Some(step)) => Ok(step),
-        Ok(None) => Err(HostFail),
-        Err(_) => Err(HostFail),
+    if let Some(bound) = dest_forall(&goal.concl) {
+        return Ok(generalized(alloc, goal, bound.variable, bound.body)?);
     }
+    if let Some(sides) = dest_binary(&goal.concl, "==>") {
+        return Ok(discharged(alloc, goal, sides.left, sides.right)?);
+    }
+    Err(HostFail)
 }
 
 /// No subgoals, by CONTR of the goal over the assumption of `F`: no step of the goal, unless it assumes `F`.
 pub fn liar(alloc: Global, goal: &Goal) -> Result<Step, HostFail> {
-    match by_falsity(alloc, goal) {
-        Ok(step) => Ok(step),
-        Err(_) => Err(HostFail),
-    }
+    let assumed = step(alloc, Rule::Assume(falsity(alloc)?), &[])?;
+    Ok(by_contradiction(alloc, goal, assumed)?)
 }
 
 /// No subgoals, by CONTR of the goal over the first conjunct of the assumption of `F /\ F`.
 pub fn liar2(alloc: Global, goal: &Goal) -> Result<Step, HostFail> {
-    match by_twice_falsity(alloc, goal) {
-        Ok(step) => Ok(step),
-        Err(_) => Err(HostFail),
-    }
-}
-
-fn peeled(alloc: Global, goal: &Goal) -> Result<Option<Step>, Fault> {
-    if let Some(bound) = dest_forall(&goal.concl) {
-        return Ok(Some(generalized(alloc, goal, bound.variable, bound.body)?));
-    }
-    if let Some(sides) = dest_binary(&goal.concl, "==>") {
-        return Ok(Some(discharged(alloc, goal, sides.left, sides.right)?));
-    }
-    Ok(None)
+    let falsity = falsity(alloc)?;
+    let twice = conjunction(alloc, &falsity, &falsity)?;
+    let assumed = step(alloc, Rule::Assume(twice), &[])?;
+    let first = step(alloc, Rule::Conjunct1, &[assumed])?;
+    Ok(by_contradiction(alloc, goal, first)?)
 }
 
 // The body for a variable that is not free in the goal.
 fn generalized(alloc: Global, goal: &Goal, variable: &Term, body: &Term) -> Result<Step, Fault> {
     let fresh = fresh_variable(alloc, goal, variable)?;
     let body = vsubst(alloc, &[(fresh.copy(alloc)?, variable.copy(alloc)?)], body)?;
-    let asms = copies(alloc, &goal.asms)?;
     let just = step(alloc, Rule::Gen(fresh), &[sub(alloc, 0)?])?;
-    to_one(alloc, Goal { asms, concl: body }, just)
+    to_one(alloc, goal.with_concl(alloc, &body)?, just)
 }
 
 // The right side with the left one assumed, behind the other assumptions.
 fn discharged(alloc: Global, goal: &Goal, left: &Term, right: &Term) -> Result<Step, Fault> {
-    let mut asms = copies(alloc, &goal.asms)?;
-    asms.push(left.copy(alloc)?)?;
+    let mut subgoal = goal.with_concl(alloc, right)?;
+    subgoal.asms.push(left.copy(alloc)?)?;
     let just = step(alloc, Rule::Disch(left.copy(alloc)?), &[sub(alloc, 0)?])?;
-    let concl = right.copy(alloc)?;
-    to_one(alloc, Goal { asms, concl }, just)
-}
-
-fn by_falsity(alloc: Global, goal: &Goal) -> Result<Step, Fault> {
-    let assumed = step(alloc, Rule::Assume(falsity(alloc)?), &[])?;
-    by_contradiction(alloc, goal, assumed)
-}
-
-fn by_twice_falsity(alloc: Global, goal: &Goal) -> Result<Step, Fault> {
-    let falsity = falsity(alloc)?;
-    let twice = conjunction(alloc, &falsity, &falsity)?;
-    let assumed = step(alloc, Rule::Assume(twice), &[])?;
-    let first = step(alloc, Rule::Conjunct1, &[assumed])?;
-    by_contradiction(alloc, goal, first)
+    to_one(alloc, subgoal, just)
 }
 
 // The goal of a justification of `F`, without subgoals.
@@ -88,14 +64,6 @@ fn to_one(alloc: Global, goal: Goal, just: Just) -> Result<Step, Fault> {
     let mut goals = Vec::new(alloc);
     goals.push(goal)?;
     Ok(Step { goals, just })
-}
-
-fn copies(alloc: Global, terms: &[Term]) -> Result<Vec<Term>, Fault> {
-    let mut all = Vec::new(alloc);
-    for term in terms {
-        all.push(term.copy(alloc)?)?;
-    }
-    Ok(all)
 }
 
 // The variable, with as few primes as leave it a name that no free variable of the goal has.

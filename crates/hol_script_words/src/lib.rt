@@ -3,6 +3,7 @@
 #![tactic(auto)]
 
 mod command_words;
+mod habits;
 mod known;
 mod messages;
 mod no_memory;

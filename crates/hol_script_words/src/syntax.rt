@@ -3,6 +3,7 @@ use crate::command_words::{
     Argument, Choice, Form, is_prefix, is_repetition, of_command, of_conversion, of_refiner,
     of_rule, push_words,
 };
+use crate::habits::written_for;
 use crate::known::{Known, nearest};
 use crate::messages::Message;
 use crate::no_memory::NoMemory;
@@ -305,7 +306,27 @@ fn push_found(out: &mut String, piece: &Piece<'_>, at: usize, whole: &str) -> Re
     Ok(())
 }
 
-// Puts the words of a choice at the end, with the nearest to the one that stands there.
+// Puts what is written in the place of a word of HOL Light at the end, or the nearest of these words.
+fn push_better(
+    alloc: Global,
+    words: &[String],
+    found: &str,
+    out: &mut String,
+) -> Result<(), NoMemory> {
+    if let Some(written) = written_for(found) {
+        out.push_str("; in its place is written ")?;
+        out.push_str(written)?;
+        return Ok(());
+    }
+    if let Some(word) = nearest(alloc, words, &[], found)? {
+        out.push_str("; the nearest known word is `")?;
+        out.push_str(word)?;
+        out.push_str("`")?;
+    }
+    Ok(())
+}
+
+// Puts the words of a choice at the end, behind what is better than the one that stands there.
 fn push_choice(
     alloc: Global,
     known: &Known,
@@ -315,11 +336,7 @@ fn push_choice(
 ) -> Result<(), NoMemory> {
     let mut words = Vec::new(alloc);
     push_words(alloc, &mut words, choice, &known.types)?;
-    if let Some(word) = nearest(alloc, &words, &[], found)? {
-        out.push_str("; the nearest known word is `")?;
-        out.push_str(word)?;
-        out.push_str("`")?;
-    }
+    push_better(alloc, &words, found, out)?;
     out.push_str("; the words that could stand here are")?;
     for at in 0..words.len() {
         out.push_str(if at == 0 { " `" } else { ", `" })?;

@@ -4,7 +4,7 @@ ghost use Rattle.std.specs.Prelude.{◌≡◌, false};
 use crate::input::Input;
 use crate::laws::logs_are_checked;
 use crate::new_file::NewFile;
-use crate::script_file::{Asked, ScriptFile, open_script};
+use crate::script_file::{Asked, ScriptFile};
 use crate::status::status;
 use hol_bytes::read_all;
 use hol_check::{Claim, check, check_log, migrate, write_claims, write_entries};
@@ -107,9 +107,9 @@ fn run_explained<R: Source, W: Sink, L: Sink>(
 /// Runs a script, and answers how many of its commands were refused.
 pub(crate) fn run_file(rt: &HostRuntime, asked: &Asked<'_>) -> Result<u64, Fault> {
     let alloc = rt.alloc();
-    let mut script = open_script(rt, asked)?;
+    let mut script = ScriptFile::open(rt, asked)?;
     let reads = Box::new(alloc, move |buf: &mut [u8]| script.read(buf))?;
-    let mut reader = ScriptFile::new(rt, asked, reads);
+    let mut reader = FromCall::new(reads);
     let mut output = rt.stdout();
     let writes = Box::new(alloc, move |piece: &[u8]| output.write(piece))?;
     let mut writer = IntoCall::new(writes);
@@ -138,9 +138,9 @@ pub(crate) fn run_file_with_log(
 ) -> Result<u64, Fault> {
     logs_are_checked();
     let alloc = rt.alloc();
-    let mut script = open_script(rt, asked)?;
+    let mut script = ScriptFile::open(rt, asked)?;
     let reads = Box::new(alloc, move |buf: &mut [u8]| script.read(buf))?;
-    let mut reader = ScriptFile::new(rt, asked, reads);
+    let mut reader = FromCall::new(reads);
     let mut file = create(rt, log)?;
     let logs = Box::new(alloc, move |piece: &[u8]| file.write(piece))?;
     let mut log = IntoCall::new(logs);

@@ -1,13 +1,10 @@
 // The file of a script, which can tell why it is not read.
-ghost use Rattle.std.specs.Prelude.{◌≡◌, ◌⊎◌, ◌<◌, ◌||◌, length, false, None, Ok, Err, is_err, IfOk, OnErr};
-ghost use Rattle.std.specs.Fn.{CalledAtMut};
-ghost use Rattle.std.specs.Io.{ReadsAtMost};
-ghost use Rattle.std.specs.Io.KnownBytes.{ReadConsumes};
 
 use crate::input::Input;
-use hol_devices::ReadCall;
-use hol_model::{DeviceFail, Fault, Source};
-use std::{fmt, io};
+use hol_model::Fault;
+use std::fmt;
+use std::io::{self, Write};
+use std::rt::Stderr;
 
 /// How a script is run: the name of its file, where `-` names standard input, and whether standard error tells more of what
 /// is refused.
@@ -17,15 +14,13 @@ pub(crate) struct Asked<'a> {
     pub(crate) explains: bool,
 }
 
-/// The file of a script as a source, over the call that reads it. It fails only where the call does, or says that it put more
-/// than the buffer has room for.
+/// The file of a script, or standard input. Where refusals are to be explained, it tells on standard error why it is not read,
+/// which takes no part in how the run ends.
 #[derive(Drop)]
-pub struct ScriptFile<'a> {
-    rt: &'a HostRuntime,
-    asked: Asked<'a>,
-    call: ReadCall,
-    failed: bool,
-    ghost callable: { ReadCall.IsAlwaysCallable call },
+pub(crate) struct ScriptFile {
+    input: Input,
+    name: String,
+    told: Option<Stderr>,
 }
 
 // The line that tells why the file of a script is not read: its name and the system's reason.
@@ -41,74 +36,41 @@ impl fmt::Display for Unread<'_> {
     }
 }
 
-// Where refusals are to be explained, tells on standard error the name of the script's file and the system's reason. The
-// message takes no part in how the run ends.
-fn tell_reason(rt: &HostRuntime, asked: &Asked<'_>, reason: &io::Error) {
-    if asked.explains {
-        let script = asked.script;
+// Tells, where it is asked for, why the file of a script is not read.
+fn tell_reason(told: Option<Stderr>, script: &str, reason: &io::Error) {
+    if let Some(mut output) = told {
         let unread = Unread { script, reason };
-        let _ = eprintln!(rt; "{unread}");
+        let _ = writeln!(output, "{unread}");
     }
 }
 
-/// Opens the file of a script, or standard input (`ReadFault`).
-pub(crate) fn open_script(rt: &HostRuntime, asked: &Asked<'_>) -> Result<Input, Fault> {
-    match Input::open(rt, asked.script) {
-        Ok(input) => Ok(input),
-        Err(reason) => {
-            tell_reason(rt, asked, &reason);
-            Err(Fault::ReadFault)
-        }
-    }
-}
-
-impl ScriptFile<'_> {
-    /// The source over a call, which may be called on any buffer.
-    pub(crate) fn new<'a>(rt: &'a HostRuntime, asked: &Asked<'a>, call: ReadCall) -> ScriptFile<'a>
-        requires callable { ReadCall.IsAlwaysCallable call }
-        ensures call { result.call ≡ call }
-        ensures unfailed { result.failed ≡ false }
-    {
-        ScriptFile {
-            rt,
-            asked: *asked,
-            call,
-            failed: false,
-        }
-    }
-}
-
-impl Source for ScriptFile<'_> {
-    ghost has_failed = { λ s. s.failed };
-
-    // One call, and its answer; but a number past the buffer is a failure.
-    fn pull(&mut self, buf: &mut [u8]) -> Result<usize, DeviceFail>
-        ensures bound { ReadsAtMost result buf.new }
-        ensures bytes { ReadConsumes None None result buf.new }
-        ensures failure { self.new.failed ≡ (self.old.failed || is_err result) }
-        ensures gives { IfOk result (λ count. CalledAtMut ReadCall.FnMut self.old.call buf.old (Ok count) self.new.call buf.new) }
-        ensures fails { OnErr result
-            (((reason : _) × CalledAtMut ReadCall.FnMut self.old.call buf.old (Err reason) self.new.call buf.new)
-            ⊎ ((count : _) × (length buf.new < count) × CalledAtMut ReadCall.FnMut self.old.call buf.old (Ok count) self.new.call buf.new)) }
-    {
-        match (self.call)(buf) {
-            Ok(count) => {
-                if count > buf.len() {
-                    self.failed = true;
-                    return Err(DeviceFail);
-                }
-                Ok(count)
-            }
+impl ScriptFile {
+    /// Opens the file of a script, or standard input (`ReadFault`).
+    pub(crate) fn open(rt: &HostRuntime, asked: &Asked<'_>) -> Result<ScriptFile, Fault> {
+        let told = if asked.explains {
+            Some(rt.stderr())
+        } else {
+            None
+        };
+        let name = String::from_str(rt.alloc(), asked.script)?;
+        match Input::open(rt, asked.script) {
+            Ok(input) => Ok(ScriptFile { input, name, told }),
             Err(reason) => {
-                self.failed = true;
-                tell_reason(self.rt, &self.asked, &reason);
-                Err(DeviceFail)
+                tell_reason(told, asked.script, &reason);
+                Err(Fault::ReadFault)
             }
         }
     }
 
-    fn failed(&self) -> bool {
-        self.failed
+    /// Reads as what it is reads.
+    pub(crate) fn read(&mut self, buf: &mut [u8]) -> io::Result<usize> {
+        match self.input.read(buf) {
+            Ok(count) => Ok(count),
+            Err(reason) => {
+                tell_reason(self.told, self.name.as_str(), &reason);
+                Err(reason)
+            }
+        }
     }
 }
 
@@ -142,6 +104,6 @@ mod tests {
             script: "no/such/script.hol",
             explains: false,
         };
-        assert!(rt; matches!(open_script(&rt, &asked), Err(Fault::ReadFault)));
+        assert!(rt; matches!(ScriptFile::open(&rt, &asked), Err(Fault::ReadFault)));
     }
 }
