@@ -21,7 +21,8 @@ use Rattle.hol_tactic_grammar.specs.declared.conversion_words.Single.{Single}
 use Rattle.hol_tactic_grammar.specs.declared.conversion_words.Single.TheVariants.{All, No, Beta, Rewr, Host}
 use Rattle.hol_tactic_grammar.specs.ConversionWords.{conversional_of, prefix_of_word, single_word, single_of_word}
 use Rattle.hol_tactic_grammar.specs.Tokens.{behind, IsAt, ReadsName}
-use Rattle.hol_tactic_grammar.specs.Conversions.{Without, IsUnit, IsNoUnit, IsChoice, IsNoChoice, Ends, IsWhole, IsNoWhole, Reaches, ReadsUnit, ReadsChoice, ReadsWhole}
+use Rattle.hol_tactic_grammar.specs.Conversions.{Without, IsUnit, IsNoUnit, IsChoice, IsNoChoice, Ends, IsWhole, IsNoWhole, Reaches, ReadsUnit}
+use Rattle.hol_tactic_grammar.specs.OpenConversions.{listed, joined, choice_behind, whole_behind, Choice, MeantChoice, IsChoicePart, Whole, MeantWhole, IsWholePart}
 
 -- ---- words
 
@@ -307,11 +308,6 @@ enclosed-too-deep tokens inner begins = enclosed-none 0 tokens inner begins (λ 
 
 -- ---- chains
 
--- what was read of a chain, before the others
-abbrev pub listed : List Conversion → Conversions → Conversions
-listed [] others = others
-listed (meaning ∷ meanings) others = conversions.more meaning (listed meanings others)
-
 listed-more : (meanings : List Conversion) (meaning : Conversion) (others : Conversions) → listed (meanings ++ meaning ∷ []) others ≡ listed meanings (conversions.more meaning others)
 listed-more [] meaning others = refl
 listed-more (first ∷ meanings) meaning others = ap (conversions.more first) (listed-more meanings meaning others)
@@ -320,234 +316,216 @@ listed-all : (meanings : List Conversion) → listed meanings conversions.no_mor
 listed-all [] = refl
 listed-all (first ∷ meanings) = ap (conversions.more first) (listed-all meanings)
 
+joined-more : (make : Conversion → Conversions → Conversion) (taken : List Conversion) (meaning first : Conversion) (others : Conversions)
+    → joined make (taken ++ meaning ∷ []) first others ≡ joined make taken meaning (conversions.more first others)
+joined-more make [] meaning first others = refl
+joined-more make (known ∷ taken) meaning first others = ap (make known) (listed-more taken meaning (conversions.more first others))
+
+joined-all : (make : Conversion → Conversions → Conversion) (taken : List Conversion) (meaning first : Conversion) (others : List Conversion) → first ∷ others ≡ taken ++ meaning ∷ []
+    → make first (all_conversions others) ≡ joined make taken meaning conversions.no_more
+joined-all make [] meaning first others same =
+    let both : first ∷ others ≡ meaning ∷ [] = same in
+    let one : first ≡ meaning = cc in
+    let none : others ≡ [] = cc in
+    ap (λ (m : Conversion). make m (all_conversions others)) one ∙ ap (λ (ms : List Conversion). make meaning (all_conversions ms)) none
+joined-all make (known ∷ taken) meaning first others same =
+    let both : first ∷ others ≡ known ∷ (taken ++ meaning ∷ []) = same in
+    let one : first ≡ known = cc in
+    let more : others ≡ taken ++ meaning ∷ [] = cc in
+    ap (λ (m : Conversion). make m (all_conversions others)) one ∙ ap (λ (ms : List Conversion). make known (all_conversions ms)) more
+    ∙ ap (make known) (sym (listed-all (taken ++ meaning ∷ [])) ∙ listed-more taken meaning conversions.no_more)
+
+mapped : (taken : List Conv) (conv : Conv) → map conversion_of (taken ++ conv ∷ []) ≡ map conversion_of taken ++ conversion_of conv ∷ []
+mapped [] conv = refl
+mapped (first ∷ taken) conv = ap (λ (ms : List Conversion). conversion_of first ∷ ms) (mapped taken conv)
+
+-- what is made of parts, of which the last was put behind the others
+pub made-of : (make : Conversion → Conversions → Conversion) (taken others : List Conv) (conv first : Conv) → first ∷ others ≡ taken ++ conv ∷ []
+    → make (conversion_of first) (conversions_of others) ≡ joined make (map conversion_of taken) (conversion_of conv) conversions.no_more
+made-of make taken others conv first all =
+    joined-all make (map conversion_of taken) (conversion_of conv) (conversion_of first) (map conversion_of others) (ap (map conversion_of) all ∙ mapped taken conv)
+
 -- ---- chains of ORELSEC
 
-record Choice (room : ℕ) (tokens rest : List Token) (meaning : Conversion) : Type 0 where
-  tree : ConversionChoice
-  nested : choice_depth tree ≤ room
-  spelled : tokens ≡ choice_tokens tree rest
-  means : meaning ≡ conversion_of_choice tree
-
-record Others (room : ℕ) (tokens rest : List Token) : Type 0 where
-  others : OtherConversions
-  nested : other_depth others ≤ room
-  spelled : tokens ≡ other_tokens others rest
-
--- whatever others follow complete the chain, and whatever chain the tokens are goes on with others
-pub record IsChoiceFront (room : ℕ) (tokens left : List Token) (first : Conversion) (taken : List Conversion) : Type 0 where
-  completes : (others : OtherConversions) (rest : List Token) → other_depth others ≤ room → left ≡ other_tokens others rest
-      → Choice room tokens rest (either first (listed taken (other_conversions others)))
-  goes : (tree : ConversionChoice) (rest : List Token) → choice_depth tree ≤ room → Without (codes "ORELSEC") rest → tokens ≡ choice_tokens tree rest → Others room left rest
-
-pub choice-begun : (room : ℕ) (tokens left : List Token) (first : Conversion) → IsUnit room tokens left first → IsChoiceFront room tokens left first []
-choice-begun room tokens left first read = record { completes = completes; goes = goes }
+pub choice-begun : (room : ℕ) (tokens : List Token) → IsChoicePart room tokens tokens []
+choice-begun room tokens = record { completes = completes; goes = goes }
   where
-    completes : (others : OtherConversions) (rest : List Token) → other_depth others ≤ room → left ≡ other_tokens others rest
-        → Choice room tokens rest (either first (listed [] (other_conversions others)))
-    completes others rest within same = record {
-      tree = orelsec_chain read.tree others;
-      nested = max-le read.nested within;
-      spelled = read.spelled ∙ ap (unit_tokens read.tree) same;
-      means = ap (λ (m : Conversion). either m (other_conversions others)) read.means;
-    }
+    completes : (tree : ConversionChoice) (rest : List Token) → choice_depth tree ≤ room → tokens ≡ choice_tokens tree rest → MeantChoice room tokens rest (choice_behind [] tree)
+    completes (orelsec_chain first others) rest within same = record { tree = orelsec_chain first others; nested = within; spelled = same; means = refl }
 
-    goes : (tree : ConversionChoice) (rest : List Token) → choice_depth tree ≤ room → Without (codes "ORELSEC") rest → tokens ≡ choice_tokens tree rest → Others room left rest
-    goes (orelsec_chain unit others) rest within none same = record {
-      others = others;
-      nested = omega (arith, within, le-max_right (unit_depth unit) (other_depth others));
-      spelled = sym (read.only unit (other_tokens others rest) (omega (arith, within, le-max_left (unit_depth unit) (other_depth others))) same);
-    }
+    goes : (tree : ConversionChoice) (rest : List Token) → choice_depth tree ≤ room → Without (codes "ORELSEC") rest → tokens ≡ choice_tokens tree rest → Choice room tokens rest
+    goes tree rest within none same = record { tree = tree; nested = within; spelled = same }
 
-pub choice-taken : (room : ℕ) (tokens left inner behind : List Token) (first meaning : Conversion) (taken more : List Conversion) → more ≡ taken ++ meaning ∷ []
-    → IsChoiceFront room tokens left first taken
-    → left ≡ Name (codes "ORELSEC") ∷ inner → IsUnit room inner behind meaning → IsChoiceFront room tokens behind first more
-choice-taken room tokens left inner behind first meaning taken more added front begins read = record { completes = completes; goes = goes }
+choice-more : (room : ℕ) (tokens left further inner : List Token) (meaning : Conversion) (taken more : List Conversion) → more ≡ taken ++ meaning ∷ []
+    → IsChoicePart room tokens left taken → IsUnit room left further meaning → further ≡ Name (codes "ORELSEC") ∷ inner → IsChoicePart room tokens inner more
+choice-more room tokens left further inner meaning taken more added part read begins = record { completes = completes; goes = goes }
   where
-    completes : (others : OtherConversions) (rest : List Token) → other_depth others ≤ room → behind ≡ other_tokens others rest
-        → Choice room tokens rest (either first (listed more (other_conversions others)))
-    completes others rest within same =
-        let known = front.completes (orelsec read.tree others) rest (max-le read.nested within)
-        (begins ∙ ap (λ (ts : List Token). Name (codes "ORELSEC") ∷ ts) (read.spelled ∙ ap (unit_tokens read.tree) same)) in
-        let list : listed more (other_conversions others) ≡ listed taken (other_conversions (orelsec read.tree others)) =
-        ap (λ (ms : List Conversion). listed ms (other_conversions others)) added ∙ listed-more taken meaning (other_conversions others)
-        ∙ ap (λ (m : Conversion). listed taken (conversions.more m (other_conversions others))) read.means in
-        record { tree = known.tree; nested = known.nested; spelled = known.spelled; means = ap (either first) list ∙ known.means }
+    completes : (tree : ConversionChoice) (rest : List Token) → choice_depth tree ≤ room → inner ≡ choice_tokens tree rest → MeantChoice room tokens rest (choice_behind more tree)
+    completes (orelsec_chain first others) rest within same =
+        let known = part.completes (orelsec_chain read.tree (orelsec first others)) rest (max-le read.nested within)
+        (read.spelled ∙ ap (unit_tokens read.tree) (begins ∙ ap (λ (ts : List Token). Name (codes "ORELSEC") ∷ ts) same)) in
+        let list : joined either more (conversion_of_unit first) (other_conversions others)
+        ≡ joined either taken (conversion_of_unit read.tree) (conversions.more (conversion_of_unit first) (other_conversions others)) =
+        ap (λ (ms : List Conversion). joined either ms (conversion_of_unit first) (other_conversions others)) added
+        ∙ joined-more either taken meaning (conversion_of_unit first) (other_conversions others)
+        ∙ ap (λ (m : Conversion). joined either taken m (conversions.more (conversion_of_unit first) (other_conversions others))) read.means in
+        record { tree = known.tree; nested = known.nested; spelled = known.spelled; means = list ∙ known.means }
 
-    goes : (tree : ConversionChoice) (rest : List Token) → choice_depth tree ≤ room → Without (codes "ORELSEC") rest → tokens ≡ choice_tokens tree rest → Others room behind rest
-    goes tree rest within none same = go known.others known.nested known.spelled
+    goes : (tree : ConversionChoice) (rest : List Token) → choice_depth tree ≤ room → Without (codes "ORELSEC") rest → tokens ≡ choice_tokens tree rest → Choice room inner rest
+    goes tree rest within none same = go known.tree known.nested known.spelled
       where
-        known : Others room left rest
-        known = front.goes tree rest within none same
+        known : Choice room left rest
+        known = part.goes tree rest within none same
 
-        go : (others : OtherConversions) → other_depth others ≤ room → left ≡ other_tokens others rest → Others room behind rest
-        go no_more_orelsec small is = absurd (none inner (sym is ∙ begins))
-        go (orelsec unit others) small is =
-            let both : Name (codes "ORELSEC") ∷ inner ≡ Name (codes "ORELSEC") ∷ unit_tokens unit (other_tokens others rest) = sym begins ∙ is in
-            let further : inner ≡ unit_tokens unit (other_tokens others rest) = cc in
+        go : (tree : ConversionChoice) → choice_depth tree ≤ room → left ≡ choice_tokens tree rest → Choice room inner rest
+        go (orelsec_chain unit no_more_orelsec) small is =
+            absurd (none inner (read.only unit rest (omega (arith, small, le-max_left (unit_depth unit) (other_depth no_more_orelsec))) is ∙ begins))
+        go (orelsec_chain unit (orelsec second others)) small is =
+            let next : Name (codes "ORELSEC") ∷ unit_tokens second (other_tokens others rest) ≡ further =
+            read.only unit (other_tokens (orelsec second others) rest) (omega (arith, small, le-max_left (unit_depth unit) (other_depth (orelsec second others)))) is in
+            let both : Name (codes "ORELSEC") ∷ unit_tokens second (other_tokens others rest) ≡ Name (codes "ORELSEC") ∷ inner = next ∙ begins in
+            let onward : inner ≡ unit_tokens second (other_tokens others rest) = cc in
             record {
-              others = others;
-              nested = omega (arith, small, le-max_right (unit_depth unit) (other_depth others));
-              spelled = sym (read.only unit (other_tokens others rest) (omega (arith, small, le-max_left (unit_depth unit) (other_depth others))) further);
+              tree = orelsec_chain second others;
+              nested = omega (arith, small, le-max_right (unit_depth unit) (other_depth (orelsec second others)));
+              spelled = onward;
             }
 
-pub choice-ended : (room : ℕ) (tokens left : List Token) (first meaning : Conversion) (taken : List Conversion) → IsChoiceFront room tokens left first taken → Without (codes "ORELSEC") left
-    → meaning ≡ either first (all_conversions taken) → IsChoice room tokens left meaning
-choice-ended room tokens left first meaning taken front ended means = record {
+pub choice-goes-on : (room : ℕ) (tokens left further inner : List Token) (taken more : List Conv) (conv : Conv) → more ≡ taken ++ conv ∷ []
+    → IsChoicePart room tokens left (map conversion_of taken) → IsUnit room left further (conversion_of conv) → further ≡ Name (codes "ORELSEC") ∷ inner
+    → IsChoicePart room tokens inner (map conversion_of more)
+choice-goes-on room tokens left further inner taken more conv added part read begins =
+    choice-more room tokens left further inner (conversion_of conv) (map conversion_of taken) (map conversion_of more) (ap (map conversion_of) added ∙ mapped taken conv) part read begins
+
+pub choice-ended : (room : ℕ) (tokens left further : List Token) (meaning made : Conversion) (taken : List Conversion) → IsChoicePart room tokens left taken → IsUnit room left further meaning
+    → Without (codes "ORELSEC") further → made ≡ joined either taken meaning conversions.no_more → IsChoice room tokens further made
+choice-ended room tokens left further meaning made taken part read ended is = record {
   tree = known.tree;
   nested = known.nested;
   spelled = known.spelled;
-  means = means ∙ ap (either first)
-      (sym (listed-all taken)) ∙ known.means;
+  means = is ∙ ap (λ (m : Conversion). joined either taken m conversions.no_more) read.means ∙ known.means;
   only = only;
 }
   where
-    known : Choice room tokens left (either first (listed taken conversions.no_more))
-    known = front.completes no_more_orelsec left (omega arith) refl
+    none_left : other_depth no_more_orelsec ≤ room
+    none_left = omega arith
 
-    go : (others : OtherConversions) (rest : List Token) → left ≡ other_tokens others rest → rest ≡ left
-    go no_more_orelsec rest is = sym is
-    go (orelsec unit others) rest is = absurd (ended _ is)
+    known : MeantChoice room tokens further (joined either taken (conversion_of_unit read.tree) conversions.no_more)
+    known = part.completes (orelsec_chain read.tree no_more_orelsec) further (max-le read.nested none_left) read.spelled
 
-    only : (other : ConversionChoice) (rest : List Token) → choice_depth other ≤ room → Without (codes "ORELSEC") rest → tokens ≡ choice_tokens other rest → rest ≡ left
-    only other rest within none same = (let others = front.goes other rest within none same in go others.others rest others.spelled)
+    go : (tree : ConversionChoice) (rest : List Token) → choice_depth tree ≤ room → left ≡ choice_tokens tree rest → rest ≡ further
+    go (orelsec_chain unit no_more_orelsec) rest small is = read.only unit rest (omega (arith, small, le-max_left (unit_depth unit) (other_depth no_more_orelsec))) is
+    go (orelsec_chain unit (orelsec second others)) rest small is =
+        let next : Name (codes "ORELSEC") ∷ unit_tokens second (other_tokens others rest) ≡ further =
+        read.only unit (other_tokens (orelsec second others) rest) (omega (arith, small, le-max_left (unit_depth unit) (other_depth (orelsec second others)))) is in
+        absurd (ended (unit_tokens second (other_tokens others rest)) (sym next))
 
-pub choice-broken : (room : ℕ) (tokens left inner : List Token) (first : Conversion) (taken : List Conversion) → IsChoiceFront room tokens left first taken
-    → left ≡ Name (codes "ORELSEC") ∷ inner → IsNoUnit room inner
-    → IsNoChoice room tokens
-choice-broken room tokens left inner first taken front begins refused tree rest within none same = go known.others known.nested known.spelled
+    only : (other : ConversionChoice) (rest : List Token) → choice_depth other ≤ room → Without (codes "ORELSEC") rest → tokens ≡ choice_tokens other rest → rest ≡ further
+    only other rest within none same = (let others = part.goes other rest within none same in go others.tree rest others.nested others.spelled)
+
+pub choice-refused : (room : ℕ) (tokens left : List Token) (taken : List Conversion) → IsChoicePart room tokens left taken → IsNoUnit room left → IsNoChoice room tokens
+choice-refused room tokens left taken part refused tree rest within none same = go known.tree known.nested known.spelled
   where
-    known : Others room left rest
-    known = front.goes tree rest within none same
+    known : Choice room left rest
+    known = part.goes tree rest within none same
 
-    go : (others : OtherConversions) → other_depth others ≤ room → left ≡ other_tokens others rest → ⊥
-    go no_more_orelsec small is = none inner (sym is ∙ begins)
-    go (orelsec unit others) small is =
-        let both : Name (codes "ORELSEC") ∷ inner ≡ Name (codes "ORELSEC") ∷ unit_tokens unit (other_tokens others rest) = sym begins ∙ is in
-        let further : inner ≡ unit_tokens unit (other_tokens others rest) = cc in
-        refused unit (other_tokens others rest) (omega (arith, small, le-max_left (unit_depth unit) (other_depth others))) further
-
-pub choice-refused : (room : ℕ) (tokens : List Token) → IsNoUnit room tokens → IsNoChoice room tokens
-choice-refused room tokens refused = go
-  where
-    go : IsNoChoice room tokens
-    go (orelsec_chain unit others) rest within none same = refused unit (other_tokens others rest) (omega (arith, within, le-max_left (unit_depth unit) (other_depth others))) same
+    go : (tree : ConversionChoice) → choice_depth tree ≤ room → left ≡ choice_tokens tree rest → ⊥
+    go (orelsec_chain unit others) small is = refused unit (other_tokens others rest) (omega (arith, small, le-max_left (unit_depth unit) (other_depth others))) is
 
 -- ---- chains of THENC
-
-record Whole (room : ℕ) (tokens rest : List Token) (meaning : Conversion) : Type 0 where
-  tree : grammar.Conversion
-  nested : conversion_depth tree ≤ room
-  spelled : tokens ≡ conversion_tokens tree rest
-  means : meaning ≡ tools.conversion_of tree
-
-record Further (room : ℕ) (tokens rest : List Token) : Type 0 where
-  further : FurtherConversions
-  nested : further_depth further ≤ room
-  spelled : tokens ≡ further_tokens further rest
-
--- whatever follows completes the chain, and whatever chain the tokens are goes on with what follows
-pub record IsWholeFront (room : ℕ) (tokens left : List Token) (first : Conversion) (taken : List Conversion) : Type 0 where
-  completes : (further : FurtherConversions) (rest : List Token) → further_depth further ≤ room → left ≡ further_tokens further rest
-      → Whole room tokens rest (in_order first (listed taken (further_conversions further)))
-  goes : (tree : grammar.Conversion) (rest : List Token) → conversion_depth tree ≤ room → Ends rest → tokens ≡ conversion_tokens tree rest → Further room left rest
 
 further-without : (further : FurtherConversions) (rest : List Token) → Ends rest → Without (codes "ORELSEC") (further_tokens further rest)
 further-without no_more_thenc rest ends = ends.else
 further-without (thenc choice further) rest ends = λ others same. cc
 
-pub whole-begun : (room : ℕ) (tokens left : List Token) (first : Conversion) → IsChoice room tokens left first → IsWholeFront room tokens left first []
-whole-begun room tokens left first read = record { completes = completes; goes = goes }
+pub whole-begun : (room : ℕ) (tokens : List Token) → IsWholePart room tokens tokens []
+whole-begun room tokens = record { completes = completes; goes = goes }
   where
-    completes : (further : FurtherConversions) (rest : List Token) → further_depth further ≤ room → left ≡ further_tokens further rest
-        → Whole room tokens rest (in_order first (listed [] (further_conversions further)))
-    completes further rest within same = record {
-      tree = thenc_chain read.tree further;
-      nested = max-le read.nested within;
-      spelled = read.spelled ∙ ap (choice_tokens read.tree) same;
-      means = ap (λ (m : Conversion). in_order m (further_conversions further)) read.means;
-    }
+    completes : (tree : grammar.Conversion) (rest : List Token) → conversion_depth tree ≤ room → tokens ≡ conversion_tokens tree rest → MeantWhole room tokens rest (whole_behind [] tree)
+    completes (thenc_chain first further) rest within same = record { tree = thenc_chain first further; nested = within; spelled = same; means = refl }
 
-    goes : (tree : grammar.Conversion) (rest : List Token) → conversion_depth tree ≤ room → Ends rest → tokens ≡ conversion_tokens tree rest → Further room left rest
-    goes (thenc_chain choice further) rest within ends same = record {
-      further = further;
-      nested = omega (arith, within, le-max_right (choice_depth choice) (further_depth further));
-      spelled = sym (read.only choice (further_tokens further rest) (omega (arith, within, le-max_left (choice_depth choice) (further_depth further))) (further-without further rest ends) same);
-    }
+    goes : (tree : grammar.Conversion) (rest : List Token) → conversion_depth tree ≤ room → Ends rest → tokens ≡ conversion_tokens tree rest → Whole room tokens rest
+    goes tree rest within ends same = record { tree = tree; nested = within; spelled = same }
 
-pub whole-taken : (room : ℕ) (tokens left inner behind : List Token) (first meaning : Conversion) (taken more : List Conversion) → more ≡ taken ++ meaning ∷ []
-    → IsWholeFront room tokens left first taken
-    → left ≡ Name (codes "THENC") ∷ inner → IsChoice room inner behind meaning → IsWholeFront room tokens behind first more
-whole-taken room tokens left inner behind first meaning taken more added front begins read = record { completes = completes; goes = goes }
+whole-more : (room : ℕ) (tokens left further inner : List Token) (meaning : Conversion) (taken more : List Conversion) → more ≡ taken ++ meaning ∷ []
+    → IsWholePart room tokens left taken → IsChoice room left further meaning → further ≡ Name (codes "THENC") ∷ inner → IsWholePart room tokens inner more
+whole-more room tokens left further inner meaning taken more added part read begins = record { completes = completes; goes = goes }
   where
-    completes : (further : FurtherConversions) (rest : List Token) → further_depth further ≤ room → behind ≡ further_tokens further rest
-        → Whole room tokens rest (in_order first (listed more (further_conversions further)))
-    completes further rest within same =
-        let known = front.completes (thenc read.tree further) rest (max-le read.nested within)
-        (begins ∙ ap (λ (ts : List Token). Name (codes "THENC") ∷ ts) (read.spelled ∙ ap (choice_tokens read.tree) same)) in
-        let list : listed more (further_conversions further) ≡ listed taken (further_conversions (thenc read.tree further)) =
-        ap (λ (ms : List Conversion). listed ms (further_conversions further)) added ∙ listed-more taken meaning (further_conversions further)
-        ∙ ap (λ (m : Conversion). listed taken (conversions.more m (further_conversions further))) read.means in
-        record { tree = known.tree; nested = known.nested; spelled = known.spelled; means = ap (in_order first) list ∙ known.means }
+    completes : (tree : grammar.Conversion) (rest : List Token) → conversion_depth tree ≤ room → inner ≡ conversion_tokens tree rest → MeantWhole room tokens rest (whole_behind more tree)
+    completes (thenc_chain first others) rest within same =
+        let known = part.completes (thenc_chain read.tree (thenc first others)) rest (max-le read.nested within)
+        (read.spelled ∙ ap (choice_tokens read.tree) (begins ∙ ap (λ (ts : List Token). Name (codes "THENC") ∷ ts) same)) in
+        let list : joined in_order more (conversion_of_choice first) (further_conversions others)
+        ≡ joined in_order taken (conversion_of_choice read.tree) (conversions.more (conversion_of_choice first) (further_conversions others)) =
+        ap (λ (ms : List Conversion). joined in_order ms (conversion_of_choice first) (further_conversions others)) added
+        ∙ joined-more in_order taken meaning (conversion_of_choice first) (further_conversions others)
+        ∙ ap (λ (m : Conversion). joined in_order taken m (conversions.more (conversion_of_choice first) (further_conversions others))) read.means in
+        record { tree = known.tree; nested = known.nested; spelled = known.spelled; means = list ∙ known.means }
 
-    goes : (tree : grammar.Conversion) (rest : List Token) → conversion_depth tree ≤ room → Ends rest → tokens ≡ conversion_tokens tree rest → Further room behind rest
-    goes tree rest within ends same = go known.further known.nested known.spelled
+    goes : (tree : grammar.Conversion) (rest : List Token) → conversion_depth tree ≤ room → Ends rest → tokens ≡ conversion_tokens tree rest → Whole room inner rest
+    goes tree rest within ends same = go known.tree known.nested known.spelled
       where
-        known : Further room left rest
-        known = front.goes tree rest within ends same
+        known : Whole room left rest
+        known = part.goes tree rest within ends same
 
-        go : (further : FurtherConversions) → further_depth further ≤ room → left ≡ further_tokens further rest → Further room behind rest
-        go no_more_thenc small is = absurd (ends.then inner (sym is ∙ begins))
-        go (thenc choice further) small is =
-            let both : Name (codes "THENC") ∷ inner ≡ Name (codes "THENC") ∷ choice_tokens choice (further_tokens further rest) = sym begins ∙ is in
-            let next : inner ≡ choice_tokens choice (further_tokens further rest) = cc in
+        go : (tree : grammar.Conversion) → conversion_depth tree ≤ room → left ≡ conversion_tokens tree rest → Whole room inner rest
+        go (thenc_chain choice no_more_thenc) small is =
+            absurd (ends.then inner (read.only choice rest (omega (arith, small, le-max_left (choice_depth choice) (further_depth no_more_thenc))) ends.else is ∙ begins))
+        go (thenc_chain choice (thenc second others)) small is =
+            let next : Name (codes "THENC") ∷ choice_tokens second (further_tokens others rest) ≡ further =
+            read.only choice (further_tokens (thenc second others) rest) (omega (arith, small, le-max_left (choice_depth choice) (further_depth (thenc second others))))
+            (further-without (thenc second others) rest ends) is in
+            let both : Name (codes "THENC") ∷ choice_tokens second (further_tokens others rest) ≡ Name (codes "THENC") ∷ inner = next ∙ begins in
+            let onward : inner ≡ choice_tokens second (further_tokens others rest) = cc in
             record {
-              further = further;
-              nested = omega (arith, small, le-max_right (choice_depth choice) (further_depth further));
-              spelled = sym (read.only choice (further_tokens further rest) (omega (arith, small, le-max_left (choice_depth choice) (further_depth further))) (further-without further rest ends) next);
+              tree = thenc_chain second others;
+              nested = omega (arith, small, le-max_right (choice_depth choice) (further_depth (thenc second others)));
+              spelled = onward;
             }
 
-pub whole-ended : (room : ℕ) (tokens left : List Token) (first meaning : Conversion) (taken : List Conversion) → IsWholeFront room tokens left first taken → Without (codes "THENC") left
-    → meaning ≡ in_order first (all_conversions taken) → IsWhole room tokens left meaning
-whole-ended room tokens left first meaning taken front ended means = record {
+pub whole-goes-on : (room : ℕ) (tokens left further inner : List Token) (taken more : List Conv) (conv : Conv) → more ≡ taken ++ conv ∷ []
+    → IsWholePart room tokens left (map conversion_of taken) → IsChoice room left further (conversion_of conv) → further ≡ Name (codes "THENC") ∷ inner
+    → IsWholePart room tokens inner (map conversion_of more)
+whole-goes-on room tokens left further inner taken more conv added part read begins =
+    whole-more room tokens left further inner (conversion_of conv) (map conversion_of taken) (map conversion_of more) (ap (map conversion_of) added ∙ mapped taken conv) part read begins
+
+pub whole-ended : (room : ℕ) (tokens left further : List Token) (meaning made : Conversion) (taken : List Conversion) → IsWholePart room tokens left taken → IsChoice room left further meaning
+    → Without (codes "THENC") further → made ≡ joined in_order taken meaning conversions.no_more → IsWhole room tokens further made
+whole-ended room tokens left further meaning made taken part read ended is = record {
   tree = known.tree;
   nested = known.nested;
   spelled = known.spelled;
-  means = means ∙ ap (in_order first)
-      (sym (listed-all taken)) ∙ known.means;
+  means = is ∙ ap (λ (m : Conversion). joined in_order taken m conversions.no_more) read.means ∙ known.means;
   only = only;
 }
   where
-    known : Whole room tokens left (in_order first (listed taken conversions.no_more))
-    known = front.completes no_more_thenc left (omega arith) refl
+    none_left : further_depth no_more_thenc ≤ room
+    none_left = omega arith
 
-    go : (further : FurtherConversions) (rest : List Token) → left ≡ further_tokens further rest → rest ≡ left
-    go no_more_thenc rest is = sym is
-    go (thenc choice further) rest is = absurd (ended _ is)
+    known : MeantWhole room tokens further (joined in_order taken (conversion_of_choice read.tree) conversions.no_more)
+    known = part.completes (thenc_chain read.tree no_more_thenc) further (max-le read.nested none_left) read.spelled
 
-    only : (other : grammar.Conversion) (rest : List Token) → conversion_depth other ≤ room → Ends rest → tokens ≡ conversion_tokens other rest → rest ≡ left
-    only other rest within ends same = (let others = front.goes other rest within ends same in go others.further rest others.spelled)
+    go : (tree : grammar.Conversion) (rest : List Token) → conversion_depth tree ≤ room → Ends rest → left ≡ conversion_tokens tree rest → rest ≡ further
+    go (thenc_chain choice no_more_thenc) rest small ends is =
+        read.only choice rest (omega (arith, small, le-max_left (choice_depth choice) (further_depth no_more_thenc))) ends.else is
+    go (thenc_chain choice (thenc second others)) rest small ends is =
+        let next : Name (codes "THENC") ∷ choice_tokens second (further_tokens others rest) ≡ further =
+        read.only choice (further_tokens (thenc second others) rest) (omega (arith, small, le-max_left (choice_depth choice) (further_depth (thenc second others))))
+        (further-without (thenc second others) rest ends) is in
+        absurd (ended (choice_tokens second (further_tokens others rest)) (sym next))
 
-pub whole-broken : (room : ℕ) (tokens left inner : List Token) (first : Conversion) (taken : List Conversion) → IsWholeFront room tokens left first taken
-    → left ≡ Name (codes "THENC") ∷ inner → IsNoChoice room inner
-    → IsNoWhole room tokens
-whole-broken room tokens left inner first taken front begins refused tree rest within ends same = go known.further known.nested known.spelled
+    only : (other : grammar.Conversion) (rest : List Token) → conversion_depth other ≤ room → Ends rest → tokens ≡ conversion_tokens other rest → rest ≡ further
+    only other rest within ends same = (let others = part.goes other rest within ends same in go others.tree rest others.nested ends others.spelled)
+
+pub whole-refused : (room : ℕ) (tokens left : List Token) (taken : List Conversion) → IsWholePart room tokens left taken → IsNoChoice room left → IsNoWhole room tokens
+whole-refused room tokens left taken part refused tree rest within ends same = go known.tree known.nested known.spelled
   where
-    known : Further room left rest
-    known = front.goes tree rest within ends same
+    known : Whole room left rest
+    known = part.goes tree rest within ends same
 
-    go : (further : FurtherConversions) → further_depth further ≤ room → left ≡ further_tokens further rest → ⊥
-    go no_more_thenc small is = ends.then inner (sym is ∙ begins)
-    go (thenc choice further) small is =
-        let both : Name (codes "THENC") ∷ inner ≡ Name (codes "THENC") ∷ choice_tokens choice (further_tokens further rest) = sym begins ∙ is in
-        let next : inner ≡ choice_tokens choice (further_tokens further rest) = cc in
-        refused choice (further_tokens further rest) (omega (arith, small, le-max_left (choice_depth choice) (further_depth further))) (further-without further rest ends) next
-
-pub whole-refused : (room : ℕ) (tokens : List Token) → IsNoChoice room tokens → IsNoWhole room tokens
-whole-refused room tokens refused = go
-  where
-    go : IsNoWhole room tokens
-    go (thenc_chain choice further) rest within ends same =
-        refused choice (further_tokens further rest) (omega (arith, within, le-max_left (choice_depth choice) (further_depth further))) (further-without further rest ends) same
+    go : (tree : grammar.Conversion) → conversion_depth tree ≤ room → left ≡ conversion_tokens tree rest → ⊥
+    go (thenc_chain choice further) small is =
+        refused choice (further_tokens further rest) (omega (arith, small, le-max_left (choice_depth choice) (further_depth further))) (further-without further rest ends) is
 
 -- ---- readings
 
@@ -576,60 +554,6 @@ pub unnamed-at : (single : Single) (error : ReadError) (at room : ℕ) (tokens :
     → ReadsUnit (Err error) at room tokens
 unnamed-at single Memory at room tokens takes front refused = tt
 unnamed-at single Syntax at room tokens takes front refused = unnamed single room (behind at tokens) (behind (at + 1) tokens) takes front.front refused
-
-pub prefixed-refused : (prefix : Prefix) (error : ReadError) (at room less : ℕ) (tokens : List TokenHere) → less + 1 ≡ room → IsAt (Name (conversional_word (conversional_of prefix))) at tokens
-    → ReadsUnit (Err error) (at + 1) less tokens → ReadsUnit (Err error) at room tokens
-prefixed-refused prefix Memory at room less tokens more front refused = tt
-prefixed-refused prefix Syntax at room less tokens more front refused = prefix-refused prefix room less (behind at tokens) (behind (at + 1) tokens) more front.front refused
-
-pub parenthesis-refused : (error : ReadError) (at room less : ℕ) (tokens : List TokenHere) → less + 1 ≡ room → IsAt (Mark OpenParenthesis) at tokens → ReadsWhole (Err error) (at + 1) less tokens
-    → ReadsUnit (Err error) at room tokens
-parenthesis-refused Memory at room less tokens more front refused = tt
-parenthesis-refused Syntax at room less tokens more front refused = enclosed-refused room less (behind at tokens) (behind (at + 1) tokens) more front.front refused
-
-pub choice-unread : (error : ReadError) (at room : ℕ) (tokens : List TokenHere) → ReadsUnit (Err error) at room tokens → ReadsChoice (Err error) at room tokens
-choice-unread Memory at room tokens refused = tt
-choice-unread Syntax at room tokens refused = choice-refused room (behind at tokens) refused
-
-pub whole-unread : (error : ReadError) (at room : ℕ) (tokens : List TokenHere) → ReadsChoice (Err error) at room tokens → ReadsWhole (Err error) at room tokens
-whole-unread Memory at room tokens refused = tt
-whole-unread Syntax at room tokens refused = whole-refused room (behind at tokens) refused
-
-pub choice-broken-at : (error : ReadError) (at next room : ℕ) (tokens : List TokenHere) (first : Conversion) (taken : List Conversion)
-    → IsChoiceFront room (behind at tokens) (behind next tokens) first taken
-    → IsAt (Name (codes "ORELSEC")) next tokens → ReadsUnit (Err error) (next + 1) room tokens → ReadsChoice (Err error) at room tokens
-choice-broken-at Memory at next room tokens first taken front is refused = tt
-choice-broken-at Syntax at next room tokens first taken front is refused = choice-broken room (behind at tokens) (behind next tokens) (behind (next + 1) tokens) first taken front is.front refused
-
-pub whole-broken-at : (error : ReadError) (at next room : ℕ) (tokens : List TokenHere) (first : Conversion) (taken : List Conversion)
-    → IsWholeFront room (behind at tokens) (behind next tokens) first taken
-    → IsAt (Name (codes "THENC")) next tokens → ReadsChoice (Err error) (next + 1) room tokens → ReadsWhole (Err error) at room tokens
-whole-broken-at Memory at next room tokens first taken front is refused = tt
-whole-broken-at Syntax at next room tokens first taken front is refused = whole-broken room (behind at tokens) (behind next tokens) (behind (next + 1) tokens) first taken front is.front refused
-
-mapped : (taken : List Conv) (conv : Conv) → map conversion_of (taken ++ conv ∷ []) ≡ map conversion_of taken ++ conversion_of conv ∷ []
-mapped [] conv = refl
-mapped (first ∷ taken) conv = ap (λ (ms : List Conversion). conversion_of first ∷ ms) (mapped taken conv)
-
-pub choice-begins : (room : ℕ) (tokens left : List Token) (first : Conversion) (taken : List Conv) → taken ≡ [] → IsUnit room tokens left first
-    → IsChoiceFront room tokens left first (map conversion_of taken)
-choice-begins room tokens left first taken none read = subst (λ (cs : List Conv). IsChoiceFront room tokens left first (map conversion_of cs)) (sym none) (choice-begun room tokens left first read)
-
-pub choice-goes-on : (room : ℕ) (tokens left inner behind : List Token) (first : Conversion) (taken more : List Conv) (conv : Conv) → more ≡ taken ++ conv ∷ []
-    → IsChoiceFront room tokens left first (map conversion_of taken)
-    → left ≡ Name (codes "ORELSEC") ∷ inner → IsUnit room inner behind (conversion_of conv) → IsChoiceFront room tokens behind first (map conversion_of more)
-choice-goes-on room tokens left inner behind first taken more conv added front begins read =
-    choice-taken room tokens left inner behind first (conversion_of conv) (map conversion_of taken) (map conversion_of more) (ap (map conversion_of) added ∙ mapped taken conv) front begins read
-
-pub whole-begins : (room : ℕ) (tokens left : List Token) (first : Conversion) (taken : List Conv) → taken ≡ [] → IsChoice room tokens left first
-    → IsWholeFront room tokens left first (map conversion_of taken)
-whole-begins room tokens left first taken none read = subst (λ (cs : List Conv). IsWholeFront room tokens left first (map conversion_of cs)) (sym none) (whole-begun room tokens left first read)
-
-pub whole-goes-on : (room : ℕ) (tokens left inner behind : List Token) (first : Conversion) (taken more : List Conv) (conv : Conv) → more ≡ taken ++ conv ∷ []
-    → IsWholeFront room tokens left first (map conversion_of taken)
-    → left ≡ Name (codes "THENC") ∷ inner → IsChoice room inner behind (conversion_of conv) → IsWholeFront room tokens behind first (map conversion_of more)
-whole-goes-on room tokens left inner behind first taken more conv added front begins read =
-    whole-taken room tokens left inner behind first (conversion_of conv) (map conversion_of taken) (map conversion_of more) (ap (map conversion_of) added ∙ mapped taken conv) front begins read
 
 -- one place further
 pub reaches-on : (at next further : ℕ) (tokens : List TokenHere) → Reaches at next tokens → Reaches (next + 1) further tokens → Reaches at further tokens

@@ -5,3 +5,4 @@ pub mod Rows
 pub mod TacticWordLemmas
 pub mod LeafLemmas
 pub mod TacticLemmas
+pub mod OpenLemmas

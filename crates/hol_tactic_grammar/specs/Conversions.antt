@@ -66,16 +66,6 @@ ReadsUnit (Ok x) at room tokens = Reaches at x.1 tokens × IsUnit room (behind a
 ReadsUnit (Err Memory) at room tokens = Unit {0}
 ReadsUnit (Err Syntax) at room tokens = IsNoUnit room (behind at tokens)
 
-abbrev pub ReadsChoice : Result (Conv × ℕ) ReadError → ℕ → ℕ → List TokenHere → Type 0
-ReadsChoice (Ok x) at room tokens = Reaches at x.1 tokens × IsChoice room (behind at tokens) (behind x.1 tokens) (conversion_of x.0)
-ReadsChoice (Err Memory) at room tokens = Unit {0}
-ReadsChoice (Err Syntax) at room tokens = IsNoChoice room (behind at tokens)
-
-abbrev pub ReadsWhole : Result (Conv × ℕ) ReadError → ℕ → ℕ → List TokenHere → Type 0
-ReadsWhole (Ok x) at room tokens = Reaches at x.1 tokens × IsWhole room (behind at tokens) (behind x.1 tokens) (conversion_of x.0)
-ReadsWhole (Err Memory) at room tokens = Unit {0}
-ReadsWhole (Err Syntax) at room tokens = IsNoWhole room (behind at tokens)
-
 -- the expression means this, or memory is short
 abbrev pub Means : Result Conv ReadError → Conversion → Type 0
 Means (Ok conv) meaning = conversion_of conv ≡ meaning

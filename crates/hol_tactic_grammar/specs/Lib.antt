@@ -5,3 +5,4 @@ pub mod TacticWords
 pub mod Expressions
 pub mod Quotes
 pub mod Tactics
+pub mod OpenConversions

@@ -1,14 +1,16 @@
-// Conversions, read from tokens: a recursion where parentheses and prefixes nest, and loops over chains.
-ghost use Rattle.std.specs.Prelude.{ℕ};
+// Conversions, read from tokens: one loop over the places that are open around a unit.
+ghost use Rattle.std.specs.Prelude.{◌≡◌, ℕ, ◌+◌, ◌<◌, ◌∷◌, length, reverse};
 ghost use Rattle.hol_model.specs.declared.symbol.Symbol.TheVariants.{OpenParenthesis};
 ghost use Rattle.hol_model.specs.Texts.Token.{Name, Mark};
 ghost use Rattle.hol_session_model.specs.ConversionGrammar.{conversional_word};
 ghost use Rattle.hol_session_model.specs.SessionTools.{in_order, either};
 ghost use Rattle.hol_exprs.specs.Expressions.{conversion_of, conversions_of};
 ghost use Rattle.hol_grammar.specs.Views.{tokens_of};
+ghost use Rattle.hol_tactic_grammar.specs.declared.conversions.Open.TheVariants.{Enclosed};
 ghost use Rattle.hol_tactic_grammar.specs.Tokens.{AreTokens, IsAt};
 ghost use Rattle.hol_tactic_grammar.specs.ConversionWords.{conversional_of, single_word};
-ghost use Rattle.hol_tactic_grammar.specs.Conversions.{Means, ReadsUnit, ReadsChoice, ReadsWhole, ReadsConversion};
+ghost use Rattle.hol_tactic_grammar.specs.Conversions.{Means, ReadsUnit, ReadsConversion};
+ghost use Rattle.hol_tactic_grammar.specs.OpenConversions.{IsWanted, IsRead, IsReadChoice, Leads, Enters};
 
 use crate::conversion_words::{Single, prefix_named, single_named};
 use crate::tokens::{is_mark, is_word, name_at, read_name};
@@ -16,6 +18,26 @@ use hol_exprs::{Conv, Prefix};
 use hol_grammar::{ReadError, Token};
 use hol_model::{EXPRESSION_NESTING_LIMIT, Symbol};
 use std::alloc::Global;
+
+// Where a unit stands.
+#[derive(Drop)]
+enum Open {
+    // Behind a conversional.
+    Prefixed(Prefix),
+    // In parentheses, behind these of a chain of THENC and these of its last chain of ORELSEC.
+    Enclosed(Vec<Conv>, Vec<Conv>),
+}
+
+// What is done next.
+#[derive(Drop)]
+enum Step {
+    // A unit is read at the place.
+    Begin(usize),
+    // The innermost open place is closed around a unit, which was read up to the place.
+    Close(Conv, usize),
+    // The unit that was wanted was read up to the place.
+    End(Conv, usize),
+}
 
 // The first, or all of them by ORELSEC.
 fn either(alloc: Global, first: Conv, others: Vec<Conv>) -> Result<Conv, ReadError>
@@ -69,60 +91,172 @@ fn read_leaf(
     }
 }
 
-// A conversional and what it stands before.
-#[cycle(reading)]
-fn read_prefixed(
-    alloc: Global,
+// The first, and the others.
+fn parted(mut parts: Vec<Conv>) -> (Conv, Vec<Conv>)
+    requires { 0 < length parts.items }
+    ensures { result.0 ∷ result.1.items ≡ parts.items }
+{
+    let first = parts.remove(0);
+    (first, parts)
+}
+
+// Opens a place, unless as many are open as may be.
+fn enter(places: &mut Vec<Open>, place: Open, limit: usize) -> Result<(), ReadError>
+    ensures { Enters result place limit (reverse places.old.items) (reverse places.new.items) }
+{
+    if places.len() >= limit {
+        return Err(ReadError::Syntax);
+    }
+    places.push(place)?;
+    Ok(())
+}
+
+// Goes behind a conversional.
+fn begin_prefixed(
     tokens: &[Token<'_>],
+    places: &mut Vec<Open>,
     at: usize,
     prefix: Prefix,
-    room: usize,
-) -> Result<(Conv, usize), ReadError>
-    requires tokens { AreTokens (tokens_of tokens.now) }
-    requires front { IsAt (Name (conversional_word (conversional_of prefix))) at tokens.now }
-    ensures { ReadsUnit result at room tokens.now }
+    limit: usize,
+) -> Result<Step, ReadError>
+    requires { IsAt (Name (conversional_word (conversional_of prefix))) at tokens.now }
+    ensures { (start : ℕ) → IsWanted (reverse places.old.items) at start limit tokens.now
+        → Leads result at (length (reverse places.old.items)) (reverse places.new.items) start limit tokens.now }
 {
-    if room == 0 {
-        return Err(ReadError::Syntax);
-    }
-    let (operand, next) = match read_unit(alloc, tokens, at + 1, room - 1) {
-        Ok(read) => read,
-        Err(error) => return Err(error),
-    };
-    match Conv::prefixed(alloc, prefix, operand) {
-        Ok(conv) => Ok((conv, next)),
-        Err(_) => Err(ReadError::Memory),
+    match enter(places, Open::Prefixed(prefix), limit) {
+        Ok(()) => Ok(Step::Begin(at + 1)),
+        Err(error) => Err(error),
     }
 }
 
-// A conversion in parentheses.
-#[cycle(reading)]
-fn read_enclosed(
+// Goes into parentheses.
+fn begin_enclosed(
     alloc: Global,
     tokens: &[Token<'_>],
+    places: &mut Vec<Open>,
     at: usize,
-    room: usize,
-) -> Result<(Conv, usize), ReadError>
-    requires tokens { AreTokens (tokens_of tokens.now) }
-    requires front { IsAt (Mark OpenParenthesis) at tokens.now }
-    ensures { ReadsUnit result at room tokens.now }
+    limit: usize,
+) -> Result<Step, ReadError>
+    requires { IsAt (Mark OpenParenthesis) at tokens.now }
+    ensures { (start : ℕ) → IsWanted (reverse places.old.items) at start limit tokens.now
+        → Leads result at (length (reverse places.old.items)) (reverse places.new.items) start limit tokens.now }
 {
-    if room == 0 {
-        return Err(ReadError::Syntax);
-    }
-    let (conv, next) = match read_whole(alloc, tokens, at + 1, room - 1) {
-        Ok(read) => read,
-        Err(error) => return Err(error),
-    };
-    if is_mark(tokens, next, Symbol::CloseParenthesis) {
-        Ok((conv, next + 1))
-    } else {
-        Err(ReadError::Syntax)
+    let place = Open::Enclosed(Vec::new(alloc), Vec::new(alloc));
+    match enter(places, place, limit) {
+        Ok(()) => Ok(Step::Begin(at + 1)),
+        Err(error) => Err(error),
     }
 }
 
-/// What a conversional may stand before, at a place.
-#[cycle(reading)]
+// Reads a unit without parts, or goes into one with parts.
+fn begin(
+    alloc: Global,
+    tokens: &[Token<'_>],
+    places: &mut Vec<Open>,
+    at: usize,
+    limit: usize,
+) -> Result<Step, ReadError>
+    requires { AreTokens (tokens_of tokens.now) }
+    ensures { (start : ℕ) → IsWanted (reverse places.old.items) at start limit tokens.now
+        → Leads result at (length (reverse places.old.items)) (reverse places.new.items) start limit tokens.now }
+{
+    if is_mark(tokens, at, Symbol::OpenParenthesis) {
+        return begin_enclosed(alloc, tokens, places, at, limit);
+    }
+    let Some(word) = name_at(tokens, at) else {
+        return Err(ReadError::Syntax);
+    };
+    if let Some(prefix) = prefix_named(word) {
+        return begin_prefixed(tokens, places, at, prefix, limit);
+    }
+    match single_named(word) {
+        Some(single) => match read_leaf(alloc, tokens, at, single) {
+            Ok((conv, next)) => Ok(Step::Close(conv, next)),
+            Err(error) => Err(error),
+        },
+        None => Err(ReadError::Syntax),
+    }
+}
+
+// Goes on behind a chain of ORELSEC in parentheses.
+fn behind_choice(
+    alloc: Global,
+    tokens: &[Token<'_>],
+    places: &mut Vec<Open>,
+    mut parts: Vec<Conv>,
+    choice: Conv,
+    next: usize,
+) -> Result<Step, ReadError>
+    requires { AreTokens (tokens_of tokens.now) }
+    ensures { (start limit : ℕ) → IsReadChoice parts.items (reverse places.old.items) choice next start limit tokens.now
+        → Leads result next (length (reverse places.old.items) + 1) (reverse places.new.items) start limit tokens.now }
+{
+    parts.push(choice)?;
+    if is_word(tokens, next, "THENC") {
+        places.push(Open::Enclosed(parts, Vec::new(alloc)))?;
+        return Ok(Step::Begin(next + 1));
+    }
+    if !is_mark(tokens, next, Symbol::CloseParenthesis) {
+        return Err(ReadError::Syntax);
+    }
+    let (first, others) = parted(parts);
+    match in_order(alloc, first, others) {
+        Ok(conv) => Ok(Step::Close(conv, next + 1)),
+        Err(error) => Err(error),
+    }
+}
+
+// Goes on behind a unit in parentheses.
+fn behind_unit(
+    alloc: Global,
+    tokens: &[Token<'_>],
+    places: &mut Vec<Open>,
+    parts: Vec<Conv>,
+    mut units: Vec<Conv>,
+    unit: Conv,
+    next: usize,
+) -> Result<Step, ReadError>
+    requires { AreTokens (tokens_of tokens.now) }
+    ensures { (start limit : ℕ) → IsRead (Enclosed parts units ∷ reverse places.old.items) unit next start limit tokens.now
+        → Leads result next (length (reverse places.old.items) + 1) (reverse places.new.items) start limit tokens.now }
+{
+    units.push(unit)?;
+    if is_word(tokens, next, "ORELSEC") {
+        places.push(Open::Enclosed(parts, units))?;
+        return Ok(Step::Begin(next + 1));
+    }
+    let (first, others) = parted(units);
+    match either(alloc, first, others) {
+        Ok(choice) => behind_choice(alloc, tokens, places, parts, choice, next),
+        Err(error) => Err(error),
+    }
+}
+
+// Closes the innermost place around a unit.
+fn close(
+    alloc: Global,
+    tokens: &[Token<'_>],
+    places: &mut Vec<Open>,
+    unit: Conv,
+    next: usize,
+) -> Result<Step, ReadError>
+    requires { AreTokens (tokens_of tokens.now) }
+    ensures { (start limit : ℕ) → IsRead (reverse places.old.items) unit next start limit tokens.now
+        → Leads result next (length (reverse places.old.items)) (reverse places.new.items) start limit tokens.now }
+{
+    match places.pop() {
+        None => Ok(Step::End(unit, next)),
+        Some(Open::Prefixed(prefix)) => match Conv::prefixed(alloc, prefix, unit) {
+            Ok(conv) => Ok(Step::Close(conv, next)),
+            Err(_) => Err(ReadError::Memory),
+        },
+        Some(Open::Enclosed(parts, units)) => {
+            behind_unit(alloc, tokens, places, parts, units, unit, next)
+        }
+    }
+}
+
+/// What a conversional may stand before, at a place, with as much room for parentheses and prefixes in it.
 pub fn read_unit(
     alloc: Global,
     tokens: &[Token<'_>],
@@ -132,78 +266,20 @@ pub fn read_unit(
     requires { AreTokens (tokens_of tokens.now) }
     ensures { ReadsUnit result at room tokens.now }
 {
-    if is_mark(tokens, at, Symbol::OpenParenthesis) {
-        return read_enclosed(alloc, tokens, at, room);
-    }
-    let Some(word) = name_at(tokens, at) else {
-        return Err(ReadError::Syntax);
-    };
-    if let Some(prefix) = prefix_named(word) {
-        return read_prefixed(alloc, tokens, at, prefix, room);
-    }
-    match single_named(word) {
-        Some(single) => read_leaf(alloc, tokens, at, single),
-        None => Err(ReadError::Syntax),
-    }
-}
-
-// A chain of ORELSEC at a place.
-#[cycle(reading)]
-fn read_choice(
-    alloc: Global,
-    tokens: &[Token<'_>],
-    at: usize,
-    room: usize,
-) -> Result<(Conv, usize), ReadError>
-    requires { AreTokens (tokens_of tokens.now) }
-    ensures { ReadsChoice result at room tokens.now }
-{
-    let (first, mut next) = match read_unit(alloc, tokens, at, room) {
-        Ok(read) => read,
-        Err(error) => return Err(error),
-    };
-    let mut others = Vec::new(alloc);
-    while is_word(tokens, next, "ORELSEC") {
-        let (other, behind) = match read_unit(alloc, tokens, next + 1, room) {
-            Ok(read) => read,
-            Err(error) => return Err(error),
-        };
-        others.push(other)?;
-        next = behind;
-    }
-    match either(alloc, first, others) {
-        Ok(conv) => Ok((conv, next)),
-        Err(_) => Err(ReadError::Memory),
-    }
-}
-
-/// A chain of THENC at a place.
-#[cycle(reading)]
-pub fn read_whole(
-    alloc: Global,
-    tokens: &[Token<'_>],
-    at: usize,
-    room: usize,
-) -> Result<(Conv, usize), ReadError>
-    requires { AreTokens (tokens_of tokens.now) }
-    ensures { ReadsWhole result at room tokens.now }
-{
-    let (first, mut next) = match read_choice(alloc, tokens, at, room) {
-        Ok(read) => read,
-        Err(error) => return Err(error),
-    };
-    let mut others = Vec::new(alloc);
-    while is_word(tokens, next, "THENC") {
-        let (other, behind) = match read_choice(alloc, tokens, next + 1, room) {
-            Ok(read) => read,
-            Err(error) => return Err(error),
-        };
-        others.push(other)?;
-        next = behind;
-    }
-    match in_order(alloc, first, others) {
-        Ok(conv) => Ok((conv, next)),
-        Err(_) => Err(ReadError::Memory),
+    let mut places = Vec::new(alloc);
+    let mut step = Step::Begin(at);
+    loop {
+        match step {
+            Step::Begin(place) => match begin(alloc, tokens, &mut places, place, room) {
+                Ok(next) => step = next,
+                Err(error) => return Err(error),
+            },
+            Step::Close(unit, place) => match close(alloc, tokens, &mut places, unit, place) {
+                Ok(next) => step = next,
+                Err(error) => return Err(error),
+            },
+            Step::End(conv, place) => return Ok((conv, place)),
+        }
     }
 }
 
