@@ -1,10 +1,10 @@
 -- What each step leads to, around a unit of a conversion.
-use Rattle.std.proofs.Common.{◌≡◌, ◌≢◌, ℕ, ◌+◌, ◌-◌, ◌*◌, ◌<◌, ◌≤◌, arith, List, [], ◌∷◌, ◌++◌, map, length, reverse, refl, sym, ◌∙◌, ap, subst, Ok, Err, Result, Vec, Global}
-use Rattle.std.proofs.lemmas.List.{length-reverse, reverse-append}
+use Rattle.std.proofs.Common.{◌≡◌, ℕ, ◌+◌, ◌-◌, ◌<◌, ◌≤◌, arith, List, [], ◌∷◌, ◌++◌, map, length, reverse, refl, sym, ◌∙◌, ap, subst, Ok, Err, Vec, Global}
+use Rattle.std.proofs.lemmas.List.{reverse-append}
 use Rattle.std.specs.Prelude.{codes}
 use Rattle.hol_model.specs.declared.symbol.Symbol.TheVariants.{OpenParenthesis, CloseParenthesis}
-use Rattle.hol_model.specs.Texts.Token.{Token, Name, Mark}
-use Rattle.hol_session_model.specs.ConversionGrammar.{conversional_word, ConversionUnit, unit_tokens, unit_depth}
+use Rattle.hol_model.specs.Texts.Token.{Name, Mark}
+use Rattle.hol_session_model.specs.ConversionGrammar.{conversional_word}
 use Rattle.hol_session_model.specs.SessionTools.{in_order, either}
 use Rattle.hol_model.specs.Refining.Conversions as conversions
 use Rattle.hol_exprs.specs.declared.conv.Conv.{Conv}
@@ -15,12 +15,11 @@ use Rattle.hol_grammar.specs.declared.type_reader.ReadError.{ReadError}
 use Rattle.hol_grammar.specs.declared.type_reader.ReadError.TheVariants.{Memory, Syntax}
 use Rattle.hol_tactic_grammar.specs.declared.conversions.Open.{Open}
 use Rattle.hol_tactic_grammar.specs.declared.conversions.Open.TheVariants.{Prefixed, Enclosed}
-use Rattle.hol_tactic_grammar.specs.declared.conversions.Step.{Step}
-use Rattle.hol_tactic_grammar.specs.declared.conversions.Step.TheVariants.{Begin, Close, End}
+use Rattle.hol_tactic_grammar.specs.declared.conversions.Step.TheVariants.{Begin, Close}
 use Rattle.hol_tactic_grammar.specs.ConversionWords.{conversional_of}
 use Rattle.hol_tactic_grammar.specs.Tokens.{behind, IsAt, IsNotAt}
 use Rattle.hol_tactic_grammar.specs.Conversions.{IsUnit, IsNoUnit, IsWhole, Reaches, ReadsUnit}
-use Rattle.hol_tactic_grammar.specs.OpenConversions.{joined, IsPrefixed, IsEnclosed, Opens, IsWithin, AreOpen, IsWanted, IsRead, IsReadChoice, Holds, work, work_of, Goes, Leads, Enters, IsWholePart, IsChoicePart}
+use Rattle.hol_tactic_grammar.specs.OpenConversions.{joined, IsEnclosed, Opens, AreOpen, IsWanted, IsRead, IsReadChoice, Goes, Enters, IsWholePart, IsChoicePart}
 use Rattle.hol_tactic_grammar.proofs.ConversionLemmas.{prefix-read, prefix-refused, prefix-too-deep, enclosed-read, enclosed-open, enclosed-refused, enclosed-too-deep, made-of, choice-begun, choice-goes-on, choice-ended, choice-refused, whole-begun, whole-goes-on, whole-ended, whole-refused}
 
 -- ---- a list and its last

@@ -92,7 +92,7 @@ abbrev pub Opens : Open → ℕ → ℕ → ℕ → List TokenHere → Type 0
 Opens (Prefixed prefix) before at room tokens = IsPrefixed prefix before at tokens
 Opens (Enclosed parts units) before at room tokens = IsEnclosed (map conversion_of parts.items) (map conversion_of units.items) before at room tokens
 
--- a place that began before, where one more may be open
+-- the place began before, where there was room for one more
 pub record IsWithin (Below : ℕ → ℕ → Type 0) (place : Open) (at room : ℕ) (tokens : List TokenHere) : Type 0 where
   pub before : ℕ
   pub above : ℕ
@@ -100,7 +100,7 @@ pub record IsWithin (Below : ℕ → ℕ → Type 0) (place : Open) (at room : �
   pub below : Below before above
   pub opens : Opens place before at room tokens
 
--- a unit at the place, and as many open places in it, is wanted for one at the start and within the limit
+-- a unit is wanted at the place, in which there is this room, for the unit at the start, in which there is room up to the limit
 abbrev pub AreOpen : List Open → ℕ → ℕ → ℕ → ℕ → List TokenHere → Type 0
 AreOpen [] at room start limit tokens = (at ≡ start) × (room ≡ limit)
 AreOpen (place ∷ places) at room start limit tokens = IsWithin (λ before above. AreOpen places before above start limit tokens) place at room tokens
@@ -137,7 +137,7 @@ Holds (Begin at) places start limit tokens = IsWanted places at start limit toke
 Holds (Close conv next) places start limit tokens = IsRead places conv next start limit tokens
 Holds (End conv next) places start limit tokens = ReadsUnit (Ok (conv, next)) start limit tokens
 
--- how much is left to do behind a place, with so many that are open
+-- how much is left to do from a place on, where so many are open
 abbrev pub work : ℕ → ℕ → List TokenHere → ℕ
 work at count tokens = 2 * (length tokens - at) + count + 1
 
@@ -146,7 +146,7 @@ work_of (Begin at) count tokens = work at count tokens
 work_of (Close conv next) count tokens = work next count tokens
 work_of (End conv next) count tokens = 0
 
--- a step that was taken at a place, where so many were open
+-- what follows a step at a place, where so many were open
 pub record Goes (step : Step) (at count : ℕ) (places : List Open) (start limit : ℕ) (tokens : List TokenHere) : Type 0 where
   pub holds : Holds step places start limit tokens
   pub nearer : work_of step (length places) tokens < work at count tokens
@@ -155,7 +155,7 @@ abbrev pub Leads : Result Step ReadError → ℕ → ℕ → List Open → ℕ �
 Leads (Ok step) at count places start limit tokens = Goes step at count places start limit tokens
 Leads (Err error) at count places start limit tokens = ReadsUnit (Err error) start limit tokens
 
--- a place is opened, unless as many are open as may be
+-- the place is opened, unless as many are open as may be
 abbrev pub Enters : Result (Unit {0}) ReadError → Open → ℕ → List Open → List Open → Type 0
 Enters (Ok x) place limit old new = (length old < limit) × (new ≡ place ∷ old)
 Enters (Err Memory) place limit old new = Unit {0}

@@ -19,13 +19,13 @@ use hol_grammar::{ReadError, Token};
 use hol_model::{EXPRESSION_NESTING_LIMIT, Symbol};
 use std::alloc::Global;
 
-// Where a unit stands.
+// Where a unit stands, as long as it is read.
 #[derive(Drop)]
 enum Open {
     // Behind a conversional.
     Prefixed(Prefix),
-    // In parentheses, behind these of a chain of THENC and these of its last chain of ORELSEC.
-    Enclosed(Vec<Conv>, Vec<Conv>),
+    // In parentheses, behind these of a chain of THENC and these units of its last chain of ORELSEC.
+    Enclosed { parts: Vec<Conv>, units: Vec<Conv> },
 }
 
 // What is done next.
@@ -141,7 +141,10 @@ fn begin_enclosed(
     ensures { (start : ℕ) → IsWanted (reverse places.old.items) at start limit tokens.now
         → Leads result at (length (reverse places.old.items)) (reverse places.new.items) start limit tokens.now }
 {
-    let place = Open::Enclosed(Vec::new(alloc), Vec::new(alloc));
+    let place = Open::Enclosed {
+        parts: Vec::new(alloc),
+        units: Vec::new(alloc),
+    };
     match enter(places, place, limit) {
         Ok(()) => Ok(Step::Begin(at + 1)),
         Err(error) => Err(error),
@@ -193,7 +196,10 @@ fn behind_choice(
 {
     parts.push(choice)?;
     if is_word(tokens, next, "THENC") {
-        places.push(Open::Enclosed(parts, Vec::new(alloc)))?;
+        places.push(Open::Enclosed {
+            parts,
+            units: Vec::new(alloc),
+        })?;
         return Ok(Step::Begin(next + 1));
     }
     if !is_mark(tokens, next, Symbol::CloseParenthesis) {
@@ -222,7 +228,7 @@ fn behind_unit(
 {
     units.push(unit)?;
     if is_word(tokens, next, "ORELSEC") {
-        places.push(Open::Enclosed(parts, units))?;
+        places.push(Open::Enclosed { parts, units })?;
         return Ok(Step::Begin(next + 1));
     }
     let (first, others) = parted(units);
@@ -250,13 +256,13 @@ fn close(
             Ok(conv) => Ok(Step::Close(conv, next)),
             Err(_) => Err(ReadError::Memory),
         },
-        Some(Open::Enclosed(parts, units)) => {
+        Some(Open::Enclosed { parts, units }) => {
             behind_unit(alloc, tokens, places, parts, units, unit, next)
         }
     }
 }
 
-/// What a conversional may stand before, at a place, with as much room for parentheses and prefixes in it.
+/// What a conversional may stand before, at a place. At most as many parentheses and prefixes as there is room for nest in it.
 pub fn read_unit(
     alloc: Global,
     tokens: &[Token<'_>],
