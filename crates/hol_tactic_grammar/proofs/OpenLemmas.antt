@@ -66,8 +66,8 @@ unopened place Syntax old new at start limit tokens none wanted full =
     let used : 0 ≡ wanted.room = omega arith in
     unread old Syntax at wanted.room start limit tokens wanted.around (subst (λ (n : ℕ). IsNoUnit n (behind at tokens)) used none)
 
-opened : (place : Open) (old new : List Open) (at start limit : ℕ) (tokens : List TokenHere) → at < length tokens → ((room : ℕ) → Opens place at (at + 1) room tokens) → IsWanted old at start limit tokens
-    → length old < limit → new ≡ place ∷ old → Goes (Begin (at + 1)) at (length old) new start limit tokens
+opened : (place : Open) (old new : List Open) (at start limit : ℕ) (tokens : List TokenHere) → at < length tokens → ((room : ℕ) → Opens place at (at + 1) room tokens)
+    → IsWanted old at start limit tokens → length old < limit → new ≡ place ∷ old → Goes (Begin (at + 1)) at (length old) new start limit tokens
 opened place old new at start limit tokens within opens wanted free is = subst (λ (ps : List Open). Goes (Begin (at + 1)) at (length old) ps start limit tokens) (sym is) (record {
   holds = record {
     room = wanted.room - 1;

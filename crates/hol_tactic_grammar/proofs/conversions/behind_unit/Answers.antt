@@ -12,5 +12,5 @@ returns-then-is_word c = λ start limit held.
 pub returns-in-Ok : goal.returns-in-Ok
 returns-in-Ok c = λ start limit held.
     c.behind_choice.ensures start limit
-    (choice-closed c.args.parts c.args.units c.args.unit c.in-Ok.choice c.parted-first.result.0 c.push.new.self.items c.parted-first.result.1.items (reverse c.args.places.now.items) c.args.next start limit
-    c.args.tokens.now c.in_ok-push.ensures.items c.parted-first.ensures c.if-is_word.ensures c.in-Ok.ensures held)
+    (choice-closed c.args.parts c.args.units c.args.unit c.in-Ok.choice c.parted-first.result.0 c.push.new.self.items c.parted-first.result.1.items (reverse c.args.places.now.items)
+    c.args.next start limit c.args.tokens.now c.in_ok-push.ensures.items c.parted-first.ensures c.if-is_word.ensures c.in-Ok.ensures held)
