@@ -5,4 +5,5 @@ pub mod Rows
 pub mod TacticWordLemmas
 pub mod LeafLemmas
 pub mod TacticLemmas
-pub mod OpenLemmas
+pub mod OpenConversionLemmas
+pub mod OpenTacticLemmas

@@ -1,5 +1,5 @@
 -- What stands at the front of tokens, as a refiner expression.
-use Rattle.std.proofs.Common.{◌≡◌, ◌≢◌, inl, inr, ℕ, zero, suc, ◌+◌, ◌<◌, arith, List, [], ◌∷◌, ◌++◌, map, length, false, ◌==◌, refl, sym, ap, ◌∙◌, subst, Some, Err}
+use Rattle.std.proofs.Common.{◌≡◌, ◌≢◌, ℕ, zero, suc, ◌+◌, ◌<◌, arith, List, [], ◌∷◌, ◌++◌, map, length, false, ◌==◌, refl, sym, ap, ◌∙◌, subst, Some}
 use Rattle.std.specs.Prelude.{codes}
 use Rattle.std.proofs.Math.Nat.{le-max_left, le-max_right, max-le}
 use Rattle.hol_model.specs.declared.limits.TheConstants.{EXPRESSION_NESTING_LIMIT}
@@ -11,18 +11,16 @@ use Rattle.hol_session_model.specs.TacticGrammar.{TacticLeaf, Tactic, then_chain
 use Rattle.hol_exprs.specs.declared.tac.Tac.{Tac}
 use Rattle.hol_exprs.specs.declared.tac.Link.{Link}
 use Rattle.hol_grammar.specs.declared.token.Token.{Token as TokenHere}
-use Rattle.hol_grammar.specs.declared.type_reader.ReadError.{ReadError}
-use Rattle.hol_grammar.specs.declared.type_reader.ReadError.TheVariants.{Memory, Syntax}
 use Rattle.hol_grammar.specs.TermSteps.{FlatStep}
-use Rattle.hol_grammar.specs.Views.{tokens_of}
 use Rattle.hol_tactic_grammar.specs.declared.tactic_words.Other.{Other}
 use Rattle.hol_tactic_grammar.specs.declared.tactic_words.Other.TheVariants.{Repeat, Try, Conv, Rewrite}
 use Rattle.hol_tactic_grammar.specs.declared.tactic_words.Start.TheVariants.{OfOther}
-use Rattle.hol_tactic_grammar.specs.Tokens.{behind, IsAt, IsNotAt}
-use Rattle.hol_tactic_grammar.specs.Conversions.{Without, Reaches}
+use Rattle.hol_tactic_grammar.specs.Tokens.{behind}
+use Rattle.hol_tactic_grammar.specs.Conversions.{Without}
 use Rattle.hol_tactic_grammar.specs.Quotes.{steps_of_tree}
-use Rattle.hol_tactic_grammar.specs.Expressions.{Kept, Expressions, Joint, Links, chain, orelse, repeat, try, more, no_more, link, no_link, on_all, on_each, then_on, or_else, expression_of, links_of, expressions_of, expression_of_choice, others_of, expression_here, joint_here, all_expressions, all_links}
-use Rattle.hol_tactic_grammar.specs.Tactics.{Meaning, Ends, FitsUnit, FitsOthers, FitsChoice, FitsLinks, Fits, FitsList, FitsJoint, IsUnit, IsNoUnit, IsChoice, IsNoChoice, LinkTree, with_choice, with_list, linked, joint_tokens, joint_of, IsLink, IsNoLink, IsList, IsNoList, IsWhole, IsNoWhole, ReadsUnit, ReadsChoice, ReadsLink, ReadsList, ReadsWhole, HasLink}
+use Rattle.hol_tactic_grammar.specs.Expressions.{Kept, Expressions, Joint, Links, chain, orelse, repeat, try, more, no_more, link, no_link, on_all, on_each, then_on, or_else, expression_of, links_of, expressions_of, others_of, expression_here, joint_here, all_expressions, all_links}
+use Rattle.hol_tactic_grammar.specs.Tactics.{Meaning, Ends, FitsUnit, FitsOthers, FitsChoice, FitsLinks, Fits, FitsList, FitsJoint, IsUnit, IsNoUnit, IsChoice, IsNoChoice, LinkTree, with_choice, with_list, linked, joint_tokens, joint_of, IsLink, IsNoLink, IsList, IsNoList, IsWhole, IsNoWhole}
+use Rattle.hol_tactic_grammar.specs.OpenTactics.{listed, IsChoiceOf, HasOthers, IsChoiceFront, chained, IsChainOf, HasLinks, IsChainFront, IsListOf, HasFurther, IsListFront, HasNext, IsListPlace}
 use Rattle.hol_tactic_grammar.proofs.TacticWordLemmas.{start_of_unit, begins-with}
 
 -- ---- parts that fit
@@ -220,11 +218,6 @@ enclosed-too-deep room tokens inner none begins = enclosed-none room tokens inne
 
 -- ---- chains of ORELSE
 
--- what was read of a chain or a list, before the others
-abbrev pub listed : List Meaning → Expressions (List FlatStep) → Expressions (List FlatStep)
-listed [] others = others
-listed (meaning ∷ meanings) others = more meaning (listed meanings others)
-
 listed-more : (meanings : List Meaning) (meaning : Meaning) (others : Expressions (List FlatStep)) → listed (meanings ++ meaning ∷ []) others ≡ listed meanings (more meaning others)
 listed-more [] meaning others = refl
 listed-more (first ∷ meanings) meaning others = ap (more first) (listed-more meanings meaning others)
@@ -233,28 +226,11 @@ listed-all : (meanings : List Meaning) → listed meanings no_more ≡ all_expre
 listed-all [] = refl
 listed-all (first ∷ meanings) = ap (more first) (listed-all meanings)
 
-record Choice (room : ℕ) (tokens rest : List Token) (meaning : Meaning) : Type 0 where
-  tree : TacticChoice TermTree
-  fits : FitsChoice room tree
-  spelled : tokens ≡ choice_tokens tree rest
-  means : meaning ≡ expression_of_choice steps_of_tree tree
-
-record Others (room : ℕ) (tokens rest : List Token) : Type 0 where
-  others : OtherTactics TermTree
-  fits : FitsOthers room others
-  spelled : tokens ≡ other_tokens others rest
-
--- whatever others follow complete the chain, and whatever chain the tokens are goes on with others
-pub record IsChoiceFront (room : ℕ) (tokens left : List Token) (first : Meaning) (taken : List Meaning) : Type 0 where
-  completes : (others : OtherTactics TermTree) (rest : List Token) → FitsOthers room others → left ≡ other_tokens others rest
-      → Choice room tokens rest (or_else first (listed taken (others_of steps_of_tree others)))
-  goes : (tree : TacticChoice TermTree) (rest : List Token) → FitsChoice room tree → Without (codes "ORELSE") rest → tokens ≡ choice_tokens tree rest → Others room left rest
-
 choice-begun : (room : ℕ) (tokens left : List Token) (first : Meaning) → IsUnit room tokens left first → IsChoiceFront room tokens left first []
 choice-begun room tokens left first read = record { completes = completes; goes = goes }
   where
     completes : (others : OtherTactics TermTree) (rest : List Token) → FitsOthers room others → left ≡ other_tokens others rest
-        → Choice room tokens rest (or_else first (listed [] (others_of steps_of_tree others)))
+        → IsChoiceOf room tokens rest (or_else first (listed [] (others_of steps_of_tree others)))
     completes others rest fits same = record {
       tree = orelse_chain read.tree others;
       fits = record { nested = max-le read.fits.nested fits.nested; quotable = (read.fits.quotable, fits.quotable) };
@@ -262,7 +238,7 @@ choice-begun room tokens left first read = record { completes = completes; goes 
       means = ap (λ (m : Meaning). or_else m (others_of steps_of_tree others)) read.means;
     }
 
-    goes : (tree : TacticChoice TermTree) (rest : List Token) → FitsChoice room tree → Without (codes "ORELSE") rest → tokens ≡ choice_tokens tree rest → Others room left rest
+    goes : (tree : TacticChoice TermTree) (rest : List Token) → FitsChoice room tree → Without (codes "ORELSE") rest → tokens ≡ choice_tokens tree rest → HasOthers room left rest
     goes (orelse_chain unit others) rest fits none same = record {
       others = others;
       fits = choice-others room unit others fits;
@@ -275,7 +251,7 @@ choice-taken : (room : ℕ) (tokens left inner behind : List Token) (first meani
 choice-taken room tokens left inner behind first meaning taken further added front begins read = record { completes = completes; goes = goes }
   where
     completes : (others : OtherTactics TermTree) (rest : List Token) → FitsOthers room others → behind ≡ other_tokens others rest
-        → Choice room tokens rest (or_else first (listed further (others_of steps_of_tree others)))
+        → IsChoiceOf room tokens rest (or_else first (listed further (others_of steps_of_tree others)))
     completes others rest fits same =
         let known = front.completes (grammar.orelse read.tree others) rest (record { nested = max-le read.fits.nested fits.nested; quotable = (read.fits.quotable, fits.quotable) })
         (begins ∙ ap (λ (ts : List Token). Name (codes "ORELSE") ∷ ts) (read.spelled ∙ ap (tactic_unit_tokens read.tree) same)) in
@@ -284,13 +260,13 @@ choice-taken room tokens left inner behind first meaning taken further added fro
         ∙ ap (λ (m : Meaning). listed taken (more m (others_of steps_of_tree others))) read.means in
         record { tree = known.tree; fits = known.fits; spelled = known.spelled; means = ap (or_else first) list ∙ known.means }
 
-    goes : (tree : TacticChoice TermTree) (rest : List Token) → FitsChoice room tree → Without (codes "ORELSE") rest → tokens ≡ choice_tokens tree rest → Others room behind rest
+    goes : (tree : TacticChoice TermTree) (rest : List Token) → FitsChoice room tree → Without (codes "ORELSE") rest → tokens ≡ choice_tokens tree rest → HasOthers room behind rest
     goes tree rest fits none same = go known.others known.fits known.spelled
       where
-        known : Others room left rest
+        known : HasOthers room left rest
         known = front.goes tree rest fits none same
 
-        go : (others : OtherTactics TermTree) → FitsOthers room others → left ≡ other_tokens others rest → Others room behind rest
+        go : (others : OtherTactics TermTree) → FitsOthers room others → left ≡ other_tokens others rest → HasOthers room behind rest
         go no_more_orelse small is = absurd (none inner (sym is ∙ begins))
         go (grammar.orelse unit others) small is =
             let both : Name (codes "ORELSE") ∷ inner ≡ Name (codes "ORELSE") ∷ tactic_unit_tokens unit (other_tokens others rest) = sym begins ∙ is in
@@ -308,7 +284,7 @@ choice-ended room tokens left first meaning taken front ended means = record {
   only = only;
 }
   where
-    known : Choice room tokens left (or_else first (listed taken no_more))
+    known : IsChoiceOf room tokens left (or_else first (listed taken no_more))
     known = front.completes no_more_orelse left (record { nested = omega arith; quotable = tt }) refl
 
     go : (others : OtherTactics TermTree) (rest : List Token) → left ≡ other_tokens others rest → rest ≡ left
@@ -323,7 +299,7 @@ pub choice-broken : (room : ℕ) (tokens left inner : List Token) (first : Meani
     → IsNoChoice room tokens
 choice-broken room tokens left inner first taken front begins refused tree rest fits none same = go known.others known.fits known.spelled
   where
-    known : Others room left rest
+    known : HasOthers room left rest
     known = front.goes tree rest fits none same
 
     go : (others : OtherTactics TermTree) → FitsOthers room others → left ≡ other_tokens others rest → ⊥
@@ -333,17 +309,13 @@ choice-broken room tokens left inner first taken front begins refused tree rest 
         let next : inner ≡ tactic_unit_tokens unit (other_tokens others rest) = cc in
         refused unit (other_tokens others rest) (others-first room unit others small) next
 
-choice-refused : (room : ℕ) (tokens : List Token) → IsNoUnit room tokens → IsNoChoice room tokens
+pub choice-refused : (room : ℕ) (tokens : List Token) → IsNoUnit room tokens → IsNoChoice room tokens
 choice-refused room tokens refused = go
   where
     go : IsNoChoice room tokens
     go (orelse_chain unit others) rest fits none same = refused unit (other_tokens others rest) (choice-first room unit others fits) same
 
 -- ---- chains of THEN and THENL
-
-abbrev pub chained : List (Joint (List FlatStep)) → Links (List FlatStep) → Links (List FlatStep)
-chained [] others = others
-chained (meaning ∷ meanings) others = link meaning (chained meanings others)
 
 chained-more : (meanings : List (Joint (List FlatStep))) (meaning : Joint (List FlatStep)) (others : Links (List FlatStep))
     → chained (meanings ++ meaning ∷ []) others ≡ chained meanings (link meaning others)
@@ -354,33 +326,16 @@ chained-all : (meanings : List (Joint (List FlatStep))) → chained meanings no_
 chained-all [] = refl
 chained-all (first ∷ meanings) = ap (link first) (chained-all meanings)
 
-record Whole (room : ℕ) (tokens rest : List Token) (meaning : Meaning) : Type 0 where
-  tree : Tactic TermTree
-  fits : Fits room tree
-  spelled : tokens ≡ tactic_tokens tree rest
-  means : meaning ≡ expression_of steps_of_tree tree
-
-record Linked (room : ℕ) (tokens rest : List Token) : Type 0 where
-  links : TacticLinks TermTree
-  fits : FitsLinks room links
-  spelled : tokens ≡ link_tokens links rest
-
--- whatever links follow complete the chain, and whatever chain the tokens are goes on with links
-pub record IsWholeFront (room : ℕ) (tokens left : List Token) (first : Meaning) (taken : List (Joint (List FlatStep))) : Type 0 where
-  completes : (links : TacticLinks TermTree) (rest : List Token) → FitsLinks room links → left ≡ link_tokens links rest
-      → Whole room tokens rest (then_on first (chained taken (links_of steps_of_tree links)))
-  goes : (tree : Tactic TermTree) (rest : List Token) → Fits room tree → Ends rest → tokens ≡ tactic_tokens tree rest → Linked room left rest
-
 links-without : (links : TacticLinks TermTree) (rest : List Token) → Ends rest → Without (codes "ORELSE") (link_tokens links rest)
 links-without no_more_then rest ends = ends.else
 links-without (then_all choice links) rest ends = λ others same. cc
 links-without (then_each list links) rest ends = λ others same. cc
 
-whole-begun : (room : ℕ) (tokens left : List Token) (first : Meaning) → IsChoice room tokens left first → IsWholeFront room tokens left first []
+whole-begun : (room : ℕ) (tokens left : List Token) (first : Meaning) → IsChoice room tokens left first → IsChainFront room tokens left first []
 whole-begun room tokens left first read = record { completes = completes; goes = goes }
   where
     completes : (links : TacticLinks TermTree) (rest : List Token) → FitsLinks room links → left ≡ link_tokens links rest
-        → Whole room tokens rest (then_on first (chained [] (links_of steps_of_tree links)))
+        → IsChainOf room tokens rest (then_on first (chained [] (links_of steps_of_tree links)))
     completes links rest fits same = record {
       tree = then_chain read.tree links;
       fits = record { nested = max-le read.fits.nested fits.nested; quotable = (read.fits.quotable, fits.quotable) };
@@ -388,7 +343,7 @@ whole-begun room tokens left first read = record { completes = completes; goes =
       means = ap (λ (m : Meaning). then_on m (links_of steps_of_tree links)) read.means;
     }
 
-    goes : (tree : Tactic TermTree) (rest : List Token) → Fits room tree → Ends rest → tokens ≡ tactic_tokens tree rest → Linked room left rest
+    goes : (tree : Tactic TermTree) (rest : List Token) → Fits room tree → Ends rest → tokens ≡ tactic_tokens tree rest → HasLinks room left rest
     goes (then_chain choice links) rest fits ends same = record {
       links = links;
       fits = whole-links room choice links fits;
@@ -401,11 +356,11 @@ joint-begins (with_choice choice) left behind rest begins same ends = absurd (en
 joint-begins (with_list list) left behind rest begins same ends = absurd (ends.thenl _ (sym same ∙ begins))
 
 whole-taken : (room : ℕ) (tokens left behind : List Token) (first : Meaning) (meaning : Joint (List FlatStep)) (taken further : List (Joint (List FlatStep))) → further ≡ taken ++ meaning ∷ []
-    → IsWholeFront room tokens left first taken → IsLink room left behind meaning → IsWholeFront room tokens behind first further
+    → IsChainFront room tokens left first taken → IsLink room left behind meaning → IsChainFront room tokens behind first further
 whole-taken room tokens left behind first meaning taken further added front read = record { completes = completes; goes = goes }
   where
     completes : (links : TacticLinks TermTree) (rest : List Token) → FitsLinks room links → behind ≡ link_tokens links rest
-        → Whole room tokens rest (then_on first (chained further (links_of steps_of_tree links)))
+        → IsChainOf room tokens rest (then_on first (chained further (links_of steps_of_tree links)))
     completes links rest fits same =
         let known = front.completes (linked read.tree links) rest (links-fit room read.tree links read.fits fits) (read.spelled ∙ ap (joint_tokens read.tree) same ∙ linked-tokens read.tree
         links rest) in
@@ -415,25 +370,25 @@ whole-taken room tokens left behind first meaning taken further added front read
         record { tree = known.tree; fits = known.fits; spelled = known.spelled; means = ap (then_on first) list ∙ known.means }
 
     step : (joint : LinkTree) (links : TacticLinks TermTree) (rest : List Token) → Ends rest → FitsLinks room (linked joint links) → left ≡ link_tokens (linked joint links) rest
-        → Linked room behind rest
+        → HasLinks room behind rest
     step joint links rest ends small is = record {
       links = links;
       fits = links-rest room joint links small;
       spelled = sym (read.only joint (link_tokens links rest) (links-first room joint links small) (links-without links rest ends) (is ∙ sym (linked-tokens joint links rest)));
     }
 
-    goes : (tree : Tactic TermTree) (rest : List Token) → Fits room tree → Ends rest → tokens ≡ tactic_tokens tree rest → Linked room behind rest
+    goes : (tree : Tactic TermTree) (rest : List Token) → Fits room tree → Ends rest → tokens ≡ tactic_tokens tree rest → HasLinks room behind rest
     goes tree rest fits ends same = go known.links known.fits known.spelled
       where
-        known : Linked room left rest
+        known : HasLinks room left rest
         known = front.goes tree rest fits ends same
 
-        go : (links : TacticLinks TermTree) → FitsLinks room links → left ≡ link_tokens links rest → Linked room behind rest
+        go : (links : TacticLinks TermTree) → FitsLinks room links → left ≡ link_tokens links rest → HasLinks room behind rest
         go no_more_then small is = joint-begins read.tree left behind rest read.spelled is ends
         go (then_all choice links) small is = step (with_choice choice) links rest ends small is
         go (then_each list links) small is = step (with_list list) links rest ends small is
 
-pub whole-ended : (room : ℕ) (tokens left : List Token) (first meaning : Meaning) (taken : List (Joint (List FlatStep))) → IsWholeFront room tokens left first taken
+pub whole-ended : (room : ℕ) (tokens left : List Token) (first meaning : Meaning) (taken : List (Joint (List FlatStep))) → IsChainFront room tokens left first taken
     → Without (codes "THEN") left → Without (codes "THENL") left
     → meaning ≡ then_on first (all_links taken) → IsWhole room tokens left meaning
 whole-ended room tokens left first meaning taken front no_then no_thenl means = record {
@@ -445,7 +400,7 @@ whole-ended room tokens left first meaning taken front no_then no_thenl means = 
   only = only;
 }
   where
-    known : Whole room tokens left (then_on first (chained taken no_link))
+    known : IsChainOf room tokens left (then_on first (chained taken no_link))
     known = front.completes no_more_then left (record { nested = omega arith; quotable = tt }) refl
 
     go : (links : TacticLinks TermTree) (rest : List Token) → left ≡ link_tokens links rest → rest ≡ left
@@ -456,12 +411,12 @@ whole-ended room tokens left first meaning taken front no_then no_thenl means = 
     only : (other : Tactic TermTree) (rest : List Token) → Fits room other → Ends rest → tokens ≡ tactic_tokens other rest → rest ≡ left
     only other rest fits ends same = (let links = front.goes other rest fits ends same in go links.links rest links.spelled)
 
-whole-broken : (room : ℕ) (tokens left : List Token) (first : Meaning) (taken : List (Joint (List FlatStep))) → IsWholeFront room tokens left first taken
+pub whole-broken : (room : ℕ) (tokens left : List Token) (first : Meaning) (taken : List (Joint (List FlatStep))) → IsChainFront room tokens left first taken
     → ((rest : List Token) → left ≡ rest → Ends rest → ⊥)
     → IsNoLink room left → IsNoWhole room tokens
 whole-broken room tokens left first taken front begins refused tree rest fits ends same = go known.links known.fits known.spelled
   where
-    known : Linked room left rest
+    known : HasLinks room left rest
     known = front.goes tree rest fits ends same
 
     step : (joint : LinkTree) (links : TacticLinks TermTree) → FitsLinks room (linked joint links) → left ≡ link_tokens (linked joint links) rest → ⊥
@@ -472,7 +427,7 @@ whole-broken room tokens left first taken front begins refused tree rest fits en
     go (then_all choice links) small is = step (with_choice choice) links small is
     go (then_each list links) small is = step (with_list list) links small is
 
-whole-refused : (room : ℕ) (tokens : List Token) → IsNoChoice room tokens → IsNoWhole room tokens
+pub whole-refused : (room : ℕ) (tokens : List Token) → IsNoChoice room tokens → IsNoWhole room tokens
 whole-refused room tokens refused = go
   where
     go : IsNoWhole room tokens
@@ -520,82 +475,72 @@ further-ends : (list : Tactics TermTree) (rest : List Token) → Ends (further_t
 further-ends no_tactics rest = record { then = λ others same. cc; thenl = λ others same. cc; else = λ others same. cc }
 further-ends (tactic_and tactic list) rest = record { then = λ others same. cc; thenl = λ others same. cc; else = λ others same. cc }
 
-record Listed (room : ℕ) (tokens rest : List Token) (meaning : Expressions (List FlatStep)) : Type 0 where
-  tree : Tactics TermTree
-  fits : FitsList room tree
-  spelled : tokens ≡ Mark OpenBracket ∷ first_tokens tree rest
-  means : meaning ≡ expressions_of steps_of_tree tree
-
-record Further (room : ℕ) (tokens rest : List Token) : Type 0 where
-  list : Tactics TermTree
-  fits : FitsList room list
-  spelled : tokens ≡ further_tokens list rest
-
--- whatever follows completes the list, and whatever list the tokens are goes on with what follows
-pub record IsListFront (room : ℕ) (tokens left : List Token) (taken : List Meaning) : Type 0 where
-  completes : (list : Tactics TermTree) (rest : List Token) → FitsList room list → left ≡ further_tokens list rest → Listed room tokens rest (listed taken (expressions_of steps_of_tree list))
-  goes : (tree : Tactics TermTree) (rest : List Token) → FitsList room tree → tokens ≡ Mark OpenBracket ∷ first_tokens tree rest → Further room left rest
-
-list-begun : (room : ℕ) (tokens inner left : List Token) (first : Meaning) → tokens ≡ Mark OpenBracket ∷ inner → ((rest : List Token) → inner ≢ Mark CloseBracket ∷ rest)
-    → IsWhole room inner left first
-    → IsListFront room tokens left (first ∷ [])
-list-begun room tokens inner left first begins some read = record { completes = completes; goes = goes }
+pub list-begins : (room : ℕ) (inner : List Token) → ((rest : List Token) → inner ≢ Mark CloseBracket ∷ rest) → IsListPlace room (Mark OpenBracket ∷ inner) inner []
+list-begins room inner some = record { completes = completes; goes = goes }
   where
-    completes : (list : Tactics TermTree) (rest : List Token) → FitsList room list → left ≡ further_tokens list rest → Listed room tokens rest (more first (expressions_of steps_of_tree list))
-    completes list rest fits same = record {
-      tree = tactic_and read.tree list;
-      fits = record { nested = max-le read.fits.nested fits.nested; quotable = (read.fits.quotable, fits.quotable) };
-      spelled = begins ∙ ap (λ (ts : List Token). Mark OpenBracket ∷ ts) (read.spelled ∙ ap (tactic_tokens read.tree) same);
-      means = ap (λ (m : Meaning). more m (expressions_of steps_of_tree list)) read.means;
+    completes : (next : Tactic TermTree) (list : Tactics TermTree) (rest : List Token) → Fits room next → FitsList room list → inner ≡ tactic_tokens next (further_tokens list rest)
+        → IsListOf room (Mark OpenBracket ∷ inner) rest (listed [] (more (expression_of steps_of_tree next) (expressions_of steps_of_tree list)))
+    completes next list rest fits small same = record {
+      tree = tactic_and next list;
+      fits = record { nested = max-le fits.nested small.nested; quotable = (fits.quotable, small.quotable) };
+      spelled = ap (λ (ts : List Token). Mark OpenBracket ∷ ts) same;
+      means = refl;
     }
 
-    goes : (tree : Tactics TermTree) (rest : List Token) → FitsList room tree → tokens ≡ Mark OpenBracket ∷ first_tokens tree rest → Further room left rest
-    goes no_tactics rest fits same =
-        let both : Mark OpenBracket ∷ inner ≡ Mark OpenBracket ∷ Mark CloseBracket ∷ rest = sym begins ∙ same in
-        let further : inner ≡ Mark CloseBracket ∷ rest = cc in
-        absurd (some rest further)
-    goes (tactic_and tactic list) rest fits same =
-        let both : Mark OpenBracket ∷ inner ≡ Mark OpenBracket ∷ tactic_tokens tactic (further_tokens list rest) = sym begins ∙ same in
-        let further : inner ≡ tactic_tokens tactic (further_tokens list rest) = cc in
-        record { list = list; fits = list-rest room tactic list fits; spelled = sym (read.only tactic (further_tokens list rest) (list-first room tactic list fits) (further-ends list rest) further) }
+    goes : (tree : Tactics TermTree) (rest : List Token) → FitsList room tree → Mark OpenBracket ∷ inner ≡ Mark OpenBracket ∷ first_tokens tree rest → HasNext room inner rest
+    goes no_tactics rest fits same = (let further : inner ≡ Mark CloseBracket ∷ rest = cc in absurd (some rest further))
+    goes (tactic_and next list) rest fits same =
+        let further : inner ≡ tactic_tokens next (further_tokens list rest) = cc in
+        record { next = next; list = list; next_fits = list-first room next list fits; list_fits = list-rest room next list fits; spelled = further }
 
-list-taken : (room : ℕ) (tokens left inner behind : List Token) (meaning : Meaning) (taken further : List Meaning) → further ≡ taken ++ meaning ∷ [] → IsListFront room tokens left taken
-    → left ≡ Mark Semicolon ∷ inner
-    → IsWhole room inner behind meaning → IsListFront room tokens behind further
-list-taken room tokens left inner behind meaning taken further added front begins read = record { completes = completes; goes = goes }
+pub list-goes-on : (room : ℕ) (tokens inner : List Token) (taken : List Meaning) → IsListFront room tokens (Mark Semicolon ∷ inner) taken → IsListPlace room tokens inner taken
+list-goes-on room tokens inner taken front = record { completes = completes; goes = goes }
   where
-    completes : (list : Tactics TermTree) (rest : List Token) → FitsList room list → behind ≡ further_tokens list rest → Listed room tokens rest (listed further (expressions_of steps_of_tree list))
+    completes : (next : Tactic TermTree) (list : Tactics TermTree) (rest : List Token) → Fits room next → FitsList room list → inner ≡ tactic_tokens next (further_tokens list rest)
+        → IsListOf room tokens rest (listed taken (more (expression_of steps_of_tree next) (expressions_of steps_of_tree list)))
+    completes next list rest fits small same =
+        front.completes (tactic_and next list) rest (record { nested = max-le fits.nested small.nested; quotable = (fits.quotable, small.quotable) })
+        (ap (λ (ts : List Token). Mark Semicolon ∷ ts) same)
+
+    goes : (tree : Tactics TermTree) (rest : List Token) → FitsList room tree → tokens ≡ Mark OpenBracket ∷ first_tokens tree rest → HasNext room inner rest
+    goes tree rest fits same = go known.list known.fits known.spelled
+      where
+        known : HasFurther room (Mark Semicolon ∷ inner) rest
+        known = front.goes tree rest fits same
+
+        go : (list : Tactics TermTree) → FitsList room list → Mark Semicolon ∷ inner ≡ further_tokens list rest → HasNext room inner rest
+        go no_tactics small is = cc
+        go (tactic_and next list) small is =
+            let further : inner ≡ tactic_tokens next (further_tokens list rest) = cc in
+            record { next = next; list = list; next_fits = list-first room next list small; list_fits = list-rest room next list small; spelled = further }
+
+pub list-taken : (room : ℕ) (tokens inner left : List Token) (meaning : Meaning) (taken further : List Meaning) → further ≡ taken ++ meaning ∷ [] → IsListPlace room tokens inner taken
+    → IsWhole room inner left meaning → IsListFront room tokens left further
+list-taken room tokens inner left meaning taken further added place read = record { completes = completes; goes = goes }
+  where
+    completes : (list : Tactics TermTree) (rest : List Token) → FitsList room list → left ≡ further_tokens list rest → IsListOf room tokens rest (listed further (expressions_of steps_of_tree list))
     completes list rest fits same =
-        let known = front.completes (tactic_and read.tree list) rest (record { nested = max-le read.fits.nested fits.nested; quotable = (read.fits.quotable, fits.quotable) })
-        (begins ∙ ap (λ (ts : List Token). Mark Semicolon ∷ ts) (read.spelled ∙ ap (tactic_tokens read.tree) same)) in
-        let same_list : listed further (expressions_of steps_of_tree list) ≡ listed taken (expressions_of steps_of_tree (tactic_and read.tree list)) =
+        let known = place.completes read.tree list rest read.fits fits (read.spelled ∙ ap (tactic_tokens read.tree) same) in
+        let same_list : listed further (expressions_of steps_of_tree list) ≡ listed taken (more (expression_of steps_of_tree read.tree) (expressions_of steps_of_tree list)) =
         ap (λ (ms : List Meaning). listed ms (expressions_of steps_of_tree list)) added ∙ listed-more taken meaning (expressions_of steps_of_tree list)
         ∙ ap (λ (m : Meaning). listed taken (more m (expressions_of steps_of_tree list))) read.means in
         record { tree = known.tree; fits = known.fits; spelled = known.spelled; means = same_list ∙ known.means }
 
-    goes : (tree : Tactics TermTree) (rest : List Token) → FitsList room tree → tokens ≡ Mark OpenBracket ∷ first_tokens tree rest → Further room behind rest
-    goes tree rest fits same = go known.list known.fits known.spelled
-      where
-        known : Further room left rest
-        known = front.goes tree rest fits same
-
-        go : (list : Tactics TermTree) → FitsList room list → left ≡ further_tokens list rest → Further room behind rest
-        go no_tactics small is = (let both : Mark Semicolon ∷ inner ≡ Mark CloseBracket ∷ rest = sym begins ∙ is in cc)
-        go (tactic_and tactic list) small is =
-            let both : Mark Semicolon ∷ inner ≡ Mark Semicolon ∷ tactic_tokens tactic (further_tokens list rest) = sym begins ∙ is in
-            let next : inner ≡ tactic_tokens tactic (further_tokens list rest) = cc in
-            record {
-              list = list;
-              fits = list-rest room tactic list small;
-              spelled = sym (read.only tactic (further_tokens list rest) (list-first room tactic list small)
-                  (further-ends list rest) next);
-            }
+    goes : (tree : Tactics TermTree) (rest : List Token) → FitsList room tree → tokens ≡ Mark OpenBracket ∷ first_tokens tree rest → HasFurther room left rest
+    goes tree rest fits same =
+        let known = place.goes tree rest fits same in
+        record {
+          list = known.list;
+          fits = known.list_fits;
+          spelled = sym (read.only known.next (further_tokens known.list rest) known.next_fits
+              (further-ends known.list rest) known.spelled);
+        }
 
 pub list-ended : (room : ℕ) (tokens left rest : List Token) (taken : List Meaning) → IsListFront room tokens left taken → left ≡ Mark CloseBracket ∷ rest
     → IsList room tokens rest (all_expressions taken)
 list-ended room tokens left rest taken front ends = record { tree = known.tree; fits = known.fits; spelled = known.spelled; means = sym (listed-all taken) ∙ known.means; only = only }
   where
-    known : Listed room tokens rest (listed taken no_more)
+    known : IsListOf room tokens rest (listed taken no_more)
     known = front.completes no_tactics rest (record { nested = omega arith; quotable = tt }) ends
 
     go : (list : Tactics TermTree) (behind : List Token) → left ≡ further_tokens list behind → behind ≡ rest
@@ -605,27 +550,19 @@ list-ended room tokens left rest taken front ends = record { tree = known.tree; 
     only : (other : Tactics TermTree) (behind : List Token) → FitsList room other → tokens ≡ Mark OpenBracket ∷ first_tokens other behind → behind ≡ rest
     only other behind fits same = (let further = front.goes other behind fits same in go further.list behind further.spelled)
 
--- what keeps the list from going on
-list-stopped : (room : ℕ) (tokens left : List Token) (taken : List Meaning) → IsListFront room tokens left taken → ((rest : List Token) → left ≢ Mark CloseBracket ∷ rest)
-    → ((tactic : Tactic TermTree) (rest : List Token) → Fits room tactic → Ends rest → left ≢ Mark Semicolon ∷ tactic_tokens tactic rest) → IsNoList room tokens
-list-stopped room tokens left taken front no_end no_more_tactics tree rest fits same = (let known = front.goes tree rest fits same in go known.list known.fits known.spelled)
-  where
-    go : (list : Tactics TermTree) → FitsList room list → left ≡ further_tokens list rest → ⊥
-    go no_tactics small is = no_end rest is
-    go (tactic_and tactic list) small is = no_more_tactics tactic (further_tokens list rest) (list-first room tactic list small) (further-ends list rest) is
-
 pub list-open : (room : ℕ) (tokens left : List Token) (taken : List Meaning) → IsListFront room tokens left taken → ((rest : List Token) → left ≢ Mark CloseBracket ∷ rest)
     → ((rest : List Token) → left ≢ Mark Semicolon ∷ rest)
     → IsNoList room tokens
-list-open room tokens left taken front no_end no_semicolon = list-stopped room tokens left taken front no_end (λ tactic rest fits ends same. no_semicolon _ same)
+list-open room tokens left taken front no_end no_semicolon tree rest fits same = (let known = front.goes tree rest fits same in go known.list known.fits known.spelled)
+  where
+    go : (list : Tactics TermTree) → FitsList room list → left ≡ further_tokens list rest → ⊥
+    go no_tactics small is = no_end rest is
+    go (tactic_and tactic list) small is = no_semicolon _ is
 
-list-broken : (room : ℕ) (tokens left inner : List Token) (taken : List Meaning) → IsListFront room tokens left taken → left ≡ Mark Semicolon ∷ inner → IsNoWhole room inner → IsNoList room tokens
-list-broken room tokens left inner taken front begins refused = list-stopped room tokens left taken front
-    (λ rest same. (let both : Mark Semicolon ∷ inner ≡ Mark CloseBracket ∷ rest = sym begins ∙ same in cc))
-    (λ tactic rest fits ends same.
-    (let both : Mark Semicolon ∷ inner ≡ Mark Semicolon ∷ tactic_tokens tactic rest = sym begins ∙ same in
-    let further : inner ≡ tactic_tokens tactic rest = cc in
-    refused tactic rest fits ends further))
+pub list-refused : (room : ℕ) (tokens left : List Token) (taken : List Meaning) → IsListPlace room tokens left taken → IsNoWhole room left → IsNoList room tokens
+list-refused room tokens left taken place refused tree rest fits same =
+    let known = place.goes tree rest fits same in
+    refused known.next (further_tokens known.list rest) known.next_fits (further-ends known.list rest) known.spelled
 
 leaf-no_bracket : {A : Type 0} (tactic : TacticLeaf TermTree) (rest r : List Token) → leaf_tokens tactic rest ≡ Mark CloseBracket ∷ r → A
 leaf-no_bracket (grammar.plain other) rest r same = cc
@@ -656,19 +593,6 @@ list-empty room tokens inner rest begins ends = record { tree = no_tactics; fits
         let further : tactic_tokens tactic (further_tokens list left) ≡ Mark CloseBracket ∷ rest = cc in
         tactic-no_bracket tactic (further_tokens list left) rest further
 
-list-refused : (room : ℕ) (tokens inner : List Token) → tokens ≡ Mark OpenBracket ∷ inner → ((rest : List Token) → inner ≢ Mark CloseBracket ∷ rest) → IsNoWhole room inner → IsNoList room tokens
-list-refused room tokens inner begins some refused = go
-  where
-    go : IsNoList room tokens
-    go no_tactics rest fits same =
-        let both : Mark OpenBracket ∷ inner ≡ Mark OpenBracket ∷ Mark CloseBracket ∷ rest = sym begins ∙ same in
-        let further : inner ≡ Mark CloseBracket ∷ rest = cc in
-        some rest further
-    go (tactic_and tactic list) rest fits same =
-        let both : Mark OpenBracket ∷ inner ≡ Mark OpenBracket ∷ tactic_tokens tactic (further_tokens list rest) = sym begins ∙ same in
-        let further : inner ≡ tactic_tokens tactic (further_tokens list rest) = cc in
-        refused tactic (further_tokens list rest) (list-first room tactic list fits) (further-ends list rest) further
-
 -- ---- readings
 
 pub or_else-several : (first : Meaning) (others : List (Tac Kept)) (count : ℕ) → count ≡ length others → false ≡ (count == 0)
@@ -681,7 +605,7 @@ pub then_on-several : (first : Meaning) (links : List (Link Kept)) (count : ℕ)
 then_on-several first [] count is some = (let none : false ≡ (0 == 0) = some ∙ ap (λ (n : ℕ). n == 0) is in cc)
 then_on-several first (other ∷ others) count is some = refl
 
-mapped : (taken : List (Tac Kept)) (tactic : Tac Kept) → map expression_here (taken ++ tactic ∷ []) ≡ map expression_here taken ++ expression_here tactic ∷ []
+pub mapped : (taken : List (Tac Kept)) (tactic : Tac Kept) → map expression_here (taken ++ tactic ∷ []) ≡ map expression_here taken ++ expression_here tactic ∷ []
 mapped [] tactic = refl
 mapped (first ∷ taken) tactic = ap (λ (ms : List Meaning). expression_here first ∷ ms) (mapped taken tactic)
 
@@ -702,101 +626,24 @@ choice-goes-on room tokens left inner behind first taken further tactic added fr
     tactic) front begins read
 
 pub whole-begins : (room : ℕ) (tokens left : List Token) (first : Meaning) (taken : List (Link Kept)) → taken ≡ [] → IsChoice room tokens left first
-    → IsWholeFront room tokens left first (map joint_here taken)
-whole-begins room tokens left first taken none read = subst (λ (ls : List (Link Kept)). IsWholeFront room tokens left first (map joint_here ls)) (sym none) (whole-begun room tokens left first read)
+    → IsChainFront room tokens left first (map joint_here taken)
+whole-begins room tokens left first taken none read = subst (λ (ls : List (Link Kept)). IsChainFront room tokens left first (map joint_here ls)) (sym none) (whole-begun room tokens left first read)
 
 pub whole-goes-on : (room : ℕ) (tokens left behind : List Token) (first : Meaning) (taken further : List (Link Kept)) (joint : Link Kept) → further ≡ taken ++ joint ∷ []
-    → IsWholeFront room tokens left first (map joint_here taken)
-    → IsLink room left behind (joint_here joint) → IsWholeFront room tokens behind first (map joint_here further)
+    → IsChainFront room tokens left first (map joint_here taken)
+    → IsLink room left behind (joint_here joint) → IsChainFront room tokens behind first (map joint_here further)
 whole-goes-on room tokens left behind first taken further joint added front read =
     whole-taken room tokens left behind first (joint_here joint) (map joint_here taken) (map joint_here further) (ap (map joint_here) added ∙ mapped-links taken joint) front read
 
-pub list-begins : (room : ℕ) (tokens inner left : List Token) (none taken : List (Tac Kept)) (tactic : Tac Kept) → none ≡ [] → taken ≡ none ++ tactic ∷ [] → tokens ≡ Mark OpenBracket ∷ inner
-    → ((rest : List Token) → inner ≢ Mark CloseBracket ∷ rest) → IsWhole room inner left (expression_here tactic) → IsListFront room tokens left (map expression_here taken)
-list-begins room tokens inner left none taken tactic empty added begins some read =
-    subst (λ (ts : List (Tac Kept)). IsListFront room tokens left (map expression_here ts)) (sym (added ∙ ap (λ (ts : List (Tac Kept)). ts ++ tactic ∷ []) empty)) (list-begun room tokens
-    inner left (expression_here tactic) begins some read)
-
-pub list-goes-on : (room : ℕ) (tokens left inner behind : List Token) (taken further : List (Tac Kept)) (tactic : Tac Kept) → further ≡ taken ++ tactic ∷ []
-    → IsListFront room tokens left (map expression_here taken)
-    → left ≡ Mark Semicolon ∷ inner → IsWhole room inner behind (expression_here tactic) → IsListFront room tokens behind (map expression_here further)
-list-goes-on room tokens left inner behind taken further tactic added front begins read =
-    list-taken room tokens left inner behind (expression_here tactic) (map expression_here taken) (map expression_here further) (ap (map expression_here) added ∙ mapped taken tactic) front begins read
-
-pub repeat-refused-at : (error : ReadError) (at room less : ℕ) (tokens : List TokenHere) → less + 1 ≡ room → IsAt (Name (codes "REPEAT")) at tokens
-    → ReadsUnit (Err error) (at + 1) less tokens → ReadsUnit (Err error) at room tokens
-repeat-refused-at Memory at room less tokens deeper front refused = tt
-repeat-refused-at Syntax at room less tokens deeper front refused = repeat-none room (behind at tokens) (behind (at + 1) tokens) front.front (λ operand left fits same.
-    refused operand left (record { nested = omega (arith, fits.nested, deeper); quotable = fits.quotable }) same)
-
-pub try-refused-at : (error : ReadError) (at room less : ℕ) (tokens : List TokenHere) → less + 1 ≡ room → IsAt (Name (codes "TRY")) at tokens → ReadsUnit (Err error) (at + 1) less tokens
-    → ReadsUnit (Err error) at room tokens
-try-refused-at Memory at room less tokens deeper front refused = tt
-try-refused-at Syntax at room less tokens deeper front refused = try-none room (behind at tokens) (behind (at + 1) tokens) front.front (λ operand left fits same.
-    refused operand left (record { nested = omega (arith, fits.nested, deeper); quotable = fits.quotable }) same)
-
-pub enclosed-refused-at : (error : ReadError) (at room less : ℕ) (tokens : List TokenHere) → less + 1 ≡ room → IsAt (Mark OpenParenthesis) at tokens
-    → ReadsWhole (Err error) (at + 1) less tokens → ReadsUnit (Err error) at room tokens
-enclosed-refused-at Memory at room less tokens deeper front refused = tt
-enclosed-refused-at Syntax at room less tokens deeper front refused = enclosed-refused room less (behind at tokens) (behind (at + 1) tokens) deeper front.front refused
-
-pub choice-unread : (error : ReadError) (at room : ℕ) (tokens : List TokenHere) → ReadsUnit (Err error) at room tokens → ReadsChoice (Err error) at room tokens
-choice-unread Memory at room tokens refused = tt
-choice-unread Syntax at room tokens refused = choice-refused room (behind at tokens) refused
-
-pub choice-broken-at : (error : ReadError) (at next room : ℕ) (tokens : List TokenHere) (first : Meaning) (taken : List Meaning)
-    → IsChoiceFront room (behind at tokens) (behind next tokens) first taken
-    → IsAt (Name (codes "ORELSE")) next tokens → ReadsUnit (Err error) (next + 1) room tokens → ReadsChoice (Err error) at room tokens
-choice-broken-at Memory at next room tokens first taken front is refused = tt
-choice-broken-at Syntax at next room tokens first taken front is refused = choice-broken room (behind at tokens) (behind next tokens) (behind (next + 1) tokens) first taken front is.front refused
-
-pub whole-unread : (error : ReadError) (at room : ℕ) (tokens : List TokenHere) → ReadsChoice (Err error) at room tokens → ReadsWhole (Err error) at room tokens
-whole-unread Memory at room tokens refused = tt
-whole-unread Syntax at room tokens refused = whole-refused room (behind at tokens) refused
-
-link-begins : (next : ℕ) (tokens : List TokenHere) → HasLink next tokens → (rest : List Token) → behind next tokens ≡ rest → Ends rest → ⊥
-link-begins next tokens (inl is) rest same ends = ends.then _ (sym same ∙ is.front)
-link-begins next tokens (inr is) rest same ends = ends.thenl _ (sym same ∙ is.front)
-
-pub whole-broken-at : (error : ReadError) (at next room : ℕ) (tokens : List TokenHere) (first : Meaning) (taken : List (Joint (List FlatStep)))
-    → IsWholeFront room (behind at tokens) (behind next tokens) first taken → HasLink next tokens
-    → ReadsLink (Err error) next room tokens → ReadsWhole (Err error) at room tokens
-whole-broken-at Memory at next room tokens first taken front is refused = tt
-whole-broken-at Syntax at next room tokens first taken front is refused = whole-broken room (behind at tokens) (behind next tokens) first taken front (link-begins next tokens is) refused
-
-pub list-refused-at : (error : ReadError) (at room : ℕ) (tokens : List TokenHere) → IsAt (Mark OpenBracket) at tokens → IsNotAt (Mark CloseBracket) (at + 1) tokens
-    → ReadsWhole (Err error) (at + 1) room tokens → ReadsList (Err error) at room tokens
-list-refused-at Memory at room tokens front some refused = tt
-list-refused-at Syntax at room tokens front some refused = list-refused room (behind at tokens) (behind (at + 1) tokens) front.front some refused
-
-pub list-broken-at : (error : ReadError) (at next room : ℕ) (tokens : List TokenHere) (taken : List Meaning) → IsListFront room (behind at tokens) (behind next tokens) taken
-    → IsAt (Mark Semicolon) next tokens
-    → ReadsWhole (Err error) (next + 1) room tokens → ReadsList (Err error) at room tokens
-list-broken-at Memory at next room tokens taken front is refused = tt
-list-broken-at Syntax at next room tokens taken front is refused = list-broken room (behind at tokens) (behind next tokens) (behind (next + 1) tokens) taken front is.front refused
-
-pub list-empty-at : (room at : ℕ) (tokens : List TokenHere) (each : List (Tac Kept)) → each ≡ [] → IsAt (Mark OpenBracket) at tokens → IsAt (Mark CloseBracket) (at + 1) tokens
-    → Reaches at (at + 2) tokens × IsList room (behind at tokens) (behind (at + 2) tokens) (all_expressions (map expression_here each))
-list-empty-at room at tokens each empty begins ends =
-    let two : at + 1 + 1 ≡ at + 2 = omega arith in (
-      record { further = omega arith; within = omega (arith, ends.within) },
-      subst (λ (ts : List (Tac Kept)). IsList room (behind at tokens) (behind (at + 2) tokens) (all_expressions (map expression_here ts))) (sym empty)
-          (list-empty room (behind at tokens) (behind (at + 1) tokens) (behind (at + 2) tokens) begins.front (ends.front ∙ ap (λ (n : ℕ). Mark CloseBracket ∷ behind n tokens) two)),
-    )
-
 -- ---- all tokens
 
-empty-ends : Ends []
+pub empty-ends : Ends []
 empty-ends = record { then = λ others same. cc; thenl = λ others same. cc; else = λ others same. cc }
 
-some-behind : (tokens : List TokenHere) (next : ℕ) → next < length tokens → behind next tokens ≡ [] → ⊥
+pub some-behind : (tokens : List TokenHere) (next : ℕ) → next < length tokens → behind next tokens ≡ [] → ⊥
 some-behind [] next within same = omega (arith, within)
 some-behind (first ∷ tokens) zero within same = cc
 some-behind (first ∷ tokens) (suc next) within same = some-behind tokens next (omega (arith, within)) same
 
-fits-whole : (tree : Tactic TermTree) → IsTactic tree → Fits EXPRESSION_NESTING_LIMIT tree
+pub fits-whole : (tree : Tactic TermTree) → IsTactic tree → Fits EXPRESSION_NESTING_LIMIT tree
 fits-whole tree grammatical = record { nested = grammatical.depth; quotable = grammatical.quotable }
-
-pub tactic-goes-on : (next : ℕ) (tokens : List TokenHere) (meaning : Meaning) → next < length tokens → IsWhole EXPRESSION_NESTING_LIMIT (behind 0 tokens) (behind next tokens) meaning
-    → (tree : Tactic TermTree) → IsTactic tree → tokens_of tokens ≢ tactic_tokens tree []
-tactic-goes-on next tokens meaning within read tree grammatical same = some-behind tokens next within (sym (read.only tree [] (fits-whole tree grammatical) empty-ends same))

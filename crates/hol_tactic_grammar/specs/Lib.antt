@@ -6,3 +6,4 @@ pub mod Expressions
 pub mod Quotes
 pub mod Tactics
 pub mod OpenConversions
+pub mod OpenTactics

@@ -1,5 +1,5 @@
 -- What the readers of refiner expressions answer.
-use Rattle.std.specs.Prelude.{◌≡◌, ◌≢◌, ℕ, ◌+◌, ◌≤◌, ◌⊎◌, List, [], ◌∷◌, codes, map, Result, Ok, Err}
+use Rattle.std.specs.Prelude.{◌≡◌, ◌≢◌, ℕ, ◌+◌, ◌≤◌, List, [], ◌∷◌, codes, map, Result, Ok, Err}
 use Rattle.std.specs.String.{string_bytes}
 use Rattle.std.proofs.Common.{Vec, String, Global}
 use Rattle.hol_model.specs.declared.symbol.Symbol.TheVariants.{OpenBracket}
@@ -7,16 +7,15 @@ use Rattle.hol_model.specs.Texts.Token.{Token, Name, Mark}
 use Rattle.hol_model.specs.Texts.TermGrammar.{TermTree}
 use Rattle.hol_session_model.specs.TacticGrammar.{Tactic, TacticLinks, Tactics, TacticChoice, OtherTactics, TacticUnit, then_all, then_each, name_tokens, tactic_tokens, first_tokens, choice_tokens, tactic_unit_tokens, tactic_depth, link_depth, list_depth, choice_depth, other_depth, tactic_unit_depth, HasQuotables, HasQuotableLinks, HasQuotableList, HasQuotableChoice, HasQuotableOthers, HasQuotableUnit, IsTactic}
 use Rattle.hol_exprs.specs.declared.tac.Tac.{Tac}
-use Rattle.hol_exprs.specs.declared.tac.Link.{Link}
 use Rattle.hol_grammar.specs.declared.token.Token.{Token as TokenHere}
 use Rattle.hol_grammar.specs.declared.type_reader.ReadError.{ReadError}
 use Rattle.hol_grammar.specs.declared.type_reader.ReadError.TheVariants.{Memory, Syntax}
 use Rattle.hol_grammar.specs.TermSteps.{FlatStep}
 use Rattle.hol_grammar.specs.Views.{tokens_of}
-use Rattle.hol_tactic_grammar.specs.Tokens.{behind, IsAt}
+use Rattle.hol_tactic_grammar.specs.Tokens.{behind}
 use Rattle.hol_tactic_grammar.specs.Conversions.{Without, Reaches}
 use Rattle.hol_tactic_grammar.specs.Quotes.{steps_of_tree}
-use Rattle.hol_tactic_grammar.specs.Expressions.{Kept, Expression, Expressions, Joint, on_all, on_each, expression_of, expressions_of, expression_of_choice, expression_of_unit, expression_here, joint_here, all_expressions}
+use Rattle.hol_tactic_grammar.specs.Expressions.{Kept, Expression, Expressions, Joint, on_all, on_each, expression_of, expressions_of, expression_of_choice, expression_of_unit, expression_here}
 
 -- what an expression means, its quoted terms by their steps
 abbrev pub Meaning : Type 0
@@ -153,26 +152,6 @@ ReadsUnit (Ok x) at room tokens = Reaches at x.1 tokens × IsUnit room (behind a
 ReadsUnit (Err Memory) at room tokens = Unit {0}
 ReadsUnit (Err Syntax) at room tokens = IsNoUnit room (behind at tokens)
 
-abbrev pub ReadsChoice : Result (Tac Kept × ℕ) ReadError → ℕ → ℕ → List TokenHere → Type 0
-ReadsChoice (Ok x) at room tokens = Reaches at x.1 tokens × IsChoice room (behind at tokens) (behind x.1 tokens) (expression_here x.0)
-ReadsChoice (Err Memory) at room tokens = Unit {0}
-ReadsChoice (Err Syntax) at room tokens = IsNoChoice room (behind at tokens)
-
-abbrev pub ReadsLink : Result (Link Kept × ℕ) ReadError → ℕ → ℕ → List TokenHere → Type 0
-ReadsLink (Ok x) at room tokens = Reaches at x.1 tokens × IsLink room (behind at tokens) (behind x.1 tokens) (joint_here x.0)
-ReadsLink (Err Memory) at room tokens = Unit {0}
-ReadsLink (Err Syntax) at room tokens = IsNoLink room (behind at tokens)
-
-abbrev pub ReadsList : Result (Vec (Tac Kept) Global × ℕ) ReadError → ℕ → ℕ → List TokenHere → Type 0
-ReadsList (Ok x) at room tokens = Reaches at x.1 tokens × IsList room (behind at tokens) (behind x.1 tokens) (all_expressions (map expression_here x.0.items))
-ReadsList (Err Memory) at room tokens = Unit {0}
-ReadsList (Err Syntax) at room tokens = IsNoList room (behind at tokens)
-
-abbrev pub ReadsWhole : Result (Tac Kept × ℕ) ReadError → ℕ → ℕ → List TokenHere → Type 0
-ReadsWhole (Ok x) at room tokens = Reaches at x.1 tokens × IsWhole room (behind at tokens) (behind x.1 tokens) (expression_here x.0)
-ReadsWhole (Err Memory) at room tokens = Unit {0}
-ReadsWhole (Err Syntax) at room tokens = IsNoWhole room (behind at tokens)
-
 -- the expression means this, or memory is short
 abbrev pub Means : Result (Tac Kept) ReadError → Meaning → Type 0
 Means (Ok tactic) meaning = expression_here tactic ≡ meaning
@@ -188,11 +167,3 @@ abbrev pub ReadsTactic : Result (Tac Kept) ReadError → List TokenHere → Type
 ReadsTactic (Ok tactic) tokens = (tree : Tactic TermTree) × IsTactic tree × (tokens_of tokens ≡ tactic_tokens tree []) × IsExpression tactic tree
 ReadsTactic (Err Memory) tokens = Unit {0}
 ReadsTactic (Err Syntax) tokens = (tree : Tactic TermTree) → IsTactic tree → tokens_of tokens ≢ tactic_tokens tree []
-
--- whether a link stands at a place
-abbrev pub HasLink : ℕ → List TokenHere → Type 0
-HasLink at tokens = IsAt (Name (codes "THEN")) at tokens ⊎ IsAt (Name (codes "THENL")) at tokens
-
-pub record HasNoLink (at : ℕ) (tokens : List TokenHere) : Type 0 where
-  pub then : Without (codes "THEN") (behind at tokens)
-  pub thenl : Without (codes "THENL") (behind at tokens)

@@ -5,9 +5,10 @@ mod conversion_words;
 mod conversions;
 mod leaves;
 mod quotes;
+mod tactic_reader;
 mod tactic_words;
 mod tactics;
 mod tokens;
 
 pub use conversions::conversion_of;
-pub use tactics::tactic_of;
+pub use tactic_reader::tactic_of;

@@ -2,7 +2,7 @@ use Rattle.std.proofs.Common.{◌+◌, reverse, sym}
 use Rattle.hol_grammar.specs.declared.type_reader.ReadError.TheVariants.{Syntax}
 use Rattle.hol_tactic_grammar.specs.Tokens.{behind}
 use Rattle.hol_tactic_grammar.proofs.ConversionLemmas.{no-unit, no-unit-word}
-use Rattle.hol_tactic_grammar.proofs.OpenLemmas.{unread, leaf-taken}
+use Rattle.hol_tactic_grammar.proofs.OpenConversionLemmas.{unread, leaf-taken}
 use Rattle.hol_tactic_grammar.proofs.conversions.begin.Goals as goal
 
 pub returns-in_default : goal.returns-in_default

@@ -1,6 +1,6 @@
 use Rattle.std.proofs.Common.{reverse}
 use Rattle.hol_tactic_grammar.specs.declared.conversions.Open.TheVariants.{Enclosed}
-use Rattle.hol_tactic_grammar.proofs.OpenLemmas.{enclosed-opened, enclosed-unopened}
+use Rattle.hol_tactic_grammar.proofs.OpenConversionLemmas.{enclosed-opened, enclosed-unopened}
 use Rattle.hol_tactic_grammar.proofs.conversions.begin_enclosed.Goals as goal
 
 pub returns-in-Ok : goal.returns-in-Ok

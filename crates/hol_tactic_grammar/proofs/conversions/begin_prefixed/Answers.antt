@@ -1,5 +1,5 @@
 use Rattle.std.proofs.Common.{reverse}
-use Rattle.hol_tactic_grammar.proofs.OpenLemmas.{prefixed-opened, prefixed-unopened}
+use Rattle.hol_tactic_grammar.proofs.OpenConversionLemmas.{prefixed-opened, prefixed-unopened}
 use Rattle.hol_tactic_grammar.proofs.conversions.begin_prefixed.Goals as goal
 
 pub returns-in-Ok : goal.returns-in-Ok

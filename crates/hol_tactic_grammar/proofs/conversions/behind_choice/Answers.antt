@@ -1,6 +1,6 @@
 use Rattle.std.proofs.Common.{reverse}
 use Rattle.hol_tactic_grammar.specs.declared.conversions.Open.TheVariants.{Enclosed}
-use Rattle.hol_tactic_grammar.proofs.OpenLemmas.{newest, choice-goes-on-at, enclosed-closed, enclosed-unclosed}
+use Rattle.hol_tactic_grammar.proofs.OpenConversionLemmas.{newest, choice-goes-on-at, enclosed-closed, enclosed-unclosed}
 use Rattle.hol_tactic_grammar.proofs.conversions.behind_choice.Goals as goal
 
 pub returns-then-is_word : goal.returns-then-is_word

@@ -1,6 +1,6 @@
 use Rattle.std.proofs.Common.{reverse}
 use Rattle.hol_tactic_grammar.specs.declared.conversions.Open.TheVariants.{Enclosed}
-use Rattle.hol_tactic_grammar.proofs.OpenLemmas.{newest, unit-goes-on, choice-closed}
+use Rattle.hol_tactic_grammar.proofs.OpenConversionLemmas.{newest, unit-goes-on, choice-closed}
 use Rattle.hol_tactic_grammar.proofs.conversions.behind_unit.Goals as goal
 
 pub returns-then-is_word : goal.returns-then-is_word

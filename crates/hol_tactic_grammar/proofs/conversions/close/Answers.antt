@@ -1,7 +1,7 @@
 use Rattle.std.proofs.Common.{[], ◌∷◌, ◌++◌, reverse, ap, ◌∙◌}
 use Rattle.hol_tactic_grammar.specs.declared.conversions.Open.{Open}
 use Rattle.hol_tactic_grammar.specs.declared.conversions.Open.TheVariants.{Prefixed}
-use Rattle.hol_tactic_grammar.proofs.OpenLemmas.{newest, prefixed-closed}
+use Rattle.hol_tactic_grammar.proofs.OpenConversionLemmas.{newest, prefixed-closed}
 use Rattle.hol_tactic_grammar.proofs.conversions.close.Goals as goal
 
 pub returns-in-Ok : goal.returns-in-Ok

@@ -1,0 +1,14 @@
+use Rattle.std.proofs.Common.{◌∷◌, refl, arith}
+use Rattle.hol_grammar.specs.Views.{tokens_of}
+use Rattle.hol_tactic_grammar.specs.Tokens.{behind}
+use Rattle.hol_tactic_grammar.specs.Expressions.{expression_here}
+use Rattle.hol_tactic_grammar.specs.OpenTactics.{opens_of}
+use Rattle.hol_tactic_grammar.proofs.OpenTacticLemmas.{pushed, choice-begins-chain}
+use Rattle.hol_tactic_grammar.proofs.tactic_reader.Reader.begin_chain.Goals as goal
+
+pub returns : goal.returns
+returns c = λ tokens wanted has. (
+  choice-begins-chain (c.args.place ∷ opens_of c.args.self.now) _ c.args.self.now.room c.args.self.now.room (tokens_of tokens) (behind c.args.next tokens) (expression_here c.args.choice)
+      c.new.result.items (pushed c.args.self.now.opens.items c.push.new.self.items c.args.place c.in_ok-push.ensures.items) refl c.new.ensures.items wanted has,
+  omega (arith, c.in_ok-push.ensures.len),
+)

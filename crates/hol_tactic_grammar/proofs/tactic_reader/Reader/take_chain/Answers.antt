@@ -1,0 +1,24 @@
+use Rattle.std.proofs.Common.{◌+◌, map, arith}
+use Rattle.hol_grammar.specs.Views.{tokens_of}
+use Rattle.hol_tactic_grammar.specs.declared.tactic_reader.Open.TheVariants.{Chain}
+use Rattle.hol_tactic_grammar.specs.declared.tactic_reader.Reading.TheVariants as readings
+use Rattle.hol_tactic_grammar.specs.Tokens.{behind}
+use Rattle.hol_tactic_grammar.specs.Expressions.{expression_here, joint_here}
+use Rattle.hol_tactic_grammar.specs.OpenTactics.{opens_of, turns_left}
+use Rattle.hol_tactic_grammar.proofs.OpenTacticLemmas.{waits, chain-waits, chain-whole}
+use Rattle.hol_tactic_grammar.proofs.tactic_reader.Reader.take_chain.Goals as goal
+
+pub returns-then-is_word : goal.returns-then-is_word
+returns-then-is_word c =
+    let reader = c.args.self.now in
+    let tokens = c.args.tokens.now in
+    waits c.wait.result reader c.wait.new.self (Chain c.args.first c.args.links) (c.args.next + 1) (turns_left (readings.Chain c.args.first c.args.links c.args.next) reader tokens) tokens
+    c.wait.ensures (chain-waits (opens_of reader) reader.room c.args.next (tokens_of tokens) c.args.first c.args.links tokens c.requires.reading c.if-is_word.ensures)
+    (omega (arith, c.if-is_word.ensures.within))
+
+pub end_chain-requires : goal.end_chain-requires
+end_chain-requires c =
+    let reader = c.args.self.now in
+    let tokens = c.args.tokens.now in
+    chain-whole (opens_of reader) reader.room (tokens_of tokens) (behind c.args.next tokens) (expression_here c.args.first) (expression_here c.in-Ok.tactic) (map joint_here c.args.links.items)
+    c.requires.reading c.if-is_word.ensures c.if-is_word-2.ensures c.in-Ok.ensures

@@ -1,0 +1,415 @@
+// Refiner expressions, read from tokens by one loop over open places.
+ghost use Rattle.std.specs.Prelude.{◌≡◌, ◌≤◌, ℕ, ◌+◌, ◌-◌, ◌*◌, List, ◌∷◌, codes, length, vec_len};
+ghost use Rattle.hol_model.specs.Texts.Token.{Name};
+ghost use Rattle.hol_grammar.specs.declared.token.Token.{Token};
+ghost use Rattle.hol_grammar.specs.Views.{tokens_of};
+ghost use Rattle.hol_tactic_grammar.specs.Tokens.{AreTokens, IsAt, behind};
+ghost use Rattle.hol_tactic_grammar.specs.Expressions.{expression_here};
+ghost use Rattle.hol_tactic_grammar.specs.Tactics.{ReadsTactic};
+ghost use Rattle.hol_tactic_grammar.specs.OpenTactics.{WantsChoice, WantsChain, HasUnit, HasChoiceWhole, HasWhole, opens_of, IsReading, turns_left, Goes, Waits, Nests, Closes, unit_read};
+
+use crate::leaves::{read_by_name, read_by_quote, read_conv_tac, read_plain, read_rewrite_tac};
+use crate::tactic_words::{Other, Start, start_named};
+use crate::tactics::{or_else, repeated, then_on, tried};
+use crate::tokens::{is_mark, is_word, name_at};
+use hol_exprs::{Link, Tac};
+use hol_grammar::{ReadError, TermStep, Token};
+use hol_model::{EXPRESSION_NESTING_LIMIT, Symbol};
+use std::alloc::Global;
+
+type Refiner<'a> = Tac<Vec<TermStep<'a>>>;
+
+type Joint<'a> = Link<Vec<TermStep<'a>>>;
+
+// An open place: what waits for what stands behind it.
+#[derive(Drop)]
+enum Open<'a> {
+    // REPEAT.
+    Repeated,
+    // TRY.
+    Tried,
+    // A parenthesis.
+    Enclosed,
+    // What stands before an ORELSE.
+    Choice(Refiner<'a>, Vec<Refiner<'a>>),
+    // What stands before a THEN.
+    Chain(Refiner<'a>, Vec<Joint<'a>>),
+    // What stands before a THENL, and the refiners of its list so far.
+    Listed(Refiner<'a>, Vec<Joint<'a>>, Vec<Refiner<'a>>),
+}
+
+// What is read behind the open places, and up to which place.
+#[derive(Drop)]
+enum Reading<'a> {
+    // Nothing; a unit is wanted.
+    Wanted(usize),
+    // What REPEAT and TRY may stand before.
+    Unit(Refiner<'a>, usize),
+    // A chain of ORELSE, which may go on.
+    Choice(Refiner<'a>, Vec<Refiner<'a>>, usize),
+    // A chain of THEN and THENL, which may go on.
+    Chain(Refiner<'a>, Vec<Joint<'a>>, usize),
+    // All tokens.
+    Whole(Refiner<'a>),
+}
+
+#[derive(Drop)]
+struct Reader<'a> {
+    opens: Vec<Open<'a>>,
+    // How many more prefixes, parentheses and lists may be open.
+    room: usize,
+}
+
+impl<'a> Reader<'a> {
+    // One more place is open.
+    fn wait(&mut self, place: Open<'a>, next: usize) -> Result<Reading<'a>, ReadError>
+        ensures { Waits result self.old self.new place.entry next }
+    {
+        self.opens.push(place)?;
+        Ok(Reading::Wanted(next))
+    }
+
+    // One more place that nests is open.
+    fn nest(&mut self, place: Open<'a>, next: usize) -> Result<Reading<'a>, ReadError>
+        ensures { Nests result self.old self.new place.entry next }
+    {
+        if self.room == 0 {
+            return Err(ReadError::Syntax);
+        }
+        self.room -= 1;
+        self.wait(place, next)
+    }
+
+    // The newest open place, which is open no more.
+    fn close(&mut self) -> Option<Open<'a>>
+        ensures { Closes result self.old self.new }
+    {
+        self.opens.pop()
+    }
+
+    // A unit is wanted: what begins it is opened, or it is read.
+    fn begin(
+        &mut self,
+        alloc: Global,
+        tokens: &[Token<'a>],
+        at: usize,
+    ) -> Result<Reading<'a>, ReadError>
+        requires tokens { AreTokens (tokens_of tokens.now) }
+        requires reading { IsReading (Reading.Wanted at) self.old tokens.now }
+        ensures { Goes result self.new tokens.now (turns_left (Reading.Wanted at) self.old tokens.now) }
+    {
+        if is_mark(tokens, at, Symbol::OpenParenthesis) {
+            return self.nest(Open::Enclosed, at + 1);
+        }
+        let Some(word) = name_at(tokens, at) else {
+            return Err(ReadError::Syntax);
+        };
+        let Some(start) = start_named(word) else {
+            return Err(ReadError::Syntax);
+        };
+        match start {
+            Start::OfOther(Other::Repeat) => self.nest(Open::Repeated, at + 1),
+            Start::OfOther(Other::Try) => self.nest(Open::Tried, at + 1),
+            Start::OfPlain(tactic) => read_up_to(read_plain(tokens, at, tactic)),
+            Start::OfNamed(tactic) => read_up_to(read_by_name(alloc, tokens, at, tactic)),
+            Start::OfQuoted(tactic) => read_up_to(read_by_quote(alloc, tokens, at, tactic)),
+            Start::OfOther(Other::Conv) => {
+                read_up_to(read_conv_tac(alloc, tokens, at, self.room))
+            }
+            Start::OfOther(Other::Rewrite) => {
+                read_up_to(read_rewrite_tac(alloc, tokens, at, self.room))
+            }
+        }
+    }
+
+    // A unit is read: what waits for it takes it, or a chain of ORELSE begins.
+    fn take_unit(
+        &mut self,
+        alloc: Global,
+        unit: Refiner<'a>,
+        next: usize,
+    ) -> Result<Reading<'a>, ReadError>
+        requires { self.old.room ≤ EXPRESSION_NESTING_LIMIT }
+        ensures { (tokens : List Token) → IsReading (Reading.Unit unit.entry next) self.old tokens
+            → Goes result self.new tokens (turns_left (Reading.Unit unit.entry next) self.old tokens) }
+    {
+        match self.close() {
+            Some(Open::Repeated) => {
+                self.room += 1;
+                match repeated(alloc, unit) {
+                    Ok(unit) => Ok(Reading::Unit(unit, next)),
+                    Err(_) => Err(ReadError::Memory),
+                }
+            }
+            Some(Open::Tried) => {
+                self.room += 1;
+                match tried(alloc, unit) {
+                    Ok(unit) => Ok(Reading::Unit(unit, next)),
+                    Err(_) => Err(ReadError::Memory),
+                }
+            }
+            Some(Open::Choice(first, mut others)) => {
+                others.push(unit)?;
+                Ok(Reading::Choice(first, others, next))
+            }
+            Some(Open::Enclosed) => self.begin_choice(alloc, Open::Enclosed, unit, next),
+            Some(Open::Chain(first, links)) => {
+                self.begin_choice(alloc, Open::Chain(first, links), unit, next)
+            }
+            Some(Open::Listed(first, links, each)) => {
+                self.begin_choice(alloc, Open::Listed(first, links, each), unit, next)
+            }
+            None => Ok(Reading::Choice(unit, Vec::new(alloc), next)),
+        }
+    }
+
+    // A chain of ORELSE begins behind a place, which stays open.
+    fn begin_choice(
+        &mut self,
+        alloc: Global,
+        place: Open<'a>,
+        unit: Refiner<'a>,
+        next: usize,
+    ) -> Result<Reading<'a>, ReadError>
+        ensures { (tokens : List Token) → WantsChoice (place.entry ∷ opens_of self.old)
+            → HasUnit (place.entry ∷ opens_of self.old) self.old.room (tokens_of tokens) (behind next tokens) (expression_here unit.entry)
+            → Goes result self.new tokens (8 * (length tokens - next) + 4 * vec_len self.old.opens + 8) }
+    {
+        self.opens.push(place)?;
+        Ok(Reading::Choice(unit, Vec::new(alloc), next))
+    }
+
+    // A chain of ORELSE is read, and goes on or ends.
+    fn take_choice(
+        &mut self,
+        alloc: Global,
+        tokens: &[Token<'a>],
+        first: Refiner<'a>,
+        others: Vec<Refiner<'a>>,
+        next: usize,
+    ) -> Result<Reading<'a>, ReadError>
+        requires tokens { AreTokens (tokens_of tokens.now) }
+        requires reading { IsReading (Reading.Choice first others next) self.old tokens.now }
+        ensures { Goes result self.new tokens.now (turns_left (Reading.Choice first.entry others.entry next) self.old tokens.now) }
+    {
+        if is_word(tokens, next, "ORELSE") {
+            return self.wait(Open::Choice(first, others), next + 1);
+        }
+        match or_else(alloc, first, others) {
+            Ok(choice) => self.end_choice(alloc, choice, next),
+            Err(_) => Err(ReadError::Memory),
+        }
+    }
+
+    // A chain of ORELSE has ended: a chain of THEN and THENL takes it, or begins.
+    fn end_choice(
+        &mut self,
+        alloc: Global,
+        choice: Refiner<'a>,
+        next: usize,
+    ) -> Result<Reading<'a>, ReadError>
+        requires { WantsChoice (opens_of self.old) }
+        ensures { (tokens : List Token) → HasChoiceWhole (opens_of self.old) self.old.room (tokens_of tokens) (behind next tokens) (expression_here choice.entry)
+            → Goes result self.new tokens (8 * (length tokens - next) + 4 * vec_len self.old.opens + 3) }
+    {
+        match self.close() {
+            Some(Open::Chain(first, mut links)) => {
+                links.push(Link::Then(choice))?;
+                Ok(Reading::Chain(first, links, next))
+            }
+            Some(Open::Enclosed) => self.begin_chain(alloc, Open::Enclosed, choice, next),
+            Some(Open::Listed(first, links, each)) => {
+                self.begin_chain(alloc, Open::Listed(first, links, each), choice, next)
+            }
+            Some(Open::Repeated | Open::Tried | Open::Choice(_, _)) => unreachable!(),
+            None => Ok(Reading::Chain(choice, Vec::new(alloc), next)),
+        }
+    }
+
+    // A chain of THEN and THENL begins behind a place, which stays open.
+    fn begin_chain(
+        &mut self,
+        alloc: Global,
+        place: Open<'a>,
+        choice: Refiner<'a>,
+        next: usize,
+    ) -> Result<Reading<'a>, ReadError>
+        ensures { (tokens : List Token) → WantsChain (place.entry ∷ opens_of self.old)
+            → HasChoiceWhole (place.entry ∷ opens_of self.old) self.old.room (tokens_of tokens) (behind next tokens) (expression_here choice.entry)
+            → Goes result self.new tokens (8 * (length tokens - next) + 4 * vec_len self.old.opens + 7) }
+    {
+        self.opens.push(place)?;
+        Ok(Reading::Chain(choice, Vec::new(alloc), next))
+    }
+
+    // A chain of THEN and THENL is read, and goes on or ends.
+    fn take_chain(
+        &mut self,
+        alloc: Global,
+        tokens: &[Token<'a>],
+        first: Refiner<'a>,
+        links: Vec<Joint<'a>>,
+        next: usize,
+    ) -> Result<Reading<'a>, ReadError>
+        requires tokens { AreTokens (tokens_of tokens.now) }
+        requires reading { IsReading (Reading.Chain first links next) self.old tokens.now }
+        ensures { Goes result self.new tokens.now (turns_left (Reading.Chain first.entry links.entry next) self.old tokens.now) }
+    {
+        if is_word(tokens, next, "THEN") {
+            return self.wait(Open::Chain(first, links), next + 1);
+        }
+        if is_word(tokens, next, "THENL") {
+            return self.begin_list(alloc, tokens, first, links, next);
+        }
+        match then_on(alloc, first, links) {
+            Ok(tactic) => self.end_chain(tokens, tactic, next),
+            Err(_) => Err(ReadError::Memory),
+        }
+    }
+
+    // THENL, and the bracket that opens its list.
+    fn begin_list(
+        &mut self,
+        alloc: Global,
+        tokens: &[Token<'a>],
+        first: Refiner<'a>,
+        mut links: Vec<Joint<'a>>,
+        at: usize,
+    ) -> Result<Reading<'a>, ReadError>
+        requires reading { IsReading (Reading.Chain first links at) self.old tokens.now }
+        requires front { IsAt (Name (codes "THENL")) at tokens.now }
+        ensures { Goes result self.new tokens.now (turns_left (Reading.Chain first.entry links.entry at) self.old tokens.now) }
+    {
+        if self.room == 0 {
+            return Err(ReadError::Syntax);
+        }
+        if !is_mark(tokens, at + 1, Symbol::OpenBracket) {
+            return Err(ReadError::Syntax);
+        }
+        if is_mark(tokens, at + 2, Symbol::CloseBracket) {
+            links.push(Link::Thenl(Vec::new(alloc)))?;
+            return Ok(Reading::Chain(first, links, at + 3));
+        }
+        self.nest(Open::Listed(first, links, Vec::new(alloc)), at + 2)
+    }
+
+    // A chain of THEN and THENL has ended: a parenthesis or a list takes it, or it is all.
+    fn end_chain(
+        &mut self,
+        tokens: &[Token<'a>],
+        tactic: Refiner<'a>,
+        next: usize,
+    ) -> Result<Reading<'a>, ReadError>
+        requires { HasWhole (opens_of self.old) self.old.room (tokens_of tokens.now) (behind next tokens.now) (expression_here tactic) }
+        ensures { Goes result self.new tokens.now (8 * (length tokens.now - next) + 4 * vec_len self.old.opens + 2) }
+    {
+        match self.close() {
+            Some(Open::Enclosed) => self.end_parenthesis(tokens, tactic, next),
+            Some(Open::Listed(first, links, each)) => {
+                self.take_element(tokens, first, links, each, tactic, next)
+            }
+            Some(Open::Repeated | Open::Tried | Open::Choice(_, _) | Open::Chain(_, _)) => {
+                unreachable!()
+            }
+            None => {
+                if next < tokens.len() {
+                    return Err(ReadError::Syntax);
+                }
+                Ok(Reading::Whole(tactic))
+            }
+        }
+    }
+
+    // An expression in parentheses is read, up to the closing one.
+    fn end_parenthesis(
+        &mut self,
+        tokens: &[Token<'a>],
+        tactic: Refiner<'a>,
+        next: usize,
+    ) -> Result<Reading<'a>, ReadError>
+        requires { HasWhole (Open.Enclosed ∷ opens_of self.old) self.old.room (tokens_of tokens.now) (behind next tokens.now) (expression_here tactic) }
+        ensures { Goes result self.new tokens.now (8 * (length tokens.now - next) + 4 * vec_len self.old.opens + 2) }
+    {
+        if !is_mark(tokens, next, Symbol::CloseParenthesis) {
+            return Err(ReadError::Syntax);
+        }
+        self.room += 1;
+        Ok(Reading::Unit(tactic, next + 1))
+    }
+
+    // One more refiner of a list is read, and the list goes on or ends.
+    fn take_element(
+        &mut self,
+        tokens: &[Token<'a>],
+        first: Refiner<'a>,
+        mut links: Vec<Joint<'a>>,
+        mut each: Vec<Refiner<'a>>,
+        tactic: Refiner<'a>,
+        next: usize,
+    ) -> Result<Reading<'a>, ReadError>
+        requires { HasWhole (Open.Listed first links each ∷ opens_of self.old) self.old.room (tokens_of tokens.now) (behind next tokens.now) (expression_here tactic) }
+        ensures { Goes result self.new tokens.now (8 * (length tokens.now - next) + 4 * vec_len self.old.opens + 2) }
+    {
+        each.push(tactic)?;
+        if is_mark(tokens, next, Symbol::Semicolon) {
+            return self.wait(Open::Listed(first, links, each), next + 1);
+        }
+        if !is_mark(tokens, next, Symbol::CloseBracket) {
+            return Err(ReadError::Syntax);
+        }
+        self.room += 1;
+        links.push(Link::Thenl(each))?;
+        Ok(Reading::Chain(first, links, next + 1))
+    }
+}
+
+// A unit that is read.
+fn read_up_to<'a>(read: Result<(Refiner<'a>, usize), ReadError>) -> Result<Reading<'a>, ReadError>
+    ensures { result ≡ unit_read read.entry }
+{
+    match read {
+        Ok((unit, next)) => Ok(Reading::Unit(unit, next)),
+        Err(error) => Err(error),
+    }
+}
+
+/// The refiner expression that the tokens are (HOL Light's tactics.ml), its quoted terms by their steps. Refused: Syntax where they
+/// are none within the limit of nesting, Memory.
+pub fn tactic_of<'a>(
+    alloc: Global,
+    tokens: &[Token<'a>],
+) -> Result<Tac<Vec<TermStep<'a>>>, ReadError>
+    requires { AreTokens (tokens_of tokens.now) }
+    ensures { ReadsTactic result tokens.now }
+{
+    let mut reader = Reader {
+        opens: Vec::new(alloc),
+        room: EXPRESSION_NESTING_LIMIT,
+    };
+    let mut reading = Reading::Wanted(0);
+    loop {
+        match reading {
+            Reading::Wanted(at) => match reader.begin(alloc, tokens, at) {
+                Ok(next) => reading = next,
+                Err(error) => return Err(error),
+            },
+            Reading::Unit(unit, place) => match reader.take_unit(alloc, unit, place) {
+                Ok(next) => reading = next,
+                Err(error) => return Err(error),
+            },
+            Reading::Choice(first, others, place) => {
+                match reader.take_choice(alloc, tokens, first, others, place) {
+                    Ok(next) => reading = next,
+                    Err(error) => return Err(error),
+                }
+            }
+            Reading::Chain(first, links, place) => {
+                match reader.take_chain(alloc, tokens, first, links, place) {
+                    Ok(next) => reading = next,
+                    Err(error) => return Err(error),
+                }
+            }
+            Reading::Whole(tactic) => return Ok(tactic),
+        }
+    }
+}
