@@ -1,5 +1,5 @@
 // Formulas of the logical constants, and their parts.
-ghost use Rattle.std.specs.Prelude.{◌≡◌, ℕ, List, [], ◌∷◌, true, IfOk, IfErr, Some, codes};
+ghost use Rattle.std.specs.Prelude.{◌≡◌, ℕ, List, [], ◌∷◌, true, IfOk, IfErr, IfSome, IsTrue, Some, codes};
 ghost use Rattle.std.specs.Option.{option_map};
 ghost use Rattle.hol_model.specs.declared.fault.Fault.TheVariants.{Memory};
 ghost use Rattle.hol_model.specs.Terms.HolType.{bool_type};
@@ -13,7 +13,7 @@ ghost use Rattle.hol_bool.specs.PreludeInstances.{at_p, at_p_q, at_p_q_r};
 
 use hol_model::Fault;
 use hol_terms::{Parts, Term, mk_eq};
-use hol_types::Ty;
+use hol_types::{Ty, TypeParts};
 use std::alloc::Global;
 
 /// The sides of a formula.
@@ -98,7 +98,7 @@ pub(crate) fn connect(alloc: Global, name: &str, left: &Term, right: &Term) -> R
     requires { is_constant_name name.now ≡ true }
     ensures { (room : Room) → type_of left.now ≡ Some bool_type → type_of right.now ≡ Some bool_type → FitsIf room (image (connected name.now left.now right.now)) → MakesIf room result (connected name.now left.now right.now) }
 {
-    let connective = match binary_constant(alloc, name) {
+    let connective = match connective_of(alloc, name, left, right) {
         Ok(connective) => connective,
         Err(fault) => return Err(fault),
     };
@@ -107,6 +107,75 @@ pub(crate) fn connect(alloc: Global, name: &str, left: &Term, right: &Term) -> R
         Err(fault) => return Err(fault),
     };
     Term::mk_comb(alloc, &applied, right)
+}
+
+// The constant of this name and of the type of the binary connectives: a copy of one that joins the parts of a side, so
+// that a formula of many parts has it once in memory.
+fn connective_of(alloc: Global, name: &str, left: &Term, right: &Term) -> Result<Term, Fault>
+    requires { is_constant_name name.now ≡ true }
+    ensures ok { IfOk result (λ term. term ≡ constant name.now binary) }
+    ensures err { IfErr result (λ fault. fault ≡ Memory) }
+{
+    if let Some(connective) = connective_in(name, left) {
+        return connective.copy(alloc);
+    }
+    if let Some(connective) = connective_in(name, right) {
+        return connective.copy(alloc);
+    }
+    binary_constant(alloc, name)
+}
+
+// The connective that joins the parts of a formula, where it has this name.
+fn connective_in<'a>(name: &str, term: &'a Term) -> Option<&'a Term>
+    ensures { IfSome result (λ connective. connective.now ≡ constant name.now binary) }
+{
+    match term.parts() {
+        Parts::Combination(applied, _) => match applied.parts() {
+            Parts::Combination(connective, _) => {
+                if is_connective(name, connective) {
+                    Some(connective)
+                } else {
+                    None
+                }
+            }
+            _ => None,
+        },
+        _ => None,
+    }
+}
+
+// Whether a term is the constant of this name and of the type of the binary connectives.
+fn is_connective(name: &str, term: &Term) -> bool
+    ensures { IsTrue result → term.now ≡ constant name.now binary }
+{
+    match term.parts() {
+        Parts::Constant(found, ty) => found == name && is_binary(ty),
+        _ => false,
+    }
+}
+
+fn is_binary(ty: &Ty) -> bool
+    ensures { IsTrue result → ty.now ≡ binary }
+{
+    match ty.parts() {
+        TypeParts::Function(domain, codomain) => is_boolean(domain) && is_unary(codomain),
+        _ => false,
+    }
+}
+
+fn is_unary(ty: &Ty) -> bool
+    ensures { IsTrue result → ty.now ≡ unary }
+{
+    match ty.parts() {
+        TypeParts::Function(domain, codomain) => is_boolean(domain) && is_boolean(codomain),
+        _ => false,
+    }
+}
+
+fn is_boolean(ty: &Ty) -> bool
+    ensures { IsTrue result → ty.now ≡ bool_type }
+{
+    matches!(ty.parts(), TypeParts::Bool)
 }
 
 // The constant of this name and of the type of the binary connectives.
