@@ -3,6 +3,7 @@ use Rattle.std.specs.Prelude.{◌≡◌, ◌+◌, ◌++◌, ℕ, List, [], Bool,
 use Rattle.std.specs.Io.KnownBytes.{Appends}
 use Rattle.hol_model.specs.declared.fault.Fault.{Fault}
 use Rattle.hol_session_model.specs.ScriptSessions.{State, start, Tools, Turn, last_state, text_of_turns, as_list, theorems_in_turns}
+use Rattle.hol_model.specs.Texts.KnownText.{Tells}
 use Rattle.hol_session_model.specs.Runs.{Counts, no_counts, counts_after, IsRun, SourceUse, SinkUse, Devices}
 use Rattle.hol_bytes.specs.Bytes.{AppendsFront}
 use Rattle.hol_script.specs.declared.progress.Summary.{Summary}
@@ -11,6 +12,7 @@ use Rattle.hol_proof_manager.specs.Session.{Printed}
 use Rattle.hol_proof_manager.specs.Session.{Nothing, Line, Goals}
 use Rattle.hol_proof_manager.specs.Session.{Refused}
 use Rattle.hol_proof_manager.specs.Session.{printed_name}
+use Rattle.hol_proof_manager.specs.Managers.{state_of}
 
 -- ---- answers
 
@@ -52,6 +54,12 @@ pub record Finishes (tools : Tools) (script : List ℕ) (written new_written : O
   pub named : names ≡ printed_names turns
   pub ends : last_state start turns ≡ state
 
+-- A run of the script that was read left this: what it wrote, what it counted, and its session.
+pub record Leaves (tools : Tools) (told written new_written : Option (List ℕ)) (progress : Progress) : Type 0 where
+  pub script : List ℕ
+  pub read : Tells told script
+  pub finishes : Finishes tools script written new_written (counts_of progress.summary) (names_of progress) (state_of progress.manager)
+
 -- The front of what a run of the script writes was written.
 pub record Breaks (tools : Tools) (script : List ℕ) (written new_written : Option (List ℕ)) : Type 0 where
   pub turns : List Turn
@@ -60,8 +68,8 @@ pub record Breaks (tools : Tools) (script : List ℕ) (written new_written : Opt
 
 -- ---- what a run answers, and its devices
 
-abbrev pub answer_of : Result Summary Fault → Result Counts Fault
-answer_of (Ok summary) = Ok (counts_of summary)
+abbrev pub answer_of : Result Progress Fault → Result Counts Fault
+answer_of (Ok progress) = Ok (counts_of progress.summary)
 answer_of (Err fault) = Err fault
 
 abbrev pub source_use : Option (List ℕ) → Bool → SourceUse

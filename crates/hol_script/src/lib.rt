@@ -6,5 +6,5 @@ mod progress;
 mod runner;
 
 pub use hol_proof_manager::{Manager, Printed, Refused};
-pub use progress::Summary;
+pub use progress::{Progress, Summary};
 pub use runner::run;

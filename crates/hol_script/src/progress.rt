@@ -24,7 +24,7 @@ pub struct Summary {
     pub printed: u64,
 }
 
-/// A proof manager, the names in the lines of theorems that it printed, and what it answered so far.
+/// How far a run has come: its proof manager, the names in the lines of theorems that it printed, and what it counted.
 #[derive(Drop)]
 pub struct Progress {
     pub manager: Manager,

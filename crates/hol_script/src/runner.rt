@@ -8,10 +8,10 @@ ghost use Rattle.hol_log.specs.Pruning.{HaveIdentifiers};
 ghost use Rattle.hol_bytes.specs.Bytes.{AppendsFront};
 ghost use Rattle.hol_proof_manager.specs.Session.{session_tools, row_bytes, answer_text};
 ghost use Rattle.hol_proof_manager.specs.Managers.{state_of, IsManager};
-ghost use Rattle.hol_script.specs.Runs.{refusal_of_parts, counts_of, names_of, Finishes, Breaks, answer_of, source_use, sink_use, devices};
+ghost use Rattle.hol_script.specs.Runs.{refusal_of_parts, counts_of, names_of, Finishes, Breaks, Leaves, answer_of, source_use, sink_use, devices};
 ghost use Rattle.hol_script.specs.RunLogs.{claims_stored, claims_listed, theory_of, IsLogOver, IsLongLogOver, WritesLog, WritesFront};
 
-use crate::progress::{Progress, Summary};
+use crate::progress::Progress;
 use hol_bytes::{read_all, write_all, write_pieces};
 use hol_command::cut::{cut, is_blank_text, leading_line_feeds, line_feeds};
 use hol_host::Refiners;
@@ -175,7 +175,7 @@ fn write_log<L: Sink>(alloc: Global, progress: &Progress, log: &mut L) -> Result
 ///
 /// Where a log is wanted, it is written after the last command: the pruned log of the theorems that were printed, over the
 /// theory at the end, which is accepted, with a claim for each line of a theorem, in order. Where none is wanted, `log` is left
-/// alone.
+/// alone. The answer is the session as the run left it (`leaves`), with what it counted.
 ///
 /// ReadFault and TooLong come before anything is written: the source failed, or the script is longer than the limit on
 /// texts. Memory comes while the script is read, or while the session is begun and the theorems of the prelude are made: a
@@ -188,7 +188,7 @@ pub fn run<R: Source, W: Sink, L: Sink, H: Refiners>(
     log: &mut L,
     wants_log: bool,
     host: &H,
-) -> Result<Summary, Fault>
+) -> Result<Progress, Fault>
     requires reader_unfailed { R.has_failed reader.old ≡ false }
     requires writer_unfailed { W.has_failed writer.old ≡ false }
     requires log_unfailed { L.has_failed log.old ≡ false }
@@ -202,6 +202,8 @@ pub fn run<R: Source, W: Sink, L: Sink, H: Refiners>(
     ensures reader_unfailed { OnOk result (R.has_failed reader.new ≡ false) }
     ensures writer_unfailed { OnOk result (W.has_failed writer.new ≡ false) }
     ensures log_unfailed { OnOk result (L.has_failed log.new ≡ false) }
+    ensures leaves { IfOk result (Leaves (session_tools (H.refiners host.now) (H.conversions host.now)) (R.remaining reader.old) (W.contents writer.old) (W.contents writer.new)) }
+    ensures manager { IfOk result (λ progress. IsManager progress.manager) }
 {
     let script = match read_all(alloc, reader) {
         Ok(script) => script,
@@ -212,10 +214,10 @@ pub fn run<R: Source, W: Sink, L: Sink, H: Refiners>(
         Err(fault) => return Err(fault),
     };
     if !wants_log {
-        return Ok(progress.summary);
+        return Ok(progress);
     }
     match write_log(alloc, &progress, log) {
-        Ok(()) => Ok(progress.summary),
+        Ok(()) => Ok(progress),
         Err(fault) => Err(fault),
     }
 }

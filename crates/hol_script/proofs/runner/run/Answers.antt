@@ -86,3 +86,17 @@ pub returns-in-Ok-write_log-clause-told : goal.returns-in-Ok-write_log-clause-to
 returns-in-Ok-write_log-clause-told g c =
     let told = subst (λ (bytes : List ℕ). Tells (g.R.Source.remaining c.args.reader.now) bytes) (sym c.as_slice.ensures.value) c.in-Ok.ensures.all in
     finishes_told (session_tools (g.H.Refiners.refiners c.args.host.now) (g.H.Converters.conversions c.args.host.now)) c.as_slice.result.now told c.in-Ok-run_script.ensures.ok
+
+pub returns-then-not-wants_log-clause-leaves : goal.returns-then-not-wants_log-clause-leaves
+returns-then-not-wants_log-clause-leaves g c = record {
+  script = c.as_slice.result.now;
+  read = subst (λ (bytes : List ℕ). Tells (g.R.Source.remaining c.args.reader.now) bytes) (sym c.as_slice.ensures.value) c.in-Ok.ensures.all;
+  finishes = c.in-Ok-run_script.ensures.ok;
+}
+
+pub returns-in-Ok-write_log-clause-leaves : goal.returns-in-Ok-write_log-clause-leaves
+returns-in-Ok-write_log-clause-leaves g c = record {
+  script = c.as_slice.result.now;
+  read = subst (λ (bytes : List ℕ). Tells (g.R.Source.remaining c.args.reader.now) bytes) (sym c.as_slice.ensures.value) c.in-Ok.ensures.all;
+  finishes = c.in-Ok-run_script.ensures.ok;
+}
