@@ -146,7 +146,7 @@ fn proves_of_negations(alloc: Global, times: usize) -> Result<bool, Fault> {
     ];
     let script = joined(alloc, &commands, &formula)?;
     let mut log = Kept::new(alloc);
-    let summary = run(
+    let ended = run(
         alloc,
         &mut FromRead::new(script.as_slice()),
         &mut IntoWrite::new(Vec::new(alloc)),
@@ -154,6 +154,7 @@ fn proves_of_negations(alloc: Global, times: usize) -> Result<bool, Fault> {
         true,
         &NoHost,
     )?;
+    let summary = ended.summary;
     let nameless = under(alloc, b"([~:bool->bool] ", times, b")")?;
     let lines: [&[u8]; 9] = [
         b"a: ",

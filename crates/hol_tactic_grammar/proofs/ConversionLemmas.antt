@@ -554,7 +554,3 @@ pub unnamed-at : (single : Single) (error : ReadError) (at room : ℕ) (tokens :
     → ReadsUnit (Err error) at room tokens
 unnamed-at single Memory at room tokens takes front refused = tt
 unnamed-at single Syntax at room tokens takes front refused = unnamed single room (behind at tokens) (behind (at + 1) tokens) takes front.front refused
-
--- one place further
-pub reaches-on : (at next further : ℕ) (tokens : List TokenHere) → Reaches at next tokens → Reaches (next + 1) further tokens → Reaches at further tokens
-reaches-on at next further tokens first second = record { further = omega (arith, first.further, second.further); within = second.within }

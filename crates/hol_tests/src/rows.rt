@@ -105,7 +105,8 @@ pub(crate) fn summary(alloc: Global, script: &[u8]) -> Result<Summary, Fault> {
     let mut reader = FromRead::new(script);
     let mut writer = IntoWrite::new(Vec::new(alloc));
     let mut log = IntoWrite::new(Vec::new(alloc));
-    run(alloc, &mut reader, &mut writer, &mut log, false, &NoHost)
+    let ended = run(alloc, &mut reader, &mut writer, &mut log, false, &NoHost)?;
+    Ok(ended.summary)
 }
 
 /// Appends so many times the same bytes.

@@ -19,6 +19,7 @@ use hol_terms::Term;
 use std::alloc::Global;
 use std::fs::{self, File};
 use std::io::{self, Write};
+use std::mem::forget;
 
 // The file of this name, to be read; `-` names standard input.
 fn open(rt: &HostRuntime, name: &str) -> Result<Input, Fault> {
@@ -60,11 +61,17 @@ fn run_hosted<R: Source, W: Sink, L: Sink>(
     host.refiner(alloc, "liar2", lies_twice)?;
     let swaps = Box::new(alloc, |alloc: Global, term: &Term| swap(alloc, term))?;
     host.conv(alloc, "swap", swaps)?;
-    let summary = run(alloc, reader, writer, log, wants_log, &host)?;
-    if let Some(script) = explained {
-        let mut output = rt.stderr();
-        if let Ok(writes) = Box::new(alloc, move |piece: &[u8]| output.write(piece)) {
-            let _ = explain(alloc, script, &host, &mut IntoCall::new(writes));
+    let ended = run(alloc, reader, writer, log, wants_log, &host)?;
+    let summary = ended.summary;
+    match explained {
+        // The program ends, and the session goes with its memory, as one.
+        None => forget(ended),
+        Some(script) => {
+            drop(ended);
+            let mut output = rt.stderr();
+            if let Ok(writes) = Box::new(alloc, move |piece: &[u8]| output.write(piece)) {
+                let _ = explain(alloc, script, &host, &mut IntoCall::new(writes));
+            }
         }
     }
     Ok(summary)

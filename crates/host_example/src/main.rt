@@ -33,7 +33,8 @@ fn run_script(rt: &HostRuntime, name: &str) -> Result<Summary, Fault> {
     let writes = Box::new(alloc, move |piece: &[u8]| output.write(piece))?;
     let mut writer = IntoCall::new(writes);
     let mut no_log = IntoWrite::new(Vec::new(alloc));
-    run(alloc, &mut reader, &mut writer, &mut no_log, false, &host)
+    let ended = run(alloc, &mut reader, &mut writer, &mut no_log, false, &host)?;
+    Ok(ended.summary)
 }
 
 fn main(rt: HostRuntime) -> ExitCode {
