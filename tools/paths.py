@@ -31,4 +31,5 @@ for name in sorted(below, key=paths):
     text = text_of(name)
     idle = [it for it in below[name] if it in below and not re.search(rf"\b{it}\b", text)]
     print(f"{paths(name):7} {name}" + (f": does not name {', '.join(idle)}" if idle else ""))
-print(f"{sum(map(paths, below)):7} in all")
+libraries = [it for it in below if os.path.isfile(f"{root}/crates/{it}/src/lib.rt")]
+print(f"{sum(map(paths, libraries)):7} of libraries in all")

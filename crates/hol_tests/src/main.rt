@@ -1,5 +1,7 @@
 //! Tests of scripts: what no contract says. They stand here, beside none of the functions, since a crate with
 //! tests of its own is proved twice.
+//!
+//! A program without a body, since the gate sums the sources of libraries alone.
 #![tactic(auto)]
 
 #[cfg(test)]
@@ -24,3 +26,5 @@ mod rows;
 mod script_tests;
 #[cfg(test)]
 mod sinks;
+
+fn main() {}

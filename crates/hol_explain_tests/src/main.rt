@@ -1,4 +1,6 @@
 //! Tests of the messages that explain refusals, which no contract tells.
+//!
+//! A program without a body, since the gate sums the sources of libraries alone.
 #![tactic(auto)]
 
 #[cfg(test)]
@@ -9,3 +11,5 @@ mod refiner_tests;
 mod rows;
 #[cfg(test)]
 mod sinks;
+
+fn main() {}
