@@ -269,7 +269,6 @@ impl Term {
     }
 
     /// The parts of the term.
-    #[inline(always)]
     pub fn parts(&self) -> Parts<'_>
         ensures value { term_of_parts result ≡ self.now }
         ensures named { HasNames result }
