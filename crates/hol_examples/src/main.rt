@@ -6,6 +6,7 @@ mod kept;
 
 use hol_check::{check, write_claims};
 use hol_devices::{FromCall, FromRead, IntoCall, IntoWrite};
+use hol_files::run_file;
 use hol_host::NoHost;
 use hol_model::Fault;
 use hol_script::run;
@@ -49,17 +50,9 @@ fn print(rt: &HostRuntime, line: &str) -> Result<(), Fault> {
 
 // Prints the name of a script, and what its run writes.
 fn run_script(rt: &HostRuntime, name: &str) -> Result<(), Fault> {
-    let alloc = rt.alloc();
-    let mut script = open(rt, name)?;
-    let reads = Box::new(alloc, move |buf: &mut [u8]| script.read(buf))?;
-    let mut reader = FromCall::new(reads);
-    let title = format!(in alloc; "== {name}")?;
+    let title = format!(in rt.alloc(); "== {name}")?;
     print(rt, title.as_str())?;
-    let mut output = rt.stdout();
-    let writes = Box::new(alloc, move |piece: &[u8]| output.write(piece))?;
-    let mut writer = IntoCall::new(writes);
-    let mut no_log = IntoWrite::new(Vec::new(alloc));
-    run(alloc, &mut reader, &mut writer, &mut no_log, false, &NoHost)?;
+    run_file(rt, name, &NoHost)?;
     Ok(())
 }
 
