@@ -1,4 +1,4 @@
-"""The toolchain's `rt` as a module, with sums of sources and lists of crates below remembered, which it makes anew for each path."""
+"""The toolchain's `rt` as a module, with stamps and lists of crates below remembered."""
 import importlib.machinery
 import importlib.util
 import os

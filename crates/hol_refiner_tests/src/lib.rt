@@ -1,7 +1,5 @@
 //! Tests of what steps of refiners cost: how many rules they have, how many entries of the recorder their replays make, and how many
 //! steps expressions spend, which no script shows. They stand here, beside none of the functions, since a crate with tests of its own is proved twice.
-//!
-//! A program without a body, since the gate sums the sources of libraries alone.
 #![tactic(auto)]
 
 #[cfg(test)]
@@ -10,5 +8,3 @@ mod bench;
 mod sharing_tests;
 #[cfg(test)]
 mod step_tests;
-
-fn main() {}

@@ -1,6 +1,4 @@
 //! Tests of the messages that explain refusals, which no contract tells.
-//!
-//! A program without a body, since the gate sums the sources of libraries alone.
 #![tactic(auto)]
 
 #[cfg(test)]
@@ -11,5 +9,3 @@ mod refiner_tests;
 mod rows;
 #[cfg(test)]
 mod sinks;
-
-fn main() {}

@@ -1,10 +1,6 @@
 //! Tests of conversions: how many steps they spend, which no script shows. They stand here, beside none of the functions, since a crate with
 //! tests of its own is proved twice.
-//!
-//! A program without a body, since the gate sums the sources of libraries alone.
 #![tactic(auto)]
 
 #[cfg(test)]
 mod step_count_tests;
-
-fn main() {}

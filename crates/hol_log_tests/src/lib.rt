@@ -1,7 +1,5 @@
 //! Tests of the checker on whole logs, and of the logs of scripts: what no contract says. They stand here, beside none of
 //! the functions, since a crate with tests of its own is proved twice.
-//!
-//! A program without a body, since the gate sums the sources of libraries alone.
 #![tactic(auto)]
 
 #[cfg(test)]
@@ -18,5 +16,3 @@ mod runs;
 mod sinks;
 #[cfg(test)]
 mod sources;
-
-fn main() {}

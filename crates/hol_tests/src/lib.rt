@@ -1,7 +1,5 @@
 //! Tests of scripts: what no contract says. They stand here, beside none of the functions, since a crate with
 //! tests of its own is proved twice.
-//!
-//! A program without a body, since the gate sums the sources of libraries alone.
 #![tactic(auto)]
 
 #[cfg(test)]
@@ -26,5 +24,3 @@ mod rows;
 mod script_tests;
 #[cfg(test)]
 mod sinks;
-
-fn main() {}
