@@ -1,4 +1,4 @@
--- The first open goal is refined: the manager that it leaves, and the turn.
+-- The first open goal is refined: the manager that it leaves, and what the command does.
 use Rattle.std.proofs.Common.{◌≡◌, ◌⊎◌, inl, inr, ⊎_elim, ℕ, List, [], ◌++◌, length, map, take, refl, sym, ap, subst, ◌∙◌, Option, Some, Result, Ok, Err}
 use Rattle.std.proofs.lemmas.List.{take-map, length-map}
 use Rattle.std.proofs.Math.Seq.{take-append_seam}
@@ -17,11 +17,10 @@ use Rattle.hol_model.specs.Refining.HostFunctions.{Host}
 use Rattle.hol_model.specs.Refining.Combinators as combinators
 use Rattle.hol_model.specs.Refining.Combinators.{at, IsLater}
 use Rattle.hol_model.specs.Refining.RefinerConditions.{HasLogic, HasKnownWitnesses}
-use Rattle.hol_session_model.specs.CommandGrammar.{e_command, SpellsCommand}
+use Rattle.hol_session_model.specs.CommandGrammar.{e_command}
 use Rattle.hol_session_model.specs.TacticGrammar.{Tactic, read_tactic}
 use Rattle.hol_session_model.specs.Sessions.{State as Library}
 use Rattle.hol_session_model.specs.ScriptSessions.{State, Tools, scope_in, store_in, with_proof, with_lemmas}
-use Rattle.hol_session_model.specs.SessionCalls.{Turns}
 use Rattle.hol_session_model.specs.SessionTools.{tools, IsStackExpansion}
 use Rattle.hol_session_laws.specs.ReadTerms.{IsScopeOver}
 use Rattle.hol_session_laws.specs.ValidSessions.{IsTold}
@@ -48,6 +47,7 @@ use Rattle.hol_tactic_reading.specs.Reading.{IsTreeRead, AnswersTree}
 use Rattle.hol_session.specs.declared.reply.Printed.{Printed}
 use Rattle.hol_session.specs.SessionState as sessions
 use Rattle.hol_session.specs.SessionState.{theorem_of, lemmas_of, IsSession}
+use Rattle.hol_session.specs.Performing.{Performs}
 use Rattle.hol_session.specs.Answers.{Says, plainly}
 use Rattle.hol_proof_manager.specs.declared.manager.Manager.{Manager}
 use Rattle.hol_proof_manager.specs.declared.prover.Prover.{Prover}
@@ -159,14 +159,14 @@ module _ {steps after : ℕ} (old mid : Manager) (is : IsManager old) (on : Went
       told = subst IsTold (sym back_library) is.told;
     }
 
--- ---- turns
+-- ---- the command
 
-module _ (host : Host) (steps : ℕ) (old : Manager) (is : IsManager old) (text : List ℕ) (tree : Tactic TermTree) (spelled : SpellsCommand text (e_command tree)) where
+module _ (host : Host) (steps : ℕ) (old : Manager) (is : IsManager old) (tree : Tactic TermTree) where
   -- a quoted term is refused
   pub e_unread_turn : (fault : Fault) → AnswersTree (scope_of old.prover.session.scope) tree (Err fault)
-      → Turns (tools host steps) (state_of old) (Some text) (Says (plainly (Err fault))) (state_of old)
+      → Performs (tools host steps) (state_of old) (e_command tree) (Says (plainly (Err fault))) (state_of old)
   e_unread_turn fault answers =
-      refuses (state_of old) (state_of old) text (e_command tree) fault refl spelled
+      refuses (state_of old) (state_of old) (e_command tree) fault refl
       (⊎_elim (λ memory. inl memory) (λ refused. inr (e_unread host steps (state_of old) tree fault refused))
       (subst (λ (s : Scope). AnswersTree s tree (Err fault)) (scope_known old is) answers))
 
@@ -177,17 +177,17 @@ module _ (host : Host) (steps : ℕ) (old : Manager) (is : IsManager old) (text 
     -- it is not refined
     e_refused_turn : (fault : Fault) (new : State) → new ≡ state_of old
         → (fault ≡ Memory) ⊎ IsStackExpansion (theory_in old) host (at (store_in (state_of old)) steps) (tactic_of tac) (stack_of old.stack).proof (Err fault)
-        → Turns (tools host steps) (state_of old) (Some text) (Says (plainly (Err fault))) new
+        → Performs (tools host steps) (state_of old) (e_command tree) (Says (plainly (Err fault))) new
     e_refused_turn fault new same why =
-        refuses (state_of old) new text (e_command tree) fault same spelled
+        refuses (state_of old) new (e_command tree) fault same
         (⊎_elim (λ memory. inl memory) (λ may. inr (e_refused host steps (state_of old) tree read.tactic (tactic_of tac) meant_here read.means fault may)) why)
 
     -- it is
     e_done_turn : (expansion : Expansion) (new : State) (printed : Printed) → new ≡ with_proof (with_lemmas (state_of old) expansion.lemmas) expansion.proof
         → IsStackExpansion (theory_in old) host (at (store_in (state_of old)) steps) (tactic_of tac) (stack_of old.stack).proof (Ok expansion) → ShowsGoals new printed
-        → Turns (tools host steps) (state_of old) (Some text) (Says (plainly (Ok printed))) new
+        → Performs (tools host steps) (state_of old) (e_command tree) (Says (plainly (Ok printed))) new
     e_done_turn expansion new printed same may shown =
-        shows_after (state_of old) new (with_proof (with_lemmas (state_of old) expansion.lemmas) expansion.proof) text (e_command tree) expansion.proof printed same spelled
+        shows_after (state_of old) new (with_proof (with_lemmas (state_of old) expansion.lemmas) expansion.proof) (e_command tree) expansion.proof printed same
         (e_done host steps (state_of old) tree read.tactic (tactic_of tac) meant_here read.means expansion may) refl shown
 
 -- ---- the whole call
@@ -200,12 +200,12 @@ module _ {steps after : ℕ} (old mid : Manager) (is : IsManager old) (on : Went
   -- it is not refined, and what came is forgotten
   module _ (new : Manager) (count : ℕ) (forgets : Forgets mid new count) (counted : count ≡ length (stored_of old.prover.session.library.store).lemmas)
       (unchanged : stack_of mid.stack ≡ stack_of old.stack) where
-    pub e_unrefined_turn : (host : Host) (limit : ℕ) → steps ≡ limit → (text : List ℕ) (tree : Tactic TermTree) → SpellsCommand text (e_command tree) → (tac : Tac NamedTerm)
+    pub e_unrefined_turn : (host : Host) (limit : ℕ) → steps ≡ limit → (tree : Tactic TermTree) → (tac : Tac NamedTerm)
         → IsTreeRead (scope_of old.prover.session.scope) tree tac → (fault : Fault) → (fault ≡ Memory) ⊎ MayBe host old steps tac (Err fault)
-        → Turns (tools host limit) (state_of old) (Some text) (Says (plainly (Err fault))) (state_of new)
-    e_unrefined_turn host limit same text tree spelled tac read fault why =
-        subst (λ (n : ℕ). Turns (tools host n) (state_of old) (Some text) (Says (plainly (Err fault))) (state_of new)) same
-        (e_refused_turn host steps old is text tree spelled tac read fault (state_of new)
+        → Performs (tools host limit) (state_of old) (e_command tree) (Says (plainly (Err fault))) (state_of new)
+    e_unrefined_turn host limit same tree tac read fault why =
+        subst (λ (n : ℕ). Performs (tools host n) (state_of old) (e_command tree) (Says (plainly (Err fault))) (state_of new)) same
+        (e_refused_turn host steps old is tree tac read fault (state_of new)
         (back_state old mid is on new count forgets counted (ap (λ (s : Stack). s.proof) unchanged)) why)
 
     pub e_unrefined_manager : KeepsMade (journal_in mid) mid.stack → IsManager new
@@ -219,13 +219,13 @@ module _ {steps after : ℕ} (old mid : Manager) (is : IsManager old) (on : Went
     expansion = record { proof = expands.proof; lemmas = lemmas_of mid.prover.session; left = after }
 
     -- and the goals are shown
-    pub e_shown_turn : (limit : ℕ) → steps ≡ limit → (text : List ℕ) (tree : Tactic TermTree) → SpellsCommand text (e_command tree)
+    pub e_shown_turn : (limit : ℕ) → steps ≡ limit → (tree : Tactic TermTree)
         → IsTreeRead (scope_of old.prover.session.scope) tree tac → (new : Manager) → new ≡ mid → (printed : Printed) → ShowsGoals (state_of mid) printed
-        → Turns (tools host limit) (state_of old) (Some text) (Says (plainly (Ok printed))) (state_of new)
-    e_shown_turn limit same text tree spelled read new kept printed shown =
-        subst (λ (m : Manager). Turns (tools host limit) (state_of old) (Some text) (Says (plainly (Ok printed))) (state_of m)) (sym kept)
-        (subst (λ (n : ℕ). Turns (tools host n) (state_of old) (Some text) (Says (plainly (Ok printed))) (state_of mid)) same
-        (e_done_turn host steps old is text tree spelled tac read expansion (state_of mid) printed (on_state old mid is on expands.proof expands.changed) expands.reached shown))
+        → Performs (tools host limit) (state_of old) (e_command tree) (Says (plainly (Ok printed))) (state_of new)
+    e_shown_turn limit same tree read new kept printed shown =
+        subst (λ (m : Manager). Performs (tools host limit) (state_of old) (e_command tree) (Says (plainly (Ok printed))) (state_of m)) (sym kept)
+        (subst (λ (n : ℕ). Performs (tools host n) (state_of old) (e_command tree) (Says (plainly (Ok printed))) (state_of mid)) same
+        (e_done_turn host steps old is tree tac read expansion (state_of mid) printed (on_state old mid is on expands.proof expands.changed) expands.reached shown))
 
     -- or there is no memory for them: the change is undone, and what came is forgotten
     module _ (undone new : Manager) (undoes : IsUndone mid undone) (count : ℕ) (forgets : Forgets undone new count)
@@ -239,10 +239,10 @@ module _ {steps after : ℕ} (old mid : Manager) (is : IsManager old) (on : Went
       on_undone : WentOn old undone.prover steps after
       on_undone = subst (λ (p : Prover). WentOn old p steps after) (sym undoes.prover) on
 
-      pub e_undone_turn : {any : Tools} (text : List ℕ) (tree : Tactic TermTree) → SpellsCommand text (e_command tree) → (fault : Fault) → fault ≡ Memory
-          → Turns any (state_of old) (Some text) (Says (plainly (Err fault))) (state_of new)
-      e_undone_turn text tree spelled fault memory =
-          refuses (state_of old) (state_of new) text (e_command tree) fault (back_state old undone is on_undone new count forgets counted as_before) spelled (inl memory)
+      pub e_undone_turn : {any : Tools} (tree : Tactic TermTree) → (fault : Fault) → fault ≡ Memory
+          → Performs any (state_of old) (e_command tree) (Says (plainly (Err fault))) (state_of new)
+      e_undone_turn tree fault memory =
+          refuses (state_of old) (state_of new) (e_command tree) fault (back_state old undone is on_undone new count forgets counted as_before) (inl memory)
 
       pub e_undone_manager : KeepsMade (journal_in mid) mid.stack → IsManager new
       e_undone_manager made =

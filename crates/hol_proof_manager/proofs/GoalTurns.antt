@@ -1,4 +1,4 @@
--- Which turns the commands of goals make.
+-- What the commands of goals do.
 use Rattle.std.proofs.Common.{◌≡◌, ◌⊎◌, inl, inr, ℕ, List, [], true, false, refl, sym, ap, subst, ◌∙◌, Option, None, Some, Result, Ok, Err}
 use Rattle.std.specs.Prelude.{is_some}
 use Rattle.hol_model.specs.declared.fault.Fault.{Fault}
@@ -15,51 +15,51 @@ use Rattle.hol_model.specs.Refining.HostFunctions.{Host}
 use Rattle.hol_model.specs.Refining.Combinators as combinators
 use Rattle.hol_model.specs.Refining.Combinators.{at}
 use Rattle.hol_session_model.specs.TacticGrammar.{Tactic, read_tactic}
-use Rattle.hol_session_model.specs.CommandGrammar.{CommandTree, goal_command, e_command, b_command, p_command, r_command, save_command, SpellsCommand}
+use Rattle.hol_session_model.specs.CommandGrammar.{CommandTree, goal_command, e_command, b_command, p_command, r_command, save_command}
 use Rattle.hol_session_model.specs.Sessions.{is_theorem_name}
 use Rattle.hol_session_model.specs.Replies.{goal_lines, theorem_line, refusal_of, Reply}
 use Rattle.hol_session_model.specs.ScriptSessions.{State, scope_in, store_in, with_goal, with_lemmas, Tools, Accepted, says_goals, stores, May}
-use Rattle.hol_session_model.specs.ScriptSessions.{Allows, finds_no_memory, is_done, is_refused, AreShown, IsProved}
+use Rattle.hol_session_model.specs.ScriptSessions.{AreShown, IsProved}
 use Rattle.hol_session_model.specs.SessionTools.{tools, tactic_of, IsStackExpansion}
-use Rattle.hol_session_model.specs.SessionCalls.{Turns}
+use Rattle.hol_session.specs.Performing.{Performs}
 
 -- a refusal of a command, which leaves the state
-pub refused_turn : {tools : Tools} {Says : Scope → Reply → Type 0} (state : State) (text : List ℕ) (tree : CommandTree) (fault : Fault) → SpellsCommand text tree
-    → (fault ≡ Memory) ⊎ May tools state tree (Err (refusal_of fault)) → Says (scope_in state) (Err (refusal_of fault)) → Turns tools state (Some text) Says state
-refused_turn {tools} state text tree fault spelled (inl memory) says = record {
+pub refused_turn : {tools : Tools} {Says : Scope → Reply → Type 0} (state : State) (tree : CommandTree) (fault : Fault)
+    → (fault ≡ Memory) ⊎ May tools state tree (Err (refusal_of fault)) → Says (scope_in state) (Err (refusal_of fault)) → Performs tools state tree Says state
+refused_turn state tree fault (inl memory) says = record {
   outcome = Err (refusal_of fault);
-  allowed = subst (λ (f : Fault). Allows tools state (Some text) (Err (refusal_of f))) (sym memory) finds_no_memory;
+  comes = inl (ap (λ (f : Fault). Err (refusal_of f)) memory);
   leaves = refl;
   says = says;
   is_true = record { theorem = tt; goals = tt; row = tt };
 }
-refused_turn state text tree fault spelled (inr may) says = record {
+refused_turn state tree fault (inr may) says = record {
   outcome = Err (refusal_of fault);
-  allowed = is_refused tree spelled may;
+  comes = inr may;
   leaves = refl;
   says = says;
   is_true = record { theorem = tt; goals = tt; row = tt };
 }
 
 -- a command that shows the goals of a proof
-pub goals_turn : {tools : Tools} {Says : Scope → Reply → Type 0} (old new : State) (text : List ℕ) (tree : CommandTree) (proof : Proof) → SpellsCommand text tree
+pub goals_turn : {tools : Tools} {Says : Scope → Reply → Type 0} (old new : State) (tree : CommandTree) (proof : Proof)
     → May tools old tree (Ok (record { message = goal_lines (open_goals proof.stage); after = new })) → AreShown new (open_goals proof.stage)
-    → Says (scope_in new) (Ok (goal_lines (open_goals proof.stage))) → Turns tools old (Some text) Says new
-goals_turn old new text tree proof spelled may shown says = record {
+    → Says (scope_in new) (Ok (goal_lines (open_goals proof.stage))) → Performs tools old tree Says new
+goals_turn old new tree proof may shown says = record {
   outcome = Ok (record { message = goal_lines (open_goals proof.stage); after = new });
-  allowed = is_done tree spelled may;
+  comes = inr may;
   leaves = refl;
   says = says;
   is_true = record { theorem = tt; goals = shown; row = tt };
 }
 
 -- a command that shows a theorem
-pub theorem_turn : {tools : Tools} {Says : Scope → Reply → Type 0} (old new : State) (text name : List ℕ) (tree : CommandTree) (theorem : Theorem) → SpellsCommand text tree
+pub theorem_turn : {tools : Tools} {Says : Scope → Reply → Type 0} (old new : State) (name : List ℕ) (tree : CommandTree) (theorem : Theorem)
     → May tools old tree (Ok (record { message = theorem_line name theorem; after = new })) → IsProved new theorem
-    → Says (scope_in new) (Ok (theorem_line name theorem)) → Turns tools old (Some text) Says new
-theorem_turn old new text name tree theorem spelled may proved says = record {
+    → Says (scope_in new) (Ok (theorem_line name theorem)) → Performs tools old tree Says new
+theorem_turn old new name tree theorem may proved says = record {
   outcome = Ok (record { message = theorem_line name theorem; after = new });
-  allowed = is_done tree spelled may;
+  comes = inr may;
   leaves = refl;
   says = says;
   is_true = record { theorem = proved; goals = tt; row = tt };

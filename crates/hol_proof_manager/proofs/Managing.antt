@@ -1,4 +1,4 @@
--- What is shown of the goals of a manager, and the turns and managers that calls leave.
+-- What is shown of the goals of a manager, and what calls do and leave.
 use Rattle.std.proofs.Common.{◌≡◌, ◌⊎◌, inl, inr, ⊎_elim, ℕ, List, [], map, refl, sym, ap, subst, ◌∙◌, append-nil, true, Option, None, Some, Result, Ok, Err}
 use Rattle.std.specs.Prelude.{IfSome, IfOk, IfErr, OnOk, OnErr, is_some, false, slice_get}
 use Rattle.std.specs.List.{list_all}
@@ -15,11 +15,11 @@ use Rattle.hol_model.specs.Goals.Replays.{Store, sequent_of_theorem, sequents_in
 use Rattle.hol_model.specs.Goals.GoalStates.{Proof, Stack, open_goals, goals_of_proof, back_outcome, rotate_outcome, top_outcome, changed_stack, reverted, reverted_to}
 use Rattle.hol_model.specs.Goals.StackCalls.{Changes}
 use Rattle.hol_model.specs.Goals.GoalLaws.{IsValidProof, IsValidIfAny, IsValidStack}
-use Rattle.hol_session_model.specs.CommandGrammar.{CommandTree, p_command, save_command, SpellsCommand}
+use Rattle.hol_session_model.specs.CommandGrammar.{CommandTree, p_command, save_command}
 use Rattle.hol_session_model.specs.Sessions.{State as Library, with_theorem}
 use Rattle.hol_session_model.specs.Replies.{text_of_goals, text_of_theorem, refusal_of, Reply, theorem_line, goal_lines}
 use Rattle.hol_session_model.specs.ScriptSessions.{State, start, scope_in, store_in, with_library, with_proof, says_goals, Tools, May, IsProved}
-use Rattle.hol_session_model.specs.SessionCalls.{Turns}
+use Rattle.hol_session.specs.Performing.{Performs}
 use Rattle.hol_session_laws.specs.ValidSessions.{IsTold}
 use Rattle.hol_session_laws.proofs.StoredTheorems.{start-told}
 use Rattle.hol_sound.specs.Laws.{IsSound}
@@ -103,30 +103,30 @@ shows manager goals printed is some same formed is_proved spelled unnamed = reco
       (same ∙ ap goals_of_proof here) formed is_proved;
 }
 
--- ---- turns
+-- ---- commands
 
 -- a refusal, which leaves the state
-pub refuses : {tools : Tools} (old new : State) (text : List ℕ) (tree : CommandTree) (fault : Fault) → new ≡ old → SpellsCommand text tree
-    → (fault ≡ Memory) ⊎ May tools old tree (Err (refusal_of fault)) → Turns tools old (Some text) (Says (plainly (Err fault))) new
-refuses {tools} old new text tree fault same spelled why =
-    subst (λ (s : State). Turns tools old (Some text) (Says (plainly (Err fault))) s) (sym same)
-    (refused_turn old text tree fault spelled why (record { same_fault = refl; spelled = refl }))
+pub refuses : {tools : Tools} (old new : State) (tree : CommandTree) (fault : Fault) → new ≡ old
+    → (fault ≡ Memory) ⊎ May tools old tree (Err (refusal_of fault)) → Performs tools old tree (Says (plainly (Err fault))) new
+refuses {tools} old new tree fault same why =
+    subst (λ (s : State). Performs tools old tree (Says (plainly (Err fault))) s) (sym same)
+    (refused_turn old tree fault why (record { same_fault = refl; spelled = refl }))
 
 -- goals are shown
-pub shows_turn : {tools : Tools} (old new : State) (text : List ℕ) (tree : CommandTree) (proof : Proof) (printed : Printed) → SpellsCommand text tree
+pub shows_turn : {tools : Tools} (old new : State) (tree : CommandTree) (proof : Proof) (printed : Printed)
     → May tools old tree (Ok (record { message = goal_lines (open_goals proof.stage); after = new })) → new.proof ≡ Some proof → ShowsGoals new printed
-    → Turns tools old (Some text) (Says (plainly (Ok printed))) new
-shows_turn old new text tree proof printed spelled may here shown =
-    goals_turn old new text tree proof spelled may (shown.shown proof here)
+    → Performs tools old tree (Says (plainly (Ok printed))) new
+shows_turn old new tree proof printed may here shown =
+    goals_turn old new tree proof may (shown.shown proof here)
     (record { spelled = shown.spelled ∙ ap (λ (found : Option Proof). text_of_goals (scope_in new) (goals_of_proof found)) here; named = shown.unnamed })
 
 -- the same, of a state that is told by an equation
-pub shows_after : {tools : Tools} (old new made : State) (text : List ℕ) (tree : CommandTree) (proof : Proof) (printed : Printed) → new ≡ made → SpellsCommand text tree
+pub shows_after : {tools : Tools} (old new made : State) (tree : CommandTree) (proof : Proof) (printed : Printed) → new ≡ made
     → May tools old tree (Ok (record { message = goal_lines (open_goals proof.stage); after = made })) → made.proof ≡ Some proof → ShowsGoals new printed
-    → Turns tools old (Some text) (Says (plainly (Ok printed))) new
-shows_after {tools} old new made text tree proof printed same spelled may here shown =
-    subst (λ (s : State). Turns tools old (Some text) (Says (plainly (Ok printed))) s) (sym same)
-    (shows_turn old made text tree proof printed spelled may here (subst (λ (s : State). ShowsGoals s printed) same shown))
+    → Performs tools old tree (Says (plainly (Ok printed))) new
+shows_after {tools} old new made tree proof printed same may here shown =
+    subst (λ (s : State). Performs tools old tree (Says (plainly (Ok printed))) s) (sym same)
+    (shows_turn old made tree proof printed may here (subst (λ (s : State). ShowsGoals s printed) same shown))
 
 -- ---- p
 
@@ -142,12 +142,12 @@ set_there (Some proof) is = (proof, refl)
 as_is : (state : State) (proof : Proof) → state.proof ≡ Some proof → state ≡ record { library = state.library; lemmas = state.lemmas; proof = Some proof }
 as_is state proof here = λ i. record { library = state.library; lemmas = state.lemmas; proof = here i }
 
-pub p_turn : {tools : Tools} (manager : Manager) (text : List ℕ) → SpellsCommand text p_command → (result : Result Printed Fault) → (proof : Proof) → (state_of manager).proof ≡ Some proof
-    → IfOk result (ShowsGoals (state_of manager)) → IfErr result (λ fault. fault ≡ Memory) → Turns tools (state_of manager) (Some text) (Says (plainly result)) (state_of manager)
-p_turn {tools} manager text spelled (Ok printed) proof here shown memory =
+pub p_turn : {tools : Tools} (manager : Manager) (result : Result Printed Fault) (proof : Proof) → (state_of manager).proof ≡ Some proof
+    → IfOk result (ShowsGoals (state_of manager)) → IfErr result (λ fault. fault ≡ Memory) → Performs tools (state_of manager) p_command (Says (plainly result)) (state_of manager)
+p_turn {tools} manager (Ok printed) proof here shown memory =
     let state = state_of manager in
-    shows_after state state (with_proof state proof) text p_command proof printed (as_is state proof here) spelled (p_done tools state proof here) refl shown
-p_turn {tools} manager text spelled (Err fault) proof here shown memory = refuses (state_of manager) (state_of manager) text p_command fault refl spelled (inl memory)
+    shows_after state state (with_proof state proof) p_command proof printed (as_is state proof here) (p_done tools state proof here) refl shown
+p_turn {tools} manager (Err fault) proof here shown memory = refuses (state_of manager) (state_of manager) p_command fault refl (inl memory)
 
 -- ---- stacks that change
 
@@ -208,32 +208,31 @@ changed_manager manager stack proof is changed good made =
     stack_manager manager stack is (changed_valid (theory_in manager) (store_in (state_of manager)) (stack_of manager.stack) (stack_of stack) proof is.stack changed good) made
 
 -- a change of the stack is refused
-pub unchanged_turn : {tools : Tools} {outcome : Result Proof Fault} (manager : Manager) (stack : stacks.Stack) (text : List ℕ) (tree : CommandTree) (fault : Fault) → SpellsCommand text tree
+pub unchanged_turn : {tools : Tools} {outcome : Result Proof Fault} (manager : Manager) (stack : stacks.Stack) (tree : CommandTree) (fault : Fault)
     → (outcome ≡ Err fault → May tools (state_of manager) tree (Err (refusal_of fault)))
     → Changes (Err fault) outcome (changed_stack (stack_of manager.stack)) (stack_of manager.stack) (stack_of stack)
-    → Turns tools (state_of manager) (Some text) (Says (plainly (Err fault))) (state_of (with_stack manager stack))
-unchanged_turn manager stack text tree fault spelled may changes =
-    refuses (state_of manager) (state_of (with_stack manager stack)) text tree fault
-    (stack_state manager stack (stack_of manager.stack).proof (ap (λ (s : Stack). s.proof) changes.1)) spelled
+    → Performs tools (state_of manager) tree (Says (plainly (Err fault))) (state_of (with_stack manager stack))
+unchanged_turn manager stack tree fault may changes =
+    refuses (state_of manager) (state_of (with_stack manager stack)) tree fault
+    (stack_state manager stack (stack_of manager.stack).proof (ap (λ (s : Stack). s.proof) changes.1))
     (⊎_elim (λ memory. inl memory) (λ refused. inr (may refused)) changes.0)
 
 -- the stack has changed, and its goals are shown; or there is no memory, and the change is undone
-pub changed_turn : {tools : Tools} (manager : Manager) (stack : stacks.Stack) (text : List ℕ) (tree : CommandTree) (proof there : Proof) (result : Result Printed Fault) (new : Manager)
-    → SpellsCommand text tree
+pub changed_turn : {tools : Tools} (manager : Manager) (stack : stacks.Stack) (tree : CommandTree) (proof there : Proof) (result : Result Printed Fault) (new : Manager)
     → May tools (state_of manager) tree (Ok (says_goals (state_of manager) proof)) → stack_of stack ≡ changed_stack (stack_of manager.stack) proof → (stack_of manager.stack).proof ≡ Some there
     → IfOk result (ShowsGoals (state_of (with_stack manager stack))) → OnOk result (new ≡ with_stack manager stack) → OnErr result (IsUndone (with_stack manager stack) new)
-    → IfErr result (λ fault. fault ≡ Memory) → Turns tools (state_of manager) (Some text) (Says (plainly result)) (state_of new)
-changed_turn manager stack text tree proof there (Ok printed) new spelled may changed here shown same is_undone memory =
-    shows_after (state_of manager) (state_of new) (with_proof (state_of manager) proof) text tree proof printed
-    (ap state_of same ∙ stack_state manager stack (Some proof) (ap (λ (s : Stack). s.proof) changed)) spelled may refl
+    → IfErr result (λ fault. fault ≡ Memory) → Performs tools (state_of manager) tree (Says (plainly result)) (state_of new)
+changed_turn manager stack tree proof there (Ok printed) new may changed here shown same is_undone memory =
+    shows_after (state_of manager) (state_of new) (with_proof (state_of manager) proof) tree proof printed
+    (ap state_of same ∙ stack_state manager stack (Some proof) (ap (λ (s : Stack). s.proof) changed)) may refl
     (subst (λ (m : Manager). ShowsGoals (state_of m) printed) (sym same) shown)
-changed_turn manager stack text tree proof there (Err fault) new spelled may changed here shown same is_undone memory =
-    refuses (state_of manager) (state_of new) text tree fault
+changed_turn manager stack tree proof there (Err fault) new may changed here shown same is_undone memory =
+    refuses (state_of manager) (state_of new) tree fault
     (λ i. record {
       library = sessions.state_of (is_undone.prover i).session;
       lemmas = lemmas_of (is_undone.prover i).session;
       proof = undone_same (stack_of manager.stack) (stack_of stack) (stack_of new.stack) proof there changed is_undone.stack here i;
-    }) spelled (inl memory)
+    }) (inl memory)
 
 -- ---- sessions that go on
 
@@ -278,57 +277,57 @@ session_manager manager session is known lemmas stays later =
 
 -- ---- save
 
-pub unsaved_name : {tools : Tools} (manager : Manager) (text name : List ℕ) (fault : Fault) → SpellsCommand text (save_command name)
-    → TestsName {A = Unit {0}} (sessions.state_of manager.prover.session) name (Err fault) → Turns tools (state_of manager) (Some text) (Says (plainly (Err fault))) (state_of manager)
-unsaved_name {tools} manager text name fault spelled (inl bad) =
-    refuses (state_of manager) (state_of manager) text (save_command name) fault refl spelled
+pub unsaved_name : {tools : Tools} (manager : Manager) (name : List ℕ) (fault : Fault)
+    → TestsName {A = Unit {0}} (sessions.state_of manager.prover.session) name (Err fault) → Performs tools (state_of manager) (save_command name) (Says (plainly (Err fault))) (state_of manager)
+unsaved_name {tools} manager name fault (inl bad) =
+    refuses (state_of manager) (state_of manager) (save_command name) fault refl
     (inr (subst (λ (f : Fault). May tools (state_of manager) (save_command name) (Err (refusal_of f))) (sym bad.0) (save_misnamed tools (state_of manager) name bad.1)))
-unsaved_name {tools} manager text name fault spelled (inr taken) =
-    refuses (state_of manager) (state_of manager) text (save_command name) fault refl spelled
+unsaved_name {tools} manager name fault (inr taken) =
+    refuses (state_of manager) (state_of manager) (save_command name) fault refl
     (inr (subst (λ (f : Fault). May tools (state_of manager) (save_command name) (Err (refusal_of f))) (sym taken.0) (save_taken tools (state_of manager) name taken.1 taken.2)))
 
-pub unsaved : {tools : Tools} (manager : Manager) (text name : List ℕ) (fault : Fault) → SpellsCommand text (save_command name) → IsNewName (sessions.state_of manager.prover.session) name
-    → Err fault ≡ top_outcome (state_of manager).proof → Turns tools (state_of manager) (Some text) (Says (plainly (Err fault))) (state_of manager)
-unsaved {tools} manager text name fault spelled free told =
-    refuses (state_of manager) (state_of manager) text (save_command name) fault refl spelled
+pub unsaved : {tools : Tools} (manager : Manager) (name : List ℕ) (fault : Fault) → IsNewName (sessions.state_of manager.prover.session) name
+    → Err fault ≡ top_outcome (state_of manager).proof → Performs tools (state_of manager) (save_command name) (Says (plainly (Err fault))) (state_of manager)
+unsaved {tools} manager name fault free told =
+    refuses (state_of manager) (state_of manager) (save_command name) fault refl
     (inr (save_refused tools (state_of manager) name fault free.named (ap is_some free.none) (sym told)))
 
-saved_turn : {tools : Tools} (manager : Manager) (session : Session) (text name : List ℕ) (theorem : Theorem) (printed : Printed) → SpellsCommand text (save_command name)
+saved_turn : {tools : Tools} (manager : Manager) (session : Session) (name : List ℕ) (theorem : Theorem) (printed : Printed)
     → IsNewName (sessions.state_of manager.prover.session) name → Ok theorem ≡ top_outcome (state_of manager).proof → Stores manager.prover.session session name theorem printed
-    → lemmas_of session ≡ lemmas_of manager.prover.session → Turns tools (state_of manager) (Some text) (Says (plainly (Ok printed))) (state_of (with_session manager session))
-saved_turn {tools} manager session text name theorem printed spelled free told stored lemmas =
+    → lemmas_of session ≡ lemmas_of manager.prover.session → Performs tools (state_of manager) (save_command name) (Says (plainly (Ok printed))) (state_of (with_session manager session))
+saved_turn {tools} manager session name theorem printed free told stored lemmas =
     let state = state_of manager in
     let made : State = with_library state (with_theorem state.library name theorem) in
     let new : State = state_of (with_session manager session) in
     let same : new ≡ made = λ i. record { library = stored.state i; lemmas = lemmas i; proof = state.proof } in
     let proved_here : IsProved new theorem = stored.proved (record { lemmas = lemmas_of session; proof = state.proof }) in
-    subst (λ (s : State). Turns tools state (Some text) (Says (plainly (Ok printed))) s) (sym same)
-    (theorem_turn state made text name (save_command name) theorem spelled (save_done tools state name theorem free.named (ap is_some free.none) (sym told))
+    subst (λ (s : State). Performs tools state (save_command name) (Says (plainly (Ok printed))) s) (sym same)
+    (theorem_turn state made name (save_command name) theorem (save_done tools state name theorem free.named (ap is_some free.none) (sym told))
     (subst (λ (s : State). IsProved s theorem) same proved_here)
     (subst (λ (s : State). Says (plainly (Ok printed)) (scope_in s) (Ok (theorem_line name theorem))) same
     (record { spelled = stored.spelled ∙ sym (append-nil (text_of_theorem (scope_in new) (record { name = name; theorem = theorem }))); named = stored.named })))
 
 -- nothing is kept
-kept_turn : {tools : Tools} (manager : Manager) (session : Session) (text name : List ℕ) (fault : Fault) → SpellsCommand text (save_command name) → fault ≡ Memory
+kept_turn : {tools : Tools} (manager : Manager) (session : Session) (name : List ℕ) (fault : Fault) → fault ≡ Memory
     → sessions.state_of session ≡ sessions.state_of manager.prover.session → lemmas_of session ≡ lemmas_of manager.prover.session
-    → Turns tools (state_of manager) (Some text) (Says (plainly (Err fault))) (state_of (with_session manager session))
-kept_turn manager session text name fault spelled memory library lemmas =
-    refuses (state_of manager) (state_of (with_session manager session)) text (save_command name) fault
-    (λ i. record { library = library i; lemmas = lemmas i; proof = (state_of manager).proof }) spelled (inl memory)
+    → Performs tools (state_of manager) (save_command name) (Says (plainly (Err fault))) (state_of (with_session manager session))
+kept_turn manager session name fault memory library lemmas =
+    refuses (state_of manager) (state_of (with_session manager session)) (save_command name) fault
+    (λ i. record { library = library i; lemmas = lemmas i; proof = (state_of manager).proof }) (inl memory)
 
 -- the theorem is kept, or there is no memory
-pub kept_or_saved : {tools : Tools} (manager : Manager) (session : Session) (text name : List ℕ) (theorem : Theorem) (result : Result Printed Fault) → SpellsCommand text (save_command name)
+pub kept_or_saved : {tools : Tools} (manager : Manager) (session : Session) (name : List ℕ) (theorem : Theorem) (result : Result Printed Fault)
     → IsNewName (sessions.state_of manager.prover.session) name → Ok theorem ≡ top_outcome (state_of manager).proof → IfOk result (Stores manager.prover.session session name theorem)
     → OnErr result (sessions.state_of session ≡ sessions.state_of manager.prover.session) → IfErr result (λ fault. fault ≡ Memory) → lemmas_of session ≡ lemmas_of manager.prover.session
-    → Turns tools (state_of manager) (Some text) (Says (plainly result)) (state_of (with_session manager session))
-kept_or_saved manager session text name theorem (Ok printed) spelled free told stored same memory lemmas = saved_turn manager session text name theorem printed spelled free told stored lemmas
-kept_or_saved manager session text name theorem (Err fault) spelled free told stored same memory lemmas = kept_turn manager session text name fault spelled memory same lemmas
+    → Performs tools (state_of manager) (save_command name) (Says (plainly result)) (state_of (with_session manager session))
+kept_or_saved manager session name theorem (Ok printed) free told stored same memory lemmas = saved_turn manager session name theorem printed free told stored lemmas
+kept_or_saved manager session name theorem (Err fault) free told stored same memory lemmas = kept_turn manager session name fault memory same lemmas
 
--- the turn of a session is the manager's
-pub session_turn : {tools : Tools} (manager : Manager) (session : Session) (text : Option (List ℕ)) (Told : Scope → Reply → Type 0)
+-- what the session does the manager does
+pub session_turn : {tools : Tools} (manager : Manager) (session : Session) (tree : CommandTree) (Told : Scope → Reply → Type 0)
     → ((beside : Beside) → beside.lemmas ≡ lemmas_of manager.prover.session
-    → Turns tools (with_beside beside (sessions.state_of manager.prover.session)) text Told (with_beside beside (sessions.state_of session)))
-    → lemmas_of session ≡ lemmas_of manager.prover.session → Turns tools (state_of manager) text Told (state_of (with_session manager session))
-session_turn {tools} manager session text Told turns lemmas =
-    subst (λ (l : List Theorem). Turns tools (state_of manager) text Told (record { library = sessions.state_of session; lemmas = l; proof = (stack_of manager.stack).proof })) (sym lemmas)
-    (turns (record { lemmas = lemmas_of manager.prover.session; proof = (stack_of manager.stack).proof }) refl)
+    → Performs tools (with_beside beside (sessions.state_of manager.prover.session)) tree Told (with_beside beside (sessions.state_of session)))
+    → lemmas_of session ≡ lemmas_of manager.prover.session → Performs tools (state_of manager) tree Told (state_of (with_session manager session))
+session_turn {tools} manager session tree Told performs lemmas =
+    subst (λ (l : List Theorem). Performs tools (state_of manager) tree Told (record { library = sessions.state_of session; lemmas = l; proof = (stack_of manager.stack).proof })) (sym lemmas)
+    (performs (record { lemmas = lemmas_of manager.prover.session; proof = (stack_of manager.stack).proof }) refl)

@@ -1,5 +1,5 @@
--- A goal is set: the manager and the turn that it makes.
-use Rattle.std.proofs.Common.{◌≡◌, ◌⊎◌, inl, inr, ⊎_elim, ℕ, List, [], ◌∷◌, map, refl, sym, ap, subst, ◌∙◌, true, None, Some, Result, Ok, Err}
+-- A goal is set: the manager that it leaves, and what the command does.
+use Rattle.std.proofs.Common.{◌≡◌, ◌⊎◌, inl, inr, ⊎_elim, List, [], ◌∷◌, map, refl, sym, ap, subst, ◌∙◌, true, None, Result, Ok, Err}
 use Rattle.hol_model.specs.declared.fault.Fault.{Fault}
 use Rattle.hol_model.specs.declared.fault.Fault.TheVariants.{Memory, NotBool, TooLarge}
 use Rattle.hol_model.specs.Terms.NamedTerm.{NamedTerm, equation, is_within_limits}
@@ -13,11 +13,10 @@ use Rattle.hol_model.specs.Texts.Reading.{Scope, meaning}
 use Rattle.hol_model.specs.Goals.GoalStates.{Proof, begun, goal_of, open_goals, set_outcome, set_stack}
 use Rattle.hol_model.specs.Goals.GoalLaws.{IsValidProof, IsValidStack}
 use Rattle.hol_model.specs.Goals.StackCalls.{Changes}
-use Rattle.hol_session_model.specs.CommandGrammar.{goal_command, SpellsCommand}
+use Rattle.hol_session_model.specs.CommandGrammar.{goal_command}
 use Rattle.hol_session_model.specs.Sessions.{definition_name}
 use Rattle.hol_session_model.specs.Replies.{text_of_goals}
 use Rattle.hol_session_model.specs.ScriptSessions.{State, scope_in, with_goal, AreShown}
-use Rattle.hol_session_model.specs.SessionCalls.{Turns}
 use Rattle.hol_goal_laws.proofs.Passing.{passed, not_refused}
 use Rattle.hol_goal_laws.proofs.ValidProofs.{set-valid}
 use Rattle.hol_journal.specs.Journal.{Recorded}
@@ -30,6 +29,7 @@ use Rattle.hol_goals.specs.Made.{KeepsMade}
 use Rattle.hol_goals.specs.declared.stack.Stack as stacks
 use Rattle.hol_session.specs.declared.reply.Printed.{Printed}
 use Rattle.hol_session.specs.SessionState.{theorem_of}
+use Rattle.hol_session.specs.Performing.{Performs}
 use Rattle.hol_session.specs.Answers.{no_tools, Says, plainly, printed_text, printed_name}
 use Rattle.hol_proof_manager.specs.declared.manager.Manager.{Manager}
 use Rattle.hol_proof_manager.specs.Managers.{state_of, IsManager}
@@ -48,28 +48,28 @@ set_begun theory term proof same =
 
 -- ---- refusals
 
-module _ (manager : Manager) (is : IsManager manager) (text : List ℕ) (tree : TermTree) (spelled : SpellsCommand text (goal_command tree)) where
+module _ (manager : Manager) (is : IsManager manager) (tree : TermTree) where
   read_here : (answer : Result NamedTerm Fault) → Answers answer (meaning (scope_of manager.prover.session.scope) [] tree) → Answers answer (meaning (scope_in (state_of manager)) [] tree)
   read_here answer answers = subst (λ (s : Scope). Answers answer (meaning s [] tree)) (scope_known manager is) answers
 
   -- the term is refused
   pub unread : (fault : Fault) → Answers {A = NamedTerm} (Err fault) (meaning (scope_of manager.prover.session.scope) [] tree)
-      → Turns no_tools (state_of manager) (Some text) (Says (plainly (Err fault))) (state_of manager)
+      → Performs no_tools (state_of manager) (goal_command tree) (Says (plainly (Err fault))) (state_of manager)
   unread fault answers =
-      refuses (state_of manager) (state_of manager) text (goal_command tree) fault refl spelled
+      refuses (state_of manager) (state_of manager) (goal_command tree) fault refl
       (⊎_elim (λ memory. inl memory) (λ refused. inr (goal_unread no_tools (state_of manager) tree fault refused)) (read_here (Err fault) answers))
 
   -- there is no memory
-  pub forgotten : (fault : Fault) → fault ≡ Memory → Turns no_tools (state_of manager) (Some text) (Says (plainly (Err fault))) (state_of manager)
-  forgotten fault memory = refuses (state_of manager) (state_of manager) text (goal_command tree) fault refl spelled (inl memory)
+  pub forgotten : (fault : Fault) → fault ≡ Memory → Performs no_tools (state_of manager) (goal_command tree) (Says (plainly (Err fault))) (state_of manager)
+  forgotten fault memory = refuses (state_of manager) (state_of manager) (goal_command tree) fault refl (inl memory)
 
   -- it is no goal
   pub unset : (term : NamedTerm) (fault : Fault) (stack : stacks.Stack) → Answers {A = NamedTerm} (Ok term) (meaning (scope_of manager.prover.session.scope) [] tree)
       → Changes (Err fault) (set_outcome (theory_in manager) term) (set_stack (stack_of manager.stack)) (stack_of manager.stack) (stack_of stack)
-      → Turns no_tools (state_of manager) (Some text) (Says (plainly (Err fault))) (state_of (with_stack manager stack))
+      → Performs no_tools (state_of manager) (goal_command tree) (Says (plainly (Err fault))) (state_of (with_stack manager stack))
   unset term fault stack answers changes =
-      refuses (state_of manager) (state_of (with_stack manager stack)) text (goal_command tree) fault
-      (stack_state manager stack (stack_of manager.stack).proof (ap (λ s. s.proof) changes.1)) spelled
+      refuses (state_of manager) (state_of (with_stack manager stack)) (goal_command tree) fault
+      (stack_state manager stack (stack_of manager.stack).proof (ap (λ s. s.proof) changes.1))
       (⊎_elim (λ memory. inl memory) (λ refused. inr (goal_unset no_tools (state_of manager) tree term fault (read_here (Ok term) answers) refused)) changes.0)
 
   -- it is shown
@@ -77,7 +77,7 @@ module _ (manager : Manager) (is : IsManager manager) (text : List ℕ) (tree : 
       → Answers {A = NamedTerm} (Ok term) (meaning (scope_of manager.prover.session.scope) [] tree) → set_outcome (theory_in manager) term ≡ Ok proof → is_within_limits term ≡ true
       → is_well_named term ≡ true
       → printed_text printed ≡ text_of_goals (scope_of manager.prover.session.scope) (goal_of term ∷ []) → printed_name printed ≡ None
-      → Turns no_tools (state_of manager) (Some text) (Says (plainly (Ok printed))) new
+      → Performs no_tools (state_of manager) (goal_command tree) (Says (plainly (Ok printed))) new
   set_turn new term proof printed same answers sets within named spelled_goal unnamed =
       let state = state_of manager in
       let one : proof ≡ begun (goal_of term) = set_begun (theory_in manager) term proof sets in
@@ -85,8 +85,8 @@ module _ (manager : Manager) (is : IsManager manager) (text : List ℕ) (tree : 
       subst (IsValidProof (theory_in manager) (record { named = λ name. None; lemmas = [] })) one (set-valid (theory_in manager) (record { named = λ name. None; lemmas = [] }) term proof sets) in
       let shown : AreShown (with_goal state proof) (open_goals proof.stage) =
       subst (λ (p : Proof). AreShown (with_goal state proof) (open_goals p.stage)) (sym one) (goal_shown (with_goal state proof) term valid.stage.known.0.target within named) in
-      subst (λ (s : State). Turns no_tools state (Some text) (Says (plainly (Ok printed))) s) (sym same)
-      (shows_turn state (with_goal state proof) text (goal_command tree) proof printed spelled (goal_set no_tools state tree term proof (read_here (Ok term) answers) sets) refl
+      subst (λ (s : State). Performs no_tools state (goal_command tree) (Says (plainly (Ok printed))) s) (sym same)
+      (shows_turn state (with_goal state proof) (goal_command tree) proof printed (goal_set no_tools state tree term proof (read_here (Ok term) answers) sets) refl
       (record {
         spelled =
             spelled_goal ∙ ap (λ (s : Scope). text_of_goals s (goal_of term ∷ [])) (scope_known manager is)

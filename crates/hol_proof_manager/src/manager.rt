@@ -1,5 +1,5 @@
 // What the commands of goals do, and what the other commands leave of a proof under way.
-ghost use Rattle.std.specs.Prelude.{◌≡◌, ℕ, List, [], ◌∷◌, map, Some, IfOk, IfErr, IsErrOf, OnOk, OnErr, Ok, Contains, string_bytes};
+ghost use Rattle.std.specs.Prelude.{◌≡◌, ℕ, List, [], ◌∷◌, map, IfOk, IfErr, IsErrOf, OnOk, OnErr, Ok, Contains, string_bytes};
 ghost use Rattle.hol_model.specs.declared.fault.Fault.TheVariants.{Memory, TooLong};
 ghost use Rattle.hol_model.specs.Texts.TermGrammar.{TermTree};
 ghost use Rattle.hol_model.specs.Texts.TypeGrammar.{TypeTree, type_steps};
@@ -7,10 +7,10 @@ ghost use Rattle.hol_model.specs.Texts.Lexing.{numeral_value};
 ghost use Rattle.hol_grammar.specs.Steps.{flat_steps_of};
 ghost use Rattle.hol_grammar.specs.TermSteps.{term_steps, flat_steps};
 ghost use Rattle.hol_grammar.specs.Views.{steps_of};
-ghost use Rattle.hol_session_model.specs.CommandGrammar.{TheoremTree, SpellsCommand, var_command, newtype_command, newconst_command, def_command, thm_command, show_command};
+ghost use Rattle.hol_session_model.specs.CommandGrammar.{TheoremTree, var_command, newtype_command, newconst_command, def_command, thm_command, show_command};
 ghost use Rattle.hol_session_model.specs.CommandGrammar.{goal_command, e_command, b_command, p_command, r_command, save_command};
 ghost use Rattle.hol_session_model.specs.ScriptSessions.{start};
-ghost use Rattle.hol_session_model.specs.SessionCalls.{Turns};
+ghost use Rattle.hol_session.specs.Performing.{Performs};
 ghost use Rattle.hol_session.specs.Answers.{no_tools, session_tools, plainly, Says};
 ghost use Rattle.hol_command.specs.Views.{IsAsked};
 ghost use Rattle.hol_tactic_grammar.specs.Tactics.{IsExpression};
@@ -98,8 +98,8 @@ impl Manager {
     /// nothing changes: as the term is; as `Stack::set`.
     pub fn goal(&mut self, alloc: Global, steps: &[TermStep<'_>]) -> Result<Printed, Fault>
         requires { IsManager self.old }
-        ensures turns { (text : List ℕ) (tree : TermTree) → SpellsCommand text (goal_command tree) → flat_steps_of steps.now ≡ flat_steps (term_steps tree)
-            → Turns no_tools (state_of self.old) (Some text) (Says (plainly result)) (state_of self.new) }
+        ensures performs { (tree : TermTree) → flat_steps_of steps.now ≡ flat_steps (term_steps tree)
+            → Performs no_tools (state_of self.old) (goal_command tree) (Says (plainly result)) (state_of self.new) }
         ensures kept { IsManager self.new }
     {
         let session = &mut self.prover.session;
@@ -140,8 +140,8 @@ impl Manager {
     ) -> Result<Printed, Fault>
         requires manager { IsManager self.old }
         requires expression { IsOfTree tac.now }
-        ensures turns { (text : List ℕ) (tree : Tactic TermTree) → SpellsCommand text (e_command tree) → IsExpression tac.now tree
-            → Turns (session_tools (H.refiners host.now) (H.conversions host.now)) (state_of self.old) (Some text) (Says (plainly result)) (state_of self.new) }
+        ensures performs { (tree : Tactic TermTree) → IsExpression tac.now tree
+            → Performs (session_tools (H.refiners host.now) (H.conversions host.now)) (state_of self.old) (e_command tree) (Says (plainly result)) (state_of self.new) }
         ensures kept { IsManager self.new }
     {
         let tac = match read_tactic(alloc, &self.prover.session.scope, tac) {
@@ -173,8 +173,7 @@ impl Manager {
     /// nothing changes: NoGoal, NothingToUndo; Memory.
     pub fn back(&mut self, alloc: Global) -> Result<Printed, Fault>
         requires { IsManager self.old }
-        ensures turns { (text : List ℕ) → SpellsCommand text b_command
-            → Turns no_tools (state_of self.old) (Some text) (Says (plainly result)) (state_of self.new) }
+        ensures performs { Performs no_tools (state_of self.old) b_command (Says (plainly result)) (state_of self.new) }
         ensures kept { IsManager self.new }
     {
         match self.stack.back() {
@@ -205,7 +204,7 @@ impl Manager {
     /// `p` (HOL Light's `p`): shows the open goals. Refused: NoGoal where none is set; Memory.
     pub fn print(&self, alloc: Global) -> Result<Printed, Fault>
         requires { IsManager self.now }
-        ensures { (text : List ℕ) → SpellsCommand text p_command → Turns no_tools (state_of self.now) (Some text) (Says (plainly result)) (state_of self.now) }
+        ensures { Performs no_tools (state_of self.now) p_command (Says (plainly result)) (state_of self.now) }
     {
         if !self.stack.is_set() {
             return Err(Fault::NoGoal);
@@ -217,8 +216,8 @@ impl Manager {
     /// changes: NoGoal; Memory.
     pub fn rotate(&mut self, alloc: Global, turns: u32) -> Result<Printed, Fault>
         requires { IsManager self.old }
-        ensures turns { (text : List ℕ) (digits : List ℕ) → SpellsCommand text (r_command digits) → numeral_value digits ≡ turns
-            → Turns no_tools (state_of self.old) (Some text) (Says (plainly result)) (state_of self.new) }
+        ensures performs { (digits : List ℕ) → numeral_value digits ≡ turns
+            → Performs no_tools (state_of self.old) (r_command digits) (Says (plainly result)) (state_of self.new) }
         ensures kept { IsManager self.new }
     {
         match self.stack.rotate(alloc, turns) {
@@ -232,8 +231,7 @@ impl Manager {
     /// GoalsRemain; Memory.
     pub fn save(&mut self, alloc: Global, name: &str) -> Result<Printed, Fault>
         requires { IsManager self.old }
-        ensures turns { (text : List ℕ) → SpellsCommand text (save_command name.now)
-            → Turns no_tools (state_of self.old) (Some text) (Says (plainly result)) (state_of self.new) }
+        ensures performs { Performs no_tools (state_of self.old) (save_command name.now) (Says (plainly result)) (state_of self.new) }
         ensures kept { IsManager self.new }
     {
         match self.prover.session.test_name(name) {
@@ -259,8 +257,8 @@ impl Manager {
         asked: &Asked<'_>,
     ) -> Result<Printed, Refused>
         requires { IsManager self.old }
-        ensures turns { (text : List ℕ) (tree : TheoremTree) → SpellsCommand text (thm_command name.now tree) → IsAsked asked.now tree
-            → Turns (session_tools (H.refiners host.now) (H.conversions host.now)) (state_of self.old) (Some text) (Says result) (state_of self.new) }
+        ensures performs { (tree : TheoremTree) → IsAsked asked.now tree
+            → Performs (session_tools (H.refiners host.now) (H.conversions host.now)) (state_of self.old) (thm_command name.now tree) (Says result) (state_of self.new) }
         ensures kept { IsManager self.new }
     {
         self.prover.session.thm(alloc, host, name, asked)
@@ -269,7 +267,7 @@ impl Manager {
     /// `show NAME`: prints a stored theorem again (`Session::show`).
     pub fn show(&self, alloc: Global, name: &str) -> Result<Printed, Fault>
         requires { IsManager self.now }
-        ensures { (text : List ℕ) → SpellsCommand text (show_command name.now) → Turns no_tools (state_of self.now) (Some text) (Says (plainly result)) (state_of self.now) }
+        ensures { Performs no_tools (state_of self.now) (show_command name.now) (Says (plainly result)) (state_of self.now) }
     {
         self.prover.session.show(alloc, name)
     }
@@ -282,8 +280,8 @@ impl Manager {
         steps: &[TypeStep<'_>],
     ) -> Result<Printed, Fault>
         requires { IsManager self.old }
-        ensures turns { (text : List ℕ) (tree : TypeTree) → SpellsCommand text (var_command name.now tree) → steps_of steps.now ≡ type_steps tree
-            → Turns no_tools (state_of self.old) (Some text) (Says (plainly result)) (state_of self.new) }
+        ensures performs { (tree : TypeTree) → steps_of steps.now ≡ type_steps tree
+            → Performs no_tools (state_of self.old) (var_command name.now tree) (Says (plainly result)) (state_of self.new) }
         ensures kept { IsManager self.new }
     {
         self.prover.session.var(alloc, name, steps)
@@ -297,8 +295,8 @@ impl Manager {
         steps: &[TermStep<'_>],
     ) -> Result<Printed, Fault>
         requires { IsManager self.old }
-        ensures turns { (text : List ℕ) (tree : TermTree) → SpellsCommand text (def_command name.now tree) → flat_steps_of steps.now ≡ flat_steps (term_steps tree)
-            → Turns no_tools (state_of self.old) (Some text) (Says (plainly result)) (state_of self.new) }
+        ensures performs { (tree : TermTree) → flat_steps_of steps.now ≡ flat_steps (term_steps tree)
+            → Performs no_tools (state_of self.old) (def_command name.now tree) (Says (plainly result)) (state_of self.new) }
         ensures kept { IsManager self.new }
     {
         self.prover.session.def(alloc, name, steps)
@@ -307,7 +305,7 @@ impl Manager {
     /// `newtype NAME`: declares a type (`Session::newtype`).
     pub fn newtype(&mut self, alloc: Global, name: &str) -> Result<Printed, Fault>
         requires { IsManager self.old }
-        ensures turns { (text : List ℕ) → SpellsCommand text (newtype_command name.now) → Turns no_tools (state_of self.old) (Some text) (Says (plainly result)) (state_of self.new) }
+        ensures performs { Performs no_tools (state_of self.old) (newtype_command name.now) (Says (plainly result)) (state_of self.new) }
         ensures kept { IsManager self.new }
     {
         self.prover.session.newtype(alloc, name)
@@ -321,8 +319,8 @@ impl Manager {
         steps: &[TypeStep<'_>],
     ) -> Result<Printed, Fault>
         requires { IsManager self.old }
-        ensures turns { (text : List ℕ) (tree : TypeTree) → SpellsCommand text (newconst_command name.now tree) → steps_of steps.now ≡ type_steps tree
-            → Turns no_tools (state_of self.old) (Some text) (Says (plainly result)) (state_of self.new) }
+        ensures performs { (tree : TypeTree) → steps_of steps.now ≡ type_steps tree
+            → Performs no_tools (state_of self.old) (newconst_command name.now tree) (Says (plainly result)) (state_of self.new) }
         ensures kept { IsManager self.new }
     {
         self.prover.session.newconst(alloc, name, steps)

@@ -1,16 +1,17 @@
--- The turns of texts: those that are refused before they are carried out, and those that are carried out.
-use Rattle.std.proofs.Common.{◌≡◌, ℕ, List, refl, sym, subst, Some, Err, Result}
+-- The turns of texts: those that are refused before they are carried out, and those whose commands are carried out.
+use Rattle.std.proofs.Common.{◌≡◌, inl, inr, ℕ, List, refl, sym, subst, Some, Result, Ok, Err}
 use Rattle.hol_model.specs.declared.fault.Fault.{Fault}
 use Rattle.hol_model.specs.declared.fault.Fault.TheVariants.{Memory, Syntax}
 use Rattle.hol_model.specs.Texts.Token.{Token}
 use Rattle.hol_model.specs.Texts.Lexing.{Lexes}
+use Rattle.hol_model.specs.Texts.Reading.{Scope}
 use Rattle.hol_session_model.specs.CommandGrammar.{CommandTree, IsReadCommand, SpellsCommand}
-use Rattle.hol_session_model.specs.Replies.{refusal_of}
-use Rattle.hol_session_model.specs.ScriptSessions.{State, Tools, Allows, finds_no_memory, is_no_command}
+use Rattle.hol_session_model.specs.Replies.{refusal_of, Reply}
+use Rattle.hol_session_model.specs.ScriptSessions.{State, Tools, Outcome, Allows, finds_no_memory, is_no_command, is_refused, is_done}
 use Rattle.hol_session_model.specs.SessionCalls.{Turns}
 use Rattle.hol_proof_manager.specs.Session.{Printed}
 use Rattle.hol_proof_manager.specs.Session.{Refused}
-use Rattle.hol_proof_manager.specs.Session.{no_tools, Says, plain}
+use Rattle.hol_proof_manager.specs.Session.{ComesTo, Performs, no_tools, Says, plain}
 use Rattle.hol_proof_manager.specs.Session.{any-tools-here}
 
 module _ (tools : Tools) (state : State) (text : List ℕ) where
@@ -39,13 +40,30 @@ module _ (tools : Tools) (state : State) (text : List ℕ) where
       refuses Syntax
       (is_no_command (λ tree spelled. none tree (subst (λ (ts : List Token). IsReadCommand ts tree) (sym (only spelled.tokens spelled.lexed)) spelled.read)))
 
--- what a call answers to the command of a tree is what is answered to its text
-pub carried : (tools : Tools) {old new : State} {text : List ℕ} {tree command : CommandTree} {answer said : Result Printed Refused} → SpellsCommand text tree → tree ≡ command → answer ≡ said
-    → (SpellsCommand text command → Turns tools old (Some text) (Says said) new) → Turns tools old (Some text) (Says answer) new
-carried tools {old} {new} {text} {tree} {command} {answer} {said} spelled is same turns =
-    subst (λ (given : Result Printed Refused). Turns tools old (Some text) (Says given) new) (sym same) (turns (subst (SpellsCommand text) is spelled))
+-- what a command does is a turn of each text that spells it
+module _ {tools : Tools} {old : State} (text : List ℕ) (command : CommandTree) (spelled : SpellsCommand text command) where
+  allows : (outcome : Outcome) → ComesTo tools old command outcome → Allows tools old (Some text) outcome
+  allows outcome (inl memory) = subst (Allows tools old (Some text)) (sym memory) finds_no_memory
+  allows (Ok accepted) (inr may) = is_done command spelled may
+  allows (Err refusal) (inr may) = is_refused command spelled may
+
+  pub spelled_turn : {SaysSo : Scope → Reply → Type 0} {new : State} → Performs tools old command SaysSo new → Turns tools old (Some text) SaysSo new
+  spelled_turn does = record {
+    outcome = does.outcome;
+    allowed = allows does.outcome does.comes;
+    leaves = does.leaves;
+    says = does.says;
+    is_true = does.is_true;
+  }
+
+-- what a call answers to the command of a tree
+pub carried : {tools : Tools} {old new : State} {tree command : CommandTree} {answer said : Result Printed Refused} → tree ≡ command → answer ≡ said
+    → Performs tools old command (Says said) new → Performs tools old tree (Says answer) new
+carried {tools} {old} {new} {tree} {command} {answer} {said} is same performs =
+    subst (λ (given : Result Printed Refused). Performs tools old tree (Says given) new) (sym same)
+    (subst (λ (asked : CommandTree). Performs tools old asked (Says said) new) (sym is) performs)
 
 -- also of a call that uses no tools
-pub carried-plainly : (tools : Tools) {old new : State} {text : List ℕ} {tree command : CommandTree} {answer said : Result Printed Refused} → SpellsCommand text tree → tree ≡ command → answer ≡ said
-    → (SpellsCommand text command → Turns no_tools old (Some text) (Says said) new) → Turns tools old (Some text) (Says answer) new
-carried-plainly tools spelled is same turns = any-tools-here tools (carried no_tools spelled is same turns)
+pub carried-plainly : {tools : Tools} {old new : State} {tree command : CommandTree} {answer said : Result Printed Refused} → tree ≡ command → answer ≡ said
+    → Performs no_tools old command (Says said) new → Performs tools old tree (Says answer) new
+carried-plainly {tools} is same performs = any-tools-here tools (carried is same performs)

@@ -1,8 +1,8 @@
 // What a command's text does.
-ghost use Rattle.std.specs.Prelude.{List, ℕ, Some};
-ghost use Rattle.hol_session_model.specs.CommandGrammar.{CommandTree, SpellsCommand};
+ghost use Rattle.std.specs.Prelude.{Some};
+ghost use Rattle.hol_session_model.specs.CommandGrammar.{CommandTree};
 ghost use Rattle.hol_session_model.specs.SessionCalls.{Turns};
-ghost use Rattle.hol_proof_manager.specs.Session.{session_tools, Says};
+ghost use Rattle.hol_proof_manager.specs.Session.{Performs, session_tools, Says};
 ghost use Rattle.hol_command.specs.Views.{IsCommand};
 ghost use Rattle.hol_proof_manager.specs.Managers.{state_of, IsManager};
 ghost use Rattle.hol_script.specs.Commands.{IsOfTree};
@@ -46,8 +46,8 @@ fn carry_out<H: Refiners>(
 ) -> Result<Printed, Refused>
     requires manager { IsManager manager.old }
     requires tree { IsOfTree command }
-    ensures turns { (text : List ℕ) (tree : CommandTree) → SpellsCommand text tree → IsCommand command.entry tree
-        → Turns (session_tools (H.refiners host.now) (H.conversions host.now)) (state_of manager.old) (Some text) (Says result) (state_of manager.new) }
+    ensures performs { (tree : CommandTree) → IsCommand command.entry tree
+        → Performs (session_tools (H.refiners host.now) (H.conversions host.now)) (state_of manager.old) tree (Says result) (state_of manager.new) }
     ensures kept { IsManager manager.new }
 {
     match command {

@@ -20,7 +20,7 @@ use Rattle.hol_model.specs.Kernel.Rules.{first_unknown, is_full, with_definition
 use Rattle.hol_model.specs.Texts.Reading.{Scope, meaning, type_meaning, ◌>>=◌}
 use Rattle.hol_model.specs.Texts.TermGrammar.{TermTree}
 use Rattle.hol_model.specs.Texts.TypeGrammar.{TypeTree}
-use Rattle.hol_session_model.specs.CommandGrammar.{SpellsCommand, def_command}
+use Rattle.hol_session_model.specs.CommandGrammar.{def_command}
 use Rattle.hol_session_model.specs.Sessions.{State, scope_in, with_variable, over_theory, definition_name, def_outcome, newconst_outcome}
 use Rattle.hol_session_model.specs.Sessions as sessions
 use Rattle.hol_session_model.specs.Replies.{theorem_line, text_of_theorem}
@@ -44,7 +44,7 @@ use Rattle.hol_taut_laws.specs.HasLaws.{HasLaws}
 use Rattle.hol_library.specs.declared.library.Library.{Library}
 use Rattle.hol_session.specs.SessionState.{state_of, theorem_of, lemmas_of, IsSession, StaysMade, LibrariesGrow}
 use Rattle.hol_session.specs.Growth.{IsRefused, LeavesNone, MakesEquation, KeepsLaws, Defines, KeepsSession}
-use Rattle.hol_session.specs.Answers.{with_beside, IsLineOf, Turns}
+use Rattle.hol_session.specs.Answers.{with_beside, IsLineOf, PerformsWith}
 use Rattle.hol_session.proofs.RuleLemmas.{proved, same_is_earlier}
 use Rattle.hol_store.specs.Stored.{Stored, IsStoreOf, StoresTheorem, KeepsStore, theorems_in}
 use Rattle.hol_store.specs.Store.{stored_of}
@@ -476,17 +476,18 @@ module _ (old new : Session) (scope : ScopeHere) (name : List ℕ) (term : Named
       let theorems = stored_theorem d.answer (definition_name name) (stored_of old.library.store) (stored_of new.library.store) d.stored in
       λ i. record { theory = d.theory i; variables = λ other. variables other i; theorems = λ other. theorems other i }
 
-pub def_turns : {tools : Tools} {lemmas : List Theorem} (old new : Session) (scope : ScopeHere) (text name : List ℕ) (tree : TermTree) (term : NamedTerm) (ty : HolType) (line : TheoremLine) → IsSound → LibrariesGrow → IsSession old → SpellsCommand text (def_command name tree)
-    → meaning (scope_in (state_of old)) [] tree ≡ Ok term → type_of term ≡ Some ty → SetsConstant (scope_of old.scope) (scope_of scope) name (Some ty)
-    → Defines (made old old.library.recorder scope) new name term line → Turns tools lemmas (state_of old) (Some text) (Ok (Line line)) (state_of new)
-def_turns {tools} {lemmas} old new scope text name tree term ty line sound stay known spelled meant typed sets d =
+pub def_performs : {tools : Tools} {lemmas : List Theorem} (old new : Session) (scope : ScopeHere) (name : List ℕ) (tree : TermTree) (term : NamedTerm) (ty : HolType) (line : TheoremLine)
+    → IsSound → LibrariesGrow → IsSession old → meaning (scope_in (state_of old)) [] tree ≡ Ok term → type_of term ≡ Some ty → SetsConstant (scope_of old.scope) (scope_of scope) name (Some ty)
+    → Defines (made old old.library.recorder scope) new name term line → PerformsWith tools lemmas (state_of old) (def_command name tree) (Ok (Line line)) (state_of new)
+def_performs {tools} {lemmas} old new scope name tree term ty line sound stay known meant typed sets d =
     let after : IsSession new = def_session old new scope name term ty line stay known typed sets d in
     let outcome : def_outcome (state_of old) name tree ≡ Ok d.answer.theorem = def_outcome-is (state_of old) name tree term meant ∙ d.outcome in
-    let allowed : AllowsMessage tools lemmas (state_of old) text (theorem_line (definition_name name) d.answer.theorem) (state_of new) =
-    subst (λ (state : State). AllowsMessage tools lemmas (state_of old) text (theorem_line (definition_name name) d.answer.theorem) state) (sym (def_state old new scope name term ty line sets d)) (def_defines spelled outcome) in
+    let allowed : AllowsMessage tools lemmas (state_of old) (def_command name tree) (theorem_line (definition_name name) d.answer.theorem) (state_of new) =
+    subst (λ (state : State). AllowsMessage tools lemmas (state_of old) (def_command name tree) (theorem_line (definition_name name) d.answer.theorem) state)
+    (sym (def_state old new scope name term ty line sets d)) (def_defines outcome) in
     let printed : IsLineOf line (scope_in (state_of new)) (definition_name name) d.answer.theorem =
     subst (λ (s : Scope). IsLineOf line s (definition_name name) d.answer.theorem) (ap scope_of (sym d.scope) ∙ scope_same new after) d.line_is in
-    prints (state_of old) (state_of new) text (definition_name name) d.answer.theorem line allowed
+    prints (state_of old) (state_of new) (def_command name tree) (definition_name name) d.answer.theorem line allowed
     (λ beside. proved (with_beside beside (state_of new)) d.answer.theorem sound after.legal d.well_formed (same_is_earlier new.library.recorder.theory d.answer.theorem.theory (sym d.theory))) printed
 
 -- ---- what stays

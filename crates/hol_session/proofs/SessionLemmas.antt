@@ -1,4 +1,4 @@
--- What a session is in, and the turns that it takes.
+-- What names stand for in a session, and what its commands do.
 use Rattle.std.proofs.Common.{◌≡◌, ◌⊎◌, inl, inr, ℕ, List, ◌++◌, refl, sym, ap, subst, ◌∙◌, append-nil, Option, None, Some, Result, Ok, Err, Bor}
 use Rattle.std.specs.Prelude.{true, false, codes, decimal}
 use Rattle.std.specs.Option.{option_map, is_some}
@@ -9,11 +9,11 @@ use Rattle.hol_model.specs.Kernel.Theorem.{Theorem, IsWellFormed}
 use Rattle.hol_model.specs.Logic.Theory.{IsEarlier}
 use Rattle.hol_sound.specs.Laws.{IsSound}
 use Rattle.hol_model.specs.Texts.Reading.{Scope}
-use Rattle.hol_session_model.specs.CommandGrammar.{TheoremTree, thm_command, SpellsCommand}
+use Rattle.hol_session_model.specs.CommandGrammar.{TheoremTree, CommandTree, thm_command}
 use Rattle.hol_session_model.specs.Sessions.{scope_in, is_theorem_name, with_theorem}
 use Rattle.hol_session_model.specs.Sessions.{State as Library}
 use Rattle.hol_session_model.specs.Replies.{nothing, theorem_line, Refusal, refusal_of, Reply, text_of_theorem, reply_text}
-use Rattle.hol_session_model.specs.ScriptSessions.{Tools, Allows, finds_no_memory, IsProved}
+use Rattle.hol_session_model.specs.ScriptSessions.{Tools, IsProved}
 use Rattle.hol_syntax.specs.Scope.{scope_of}
 use Rattle.hol_journal.specs.Journal.{Recorded}
 use Rattle.hol_session.specs.declared.session.Session.{Session}
@@ -22,7 +22,8 @@ use Rattle.hol_session.specs.declared.reply.Printed.{Printed}
 use Rattle.hol_session.specs.declared.reply.Printed.TheVariants.{Nothing, Line}
 use Rattle.hol_session.specs.declared.reply.Refused.{Refused}
 use Rattle.hol_session.specs.SessionState.{state_of, theorem_of, IsSession}
-use Rattle.hol_session.specs.Answers.{Beside, with_beside, IsLineOf, Says, answer_text, plain, IsNewName, TestsName, Turns, MayGive, RefusesTheorem}
+use Rattle.hol_session.specs.Answers.{Beside, with_beside, IsLineOf, Says, answer_text, plain, IsNewName, TestsName, PerformsWith, MayGive, RefusesTheorem}
+use Rattle.hol_session.specs.Performing.{ComesTo}
 use Rattle.hol_session.specs.Growth.{Stores}
 use Rattle.hol_session.proofs.RuleLemmas.{proved}
 use Rattle.hol_session.proofs.AllowedLemmas.{AllowsRefusal, AllowsMessage, lacks_memory, thm_has_bad_name, thm_has_taken_name, thm_is_refused, thm_stores}
@@ -35,30 +36,32 @@ scope_same session known = λ i. record {
   declares_type = λ name. known.scope.types name i;
 }
 
--- ---- turns
+-- ---- commands
 
 -- a refusal that is allowed leaves the state
-pub refuses : {tools : Tools} {lemmas : List Theorem} (state : Library) (text : List ℕ) (fault : Fault) → AllowsRefusal tools lemmas state text fault → Turns tools lemmas state (Some text) (Err (plain fault)) state
-refuses state text fault allows = record {
-  turns = λ beside same. record {
+pub refuses : {tools : Tools} {lemmas : List Theorem} (state : Library) (command : CommandTree) (fault : Fault)
+    → AllowsRefusal tools lemmas state command fault → PerformsWith tools lemmas state command (Err (plain fault)) state
+refuses state command fault allows = record {
+  performs = λ beside same. record {
     outcome = Err (refusal_of fault);
-    allowed = allows.allowed beside same;
+    comes = allows.allowed beside same;
     leaves = refl;
     says = record { same_fault = refl; spelled = refl };
     is_true = record { theorem = tt; goals = tt; row = tt };
   };
 }
 
-pub forgets : {tools : Tools} {lemmas : List Theorem} (state : Library) (text : List ℕ) (fault : Fault) → fault ≡ Memory → Turns tools lemmas state (Some text) (Err (plain fault)) state
-forgets {tools} {lemmas} state text fault same = refuses state text fault (subst (λ f. AllowsRefusal tools lemmas state text f) (sym same) lacks_memory)
+pub forgets : {tools : Tools} {lemmas : List Theorem} (state : Library) (command : CommandTree) (fault : Fault) → fault ≡ Memory → PerformsWith tools lemmas state command (Err (plain fault)) state
+forgets {tools} {lemmas} state command fault same = refuses state command fault (subst (λ f. AllowsRefusal tools lemmas state command f) (sym same) lacks_memory)
 
 -- a theorem that is allowed and proved, and its line
-pub prints : {tools : Tools} {lemmas : List Theorem} (old new : Library) (text : List ℕ) (name : List ℕ) (theorem : Theorem) (line : TheoremLine) → AllowsMessage tools lemmas old text (theorem_line name theorem) new
-    → ((beside : Beside) → IsProved (with_beside beside new) theorem) → IsLineOf line (scope_in new) name theorem → Turns tools lemmas old (Some text) (Ok (Line line)) new
-prints old new text name theorem line allows proved says = record {
-  turns = λ beside same. record {
+pub prints : {tools : Tools} {lemmas : List Theorem} (old new : Library) (command : CommandTree) (name : List ℕ) (theorem : Theorem) (line : TheoremLine)
+    → AllowsMessage tools lemmas old command (theorem_line name theorem) new
+    → ((beside : Beside) → IsProved (with_beside beside new) theorem) → IsLineOf line (scope_in new) name theorem → PerformsWith tools lemmas old command (Ok (Line line)) new
+prints old new command name theorem line allows proved says = record {
+  performs = λ beside same. record {
     outcome = Ok (record { message = theorem_line name theorem; after = with_beside beside new });
-    allowed = allows.allowed beside same;
+    comes = allows.allowed beside same;
     leaves = refl;
     says = record {
       spelled = says.spelled ∙ sym (append-nil (text_of_theorem (scope_in new) (record { name = name; theorem = theorem })));
@@ -69,11 +72,12 @@ prints old new text name theorem line allows proved says = record {
 }
 
 -- an acceptance that prints nothing
-pub is_silent : {tools : Tools} {lemmas : List Theorem} (old new : Library) (text : List ℕ) → AllowsMessage tools lemmas old text nothing new → Turns tools lemmas old (Some text) (Ok Nothing) new
-is_silent old new text allows = record {
-  turns = λ beside same. record {
+pub is_silent : {tools : Tools} {lemmas : List Theorem} (old new : Library) (command : CommandTree)
+    → AllowsMessage tools lemmas old command nothing new → PerformsWith tools lemmas old command (Ok Nothing) new
+is_silent old new command allows = record {
+  performs = λ beside same. record {
     outcome = Ok (record { message = nothing; after = with_beside beside new });
-    allowed = allows.allowed beside same;
+    comes = allows.allowed beside same;
     leaves = refl;
     says = record { spelled = refl; named = refl };
     is_true = record { theorem = tt; goals = tt; row = tt };
@@ -81,14 +85,18 @@ is_silent old new text allows = record {
 }
 
 -- no memory, where the state is that of before
-pub forgets_here : {tools : Tools} {lemmas : List Theorem} (old new : Library) (text : List ℕ) (fault : Fault) → new ≡ old → fault ≡ Memory → Turns tools lemmas old (Some text) (Err (plain fault)) new
-forgets_here {tools} {lemmas} old new text fault same memory = subst (λ (state : Library). Turns tools lemmas old (Some text) (Err (plain fault)) state) (sym same) (forgets old text fault memory)
+pub forgets_here : {tools : Tools} {lemmas : List Theorem} (old new : Library) (command : CommandTree) (fault : Fault) → new ≡ old → fault ≡ Memory
+    → PerformsWith tools lemmas old command (Err (plain fault)) new
+forgets_here {tools} {lemmas} old new command fault same memory =
+    subst (λ (state : Library). PerformsWith tools lemmas old command (Err (plain fault)) state) (sym same) (forgets old command fault memory)
 
 -- a refusal that is allowed, or no memory, where the state is that of before
-pub refuses_by : {P : Type 0} {tools : Tools} {lemmas : List Theorem} (old new : Library) (text : List ℕ) (fault : Fault) → new ≡ old → (fault ≡ Memory) ⊎ P → (P → AllowsRefusal tools lemmas old text fault)
-    → Turns tools lemmas old (Some text) (Err (plain fault)) new
-refuses_by {P} {tools} {lemmas} old new text fault same (inl memory) allowed = forgets_here old new text fault same memory
-refuses_by {P} {tools} {lemmas} old new text fault same (inr because) allowed = subst (λ (state : Library). Turns tools lemmas old (Some text) (Err (plain fault)) state) (sym same) (refuses old text fault (allowed because))
+pub refuses_by : {P : Type 0} {tools : Tools} {lemmas : List Theorem} (old new : Library) (command : CommandTree) (fault : Fault) → new ≡ old
+    → (fault ≡ Memory) ⊎ P → (P → AllowsRefusal tools lemmas old command fault)
+    → PerformsWith tools lemmas old command (Err (plain fault)) new
+refuses_by {P} {tools} {lemmas} old new command fault same (inl memory) allowed = forgets_here old new command fault same memory
+refuses_by {P} {tools} {lemmas} old new command fault same (inr because) allowed =
+    subst (λ (state : Library). PerformsWith tools lemmas old command (Err (plain fault)) state) (sym same) (refuses old command fault (allowed because))
 
 -- what is written for an answer is the text of the reply that it says
 pub said-text : (answer : Result Printed Refused) (line : ℕ) (scope : Scope) (reply : Reply) → Says answer scope reply → answer_text line answer ≡ reply_text line scope reply
@@ -117,22 +125,23 @@ some_there None is = cc
 some_there (Some there) is = (there, refl)
 
 -- a name that may not be given
-pub misnamed : {tools : Tools} {lemmas : List Theorem} (state : Library) (text name : List ℕ) (tree : TheoremTree) (fault : Fault) → SpellsCommand text (thm_command name tree)
-    → TestsName {A = Unit {0}} state name (Err fault) → Turns tools lemmas state (Some text) (Err (plain fault)) state
-misnamed {tools} {lemmas} state text name tree fault spelled (inl bad) =
-    subst (λ (f : Fault). Turns tools lemmas state (Some text) (Err (plain f)) state) (sym bad.0) (refuses state text BadName (thm_has_bad_name spelled bad.1))
-misnamed {tools} {lemmas} state text name tree fault spelled (inr taken) =
+pub misnamed : {tools : Tools} {lemmas : List Theorem} (state : Library) (name : List ℕ) (tree : TheoremTree) (fault : Fault)
+    → TestsName {A = Unit {0}} state name (Err fault) → PerformsWith tools lemmas state (thm_command name tree) (Err (plain fault)) state
+misnamed {tools} {lemmas} state name tree fault (inl bad) =
+    subst (λ (f : Fault). PerformsWith tools lemmas state (thm_command name tree) (Err (plain f)) state) (sym bad.0) (refuses state (thm_command name tree) BadName (thm_has_bad_name bad.1))
+misnamed {tools} {lemmas} state name tree fault (inr taken) =
     let there = some_there (state.theorems name) taken.2 in
-    subst (λ (f : Fault). Turns tools lemmas state (Some text) (Err (plain f)) state) (sym taken.0) (refuses state text NameTaken (thm_has_taken_name spelled taken.1 there.1))
+    subst (λ (f : Fault). PerformsWith tools lemmas state (thm_command name tree) (Err (plain f)) state) (sym taken.0)
+    (refuses state (thm_command name tree) NameTaken (thm_has_taken_name taken.1 there.1))
 
 -- what is asked for is refused
-pub thm_refuses : {tools : Tools} {lemmas : List Theorem} (old new : Library) (text name : List ℕ) (tree : TheoremTree) (refused : Refused) → new ≡ old → SpellsCommand text (thm_command name tree)
-    → is_theorem_name name ≡ true → old.theorems name ≡ None → RefusesTheorem tools lemmas old tree refused → Turns tools lemmas old (Some text) (Err refused) new
-thm_refuses {tools} {lemmas} old new text name tree refused same spelled named none r =
-    subst (λ (state : Library). Turns tools lemmas old (Some text) (Err refused) state) (sym same) (record {
-      turns = λ beside own. record {
+pub thm_refuses : {tools : Tools} {lemmas : List Theorem} (old new : Library) (name : List ℕ) (tree : TheoremTree) (refused : Refused) → new ≡ old
+    → is_theorem_name name ≡ true → old.theorems name ≡ None → RefusesTheorem tools lemmas old tree refused → PerformsWith tools lemmas old (thm_command name tree) (Err refused) new
+thm_refuses {tools} {lemmas} old new name tree refused same named none r =
+    subst (λ (state : Library). PerformsWith tools lemmas old (thm_command name tree) (Err refused) state) (sym same) (record {
+      performs = λ beside own. record {
         outcome = Err r.refusal;
-        allowed = go beside own r.may;
+        comes = go beside own r.may;
         leaves = refl;
         says = r.says;
         is_true = record { theorem = tt; goals = tt; row = r.readable beside };
@@ -140,9 +149,9 @@ thm_refuses {tools} {lemmas} old new text name tree refused same spelled named n
     })
   where
     go : (beside : Beside) → beside.lemmas ≡ lemmas → (r.refusal ≡ refusal_of Memory) ⊎ MayGive tools lemmas old tree (Err r.refusal)
-        → Allows tools (with_beside beside old) (Some text) (Err r.refusal)
-    go beside own (inl memory) = subst (λ (refusal : Refusal). Allows tools (with_beside beside old) (Some text) (Err refusal)) (sym memory) finds_no_memory
-    go beside own (inr may) = thm_is_refused tools lemmas old text name tree r.refusal spelled named none may beside own
+        → ComesTo tools (with_beside beside old) (thm_command name tree) (Err r.refusal)
+    go beside own (inl memory) = inl (ap (λ (refusal : Refusal). Err refusal) memory)
+    go beside own (inr may) = thm_is_refused tools lemmas old name tree r.refusal named none may beside own
 
 -- a theorem that is proved in a state is so once it is stored
 proved_with : (beside : Beside) (state : Library) (name : List ℕ) (theorem : Theorem) → IsProved (with_beside beside state) theorem
@@ -170,17 +179,17 @@ keeps_line old new name theorem line known sound formed earlier is_line same =
     }
 
 -- so it is after what was asked for, which leaves the state
-pub thm_keeps : {tools : Tools} {lemmas : List Theorem} (old mid new : Session) (text name : List ℕ) (tree : TheoremTree) (theorem : Theorem) (printed : Printed) → state_of mid ≡ state_of old
-    → SpellsCommand text (thm_command name tree) → IsNewName (state_of old) name → MayGive tools lemmas (state_of old) tree (Ok theorem) → Stores mid new name theorem printed
-    → Turns tools lemmas (state_of old) (Some text) (Ok printed) (state_of new)
-thm_keeps {tools} {lemmas} old mid new text name tree theorem printed same spelled free may stores =
+pub thm_keeps : {tools : Tools} {lemmas : List Theorem} (old mid new : Session) (name : List ℕ) (tree : TheoremTree) (theorem : Theorem) (printed : Printed) → state_of mid ≡ state_of old
+    → IsNewName (state_of old) name → MayGive tools lemmas (state_of old) tree (Ok theorem) → Stores mid new name theorem printed
+    → PerformsWith tools lemmas (state_of old) (thm_command name tree) (Ok printed) (state_of new)
+thm_keeps {tools} {lemmas} old mid new name tree theorem printed same free may stores =
     let whole : state_of new ≡ with_theorem (state_of old) name theorem = stores.state ∙ ap (λ (s : Library). with_theorem s name theorem) same in
-    let allows : AllowsMessage tools lemmas (state_of old) text (theorem_line name theorem) (state_of new) =
-    subst (λ (s : Library). AllowsMessage tools lemmas (state_of old) text (theorem_line name theorem) s) (sym whole) (thm_stores spelled free.named free.none may) in
+    let allows : AllowsMessage tools lemmas (state_of old) (thm_command name tree) (theorem_line name theorem) (state_of new) =
+    subst (λ (s : Library). AllowsMessage tools lemmas (state_of old) (thm_command name tree) (theorem_line name theorem) s) (sym whole) (thm_stores free.named free.none may) in
     record {
-      turns = λ beside own. record {
+      performs = λ beside own. record {
         outcome = Ok (record { message = theorem_line name theorem; after = with_beside beside (state_of new) });
-        allowed = allows.allowed beside own;
+        comes = allows.allowed beside own;
         leaves = refl;
         says = record {
           spelled = stores.spelled ∙ sym (append-nil (text_of_theorem (scope_in (state_of new)) (record { name = name; theorem = theorem })));

@@ -1,5 +1,5 @@
--- A turn with no tools is one with any.
-use Rattle.std.proofs.Common.{ℕ, List, [], Bool, true, false, not, Option, Result, Ok, Err}
+-- What a command does with no tools it does with any.
+use Rattle.std.proofs.Common.{inl, inr, List, [], Bool, true, false, not, Result, Ok, Err}
 use Rattle.std.specs.Prelude.{is_some}
 use Rattle.hol_model.specs.declared.fault.Fault.{Fault}
 use Rattle.hol_model.specs.declared.fault.Fault.TheVariants.{BadName, NameTaken}
@@ -13,9 +13,9 @@ use Rattle.hol_session_model.specs.TacticGrammar.{Tactic}
 use Rattle.hol_session_model.specs.CommandGrammar.{TheoremTree, by_rule, by_tautology, by_conversion, CommandTree, var_command, newtype_command, newconst_command, def_command, thm_command, show_command, goal_command, e_command, b_command, p_command, r_command, save_command}
 use Rattle.hol_session_model.specs.Sessions.{is_theorem_name}
 use Rattle.hol_session_model.specs.Replies.{Reply, Refusal, refusal_of}
-use Rattle.hol_session_model.specs.ScriptSessions.{State, Tools, Accepted, Outcome, Plainly, WithRow, stores, IsTheoremAnswer, IsExpansion, IsRefined, May, Allows, finds_no_memory, is_unfinished, is_no_command, is_refused, is_done}
-use Rattle.hol_session_model.specs.SessionCalls as calls
+use Rattle.hol_session_model.specs.ScriptSessions.{State, Tools, Accepted, Outcome, Plainly, WithRow, stores, IsTheoremAnswer, IsExpansion, IsRefined, May}
 use Rattle.hol_session.specs.Answers.{no_tools}
+use Rattle.hol_session.specs.Performing.{ComesTo, Performs}
 
 -- ---- forms of answers
 
@@ -75,18 +75,15 @@ module _ (tools : Tools) (state : State) where
   may-so (r_command digits) outcome may = may
   may-so (save_command name) outcome may = may
 
-  allows-so : (text : Option (List ℕ)) (outcome : Outcome) → Allows no_tools state text outcome → Allows tools state text outcome
-  allows-so text outcome finds_no_memory = finds_no_memory
-  allows-so text outcome is_unfinished = is_unfinished
-  allows-so text outcome (is_no_command none) = is_no_command none
-  allows-so text outcome (is_refused {refusal = refusal} tree spelled may) = is_refused tree spelled (may-so tree (Err refusal) may)
-  allows-so text outcome (is_done {accepted = accepted} tree spelled may) = is_done tree spelled (may-so tree (Ok accepted) may)
+  comes-so : (tree : CommandTree) (outcome : Outcome) → ComesTo no_tools state tree outcome → ComesTo tools state tree outcome
+  comes-so tree outcome (inl memory) = inl memory
+  comes-so tree outcome (inr may) = inr (may-so tree outcome may)
 
--- what is a call's turn with no tools is one with these
-pub any-tools-here : (tools : Tools) {old new : State} {text : Option (List ℕ)} {SaysSo : Scope → Reply → Type 0} → calls.Turns no_tools old text SaysSo new → calls.Turns tools old text SaysSo new
-any-tools-here tools {old} {new} {text} {SaysSo} call = record {
+-- what a call does with no tools it does with these
+pub any-tools-here : (tools : Tools) {old new : State} {tree : CommandTree} {Says : Scope → Reply → Type 0} → Performs no_tools old tree Says new → Performs tools old tree Says new
+any-tools-here tools {old} {new} {tree} call = record {
   outcome = call.outcome;
-  allowed = allows-so tools old text call.outcome call.allowed;
+  comes = comes-so tools old tree call.outcome call.comes;
   leaves = call.leaves;
   says = call.says;
   is_true = call.is_true;

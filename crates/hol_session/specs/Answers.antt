@@ -9,20 +9,20 @@ use Rattle.hol_model.specs.Kernel.Theorem.{Theorem}
 use Rattle.hol_model.specs.Goals.GoalStates.{Proof}
 use Rattle.hol_model.specs.Refining.HostFunctions.{HostConversions, no_host_conversions}
 use Rattle.hol_session_model.specs.Commands.{RuleTree}
-use Rattle.hol_session_model.specs.CommandGrammar.{TheoremTree}
+use Rattle.hol_session_model.specs.CommandGrammar.{TheoremTree, CommandTree}
 use Rattle.hol_model.specs.Texts.Reading.{Scope}
 use Rattle.hol_session_model.specs.Sessions.{IsRuleAnswer, is_theorem_name, scope_in}
 use Rattle.hol_session_model.specs.Sessions.{State as Library}
 use Rattle.hol_session_model.specs.Replies.{Refusal, refusal_of, Reply, text_of_some, text_of_theorem}
 use Rattle.hol_session_model.specs.ScriptSessions.{State, Tools, IsTheoremAnswer, IsReadableRow}
 use Rattle.hol_session_model.specs.SessionCalls.{SaysMessage, SaysRefusal}
-use Rattle.hol_session_model.specs.SessionCalls as calls
 use Rattle.hol_session_model.specs.SessionTools.{tools}
 use Rattle.hol_host.specs.Host.{HostRefiners, host_of, no_host_refiners}
 use Rattle.hol_session.specs.declared.lines.TheoremLine.{TheoremLine}
 use Rattle.hol_session.specs.declared.reply.Printed.{Printed}
 use Rattle.hol_session.specs.declared.reply.Printed.TheVariants.{Nothing, Line, Goals}
 use Rattle.hol_session.specs.declared.reply.Refused.{Refused}
+use Rattle.hol_session.specs.Performing.{Performs}
 
 -- ---- what a script keeps
 
@@ -42,7 +42,7 @@ session_tools refiners conversions = tools (host_of refiners conversions) STEPS_
 abbrev pub hostless : Tools
 hostless = session_tools no_host_refiners no_host_conversions
 
--- tools that answer nothing: a turn with these is one with any tools
+-- tools that answer nothing: what a command does with these it does with any
 abbrev pub no_tools : Tools
 no_tools = record {
   refines = λ theory store tactic goal answer. ⊥;
@@ -94,9 +94,9 @@ abbrev pub plainly : Result Printed Fault → Result Printed Refused
 plainly (Ok printed) = Ok printed
 plainly (Err fault) = Err (plain fault)
 
--- A turn of a session with these lemmas, whatever proof stands beside its library, and what the call says of it.
-pub record Turns (tools : Tools) (lemmas : List Theorem) (old : Library) (text : Option (List ℕ)) (result : Result Printed Refused) (new : Library) : Type 0 where
-  pub turns : (beside : Beside) → beside.lemmas ≡ lemmas → calls.Turns tools (with_beside beside old) text (Says result) (with_beside beside new)
+-- What the command does with these lemmas, whatever proof stands beside the library, and what the call says of it.
+pub record PerformsWith (tools : Tools) (lemmas : List Theorem) (old : Library) (command : CommandTree) (result : Result Printed Refused) (new : Library) : Type 0 where
+  pub performs : (beside : Beside) → beside.lemmas ≡ lemmas → Performs tools (with_beside beside old) command (Says result) (with_beside beside new)
 
 -- ---- parts of commands
 

@@ -1,4 +1,5 @@
 pub mod SessionState
+pub mod Performing
 pub mod Answers
 pub mod Growth
 pub mod Beginning

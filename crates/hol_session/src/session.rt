@@ -1,6 +1,6 @@
 // Sessions: what the commands of a script have stored.
-ghost use Rattle.std.specs.Prelude.{◌≡◌, ◌⊎◌, ◌<◌, ◌∷◌, ℕ, List, [], map, length, Some, OnOk, OnErr, IfOk, IfErr, IsErrOf, Contains, string_bytes};
-ghost use Rattle.hol_session_model.specs.CommandGrammar.{TheoremTree, thm_command, show_command, var_command, def_command, newtype_command, newconst_command, SpellsCommand};
+ghost use Rattle.std.specs.Prelude.{◌≡◌, ◌⊎◌, ◌<◌, ◌∷◌, List, [], map, length, OnOk, OnErr, IfOk, IfErr, IsErrOf, Contains, string_bytes};
+ghost use Rattle.hol_session_model.specs.CommandGrammar.{TheoremTree, thm_command, show_command, var_command, def_command, newtype_command, newconst_command};
 ghost use Rattle.hol_model.specs.Kernel.Rules.{define_outcome, new_type_outcome, new_const_outcome};
 ghost use Rattle.hol_model.specs.Kernel.Theorem.{Theorem};
 ghost use Rattle.hol_model.specs.Derived.Prelude.{stored_theorems};
@@ -11,7 +11,7 @@ ghost use Rattle.hol_model.specs.declared.fault.Fault.TheVariants.{Memory, TooLo
 ghost use Rattle.hol_grammar.specs.Steps.{flat_steps_of};
 ghost use Rattle.hol_grammar.specs.TermSteps.{term_steps, flat_steps};
 ghost use Rattle.hol_grammar.specs.Views.{steps_of};
-ghost use Rattle.hol_session.specs.Answers.{no_tools, session_tools, plainly, TestsName, IsNewName, Turns};
+ghost use Rattle.hol_session.specs.Answers.{no_tools, session_tools, plainly, TestsName, IsNewName, PerformsWith};
 ghost use Rattle.hol_prelude.specs.Prelude.{prelude_theorems};
 ghost use Rattle.hol_journal.specs.Journal.{IsMade};
 ghost use Rattle.hol_log.specs.LogAccepted.{log_claim};
@@ -131,8 +131,8 @@ impl Session {
         asked: &Asked,
     ) -> Result<Printed, Refused>
         requires { IsSession self.old }
-        ensures turns { (text : List ℕ) (tree : TheoremTree) → SpellsCommand text (thm_command name.now tree) → IsAsked asked.now tree
-            → Turns (session_tools (H.refiners hosts.now) (H.conversions hosts.now)) (lemmas_of self.old) (state_of self.old) (Some text) result (state_of self.new) }
+        ensures performs { (tree : TheoremTree) → IsAsked asked.now tree
+            → PerformsWith (session_tools (H.refiners hosts.now) (H.conversions hosts.now)) (lemmas_of self.old) (state_of self.old) (thm_command name.now tree) result (state_of self.new) }
         ensures kept { IsSession self.new }
         ensures lemmas { lemmas_of self.new ≡ lemmas_of self.old }
         ensures stays { StaysMade self.old self.new }
@@ -219,8 +219,7 @@ impl Session {
     /// `show NAME`: prints a stored theorem again.
     pub fn show(&self, alloc: Global, name: &str) -> Result<Printed, Fault>
         requires { IsSession self.now }
-        ensures { (lemmas : List Theorem) (text : List ℕ) → SpellsCommand text (show_command name.now)
-            → Turns no_tools lemmas (state_of self.now) (Some text) (plainly result) (state_of self.now) }
+        ensures { (lemmas : List Theorem) → PerformsWith no_tools lemmas (state_of self.now) (show_command name.now) (plainly result) (state_of self.now) }
     {
         let Some(theorem) = self.library.store.get(name) else {
             return Err(Fault::UnknownName);
@@ -237,8 +236,8 @@ impl Session {
     /// `var NAME : type`: declares a variable for bare names, in place of an earlier one. A refusal changes nothing.
     pub fn var(&mut self, alloc: Global, name: &str, steps: &[TypeStep]) -> Result<Printed, Fault>
         requires { IsSession self.old }
-        ensures turns { (lemmas : List Theorem) (text : List ℕ) (tree : TypeTree) → SpellsCommand text (var_command name.now tree) → steps_of steps.now ≡ type_steps tree
-            → Turns no_tools lemmas (state_of self.old) (Some text) (plainly result) (state_of self.new) }
+        ensures performs { (lemmas : List Theorem) (tree : TypeTree) → steps_of steps.now ≡ type_steps tree
+            → PerformsWith no_tools lemmas (state_of self.old) (var_command name.now tree) (plainly result) (state_of self.new) }
         ensures kept { IsSession self.new }
         ensures lemmas { lemmas_of self.new ≡ lemmas_of self.old }
         ensures stays { StaysMade self.old self.new }
@@ -257,8 +256,8 @@ impl Session {
     /// `def NAME = t`: defines a constant, and stores and prints the theorem as `NAME_def`. A refusal changes nothing.
     pub fn def(&mut self, alloc: Global, name: &str, steps: &[TermStep]) -> Result<Printed, Fault>
         requires { IsSession self.old }
-        ensures turns { (lemmas : List Theorem) (text : List ℕ) (tree : TermTree) → SpellsCommand text (def_command name.now tree) → flat_steps_of steps.now ≡ flat_steps (term_steps tree)
-            → Turns no_tools lemmas (state_of self.old) (Some text) (plainly result) (state_of self.new) }
+        ensures performs { (lemmas : List Theorem) (tree : TermTree) → flat_steps_of steps.now ≡ flat_steps (term_steps tree)
+            → PerformsWith no_tools lemmas (state_of self.old) (def_command name.now tree) (plainly result) (state_of self.new) }
         ensures kept { IsSession self.new }
         ensures lemmas { lemmas_of self.new ≡ lemmas_of self.old }
         ensures stays { StaysMade self.old self.new }
@@ -287,8 +286,7 @@ impl Session {
     /// `newtype NAME`: declares a type. A refusal changes nothing.
     pub fn newtype(&mut self, alloc: Global, name: &str) -> Result<Printed, Fault>
         requires { IsSession self.old }
-        ensures turns { (lemmas : List Theorem) (text : List ℕ) → SpellsCommand text (newtype_command name.now)
-            → Turns no_tools lemmas (state_of self.old) (Some text) (plainly result) (state_of self.new) }
+        ensures performs { (lemmas : List Theorem) → PerformsWith no_tools lemmas (state_of self.old) (newtype_command name.now) (plainly result) (state_of self.new) }
         ensures kept { IsSession self.new }
         ensures lemmas { lemmas_of self.new ≡ lemmas_of self.old }
         ensures stays { StaysMade self.old self.new }
@@ -317,8 +315,8 @@ impl Session {
         steps: &[TypeStep],
     ) -> Result<Printed, Fault>
         requires { IsSession self.old }
-        ensures turns { (lemmas : List Theorem) (text : List ℕ) (tree : TypeTree) → SpellsCommand text (newconst_command name.now tree) → steps_of steps.now ≡ type_steps tree
-            → Turns no_tools lemmas (state_of self.old) (Some text) (plainly result) (state_of self.new) }
+        ensures performs { (lemmas : List Theorem) (tree : TypeTree) → steps_of steps.now ≡ type_steps tree
+            → PerformsWith no_tools lemmas (state_of self.old) (newconst_command name.now tree) (plainly result) (state_of self.new) }
         ensures kept { IsSession self.new }
         ensures lemmas { lemmas_of self.new ≡ lemmas_of self.old }
         ensures stays { StaysMade self.old self.new }

@@ -4,7 +4,7 @@ use Rattle.hol_grammar.specs.Views.{tokens_of}
 use Rattle.hol_command.proofs.ReadingLemmas.{tokens-lexed}
 use Rattle.hol_proof_manager.specs.Session.{session_tools}
 use Rattle.hol_proof_manager.specs.Managers.{state_of}
-use Rattle.hol_script.proofs.CommandTurns.{lacks_memory, unlexed, unread}
+use Rattle.hol_script.proofs.CommandTurns.{lacks_memory, unlexed, unread, spelled_turn}
 use Rattle.hol_script.proofs.execute.execute.Goals as goal
 
 pub returns-in-Err-Memory-clause-turns : goal.returns-in-Err-Memory-clause-turns
@@ -23,7 +23,7 @@ pub returns-in-Ok-parse_command-clause-turns : goal.returns-in-Ok-parse_command-
 returns-in-Ok-parse_command-clause-turns g c =
     let lexed = subst (λ (tokens : List _). Lexes c.args.text.now (tokens_of tokens)) (sym c.deref.ensures.value) c.in-Ok.ensures.found in
     let (tree, read, is) = c.in-Ok-parse_command.ensures in
-    c.carry_out.ensures.turns c.args.text.now tree (record { tokens = tokens_of c.deref.result.now; lexed = lexed; read = read }) is
+    spelled_turn c.args.text.now tree (record { tokens = tokens_of c.deref.result.now; lexed = lexed; read = read }) (c.carry_out.ensures.performs tree is)
 
 pub returns-in-Err-Memory-parse_command-clause-turns : goal.returns-in-Err-Memory-parse_command-clause-turns
 returns-in-Err-Memory-parse_command-clause-turns g c =

@@ -8,11 +8,11 @@ use Rattle.hol_proof_manager.proofs.GoalTurns.{b_done, b_refused}
 use Rattle.hol_proof_manager.proofs.Managing.{theory_in, journal_in, back_there, changed_manager, unset_manager, unchanged_turn, changed_turn}
 use Rattle.hol_proof_manager.proofs.manager.Manager.back.Goals as goal
 
-pub returns-in-Err-clause-turns : goal.returns-in-Err-clause-turns
-returns-in-Err-clause-turns c = λ text spelled.
+pub returns-in-Err-clause-performs : goal.returns-in-Err-clause-performs
+returns-in-Err-clause-performs c =
     let old = c.args.self.now in
     let fault = c.in-Err.fault in
-    unchanged_turn old c.back.new.self text b_command fault spelled (λ refused. b_refused no_tools (state_of old) fault refused) c.in-Err.ensures.outcome
+    unchanged_turn old c.back.new.self b_command fault (λ refused. b_refused no_tools (state_of old) fault refused) c.in-Err.ensures.outcome
 
 pub returns-in-Err-clause-kept : goal.returns-in-Err-clause-kept
 returns-in-Err-clause-kept c =
@@ -27,10 +27,10 @@ shown_or_undone-requires c =
     (back-valid (theory_in old) (store_in (state_of old)) (stack_of old.stack).proof changes.0 c.requires.stack.proof changes.1)
     (c.in-Ok.ensures.made (journal_in old) c.requires.made)
 
-pub returns-clause-turns : goal.returns-clause-turns
-returns-clause-turns c = λ text spelled.
+pub returns-clause-performs : goal.returns-clause-performs
+returns-clause-performs c =
     let old = c.args.self.now in
     let changes = c.in-Ok.ensures.outcome in
     let there = back_there (stack_of old.stack).proof changes.0 changes.1 in
-    changed_turn old c.back.new.self text b_command changes.0 there.0 c.shown_or_undone.result c.shown_or_undone.new.self spelled (b_done no_tools (state_of old) changes.0 changes.1) changes.2 there.1
+    changed_turn old c.back.new.self b_command changes.0 there.0 c.shown_or_undone.result c.shown_or_undone.new.self (b_done no_tools (state_of old) changes.0 changes.1) changes.2 there.1
     c.shown_or_undone.ensures.ok c.shown_or_undone.ensures.same c.shown_or_undone.ensures.undone c.shown_or_undone.ensures.err

@@ -8,11 +8,11 @@ use Rattle.hol_proof_manager.proofs.Managing.{refuses, unset_there, set_there, p
 use Rattle.hol_proof_manager.proofs.manager.Manager.print.Goals as goal
 
 pub returns-then-not-is_set : goal.returns-then-not-is_set
-returns-then-not-is_set c = λ text spelled.
-    refuses (state_of c.args.self.now) (state_of c.args.self.now) text p_command NoGoal refl spelled
+returns-then-not-is_set c =
+    refuses (state_of c.args.self.now) (state_of c.args.self.now) p_command NoGoal refl
     (inr (p_refused no_tools (state_of c.args.self.now) (unset_there (state_of c.args.self.now).proof c.if-not-is_set.ensures)))
 
 pub returns : goal.returns
-returns c = λ text spelled.
+returns c =
     let there = set_there (state_of c.args.self.now).proof c.if-not-is_set.ensures in
-    p_turn c.args.self.now text spelled c.shown.result there.0 there.1 c.shown.ensures.ok c.shown.ensures.err
+    p_turn c.args.self.now c.shown.result there.0 there.1 c.shown.ensures.ok c.shown.ensures.err

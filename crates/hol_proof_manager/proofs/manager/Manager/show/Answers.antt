@@ -1,10 +1,11 @@
-use Rattle.std.proofs.Common.{refl, Some}
+use Rattle.std.proofs.Common.{refl}
+use Rattle.hol_session_model.specs.CommandGrammar.{show_command}
 use Rattle.hol_session.specs.SessionState.{lemmas_of}
 use Rattle.hol_session.specs.Answers.{plainly, Says}
 use Rattle.hol_proof_manager.proofs.Managing.{session_turn}
 use Rattle.hol_proof_manager.proofs.manager.Manager.show.Goals as goal
 
 pub returns : goal.returns
-returns c = λ text spelled.
+returns c =
     let manager = c.args.self.now in
-    session_turn manager manager.prover.session (Some text) (Says (plainly c.show.result)) (c.show.ensures (lemmas_of manager.prover.session) text spelled).turns refl
+    session_turn manager manager.prover.session (show_command c.args.name.now) (Says (plainly c.show.result)) (c.show.ensures (lemmas_of manager.prover.session)).performs refl

@@ -1,4 +1,5 @@
 use Rattle.std.proofs.Common.{refl, sym, ◌∙◌, subst, Ok, Err}
+use Rattle.hol_session_model.specs.CommandGrammar.{thm_command}
 use Rattle.hol_session_model.specs.Sessions.{State}
 use Rattle.hol_session.specs.Answers.{IsNewName}
 use Rattle.hol_session.specs.SessionState.{state_of}
@@ -8,17 +9,17 @@ use Rattle.hol_session.proofs.LaterLemmas.{later_as, later_from}
 use Rattle.hol_session.proofs.SessionLemmas.{misnamed, forgets_here, thm_refuses, thm_keeps}
 use Rattle.hol_session.proofs.session.Session.thm.Goals as goal
 
-pub returns-in-Err-clause-turns : goal.returns-in-Err-clause-turns
-returns-in-Err-clause-turns g c = λ text tree spelled asks. rw c.plain.ensures (misnamed (state_of c.args.self.now) text c.args.name.now tree c.in-Err.fault spelled c.in-Err.ensures)
+pub returns-in-Err-clause-performs : goal.returns-in-Err-clause-performs
+returns-in-Err-clause-performs g c = λ tree asks. rw c.plain.ensures (misnamed (state_of c.args.self.now) c.args.name.now tree c.in-Err.fault c.in-Err.ensures)
 
 pub returns-in-Err-clause-later : goal.returns-in-Err-clause-later
 returns-in-Err-clause-later g c = later_as (state_of c.args.self.now) (state_of c.args.self.now) refl
 
-pub returns-in-Err-theorem-clause-turns : goal.returns-in-Err-theorem-clause-turns
-returns-in-Err-theorem-clause-turns g c = λ text tree spelled asks.
+pub returns-in-Err-theorem-clause-performs : goal.returns-in-Err-theorem-clause-performs
+returns-in-Err-theorem-clause-performs g c = λ tree asks.
     let old = c.args.self.now in
-    thm_refuses (state_of old) (state_of c.theorem.new.self) text c.args.name.now tree c.in-Err-theorem.refused
-    (made_state old c.theorem.new.self (without_row (Err c.in-Err-theorem.refused)) c.in-Err-theorem.ensures.makes) spelled
+    thm_refuses (state_of old) (state_of c.theorem.new.self) c.args.name.now tree c.in-Err-theorem.refused
+    (made_state old c.theorem.new.self (without_row (Err c.in-Err-theorem.refused)) c.in-Err-theorem.ensures.makes)
     c.in-Ok.ensures.named c.in-Ok.ensures.none (c.in-Err-theorem.ensures.answers tree asks)
 
 pub returns-in-Err-theorem-clause-kept : goal.returns-in-Err-theorem-clause-kept
@@ -44,14 +45,14 @@ pub keep-requires-clause-named : goal.keep-requires-clause-named
 keep-requires-clause-named g c =
     subst (λ (s : State). IsNewName s c.args.name.now) (sym (made_state c.args.self.now c.theorem.new.self (Ok c.in-Ok-theorem.theorem) c.in-Ok-theorem.ensures.makes)) c.in-Ok.ensures
 
-pub returns-in-Ok-keep-clause-turns : goal.returns-in-Ok-keep-clause-turns
-returns-in-Ok-keep-clause-turns g c = λ text tree spelled asks.
-    thm_keeps c.args.self.now c.theorem.new.self c.keep.new.self text c.args.name.now tree c.in-Ok-theorem.theorem.theorem c.in-Ok-keep.printed
-    (made_state c.args.self.now c.theorem.new.self (Ok c.in-Ok-theorem.theorem) c.in-Ok-theorem.ensures.makes) spelled c.in-Ok.ensures (c.in-Ok-theorem.ensures.answers tree asks) c.in-Ok-keep.ensures.ok
+pub returns-in-Ok-keep-clause-performs : goal.returns-in-Ok-keep-clause-performs
+returns-in-Ok-keep-clause-performs g c = λ tree asks.
+    thm_keeps c.args.self.now c.theorem.new.self c.keep.new.self c.args.name.now tree c.in-Ok-theorem.theorem.theorem c.in-Ok-keep.printed
+    (made_state c.args.self.now c.theorem.new.self (Ok c.in-Ok-theorem.theorem) c.in-Ok-theorem.ensures.makes) c.in-Ok.ensures (c.in-Ok-theorem.ensures.answers tree asks) c.in-Ok-keep.ensures.ok
 
-pub returns-in-Err-keep-clause-turns : goal.returns-in-Err-keep-clause-turns
-returns-in-Err-keep-clause-turns g c = λ text tree spelled asks.
-    rw c.plain-in-Err-keep.ensures (forgets_here (state_of c.args.self.now) (state_of c.keep.new.self) text c.in-Err-keep.fault
+pub returns-in-Err-keep-clause-performs : goal.returns-in-Err-keep-clause-performs
+returns-in-Err-keep-clause-performs g c = λ tree asks.
+    rw c.plain-in-Err-keep.ensures (forgets_here (state_of c.args.self.now) (state_of c.keep.new.self) (thm_command c.args.name.now tree) c.in-Err-keep.fault
     (c.in-Err-keep.ensures.err ∙ made_state c.args.self.now c.theorem.new.self (Ok c.in-Ok-theorem.theorem) c.in-Ok-theorem.ensures.makes) c.in-Err-keep.ensures.memory)
 
 pub returns-in-Ok-keep-clause-lemmas : goal.returns-in-Ok-keep-clause-lemmas
