@@ -18,6 +18,7 @@ ghost use Rattle.hol_syntax.specs.Evaluating.{pushed, IsHeld, Arrives};
 
 use crate::binders::Binders;
 use crate::builder::{apply, bare, bind, join, negate, typed_constant, typed_variable};
+use crate::leaves::Leaves;
 use crate::scope::Scope;
 use hol_grammar::grammar::{Binder, Infix};
 use hol_grammar::{TermStep, TypeStep};
@@ -25,11 +26,12 @@ use hol_model::Fault;
 use hol_terms::Term;
 use std::alloc::Global;
 
-// The open binders, and the terms that wait.
+// The open binders, the terms that wait, and leaves that further ones share.
 #[derive(Drop)]
 struct Evaluator {
     binders: Binders,
     terms: Vec<Term>,
+    leaves: Leaves,
 }
 
 fn push_term(stack: &mut Vec<Term>, term: Term) -> Result<(), Fault>
@@ -54,6 +56,20 @@ impl Evaluator {
     {
         match made {
             Ok(term) => push_term(&mut self.terms, term),
+            Err(fault) => Err(fault),
+        }
+    }
+
+    // Puts a variable or a constant on those that wait.
+    fn put_leaf(&mut self, alloc: Global, made: Result<Term, Fault>) -> Result<(), Fault>
+        ensures { (work : Workspace) (wanted : Result NamedTerm Fault) → IsHeld self.old work → Answers made wanted
+            → Arrives result self.new (pushed work wanted) }
+    {
+        match made {
+            Ok(leaf) => match self.leaves.shared(alloc, leaf) {
+                Ok(shared) => push_term(&mut self.terms, shared),
+                Err(fault) => Err(fault),
+            },
             Err(fault) => Err(fault),
         }
     }
@@ -138,15 +154,15 @@ impl Evaluator {
         match step {
             TermStep::Bare(name) => {
                 let made = bare(alloc, scope, &self.binders, name);
-                self.put(made)
+                self.put_leaf(alloc, made)
             }
             TermStep::Variable(name, types) => {
                 let made = typed_variable(alloc, scope, name, types);
-                self.put(made)
+                self.put_leaf(alloc, made)
             }
             TermStep::Constant(name, types) => {
                 let made = typed_constant(alloc, scope, name, types);
-                self.put(made)
+                self.put_leaf(alloc, made)
             }
             TermStep::Apply => self.apply(alloc),
             TermStep::Not => self.negate(alloc, scope),
@@ -165,6 +181,7 @@ pub fn term_of_steps(alloc: Global, scope: &Scope, steps: &[TermStep]) -> Result
     let mut evaluator = Evaluator {
         binders: Binders::new(alloc),
         terms: Vec::new(alloc),
+        leaves: Leaves::new(alloc),
     };
     for step in steps {
         match evaluator.take_step(alloc, scope, step) {

@@ -4,6 +4,7 @@
 mod binders;
 pub mod builder;
 mod evaluate;
+mod leaves;
 mod quantifier;
 mod scope;
 mod sequents;
