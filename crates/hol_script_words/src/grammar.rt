@@ -1,4 +1,5 @@
 // The grammar of commands, and how far a text keeps to it.
+use crate::known::push_name;
 use crate::no_memory::NoMemory;
 use crate::piece::Piece;
 use crate::tables::front;
@@ -316,7 +317,7 @@ pub(crate) fn push_words(
         let (known, rest) = front(line);
         let (word, _) = front(rest);
         if known == symbol && !word.starts_with('#') {
-            words.push(String::from_str(alloc, word)?)?;
+            push_name(alloc, words, word)?;
         }
     }
     Ok(())

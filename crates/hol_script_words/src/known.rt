@@ -22,8 +22,10 @@ pub struct Known {
 const THEOREMS: &str =
     "T_DEF AND_DEF IMP_DEF FORALL_DEF EXISTS_DEF OR_DEF F_DEF NOT_DEF TRUTH ETA_AX SELECT_AX EXCLUDED_MIDDLE";
 
-// The constants that are defined when a script begins, with their generic types.
+// The constants that are known when a script begins, with their generic types.
 const CONSTANTS: &str = "\
+= A->A->bool
+@ (A->bool)->A
 T bool
 F bool
 ~ bool->bool
@@ -45,7 +47,12 @@ pub fn given<T: Drop>(answer: Result<T, Fault>) -> Result<Option<T>, NoMemory> {
     }
 }
 
-fn push_name(alloc: Global, names: &mut Vec<String>, name: &str) -> Result<(), NoMemory> {
+/// Puts a name at the end.
+pub(crate) fn push_name(
+    alloc: Global,
+    names: &mut Vec<String>,
+    name: &str,
+) -> Result<(), NoMemory> {
     names.push(String::from_str(alloc, name)?)?;
     Ok(())
 }
@@ -82,17 +89,14 @@ impl Known {
         for name in THEOREMS.split(' ') {
             push_name(alloc, &mut self.theorems, name)?;
         }
-        push_name(alloc, &mut self.constants, "=")?;
-        push_name(alloc, &mut self.constants, "@")?;
-        push_name(alloc, &mut self.types, "bool")?;
         for line in CONSTANTS.lines() {
             let (name, ty) = front(line);
             self.learn_typed(alloc, name, ty.as_bytes(), false)?;
         }
-        Ok(())
+        push_name(alloc, &mut self.types, "bool")
     }
 
-    // A constant is known at a type.
+    // A constant is known at a type, those of the scope's own with the others.
     fn learn_constant(&mut self, alloc: Global, name: &str, ty: &Ty) -> Result<(), NoMemory> {
         let _known = given(self.scope.add_const(alloc, name, ty))?;
         push_name(alloc, &mut self.constants, name)

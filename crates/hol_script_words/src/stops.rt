@@ -1,7 +1,7 @@
 // Where a text stops being a command.
 use crate::grammar::{Reading, expected, is_choice, push_words, read};
 use crate::habits::written_for;
-use crate::known::{Known, is_type_variable, nearest};
+use crate::known::{Known, is_type_variable, nearest, push_name};
 use crate::messages::Message;
 use crate::no_memory::NoMemory;
 use crate::piece::Piece;
@@ -24,24 +24,51 @@ fn found<'a>(piece: &'a Piece<'_>, at: usize) -> (&'static str, &'a str, &'stati
     }
 }
 
-// What is better than a word that stands at a symbol, and all words that may stand there.
-fn choices(alloc: Global, known: &Known, symbol: &str, word: &str) -> Result<String, NoMemory> {
+// The words that may stand at a symbol.
+fn words_at(alloc: Global, known: &Known, symbol: &str) -> Result<Vec<String>, NoMemory> {
     let mut words = Vec::new(alloc);
     if symbol == "type" {
         for name in &known.types {
-            words.push(String::from_str(alloc, name.as_str())?)?;
+            push_name(alloc, &mut words, name.as_str())?;
         }
     }
     push_words(alloc, &mut words, symbol)?;
+    Ok(words)
+}
+
+// What is better than a word that stands at a symbol, in three parts.
+fn better<'a>(
+    alloc: Global,
+    words: &'a [String],
+    symbol: &str,
+    word: &str,
+) -> Result<(&'static str, &'a str, &'static str), NoMemory> {
+    if symbol == "command" && word == "(" {
+        return Ok(("; a script has no comments", "", ""));
+    }
+    if let Some(written) = written_for(word) {
+        return Ok(("; in its place is written ", written, ""));
+    }
+    Ok(match nearest(alloc, words, &[], word)? {
+        Some(near) => ("; the nearest known word is `", near, "`"),
+        None => ("", "", ""),
+    })
+}
+
+// What is better than a word that stands at a symbol, and all words that may stand there.
+fn choices(alloc: Global, words: &[String], symbol: &str, word: &str) -> Result<String, NoMemory> {
+    let (lead, better, end) = better(alloc, words, symbol, word)?;
     let list = words.join(alloc, "`, `")?;
-    let (lead, better, end) = match written_for(word) {
-        Some(written) => ("; in its place is written ", written, ""),
-        None => match nearest(alloc, &words, &[], word)? {
-            Some(near) => ("; the nearest known word is `", near, "`"),
-            None => ("", "", ""),
-        },
-    };
     Ok(format!(in alloc; "{lead}{better}{end}; the words that could stand here are `{list}`")?)
+}
+
+// What may stand in the place of a word at a symbol, where a message lists it.
+fn advice(alloc: Global, known: &Known, symbol: &str, word: &str) -> Result<String, NoMemory> {
+    if !is_choice(symbol) {
+        return Ok(String::new(alloc));
+    }
+    let words = words_at(alloc, known, symbol)?;
+    choices(alloc, &words, symbol, word)
 }
 
 // What could stand at a place in the list, and what stands there.
@@ -54,20 +81,10 @@ fn missing(
 ) -> Result<Message, NoMemory> {
     let expected = expected(symbol);
     let (lead, found, end) = found(piece, at);
-    let word = piece.text(at);
-    let choices = if is_choice(symbol) {
-        choices(alloc, known, symbol, word)?
-    } else {
-        String::new(alloc)
-    };
-    let remark = if symbol == "command" && word == "(" {
-        "; a script has no comments"
-    } else {
-        ""
-    };
+    let advice = advice(alloc, known, symbol, piece.text(at))?;
     Ok(Message {
         at: piece.start(at),
-        text: format!(in alloc; "expected {expected}, found {lead}{found}{end}{remark}{choices}")?,
+        text: format!(in alloc; "expected {expected}, found {lead}{found}{end}{advice}")?,
     })
 }
 
