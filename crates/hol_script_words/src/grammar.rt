@@ -2,7 +2,7 @@
 use crate::known::push_name;
 use crate::no_memory::NoMemory;
 use crate::piece::Piece;
-use crate::tables::front;
+use crate::tables::{front, line_of_pair};
 use std::alloc::Global;
 
 // Each line has a symbol and a word that may stand at it, and behind them the symbols that are wanted next. `#name`, `#number`,
@@ -223,18 +223,9 @@ further #any
 end_of_term #part an infix (`<=>`, `==>`, `\\/`, `/\\` or `=`), an argument (a name, `(` or `[`) or the end of the term
 end_of_term #end";
 
-/// What stands behind a symbol and a word, where the grammar has such a line.
+// The symbols behind a symbol and a word, where the grammar has such a line.
 fn behind(symbol: &str, word: &str) -> Option<&'static str> {
-    for line in GRAMMAR.lines() {
-        let (known, rest) = front(line);
-        if known == symbol {
-            let (at, wanted) = front(rest);
-            if at == word {
-                return Some(wanted);
-            }
-        }
-    }
-    None
+    line_of_pair(GRAMMAR, symbol, word)
 }
 
 /// How far a text is read: the place in the list of the first word that is not, and the symbol at which it cannot stand.

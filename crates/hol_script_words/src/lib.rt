@@ -21,4 +21,4 @@ pub use piece::{Piece, between, text_of};
 pub use scanner::{Kind, Word};
 pub use sentences::sentence;
 pub use stops::no_command;
-pub use tables::{front, line_of};
+pub use tables::{line_of, line_of_pair};

@@ -18,3 +18,17 @@ pub fn line_of(table: &'static str, word: &str) -> Option<&'static str> {
     }
     None
 }
+
+/// What stands behind two words at the front of a line, where the table has such a line.
+pub fn line_of_pair(table: &'static str, first: &str, second: &str) -> Option<&'static str> {
+    for line in table.lines() {
+        let (known, rest) = front(line);
+        if known == first {
+            let (word, behind) = front(rest);
+            if word == second {
+                return Some(behind);
+            }
+        }
+    }
+    None
+}
