@@ -2,31 +2,23 @@
 ghost use Rattle.std.specs.Prelude.{OnOk};
 ghost use Rattle.hol_script.specs.Managers.{IsManager};
 
+use hol_hints::{Known, NoMemory, Part, Piece, Span, between, given, next_outside};
 use hol_host::Refiners;
 use hol_script::execute::execute;
 use hol_script::{Manager, Printed};
-use hol_script_words::{NoMemory, Piece, between, given};
 use std::alloc::Global;
 
-/// A part of an expression: its first word, and the word behind its last.
-#[derive(Clone, Copy, Debug)]
-pub(crate) struct Span {
-    pub(crate) from: usize,
-    pub(crate) to: usize,
-}
-
-/// The part that is refused, and the open goals there, where the one at which it is refused comes first. Where the part is a
-/// list behind `THENL`, how many subgoals it is for.
+/// With what parts of an expression are tried: over which host, and of which command.
 #[derive(Drop)]
-pub(crate) struct Found {
-    pub(crate) span: Span,
-    pub(crate) subgoals: usize,
-    pub(crate) goals: String,
+pub(crate) struct Trial<'a, H> {
+    pub(crate) alloc: Global,
+    pub(crate) host: &'a H,
+    pub(crate) piece: &'a Piece<'a>,
 }
 
 // What is refused inside an expression, for how many subgoals it is, how many steps were taken up to it, and whether it is to be
 // looked into further.
-#[derive(Clone, Copy, Debug)]
+#[derive(Clone, Copy)]
 struct Inside {
     span: Span,
     subgoals: usize,
@@ -36,15 +28,12 @@ struct Inside {
 
 const JOINTS: (&str, &str) = ("THEN", "THENL");
 
-/// What stands between alternatives.
-pub(crate) const ALTERNATIVES: (&str, &str) = ("ORELSE", "ORELSE");
-
 const MEMBER_ENDS: (&str, &str) = (";", "]");
 
 const CLOSING: (&str, &str) = (")", ")");
 
-/// The text of the open goals.
-pub(crate) fn open_goals(alloc: Global, manager: &Manager) -> Result<String, NoMemory>
+// The text of the open goals.
+fn open_goals(alloc: Global, manager: &Manager) -> Result<String, NoMemory>
     requires { IsManager manager.now }
 {
     match given(manager.print(alloc))? {
@@ -64,23 +53,6 @@ fn count(alloc: Global, manager: &Manager) -> Result<usize, NoMemory>
 {
     let goals = open_goals(alloc, manager)?;
     Ok(count_of(goals.as_str()))
-}
-
-/// The place in the list of the first of two words outside of all brackets, or the end of the part.
-pub(crate) fn next_outside(piece: &Piece<'_>, span: Span, words: (&str, &str)) -> usize {
-    let mut depth = 0usize;
-    for at in span.from..span.to {
-        let word = piece.text(at);
-        if depth == 0 && (word == words.0 || word == words.1) {
-            return at;
-        }
-        if word == "(" || word == "[" {
-            depth = depth.saturating_add(1);
-        } else if word == ")" || word == "]" {
-            depth = depth.saturating_sub(1);
-        }
-    }
-    span.to
 }
 
 // A part without the parentheses around it.
@@ -112,13 +84,13 @@ fn command_of(alloc: Global, piece: &Piece<'_>, span: Span) -> Result<Vec<u8>, N
 }
 
 // Whether a command that leaves goals is accepted; it is taken back.
-fn is_accepted<H: Refiners>(alloc: Global, host: &H, manager: &mut Manager, text: &[u8]) -> bool
+fn is_accepted<H: Refiners>(trial: &Trial<'_, H>, manager: &mut Manager, text: &[u8]) -> bool
     requires { IsManager manager.old }
     ensures { IsManager manager.new }
 {
-    match execute(manager, alloc, host, text) {
+    match execute(manager, trial.alloc, trial.host, text) {
         Ok(_) => {
-            let _undone = execute(manager, alloc, host, b"b");
+            let _undone = execute(manager, trial.alloc, trial.host, b"b");
             true
         }
         Err(_) => false,
@@ -127,34 +99,30 @@ fn is_accepted<H: Refiners>(alloc: Global, host: &H, manager: &mut Manager, text
 
 // Whether the refiner of a part is accepted at the first goal; what it does is taken back.
 fn is_part_accepted<H: Refiners>(
-    alloc: Global,
-    host: &H,
+    trial: &Trial<'_, H>,
     manager: &mut Manager,
-    piece: &Piece<'_>,
     span: Span,
 ) -> Result<bool, NoMemory>
     requires { IsManager manager.old }
     ensures { OnOk result (IsManager manager.new) }
 {
-    let text = command_of(alloc, piece, span)?;
-    Ok(is_accepted(alloc, host, manager, &text))
+    let text = command_of(trial.alloc, trial.piece, span)?;
+    Ok(is_accepted(trial, manager, &text))
 }
 
 // The place in the list of the first joint up to which a part is refused, and of the one before it; the end of the part, where it
 // is accepted up to each joint.
 fn refused_joint<H: Refiners>(
-    alloc: Global,
-    host: &H,
+    trial: &Trial<'_, H>,
     manager: &mut Manager,
-    piece: &Piece<'_>,
     span: Span,
 ) -> Result<(Option<usize>, usize), NoMemory>
     requires { IsManager manager.old }
     ensures { OnOk result (IsManager manager.new) }
 {
     let mut accepted = None;
-    let mut joint = next_outside(piece, span, JOINTS);
-    for _ in 0..piece.words.len() {
+    let mut joint = next_outside(trial.piece, span, JOINTS);
+    for _ in 0..trial.piece.words.len() {
         if joint >= span.to {
             break;
         }
@@ -162,7 +130,7 @@ fn refused_joint<H: Refiners>(
             from: span.from,
             to: joint,
         };
-        if !is_part_accepted(alloc, host, manager, piece, front)? {
+        if !is_part_accepted(trial, manager, front)? {
             break;
         }
         accepted = Some(joint);
@@ -170,7 +138,7 @@ fn refused_joint<H: Refiners>(
             from: joint.saturating_add(1),
             to: span.to,
         };
-        joint = next_outside(piece, rest, JOINTS);
+        joint = next_outside(trial.piece, rest, JOINTS);
     }
     Ok((accepted, joint))
 }
@@ -223,10 +191,8 @@ fn first_member(piece: &Piece<'_>, joint: usize, to: usize) -> Span {
 
 // Turns the goals up to the first subgoal at which the refiner behind a joint is refused, and answers that refiner.
 fn refused_member<H: Refiners>(
-    alloc: Global,
-    host: &H,
+    trial: &Trial<'_, H>,
     manager: &mut Manager,
-    piece: &Piece<'_>,
     behind: Span,
     subgoals: usize,
 ) -> Result<Inside, NoMemory>
@@ -234,9 +200,9 @@ fn refused_member<H: Refiners>(
     ensures { OnOk result (IsManager manager.new) }
 {
     let mut steps = 1usize;
-    let mut member = first_member(piece, behind.from, behind.to);
+    let mut member = first_member(trial.piece, behind.from, behind.to);
     for _ in 0..subgoals {
-        if !is_part_accepted(alloc, host, manager, piece, member)? {
+        if !is_part_accepted(trial, manager, member)? {
             return Ok(Inside {
                 span: member,
                 subgoals,
@@ -244,9 +210,9 @@ fn refused_member<H: Refiners>(
                 is_last: false,
             });
         }
-        let _turned = execute(manager, alloc, host, b"r 1");
+        let _turned = execute(manager, trial.alloc, trial.host, b"r 1");
         steps = steps.saturating_add(1);
-        member = next_member(piece, behind.from, member, behind.to);
+        member = next_member(trial.piece, behind.from, member, behind.to);
     }
     Ok(Inside {
         span: behind,
@@ -258,26 +224,24 @@ fn refused_member<H: Refiners>(
 
 // What is refused behind a joint, where the part before it is accepted.
 fn behind_joint<H: Refiners>(
-    alloc: Global,
-    host: &H,
+    trial: &Trial<'_, H>,
     manager: &mut Manager,
-    piece: &Piece<'_>,
     front: Span,
     to: usize,
 ) -> Result<Inside, NoMemory>
     requires { IsManager manager.old }
     ensures { OnOk result (IsManager manager.new) }
 {
-    let before = count(alloc, manager)?;
-    let text = command_of(alloc, piece, front)?;
-    let _done = execute(manager, alloc, host, &text);
-    let subgoals = count(alloc, manager)?
+    let before = count(trial.alloc, manager)?;
+    let text = command_of(trial.alloc, trial.piece, front)?;
+    let _done = execute(manager, trial.alloc, trial.host, &text);
+    let subgoals = count(trial.alloc, manager)?
         .saturating_add(1)
         .saturating_sub(before);
     let joint = front.to;
     let behind = Span { from: joint, to };
-    if piece.text(joint) == "THENL"
-        && count_of_members(piece, joint.saturating_add(2), to) != subgoals
+    if trial.piece.text(joint) == "THENL"
+        && count_of_members(trial.piece, joint.saturating_add(2), to) != subgoals
     {
         return Ok(Inside {
             span: behind,
@@ -286,21 +250,19 @@ fn behind_joint<H: Refiners>(
             is_last: true,
         });
     }
-    refused_member(alloc, host, manager, piece, behind, subgoals)
+    refused_member(trial, manager, behind, subgoals)
 }
 
 // What is refused inside a part that is refused at the first goal: one level down.
 fn look_inside<H: Refiners>(
-    alloc: Global,
-    host: &H,
+    trial: &Trial<'_, H>,
     manager: &mut Manager,
-    piece: &Piece<'_>,
     span: Span,
 ) -> Result<Inside, NoMemory>
     requires { IsManager manager.old }
     ensures { OnOk result (IsManager manager.new) }
 {
-    let (accepted, joint) = refused_joint(alloc, host, manager, piece, span)?;
+    let (accepted, joint) = refused_joint(trial, manager, span)?;
     let front = Span {
         from: span.from,
         to: joint,
@@ -317,54 +279,49 @@ fn look_inside<H: Refiners>(
                 from: span.from,
                 to: at,
             };
-            behind_joint(alloc, host, manager, piece, done, joint)
+            behind_joint(trial, manager, done, joint)
         }
     }
 }
 
 // Takes back so many commands.
-fn take_back<H: Refiners>(alloc: Global, host: &H, manager: &mut Manager, steps: usize)
+fn take_back<H: Refiners>(trial: &Trial<'_, H>, manager: &mut Manager, steps: usize)
     requires { IsManager manager.old }
     ensures { IsManager manager.new }
 {
     for _ in 0..steps {
-        let _undone = execute(manager, alloc, host, b"b");
+        let _undone = execute(manager, trial.alloc, trial.host, b"b");
     }
 }
 
 /// The part of a refused `e` that is refused, found by trying its parts, which are taken back.
 pub(crate) fn refused_part<H: Refiners>(
-    alloc: Global,
-    host: &H,
+    trial: &Trial<'_, H>,
+    known: &Known,
     manager: &mut Manager,
-    piece: &Piece<'_>,
-) -> Result<Found, NoMemory>
+) -> Result<Part, NoMemory>
     requires { IsManager manager.old }
     ensures { OnOk result (IsManager manager.new) }
 {
     let mut found = Inside {
         span: Span {
             from: 1,
-            to: piece.words.len(),
+            to: trial.piece.words.len(),
         },
         subgoals: 1,
         steps: 0,
         is_last: false,
     };
     let mut steps = 0usize;
-    for _ in 0..piece.words.len() {
+    for _ in 0..trial.piece.words.len() {
         if found.is_last {
             break;
         }
-        let inner = unwrapped(piece, found.span);
-        found = look_inside(alloc, host, manager, piece, inner)?;
+        let inner = unwrapped(trial.piece, found.span);
+        found = look_inside(trial, manager, inner)?;
         steps = steps.saturating_add(found.steps);
     }
-    let goals = open_goals(alloc, manager)?;
-    take_back(alloc, host, manager, steps);
-    Ok(Found {
-        span: found.span,
-        subgoals: found.subgoals,
-        goals,
-    })
+    let goals = open_goals(trial.alloc, manager)?;
+    take_back(trial, manager, steps);
+    Part::new(trial.alloc, known, found.span, found.subgoals, goals)
 }

@@ -3,15 +3,16 @@ ghost use Rattle.std.specs.Prelude.{◌≡◌, ◌∷◌, [], false, IfErr, Cont
 ghost use Rattle.hol_model.specs.declared.fault.Fault.TheVariants.{Memory, WriteFault};
 ghost use Rattle.hol_script.specs.Managers.{IsManager};
 
-use crate::hints::message_of;
+use crate::message::message_of;
 use crate::place::Place;
+use crate::search::Trial;
 use hol_bytes::write_all;
 use hol_command::cut::{cut, is_blank_text};
+use hol_hints::{Known, Message, NoMemory, Piece, between};
 use hol_host::Refiners;
 use hol_model::{Fault, Sink};
 use hol_script::execute::execute;
 use hol_script::{Manager, Refused};
-use hol_script_words::{Known, Message, NoMemory, Piece, between};
 use std::alloc::Global;
 
 /// A script, the name of its file, and the names of the host's functions.
@@ -40,11 +41,17 @@ fn told(
     Ok(text)
 }
 
+// A walk over a script, with the functions of a host.
+#[derive(Drop)]
+struct Walk<'a, H> {
+    alloc: Global,
+    script: &'a Script<'a>,
+    host: &'a H,
+}
+
 // What is said of a refused command that begins at a place.
 fn explained<H: Refiners>(
-    alloc: Global,
-    script: &Script<'_>,
-    host: &H,
+    walk: &Walk<'_, H>,
     known: &Known,
     manager: &mut Manager,
     piece: &Piece<'_>,
@@ -54,24 +61,25 @@ fn explained<H: Refiners>(
     requires { IsManager manager.old }
     ensures { OnOk result (IsManager manager.new) }
 {
-    let message = message_of(
-        alloc,
-        host,
-        script.host_names,
-        known,
-        manager,
+    let trial = Trial {
+        alloc: walk.alloc,
+        host: walk.host,
         piece,
-        refused,
-    )?;
+    };
+    let message = message_of(&trial, walk.script.host_names, known, manager, refused)?;
     let here = place.behind(between(piece.bytes, 0, message.at));
-    told(alloc, script.file, &here, &refused.fault, &message)
+    told(
+        walk.alloc,
+        walk.script.file,
+        &here,
+        &refused.fault,
+        &message,
+    )
 }
 
 // Runs a command, and answers what is said of its refusal, if it is refused.
 fn answer<H: Refiners>(
-    alloc: Global,
-    script: &Script<'_>,
-    host: &H,
+    walk: &Walk<'_, H>,
     known: &mut Known,
     manager: &mut Manager,
     bytes: &[u8],
@@ -80,47 +88,31 @@ fn answer<H: Refiners>(
     requires { IsManager manager.old }
     ensures { OnOk result (IsManager manager.new) }
 {
-    let piece = Piece::new(alloc, bytes)?;
-    match execute(manager, alloc, host, bytes) {
+    let piece = Piece::new(walk.alloc, bytes)?;
+    match execute(manager, walk.alloc, walk.host, bytes) {
         Ok(_) => {
-            known.learn(alloc, &piece)?;
+            known.learn(walk.alloc, &piece)?;
             Ok(None)
         }
         Err(refused) => {
-            let text = explained(alloc, script, host, known, manager, &piece, place, &refused)?;
+            let text = explained(walk, known, manager, &piece, place, &refused)?;
             Ok(Some(text))
         }
     }
 }
 
 // What is said of the first command of a script that is refused when a script begins.
-fn explained_first<H: Refiners>(
-    alloc: Global,
-    script: &Script<'_>,
-    host: &H,
-    refused: &Refused,
-) -> Result<String, NoMemory> {
-    let known = Known::new(alloc)?;
-    let mut manager = match Manager::new(alloc) {
-        Ok(manager) => manager,
-        Err(_) => return Err(NoMemory),
+fn explained_first<H: Refiners>(walk: &Walk<'_, H>, refused: &Refused) -> Result<String, NoMemory> {
+    let known = Known::new(walk.alloc)?;
+    let Ok(mut manager) = Manager::new(walk.alloc) else {
+        return Err(NoMemory);
     };
-    let command = match cut(script.text) {
+    let command = match cut(walk.script.text) {
         Some((command, _)) => command,
-        None => script.text,
+        None => walk.script.text,
     };
-    let piece = Piece::new(alloc, command)?;
-    let place = Place::start();
-    explained(
-        alloc,
-        script,
-        host,
-        &known,
-        &mut manager,
-        &piece,
-        &place,
-        refused,
-    )
+    let piece = Piece::new(walk.alloc, command)?;
+    explained(walk, &known, &mut manager, &piece, &Place::start(), refused)
 }
 
 // What is said of a rest without a mark behind it.
@@ -135,11 +127,24 @@ fn unfinished(alloc: Global, file: &str, rest: &[u8], place: &Place) -> Result<S
     told(alloc, file, &here, &Fault::Syntax, &message)
 }
 
+// Writes a text, where there was memory for it.
+fn write_told<W: Sink>(writer: &mut W, told: Result<String, NoMemory>) -> Result<(), Fault>
+    requires { W.has_failed writer.old ≡ false }
+    ensures unfailed { OnOk result (W.has_failed writer.new ≡ false) }
+    ensures refusals { IfErr result (Contains (WriteFault ∷ Memory ∷ [])) }
+{
+    let Ok(text) = told else {
+        return Err(Fault::Memory);
+    };
+    match write_all(writer, text.as_bytes()) {
+        Ok(()) => Ok(()),
+        Err(_) => Err(Fault::WriteFault),
+    }
+}
+
 // Runs a command, and writes what is said of its refusal, if it is refused.
 fn explain_piece<W: Sink, H: Refiners>(
-    alloc: Global,
-    script: &Script<'_>,
-    host: &H,
+    walk: &Walk<'_, H>,
     writer: &mut W,
     known: &mut Known,
     manager: &mut Manager,
@@ -152,20 +157,16 @@ fn explain_piece<W: Sink, H: Refiners>(
     ensures manager { OnOk result (IsManager manager.new) }
     ensures refusals { IfErr result (Contains (WriteFault ∷ Memory ∷ [])) }
 {
-    match answer(alloc, script, host, known, manager, piece, place) {
+    match answer(walk, known, manager, piece, place) {
+        Ok(Some(text)) => write_told(writer, Ok(text)),
         Ok(None) => Ok(()),
-        Ok(Some(text)) => match write_all(writer, text.as_bytes()) {
-            Ok(()) => Ok(()),
-            Err(_) => Err(Fault::WriteFault),
-        },
         Err(_) => Err(Fault::Memory),
     }
 }
 
 // Writes what is said of a rest without a mark behind it, where it holds more than white space.
-fn explain_rest<W: Sink>(
-    alloc: Global,
-    script: &Script<'_>,
+fn explain_rest<W: Sink, H: Refiners>(
+    walk: &Walk<'_, H>,
     writer: &mut W,
     rest: &[u8],
     place: &Place,
@@ -176,20 +177,15 @@ fn explain_rest<W: Sink>(
     if is_blank_text(rest) {
         return Ok(());
     }
-    match unfinished(alloc, script.file, rest, place) {
-        Ok(text) => match write_all(writer, text.as_bytes()) {
-            Ok(()) => Ok(()),
-            Err(_) => Err(Fault::WriteFault),
-        },
-        Err(_) => Err(Fault::Memory),
-    }
+    write_told(
+        writer,
+        unfinished(walk.alloc, walk.script.file, rest, place),
+    )
 }
 
 // Runs the commands of a script, and writes what is said of each that is refused.
 fn explain_pieces<W: Sink, H: Refiners>(
-    alloc: Global,
-    script: &Script<'_>,
-    host: &H,
+    walk: &Walk<'_, H>,
     writer: &mut W,
     known: &mut Known,
     manager: &mut Manager,
@@ -198,14 +194,14 @@ fn explain_pieces<W: Sink, H: Refiners>(
     requires manager { IsManager manager.old }
     ensures { IfErr result (Contains (WriteFault ∷ Memory ∷ [])) }
 {
-    let mut rest = script.text;
+    let mut rest = walk.script.text;
     let mut place = Place::start();
-    for _ in 0..script.text.len() {
+    for _ in 0..walk.script.text.len() {
         let Some((piece, behind)) = cut(rest) else {
             break;
         };
         if !is_blank_text(piece) {
-            match explain_piece(alloc, script, host, writer, known, manager, piece, &place) {
+            match explain_piece(walk, writer, known, manager, piece, &place) {
                 Ok(()) => {}
                 Err(fault) => return Err(fault),
             }
@@ -213,7 +209,7 @@ fn explain_pieces<W: Sink, H: Refiners>(
         place = place.behind(piece).behind(b";;");
         rest = behind;
     }
-    explain_rest(alloc, script, writer, rest, &place)
+    explain_rest(walk, writer, rest, &place)
 }
 
 /// Runs the commands of a script once more, over a proof manager of its own, and writes a message for each that is refused:
@@ -228,15 +224,18 @@ pub fn explain<W: Sink, H: Refiners>(
     requires { W.has_failed writer.old ≡ false }
     ensures { IfErr result (Contains (WriteFault ∷ Memory ∷ [])) }
 {
-    let mut known = match Known::new(alloc) {
-        Ok(known) => known,
-        Err(_) => return Err(Fault::Memory),
+    let Ok(mut known) = Known::new(alloc) else {
+        return Err(Fault::Memory);
     };
-    let mut manager = match Manager::new(alloc) {
-        Ok(manager) => manager,
-        Err(_) => return Err(Fault::Memory),
+    let Ok(mut manager) = Manager::new(alloc) else {
+        return Err(Fault::Memory);
     };
-    explain_pieces(alloc, script, host, writer, &mut known, &mut manager)
+    let walk = Walk {
+        alloc,
+        script,
+        host,
+    };
+    explain_pieces(&walk, writer, &mut known, &mut manager)
 }
 
 /// What is said of the first command of a script, where that is refused so when a script begins. Refused: Memory.
@@ -246,7 +245,12 @@ pub fn explain_refusal<H: Refiners>(
     host: &H,
     refused: &Refused,
 ) -> Result<String, Fault> {
-    match explained_first(alloc, script, host, refused) {
+    let walk = Walk {
+        alloc,
+        script,
+        host,
+    };
+    match explained_first(&walk, refused) {
         Ok(text) => Ok(text),
         Err(_) => Err(Fault::Memory),
     }

@@ -1,7 +1,6 @@
 // Messages, and the sentences that tell of names.
 use crate::known::nearest;
 use crate::no_memory::NoMemory;
-use crate::piece::text_of;
 use std::alloc::Global;
 
 /// What is said of a refused command, and how far behind its begin the part in question stands.
@@ -19,6 +18,14 @@ impl Message {
             text: String::from_str(alloc, text)?,
         })
     }
+
+    /// The message on a part of a quoted text whose first backquote stands at an offset.
+    pub fn in_quote_at(self, start: usize) -> Message {
+        Message {
+            at: start.saturating_add(1).saturating_add(self.at),
+            text: self.text,
+        }
+    }
 }
 
 /// What is unknown, and which names of its kind are known.
@@ -26,7 +33,7 @@ impl Message {
 pub struct Unknown<'a> {
     /// What is said before the name.
     pub said: &'a str,
-    pub name: &'a [u8],
+    pub name: &'a str,
     pub first: &'a [String],
     pub second: &'a [String],
     /// What is said where no known name is near.
@@ -35,19 +42,12 @@ pub struct Unknown<'a> {
 
 /// That a name is unknown, and the nearest that is known.
 pub fn unknown_name(alloc: Global, at: usize, unknown: &Unknown<'_>) -> Result<Message, NoMemory> {
-    let name = text_of(unknown.name);
-    let mut text = String::new(alloc);
-    text.push_str(unknown.said)?;
-    text.push_str(" `")?;
-    text.push_str(name)?;
-    text.push_str("`")?;
-    match nearest(alloc, unknown.first, unknown.second, name)? {
-        Some(known) => {
-            text.push_str("; the nearest known name is `")?;
-            text.push_str(known)?;
-            text.push_str("`")?;
-        }
-        None => text.push_str(unknown.otherwise)?,
-    }
+    let said = unknown.said;
+    let name = unknown.name;
+    let (lead, known, end) = match nearest(alloc, unknown.first, unknown.second, name)? {
+        Some(known) => ("; the nearest known name is `", known, "`"),
+        None => (unknown.otherwise, "", ""),
+    };
+    let text = format!(in alloc; "{said} `{name}`{lead}{known}{end}")?;
     Ok(Message { at, text })
 }

@@ -3,11 +3,12 @@ use crate::no_memory::NoMemory;
 use crate::scanner::{Kind, Word, words_of};
 use std::alloc::Global;
 
-/// A text and its words.
+/// A text, its words, and what messages call it.
 #[derive(Drop)]
 pub struct Piece<'a> {
     pub bytes: &'a [u8],
     pub words: Vec<Word>,
+    pub called: &'static str,
 }
 
 /// The bytes as text, where they are one.
@@ -27,10 +28,24 @@ pub fn between(bytes: &[u8], start: usize, end: usize) -> &[u8] {
 }
 
 impl Piece<'_> {
-    /// A text with its words.
+    /// A command with its words.
     pub fn new<'a>(alloc: Global, bytes: &'a [u8]) -> Result<Piece<'a>, NoMemory> {
         let words = words_of(alloc, bytes)?;
-        Ok(Piece { bytes, words })
+        Ok(Piece {
+            bytes,
+            words,
+            called: "command",
+        })
+    }
+
+    /// A text that stood between backquotes, with its words.
+    pub fn of_quote<'a>(alloc: Global, bytes: &'a [u8]) -> Result<Piece<'a>, NoMemory> {
+        let words = words_of(alloc, bytes)?;
+        Ok(Piece {
+            bytes,
+            words,
+            called: "quoted text",
+        })
     }
 
     /// The word at a place in the list, or the end of the text.

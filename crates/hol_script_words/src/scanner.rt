@@ -3,7 +3,7 @@ use crate::no_memory::NoMemory;
 use std::alloc::Global;
 
 /// What a word is.
-#[derive(Clone, Copy, Debug, PartialEq, Eq)]
+#[derive(Clone, Copy, PartialEq, Eq)]
 pub enum Kind {
     Name,
     Number,
@@ -18,99 +18,99 @@ pub enum Kind {
     End,
 }
 
+impl Kind {
+    /// The word of the grammar for any word of this kind.
+    pub(crate) fn class(self) -> &'static str {
+        match self {
+            Kind::Name => "#name",
+            Kind::Number => "#number",
+            Kind::Mark => "#mark",
+            Kind::Quote => "#quote",
+            Kind::Unclosed => "#unclosed",
+            Kind::Odd => "#odd",
+            Kind::End => "#end",
+        }
+    }
+}
+
 /// A word, and where it begins and ends.
-#[derive(Clone, Copy, Debug)]
+#[derive(Clone, Copy)]
 pub struct Word {
     pub kind: Kind,
     pub start: usize,
     pub end: usize,
 }
 
-const MARKS: [&[u8]; 20] = [
-    b"<=>", b"==>", b"->", b"/\\", b"\\/", b"|-", b"=", b"\\", b"!", b"?", b"@", b"~", b"(", b")",
-    b"[", b"]", b":", b".", b",", b";",
-];
-
-fn is_blank(byte: u8) -> bool {
-    byte == b' ' || byte == b'\t' || byte == b'\n' || byte == b'\r'
-}
-
-fn is_letter(byte: u8) -> bool {
-    byte.is_ascii_alphabetic()
-}
+// The marks, each before those that it begins with.
+const MARKS: &str = "<=> ==> -> /\\ \\/ |- = \\ ! ? @ ~ ( ) [ ] : . , ;";
 
 fn is_in_name(byte: u8) -> bool {
     byte.is_ascii_alphanumeric() || byte == b'_' || byte == b'\''
 }
 
-// The length of the mark at the front, if one stands there.
-fn mark_length(text: &[u8]) -> Option<usize> {
-    for at in 0..MARKS.len() {
-        let mark = MARKS[at];
-        if text.starts_with(mark) {
-            return Some(mark.len());
+// The length of the mark at the front, or nothing where none stands there.
+fn mark_length(text: &[u8]) -> usize {
+    for mark in MARKS.split(' ') {
+        if text.starts_with(mark.as_bytes()) {
+            return mark.len();
         }
     }
-    None
+    0
+}
+
+// The length of the name or the number at the front.
+fn name_length(text: &[u8], is_number: bool) -> usize {
+    for at in 0..text.len() {
+        let byte = text[at];
+        if !is_in_name(byte) || (is_number && !byte.is_ascii_digit()) {
+            return at;
+        }
+    }
+    text.len()
 }
 
 // The quoted text at the front, whose first byte is a backquote.
 fn quote(text: &[u8]) -> (Kind, usize) {
-    let inside = text
-        .iter()
-        .skip(1)
-        .take_while(|byte| **byte != b'`')
-        .count();
-    let length = inside.saturating_add(2);
-    if length <= text.len() {
-        (Kind::Quote, length)
-    } else {
-        (Kind::Unclosed, text.len())
+    for at in 1..text.len() {
+        if text[at] == b'`' {
+            return (Kind::Quote, at.saturating_add(1));
+        }
     }
+    (Kind::Unclosed, text.len())
 }
 
 // The kind and the length of the word at the front.
 fn first_word(text: &[u8], first: u8) -> (Kind, usize) {
-    if is_letter(first) {
-        let length = text.iter().take_while(|byte| is_in_name(**byte)).count();
-        return (Kind::Name, length);
+    if first.is_ascii_alphabetic() {
+        return (Kind::Name, name_length(text, false));
     }
     if first.is_ascii_digit() {
-        let length = text.iter().take_while(|byte| byte.is_ascii_digit()).count();
-        return (Kind::Number, length);
+        return (Kind::Number, name_length(text, true));
     }
     if first == b'`' {
         return quote(text);
     }
     match mark_length(text) {
-        Some(length) => (Kind::Mark, length),
-        None => (Kind::Odd, 1),
+        0 => (Kind::Odd, 1),
+        length => (Kind::Mark, length),
     }
 }
 
 /// The words of a text.
 pub fn words_of(alloc: Global, text: &[u8]) -> Result<Vec<Word>, NoMemory> {
     let mut words = Vec::new(alloc);
-    let mut at = 0usize;
-    for _ in 0..text.len() {
-        let Some(rest) = text.get(at..) else {
-            break;
-        };
-        let Some(first) = rest.first() else {
-            break;
-        };
-        if is_blank(*first) {
-            at = at.saturating_add(1);
+    let mut start = 0usize;
+    for at in 0..text.len() {
+        if at < start || matches!(text[at], b' ' | b'\t' | b'\n' | b'\r') {
             continue;
         }
-        let (kind, length) = first_word(rest, *first);
-        let end = at.saturating_add(length.max(1));
+        let (kind, length) = first_word(&text[at..], text[at]);
+        start = at.saturating_add(length);
         words.push(Word {
             kind,
             start: at,
-            end,
+            end: start,
         })?;
-        at = end;
     }
     Ok(words)
 }

@@ -1,0 +1,153 @@
+// Where a text stops being a command.
+use crate::grammar::{Reading, expected, is_choice, push_words, read};
+use crate::habits::written_for;
+use crate::known::{Known, is_type_variable, nearest, push_name};
+use crate::messages::Message;
+use crate::no_memory::NoMemory;
+use crate::piece::Piece;
+use crate::scanner::Kind;
+use std::alloc::Global;
+
+// What is said of a text that keeps to the grammar and is no command.
+const OTHERWISE: &str =
+    "the text is no command: it nests deeper than a command may, a number in it is too large, or a word is not of its kind";
+
+// What stands at a place in the list, in three parts.
+fn found<'a>(piece: &'a Piece<'_>, at: usize) -> (&'static str, &'a str, &'static str) {
+    match piece.kind(at) {
+        Kind::End => ("the end of the ", piece.called, ""),
+        Kind::Quote => ("a quoted text", "", ""),
+        Kind::Unclosed => ("a backquote without another behind it", "", ""),
+        Kind::Odd if piece.text(at).len() == 1 => ("`", piece.text(at), "`, which begins no word"),
+        Kind::Odd => ("a byte that begins no word", "", ""),
+        _ => ("`", piece.text(at), "`"),
+    }
+}
+
+// The words that may stand at a symbol.
+fn words_at(alloc: Global, known: &Known, symbol: &str) -> Result<Vec<String>, NoMemory> {
+    let mut words = Vec::new(alloc);
+    if symbol == "type" {
+        for name in &known.types {
+            push_name(alloc, &mut words, name.as_str())?;
+        }
+    }
+    push_words(alloc, &mut words, symbol)?;
+    Ok(words)
+}
+
+// What is better than a word that stands at a symbol, in three parts.
+fn better<'a>(
+    alloc: Global,
+    words: &'a [String],
+    symbol: &str,
+    word: &str,
+) -> Result<(&'static str, &'a str, &'static str), NoMemory> {
+    if symbol == "command" && word == "(" {
+        return Ok(("; a script has no comments", "", ""));
+    }
+    if let Some(written) = written_for(word) {
+        return Ok(("; in its place is written ", written, ""));
+    }
+    Ok(match nearest(alloc, words, &[], word)? {
+        Some(near) => ("; the nearest known word is `", near, "`"),
+        None => ("", "", ""),
+    })
+}
+
+// What is better than a word that stands at a symbol, and all words that may stand there.
+fn choices(alloc: Global, words: &[String], symbol: &str, word: &str) -> Result<String, NoMemory> {
+    let (lead, better, end) = better(alloc, words, symbol, word)?;
+    let list = words.join(alloc, "`, `")?;
+    Ok(format!(in alloc; "{lead}{better}{end}; the words that could stand here are `{list}`")?)
+}
+
+// What may stand in the place of a word at a symbol, where a message lists it.
+fn advice(alloc: Global, known: &Known, symbol: &str, word: &str) -> Result<String, NoMemory> {
+    if !is_choice(symbol) {
+        return Ok(String::new(alloc));
+    }
+    let words = words_at(alloc, known, symbol)?;
+    choices(alloc, &words, symbol, word)
+}
+
+// What could stand at a place in the list, and what stands there.
+fn missing(
+    alloc: Global,
+    known: &Known,
+    piece: &Piece<'_>,
+    at: usize,
+    symbol: &str,
+) -> Result<Message, NoMemory> {
+    let expected = expected(symbol);
+    let (lead, found, end) = found(piece, at);
+    let advice = advice(alloc, known, symbol, piece.text(at))?;
+    Ok(Message {
+        at: piece.start(at),
+        text: format!(in alloc; "expected {expected}, found {lead}{found}{end}{advice}")?,
+    })
+}
+
+// Where the quoted text at a place in the list stops being a term or a type.
+fn in_quote(
+    alloc: Global,
+    known: &Known,
+    piece: &Piece<'_>,
+    at: usize,
+    symbol: &'static str,
+) -> Result<Option<Message>, NoMemory> {
+    let inside = Piece::of_quote(alloc, piece.quoted(at))?;
+    let reading = read(alloc, &inside, 0, symbol)?;
+    match reading.missing {
+        Some(symbol) => {
+            let message = missing(alloc, known, &inside, reading.at, symbol)?;
+            Ok(Some(message.in_quote_at(piece.start(at))))
+        }
+        None => Ok(None),
+    }
+}
+
+// Whether the quoted text at a place in the list is the second of a pair of types, and no type variable.
+fn is_wrongly_replaced(piece: &Piece<'_>, at: usize) -> bool {
+    piece.text(at.saturating_sub(1)) == "," && !is_type_variable(piece.quoted(at).trim_ascii())
+}
+
+// Where the first faulty quoted text among the first words, so many, stops being a term or a type.
+fn in_quotes(
+    alloc: Global,
+    known: &Known,
+    piece: &Piece<'_>,
+    count: usize,
+) -> Result<Option<Message>, NoMemory> {
+    let is_type = piece.text(3) == "INST_TYPE";
+    let symbol = if is_type {
+        "quoted_type"
+    } else {
+        "quoted_term"
+    };
+    for at in 0..count {
+        if piece.kind(at) != Kind::Quote {
+            continue;
+        }
+        if let Some(message) = in_quote(alloc, known, piece, at, symbol)? {
+            return Ok(Some(message));
+        }
+        if is_type && is_wrongly_replaced(piece, at) {
+            return Ok(Some(missing(alloc, known, piece, at, "type_variable")?));
+        }
+    }
+    Ok(None)
+}
+
+/// Where a text that is refused as no command stops being one, what could stand there, and what does.
+pub fn no_command(alloc: Global, known: &Known, piece: &Piece<'_>) -> Result<Message, NoMemory> {
+    let reading = read(alloc, piece, 0, "command")?;
+    let count = reading.at.min(piece.words.len());
+    if let Some(message) = in_quotes(alloc, known, piece, count)? {
+        return Ok(message);
+    }
+    match reading.missing {
+        Some(symbol) => missing(alloc, known, piece, reading.at, symbol),
+        None => Message::new(alloc, piece.start(0), OTHERWISE),
+    }
+}
