@@ -379,12 +379,12 @@ const LIMITS: [Row<'static>; 7] = [
     },
     Row {
         script: "thm a = CONV (REWR_CONV TRUTH) `(p:bool)` ;;",
-        messages: "s:1:15: E34 NoMatch: the left side of no equation of the theorem matches the term: `REWR_CONV TRUTH` is applied to `(p:bool)`, and \
+        messages: "s:1:15: E34 NoMatch: the left side of no equation of the theorem matches the term at first order: `REWR_CONV TRUTH` is applied to `(p:bool)`, and \
 `TRUTH` is `|- T`\n",
     },
     Row {
         script: "goal `~T` ;;\ne CONV_TAC (REWR_CONV TRUTH) ;;",
-        messages: "s:2:13: E34 NoMatch: the left side of no equation of the theorem matches the term: `REWR_CONV TRUTH` is applied to `~T`, and `TRUTH` \
+        messages: "s:2:13: E34 NoMatch: the left side of no equation of the theorem matches the term at first order: `REWR_CONV TRUTH` is applied to `~T`, and `TRUTH` \
 is `|- T`; the first goal there is `?- ~T`\n",
     },
     Row {
@@ -405,7 +405,7 @@ fn tells_the_height(alloc: Global) -> Result<bool, Fault> {
     }
     script.extend_from_slice(b"T` ;;")?;
     let said =
-        b"s:1:9: E2 TooLarge: a term, a type or a justification would pass the limits on its size\n";
+        b"s:1:9: E2 TooLarge: a term, a type or a justification would pass the limits on its size (a rewriting that makes terms grow has no end)\n";
     says(alloc, &script, said)
 }
 

@@ -4,7 +4,7 @@ use hol_model::Fault;
 
 const SENTENCES: &str = "\
 Memory there was no memory for the command
-TooLarge a term, a type or a justification would pass the limits on its size
+TooLarge a term, a type or a justification would pass the limits on its size (a rewriting that makes terms grow has no end)
 BadName the name is not of the kind that is wanted here
 TypeMismatch the types of two parts do not fit
 UnknownConst a constant is not known
@@ -31,7 +31,7 @@ InvalidStep what a host's function answered does not prove what it claims
 NotTautology the formula is false for some values of its atoms
 TooManyAtoms the formula has more atoms than tautologies may have
 NameTaken the name is taken already
-NoMatch the left side of no equation of the theorem matches the term
+NoMatch the left side of no equation of the theorem matches the term at first order
 UnknownType a type is not known";
 
 /// What a refusal means.
