@@ -4,8 +4,8 @@ ghost use Rattle.hol_script.specs.Managers.{IsManager};
 
 use crate::search::{Trial, refused_part};
 use hol_hints::{
-    Arguments, Case, Kind, Known, Message, NoMemory, Piece, Premise, given, no_command, of_case,
-    of_part, plain,
+    Arguments, Case, Kind, Known, Message, NoMemory, Piece, Premise, Span, given,
+    is_before_theorem, no_command, of_case, of_part, plain,
 };
 use hol_host::Refiners;
 use hol_model::Fault;
@@ -29,38 +29,77 @@ fn premise(
     }
 }
 
-// Puts the theorems at the end that words name from a place in the list on.
+// Whether the name at a place in the list is looked up: any in a `thm`, and else those of theorems.
+fn is_looked_up(piece: &Piece<'_>, at: usize) -> bool {
+    piece.kind(at) == Kind::Name
+        && (piece.text(0) == "thm" || is_before_theorem(piece.text(at.saturating_sub(1))))
+}
+
+// Puts the theorems at the end that a part of a command names.
 fn push_premises(
     alloc: Global,
     known: &Known,
     manager: &Manager,
     piece: &Piece<'_>,
-    from: usize,
+    span: Span,
     premises: &mut Vec<Option<Premise>>,
 ) -> Result<(), NoMemory>
     requires { IsManager manager.now }
 {
-    for at in from..piece.words.len() {
-        if piece.kind(at) == Kind::Name {
+    for at in span.from..span.to {
+        if is_looked_up(piece, at) {
             premises.push(premise(alloc, known, manager, piece, at)?)?;
         }
     }
     Ok(())
 }
 
-// The arguments of a command, those of a `thm` behind its rule.
-fn arguments_of(
+// The arguments in a part of a command.
+fn arguments_in(
     alloc: Global,
     known: &Known,
     manager: &Manager,
     piece: &Piece<'_>,
+    span: Span,
 ) -> Result<Arguments, NoMemory>
     requires { IsManager manager.now }
 {
-    let from = if piece.text(0) == "thm" { 4 } else { 1 };
-    let mut arguments = Arguments::new(alloc, known, piece, from)?;
-    push_premises(alloc, known, manager, piece, from, &mut arguments.theorems)?;
+    let mut arguments = Arguments::new(alloc, known, piece, span)?;
+    push_premises(alloc, known, manager, piece, span, &mut arguments.theorems)?;
     Ok(arguments)
+}
+
+// The arguments of a command: those of a `thm` stand behind its rule, and those of an `e` are read with the part that is refused.
+fn span_of(piece: &Piece<'_>) -> Span {
+    let to = piece.words.len();
+    match piece.text(0) {
+        "thm" => Span { from: 4, to },
+        "e" => Span { from: to, to },
+        _ => Span { from: 1, to },
+    }
+}
+
+// What is said of the part of an `e` that is refused.
+fn of_expression<H: Refiners>(
+    trial: &Trial<'_, H>,
+    manager: &mut Manager,
+    case: &Case<'_>,
+) -> Result<Message, NoMemory>
+    requires { IsManager manager.old }
+    ensures { OnOk result (IsManager manager.new) }
+{
+    let part = refused_part(trial, case.known, manager)?;
+    let arguments = arguments_in(trial.alloc, case.known, manager, trial.piece, part.span)?;
+    let inner = Case {
+        alloc: case.alloc,
+        known: case.known,
+        host_names: case.host_names,
+        piece: case.piece,
+        arguments: &arguments,
+        fault: case.fault,
+        row: case.row,
+    };
+    of_part(&inner, &part)
 }
 
 // What is said of a case, an `e` by its part that is refused.
@@ -76,8 +115,7 @@ fn of_refusal<H: Refiners>(
         return Ok(message);
     }
     if trial.piece.text(0) == "e" {
-        let part = refused_part(trial, case.known, manager)?;
-        return of_part(case, &part);
+        return of_expression(trial, manager, case);
     }
     plain(case)
 }
@@ -98,7 +136,7 @@ pub(crate) fn message_of<H: Refiners>(
     if refused.fault == Fault::Syntax {
         return no_command(alloc, known, piece);
     }
-    let arguments = arguments_of(alloc, known, manager, piece)?;
+    let arguments = arguments_in(alloc, known, manager, piece, span_of(piece))?;
     let case = Case {
         alloc,
         known,

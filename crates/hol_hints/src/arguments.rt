@@ -1,4 +1,5 @@
 // The terms that a command quotes, and the stored theorems that it names.
+use crate::span::Span;
 use hol_script_words::{Kind, Known, NoMemory, Piece, between, given, text_of};
 use hol_syntax::{read_sequent, read_term};
 use hol_terms::Term;
@@ -60,7 +61,7 @@ impl Premise {
     }
 }
 
-/// The arguments of a command in the order of its words: of those that quote no term or name no theorem, nothing.
+/// Arguments of a command in the order of its words: of those that quote no term or name no theorem, nothing.
 #[derive(Drop)]
 pub struct Arguments {
     pub(crate) terms: Vec<Option<Quotation>>,
@@ -81,15 +82,15 @@ fn quoted_at(
 }
 
 impl Arguments {
-    /// The terms that words quote from a place in the list on, and no theorem yet.
+    /// The terms that a part of a command quotes, and no theorem yet.
     pub fn new(
         alloc: Global,
         known: &Known,
         piece: &Piece<'_>,
-        from: usize,
+        span: Span,
     ) -> Result<Arguments, NoMemory> {
         let mut terms = Vec::new(alloc);
-        for at in from..piece.words.len() {
+        for at in span.from..span.to {
             if piece.kind(at) == Kind::Quote {
                 terms.push(quoted_at(alloc, known, piece, at)?)?;
             }

@@ -19,7 +19,7 @@ const ALTERNATIVES: (&str, &str) = ("ORELSE", "ORELSE");
 /// Where the part is a list behind `THENL`, how many subgoals it is for.
 #[derive(Drop)]
 pub struct Part {
-    span: Span,
+    pub span: Span,
     subgoals: usize,
     goals: String,
     conclusion: Option<Term>,

@@ -21,6 +21,8 @@ mod unlike;
 pub use arguments::{Arguments, Premise};
 pub use case::Case;
 pub use goals::{Part, of_part};
-pub use hol_script_words::{Kind, Known, Message, NoMemory, Piece, between, given, no_command};
+pub use hol_script_words::{
+    Kind, Known, Message, NoMemory, Piece, between, given, is_before_theorem, no_command,
+};
 pub use refused::{of_case, plain};
 pub use span::{Span, next_outside};

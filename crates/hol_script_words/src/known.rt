@@ -171,7 +171,7 @@ fn reach(name: &str) -> usize {
     match name.len() {
         0..3 => 0,
         3..10 => 1,
-        length => if length > NAME_LENGTH { 0 } else { length / 5 },
+        length => length / 5,
     }
 }
 
@@ -182,6 +182,9 @@ pub fn nearest<'a>(
     second: &'a [String],
     name: &str,
 ) -> Result<Option<&'a str>, NoMemory> {
+    if name.len() > NAME_LENGTH {
+        return Ok(None);
+    }
     let mut found = None;
     let mut least = reach(name).saturating_add(1);
     for known in first.iter().chain(second) {
