@@ -2,15 +2,13 @@
 //! its output; then checks the log of the first, and prints its claims.
 #![tactic(auto)]
 
-mod kept;
-
 use hol_check::{check, write_claims};
 use hol_devices::{FromCall, FromRead, IntoCall, IntoWrite};
 use hol_files::run_file;
 use hol_host::NoHost;
 use hol_model::Fault;
+use hol_sample_devices::Kept;
 use hol_script::run;
-use kept::Kept;
 use std::fs::{self, File};
 use std::io::{Read, Write};
 use std::process::ExitCode;

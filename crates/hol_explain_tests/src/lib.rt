@@ -7,5 +7,3 @@ mod message_tests;
 mod refiner_tests;
 #[cfg(test)]
 mod rows;
-#[cfg(test)]
-mod sinks;

@@ -1,9 +1,9 @@
 // Scripts as data, and what is said of their refusals.
-use crate::sinks::Compared;
 use hol_explain::{Refused, Script, explain, explain_refusal};
 use hol_host::{Host, NoHost};
 use hol_just::Goal;
 use hol_model::Fault;
+use hol_sample_devices::Compared;
 use hol_sample_host::liar;
 use std::alloc::Global;
 

@@ -1,11 +1,10 @@
 // Runs over devices that fail or do not end.
 ghost use Rattle.std.specs.Prelude.{◌≡◌, false};
 
-use crate::sinks::{Kept, Narrow};
-use crate::sources::{Endless, FailsSecond};
 use hol_devices::FromRead;
 use hol_host::NoHost;
 use hol_model::{Fault, Source};
+use hol_sample_devices::{Endless, FailsSecond, Kept, Narrow};
 use hol_script::run;
 use std::alloc::Global;
 

@@ -1,10 +1,10 @@
 // Logs of scripts, with the expected bytes by hand, and their entries and claims as the checker prints them.
 use crate::runs::{claims, log_of};
-use crate::sinks::Kept;
 use hol_check::{check, check_log, write_claims, write_entries};
 use hol_devices::{FromRead, IntoWrite};
 use hol_host::NoHost;
 use hol_model::Fault;
+use hol_sample_devices::Kept;
 use hol_script::run;
 use std::alloc::Global;
 use std::test::Fail;

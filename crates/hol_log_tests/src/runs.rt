@@ -1,10 +1,10 @@
 // Runs of scripts, their logs, and the claims of these.
-use crate::sinks::Kept;
 use hol_check::{check, write_claims};
 use hol_devices::{FromRead, IntoWrite};
 use hol_host::Host;
 use hol_just::Goal;
 use hol_model::Fault;
+use hol_sample_devices::Kept;
 use hol_sample_host::{liar, liar2, peel, swap};
 use hol_script::run;
 use hol_terms::Term;

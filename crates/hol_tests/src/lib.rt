@@ -22,5 +22,3 @@ mod replacement_tests;
 mod rows;
 #[cfg(test)]
 mod script_tests;
-#[cfg(test)]
-mod sinks;

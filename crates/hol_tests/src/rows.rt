@@ -3,11 +3,11 @@ use crate::host_functions::{
     circular, deep, foreign, guess, mute, nameless, presuming, renamed, shapeless, shared,
     stranger, twin, twisted, vast, without_lemma, wrong,
 };
-use crate::sinks::Compared;
 use hol_devices::{FromRead, IntoWrite};
 use hol_host::{Host, NoHost};
 use hol_just::Goal;
 use hol_model::Fault;
+use hol_sample_devices::Compared;
 use hol_sample_host::{liar, liar2, peel, swap};
 use hol_script::{Summary, run};
 use hol_terms::Term;

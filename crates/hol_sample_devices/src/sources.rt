@@ -6,7 +6,7 @@ use std::io::Read;
 
 /// A source of line feeds without an end.
 #[derive(Drop)]
-pub(crate) struct Endless;
+pub struct Endless;
 
 impl Source for Endless {
     ghost has_failed = { λ _. false };
@@ -23,7 +23,7 @@ impl Source for Endless {
 
 /// A source that gives these bytes, or what there is room for, and fails in the second call.
 #[derive(Drop)]
-pub(crate) struct FailsSecond<'a> {
+pub struct FailsSecond<'a> {
     first: &'a [u8],
     called: bool,
     failed: bool,
@@ -31,7 +31,7 @@ pub(crate) struct FailsSecond<'a> {
 
 impl<'a> FailsSecond<'a> {
     /// A source that has not been called.
-    pub(crate) fn new(first: &'a [u8]) -> FailsSecond<'a>
+    pub fn new(first: &'a [u8]) -> FailsSecond<'a>
         ensures { result.failed ≡ false }
     {
         FailsSecond {

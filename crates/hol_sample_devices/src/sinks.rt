@@ -1,4 +1,4 @@
-// Sinks that keep what they take.
+// Sinks: some keep what they take, one compares it.
 ghost use Rattle.std.specs.Prelude.{◌≡◌, false};
 
 use hol_model::{DeviceFail, Sink};
@@ -6,14 +6,14 @@ use std::alloc::Global;
 
 /// A sink that keeps what it takes.
 #[derive(Drop)]
-pub(crate) struct Kept {
-    pub(crate) bytes: Vec<u8>,
+pub struct Kept {
+    pub bytes: Vec<u8>,
     failed: bool,
 }
 
 impl Kept {
     /// A sink that has taken nothing.
-    pub(crate) fn new(alloc: Global) -> Kept
+    pub fn new(alloc: Global) -> Kept
         ensures { result.failed ≡ false }
     {
         Kept {
@@ -43,15 +43,15 @@ impl Sink for Kept {
 
 /// A sink that keeps what it takes, and fails once so many bytes are taken.
 #[derive(Drop)]
-pub(crate) struct Narrow {
-    pub(crate) bytes: Vec<u8>,
+pub struct Narrow {
+    pub bytes: Vec<u8>,
     room: usize,
     failed: bool,
 }
 
 impl Narrow {
     /// A sink that has taken nothing, with room for so many bytes.
-    pub(crate) fn new(alloc: Global, room: usize) -> Narrow
+    pub fn new(alloc: Global, room: usize) -> Narrow
         ensures { result.failed ≡ false }
     {
         Narrow {
@@ -85,5 +85,43 @@ impl Sink for Narrow {
 
     fn failed(&self) -> bool {
         self.failed
+    }
+}
+
+/// A sink that compares what it takes with what is expected.
+#[derive(Drop)]
+pub struct Compared<'a> {
+    rest: &'a [u8],
+    differs: bool,
+}
+
+impl<'a> Compared<'a> {
+    /// A sink that expects these bytes.
+    pub fn new(expected: &'a [u8]) -> Compared<'a> {
+        Compared {
+            rest: expected,
+            differs: false,
+        }
+    }
+
+    /// Whether it took what is expected, and no less.
+    pub fn is_whole(&self) -> bool {
+        !self.differs && self.rest.is_empty()
+    }
+}
+
+impl Sink for Compared<'_> {
+    ghost has_failed = { λ _. false };
+
+    fn emit(&mut self, piece: &[u8]) -> Result<usize, DeviceFail> {
+        match self.rest.strip_prefix(piece) {
+            Some(rest) => self.rest = rest,
+            None => self.differs = true,
+        }
+        Ok(piece.len())
+    }
+
+    fn failed(&self) -> bool {
+        false
     }
 }

@@ -1,9 +1,8 @@
 // Whole logs with the answers that they must have.
-use crate::sinks::Kept;
-use crate::sources::{Endless, FailsSecond};
 use hol_check::{TermParts, TermView, check, migrate, write_claims};
 use hol_devices::FromRead;
 use hol_model::{Cause, Fault};
+use hol_sample_devices::{Endless, FailsSecond, Kept};
 use itoa::Buffer;
 use std::alloc::Global;
 use std::test::Fail;

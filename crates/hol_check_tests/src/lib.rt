@@ -1,0 +1,6 @@
+//! Tests of the checker on whole logs: what no contract says. They stand here, beside none of the functions, since a crate
+//! with tests of its own is proved twice.
+#![tactic(auto)]
+
+#[cfg(test)]
+mod log_tests;
