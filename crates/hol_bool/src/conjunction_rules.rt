@@ -94,7 +94,8 @@ pub(crate) fn joined(
     requires second { IsMade recorder.old second.now }
     ensures continues { Continues recorder.old recorder.new result }
     ensures names { IfOk result (λ made. made.theorem.conclusion ≡ conjunction first.now.theorem.conclusion second.now.theorem.conclusion) }
-    ensures derives { (h k : List Nameless) (p q : Nameless) (room : Room) → Shows first.now.theorem h p → Shows second.now.theorem k q → FitsIf room (nameless_equation bool_type q (nameless.conjunction p q)) → DerivesIf room result (h ++ k) (nameless.conjunction p q) }
+    ensures derives { (h k : List Nameless) (p q : Nameless) (room : Room) → Shows first.now.theorem h p → Shows second.now.theorem k q
+        → FitsIf room (nameless_equation bool_type q (nameless.conjunction p q)) → DerivesIf room result (h ++ k) (nameless.conjunction p q) }
 {
     let p = conclusion_of(recorder, first);
     let q = conclusion_of(recorder, second);

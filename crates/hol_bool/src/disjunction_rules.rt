@@ -96,7 +96,8 @@ pub fn disj2(
 
 // `(q ==> r) ==> r`, of formulas.
 fn other_case(alloc: Global, q: &Term, r: &Term) -> Result<Term, Fault>
-    ensures { (room : Room) → type_of q.now ≡ Some bool_type → type_of r.now ≡ Some bool_type → FitsIf room (image (other_case q.now r.now)) → MakesIf room result (other_case q.now r.now) }
+    ensures { (room : Room) → type_of q.now ≡ Some bool_type → type_of r.now ≡ Some bool_type → FitsIf room (image (other_case q.now r.now))
+        → MakesIf room result (other_case q.now r.now) }
 {
     let case = match connect(alloc, "==>", q, r) {
         Ok(case) => case,
@@ -122,7 +123,11 @@ fn eliminated(
     requires rest { rest.now ≡ other_case sides.right.now r.now }
     requires theorem { IsMade recorder.old theorem.now }
     ensures continues { Continues recorder.old recorder.new result }
-    ensures derives { (h : List Nameless) (room : Room) → Shows theorem.now.theorem h (image (disjunction sides.entry.left.now sides.entry.right.now)) → FitsIf room (image (disjunction sides.entry.left.now sides.entry.right.now)) → FitsIf room (image (both_cases sides.entry.left.now sides.entry.right.now r.now)) → DerivesIf room result h (image (both_cases sides.entry.left.now sides.entry.right.now r.now)) }
+    ensures derives { (h : List Nameless) (room : Room) → Shows theorem.now.theorem h
+        (image (disjunction sides.entry.left.now sides.entry.right.now))
+        → FitsIf room (image (disjunction sides.entry.left.now sides.entry.right.now))
+        → FitsIf room (image (both_cases sides.entry.left.now sides.entry.right.now r.now))
+        → DerivesIf room result h (image (both_cases sides.entry.left.now sides.entry.right.now r.now)) }
 {
     recorder.theory_is_legal();
     let case = match connect(alloc, "==>", sides.left, r) {
@@ -158,7 +163,11 @@ fn with_case(
     requires case { IsMade recorder.old case.now }
     ensures continues { Continues recorder.old recorder.new result }
     ensures names { IfOk result (λ made. made.theorem.conclusion ≡ consequent.now) }
-    ensures derives { (h k : List Nameless) (r : Nameless) (room : Room) → Shows whole.now.theorem h (nameless.implication (nameless.implication (image p.now) r) (image consequent.now)) → Shows case.now.theorem k r → FitsIf room (nameless_equation bool_type (nameless.conjunction (image p.now) r) (nameless.conjunction (image p.now) r)) → FitsIf room (nameless_equation bool_type (nameless.implication (nameless.implication (image p.now) r) (image consequent.now)) (image consequent.now)) → DerivesIf room result (without (image p.now) k ++ h) (image consequent.now) }
+    ensures derives { (h k : List Nameless) (r : Nameless) (room : Room)
+        → Shows whole.now.theorem h (nameless.implication (nameless.implication (image p.now) r) (image consequent.now)) → Shows case.now.theorem k r
+        → FitsIf room (nameless_equation bool_type (nameless.conjunction (image p.now) r) (nameless.conjunction (image p.now) r))
+        → FitsIf room (nameless_equation bool_type (nameless.implication (nameless.implication (image p.now) r) (image consequent.now))
+        (image consequent.now)) → DerivesIf room result (without (image p.now) k ++ h) (image consequent.now) }
 {
     let implication = match discharged(recorder, alloc, logic, p, case) {
         Ok(implication) => implication,
@@ -186,7 +195,10 @@ fn by_cases(
     requires second { IsMade recorder.old second.now }
     ensures continues { Continues recorder.old recorder.new result }
     ensures names { IfOk result (λ made. made.theorem.conclusion ≡ first.now.theorem.conclusion) }
-    ensures derives { (h i j : List Nameless) (r : Nameless) (room : Room) → Shows theorem.now.theorem h (image (disjunction sides.entry.left.now sides.entry.right.now)) → Shows first.now.theorem i r → Shows second.now.theorem j r → LeavesRoomIf room (image sides.entry.left.now) → LeavesRoomIf room (image sides.entry.right.now) → LeavesRoomIf room r → DerivesIf room result (without (image sides.entry.right.now) j ++ (without (image sides.entry.left.now) i ++ h)) r }
+    ensures derives { (h i j : List Nameless) (r : Nameless) (room : Room)
+        → Shows theorem.now.theorem h (image (disjunction sides.entry.left.now sides.entry.right.now)) → Shows first.now.theorem i r
+        → Shows second.now.theorem j r → LeavesRoomIf room (image sides.entry.left.now) → LeavesRoomIf room (image sides.entry.right.now)
+        → LeavesRoomIf room r → DerivesIf room result (without (image sides.entry.right.now) j ++ (without (image sides.entry.left.now) i ++ h)) r }
 {
     let r = conclusion_of(recorder, first);
     let rest = match other_case(alloc, sides.right, r) {
@@ -221,7 +233,9 @@ pub fn disj_cases(
     requires first { IsMade recorder.old first.now }
     requires second { IsMade recorder.old second.now }
     ensures continues { Continues recorder.old recorder.new result }
-    ensures outcome { AnswersStated (theorem_in result) (terms_of_theorem theorem.now.theorem ++ (terms_of_theorem first.now.theorem ++ terms_of_theorem second.now.theorem)) (disj_cases_outcome theorem.now.theorem first.now.theorem second.now.theorem) }
+    ensures outcome { AnswersStated (theorem_in result) (terms_of_theorem theorem.now.theorem
+        ++ (terms_of_theorem first.now.theorem ++ terms_of_theorem second.now.theorem))
+        (disj_cases_outcome theorem.now.theorem first.now.theorem second.now.theorem) }
     ensures inferred { Infers recorder.old.theory rule_disj_cases (theorem.now.theorem ∷ first.now.theorem ∷ second.now.theorem ∷ []) (theorem_in result) }
 {
     let Some(sides) = sides_of(recorder, logic, theorem, "\\/") else {

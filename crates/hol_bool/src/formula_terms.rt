@@ -88,7 +88,8 @@ pub(crate) fn falsity(alloc: Global) -> Result<Term, Fault>
 
 /// The equation of two formulas.
 pub(crate) fn equivalence(alloc: Global, left: &Term, right: &Term) -> Result<Term, Fault>
-    ensures { (room : Room) → type_of left.now ≡ Some bool_type → type_of right.now ≡ Some bool_type → FitsIf room (image (equation left.now right.now)) → MakesIf room result (equation left.now right.now) }
+    ensures { (room : Room) → type_of left.now ≡ Some bool_type → type_of right.now ≡ Some bool_type
+        → FitsIf room (image (equation left.now right.now)) → MakesIf room result (equation left.now right.now) }
 {
     mk_eq(alloc, left, right)
 }
@@ -96,7 +97,8 @@ pub(crate) fn equivalence(alloc: Global, left: &Term, right: &Term) -> Result<Te
 /// The formula of two formulas and the binary connective of this name.
 pub(crate) fn connect(alloc: Global, name: &str, left: &Term, right: &Term) -> Result<Term, Fault>
     requires { is_constant_name name.now ≡ true }
-    ensures { (room : Room) → type_of left.now ≡ Some bool_type → type_of right.now ≡ Some bool_type → FitsIf room (image (connected name.now left.now right.now)) → MakesIf room result (connected name.now left.now right.now) }
+    ensures { (room : Room) → type_of left.now ≡ Some bool_type → type_of right.now ≡ Some bool_type
+        → FitsIf room (image (connected name.now left.now right.now)) → MakesIf room result (connected name.now left.now right.now) }
 {
     let connective = match connective_of(alloc, name, left, right) {
         Ok(connective) => connective,

@@ -43,7 +43,9 @@ pub fn implied(
     requires second { IsMade recorder.old second.now }
     ensures continues { Continues recorder.old recorder.new result }
     ensures names { IfOk result (λ made. made.theorem.conclusion ≡ consequent.now) }
-    ensures derives { (h k : List Nameless) (p : Nameless) (room : Room) → Shows first.now.theorem h (nameless.implication p (image consequent.now)) → Shows second.now.theorem k p → FitsIf room (nameless_equation bool_type (nameless.implication p (image consequent.now)) (image consequent.now)) → DerivesIf room result (k ++ h) (image consequent.now) }
+    ensures derives { (h k : List Nameless) (p : Nameless) (room : Room) → Shows first.now.theorem h (nameless.implication p (image consequent.now))
+        → Shows second.now.theorem k p → FitsIf room (nameless_equation bool_type (nameless.implication p (image consequent.now))
+        (image consequent.now)) → DerivesIf room result (k ++ h) (image consequent.now) }
 {
     let whole = conclusion_of(recorder, first);
     let antecedent = conclusion_of(recorder, second);
@@ -129,7 +131,9 @@ fn absorbed(
     requires formula { IsFormula recorder.old.theory p.now }
     requires premise { IsMade recorder.old premise.now }
     ensures continues { Continues recorder.old recorder.new result }
-    ensures derives { (h : List Nameless) (q : Nameless) (room : Room) → Shows premise.now.theorem h q → FitsIf room (nameless_equation bool_type (nameless.conjunction (image p.now) q) (nameless.conjunction (image p.now) q)) → DerivesIf room result (without (image p.now) h) (nameless_equation bool_type (nameless.conjunction (image p.now) q) (image p.now)) }
+    ensures derives { (h : List Nameless) (q : Nameless) (room : Room) → Shows premise.now.theorem h q
+        → FitsIf room (nameless_equation bool_type (nameless.conjunction (image p.now) q) (nameless.conjunction (image p.now) q))
+        → DerivesIf room result (without (image p.now) h) (nameless_equation bool_type (nameless.conjunction (image p.now) q) (image p.now)) }
 {
     let assumed = match steps::assume_known(recorder, alloc, p) {
         Ok(assumed) => assumed,
@@ -163,7 +167,9 @@ pub fn discharged(
     requires premise { IsMade recorder.old premise.now }
     ensures continues { Continues recorder.old recorder.new result }
     ensures names { IfOk result (λ made. made.theorem.conclusion ≡ implication p.now premise.now.theorem.conclusion) }
-    ensures derives { (h : List Nameless) (q : Nameless) (room : Room) → Shows premise.now.theorem h q → FitsIf room (nameless_equation bool_type (nameless.conjunction (image p.now) q) (nameless.conjunction (image p.now) q)) → DerivesIf room result (without (image p.now) h) (nameless.implication (image p.now) q) }
+    ensures derives { (h : List Nameless) (q : Nameless) (room : Room) → Shows premise.now.theorem h q
+        → FitsIf room (nameless_equation bool_type (nameless.conjunction (image p.now) q) (nameless.conjunction (image p.now) q))
+        → DerivesIf room result (without (image p.now) h) (nameless.implication (image p.now) q) }
 {
     let q = conclusion_of(recorder, premise);
     let stated = match connect(alloc, "==>", p, q) {
@@ -206,7 +212,8 @@ pub fn disch(
 }
 
 /// UNDISCH: from `p ==> q`, `q` with the hypothesis `p`, in eight steps. Refused where the conclusion is no implication.
-#[tactic(auto, using(crate::proofs::InferredRules::infers_undisch, hol_equal::proofs::StepLemmas::still_made, hol_equal::proofs::StepLemmas::now_made, crate::proofs::PreludeSteps::still_logical, crate::proofs::PreludeSteps::still_formula))]
+#[tactic(auto, using(crate::proofs::InferredRules::infers_undisch, hol_equal::proofs::StepLemmas::still_made,
+    hol_equal::proofs::StepLemmas::now_made, crate::proofs::PreludeSteps::still_logical, crate::proofs::PreludeSteps::still_formula))]
 pub fn undisch(
     recorder: &mut Recorder,
     alloc: Global,

@@ -40,7 +40,8 @@ pub(crate) fn by_theorem(
     requires stated { IsFormula recorder.old.theory stated.now }
     ensures continues { Continues recorder.old recorder.new result }
     ensures names { IfOk result (λ made. made.theorem.conclusion ≡ stated.now) }
-    ensures derives { (h : List Nameless) (p : Nameless) (room : Room) → LeadsTo recorder.old.theory number terms.now room p (image stated.now) → Shows premise.now.theorem h p → DerivesIf room result h (image stated.now) }
+    ensures derives { (h : List Nameless) (p : Nameless) (room : Room) → LeadsTo recorder.old.theory number terms.now room p (image stated.now)
+        → Shows premise.now.theorem h p → DerivesIf room result h (image stated.now) }
 {
     let lemma = theorem_of(recorder, logic, number);
     let answer = match by_lemma_known(recorder, alloc, &[], terms, lemma, premise) {

@@ -285,7 +285,8 @@ pub fn equation_of_applications(
     requires left_argument { left.1 < length terms.old.terms }
     requires right_function { right.0 < length terms.old.terms }
     requires right_argument { right.1 < length terms.old.terms }
-    ensures formed { IsFormed (sequents.equation_of (app (term_at terms.old.terms left.0) (term_at terms.old.terms left.1)) (app (term_at terms.old.terms right.0) (term_at terms.old.terms right.1))) result terms.new.terms }
+    ensures formed { IsFormed (sequents.equation_of (app (term_at terms.old.terms left.0) (term_at terms.old.terms left.1))
+        (app (term_at terms.old.terms right.0) (term_at terms.old.terms right.1))) result terms.new.terms }
     ensures grows { IsGrown terms.old terms.new }
 {
     let left = match application(terms, left.0, left.1) {
@@ -309,7 +310,8 @@ pub fn equation_of_abstractions(
     requires variable { IsVariable terms.old.terms variable }
     requires left { left < length terms.old.terms }
     requires right { right < length terms.old.terms }
-    ensures formed { let over = sequents.abstraction_over (term_at terms.old.terms variable) in IsFormed (sequents.equation_of (over (term_at terms.old.terms left)) (over (term_at terms.old.terms right))) result terms.new.terms }
+    ensures formed { let over = sequents.abstraction_over (term_at terms.old.terms variable) in
+        IsFormed (sequents.equation_of (over (term_at terms.old.terms left)) (over (term_at terms.old.terms right))) result terms.new.terms }
     ensures grows { IsGrown terms.old terms.new }
 {
     let left = match abstraction_over(alloc, terms, variable, left) {

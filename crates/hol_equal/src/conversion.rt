@@ -22,7 +22,10 @@ pub fn converted(
     argument: &Term,
 ) -> Result<Rec, Fault>
     ensures continues { Continues recorder.old recorder.new result }
-    ensures derives { (name : List ℕ) (ty codomain : HolType) (body : NamedTerm) → function.now ≡ abstraction name ty body → binder.now ≡ variable name ty → type_of body ≡ Some codomain → type_of argument.now ≡ Some ty → first_unknown recorder.old.theory (combination (abstraction name ty body) argument.now) ≡ None → DerivesIf (conversion_fits name ty codomain body argument.now) result [] (conversion name ty codomain body argument.now) }
+    ensures derives { (name : List ℕ) (ty codomain : HolType) (body : NamedTerm) → function.now ≡ abstraction name ty body
+        → binder.now ≡ variable name ty → type_of body ≡ Some codomain → type_of argument.now ≡ Some ty
+        → first_unknown recorder.old.theory (combination (abstraction name ty body) argument.now) ≡ None
+        → DerivesIf (conversion_fits name ty codomain body argument.now) result [] (conversion name ty codomain body argument.now) }
 {
     let trivial = match Term::mk_comb(alloc, function, binder) {
         Ok(trivial) => trivial,
@@ -53,7 +56,10 @@ pub fn converted_known(
 ) -> Result<Rec, Fault>
     requires { IsKnownRedex recorder.old.theory function.now binder.now argument.now }
     ensures continues { Continues recorder.old recorder.new result }
-    ensures derives { (name : List ℕ) (ty codomain : HolType) (body : NamedTerm) → function.now ≡ abstraction name ty body → binder.now ≡ variable name ty → type_of body ≡ Some codomain → type_of argument.now ≡ Some ty → first_unknown recorder.old.theory (combination (abstraction name ty body) argument.now) ≡ None → DerivesIf (conversion_fits name ty codomain body argument.now) result [] (conversion name ty codomain body argument.now) }
+    ensures derives { (name : List ℕ) (ty codomain : HolType) (body : NamedTerm) → function.now ≡ abstraction name ty body
+        → binder.now ≡ variable name ty → type_of body ≡ Some codomain → type_of argument.now ≡ Some ty
+        → first_unknown recorder.old.theory (combination (abstraction name ty body) argument.now) ≡ None
+        → DerivesIf (conversion_fits name ty codomain body argument.now) result [] (conversion name ty codomain body argument.now) }
 {
     let trivial = match Term::mk_comb(alloc, function, binder) {
         Ok(trivial) => trivial,

@@ -129,7 +129,8 @@ pub fn named(
     requires { IsMade recorder.old premise.now }
     ensures continues { Continues recorder.old recorder.new result }
     ensures names { IfOk result (λ made. made.theorem.conclusion ≡ term.now) }
-    ensures derives { (h : List Nameless) → Shows premise.now.theorem h (image term.now) → DerivesIf (nameless_within_limits (nameless_equation bool_type (image term.now) (image term.now))) result h (image term.now) }
+    ensures derives { (h : List Nameless) → Shows premise.now.theorem h (image term.now)
+        → DerivesIf (nameless_within_limits (nameless_equation bool_type (image term.now) (image term.now))) result h (image term.now) }
 {
     let _premise = recorder.thm(premise).concl();
     let _type = term.ty();
@@ -153,7 +154,8 @@ pub fn named_known(
     requires formula { IsFormula recorder.old.theory term.now }
     ensures continues { Continues recorder.old recorder.new result }
     ensures names { IfOk result (λ made. made.theorem.conclusion ≡ term.now) }
-    ensures derives { (h : List Nameless) → Shows premise.now.theorem h (image term.now) → DerivesIf (nameless_within_limits (nameless_equation bool_type (image term.now) (image term.now))) result h (image term.now) }
+    ensures derives { (h : List Nameless) → Shows premise.now.theorem h (image term.now)
+        → DerivesIf (nameless_within_limits (nameless_equation bool_type (image term.now) (image term.now))) result h (image term.now) }
 {
     let _premise = recorder.thm(premise).concl();
     let _type = term.ty();
@@ -171,7 +173,8 @@ pub fn cut(recorder: &mut Recorder, alloc: Global, first: &Rec, second: &Rec) ->
     requires second { IsMade recorder.old second.now }
     ensures continues { Continues recorder.old recorder.new result }
     ensures names { IfOk result (λ made. made.theorem.conclusion ≡ second.now.theorem.conclusion) }
-    ensures derives { (h k : List Nameless) (p q : Nameless) → Shows first.now.theorem h p → Shows second.now.theorem k q → DerivesIf (nameless_within_limits (nameless_equation bool_type p q)) result (h ++ without p k) q }
+    ensures derives { (h k : List Nameless) (p q : Nameless) → Shows first.now.theorem h p → Shows second.now.theorem k q
+        → DerivesIf (nameless_within_limits (nameless_equation bool_type p q)) result (h ++ without p k) q }
 {
     let _first = recorder.thm(first).concl();
     let _second = recorder.thm(second).concl();

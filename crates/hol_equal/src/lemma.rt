@@ -29,7 +29,10 @@ pub fn instance(
 ) -> Result<Rec, Fault>
     requires { IsMade recorder.old lemma.now }
     ensures continues { Continues recorder.old recorder.new result }
-    ensures derives { type_replacements_refusal recorder.old.theory types.now ≡ None → replacements_refusal recorder.old.theory terms.now ≡ None → (h : List Nameless) (c : Nameless) → Shows lemma.now.theorem h c → DerivesIf (list_all nameless_within_limits (map (instantiate_all types.now) (c ∷ h) ++ map (instance_of types.now terms.now) (c ∷ h))) result (map (instance_of types.now terms.now) h) (instance_of types.now terms.now c) }
+    ensures derives { type_replacements_refusal recorder.old.theory types.now ≡ None → replacements_refusal recorder.old.theory terms.now ≡ None
+        → (h : List Nameless) (c : Nameless) → Shows lemma.now.theorem h c
+        → DerivesIf (list_all nameless_within_limits (map (instantiate_all types.now) (c ∷ h)
+        ++ map (instance_of types.now terms.now) (c ∷ h))) result (map (instance_of types.now terms.now) h) (instance_of types.now terms.now c) }
 {
     let typed = match steps::inst_type(recorder, alloc, types, lemma) {
         Ok(typed) => typed,
@@ -50,7 +53,10 @@ pub fn instance_known(
     requires lemma { IsMade recorder.old lemma.now }
     requires known { replacements_refusal recorder.old.theory terms.now ≡ None }
     ensures continues { Continues recorder.old recorder.new result }
-    ensures derives { type_replacements_refusal recorder.old.theory types.now ≡ None → replacements_refusal recorder.old.theory terms.now ≡ None → (h : List Nameless) (c : Nameless) → Shows lemma.now.theorem h c → DerivesIf (list_all nameless_within_limits (map (instantiate_all types.now) (c ∷ h) ++ map (instance_of types.now terms.now) (c ∷ h))) result (map (instance_of types.now terms.now) h) (instance_of types.now terms.now c) }
+    ensures derives { type_replacements_refusal recorder.old.theory types.now ≡ None → replacements_refusal recorder.old.theory terms.now ≡ None
+        → (h : List Nameless) (c : Nameless) → Shows lemma.now.theorem h c
+        → DerivesIf (list_all nameless_within_limits (map (instantiate_all types.now) (c ∷ h)
+        ++ map (instance_of types.now terms.now) (c ∷ h))) result (map (instance_of types.now terms.now) h) (instance_of types.now terms.now c) }
 {
     let typed = match steps::inst_type(recorder, alloc, types, lemma) {
         Ok(typed) => typed,
@@ -74,7 +80,11 @@ pub fn by_lemma(
     requires lemma { IsMade recorder.old lemma.now }
     requires premise { IsMade recorder.old premise.now }
     ensures continues { Continues recorder.old recorder.new result }
-    ensures derives { type_replacements_refusal recorder.old.theory types.now ≡ None → replacements_refusal recorder.old.theory terms.now ≡ None → (h : List Nameless) (p c : Nameless) → Shows lemma.now.theorem (p ∷ []) c → Shows premise.now.theorem h (instance_of types.now terms.now p) → DerivesIf (list_all nameless_within_limits (instantiate_all types.now c ∷ instantiate_all types.now p ∷ instance_of types.now terms.now c ∷ instance_of types.now terms.now p ∷ nameless_equation bool_type (instance_of types.now terms.now p) (instance_of types.now terms.now c) ∷ [])) result h (instance_of types.now terms.now c) }
+    ensures derives { type_replacements_refusal recorder.old.theory types.now ≡ None → replacements_refusal recorder.old.theory terms.now ≡ None
+        → (h : List Nameless) (p c : Nameless) → Shows lemma.now.theorem (p ∷ []) c → Shows premise.now.theorem h (instance_of types.now terms.now p)
+        → DerivesIf (list_all nameless_within_limits (instantiate_all types.now c ∷ instantiate_all types.now p ∷ instance_of types.now terms.now c
+        ∷ instance_of types.now terms.now p ∷ nameless_equation bool_type (instance_of types.now terms.now p) (instance_of types.now terms.now c)
+        ∷ [])) result h (instance_of types.now terms.now c) }
 {
     let stated = match instance(recorder, alloc, types, terms, lemma) {
         Ok(stated) => stated,
@@ -97,7 +107,11 @@ pub fn by_lemma_known(
     requires premise { IsMade recorder.old premise.now }
     requires known { replacements_refusal recorder.old.theory terms.now ≡ None }
     ensures continues { Continues recorder.old recorder.new result }
-    ensures derives { type_replacements_refusal recorder.old.theory types.now ≡ None → replacements_refusal recorder.old.theory terms.now ≡ None → (h : List Nameless) (p c : Nameless) → Shows lemma.now.theorem (p ∷ []) c → Shows premise.now.theorem h (instance_of types.now terms.now p) → DerivesIf (list_all nameless_within_limits (instantiate_all types.now c ∷ instantiate_all types.now p ∷ instance_of types.now terms.now c ∷ instance_of types.now terms.now p ∷ nameless_equation bool_type (instance_of types.now terms.now p) (instance_of types.now terms.now c) ∷ [])) result h (instance_of types.now terms.now c) }
+    ensures derives { type_replacements_refusal recorder.old.theory types.now ≡ None → replacements_refusal recorder.old.theory terms.now ≡ None
+        → (h : List Nameless) (p c : Nameless) → Shows lemma.now.theorem (p ∷ []) c → Shows premise.now.theorem h (instance_of types.now terms.now p)
+        → DerivesIf (list_all nameless_within_limits (instantiate_all types.now c ∷ instantiate_all types.now p ∷ instance_of types.now terms.now c
+        ∷ instance_of types.now terms.now p ∷ nameless_equation bool_type (instance_of types.now terms.now p) (instance_of types.now terms.now c)
+        ∷ [])) result h (instance_of types.now terms.now c) }
 {
     let stated = match instance_known(recorder, alloc, types, terms, lemma) {
         Ok(stated) => stated,

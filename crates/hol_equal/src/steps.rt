@@ -75,7 +75,10 @@ pub fn assume_known(recorder: &mut Recorder, alloc: Global, term: &Term) -> Resu
 // BETA, which walks the redex.
 pub(crate) fn beta(recorder: &mut Recorder, alloc: Global, term: &Term) -> Result<Rec, Fault>
     ensures continues { Continues recorder.old recorder.new result }
-    ensures derives { (name : List ℕ) (domain codomain : HolType) (body : NamedTerm) → term.now ≡ combination (abstraction name domain body) (variable name domain) → type_of body ≡ Some codomain → IsKnown recorder.old.theory (image term.now) codomain → Derives result [] (nameless_equation codomain (app (lam domain (close name domain (image body))) (free name domain)) (image body)) }
+    ensures derives { (name : List ℕ) (domain codomain : HolType) (body : NamedTerm)
+        → term.now ≡ combination (abstraction name domain body) (variable name domain) → type_of body ≡ Some codomain
+        → IsKnown recorder.old.theory (image term.now) codomain → Derives result []
+        (nameless_equation codomain (app (lam domain (close name domain (image body))) (free name domain)) (image body)) }
 {
     recorder.beta(alloc, term)
 }
@@ -84,7 +87,10 @@ pub(crate) fn beta(recorder: &mut Recorder, alloc: Global, term: &Term) -> Resul
 pub(crate) fn beta_known(recorder: &mut Recorder, alloc: Global, term: &Term) -> Result<Rec, Fault>
     requires { is_known recorder.old.theory term.now ≡ true }
     ensures continues { Continues recorder.old recorder.new result }
-    ensures derives { (name : List ℕ) (domain codomain : HolType) (body : NamedTerm) → term.now ≡ combination (abstraction name domain body) (variable name domain) → type_of body ≡ Some codomain → IsKnown recorder.old.theory (image term.now) codomain → Derives result [] (nameless_equation codomain (app (lam domain (close name domain (image body))) (free name domain)) (image body)) }
+    ensures derives { (name : List ℕ) (domain codomain : HolType) (body : NamedTerm)
+        → term.now ≡ combination (abstraction name domain body) (variable name domain) → type_of body ≡ Some codomain
+        → IsKnown recorder.old.theory (image term.now) codomain → Derives result []
+        (nameless_equation codomain (app (lam domain (close name domain (image body))) (free name domain)) (image body)) }
 {
     recorder.beta_known(alloc, term)
 }
@@ -100,7 +106,8 @@ pub fn trans(
     requires second { IsMade recorder.old second.now }
     ensures continues { Continues recorder.old recorder.new result }
     ensures names { IfOk result (λ made. (left : NamedTerm) → HasLeftSide left first.now.theorem.conclusion → HasLeftSide left made.theorem.conclusion) }
-    ensures derives { (h k : List Nameless) (ty : HolType) (l m r : Nameless) → Shows first.now.theorem h (nameless_equation ty l m) → Shows second.now.theorem k (nameless_equation ty m r) → Derives result (h ++ k) (nameless_equation ty l r) }
+    ensures derives { (h k : List Nameless) (ty : HolType) (l m r : Nameless) → Shows first.now.theorem h (nameless_equation ty l m)
+        → Shows second.now.theorem k (nameless_equation ty m r) → Derives result (h ++ k) (nameless_equation ty l r) }
 {
     let _first = recorder.thm(first).concl();
     let _second = recorder.thm(second).concl();
@@ -135,8 +142,12 @@ pub(crate) fn mk_comb(
     requires first { IsMade recorder.old first.now }
     requires second { IsMade recorder.old second.now }
     ensures continues { Continues recorder.old recorder.new result }
-    ensures names { IfOk result (λ made. (functions arguments : NamedTerm × NamedTerm) → dest_equation first.now.theorem.conclusion ≡ Some functions → dest_equation second.now.theorem.conclusion ≡ Some arguments → made.theorem.conclusion ≡ equation (combination functions.0 arguments.0) (combination functions.1 arguments.1)) }
-    ensures derives { (h k : List Nameless) (domain codomain : HolType) (f g x y : Nameless) → Shows first.now.theorem h (nameless_equation (function_type domain codomain) f g) → Shows second.now.theorem k (nameless_equation domain x y) → Derives result (h ++ k) (nameless_equation codomain (app f x) (app g y)) }
+    ensures names { IfOk result (λ made. (functions arguments : NamedTerm × NamedTerm) → dest_equation first.now.theorem.conclusion ≡ Some functions
+        → dest_equation second.now.theorem.conclusion ≡ Some arguments
+        → made.theorem.conclusion ≡ equation (combination functions.0 arguments.0) (combination functions.1 arguments.1)) }
+    ensures derives { (h k : List Nameless) (domain codomain : HolType) (f g x y : Nameless)
+        → Shows first.now.theorem h (nameless_equation (function_type domain codomain) f g)
+        → Shows second.now.theorem k (nameless_equation domain x y) → Derives result (h ++ k) (nameless_equation codomain (app f x) (app g y)) }
 {
     let _first = recorder.thm(first).concl();
     let _second = recorder.thm(second).concl();
@@ -154,7 +165,8 @@ pub fn deduct_antisym(
     requires second { IsMade recorder.old second.now }
     ensures continues { Continues recorder.old recorder.new result }
     ensures names { IfOk result (λ made. made.theorem.conclusion ≡ equation first.now.theorem.conclusion second.now.theorem.conclusion) }
-    ensures derives { (h k : List Nameless) (p q : Nameless) → Shows first.now.theorem h p → Shows second.now.theorem k q → Derives result (without q h ++ without p k) (nameless_equation bool_type p q) }
+    ensures derives { (h k : List Nameless) (p q : Nameless) → Shows first.now.theorem h p → Shows second.now.theorem k q
+        → Derives result (without q h ++ without p k) (nameless_equation bool_type p q) }
 {
     let _first = recorder.thm(first).concl();
     let _second = recorder.thm(second).concl();
@@ -170,7 +182,9 @@ pub fn abs(
 ) -> Result<Rec, Fault>
     requires { IsMade recorder.old premise.now }
     ensures continues { Continues recorder.old recorder.new result }
-    ensures derives { (h : List Nameless) (name : List ℕ) (domain codomain : HolType) (s t : Nameless) → image binder.now ≡ free name domain → IsKnownType recorder.old.theory domain → NotFreeInAny name domain h → Shows premise.now.theorem h (nameless_equation codomain s t) → Derives result h (nameless_equation (function_type domain codomain) (lam domain (close name domain s)) (lam domain (close name domain t))) }
+    ensures derives { (h : List Nameless) (name : List ℕ) (domain codomain : HolType) (s t : Nameless) → image binder.now ≡ free name domain
+        → IsKnownType recorder.old.theory domain → NotFreeInAny name domain h → Shows premise.now.theorem h (nameless_equation codomain s t)
+        → Derives result h (nameless_equation (function_type domain codomain) (lam domain (close name domain s)) (lam domain (close name domain t))) }
 {
     let _premise = recorder.thm(premise).concl();
     recorder.abs(alloc, binder, premise)
@@ -185,7 +199,8 @@ pub(crate) fn inst(
 ) -> Result<Rec, Fault>
     requires { IsMade recorder.old premise.now }
     ensures continues { Continues recorder.old recorder.new result }
-    ensures derives { replacements_refusal recorder.old.theory theta.now ≡ None → (h : List Nameless) (c : Nameless) → Shows premise.now.theorem h c → DerivesInstance result (map (put_all theta.now) h) (put_all theta.now c) }
+    ensures derives { replacements_refusal recorder.old.theory theta.now ≡ None → (h : List Nameless) (c : Nameless) → Shows premise.now.theorem h c
+        → DerivesInstance result (map (put_all theta.now) h) (put_all theta.now c) }
 {
     recorder.inst(alloc, theta, premise)
 }
@@ -200,7 +215,8 @@ pub(crate) fn inst_known(
     requires premise { IsMade recorder.old premise.now }
     requires known { replacements_refusal recorder.old.theory theta.now ≡ None }
     ensures continues { Continues recorder.old recorder.new result }
-    ensures derives { replacements_refusal recorder.old.theory theta.now ≡ None → (h : List Nameless) (c : Nameless) → Shows premise.now.theorem h c → DerivesInstance result (map (put_all theta.now) h) (put_all theta.now c) }
+    ensures derives { replacements_refusal recorder.old.theory theta.now ≡ None → (h : List Nameless) (c : Nameless) → Shows premise.now.theorem h c
+        → DerivesInstance result (map (put_all theta.now) h) (put_all theta.now c) }
 {
     recorder.inst_known(alloc, theta, premise)
 }
@@ -214,7 +230,8 @@ pub(crate) fn inst_type(
 ) -> Result<Rec, Fault>
     requires { IsMade recorder.old premise.now }
     ensures continues { Continues recorder.old recorder.new result }
-    ensures derives { type_replacements_refusal recorder.old.theory theta.now ≡ None → (h : List Nameless) (c : Nameless) → Shows premise.now.theorem h c → DerivesInstance result (map (instantiate_all theta.now) h) (instantiate_all theta.now c) }
+    ensures derives { type_replacements_refusal recorder.old.theory theta.now ≡ None → (h : List Nameless) (c : Nameless)
+        → Shows premise.now.theorem h c → DerivesInstance result (map (instantiate_all theta.now) h) (instantiate_all theta.now c) }
 {
     recorder.inst_type(alloc, theta, premise)
 }

@@ -282,7 +282,8 @@ impl Stack {
         requires grounded { IsGrounded (P.theory prover.old) (P.store prover.old) }
         requires witnesses { HasKnownWitnesses (P.theory prover.old) (tactic_of tac.now) }
         requires valid { IsValidStack (P.theory prover.old) (P.store prover.old) (stack_of self.now) }
-        ensures runs { RefinesFirst (H.refiners host.now) (H.conversions host.now) (P.theory prover.old) (P.store prover.old) fuel.old.left tac.now (stack_of self.now) result (P.store prover.new) fuel.new.left }
+        ensures runs { RefinesFirst (H.refiners host.now) (H.conversions host.now) (P.theory prover.old) (P.store prover.old) fuel.old.left tac.now
+            (stack_of self.now) result (P.store prover.new) fuel.new.left }
         ensures good { IfOk result (IsGoodFirst (P.theory prover.old) (P.store prover.new) (stack_of self.now)) }
         ensures later { IsLater (P.theory prover.old) (at (P.store prover.old) fuel.old.left) (at (P.store prover.new) fuel.new.left) }
         ensures theory { P.theory prover.new ≡ P.theory prover.old }
@@ -317,8 +318,10 @@ impl Stack {
         requires grounded { IsGrounded (P.theory prover.old) (P.store prover.old) }
         requires witnesses { HasKnownWitnesses (P.theory prover.old) (tactic_of tac.now) }
         requires valid { IsValidStack (P.theory prover.old) (P.store prover.old) (stack_of self.old) }
-        ensures expanded { IsExpandedTo (H.refiners host.now) (H.conversions host.now) (P.theory prover.old) (P.store prover.old) fuel.old.left tac.now (stack_of self.old) (stack_of self.new) result (P.store prover.new) fuel.new.left }
-        ensures closing { ClosesIfValid (H.refiners host.now) (H.conversions host.now) (P.theory prover.old) (P.store prover.old) fuel.old.left tac.now (stack_of self.old) result (P.store prover.new) fuel.new.left }
+        ensures expanded { IsExpandedTo (H.refiners host.now) (H.conversions host.now) (P.theory prover.old)
+            (P.store prover.old) fuel.old.left tac.now (stack_of self.old) (stack_of self.new) result (P.store prover.new) fuel.new.left }
+        ensures closing { ClosesIfValid (H.refiners host.now) (H.conversions host.now) (P.theory prover.old)
+            (P.store prover.old) fuel.old.left tac.now (stack_of self.old) result (P.store prover.new) fuel.new.left }
         ensures later { IsLater (P.theory prover.old) (at (P.store prover.old) fuel.old.left) (at (P.store prover.new) fuel.new.left) }
         ensures valid { IsValidStack (P.theory prover.old) (P.store prover.new) (stack_of self.new) }
         ensures theory { P.theory prover.new ≡ P.theory prover.old }

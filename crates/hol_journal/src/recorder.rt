@@ -417,7 +417,8 @@ impl Recorder {
         theorem: &Rec,
     ) -> Result<Rec, Fault>
         requires { IsMade self.old theorem.now }
-        ensures outcome { AnswersSuch (theorem_in result) (instance.inst_type_refusal self.old.theory theta.now theorem.now.theorem) (instance.IsInstType self.old.theory theta.now theorem.now.theorem) }
+        ensures outcome { AnswersSuch (theorem_in result) (instance.inst_type_refusal self.old.theory theta.now theorem.now.theorem)
+            (instance.IsInstType self.old.theory theta.now theorem.now.theorem) }
         ensures recorded { IfOk result (IsRecorded self.old self.new (steps.by_inst_type theorem.now.entry theta.now)) }
         ensures kept { OnErr result (self.new ≡ self.old) }
     {

@@ -43,7 +43,8 @@ pub(crate) fn add(alloc: Global, contents: &mut Contents, addition: Addition) ->
 }
 
 fn add_type_number(contents: &mut Contents, number: usize) -> Result<(), Fault>
-    ensures added { OnOk result ((table : TermTable) → IsContents table contents.old → CanBeAdded table contents.old (addition.TypeNumber number) → IsAdded table contents.old (addition.TypeNumber number) contents.new) }
+    ensures added { OnOk result ((table : TermTable) → IsContents table contents.old → CanBeAdded table contents.old (addition.TypeNumber number)
+        → IsAdded table contents.old (addition.TypeNumber number) contents.new) }
     ensures refused { IfErr result (λ fault. fault ≡ Memory) }
     ensures kept { OnErr result ((table : TermTable) → IsContents table contents.old → CanBeAdded table contents.old (addition.TypeNumber number) → IsContents table contents.new) }
 {
@@ -54,7 +55,8 @@ fn add_type_number(contents: &mut Contents, number: usize) -> Result<(), Fault>
 }
 
 fn add_term_number(contents: &mut Contents, number: usize) -> Result<(), Fault>
-    ensures added { OnOk result ((table : TermTable) → IsContents table contents.old → CanBeAdded table contents.old (addition.TermNumber number) → IsAdded table contents.old (addition.TermNumber number) contents.new) }
+    ensures added { OnOk result ((table : TermTable) → IsContents table contents.old → CanBeAdded table contents.old (addition.TermNumber number)
+        → IsAdded table contents.old (addition.TermNumber number) contents.new) }
     ensures refused { IfErr result (λ fault. fault ≡ Memory) }
     ensures kept { OnErr result ((table : TermTable) → IsContents table contents.old → CanBeAdded table contents.old (addition.TermNumber number) → IsContents table contents.new) }
 {
@@ -65,7 +67,8 @@ fn add_term_number(contents: &mut Contents, number: usize) -> Result<(), Fault>
 }
 
 fn add_theorem(contents: &mut Contents, theorem: Theorem) -> Result<(), Fault>
-    ensures added { OnOk result ((table : TermTable) → IsContents table contents.old → CanBeAdded table contents.old (addition.Proved theorem) → IsAdded table contents.old (addition.Proved theorem) contents.new) }
+    ensures added { OnOk result ((table : TermTable) → IsContents table contents.old → CanBeAdded table contents.old (addition.Proved theorem)
+        → IsAdded table contents.old (addition.Proved theorem) contents.new) }
     ensures refused { IfErr result (λ fault. fault ≡ Memory) }
     ensures kept { OnErr result ((table : TermTable) → IsContents table contents.old → CanBeAdded table contents.old (addition.Proved theorem) → IsContents table contents.new) }
 {
@@ -76,7 +79,8 @@ fn add_theorem(contents: &mut Contents, theorem: Theorem) -> Result<(), Fault>
 }
 
 fn add_claim(contents: &mut Contents, claim: ListedClaim) -> Result<(), Fault>
-    ensures added { OnOk result ((table : TermTable) → IsContents table contents.old → CanBeAdded table contents.old (addition.Claimed claim) → IsAdded table contents.old (addition.Claimed claim) contents.new) }
+    ensures added { OnOk result ((table : TermTable) → IsContents table contents.old → CanBeAdded table contents.old (addition.Claimed claim)
+        → IsAdded table contents.old (addition.Claimed claim) contents.new) }
     ensures refused { IfErr result (λ fault. fault ≡ Memory) }
     ensures kept { OnErr result ((table : TermTable) → IsContents table contents.old → CanBeAdded table contents.old (addition.Claimed claim) → IsContents table contents.new) }
 {
@@ -110,7 +114,8 @@ fn declare_constant(
     name: usize,
     ty: usize,
 ) -> Result<(), Fault>
-    ensures added { OnOk result ((table : TermTable) → IsContents table contents.old → HasEntryParts table entry → GivesConstant table (entry_in table entry) (theory_in table contents.old.entries.items) name ty → HasRoom contents.old
+    ensures added { OnOk result ((table : TermTable) → IsContents table contents.old → HasEntryParts table entry
+        → GivesConstant table (entry_in table entry) (theory_in table contents.old.entries.items) name ty → HasRoom contents.old
         → IsEntered table contents.old entry contents.new) }
     ensures refused { IfErr result (λ fault. fault ≡ Memory) }
     ensures kept { OnErr result ((table : TermTable) → IsContents table contents.old → IsContents table contents.new) }
@@ -129,7 +134,8 @@ fn declare_constant(
 
 // Adds a declared type of a new name.
 fn declare_type(contents: &mut Contents, name: usize) -> Result<(), Fault>
-    ensures added { OnOk result ((table : TermTable) → IsContents table contents.old → CanBeAdded table contents.old (addition.NewType name) → IsAdded table contents.old (addition.NewType name) contents.new) }
+    ensures added { OnOk result ((table : TermTable) → IsContents table contents.old → CanBeAdded table contents.old (addition.NewType name)
+        → IsAdded table contents.old (addition.NewType name) contents.new) }
     ensures refused { IfErr result (λ fault. fault ≡ Memory) }
     ensures kept { OnErr result ((table : TermTable) → IsContents table contents.old → CanBeAdded table contents.old (addition.NewType name) → IsContents table contents.new) }
 {
@@ -146,7 +152,8 @@ fn declare_type(contents: &mut Contents, name: usize) -> Result<(), Fault>
 }
 
 fn add_constant_declaration(contents: &mut Contents, name: usize, ty: usize) -> Result<(), Fault>
-    ensures added { OnOk result ((table : TermTable) → IsContents table contents.old → CanBeAdded table contents.old (addition.NewConstant name ty) → IsAdded table contents.old (addition.NewConstant name ty) contents.new) }
+    ensures added { OnOk result ((table : TermTable) → IsContents table contents.old → CanBeAdded table contents.old (addition.NewConstant name ty)
+        → IsAdded table contents.old (addition.NewConstant name ty) contents.new) }
     ensures refused { IfErr result (λ fault. fault ≡ Memory) }
     ensures kept { OnErr result ((table : TermTable) → IsContents table contents.old → CanBeAdded table contents.old (addition.NewConstant name ty) → IsContents table contents.new) }
 {
@@ -161,9 +168,12 @@ fn add_definition(
     theorem: Theorem,
 ) -> Result<(), Fault>
     requires { theorem.hypotheses.items ≡ [] }
-    ensures added { OnOk result ((table : TermTable) → IsContents table contents.old → CanBeAdded table contents.old (addition.Defined name ty body theorem.conclusion) → IsAdded table contents.old (addition.Defined name ty body theorem.conclusion) contents.new) }
+    ensures added { OnOk result ((table : TermTable) → IsContents table contents.old
+        → CanBeAdded table contents.old (addition.Defined name ty body theorem.conclusion)
+        → IsAdded table contents.old (addition.Defined name ty body theorem.conclusion) contents.new) }
     ensures refused { IfErr result (λ fault. fault ≡ Memory) }
-    ensures kept { OnErr result ((table : TermTable) → IsContents table contents.old → CanBeAdded table contents.old (addition.Defined name ty body theorem.conclusion) → IsContents table contents.new) }
+    ensures kept { OnErr result ((table : TermTable) → IsContents table contents.old
+        → CanBeAdded table contents.old (addition.Defined name ty body theorem.conclusion) → IsContents table contents.new) }
 {
     match declare_constant(contents, TheoryEntry::Definition(name, ty, body), name, ty) {
         Ok(()) => add_theorem(contents, theorem),

@@ -83,7 +83,8 @@ fn changed(
     requires replacements { MayChange change.now }
     requires legal { IsLegal entries }
     requires derivable { IsTheorem theorem.now → Derivable entries (map (change_of change.now) (map image theorem.now.hypotheses)) (change_of change.now (image theorem.now.conclusion)) }
-    ensures outcome { AnswersSuch result (spec.or_too_large None (spec.all_fit (change_of change.now) (theorem.now.conclusion ∷ theorem.now.hypotheses))) (spec.IsChanged entries (change_of change.now) theorem.now) }
+    ensures outcome { AnswersSuch result (spec.or_too_large None (spec.all_fit (change_of change.now)
+        (theorem.now.conclusion ∷ theorem.now.hypotheses))) (spec.IsChanged entries (change_of change.now) theorem.now) }
     ensures stands_on { IfOk result (λ answer. answer.theory ≡ entries) }
 {
     let conclusion = changed_term(alloc, change, theorem.concl())?;

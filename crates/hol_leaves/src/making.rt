@@ -47,7 +47,8 @@ pub(crate) fn by_three(
     second: Just,
     third: Just,
 ) -> Result<Just, Fault>
-    ensures { (t u v : Justification) → tree_of first ≡ t → tree_of second ≡ u → tree_of third ≡ v → MakesOver (t ∷ u ∷ v ∷ []) result (by_rule (rule_of rule) (three_parts t u v)) }
+    ensures { (t u v : Justification) → tree_of first ≡ t → tree_of second ≡ u → tree_of third ≡ v
+        → MakesOver (t ∷ u ∷ v ∷ []) result (by_rule (rule_of rule) (three_parts t u v)) }
 {
     let parts = [first, second, third];
     step(alloc, rule, &parts)
@@ -85,7 +86,8 @@ pub(crate) fn assuming(
     added: Term,
     target: &Term,
 ) -> Result<Goal, Fault>
-    ensures ok { IfOk result (λ made. (c d : Conclusion) → IsConclusion c added → IsConclusion d target.now → IsGoal (from_assumptions (goal_of goal.now).assumptions (c ∷ []) d) (goal_of made)) }
+    ensures ok { IfOk result (λ made. (c d : Conclusion) → IsConclusion c added → IsConclusion d target.now
+        → IsGoal (from_assumptions (goal_of goal.now).assumptions (c ∷ []) d) (goal_of made)) }
     ensures err { IfErr result (λ fault. fault ≡ Memory) }
 {
     let mut asms = copies(alloc, &goal.asms)?;
@@ -220,7 +222,8 @@ pub(crate) fn to_assuming(
     target: &Term,
     just: Just,
 ) -> Result<Step, Fault>
-    ensures { (t : Justification) → tree_of just ≡ t → AnswersStep (leaves (from_assumptions (goal_of goal.now).assumptions (named added.now ∷ []) (named target.now) ∷ []) t) (step_in result) }
+    ensures { (t : Justification) → tree_of just ≡ t → AnswersStep (leaves
+        (from_assumptions (goal_of goal.now).assumptions (named added.now ∷ []) (named target.now) ∷ []) t) (step_in result) }
 {
     let added = added.copy(alloc)?;
     let subgoal = assuming(alloc, goal, added, target)?;

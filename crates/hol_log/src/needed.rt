@@ -236,7 +236,8 @@ fn note_type_pairs<'a>(pairs: &'a [(Ty, Ty)], names: &mut IndexSet<&'a str>) -> 
 
 // Notes the names in the terms and types of a rule.
 fn note_rule<'a>(rule: &'a Rule, names: &mut IndexSet<&'a str>) -> Result<(), Fault>
-    ensures ok { OnOk result (Notes (held_names names.old.keys) (held_names names.new.keys) (flat_map names_in_term (terms_of (step_of rule.now)) ++ flat_map names_in_type (types_of (step_of rule.now)))) }
+    ensures ok { OnOk result (Notes (held_names names.old.keys) (held_names names.new.keys)
+        (flat_map names_in_term (terms_of (step_of rule.now)) ++ flat_map names_in_type (types_of (step_of rule.now)))) }
     ensures err { IfErr result (λ fault. fault ≡ Memory) }
 {
     match rule {

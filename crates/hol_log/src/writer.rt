@@ -202,7 +202,8 @@ impl<'a> Writer<'a> {
 
     // Writes terms, from left to right.
     fn term_numbers(&mut self, terms: &'a [Term], numbers: &mut Vec<u32>) -> Result<(), Fault>
-        ensures ok { (old : Written) (before : List NamedTerm) → AreTermsWritten old (written self.old) before numbers.old.items → OnOk result (AreTermsWritten old (written self.new) (before ++ terms.now) numbers.new.items) }
+        ensures ok { (old : Written) (before : List NamedTerm) → AreTermsWritten old (written self.old) before numbers.old.items
+            → OnOk result (AreTermsWritten old (written self.new) (before ++ terms.now) numbers.new.items) }
         ensures named { OnOk result (KeepsNames (written self.old) (written self.new)) }
         ensures err { IfErr result (λ fault. fault ≡ Memory) }
     {
@@ -315,7 +316,8 @@ impl<'a> Writer<'a> {
     // Puts the line of the theorem of an entry.
     fn put_theorem(&mut self, entry: usize, line: LogRule<'a>) -> Result<(), Fault>
         requires { IsFalse (list_any (nat_eq entry) (written self.old).theorems) }
-        ensures ok { OnOk result (written self.new ≡ record (written self.old) { theorems = (written self.old).theorems ++ entry ∷ []; lines = (written self.old).lines ++ theorem_line (rule_of line.entry) ∷ [] }) }
+        ensures ok { OnOk result (written self.new ≡ record (written self.old)
+            { theorems = (written self.old).theorems ++ entry ∷ []; lines = (written self.old).lines ++ theorem_line (rule_of line.entry) ∷ [] }) }
         ensures named { OnOk result (KeepsNames (written self.old) (written self.new)) }
         ensures err { IfErr result (λ fault. fault ≡ Memory) }
     {
@@ -367,7 +369,8 @@ impl<'a> Writer<'a> {
         theorem: &'a Thm,
         entry: usize,
     ) -> Result<(), Fault>
-        ensures ok { let claim : Claimed = record { name = name.now; made = record { theorem = theorem.now; entry = entry } } in OnOk result (written self.new ≡ log.write_claim claim (written self.old)) }
+        ensures ok { let claim : Claimed = record { name = name.now; made = record { theorem = theorem.now; entry = entry } } in
+            OnOk result (written self.new ≡ log.write_claim claim (written self.old)) }
         ensures named { OnOk result (KeepsNames (written self.old) (written self.new)) }
         ensures err { IfErr result (λ fault. fault ≡ Memory) }
     {

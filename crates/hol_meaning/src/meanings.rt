@@ -192,7 +192,8 @@ fn meaning(
     types: &BinderTypes<'_>,
     values: &BinderValues<'_>,
 ) -> Result<Element, AllocError>
-    ensures { IfOk result (λ element. element ≡ models.meaning (models.constant_meaning (theory_of theory.now) (model_of model.now)) (model_of model.now) (types_of types.now) (values_under values.now) (nameless term.now)) }
+    ensures { IfOk result (λ element. element ≡ models.meaning (models.constant_meaning (theory_of theory.now) (model_of model.now))
+        (model_of model.now) (types_of types.now) (values_under values.now) (nameless term.now)) }
 {
     match term {
         TermTree::Free(name, ty) => free_value(alloc, model, name, ty),

@@ -96,7 +96,8 @@ pub fn argument_carrier(
     alloc: Global,
     model: &Interpretation<'_>,
 ) -> Result<Vec<Element>, AllocError>
-    ensures { IfOk result (λ elements. elements.items ≡ models.carrier (model_of model.now) (types.domain_of (taken arguments.now (terms.nameless_type (types_of binders.now) (nameless term.now))))) }
+    ensures { IfOk result (λ elements. elements.items ≡ models.carrier (model_of model.now)
+        (types.domain_of (taken arguments.now (terms.nameless_type (types_of binders.now) (nameless term.now))))) }
 {
     match term {
         TermTree::Free(_, ty) => carrier(alloc, model, next_domain(arguments, ty)),

@@ -105,7 +105,8 @@ fn with_existence(recorder: &mut Recorder, alloc: Global) -> Result<Vec<Rec>, Fa
 // The theorems, and CHOOSE, ETA_AX and SELECT_AX.
 fn with_axioms(recorder: &mut Recorder, alloc: Global) -> Result<Vec<Rec>, Fault>
     requires new { recorder.old.theory ≡ [] }
-    ensures outcome { MakesTheorems (first_theorems ++ laws ++ falsity_laws ++ decider_laws ++ disjunction_theorems ++ case_theorems ++ existence_theorems ++ axiom_theorems) recorder.new.theory result }
+    ensures outcome { MakesTheorems (first_theorems ++ laws ++ falsity_laws ++ decider_laws ++ disjunction_theorems ++ case_theorems
+        ++ existence_theorems ++ axiom_theorems) recorder.new.theory result }
     ensures made { IfOk result (λ all. AreMade recorder.new all.items) }
     ensures grown { IsGrown recorder.old recorder.new }
 {
@@ -118,7 +119,8 @@ fn with_axioms(recorder: &mut Recorder, alloc: Global) -> Result<Vec<Rec>, Fault
 /// All theorems, the laws among them.
 pub(crate) fn with_middle(recorder: &mut Recorder, alloc: Global) -> Result<Vec<Rec>, Fault>
     requires new { recorder.old.theory ≡ [] }
-    ensures outcome { MakesTheorems (first_theorems ++ laws ++ falsity_laws ++ decider_laws ++ disjunction_theorems ++ case_theorems ++ existence_theorems ++ axiom_theorems ++ middle_theorems) recorder.new.theory result }
+    ensures outcome { MakesTheorems (first_theorems ++ laws ++ falsity_laws ++ decider_laws ++ disjunction_theorems ++ case_theorems
+        ++ existence_theorems ++ axiom_theorems ++ middle_theorems) recorder.new.theory result }
     ensures made { IfOk result (λ all. AreMade recorder.new all.items) }
     ensures grown { IsGrown recorder.old recorder.new }
 {

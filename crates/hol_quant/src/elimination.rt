@@ -32,8 +32,10 @@ use std::alloc::Global;
 
 // `p[v/x]`, for a variable of the type of `x`.
 fn body_at(alloc: Global, body: &Term, binder: &Term, argument: &Term) -> Result<Term, Fault>
-    ensures ok { IfOk result (λ made. (name other : List ℕ) (ty : HolType) → type_of body.now ≡ Some bool_type → binder.now ≡ variable name ty → argument.now ≡ variable other ty → image made ≡ witnessed name ty body.now argument.now) }
-    ensures err { IfErr result (λ fault. (name other : List ℕ) (ty : HolType) → type_of body.now ≡ Some bool_type → binder.now ≡ variable name ty → argument.now ≡ variable other ty → fault ≡ Memory) }
+    ensures ok { IfOk result (λ made. (name other : List ℕ) (ty : HolType) → type_of body.now ≡ Some bool_type → binder.now ≡ variable name ty
+        → argument.now ≡ variable other ty → image made ≡ witnessed name ty body.now argument.now) }
+    ensures err { IfErr result (λ fault. (name other : List ℕ) (ty : HolType) → type_of body.now ≡ Some bool_type → binder.now ≡ variable name ty
+        → argument.now ≡ variable other ty → fault ≡ Memory) }
 {
     body.well_formed();
     let new = match argument.copy(alloc) {
@@ -65,7 +67,9 @@ fn from_redex(
     applied: &Term,
 ) -> Result<Rec, Fault>
     ensures continues { Continues recorder.old recorder.new result }
-    ensures derives { (at : IsAtVariable recorder.old.theory function.now binder.now argument.now) → applied.now ≡ combination function.now argument.now → DerivesIf (is_roomy (existential at.name at.ty at.body)) result (redex at.name at.ty at.body argument.now ∷ []) (witnessed at.name at.ty at.body argument.now) }
+    ensures derives { (at : IsAtVariable recorder.old.theory function.now binder.now argument.now)
+        → applied.now ≡ combination function.now argument.now → DerivesIf (is_roomy (existential at.name at.ty at.body)) result
+        (redex at.name at.ty at.body argument.now ∷ []) (witnessed at.name at.ty at.body argument.now) }
 {
     let equation = match converted(recorder, alloc, function, binder, argument) {
         Ok(equation) => equation,
@@ -93,7 +97,11 @@ fn implied_by_redex(
     requires at { IsAtVariable recorder.old.theory function.now binder.now argument.now }
     requires premise { IsMade recorder.old premise.now }
     ensures continues { Continues recorder.old recorder.new result }
-    ensures derives { (at : IsAtVariable recorder.old.theory function.now binder.now argument.now) → DerivesIf (leave_room at.name at.ty at.body premise.now.theorem.conclusion) result (without (redex at.name at.ty at.body argument.now) (redex at.name at.ty at.body argument.now ∷ without (witnessed at.name at.ty at.body argument.now) (images premise.now.theorem))) (implication (redex at.name at.ty at.body argument.now) (image premise.now.theorem.conclusion)) }
+    ensures derives { (at : IsAtVariable recorder.old.theory function.now binder.now argument.now)
+        → DerivesIf (leave_room at.name at.ty at.body premise.now.theorem.conclusion) result
+        (without (redex at.name at.ty at.body argument.now) (redex at.name at.ty at.body argument.now
+        ∷ without (witnessed at.name at.ty at.body argument.now) (images premise.now.theorem)))
+        (implication (redex at.name at.ty at.body argument.now) (image premise.now.theorem.conclusion)) }
 {
     let applied = match Term::mk_comb(alloc, function, argument) {
         Ok(applied) => applied,
@@ -128,7 +136,13 @@ fn eliminated(
     requires second { IsMade recorder.old second.now }
     ensures continues { Continues recorder.old recorder.new result }
     ensures names { IfOk result (λ made. made.theorem.conclusion ≡ second.now.theorem.conclusion) }
-    ensures derives { (at : IsAtVariable recorder.old.theory function.now binder.now argument.now) → image first.now.theorem.conclusion ≡ existential at.name at.ty at.body → NotFreeInAny at.other at.ty (existential at.name at.ty at.body ∷ image second.now.theorem.conclusion ∷ without (witnessed at.name at.ty at.body argument.now) (images second.now.theorem)) → DerivesIf (leave_room at.name at.ty at.body second.now.theorem.conclusion) result (images first.now.theorem ++ without (witnessed at.name at.ty at.body argument.now) (images second.now.theorem)) (image second.now.theorem.conclusion) }
+    ensures derives { (at : IsAtVariable recorder.old.theory function.now binder.now argument.now)
+        → image first.now.theorem.conclusion ≡ existential at.name at.ty at.body
+        → NotFreeInAny at.other at.ty (existential at.name at.ty at.body ∷ image second.now.theorem.conclusion
+        ∷ without (witnessed at.name at.ty at.body argument.now) (images second.now.theorem))
+        → DerivesIf (leave_room at.name at.ty at.body second.now.theorem.conclusion) result
+        (images first.now.theorem ++ without (witnessed at.name at.ty at.body argument.now) (images second.now.theorem))
+        (image second.now.theorem.conclusion) }
 {
     let formula = conclusion_of(recorder, second);
     let lemma = theorem_of(recorder, logic, numbers::CHOOSE);
@@ -165,7 +179,8 @@ pub fn choose(
     requires first { IsMade recorder.old first.now }
     requires second { IsMade recorder.old second.now }
     ensures continues { Continues recorder.old recorder.new result }
-    ensures outcome { AnswersStated (theorem_in result) (image variable.now ∷ terms_of_theorem first.now.theorem ++ terms_of_theorem second.now.theorem) (choose_outcome recorder.old.theory variable.now first.now.theorem second.now.theorem) }
+    ensures outcome { AnswersStated (theorem_in result) (image variable.now ∷ terms_of_theorem first.now.theorem
+        ++ terms_of_theorem second.now.theorem) (choose_outcome recorder.old.theory variable.now first.now.theorem second.now.theorem) }
     ensures inferred { Infers recorder.old.theory (rule_choose variable.now) (first.now.theorem ∷ second.now.theorem ∷ []) (theorem_in result) }
 {
     let formula = conclusion_of(recorder, first);

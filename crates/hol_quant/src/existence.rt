@@ -51,7 +51,8 @@ fn is_body_with(
     argument: &Term,
     other: &Term,
 ) -> Result<bool, Fault>
-    ensures ok { IfOk result (λ same. (name : List ℕ) (ty : HolType) → binder.now ≡ variable name ty → type_of argument.now ≡ Some ty → same ≡ same_term (fill (image argument.now) (close name ty (image body.now))) (image other.now)) }
+    ensures ok { IfOk result (λ same. (name : List ℕ) (ty : HolType) → binder.now ≡ variable name ty → type_of argument.now ≡ Some ty
+        → same ≡ same_term (fill (image argument.now) (close name ty (image body.now))) (image other.now)) }
     ensures err { IfErr result (λ fault. fault ≡ Memory) }
 {
     let new = match argument.copy(alloc) {
@@ -84,7 +85,9 @@ fn from_truth(
     requires shows { Shows lemma.now.theorem (nameless_equation bool_type (free (codes "p") bool_type) (image true_term) ∷ []) (free (codes "p") bool_type) }
     requires premise { IsMade recorder.old premise.now }
     ensures continues { Continues recorder.old recorder.new result }
-    ensures derives { (room : Room) (h : List Nameless) → IsKnown recorder.old.theory (image formula.now) bool_type → FitsIf room (image formula.now) → Shows premise.now.theorem h (nameless_equation bool_type (image formula.now) (image true_term)) → DerivesIf room result h (image formula.now) }
+    ensures derives { (room : Room) (h : List Nameless) → IsKnown recorder.old.theory (image formula.now) bool_type → FitsIf room (image formula.now)
+        → Shows premise.now.theorem h (nameless_equation bool_type (image formula.now) (image true_term))
+        → DerivesIf room result h (image formula.now) }
 {
     let of_formula = match formula_pair(alloc, formula) {
         Ok(of_formula) => of_formula,
@@ -106,7 +109,11 @@ fn expanded(
     requires logic { HasLogic recorder.old logic.now }
     requires premise { IsMade recorder.old premise.now }
     ensures continues { Continues recorder.old recorder.new result }
-    ensures derives { (formula : NamedTerm) → IsWitnessed recorder.old.theory formula parts.entry.predicate.now parts.entry.binder.now parts.entry.body.now witness.now (image premise.now.theorem.conclusion) → DerivesIf (list_all is_roomy (witnessed_terms formula witness.now (image premise.now.theorem.conclusion))) result (images premise.now.theorem) (app (image parts.entry.predicate.now) (image witness.now)) }
+    ensures derives { (formula : NamedTerm)
+        → IsWitnessed recorder.old.theory formula parts.entry.predicate.now parts.entry.binder.now parts.entry.body.now witness.now
+        (image premise.now.theorem.conclusion) → DerivesIf (list_all is_roomy
+        (witnessed_terms formula witness.now (image premise.now.theorem.conclusion))) result (images premise.now.theorem)
+        (app (image parts.entry.predicate.now) (image witness.now)) }
 {
     let truth_lemma = theorem_of(recorder, logic, numbers::EQT_INTRO);
     let back_lemma = theorem_of(recorder, logic, numbers::EQT_ELIM);
@@ -143,7 +150,9 @@ fn witnessed(
     requires premise { IsMade recorder.old premise.now }
     ensures continues { Continues recorder.old recorder.new result }
     ensures names { IfOk result (λ made. made.theorem.conclusion ≡ formula.now) }
-    ensures derives { IsWitnessed recorder.old.theory formula.now parts.entry.predicate.now parts.entry.binder.now parts.entry.body.now witness.now (image premise.now.theorem.conclusion) → DerivesIf (list_all is_roomy (witnessed_terms formula.now witness.now (image premise.now.theorem.conclusion))) result (images premise.now.theorem) (image formula.now) }
+    ensures derives { IsWitnessed recorder.old.theory formula.now parts.entry.predicate.now parts.entry.binder.now parts.entry.body.now witness.now
+        (image premise.now.theorem.conclusion) → DerivesIf (list_all is_roomy
+        (witnessed_terms formula.now witness.now (image premise.now.theorem.conclusion))) result (images premise.now.theorem) (image formula.now) }
 {
     let lemma = theorem_of(recorder, logic, numbers::EXISTS);
     let redex = match expanded(recorder, alloc, logic, parts, witness, premise) {
@@ -180,7 +189,8 @@ pub fn exists(
     requires logic { HasLogic recorder.old logic.now }
     requires premise { IsMade recorder.old premise.now }
     ensures continues { Continues recorder.old recorder.new result }
-    ensures outcome { AnswersStated (theorem_in result) (image formula.now ∷ image witness.now ∷ terms_of_theorem premise.now.theorem) (exists_outcome recorder.old.theory formula.now witness.now premise.now.theorem) }
+    ensures outcome { AnswersStated (theorem_in result) (image formula.now ∷ image witness.now ∷ terms_of_theorem premise.now.theorem)
+        (exists_outcome recorder.old.theory formula.now witness.now premise.now.theorem) }
     ensures inferred { Infers recorder.old.theory (rule_exists formula.now witness.now) (premise.now.theorem ∷ []) (theorem_in result) }
 {
     let _formula_type = formula.ty();

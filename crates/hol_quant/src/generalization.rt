@@ -50,7 +50,8 @@ pub(crate) fn equal_to_truth(
     requires shows { Shows lemma.now.theorem (free (codes "p") bool_type ∷ []) (nameless_equation bool_type (free (codes "p") bool_type) (image true_term)) }
     requires premise { IsMade recorder.old premise.now }
     ensures continues { Continues recorder.old recorder.new result }
-    ensures derives { (room : Room) → FitsIf room (image premise.now.theorem.conclusion) → DerivesIf room result (images premise.now.theorem) (nameless_equation bool_type (image premise.now.theorem.conclusion) (image true_term)) }
+    ensures derives { (room : Room) → FitsIf room (image premise.now.theorem.conclusion)
+        → DerivesIf room result (images premise.now.theorem) (nameless_equation bool_type (image premise.now.theorem.conclusion) (image true_term)) }
 {
     recorder.theory_is_legal();
     let of_formula = match formula_pair(alloc, recorder.thm(premise).concl()) {
@@ -64,7 +65,8 @@ pub(crate) fn equal_to_truth(
 // `!x. p`, from `\x. p`.
 fn universal(alloc: Global, function: &Term) -> Result<Term, Fault>
     ensures ok { IfOk result (λ formula. (ty : HolType) → type_of function.now ≡ Some (predicate ty) → formula ≡ combination (constant forall_name (quantifier ty)) function.now) }
-    ensures err { IfErr result (λ fault. (ty : HolType) → type_of function.now ≡ Some (predicate ty) → IsPast fault (nameless_within_limits (app (const forall_name (quantifier ty)) (image function.now)))) }
+    ensures err { IfErr result (λ fault. (ty : HolType) → type_of function.now ≡ Some (predicate ty)
+        → IsPast fault (nameless_within_limits (app (const forall_name (quantifier ty)) (image function.now)))) }
 {
     let boolean = match Ty::boolean(alloc) {
         Ok(boolean) => boolean,
@@ -107,7 +109,9 @@ fn over_all(
     requires forall_shows { Shows forall_lemma.now.theorem (is_always ∷ []) (over_predicate forall_name) }
     requires premise { IsMade recorder.old premise.now }
     ensures continues { Continues recorder.old recorder.new result }
-    ensures derives { (name : List ℕ) (ty : HolType) (room : Room) → MayGeneralize recorder.old.theory premise.now.theorem binder.now name ty → function.now ≡ abstraction name ty premise.now.theorem.conclusion → FitsForAll room name ty premise.now.theorem.conclusion → DerivesIf room result (images premise.now.theorem) (for_all name ty premise.now.theorem.conclusion) }
+    ensures derives { (name : List ℕ) (ty : HolType) (room : Room) → MayGeneralize recorder.old.theory premise.now.theorem binder.now name ty
+        → function.now ≡ abstraction name ty premise.now.theorem.conclusion → FitsForAll room name ty premise.now.theorem.conclusion
+        → DerivesIf room result (images premise.now.theorem) (for_all name ty premise.now.theorem.conclusion) }
 {
     let _formula = conclusion_of(recorder, premise);
     let equal = match equal_to_truth(recorder, alloc, truth_lemma, premise) {
@@ -132,7 +136,9 @@ pub(crate) fn generalized_up_to_names(
     requires logic { HasLogic recorder.old logic.now }
     requires premise { IsMade recorder.old premise.now }
     ensures continues { Continues recorder.old recorder.new result }
-    ensures derives { (name : List ℕ) (ty : HolType) (room : Room) → MayGeneralize recorder.old.theory premise.now.theorem binder.now name ty → FitsForAll room name ty premise.now.theorem.conclusion → DerivesIf room result (images premise.now.theorem) (for_all name ty premise.now.theorem.conclusion) }
+    ensures derives { (name : List ℕ) (ty : HolType) (room : Room) → MayGeneralize recorder.old.theory premise.now.theorem binder.now name ty
+        → FitsForAll room name ty premise.now.theorem.conclusion → DerivesIf room result (images premise.now.theorem)
+        (for_all name ty premise.now.theorem.conclusion) }
 {
     let truth_lemma = theorem_of(recorder, logic, numbers::EQT_INTRO);
     let forall_lemma = theorem_of(recorder, logic, numbers::GEN);

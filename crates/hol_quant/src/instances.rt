@@ -60,7 +60,10 @@ pub(crate) fn by_predicate_lemma(
     requires lemma { IsMade recorder.old lemma.now }
     requires premise { IsMade recorder.old premise.now }
     ensures continues { Continues recorder.old recorder.new result }
-    ensures derives { (ty : HolType) → IsKnown recorder.old.theory (image function.now) (predicate ty) → IsKnown recorder.old.theory (image element.now) ty → (h : List Nameless) (p q : Nameless) → Shows lemma.now.theorem (p ∷ []) q → Shows premise.now.theorem h (at_predicate ty function.now element.now p) → DerivesIf (lemma_fits ty function.now element.now p q) result h (at_predicate ty function.now element.now q) }
+    ensures derives { (ty : HolType) → IsKnown recorder.old.theory (image function.now) (predicate ty)
+        → IsKnown recorder.old.theory (image element.now) ty → (h : List Nameless) (p q : Nameless) → Shows lemma.now.theorem (p ∷ []) q
+        → Shows premise.now.theorem h (at_predicate ty function.now element.now p)
+        → DerivesIf (lemma_fits ty function.now element.now p q) result h (at_predicate ty function.now element.now q) }
 {
     let of_type = match type_pair(alloc, element) {
         Ok(of_type) => of_type,
@@ -104,7 +107,10 @@ pub(crate) fn by_formula_lemma(
     requires lemma { IsMade recorder.old lemma.now }
     requires premise { IsMade recorder.old premise.now }
     ensures continues { Continues recorder.old recorder.new result }
-    ensures derives { (ty : HolType) → IsKnown recorder.old.theory (image function.now) (predicate ty) → IsKnown recorder.old.theory (image element.now) ty → IsFormula recorder.old.theory formula.now → (h : List Nameless) (p q : Nameless) → Shows lemma.now.theorem (p ∷ []) q → Shows premise.now.theorem h (at_formula ty function.now formula.now p) → DerivesIf (formula_lemma_fits ty function.now formula.now p q) result h (at_formula ty function.now formula.now q) }
+    ensures derives { (ty : HolType) → IsKnown recorder.old.theory (image function.now) (predicate ty)
+        → IsKnown recorder.old.theory (image element.now) ty → IsFormula recorder.old.theory formula.now → (h : List Nameless) (p q : Nameless)
+        → Shows lemma.now.theorem (p ∷ []) q → Shows premise.now.theorem h (at_formula ty function.now formula.now p)
+        → DerivesIf (formula_lemma_fits ty function.now formula.now p q) result h (at_formula ty function.now formula.now q) }
 {
     let of_type = match type_pair(alloc, element) {
         Ok(of_type) => of_type,

@@ -31,7 +31,8 @@ pub(crate) fn conv_tac<H: Refiners, C: Conversions>(
 ) -> Result<Step, Fault>
     requires library { IsLibrary library.old }
     requires known { IsKnownGoal library.old.recorder.theory (goal_of goal.now) }
-    ensures outcome { RefinesOn (H.refiners hosts.now) (H.conversions hosts.now) library.old.recorder.theory (store_in library.old) fuel.old.left (refiners.conv_tac (conversion_of conv.now)) goal.now result (store_in library.new) fuel.new.left }
+    ensures outcome { RefinesOn (H.refiners hosts.now) (H.conversions hosts.now) library.old.recorder.theory (store_in library.old) fuel.old.left
+        (refiners.conv_tac (conversion_of conv.now)) goal.now result (store_in library.new) fuel.new.left }
     ensures library { IsLibrary library.new }
     ensures extended { IsExtended library.old library.new }
 {
@@ -53,7 +54,8 @@ pub(crate) fn rewrite_tac<H: Refiners, C: Conversions>(
 ) -> Result<Step, Fault>
     requires library { IsLibrary library.old }
     requires known { IsKnownGoal library.old.recorder.theory (goal_of goal.now) }
-    ensures outcome { RefinesOn (H.refiners hosts.now) (H.conversions hosts.now) library.old.recorder.theory (store_in library.old) fuel.old.left (refiners.rewrite_tac (map string_bytes names.now)) goal.now result (store_in library.new) fuel.new.left }
+    ensures outcome { RefinesOn (H.refiners hosts.now) (H.conversions hosts.now) library.old.recorder.theory (store_in library.old) fuel.old.left
+        (refiners.rewrite_tac (map string_bytes names.now)) goal.now result (store_in library.new) fuel.new.left }
     ensures library { IsLibrary library.new }
     ensures extended { IsExtended library.old library.new }
 {

@@ -49,7 +49,8 @@ pub trait Conversions {
         requires made { AreMade library.old.recorder rules.now }
         requires equations { AreEquations (theorems rules.now) }
         requires known { is_known library.old.recorder.theory t.now ≡ true }
-        ensures outcome { Converts library.old.recorder.theory (store_in library.old) (H.conversions hosts.now) 0 fuel.old.left (top_depth_conv (rules_conv (theorems rules.now))) t.now (theorem_in result) fuel.new.left }
+        ensures outcome { Converts library.old.recorder.theory (store_in library.old) (H.conversions hosts.now) 0 fuel.old.left
+            (top_depth_conv (rules_conv (theorems rules.now))) t.now (theorem_in result) fuel.new.left }
         ensures library { IsLibrary library.new }
         ensures continued { IsContinued library.old library.new }
         ensures made { IfOk result (IsMade library.new.recorder) };

@@ -54,7 +54,8 @@ fn step_by_equation(
     theorem: &Rec,
 ) -> Result<Step, Fault>
     requires { IsEquationOf goal.now.concl theorem.now.theorem }
-    ensures { (sides : NamedTerm × NamedTerm) → dest_equation theorem.now.theorem.conclusion ≡ Some sides → AnswersStep (Ok (refiners.converted (length (store_in library.now).lemmas) (goal_of goal.now) sides.1)) (step_in result) }
+    ensures { (sides : NamedTerm × NamedTerm) → dest_equation theorem.now.theorem.conclusion ≡ Some sides
+        → AnswersStep (Ok (refiners.converted (length (store_in library.now).lemmas) (goal_of goal.now) sides.1)) (step_in result) }
 {
     match equation_parts(theorem.theorem().concl()) {
         Some(sides) => converted(alloc, library.store.lemma_count(), goal, sides.right),

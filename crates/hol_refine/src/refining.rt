@@ -48,7 +48,8 @@ pub fn refine<H: Refiners, C: Conversions>(
 ) -> Result<Step, Fault>
     requires library { IsLibrary library.old }
     requires known { IsKnownGoal library.old.recorder.theory (goal_of goal.now) }
-    ensures outcome { LeafRefines (H.refiners hosts.now) (H.conversions hosts.now) library.old.recorder.theory (store_in library.old) fuel.old.left leaf.now goal.now result (store_in library.new) fuel.new.left }
+    ensures outcome { LeafRefines (H.refiners hosts.now) (H.conversions hosts.now) library.old.recorder.theory
+        (store_in library.old) fuel.old.left leaf.now goal.now result (store_in library.new) fuel.new.left }
     ensures library { IsLibrary library.new }
     ensures extended { IsExtended library.old library.new }
 {

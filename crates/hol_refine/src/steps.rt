@@ -60,7 +60,8 @@ fn closed_by_truth(alloc: Global, number: usize) -> Result<Step, Fault>
 
 // The step to the right side of the lemma `p <=> q`.
 fn to_right(alloc: Global, number: usize, goal: &Goal, right: &Term) -> Result<Step, Fault>
-    ensures { AnswersStep (leaves (toward (goal_of goal.now) (named right.now) ∷ []) (by_rule rule_eq_mp (two_parts (by_rule rule_sym (one_part (trees.lemma number))) from_first))) (step_in result) }
+    ensures { AnswersStep (leaves (toward (goal_of goal.now) (named right.now) ∷ [])
+        (by_rule rule_eq_mp (two_parts (by_rule rule_sym (one_part (trees.lemma number))) from_first))) (step_in result) }
 {
     let just = by_equation(alloc, number)?;
     to_target(alloc, goal, right, just)

@@ -346,7 +346,8 @@ impl Session {
     pub fn log_text<'a>(&'a self, alloc: Global, names: &'a [String]) -> Result<Vec<u8>, Fault>
         requires session { IsSession self.now }
         requires named { HaveIdentifiers (stored_claims ((stored_of self.now.library.store).theorems) (map string_bytes names.now)) }
-        ensures ok { IfOk result (λ text. IsAcceptedLog self.now.library.recorder (map log_claim (stored_claims ((stored_of self.now.library.store).theorems) (map string_bytes names.now))) text.items) }
+        ensures ok { IfOk result (λ text. IsAcceptedLog self.now.library.recorder
+            (map log_claim (stored_claims ((stored_of self.now.library.store).theorems) (map string_bytes names.now))) text.items) }
         ensures too_long { IsErrOf result TooLong → IsLongLog self.now.library.recorder (map log_claim (stored_claims ((stored_of self.now.library.store).theorems) (map string_bytes names.now))) }
         ensures refusals { IfErr result (Contains (TooLong ∷ Memory ∷ [])) }
     {

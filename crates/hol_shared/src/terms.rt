@@ -396,7 +396,8 @@ impl Terms {
         requires codomain { codomain < length self.old.types }
         ensures number { IfOk result (λ number. slice_get self.new.types number ≡ Some (function_type (type_at self.old.types domain) (type_at self.old.types codomain))) }
         ensures within_limit { IfOk result (λ _. type_nodes (function_type (type_at self.old.types domain) (type_at self.old.types codomain)) ≤ TYPE_NODES_LIMIT) }
-        ensures refused { IfErr result (λ fault. (fault ≡ Memory) ⊎ ((fault ≡ TooLarge) × (TYPE_NODES_LIMIT < type_nodes (function_type (type_at self.old.types domain) (type_at self.old.types codomain))))) }
+        ensures refused { IfErr result (λ fault. (fault ≡ Memory) ⊎ ((fault ≡ TooLarge)
+            × (TYPE_NODES_LIMIT < type_nodes (function_type (type_at self.old.types domain) (type_at self.old.types codomain))))) }
         ensures grows { IsGrown self.old self.new }
     {
         self.types.function(domain, codomain)

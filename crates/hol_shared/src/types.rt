@@ -138,8 +138,10 @@ impl Types {
     pub(crate) fn function(&mut self, domain: usize, codomain: usize) -> Result<usize, Fault>
         requires domain { domain < length self.old.types }
         requires codomain { codomain < length self.old.types }
-        ensures number { let new_type = function_type (slice_index_or self.old.types domain bool_type) (slice_index_or self.old.types codomain bool_type) in IfOk result (λ number. (slice_get self.new.types number ≡ Some new_type) × (type_nodes new_type ≤ TYPE_NODES_LIMIT)) }
-        ensures refused { let new_type = function_type (slice_index_or self.old.types domain bool_type) (slice_index_or self.old.types codomain bool_type) in IfErr result (λ fault. (fault ≡ Memory) ⊎ ((fault ≡ TooLarge) × (TYPE_NODES_LIMIT < type_nodes new_type))) }
+        ensures number { let new_type = function_type (slice_index_or self.old.types domain bool_type) (slice_index_or self.old.types codomain bool_type) in
+            IfOk result (λ number. (slice_get self.new.types number ≡ Some new_type) × (type_nodes new_type ≤ TYPE_NODES_LIMIT)) }
+        ensures refused { let new_type = function_type (slice_index_or self.old.types domain bool_type) (slice_index_or self.old.types codomain bool_type) in
+            IfErr result (λ fault. (fault ≡ Memory) ⊎ ((fault ≡ TooLarge) × (TYPE_NODES_LIMIT < type_nodes new_type))) }
         ensures names { self.new.names ≡ self.old.names }
         ensures grows { IsLonger self.old.types self.new.types }
     {

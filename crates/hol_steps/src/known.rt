@@ -26,7 +26,8 @@ pub struct Known {
 /// The generic type of a constant.
 pub(crate) fn generic_type(terms: &Terms, known: &Known, name: usize) -> Option<usize>
     requires { name < length terms.now.names }
-    ensures generic { (entries : Theory) → Knows terms.now known.now.constants.entries known.now.declared.keys entries → option_map (type_at terms.now.types) result ≡ theory.generic_type entries (name_at terms.now.names name) }
+    ensures generic { (entries : Theory) → Knows terms.now known.now.constants.entries known.now.declared.keys entries
+        → option_map (type_at terms.now.types) result ≡ theory.generic_type entries (name_at terms.now.names name) }
     ensures within { (entries : Theory) → Knows terms.now known.now.constants.entries known.now.declared.keys entries → IfSome result (λ ty. ty < length terms.now.types) }
 {
     terms.have_one_number();
@@ -75,7 +76,8 @@ pub fn knows_constant(terms: &Terms, known: &Known, name: usize, ty: usize) -> b
     requires name { name < length terms.now.names }
     requires ty { ty < length terms.now.types }
     requires known { HasTheory terms.now known.now.constants.entries known.now.declared.keys }
-    ensures { (entries : Theory) → Knows terms.now known.now.constants.entries known.now.declared.keys entries → result ≡ checks.knows_constant entries (name_at terms.now.names name) (type_at terms.now.types ty) }
+    ensures { (entries : Theory) → Knows terms.now known.now.constants.entries known.now.declared.keys entries
+        → result ≡ checks.knows_constant entries (name_at terms.now.names name) (type_at terms.now.types ty) }
 {
     match generic_type(terms, known, name) {
         Some(generic) => is_instance(terms, generic, ty),
@@ -85,9 +87,12 @@ pub fn knows_constant(terms: &Terms, known: &Known, name: usize, ty: usize) -> b
 
 /// Adds a constant of a new name with its generic type.
 pub fn add_constant(known: &mut Known, name: usize, ty: usize) -> Result<(), Fault>
-    ensures added { OnOk result ((table : TermTable) (entries : Theory) (entry : Entry) → GivesConstant table entry entries name ty → Knows table known.old.constants.entries known.old.declared.keys entries → Knows table known.new.constants.entries known.new.declared.keys (entry ∷ entries)) }
+    ensures added { OnOk result ((table : TermTable) (entries : Theory) (entry : Entry) → GivesConstant table entry entries name ty
+        → Knows table known.old.constants.entries known.old.declared.keys entries
+        → Knows table known.new.constants.entries known.new.declared.keys (entry ∷ entries)) }
     ensures refused { IfErr result (λ fault. fault ≡ Memory) }
-    ensures kept { OnErr result ((table : TermTable) (entries : Theory) → Knows table known.old.constants.entries known.old.declared.keys entries → Knows table known.new.constants.entries known.new.declared.keys entries) }
+    ensures kept { OnErr result ((table : TermTable) (entries : Theory) → Knows table known.old.constants.entries known.old.declared.keys entries
+        → Knows table known.new.constants.entries known.new.declared.keys entries) }
 {
     match known.constants.insert(name, ty) {
         Ok(_replaced) => Ok(()),
@@ -100,7 +105,8 @@ pub fn add_type(known: &mut Known, name: usize) -> Result<(), Fault>
     ensures added { OnOk result ((table : TermTable) (entries : Theory) → name < length table.names → Knows table known.old.constants.entries known.old.declared.keys entries
         → Knows table known.new.constants.entries known.new.declared.keys (declaration_of_type (name_at table.names name) ∷ entries)) }
     ensures refused { IfErr result (λ fault. fault ≡ Memory) }
-    ensures kept { OnErr result ((table : TermTable) (entries : Theory) → Knows table known.old.constants.entries known.old.declared.keys entries → Knows table known.new.constants.entries known.new.declared.keys entries) }
+    ensures kept { OnErr result ((table : TermTable) (entries : Theory) → Knows table known.old.constants.entries known.old.declared.keys entries
+        → Knows table known.new.constants.entries known.new.declared.keys entries) }
 {
     match known.declared.insert_full(name) {
         Ok((_number, _is_new)) => Ok(()),

@@ -14,7 +14,8 @@ pub(crate) fn conclude(
     hypotheses: Vec<usize>,
     conclusion: Result<usize, Fault>,
 ) -> Result<Result<Theorem, Cause>, Fault>
-    ensures { (earlier now : TermTable) (wanted : List Nameless) (formed : Nameless) → IsGrown earlier now → AreInOrder earlier.terms hypotheses.items wanted → IsFormed formed conclusion now.terms
+    ensures { (earlier now : TermTable) (wanted : List Nameless) (formed : Nameless) → IsGrown earlier now
+        → AreInOrder earlier.terms hypotheses.items wanted → IsFormed formed conclusion now.terms
         → Takes (plain (supposing wanted formed)) result now.terms }
 {
     match conclusion {
