@@ -1,11 +1,7 @@
 // What the commands do with the files that they name.
 ghost use Rattle.std.specs.Prelude.{◌≡◌, false};
 
-use crate::input::Input;
 use crate::laws::logs_are_checked;
-use crate::new_file::NewFile;
-use crate::script_file::{Asked, ScriptFile};
-use crate::status::status;
 use hol_bytes::read_all;
 use hol_check::{Claim, check, check_log, migrate, write_claims, write_entries};
 use hol_devices::{FromCall, FromRead, IntoCall, IntoWrite};
@@ -13,6 +9,7 @@ use hol_explain::{Script, explain};
 use hol_host::Host;
 use hol_just::Goal;
 use hol_model::{Fault, Sink, Source};
+use hol_program_files::{Asked, Input, NewFile, ScriptFile, status};
 use hol_sample_host::{liar, liar2, peel, swap};
 use hol_script::{Summary, run};
 use hol_terms::Term;

@@ -16,7 +16,7 @@ pub struct NewFile<'a> {
 
 impl NewFile<'_> {
     /// The sink for a file of this name, which is not made yet.
-    pub(crate) fn new<'a>(rt: &'a HostRuntime, name: &'a str) -> NewFile<'a>
+    pub fn new<'a>(rt: &'a HostRuntime, name: &'a str) -> NewFile<'a>
         ensures { result.failed ≡ false }
     {
         NewFile {

@@ -1,11 +1,11 @@
 // The exit status of a run.
 ghost use Rattle.std.specs.Prelude.{◌≡◌};
-ghost use Rattle.holp.specs.Status.{status_of};
+ghost use Rattle.hol_program_files.specs.Status.{status_of};
 
 use hol_model::Fault;
 
 /// 0 where all was accepted, 1 where a command was refused, 2 for a device, memory or length, 3 for a refused log.
-pub(crate) fn status(refused: u64, fault: Option<Fault>) -> u8
+pub fn status(refused: u64, fault: Option<Fault>) -> u8
     ensures { result ≡ status_of refused fault }
 {
     match fault {

@@ -6,14 +6,14 @@ use std::rt::Stdin;
 
 /// A file, or standard input.
 #[derive(Drop)]
-pub(crate) enum Input {
+pub enum Input {
     File(File),
     Standard(Stdin),
 }
 
 impl Input {
     /// Opens the file of this name; `-` names standard input.
-    pub(crate) fn open(rt: &HostRuntime, name: &str) -> io::Result<Input> {
+    pub fn open(rt: &HostRuntime, name: &str) -> io::Result<Input> {
         if name == "-" {
             return Ok(Input::Standard(rt.stdin()));
         }
@@ -21,7 +21,7 @@ impl Input {
     }
 
     /// Reads as what it is reads.
-    pub(crate) fn read(&mut self, buf: &mut [u8]) -> io::Result<usize> {
+    pub fn read(&mut self, buf: &mut [u8]) -> io::Result<usize> {
         match self {
             Input::File(file) => file.read(buf),
             Input::Standard(input) => input.read(buf),

@@ -9,15 +9,15 @@ use std::rt::Stderr;
 /// How a script is run: the name of its file, where `-` names standard input, and whether standard error tells more of what
 /// is refused.
 #[derive(Clone, Copy)]
-pub(crate) struct Asked<'a> {
-    pub(crate) script: &'a str,
-    pub(crate) explains: bool,
+pub struct Asked<'a> {
+    pub script: &'a str,
+    pub explains: bool,
 }
 
 /// The file of a script, or standard input. Where refusals are to be explained, it tells on standard error why it is not read,
 /// which takes no part in how the run ends.
 #[derive(Drop)]
-pub(crate) struct ScriptFile {
+pub struct ScriptFile {
     input: Input,
     name: String,
     told: Option<Stderr>,
@@ -46,7 +46,7 @@ fn tell_reason(told: Option<Stderr>, script: &str, reason: &io::Error) {
 
 impl ScriptFile {
     /// Opens the file of a script, or standard input (`ReadFault`).
-    pub(crate) fn open(rt: &HostRuntime, asked: &Asked<'_>) -> Result<ScriptFile, Fault> {
+    pub fn open(rt: &HostRuntime, asked: &Asked<'_>) -> Result<ScriptFile, Fault> {
         let told = if asked.explains {
             Some(rt.stderr())
         } else {
@@ -63,7 +63,7 @@ impl ScriptFile {
     }
 
     /// Reads as what it is reads.
-    pub(crate) fn read(&mut self, buf: &mut [u8]) -> io::Result<usize> {
+    pub fn read(&mut self, buf: &mut [u8]) -> io::Result<usize> {
         match self.input.read(buf) {
             Ok(count) => Ok(count),
             Err(reason) => {

@@ -1,0 +1,12 @@
+//! The files that a program names on its command line, and the status that it ends with. What the system answers is not claimed.
+#![tactic(auto)]
+
+mod exit_status;
+mod input;
+mod new_file;
+mod script_file;
+
+pub use exit_status::status;
+pub use input::Input;
+pub use new_file::NewFile;
+pub use script_file::{Asked, ScriptFile};

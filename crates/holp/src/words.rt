@@ -1,0 +1,70 @@
+// The words of the command line: commands, their arguments and options.
+
+use clap::{Arg, ArgAction, ArgMatches, Command};
+use std::alloc::Global;
+
+// An argument that names a file.
+fn file_argument<'a>(alloc: Global, name: &'a str, help: &'a str) -> Arg<'a> {
+    Arg::new(alloc, name)
+        .help(help)
+        .required(true)
+        .action(ArgAction::Set)
+}
+
+/// The commands with their arguments.
+pub(crate) fn command_line<'a>(alloc: Global) -> anyhow::Result<Command<'a>> {
+    let run = Command::new(alloc, "run")
+        .about("Runs a proof script")
+        .arg(file_argument(
+            alloc,
+            "SCRIPT",
+            "The file of the proof script; - is standard input",
+        ))?
+        .arg(
+            Arg::new(alloc, "log")
+                .long("log")
+                .value_name("FILE")
+                .help("The file to write the proof log to")
+                .action(ArgAction::Set),
+        )?
+        .arg(
+            Arg::new(alloc, "explain")
+                .long("explain")
+                .help("Explains each refusal on standard error")
+                .action(ArgAction::SetTrue),
+        )?;
+    let check = Command::new(alloc, "check")
+        .about("Checks a proof log and lists its claims")
+        .arg(
+            Arg::new(alloc, "theory")
+                .long("theory")
+                .help("Lists the definitions and declarations of the log too")
+                .action(ArgAction::SetTrue),
+        )?
+        .arg(file_argument(
+            alloc,
+            "LOG",
+            "The file of the proof log; - is standard input",
+        ))?;
+    let migrate = Command::new(alloc, "migrate")
+        .about("Checks a proof log and writes it in the second version")
+        .arg(file_argument(
+            alloc,
+            "LOG",
+            "The file of the proof log; - is standard input",
+        ))?
+        .arg(file_argument(alloc, "NEW", "The file to write"))?;
+    Ok(
+        Command::new(alloc, "holp")
+            .version("0.1.0")
+            .about("A theorem prover for higher-order logic")
+            .subcommand(run)?
+            .subcommand(check)?
+            .subcommand(migrate)?,
+    )
+}
+
+/// The value of an argument that clap has asked for; no text where there is none.
+pub(crate) fn value<'a>(matches: &'a ArgMatches<'_>, name: &str) -> &'a str {
+    matches.get_str(name).unwrap_or("")
+}
