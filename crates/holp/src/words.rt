@@ -68,3 +68,59 @@ pub(crate) fn command_line<'a>(alloc: Global) -> anyhow::Result<Command<'a>> {
 pub(crate) fn value<'a>(matches: &'a ArgMatches<'_>, name: &str) -> &'a str {
     matches.get_str(name).unwrap_or("")
 }
+
+#[cfg(test)]
+mod tests {
+    use super::*;
+
+    // What the command line answers to one word.
+    fn answer(alloc: Global, word: &str) -> anyhow::Result<String> {
+        let mut words = Vec::new(alloc);
+        words.push(String::from_str(alloc, "holp")?)?;
+        words.push(String::from_str(alloc, word)?)?;
+        let mut text = String::new(alloc);
+        if let Err(told) = command_line(alloc)?.try_get_matches_from(words.as_slice()) {
+            write!(text, "{told}")?;
+        }
+        Ok(text)
+    }
+
+    #[test]
+    fn the_version_is_told(rt: HostRuntime) -> anyhow::Result<()> {
+        assert!(rt; answer(rt.alloc(), "--version")?.as_str() == "holp 0.1.0\n");
+        Ok(())
+    }
+
+    #[test]
+    fn help_lists_the_commands(rt: HostRuntime) -> anyhow::Result<()> {
+        let help = "A theorem prover for higher-order logic
+
+Usage: holp [COMMAND]
+
+Commands:
+  run      Runs a proof script
+  check    Checks a proof log and lists its claims
+  migrate  Checks a proof log and writes it in the second version
+  help     Print this message or the help of the given subcommand(s)
+
+Options:
+  -h, --help     Print help
+  -V, --version  Print version
+";
+        assert!(rt; answer(rt.alloc(), "--help")?.as_str() == help);
+        Ok(())
+    }
+
+    #[test]
+    fn an_argument_that_is_missing_is_named(rt: HostRuntime) -> anyhow::Result<()> {
+        let fault = "error: the following required arguments were not provided:
+  <SCRIPT>
+
+Usage: holp run <SCRIPT>
+
+For more information, try '--help'.
+";
+        assert!(rt; answer(rt.alloc(), "run")?.as_str() == fault);
+        Ok(())
+    }
+}
