@@ -104,7 +104,7 @@ const TERMS: [Row<'static>; 8] = [
 ];
 
 // Theorems that a rule does not take.
-const RULES: [Row<'static>; 9] = [
+const RULES: [Row<'static>; 10] = [
     Row {
         script: "thm a = ASSUME `(p:bool)` ;;\nthm b = CONJUNCT1 a ;;",
         messages: "s:2:19: E16 BadShape: `CONJUNCT1` wants a theorem `p /\\ q`, and `a` is `(p:bool) |- (p:bool)`\n",
@@ -133,6 +133,11 @@ differ first at `(y:A)` and `(x:A)`\n",
     Row {
         script: "thm a = TAUT `(p:bool)` ;;",
         messages: "s:1:14: E26 NotTautology: the formula is false where (p:bool)=F\n",
+    },
+    Row {
+        script: "thm a = TAUT `(!x:A. (P:A->bool) x) ==> (P:A->bool) (y:A)` ;;",
+        messages: "s:1:14: E26 NotTautology: the formula is false where !x:A. (P:A->bool) x=T, (P:A->bool) (y:A)=F; a formula under `!` or `?` counts as one letter here, and what it \
+says of its instances does not: take it apart by `SPEC` or `EXISTS`\n",
     },
     Row {
         script: "thm a = REFL `(x:A)` ;;\nthm b = MK_COMB a a ;;",

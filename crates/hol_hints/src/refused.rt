@@ -34,12 +34,24 @@ fn in_quotes(case: &Case<'_>) -> Result<Option<Message>, NoMemory> {
     Ok(None)
 }
 
+// What is said behind a row of values in which a quantified formula has one.
+const QUANTIFIED: &str =
+    "; a formula under `!` or `?` counts as one letter here, and what it says of its instances does not: take it apart by `SPEC` or `EXISTS`";
+
 // What is said of the row of values that makes a formula false.
 fn at_row(case: &Case<'_>) -> Result<Option<Message>, NoMemory> {
-    match case.row {
-        Some(row) => case.say(4, &[Text("the formula is false where"), Text(row)]),
-        None => Ok(None),
-    }
+    let Some(row) = case.row else {
+        return Ok(None);
+    };
+    let behind = if row.contains('!') || row.contains('?') {
+        QUANTIFIED
+    } else {
+        ""
+    };
+    case.say(
+        4,
+        &[Text("the formula is false where"), Text(row), Text(behind)],
+    )
 }
 
 // What the names of a command say of its refusal.
