@@ -66,7 +66,10 @@ pub(crate) fn command_line<'a>(alloc: Global) -> anyhow::Result<Command<'a>> {
 
 /// The value of an argument that clap has asked for; no text where there is none.
 pub(crate) fn value<'a>(matches: &'a ArgMatches<'_>, name: &str) -> &'a str {
-    matches.get_str(name).unwrap_or("")
+    match matches.get_str(name) {
+        Some(value) => value,
+        None => "",
+    }
 }
 
 #[cfg(test)]
