@@ -212,8 +212,7 @@ pub fn disch(
 }
 
 /// UNDISCH: from `p ==> q`, `q` with the hypothesis `p`, in eight steps. Refused where the conclusion is no implication.
-#[tactic(auto, using(crate::proofs::InferredRules::infers_undisch, hol_equal::proofs::StepLemmas::still_made,
-    hol_equal::proofs::StepLemmas::now_made, crate::proofs::PreludeSteps::still_logical, crate::proofs::PreludeSteps::still_formula))]
+#[tactic(auto, using(crate::proofs::InferredRules::infers_undisch, hol_equal::proofs::StepLemmas::still_made, hol_equal::proofs::StepLemmas::now_made, crate::proofs::PreludeSteps::still_logical, crate::proofs::PreludeSteps::still_formula))]
 pub fn undisch(
     recorder: &mut Recorder,
     alloc: Global,

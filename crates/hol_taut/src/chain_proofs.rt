@@ -62,8 +62,7 @@ fn rest(recorder: &mut Recorder, alloc: Global, laws: &Laws, shortest: &Rec) -> 
 }
 
 // The formula, from its equivalence with what is left of it.
-#[tactic(auto, using(hol_equal::proofs::StepLemmas::still_made, hol_equal::proofs::StepLemmas::now_made,
-    hol_taut_chains::proofs::ChainLemmas::continued_twice, crate::proofs::LawLemmas::still_lawful))]
+#[tactic(auto, using(hol_equal::proofs::StepLemmas::still_made, hol_equal::proofs::StepLemmas::now_made, hol_taut_chains::proofs::ChainLemmas::continued_twice, crate::proofs::LawLemmas::still_lawful))]
 fn from_rest(
     recorder: &mut Recorder,
     alloc: Global,
@@ -86,8 +85,7 @@ fn from_rest(
 }
 
 // A formula, by these laws.
-#[tactic(auto, using(hol_equal::proofs::StepLemmas::still_made, hol_equal::proofs::StepLemmas::now_made,
-    hol_taut_chains::proofs::ChainLemmas::continued_twice, crate::proofs::LawLemmas::still_lawful))]
+#[tactic(auto, using(hol_equal::proofs::StepLemmas::still_made, hol_equal::proofs::StepLemmas::now_made, hol_taut_chains::proofs::ChainLemmas::continued_twice, crate::proofs::LawLemmas::still_lawful))]
 fn by_chain_laws(
     recorder: &mut Recorder,
     alloc: Global,
