@@ -1,11 +1,11 @@
 -- Tests on variables and on terms without bound names decide the equations that they ask.
-use Rattle.std.proofs.Common.{◌≡◌, ℕ, List, Bool, true, false, ◌&&◌, ◌||◌, refl, sym}
+use Rattle.std.proofs.Common.{◌≡◌, ◌∙◌, ℕ, List, Bool, true, false, IsTrue, ◌&&◌, ◌||◌, refl, sym}
 use Rattle.std.specs.Str.{bytes_eq}
 use Rattle.std.specs.Bool.{Decides}
 use Rattle.std.specs.Cmp.{Equal-is}
 use Rattle.std.proofs.lemmas.Slice.Eq.{bytes_eq-Decides}
 use Rattle.hol_model.specs.Terms.HolType.{HolType, type_eq}
-use Rattle.hol_model.specs.Terms.NamedTerm.{same_variable}
+use Rattle.hol_model.specs.Terms.NamedTerm.{NamedTerm, same_variable}
 use Rattle.hol_model.specs.Terms.Nameless.{Nameless, nameless_cmp, same_term}
 use Rattle.hol_model.proofs.Terms.HolTypeEq.{type_eq-Decides}
 pub use Rattle.hol_model.proofs.Logic.Conditions.{first_of_both, second_of_both}
@@ -23,6 +23,13 @@ same_variable-type a b s t passed = (type_eq-Decides s t).0 (second_of_both (byt
 
 pub same_variable-self : (a : List ℕ) (s : HolType) → same_variable a s a s ≡ true
 same_variable-self a s = both (bytes_eq a a) (type_eq s s) ((bytes_eq-Decides a a).1 refl) ((type_eq-Decides s s).1 refl)
+
+-- variables, and constants, of one name and type are one
+pub same_leaf : (leaf : List ℕ → HolType → NamedTerm) (a b : List ℕ) (s t : HolType) (test : Bool) → test ≡ same_variable a s b t → IsTrue test
+    → leaf a s ≡ leaf b t
+same_leaf leaf a b s t test is_tested passed =
+    let e : same_variable a s b t ≡ true = sym is_tested ∙ passed in
+    λ i. leaf (same_name a b s t e i) (same_variable-type a b s t e i)
 
 -- a test that decides gives the one answer where both questions are one
 pub same_answer : (p q : Bool) → (p ≡ true → q ≡ true) → (q ≡ true → p ≡ true) → p ≡ q

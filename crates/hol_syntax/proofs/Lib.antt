@@ -5,7 +5,6 @@ pub mod OpenBinders
 pub mod QuantifierInstances
 pub mod Readings
 pub mod Separators
-mod SameLeaves
 pub mod SequentReading
 pub mod Starting
 pub mod Bindings
