@@ -3,7 +3,6 @@
 #![tactic(auto)]
 
 mod message;
-mod place;
 mod search;
 mod walk;
 

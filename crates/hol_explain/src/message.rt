@@ -4,8 +4,8 @@ ghost use Rattle.hol_script.specs.Managers.{IsManager};
 
 use crate::search::{Trial, refused_part};
 use hol_hints::{
-    Arguments, Case, Kind, Known, Message, NoMemory, Piece, Premise, Span, given,
-    is_before_theorem, no_command, of_case, of_part, plain,
+    Arguments, Case, Known, Message, NoMemory, Piece, Premise, Span, given, is_looked_up,
+    no_command, of_case, of_part, plain, span_of,
 };
 use hol_host::Refiners;
 use hol_model::Fault;
@@ -27,12 +27,6 @@ fn premise(
         Some(Printed::Line(line)) => Premise::read(alloc, known, line.text, at, name.len()),
         _ => Ok(None),
     }
-}
-
-// Whether the name at a place in the list is looked up: any in a `thm`, and else those of theorems.
-fn is_looked_up(piece: &Piece<'_>, at: usize) -> bool {
-    piece.kind(at) == Kind::Name
-        && (piece.text(0) == "thm" || is_before_theorem(piece.text(at.saturating_sub(1))))
 }
 
 // Puts the theorems at the end that a part of a command names.
@@ -67,16 +61,6 @@ fn arguments_in(
     let mut arguments = Arguments::new(alloc, known, piece, span)?;
     push_premises(alloc, known, manager, piece, span, &mut arguments.theorems)?;
     Ok(arguments)
-}
-
-// The arguments of a command: those of a `thm` stand behind its rule, and those of an `e` are read with the part that is refused.
-fn span_of(piece: &Piece<'_>) -> Span {
-    let to = piece.words.len();
-    match piece.text(0) {
-        "thm" => Span { from: 4, to },
-        "e" => Span { from: to, to },
-        _ => Span { from: 1, to },
-    }
 }
 
 // What is said of the part of an `e` that is refused.

@@ -2,7 +2,10 @@
 ghost use Rattle.std.specs.Prelude.{OnOk};
 ghost use Rattle.hol_script.specs.Managers.{IsManager};
 
-use hol_hints::{Known, NoMemory, Part, Piece, Span, between, given, next_outside};
+use hol_hints::{
+    Known, NoMemory, Part, Piece, Span, command_of, count_of_goals, first_member, given,
+    has_misfit, next_joint, next_member, unwrapped,
+};
 use hol_host::Refiners;
 use hol_script::execute::execute;
 use hol_script::{Manager, Printed};
@@ -26,12 +29,6 @@ struct Inside {
     is_last: bool,
 }
 
-const JOINTS: (&str, &str) = ("THEN", "THENL");
-
-const MEMBER_ENDS: (&str, &str) = (";", "]");
-
-const CLOSING: (&str, &str) = (")", ")");
-
 // The text of the open goals.
 fn open_goals(alloc: Global, manager: &Manager) -> Result<String, NoMemory>
     requires { IsManager manager.now }
@@ -42,45 +39,12 @@ fn open_goals(alloc: Global, manager: &Manager) -> Result<String, NoMemory>
     }
 }
 
-// How many goals the text of the open goals has: a line each, behind the first.
-fn count_of(text: &str) -> usize {
-    text.lines().count().saturating_sub(1)
-}
-
 // How many goals are open.
 fn count(alloc: Global, manager: &Manager) -> Result<usize, NoMemory>
     requires { IsManager manager.now }
 {
     let goals = open_goals(alloc, manager)?;
-    Ok(count_of(goals.as_str()))
-}
-
-// A part without the parentheses around it.
-fn unwrapped(piece: &Piece<'_>, span: Span) -> Span {
-    let mut inner = span;
-    for _ in 0..piece.words.len() {
-        let behind = Span {
-            from: inner.from.saturating_add(1),
-            to: inner.to,
-        };
-        let closing = next_outside(piece, behind, CLOSING);
-        if piece.text(inner.from) != "(" || closing != inner.to.saturating_sub(1) {
-            break;
-        }
-        inner = Span {
-            from: behind.from,
-            to: closing,
-        };
-    }
-    inner
-}
-
-// The command `e` of a part.
-fn command_of(alloc: Global, piece: &Piece<'_>, span: Span) -> Result<Vec<u8>, NoMemory> {
-    let mut text = Vec::new(alloc);
-    text.extend_from_slice(b"e ")?;
-    text.extend_from_slice(between(piece.bytes, piece.start(span.from), piece.start(span.to)))?;
-    Ok(text)
+    Ok(count_of_goals(goals.as_str()))
 }
 
 // Whether a command that leaves goals is accepted; it is taken back.
@@ -121,7 +85,7 @@ fn refused_joint<H: Refiners>(
     ensures { OnOk result (IsManager manager.new) }
 {
     let mut accepted = None;
-    let mut joint = next_outside(trial.piece, span, JOINTS);
+    let mut joint = next_joint(trial.piece, span.from, span.to);
     for _ in 0..trial.piece.words.len() {
         if joint >= span.to {
             break;
@@ -134,59 +98,9 @@ fn refused_joint<H: Refiners>(
             break;
         }
         accepted = Some(joint);
-        let rest = Span {
-            from: joint.saturating_add(1),
-            to: span.to,
-        };
-        joint = next_outside(trial.piece, rest, JOINTS);
+        joint = next_joint(trial.piece, joint.saturating_add(1), span.to);
     }
     Ok((accepted, joint))
-}
-
-// The member of a list that begins at a place.
-fn member_at(piece: &Piece<'_>, from: usize, to: usize) -> Span {
-    Span {
-        from,
-        to: next_outside(piece, Span { from, to }, MEMBER_ENDS),
-    }
-}
-
-// How many members the list has whose first begins at a place.
-fn count_of_members(piece: &Piece<'_>, from: usize, to: usize) -> usize {
-    if piece.text(from) == "]" {
-        return 0;
-    }
-    let mut members = 1usize;
-    let mut member = member_at(piece, from, to);
-    for _ in 0..piece.words.len() {
-        if piece.text(member.to) != ";" {
-            break;
-        }
-        members = members.saturating_add(1);
-        member = member_at(piece, member.to.saturating_add(1), to);
-    }
-    members
-}
-
-// The refiner for the next subgoal, behind the refiner for this one: the next member of a list, or the same.
-fn next_member(piece: &Piece<'_>, joint: usize, member: Span, to: usize) -> Span {
-    if piece.text(joint) == "THENL" {
-        member_at(piece, member.to.saturating_add(1), to)
-    } else {
-        member
-    }
-}
-
-// The refiner for the first subgoal behind a joint.
-fn first_member(piece: &Piece<'_>, joint: usize, to: usize) -> Span {
-    if piece.text(joint) == "THENL" {
-        member_at(piece, joint.saturating_add(2), to)
-    } else {
-        Span {
-            from: joint.saturating_add(1),
-            to,
-        }
-    }
 }
 
 // Turns the goals up to the first subgoal at which the refiner behind a joint is refused, and answers that refiner.
@@ -200,7 +114,7 @@ fn refused_member<H: Refiners>(
     ensures { OnOk result (IsManager manager.new) }
 {
     let mut steps = 1usize;
-    let mut member = first_member(trial.piece, behind.from, behind.to);
+    let mut member = first_member(trial.piece, behind);
     for _ in 0..subgoals {
         if !is_part_accepted(trial, manager, member)? {
             return Ok(Inside {
@@ -212,7 +126,7 @@ fn refused_member<H: Refiners>(
         }
         let _turned = execute(manager, trial.alloc, trial.host, b"r 1");
         steps = steps.saturating_add(1);
-        member = next_member(trial.piece, behind.from, member, behind.to);
+        member = next_member(trial.piece, behind, member);
     }
     Ok(Inside {
         span: behind,
@@ -238,11 +152,8 @@ fn behind_joint<H: Refiners>(
     let subgoals = count(trial.alloc, manager)?
         .saturating_add(1)
         .saturating_sub(before);
-    let joint = front.to;
-    let behind = Span { from: joint, to };
-    if trial.piece.text(joint) == "THENL"
-        && count_of_members(trial.piece, joint.saturating_add(2), to) != subgoals
-    {
+    let behind = Span { from: front.to, to };
+    if has_misfit(trial.piece, behind, subgoals) {
         return Ok(Inside {
             span: behind,
             subgoals,

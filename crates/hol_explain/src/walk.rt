@@ -4,11 +4,10 @@ ghost use Rattle.hol_model.specs.declared.fault.Fault.TheVariants.{Memory, Write
 ghost use Rattle.hol_script.specs.Managers.{IsManager};
 
 use crate::message::message_of;
-use crate::place::Place;
 use crate::search::Trial;
 use hol_bytes::write_all;
 use hol_command::cut::{cut, is_blank_text};
-use hol_hints::{Known, Message, NoMemory, Piece, between};
+use hol_hints::{Known, NoMemory, Piece, Place, between, told, unfinished};
 use hol_host::Refiners;
 use hol_model::{Fault, Sink};
 use hol_script::execute::execute;
@@ -21,24 +20,6 @@ pub struct Script<'a> {
     pub file: &'a str,
     pub text: &'a [u8],
     pub host_names: &'a [String],
-}
-
-// The place in the script, the number and the name of a refusal, and what is said of it.
-fn told(
-    alloc: Global,
-    file: &str,
-    place: &Place,
-    fault: &Fault,
-    message: &Message,
-) -> Result<String, NoMemory> {
-    let line = place.line;
-    let column = place.column;
-    let number = fault.number();
-    let name = fault.name();
-    let said = message.text.as_str();
-    let mut text = String::new(alloc);
-    write!(text, "{file}:{line}:{column}: E{number} {name}: {said}\n")?;
-    Ok(text)
 }
 
 // A walk over a script, with the functions of a host.
@@ -113,18 +94,6 @@ fn explained_first<H: Refiners>(walk: &Walk<'_, H>, refused: &Refused) -> Result
     };
     let piece = Piece::new(walk.alloc, command)?;
     explained(walk, &known, &mut manager, &piece, &Place::start(), refused)
-}
-
-// What is said of a rest without a mark behind it.
-fn unfinished(alloc: Global, file: &str, rest: &[u8], place: &Place) -> Result<String, NoMemory> {
-    let piece = Piece::new(alloc, rest)?;
-    let here = place.behind(between(rest, 0, piece.start(0)));
-    let message = Message::new(
-        alloc,
-        0,
-        "a command ends with `;;`, and here the script ends before one",
-    )?;
-    told(alloc, file, &here, &Fault::Syntax, &message)
 }
 
 // Writes a text, where there was memory for it.

@@ -1,6 +1,6 @@
 // The terms that a command quotes, and the stored theorems that it names.
 use crate::span::Span;
-use hol_script_words::{Kind, Known, NoMemory, Piece, between, given, text_of};
+use hol_script_words::{Kind, Known, NoMemory, Piece, between, given, is_before_theorem, text_of};
 use hol_syntax::{read_sequent, read_term};
 use hol_terms::Term;
 use std::alloc::Global;
@@ -58,6 +58,23 @@ impl Premise {
 
     pub(crate) fn text(&self) -> &str {
         text_of(sequent(self.line.as_str(), self.length))
+    }
+}
+
+/// Whether the name at a place in the list is looked up: any in a `thm`, and else those of theorems.
+pub fn is_looked_up(piece: &Piece<'_>, at: usize) -> bool {
+    piece.kind(at) == Kind::Name
+        && (piece.text(0) == "thm" || is_before_theorem(piece.text(at.saturating_sub(1))))
+}
+
+/// Where the arguments of a command stand: those of a `thm` behind its rule, and those of an `e` are read with the part that is
+/// refused.
+pub fn span_of(piece: &Piece<'_>) -> Span {
+    let to = piece.words.len();
+    match piece.text(0) {
+        "thm" => Span { from: 4, to },
+        "e" => Span { from: to, to },
+        _ => Span { from: 1, to },
     }
 }
 

@@ -25,6 +25,11 @@ pub struct Part {
     conclusion: Option<Term>,
 }
 
+/// How many goals the text of the open goals has: a line each, behind the first.
+pub fn count_of_goals(goals: &str) -> usize {
+    goals.lines().count().saturating_sub(1)
+}
+
 // The line of the first goal in the text of the open goals: the second line.
 fn first_goal(goals: &str) -> Option<&str> {
     let mut lines = goals.lines();

@@ -9,7 +9,7 @@ pub struct Span {
 }
 
 /// The place in the list of the first of two words outside of all brackets, or the end of the part.
-pub fn next_outside(piece: &Piece<'_>, span: Span, words: (&str, &str)) -> usize {
+pub(crate) fn next_outside(piece: &Piece<'_>, span: Span, words: (&str, &str)) -> usize {
     let mut depth = 0usize;
     for at in span.from..span.to {
         let word = piece.text(at);

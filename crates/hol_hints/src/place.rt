@@ -2,19 +2,19 @@
 
 /// A line and a column, each counted from 1; a column counts bytes.
 #[derive(Clone, Copy, Debug, Drop)]
-pub(crate) struct Place {
-    pub(crate) line: usize,
-    pub(crate) column: usize,
+pub struct Place {
+    pub line: usize,
+    pub column: usize,
 }
 
 impl Place {
     /// Where a script begins.
-    pub(crate) fn start() -> Place {
+    pub fn start() -> Place {
         Place { line: 1, column: 1 }
     }
 
     /// The place behind a text that begins here.
-    pub(crate) fn behind(&self, text: &[u8]) -> Place {
+    pub fn behind(&self, text: &[u8]) -> Place {
         let feeds = text.iter().filter(|byte| **byte == b'\n').count();
         let last = text.iter().rev().take_while(|byte| **byte != b'\n').count();
         let before = if feeds == 0 { self.column } else { 1 };
