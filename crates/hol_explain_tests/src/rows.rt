@@ -3,25 +3,22 @@ use hol_explain::{Refused, Script, explain, explain_refusal};
 use hol_host::{Host, NoHost};
 use hol_just::Goal;
 use hol_model::Fault;
-use hol_sample_devices::Compared;
+use hol_sample_devices::{Compared, Row, Rows};
 use hol_sample_host::liar;
 use std::alloc::Global;
 
-/// A script, and all that is said of its refusals.
-pub(crate) struct Row<'a> {
-    pub(crate) script: &'a str,
-    pub(crate) messages: &'a str,
-}
-
-/// The number of the first row of whose script something else is said, if any.
-pub(crate) fn first_wrong(alloc: Global, rows: &[Row<'_>]) -> Option<usize> {
-    for at in 0..rows.len() {
-        let row = &rows[at];
-        if says(alloc, row.script.as_bytes(), row.messages.as_bytes()) != Ok(true) {
-            return Some(at);
+/// The title of the first row of a text of whose script something else is said, or how many rows there are.
+pub(crate) fn first_wrong(alloc: Global, text: &str) -> Result<usize, &str> {
+    let mut rows = Rows::new(text);
+    for count in 0..text.len() {
+        let Some(row) = rows.next() else {
+            return Ok(count);
+        };
+        if says(alloc, row.script.as_bytes(), row.expected.as_bytes()) != Ok(true) {
+            return Err(row.title);
         }
     }
-    None
+    Ok(text.len())
 }
 
 /// Whether this is said of a script, and no more, where the host has a refiner that lies.
@@ -50,5 +47,5 @@ pub(crate) fn says_of(alloc: Global, row: &Row<'_>, fault: Fault) -> Result<bool
         host_names: &host_names,
     };
     let text = explain_refusal(alloc, &script, &NoHost, &Refused::plain(fault))?;
-    Ok(text.as_str() == row.messages)
+    Ok(text.as_str() == row.expected)
 }

@@ -5,15 +5,9 @@ use hol_devices::FromRead;
 use hol_host::NoHost;
 use hol_model::{Fault, Source};
 use hol_sample_devices::{Endless, FailsSecond, Kept, Narrow};
+use hol_sample_logs::logs::{LOG, OUTPUT, SCRIPT};
 use hol_script::run;
 use std::alloc::Global;
-
-const SCRIPT: &[u8] = b"thm a = REFL `(x:bool)` ;;";
-
-const OUTPUT: &[u8] = b"a: |- (x:bool) <=> (x:bool)\n";
-
-const LOG: &[u8] =
-    b"holp-log 2\ny b\nt v x 0\nk REFL 0\ny f 0 0\ny f 0 1\nt c = 2\nt a 1 0\nt a 2 0\nc a 0 3\nend 1\n";
 
 // Whether these bytes are so many from the front of a text.
 fn is_front(bytes: &[u8], text: &[u8], length: usize) -> bool {

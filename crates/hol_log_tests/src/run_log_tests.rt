@@ -4,48 +4,38 @@ use hol_check::{check, check_log, write_claims, write_entries};
 use hol_devices::{FromRead, IntoWrite};
 use hol_host::NoHost;
 use hol_model::Fault;
-use hol_sample_devices::Kept;
+use hol_sample_devices::{Kept, push_filled, push_times};
+use hol_sample_logs::logs::{
+    CONSTANT, DECLARED, ENTRIES, LOG, LOG_OF_CONSTANT, LOG_OF_SHOWN_AGAIN, PROOFS, PROVED, SCRIPT,
+    SHOWN_AGAIN,
+};
 use hol_script::run;
 use std::alloc::Global;
-use std::test::Fail;
 
-#[test]
-fn logs_reflexivity(rt: HostRuntime) -> Result<(), Fail> {
-    let log = log_of(rt.alloc(), b"thm a = REFL `(x:bool)` ;;")?;
-    assert!(rt;
-        log.as_slice()
-            == "holp-log 2\ny b\nt v x 0\nk REFL 0\ny f 0 0\ny f 0 1\nt c = 2\nt a 1 0\nt a 2 0\nc a 0 3\nend 1\n".as_bytes()
-    );
-    Ok(())
+// Whether a script has this log.
+fn logs(alloc: Global, script: &[u8], expected: &[u8]) -> Result<bool, Fault> {
+    let log = log_of(alloc, script)?;
+    Ok(log.as_slice() == expected)
 }
 
 #[test]
-fn logs_what_is_shown_again(rt: HostRuntime) -> Result<(), Fail> {
-    let script = b"thm a = REFL `(x:bool)` ;; var y:bool ;; show b ;; show a ;; thm";
-    let log = log_of(rt.alloc(), script)?;
-    assert!(rt;
-        log.as_slice()
-            == "holp-log 2\ny b\nt v x 0\nk REFL 0\ny f 0 0\ny f 0 1\nt c = 2\nt a 1 0\nt a 2 0\nc a 0 3\nc a 0 3\nend 2\n".as_bytes()
-    );
-    Ok(())
+fn logs_reflexivity(rt: HostRuntime) {
+    assert!(rt; logs(rt.alloc(), SCRIPT, LOG) == Ok(true));
 }
 
 #[test]
-fn logs_what_a_constant_needs(rt: HostRuntime) -> Result<(), Fail> {
-    let script = b"newtype num ;; newconst zero : num ;; thm a = REFL `zero` ;;";
-    let log = log_of(rt.alloc(), script)?;
-    assert!(rt;
-        log.as_slice()
-            == "holp-log 2\nny num\ny n num\nnc zero 0\nt c zero 0\nk REFL 0\ny b\ny f 0 1\ny f 0 2\nt c = 3\nt a 1 0\nt a 2 0\nc a 0 3\nend 1\n".as_bytes()
-    );
-    Ok(())
+fn logs_what_is_shown_again(rt: HostRuntime) {
+    assert!(rt; logs(rt.alloc(), SHOWN_AGAIN, LOG_OF_SHOWN_AGAIN) == Ok(true));
 }
 
 #[test]
-fn logs_nothing(rt: HostRuntime) -> Result<(), Fail> {
-    let log = log_of(rt.alloc(), b"")?;
-    assert!(rt; log.as_slice() == "holp-log 2\nend 0\n".as_bytes());
-    Ok(())
+fn logs_what_a_constant_needs(rt: HostRuntime) {
+    assert!(rt; logs(rt.alloc(), CONSTANT, LOG_OF_CONSTANT) == Ok(true));
+}
+
+#[test]
+fn logs_nothing(rt: HostRuntime) {
+    assert!(rt; logs(rt.alloc(), b"", b"holp-log 2\nend 0\n") == Ok(true));
 }
 
 // Whether the log of a script is accepted, and the entries of its theory print as these lines.
@@ -59,63 +49,36 @@ fn entries(alloc: Global, script: &[u8], lines: &[u8]) -> Result<bool, Fault> {
 }
 
 #[test]
-fn lists_the_entries(rt: HostRuntime) -> Result<(), Fail> {
-    let script = b"def c = `\\x:bool. x` ;; show c_def ;; newtype num ;; newconst zero : num ;;\n\
-thm z = REFL `zero` ;;";
-    let lines = b"DEF c: |- (([=:(bool->bool)->(bool->bool)->bool] [c:bool->bool]) (\\bool. #0))\n\
-TYPE num\n\
-CONST [zero:num]\n";
-    assert!(rt; entries(rt.alloc(), script, lines)?);
-    Ok(())
-}
-
-// The pieces, with the text between them.
-fn joined(alloc: Global, pieces: &[&[u8]], between: &[u8]) -> Result<Vec<u8>, Fault> {
-    let mut whole = Vec::new(alloc);
-    let mut is_first = true;
-    for piece in pieces {
-        if !is_first {
-            whole.extend_from_slice(between)?;
-        }
-        whole.extend_from_slice(piece)?;
-        is_first = false;
-    }
-    Ok(whole)
+fn lists_the_entries(rt: HostRuntime) {
+    assert!(rt; entries(rt.alloc(), DECLARED, ENTRIES) == Ok(true));
 }
 
 // So many times the first text, a variable, and so many times the second text.
 fn under(alloc: Global, first: &[u8], times: usize, second: &[u8]) -> Result<Vec<u8>, Fault> {
     let mut whole = Vec::new(alloc);
-    for _ in 0..times {
-        whole.extend_from_slice(first)?;
-    }
+    push_times(&mut whole, first, times)?;
     whole.extend_from_slice(b"(p:bool)")?;
-    for _ in 0..times {
-        whole.extend_from_slice(second)?;
-    }
+    push_times(&mut whole, second, times)?;
     Ok(whole)
 }
 
 // A script that assumes `(p:bool)` under so many negations, and makes an equation of it under so many.
 fn script_of_negations(alloc: Global, assumed: usize, equal: usize) -> Result<Vec<u8>, Fault> {
-    let pieces: [&[u8]; 2] = [b"thm a = ASSUME `", b"` ;; thm b = REFL `"];
+    let mut script = Vec::new(alloc);
     let formula = under(alloc, b"~", assumed, b"")?;
-    let mut script = joined(alloc, &pieces, &formula)?;
+    push_filled(&mut script, "thm a = ASSUME `#` ;; ", &formula)?;
     let formula = under(alloc, b"~", equal, b"")?;
-    script.extend_from_slice(&formula)?;
-    script.extend_from_slice(b"` ;;")?;
+    push_filled(&mut script, "thm b = REFL `#` ;;", &formula)?;
     Ok(script)
 }
 
 // The claims of its log.
 fn claims_of_negations(alloc: Global, assumed: usize, equal: usize) -> Result<Vec<u8>, Fault> {
-    let pieces: [&[u8]; 3] = [b"a: ", b" |- ", b"\nb: |- (([=:bool->bool->bool] "];
+    let mut lines = Vec::new(alloc);
     let formula = under(alloc, b"([~:bool->bool] ", assumed, b")")?;
-    let mut lines = joined(alloc, &pieces, &formula)?;
+    push_filled(&mut lines, "a: # |- #\n", &formula)?;
     let formula = under(alloc, b"([~:bool->bool] ", equal, b")")?;
-    let pieces: [&[u8]; 3] = [b"", b") ", b")\n"];
-    let sides = joined(alloc, &pieces, &formula)?;
-    lines.extend_from_slice(&sides)?;
+    push_filled(&mut lines, "b: |- (([=:bool->bool->bool] #) #)\n", &formula)?;
     Ok(lines)
 }
 
@@ -135,16 +98,8 @@ fn claims_high_negations(rt: HostRuntime) {
 // claims the four theorems.
 fn proves_of_negations(alloc: Global, times: usize) -> Result<bool, Fault> {
     let formula = under(alloc, b"~", times, b"")?;
-    let commands: [&[u8]; 7] = [
-        b"thm a = ASSUME `",
-        b"` ;; thm d = DISCH `",
-        b"` a ;; thm u = TAUT `",
-        b" ==> ",
-        b"` ;; goal `",
-        b" ==> ",
-        b"` ;; e DISCH_TAC THEN ASSUMPTION_TAC ;; save w ;;",
-    ];
-    let script = joined(alloc, &commands, &formula)?;
+    let mut script = Vec::new(alloc);
+    push_filled(&mut script, PROOFS, &formula)?;
     let mut log = Kept::new(alloc);
     let ended = run(
         alloc,
@@ -155,19 +110,9 @@ fn proves_of_negations(alloc: Global, times: usize) -> Result<bool, Fault> {
         &NoHost,
     )?;
     let summary = ended.summary;
-    let nameless = under(alloc, b"([~:bool->bool] ", times, b")")?;
-    let lines: [&[u8]; 9] = [
-        b"a: ",
-        b" |- ",
-        b"\nd: |- (([==>:bool->bool->bool] ",
-        b") ",
-        b")\nu: |- (([==>:bool->bool->bool] ",
-        b") ",
-        b")\nw: |- (([==>:bool->bool->bool] ",
-        b") ",
-        b")\n",
-    ];
-    let expected = joined(alloc, &lines, &nameless)?;
+    let formula = under(alloc, b"([~:bool->bool] ", times, b")")?;
+    let mut expected = Vec::new(alloc);
+    push_filled(&mut expected, PROVED, &formula)?;
     let claims = check(alloc, &mut FromRead::new(log.bytes.as_slice()))?;
     let mut written = Kept::new(alloc);
     write_claims(alloc, claims.as_slice(), &mut written)?;
@@ -180,9 +125,8 @@ fn proves_of_negations(alloc: Global, times: usize) -> Result<bool, Fault> {
 }
 
 #[test]
-fn ample_memory_is_enough(rt: HostRuntime) -> Result<(), Fail> {
+fn ample_memory_is_enough(rt: HostRuntime) {
     for times in 0..100 {
-        assert!(rt; proves_of_negations(rt.alloc(), times)?);
+        assert!(rt; proves_of_negations(rt.alloc(), times) == Ok(true));
     }
-    Ok(())
 }

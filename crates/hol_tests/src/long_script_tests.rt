@@ -1,6 +1,7 @@
 // Scripts of many commands of goals, and of long and deep expressions, with the output that each must have.
-use crate::rows::{push_times, writes};
+use crate::rows::writes;
 use hol_model::Fault;
+use hol_sample_devices::push_times;
 use std::alloc::Global;
 
 // Whether of 300 expansions the last 256 are taken back, and no more.

@@ -7,27 +7,24 @@ use hol_devices::{FromRead, IntoWrite};
 use hol_host::{Host, NoHost};
 use hol_just::Goal;
 use hol_model::Fault;
-use hol_sample_devices::Compared;
+use hol_sample_devices::{Compared, Rows};
 use hol_sample_host::{liar, liar2, peel, swap};
 use hol_script::{Summary, run};
 use hol_terms::Term;
 use std::alloc::Global;
 
-/// A script, and all that its run writes.
-pub(crate) struct Row<'a> {
-    pub(crate) script: &'a str,
-    pub(crate) output: &'a str,
-}
-
-/// The number of the first row whose script writes something else than its output, if any.
-pub(crate) fn first_wrong(alloc: Global, rows: &[Row<'_>]) -> Option<usize> {
-    for at in 0..rows.len() {
-        let row = &rows[at];
-        if writes(alloc, row.script.as_bytes(), row.output.as_bytes()) != Ok(true) {
-            return Some(at);
+/// The title of the first row of a text whose script writes something else than is expected, or how many rows there are.
+pub(crate) fn first_wrong(alloc: Global, text: &str) -> Result<usize, &str> {
+    let mut rows = Rows::new(text);
+    for count in 0..text.len() {
+        let Some(row) = rows.next() else {
+            return Ok(count);
+        };
+        if writes(alloc, row.script.as_bytes(), row.expected.as_bytes()) != Ok(true) {
+            return Err(row.title);
         }
     }
-    None
+    Ok(text.len())
 }
 
 /// Whether a script writes this, and no more, with the sample refiners and conversions and those of these tests.
@@ -107,12 +104,4 @@ pub(crate) fn summary(alloc: Global, script: &[u8]) -> Result<Summary, Fault> {
     let mut log = IntoWrite::new(Vec::new(alloc));
     let ended = run(alloc, &mut reader, &mut writer, &mut log, false, &NoHost)?;
     Ok(ended.summary)
-}
-
-/// Appends so many times the same bytes.
-pub(crate) fn push_times(script: &mut Vec<u8>, piece: &[u8], count: usize) -> Result<(), Fault> {
-    for _ in 0..count {
-        script.extend_from_slice(piece)?;
-    }
-    Ok(())
 }

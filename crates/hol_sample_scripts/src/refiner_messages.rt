@@ -1,0 +1,89 @@
+// Refused refiners, with what is said of each, by hand.
+
+/// Expressions of which a part is refused; what is tried to find it is taken back.
+pub const PARTS: &str = r"
+== behind THEN, at the second subgoal
+goal `T /\ ((p:bool) ==> (q:bool))` ;;
+e CONJ_TAC THEN TAUT_TAC ;;
+--
+s:2:17: E26 NotTautology: the formula is false for some values of its atoms: (p:bool)=T, (q:bool)=F; the first goal there is `?- (p:bool) ==> (q:bool)`
+
+== in a list behind THENL
+goal `T /\ ((p:bool) ==> (q:bool))` ;;
+e CONJ_TAC THENL [ALL_TAC; REFL_TAC] ;;
+--
+s:2:28: E16 BadShape: a formula does not have the form that is wanted here: `REFL_TAC` wants a goal `a = b` with alpha-equivalent sides; the first goal there is `?- (p:bool) ==> (q:bool)`
+
+== in a list in parentheses
+goal `T /\ ((p:bool) ==> (q:bool))` ;;
+e (CONJ_TAC THENL [ALL_TAC; DISCH_TAC THEN CONJ_TAC]) ;;
+--
+s:2:44: E16 BadShape: a formula does not have the form that is wanted here: `CONJ_TAC` wants a goal `p /\ q`; the first goal there is `(p:bool) ?- (q:bool)`
+
+== a list for another number of subgoals
+goal `T /\ ((p:bool) ==> (q:bool))` ;;
+e CONJ_TAC THENL [ALL_TAC] THEN REFL_TAC ;;
+p ;;
+--
+s:2:12: E19 LengthMismatch: `THENL` wants one refiner in its list for each subgoal, and their numbers differ; the number of subgoals is 2; the first goal there is `?- T`
+
+== alternatives in parentheses
+goal `T /\ ((p:bool) ==> (q:bool))` ;;
+e CONJ_TAC THEN TRY DISCH_TAC THEN (ASSUMPTION_TAC ORELSE REFL_TAC) ;;
+b ;;
+--
+s:2:37: E16 BadShape: a formula does not have the form that is wanted here: `ASSUMPTION_TAC` wants a goal that is one of its assumptions; `REFL_TAC` wants a goal `a = b` with alpha-equivalent sides; the first goal there is `?- T`
+s:3:1: E24 NothingToUndo: there is no `e` or `r` behind the last `goal` to take back
+";
+
+/// What refiners without parts want.
+pub const REFINERS: &str = r"
+== EXISTS_TAC
+goal `?y:B. T` ;;
+e EXISTS_TAC `(x:A)` ;;
+--
+s:2:3: E4 TypeMismatch: the types of two parts do not fit: the bound variable `y` of `?y:B. T` has the type `B`, and `(x:A)` has the type `A`; the first goal there is `?- ?y:B. T`
+
+== TAUT_TAC
+goal `(p:bool) ==> (q:bool)` ;;
+e TAUT_TAC ;;
+--
+s:2:3: E26 NotTautology: the formula is false for some values of its atoms: (p:bool)=T, (q:bool)=F; the first goal there is `?- (p:bool) ==> (q:bool)`
+
+== refiners of assumptions, of theorems and of forms
+goal `(p:bool)` ;;
+e ASSUMPTION_TAC ;;
+e UNDISCH_TAC `T` ;;
+e ACCEPT_TAC TRUTH ;;
+e DISJ_CASES_TAC TRUTH ;;
+e CHOOSE_TAC TRUTH ;;
+e GEN_TAC ;;
+e EQ_TAC ;;
+--
+s:2:3: E18 RefineFails: the refiner does not apply to the goal: `ASSUMPTION_TAC` wants a goal that is one of its assumptions; the first goal there is `?- (p:bool)`
+s:3:3: E18 RefineFails: the refiner does not apply to the goal: `UNDISCH_TAC` wants an assumption of the goal; the first goal there is `?- (p:bool)`
+s:4:3: E18 RefineFails: the refiner does not apply to the goal: `ACCEPT_TAC` wants a theorem of the goal itself, whose hypotheses are assumptions of the goal, `TRUTH` is `|- T`; the first goal there is `?- (p:bool)`
+s:5:3: E16 BadShape: a formula does not have the form that is wanted here: `DISJ_CASES_TAC` wants a theorem `p \/ q` whose hypotheses are assumptions of the goal, `TRUTH` is `|- T`; the first goal there is `?- (p:bool)`
+s:6:3: E16 BadShape: a formula does not have the form that is wanted here: `CHOOSE_TAC` wants a theorem `?x:ty. p` whose hypotheses are assumptions of the goal, `TRUTH` is `|- T`; the first goal there is `?- (p:bool)`
+s:7:3: E16 BadShape: a formula does not have the form that is wanted here: `GEN_TAC` wants a goal `!x:ty. p`; the first goal there is `?- (p:bool)`
+s:8:3: E16 BadShape: a formula does not have the form that is wanted here: `EQ_TAC` wants a goal `p <=> q`; the first goal there is `?- (p:bool)`
+
+== theorems with other hypotheses
+thm h = ASSUME `(p:bool) <=> T` ;;
+goal `(p:bool)` ;;
+e REWRITE_TAC [h] ;;
+e CONV_TAC (REWR_CONV h) ;;
+--
+s:3:3: E18 RefineFails: the refiner does not apply to the goal: `REWRITE_TAC` wants theorems whose hypotheses are assumptions of the goal; the first goal there is `?- (p:bool)`
+s:4:3: E18 RefineFails: the refiner does not apply to the goal: `CONV_TAC` wants a conversion whose equation has no other hypotheses than assumptions of the goal; the first goal there is `?- (p:bool)`
+
+== conversions
+goal `~T` ;;
+e CONV_TAC (RAND_CONV BETA_CONV) ;;
+e CONV_TAC (RAND_CONV (BETA_CONV THENC NO_CONV)) ;;
+e CONV_TAC (ABS_CONV NO_CONV) ;;
+--
+s:2:23: E17 ConvFails: the conversion does not apply to the term: `BETA_CONV` wants a term `(\x:ty. b) t`, and is applied to `T`; the first goal there is `?- ~T`
+s:3:23: E17 ConvFails: the conversion does not apply to the term: `(BETA_CONV THENC NO_CONV)` is applied to `T`; the first goal there is `?- ~T`
+s:4:13: E17 ConvFails: the conversion does not apply to the term: `ABS_CONV NO_CONV` wants an abstraction, and is applied to `~T`; the first goal there is `?- ~T`
+";
