@@ -1,6 +1,7 @@
 -- What scripts say of sessions, passed on from the crate below.
 pub use Rattle.hol_session.specs.Performing.{ComesTo, Performs}
-pub use Rattle.hol_session.specs.Answers.{Says, answer_text, no_tools, plain, printed_name, row_bytes, session_tools}
+pub use Rattle.hol_session.specs.Answers.{Says, answer_text, no_tools, plain, printed_name, row_bytes}
+pub use Rattle.hol_inference.specs.Answers.{session_tools}
 pub use Rattle.hol_session.specs.SessionState.{theorem_of}
 pub use Rattle.hol_session.specs.StoredClaims.{IsAcceptedLog, IsLog, IsLongLog, stored_claim, stored_claims}
 pub use Rattle.hol_session.specs.declared.reply.Printed.{Printed}

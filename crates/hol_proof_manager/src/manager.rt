@@ -11,7 +11,8 @@ ghost use Rattle.hol_session_model.specs.CommandGrammar.{TheoremTree, var_comman
 ghost use Rattle.hol_session_model.specs.CommandGrammar.{goal_command, e_command, b_command, p_command, r_command, save_command};
 ghost use Rattle.hol_session_model.specs.ScriptSessions.{start};
 ghost use Rattle.hol_session.specs.Performing.{Performs};
-ghost use Rattle.hol_session.specs.Answers.{no_tools, session_tools, plainly, Says};
+ghost use Rattle.hol_session.specs.Answers.{no_tools, plainly, Says};
+ghost use Rattle.hol_inference.specs.Answers.{session_tools};
 ghost use Rattle.hol_command.specs.Views.{IsAsked};
 ghost use Rattle.hol_tactic_grammar.specs.Tactics.{IsExpression};
 ghost use Rattle.hol_model.specs.Kernel.Theorem.{Theorem};
@@ -30,6 +31,7 @@ use hol_exprs::{Fuel, Tac};
 use hol_goals::Stack;
 use hol_grammar::{TermStep, TypeStep};
 use hol_host::Refiners;
+use hol_inference::thm;
 use hol_model::{Fault, STEPS_LIMIT};
 use hol_session::reply::{Printed, Refused};
 use hol_session::session::Session;
@@ -248,7 +250,7 @@ impl Manager {
         }
     }
 
-    /// `thm NAME = ..`: stores and prints the theorem that is asked for (`Session::thm`).
+    /// `thm NAME = ..`: stores and prints the theorem that is asked for (`hol_inference::thm`).
     pub fn thm<H: Refiners>(
         &mut self,
         alloc: Global,
@@ -261,7 +263,7 @@ impl Manager {
             → Performs (session_tools (H.refiners host.now) (H.conversions host.now)) (state_of self.old) (thm_command name.now tree) (Says result) (state_of self.new) }
         ensures kept { IsManager self.new }
     {
-        self.prover.session.thm(alloc, host, name, asked)
+        thm(&mut self.prover.session, alloc, host, name, asked)
     }
 
     /// `show NAME`: prints a stored theorem again (`Session::show`).

@@ -1,5 +1,5 @@
 -- How the theorems of the prelude are stored, one after another.
-use Rattle.std.proofs.Common.{◌≡◌, ◌<◌, inl, inr, ℕ, List, [], ◌∷◌, length, drop, ◌∙◌, ap, sym, subst, Option, None, Some, Result, Ok, Err}
+use Rattle.std.proofs.Common.{◌≡◌, ◌<◌, inl, inr, ℕ, List, [], ◌∷◌, length, drop, ◌∙◌, ap, sym, subst, Option, None, Some, Result, Ok, Err, get_or, drop-cons, add-one}
 use Rattle.std.specs.Prelude.{slice_get, slice_index_or, OnOk, ◌+◌}
 use Rattle.std.proofs.lemmas.Option.{slice_get_cases}
 use Rattle.hol_model.specs.Kernel.Theorem.{Theorem}
@@ -12,9 +12,11 @@ use Rattle.hol_model.specs.declared.fault.Fault.{Fault}
 use Rattle.hol_journal.specs.Journal.{Recorded}
 use Rattle.hol_prelude.specs.Prelude.{prelude_theorems}
 use Rattle.hol_session.specs.declared.beginning.StoredTheorem.{StoredTheorem}
-use Rattle.hol_command.specs.Views.{Match}
-use Rattle.hol_session.proofs.ReplacementLemmas.{item-at}
-use Rattle.hol_session.specs.Beginning.{IsScopeOf, IsStoredTheorem, StoresNumbered}
+use Rattle.hol_session.specs.Beginning.{IsScopeOf, AreStoredTheorems, StoresNumbered}
+
+-- the item at a place, before what is left behind it
+pub item-at : {X : Type 0} → (items : List X) (at : ℕ) (default : X) → at < length items → drop at items ≡ get_or items at default ∷ drop (at + 1) items
+item-at items at default within = drop-cons items at default within ∙ ap (λ (n : ℕ). get_or items at default ∷ drop n items) (sym (add-one at))
 
 within : {A : Type 0} → (items : List A) (at : ℕ) (x : A) → slice_get items at ≡ Some x → at < length items
 within items at x there = elim (slice_get_cases items at).1 [
@@ -25,14 +27,14 @@ within items at x there = elim (slice_get_cases items at).1 [
 -- the theorems up to what is left are stored
 pub record IsStoringTo (old now : State) (left : List StoredTheorem) (all : List (List ℕ × Theorem)) : Type 0 where
   pub later : List (List ℕ × Theorem)
-  pub matched : Match IsStoredTheorem left later
+  pub matched : AreStoredTheorems left later
   pub same : with_theorems now later ≡ with_theorems old all
 
 pub storing-further : (old now new : State) (stored : StoredTheorem) (left : List StoredTheorem) (all : List (List ℕ × Theorem)) → IsStoringTo old now (stored ∷ left) all
     → StoresNumbered now new stored.name.now stored.number → IsStoringTo old new left all
 storing-further old now new stored left all storing stores = go storing.later storing.matched storing.same
   where
-    go : (later : List (List ℕ × Theorem)) → Match IsStoredTheorem (stored ∷ left) later → with_theorems now later ≡ with_theorems old all → IsStoringTo old new left all
+    go : (later : List (List ℕ × Theorem)) → AreStoredTheorems (stored ∷ left) later → with_theorems now later ≡ with_theorems old all → IsStoringTo old new left all
     go [] matched same = absurd matched
     go (named ∷ later) matched same = record {
       later = later;
@@ -44,7 +46,7 @@ storing-further old now new stored left all storing stores = go storing.later st
 pub storing-within : (old now : State) (stored : StoredTheorem) (left : List StoredTheorem) (all : List (List ℕ × Theorem)) → IsStoringTo old now (stored ∷ left) all → stored.number < length prelude_theorems
 storing-within old now stored left all storing = go storing.later storing.matched
   where
-    go : (later : List (List ℕ × Theorem)) → Match IsStoredTheorem (stored ∷ left) later → stored.number < length prelude_theorems
+    go : (later : List (List ℕ × Theorem)) → AreStoredTheorems (stored ∷ left) later → stored.number < length prelude_theorems
     go [] matched = absurd matched
     go (named ∷ later) matched = within prelude_theorems stored.number named.1 matched.0.1
 

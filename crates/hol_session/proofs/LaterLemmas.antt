@@ -21,10 +21,6 @@ later_same library = record { earlier = earlier-same library.theory library.theo
 pub later_as : (old new : State) → new ≡ old → IsLaterLibrary old new
 later_as old new same = subst (IsLaterLibrary old) (sym same) (later_same old)
 
--- the library of before is itself the same as another
-pub later_from : (old mid new : State) → mid ≡ old → IsLaterLibrary mid new → IsLaterLibrary old new
-later_from old mid new same later = subst (λ (s : State). IsLaterLibrary s new) same later
-
 later_by : (old new : State) → IsEarlier old.theory new.theory → Keeps old new → IsLaterLibrary old new
 later_by old new earlier keeps = record { earlier = earlier; told = keeps.is_told; stays = keeps.stays }
 

@@ -1,15 +1,11 @@
 pub mod RuleLemmas
 pub mod BeginningLemmas
 pub mod RecordingLemmas
-pub mod ReplacementLemmas
-pub mod DerivedLemmas
-pub mod RowLemmas
+pub mod ReadLemmas
 pub mod AllowedLemmas
 pub mod SessionLemmas
 pub mod GrowthLemmas
 pub mod ClaimLemmas
-pub mod TautologyLemmas
-pub mod ConversionLemmas
 pub mod ToolLemmas
 pub mod ProvedStores
 pub mod LaterLemmas

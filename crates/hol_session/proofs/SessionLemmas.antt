@@ -3,16 +3,16 @@ use Rattle.std.proofs.Common.{◌≡◌, ◌⊎◌, inl, inr, ℕ, List, ◌++�
 use Rattle.std.specs.Prelude.{true, false, codes, decimal}
 use Rattle.std.specs.Option.{option_map, is_some}
 use Rattle.hol_model.specs.declared.fault.Fault.{Fault}
-use Rattle.hol_model.specs.declared.fault.Fault.TheVariants.{Memory, BadName, NameTaken}
+use Rattle.hol_model.specs.declared.fault.Fault.TheVariants.{Memory, NameTaken}
 use Rattle.hol_model.specs.Kernel.Fault.{number_of, name_of}
 use Rattle.hol_model.specs.Kernel.Theorem.{Theorem, IsWellFormed}
 use Rattle.hol_model.specs.Logic.Theory.{IsEarlier}
 use Rattle.hol_sound.specs.Laws.{IsSound}
 use Rattle.hol_model.specs.Texts.Reading.{Scope}
-use Rattle.hol_session_model.specs.CommandGrammar.{TheoremTree, CommandTree, thm_command}
+use Rattle.hol_session_model.specs.CommandGrammar.{CommandTree}
 use Rattle.hol_session_model.specs.Sessions.{scope_in, is_theorem_name, with_theorem}
 use Rattle.hol_session_model.specs.Sessions.{State as Library}
-use Rattle.hol_session_model.specs.Replies.{nothing, theorem_line, Refusal, refusal_of, Reply, text_of_theorem, reply_text}
+use Rattle.hol_session_model.specs.Replies.{nothing, theorem_line, refusal_of, Reply, text_of_theorem, reply_text}
 use Rattle.hol_session_model.specs.ScriptSessions.{Tools, IsProved}
 use Rattle.hol_syntax.specs.Scope.{scope_of}
 use Rattle.hol_journal.specs.Journal.{Recorded}
@@ -22,11 +22,10 @@ use Rattle.hol_session.specs.declared.reply.Printed.{Printed}
 use Rattle.hol_session.specs.declared.reply.Printed.TheVariants.{Nothing, Line}
 use Rattle.hol_session.specs.declared.reply.Refused.{Refused}
 use Rattle.hol_session.specs.SessionState.{state_of, theorem_of, IsSession}
-use Rattle.hol_session.specs.Answers.{Beside, with_beside, IsLineOf, Says, answer_text, plain, IsNewName, TestsName, PerformsWith, MayGive, RefusesTheorem}
-use Rattle.hol_session.specs.Performing.{ComesTo}
+use Rattle.hol_session.specs.Answers.{Beside, with_beside, IsLineOf, Says, answer_text, plain, IsNewName, TestsName, PerformsWith}
 use Rattle.hol_session.specs.Growth.{Stores}
 use Rattle.hol_session.proofs.RuleLemmas.{proved}
-use Rattle.hol_session.proofs.AllowedLemmas.{AllowsRefusal, AllowsMessage, lacks_memory, thm_has_bad_name, thm_has_taken_name, thm_is_refused, thm_stores}
+use Rattle.hol_session.proofs.AllowedLemmas.{AllowsRefusal, AllowsMessage, lacks_memory}
 
 -- the scope of a session is that of its state
 pub scope_same : (session : Session) → IsSession session → scope_of session.scope ≡ scope_in (state_of session)
@@ -120,39 +119,6 @@ pub name_taken : (state : Library) (name : List ℕ) (found : Option (Bor Record
 name_taken state name None stored same is named there = cc
 name_taken state name (Some made) stored same is named there = inr (refl, named, ap is_some (sym is ∙ ap theorem_of (sym same)))
 
-some_there : (found : Option Theorem) → is_some found ≡ true → (there : Theorem) × (found ≡ Some there)
-some_there None is = cc
-some_there (Some there) is = (there, refl)
-
--- a name that may not be given
-pub misnamed : {tools : Tools} {lemmas : List Theorem} (state : Library) (name : List ℕ) (tree : TheoremTree) (fault : Fault)
-    → TestsName {A = Unit {0}} state name (Err fault) → PerformsWith tools lemmas state (thm_command name tree) (Err (plain fault)) state
-misnamed {tools} {lemmas} state name tree fault (inl bad) =
-    subst (λ (f : Fault). PerformsWith tools lemmas state (thm_command name tree) (Err (plain f)) state) (sym bad.0) (refuses state (thm_command name tree) BadName (thm_has_bad_name bad.1))
-misnamed {tools} {lemmas} state name tree fault (inr taken) =
-    let there = some_there (state.theorems name) taken.2 in
-    subst (λ (f : Fault). PerformsWith tools lemmas state (thm_command name tree) (Err (plain f)) state) (sym taken.0)
-    (refuses state (thm_command name tree) NameTaken (thm_has_taken_name taken.1 there.1))
-
--- what is asked for is refused
-pub thm_refuses : {tools : Tools} {lemmas : List Theorem} (old new : Library) (name : List ℕ) (tree : TheoremTree) (refused : Refused) → new ≡ old
-    → is_theorem_name name ≡ true → old.theorems name ≡ None → RefusesTheorem tools lemmas old tree refused → PerformsWith tools lemmas old (thm_command name tree) (Err refused) new
-thm_refuses {tools} {lemmas} old new name tree refused same named none r =
-    subst (λ (state : Library). PerformsWith tools lemmas old (thm_command name tree) (Err refused) state) (sym same) (record {
-      performs = λ beside own. record {
-        outcome = Err r.refusal;
-        comes = go beside own r.may;
-        leaves = refl;
-        says = r.says;
-        is_true = record { theorem = tt; goals = tt; row = r.readable beside };
-      };
-    })
-  where
-    go : (beside : Beside) → beside.lemmas ≡ lemmas → (r.refusal ≡ refusal_of Memory) ⊎ MayGive tools lemmas old tree (Err r.refusal)
-        → ComesTo tools (with_beside beside old) (thm_command name tree) (Err r.refusal)
-    go beside own (inl memory) = inl (ap (λ (refusal : Refusal). Err refusal) memory)
-    go beside own (inr may) = thm_is_refused tools lemmas old name tree r.refusal named none may beside own
-
 -- a theorem that is proved in a state is so once it is stored
 proved_with : (beside : Beside) (state : Library) (name : List ℕ) (theorem : Theorem) → IsProved (with_beside beside state) theorem
     → IsProved (with_beside beside (with_theorem state name theorem)) theorem
@@ -176,25 +142,4 @@ keeps_line old new name theorem line known sound formed earlier is_line same =
       state = same;
       proved = λ beside. subst (λ (s : Library). IsProved (with_beside beside s) theorem) (sym same)
           (proved_with beside (state_of old) name theorem (proved (with_beside beside (state_of old)) theorem sound known.legal formed earlier));
-    }
-
--- so it is after what was asked for, which leaves the state
-pub thm_keeps : {tools : Tools} {lemmas : List Theorem} (old mid new : Session) (name : List ℕ) (tree : TheoremTree) (theorem : Theorem) (printed : Printed) → state_of mid ≡ state_of old
-    → IsNewName (state_of old) name → MayGive tools lemmas (state_of old) tree (Ok theorem) → Stores mid new name theorem printed
-    → PerformsWith tools lemmas (state_of old) (thm_command name tree) (Ok printed) (state_of new)
-thm_keeps {tools} {lemmas} old mid new name tree theorem printed same free may stores =
-    let whole : state_of new ≡ with_theorem (state_of old) name theorem = stores.state ∙ ap (λ (s : Library). with_theorem s name theorem) same in
-    let allows : AllowsMessage tools lemmas (state_of old) (thm_command name tree) (theorem_line name theorem) (state_of new) =
-    subst (λ (s : Library). AllowsMessage tools lemmas (state_of old) (thm_command name tree) (theorem_line name theorem) s) (sym whole) (thm_stores free.named free.none may) in
-    record {
-      performs = λ beside own. record {
-        outcome = Ok (record { message = theorem_line name theorem; after = with_beside beside (state_of new) });
-        comes = allows.allowed beside own;
-        leaves = refl;
-        says = record {
-          spelled = stores.spelled ∙ sym (append-nil (text_of_theorem (scope_in (state_of new)) (record { name = name; theorem = theorem })));
-          named = stores.named;
-        };
-        is_true = record { theorem = stores.proved beside; goals = tt; row = tt };
-      };
     }

@@ -1,23 +1,17 @@
 -- What a call on a session answers.
 use Rattle.std.specs.Prelude.{◌≡◌, ◌⊎◌, ℕ, true, false, is_some, List, [], ◌++◌, Option, Some, None, Result, Ok, Err, string_bytes, codes, decimal}
-use Rattle.std.proofs.Common.{Vec, Global}
 use Rattle.hol_model.specs.declared.fault.Fault.{Fault}
-use Rattle.hol_model.specs.declared.fault.Fault.TheVariants.{Memory, BadName, NameTaken}
-use Rattle.hol_model.specs.declared.limits.TheConstants.{STEPS_LIMIT}
+use Rattle.hol_model.specs.declared.fault.Fault.TheVariants.{BadName, NameTaken}
 use Rattle.hol_model.specs.Kernel.Fault.{number_of, name_of}
 use Rattle.hol_model.specs.Kernel.Theorem.{Theorem}
 use Rattle.hol_model.specs.Goals.GoalStates.{Proof}
-use Rattle.hol_model.specs.Refining.HostFunctions.{HostConversions, no_host_conversions}
-use Rattle.hol_session_model.specs.Commands.{RuleTree}
-use Rattle.hol_session_model.specs.CommandGrammar.{TheoremTree, CommandTree}
+use Rattle.hol_session_model.specs.CommandGrammar.{CommandTree}
 use Rattle.hol_model.specs.Texts.Reading.{Scope}
-use Rattle.hol_session_model.specs.Sessions.{IsRuleAnswer, is_theorem_name, scope_in}
+use Rattle.hol_session_model.specs.Sessions.{is_theorem_name}
 use Rattle.hol_session_model.specs.Sessions.{State as Library}
-use Rattle.hol_session_model.specs.Replies.{Refusal, refusal_of, Reply, text_of_some, text_of_theorem}
-use Rattle.hol_session_model.specs.ScriptSessions.{State, Tools, IsTheoremAnswer, IsReadableRow}
+use Rattle.hol_session_model.specs.Replies.{Reply, text_of_some, text_of_theorem}
+use Rattle.hol_session_model.specs.ScriptSessions.{State, Tools}
 use Rattle.hol_session_model.specs.SessionCalls.{SaysMessage, SaysRefusal}
-use Rattle.hol_session_model.specs.SessionTools.{tools}
-use Rattle.hol_host.specs.Host.{HostRefiners, host_of, no_host_refiners}
 use Rattle.hol_session.specs.declared.lines.TheoremLine.{TheoremLine}
 use Rattle.hol_session.specs.declared.reply.Printed.{Printed}
 use Rattle.hol_session.specs.declared.reply.Printed.TheVariants.{Nothing, Line, Goals}
@@ -33,14 +27,6 @@ pub record Beside : Type 0 where
 
 abbrev pub with_beside : Beside → Library → State
 with_beside beside library = record { library = library; lemmas = beside.lemmas; proof = beside.proof }
-
--- what may come of tautologies, conversions and refiners in a session with a host's functions
-abbrev pub session_tools : HostRefiners → HostConversions → Tools
-session_tools refiners conversions = tools (host_of refiners conversions) STEPS_LIMIT
-
--- the same without a host
-abbrev pub hostless : Tools
-hostless = session_tools no_host_refiners no_host_conversions
 
 -- tools that answer nothing: what a command does with these it does with any
 abbrev pub no_tools : Tools
@@ -111,34 +97,3 @@ TestsName library name (Ok done) = IsNewName library name
 TestsName library name (Err fault) =
     ((fault ≡ BadName) × (is_theorem_name name ≡ false))
     ⊎ ((fault ≡ NameTaken) × (is_theorem_name name ≡ true) × (is_some (library.theorems name) ≡ true))
-
--- what the rule may answer, or that there is no memory
-abbrev pub AnswersRule : Result Theorem Fault → Library → RuleTree → Type 0
-AnswersRule (Ok theorem) library tree = IsRuleAnswer library tree (Ok theorem)
-AnswersRule (Err fault) library tree = (fault ≡ Memory) ⊎ IsRuleAnswer library tree (Err fault)
-
--- the items of this outcome, or that there is no memory
-abbrev pub AnswersItems : {A : Type 0} → Result (Vec A Global) Fault → Result (List A) Fault → Type 0
-AnswersItems (Ok x) outcome = outcome ≡ Ok x.items
-AnswersItems (Err fault) outcome = (fault ≡ Memory) ⊎ (outcome ≡ Err fault)
-
--- with these lemmas `thm` may give this, whatever proof stands beside the library
-abbrev pub MayGive : Tools → List Theorem → Library → TheoremTree → Result Theorem Refusal → Type 0
-MayGive tools lemmas library tree answer = (beside : Beside) → beside.lemmas ≡ lemmas → IsTheoremAnswer tools (with_beside beside library) tree answer
-
--- `thm` may give this, its refusals without a row, or there is no memory
-abbrev pub AnswersPlainly : Tools → List Theorem → Result Theorem Fault → Library → TheoremTree → Type 0
-AnswersPlainly tools lemmas (Ok theorem) library tree = MayGive tools lemmas library tree (Ok theorem)
-AnswersPlainly tools lemmas (Err fault) library tree = (fault ≡ Memory) ⊎ MayGive tools lemmas library tree (Err (refusal_of fault))
-
--- A refusal of what `thm` asks for, or that there is no memory, and what is told of it.
-pub record RefusesTheorem (tools : Tools) (lemmas : List Theorem) (library : Library) (tree : TheoremTree) (refused : Refused) : Type 0 where
-  pub refusal : Refusal
-  pub may : (refusal ≡ refusal_of Memory) ⊎ MayGive tools lemmas library tree (Err refusal)
-  pub says : SaysRefusal (scope_in library) refused.fault (row_bytes refused) refusal
-  pub readable : (beside : Beside) → IsReadableRow (with_beside beside library) refusal.row
-
--- what `thm` asks for: the theorem, or its refusal
-abbrev pub AnswersTheorem : Tools → List Theorem → Result Theorem Refused → Library → TheoremTree → Type 0
-AnswersTheorem tools lemmas (Ok theorem) library tree = MayGive tools lemmas library tree (Ok theorem)
-AnswersTheorem tools lemmas (Err refused) library tree = RefusesTheorem tools lemmas library tree refused

@@ -1,5 +1,5 @@
 -- What stands when a script begins.
-use Rattle.std.specs.Prelude.{◌≡◌, ℕ, List, Some, None, slice_get}
+use Rattle.std.specs.Prelude.{◌≡◌, ℕ, List, [], ◌∷◌, Some, None, slice_get}
 use Rattle.hol_model.specs.Logic.Logic.{logical_definitions}
 use Rattle.hol_model.specs.Logic.Theory.{Theory, generic_type}
 use Rattle.hol_model.specs.Logic.KnownTerm.{is_declared}
@@ -8,7 +8,6 @@ use Rattle.hol_model.specs.Texts.Reading.{Scope}
 use Rattle.hol_session_model.specs.Sessions.{State, with_theorem}
 use Rattle.hol_prelude.specs.Prelude.{prelude_theorems}
 use Rattle.hol_session.specs.declared.beginning.StoredTheorem.{StoredTheorem}
-use Rattle.hol_command.specs.Views.{Match}
 
 -- the scope knows the constants and the types of the theory, and no variables
 pub record IsScopeOf (scope : Scope) (theory : Theory) : Type 0 where
@@ -24,8 +23,11 @@ logical_state = record { theory = logical_definitions; variables = λ _. None; t
 abbrev pub IsStoredTheorem : StoredTheorem → List ℕ × Theorem → Type 0
 IsStoredTheorem stored named = (stored.name.now ≡ named.0) × (slice_get prelude_theorems stored.number ≡ Some named.1)
 
+-- the same of each entry of a table
 abbrev pub AreStoredTheorems : List StoredTheorem → List (List ℕ × Theorem) → Type 0
-AreStoredTheorems stored named = Match IsStoredTheorem stored named
+AreStoredTheorems [] [] = Unit {0}
+AreStoredTheorems (stored ∷ table) (named ∷ theorems) = IsStoredTheorem stored named × AreStoredTheorems table theorems
+AreStoredTheorems _ _ = ⊥
 
 -- the theorem of this number among those of the prelude was stored under the name
 pub record StoresNumbered (old new : State) (name : List ℕ) (number : ℕ) : Type 0 where

@@ -3,6 +3,4 @@ pub mod Performing
 pub mod Answers
 pub mod Growth
 pub mod Beginning
-pub mod Recording
 pub mod StoredClaims
-pub mod Rows

@@ -6,7 +6,7 @@ use hol_prelude::logic_stays;
 use hol_taut_laws::laws_stay;
 
 /// What a recorder has made stays its own. Nothing is computed: the clause is the law, for callers' proofs.
-pub(crate) fn libraries_grow()
+pub fn libraries_grow()
     ensures { LibrariesGrow }
 {
     journals_grow();

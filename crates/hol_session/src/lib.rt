@@ -1,4 +1,5 @@
-//! Sessions: one command at a time, the theorems stored under their names, and the log of those that are named.
+//! Sessions: the theorems stored under their names, what names stand for, definitions and declarations, and the log of the
+//! theorems that are named.
 #![tactic(auto, using(hol_model::proofs::Kernel::Refusals::refusals))]
 
 mod beginning;
@@ -6,8 +7,7 @@ mod growth;
 mod known;
 mod lines;
 pub mod reply;
-mod rows;
-mod rules;
 pub mod session;
 mod stored_claims;
-mod theorems;
+
+pub use growth::libraries_grow;

@@ -1,17 +1,20 @@
 // Sessions: what the commands of a script have stored.
-ghost use Rattle.std.specs.Prelude.{◌≡◌, ◌⊎◌, ◌<◌, ◌∷◌, List, [], map, length, OnOk, OnErr, IfOk, IfErr, IsErrOf, Contains, string_bytes};
-ghost use Rattle.hol_session_model.specs.CommandGrammar.{TheoremTree, thm_command, show_command, var_command, def_command, newtype_command, newconst_command};
+ghost use Rattle.std.specs.Prelude.{◌≡◌, ◌⊎◌, ◌<◌, ◌∷◌, true, List, [], map, length, OnOk, OnErr, IfOk, IfErr, IsErrOf, Contains, string_bytes};
+ghost use Rattle.hol_session_model.specs.CommandGrammar.{show_command, var_command, def_command, newtype_command, newconst_command};
 ghost use Rattle.hol_model.specs.Kernel.Rules.{define_outcome, new_type_outcome, new_const_outcome};
+ghost use Rattle.hol_model.specs.Kernel.Outcome.{Answers};
 ghost use Rattle.hol_model.specs.Kernel.Theorem.{Theorem};
+ghost use Rattle.hol_model.specs.Logic.KnownTerm as logic;
 ghost use Rattle.hol_model.specs.Derived.Prelude.{stored_theorems};
-ghost use Rattle.hol_session_model.specs.Sessions.{start, with_theorem, with_theorems};
+ghost use Rattle.hol_session_model.specs.Sessions.{start, with_theorem, with_theorems, scope_in};
+ghost use Rattle.hol_model.specs.Texts.Reading.{meaning, type_meaning};
 ghost use Rattle.hol_model.specs.Texts.TermGrammar.{TermTree};
 ghost use Rattle.hol_model.specs.Texts.TypeGrammar.{TypeTree, type_steps};
 ghost use Rattle.hol_model.specs.declared.fault.Fault.TheVariants.{Memory, TooLong};
 ghost use Rattle.hol_grammar.specs.Steps.{flat_steps_of};
 ghost use Rattle.hol_grammar.specs.TermSteps.{term_steps, flat_steps};
 ghost use Rattle.hol_grammar.specs.Views.{steps_of};
-ghost use Rattle.hol_session.specs.Answers.{no_tools, session_tools, plainly, TestsName, IsNewName, PerformsWith};
+ghost use Rattle.hol_session.specs.Answers.{no_tools, plainly, TestsName, IsNewName, PerformsWith};
 ghost use Rattle.hol_prelude.specs.Prelude.{prelude_theorems};
 ghost use Rattle.hol_journal.specs.Journal.{IsMade};
 ghost use Rattle.hol_log.specs.LogAccepted.{log_claim};
@@ -21,23 +24,21 @@ ghost use Rattle.hol_session.specs.Beginning.{logical_state, AreStoredTheorems, 
 ghost use Rattle.hol_store.specs.Store.{stored_of};
 ghost use Rattle.hol_session.specs.SessionState.{state_of, lemmas_of, IsSession, IsLaterLibrary, StaysMade};
 ghost use Rattle.hol_session.specs.StoredClaims.{stored_claims, IsAcceptedLog, IsLongLog};
-ghost use Rattle.hol_command.specs.Views.{IsAsked};
 
 use crate::beginning::{STORED, StoredTheorem, logical_scope};
 use crate::growth::libraries_grow;
+use crate::known::knows_type;
 use crate::lines::{TheoremLine, definition_line, definition_name, is_theorem_name, theorem_line};
-use crate::reply::{Printed, Refused};
+use crate::reply::Printed;
 use crate::stored_claims::claims;
-use hol_command::command::Asked;
 use hol_grammar::{TermStep, TypeStep};
-use hol_host::Refiners;
 use hol_journal::{Rec, journals_grow};
 use hol_library::Library;
 use hol_log::log_text;
 use hol_model::Fault;
 use hol_prelude::theorem_of;
 use hol_sound::sound;
-use hol_syntax::Scope;
+use hol_syntax::{Scope, build_type, term_of_steps};
 use hol_terms::Term;
 use hol_types::Ty;
 use std::alloc::Global;
@@ -118,38 +119,6 @@ impl Session {
         match theorem_of(&self.library.recorder, &self.library.logic, number).copy(alloc) {
             Ok(theorem) => self.store(alloc, name, theorem),
             Err(fault) => Err(fault),
-        }
-    }
-
-    /// `thm NAME = RULE ..`, `thm NAME = TAUT "p"` and `thm NAME = CONV conv "t"`: stores and prints the theorem that is asked
-    /// for; a host's conversions may be called. A refusal changes nothing.
-    pub fn thm<H: Refiners>(
-        &mut self,
-        alloc: Global,
-        hosts: &H,
-        name: &str,
-        asked: &Asked,
-    ) -> Result<Printed, Refused>
-        requires { IsSession self.old }
-        ensures performs { (tree : TheoremTree) → IsAsked asked.now tree
-            → PerformsWith (session_tools (H.refiners hosts.now) (H.conversions hosts.now)) (lemmas_of self.old) (state_of self.old) (thm_command name.now tree) result (state_of self.new) }
-        ensures kept { IsSession self.new }
-        ensures lemmas { lemmas_of self.new ≡ lemmas_of self.old }
-        ensures stays { StaysMade self.old self.new }
-        ensures later { IsLaterLibrary (state_of self.old) (state_of self.new) }
-    {
-        match self.test_name(name) {
-            Ok(()) => {}
-            Err(fault) => return Err(Refused::plain(fault)),
-        }
-        libraries_grow();
-        let theorem = match self.theorem(alloc, hosts, asked) {
-            Ok(theorem) => theorem,
-            Err(refused) => return Err(refused),
-        };
-        match self.keep(alloc, name, theorem) {
-            Ok(printed) => Ok(printed),
-            Err(fault) => Err(Refused::plain(fault)),
         }
     }
 
@@ -356,6 +325,48 @@ impl Session {
             Ok(claims) => log_text(&self.library.recorder, alloc, &claims),
             Err(fault) => Err(fault),
         }
+    }
+
+    /// The term of a quoted argument.
+    pub fn term(&self, alloc: Global, steps: &[TermStep]) -> Result<Term, Fault>
+        requires { IsSession self.now }
+        ensures { (tree : TermTree) → flat_steps_of steps.now ≡ flat_steps (term_steps tree)
+            → Answers result (meaning (scope_in (state_of self.now)) [] tree) }
+    {
+        term_of_steps(alloc, &self.scope, steps)
+    }
+
+    /// The term of a quoted argument, tested as the kernel's rules test theirs. What a text is read as passes the test.
+    pub fn known_term(&self, alloc: Global, steps: &[TermStep]) -> Result<Term, Fault>
+        requires { IsSession self.now }
+        ensures reads { (tree : TermTree) → flat_steps_of steps.now ≡ flat_steps (term_steps tree)
+            → Answers result (meaning (scope_in (state_of self.now)) [] tree) }
+        ensures known { IfOk result (λ term. logic.is_known self.now.library.recorder.theory term ≡ true) }
+    {
+        let term = match self.term(alloc, steps) {
+            Ok(term) => term,
+            Err(fault) => return Err(fault),
+        };
+        match self.library.recorder.theory().first_unknown(&term) {
+            None => Ok(term),
+            Some(fault) => Err(fault),
+        }
+    }
+
+    /// The type of a command's argument, tested as the kernel tests types. What a text is read as passes the test.
+    pub fn ty(&self, alloc: Global, steps: &[TypeStep]) -> Result<Ty, Fault>
+        requires { IsSession self.now }
+        ensures reads { (tree : TypeTree) → steps_of steps.now ≡ type_steps tree → Answers result (type_meaning (scope_in (state_of self.now)) tree) }
+        ensures known { IfOk result (λ ty. logic.knows_type self.now.library.recorder.theory ty ≡ true) }
+    {
+        let ty = match build_type(alloc, &self.scope, steps) {
+            Ok(ty) => ty,
+            Err(fault) => return Err(fault),
+        };
+        if !knows_type(self.library.recorder.theory(), &ty) {
+            return Err(Fault::UnknownType);
+        }
+        Ok(ty)
     }
 
     // Defines a constant that the scope has, stores the theorem and answers its line. A refusal changes nothing.

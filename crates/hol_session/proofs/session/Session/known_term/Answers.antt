@@ -1,5 +1,5 @@
 use Rattle.std.proofs.Common.{sym}
-use Rattle.hol_session.proofs.ConversionLemmas.{read_passes}
+use Rattle.hol_session.proofs.ReadLemmas.{read_passes}
 use Rattle.hol_session.proofs.session.Session.known_term.Goals as goal
 
 pub returns-in-Some-clause-reads : goal.returns-in-Some-clause-reads

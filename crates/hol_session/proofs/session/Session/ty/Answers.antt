@@ -3,7 +3,7 @@ use Rattle.hol_model.specs.Kernel.Outcome.{Answers}
 use Rattle.hol_model.specs.Terms.HolType.{HolType}
 use Rattle.hol_model.specs.Texts.Reading.{Scope, type_meaning}
 use Rattle.hol_session.proofs.SessionLemmas.{scope_same}
-use Rattle.hol_session.proofs.ConversionLemmas.{read_type_passes}
+use Rattle.hol_session.proofs.ReadLemmas.{read_type_passes}
 use Rattle.hol_session.proofs.session.Session.ty.Goals as goal
 
 pub returns-in-Err-clause-reads : goal.returns-in-Err-clause-reads

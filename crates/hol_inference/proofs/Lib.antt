@@ -1,0 +1,7 @@
+pub mod DerivedLemmas
+pub mod ReplacementLemmas
+pub mod RowLemmas
+pub mod MadeTheorems
+pub mod TautologyLemmas
+pub mod ConversionLemmas
+pub mod ThmLemmas
