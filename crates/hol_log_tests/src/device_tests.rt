@@ -1,9 +1,7 @@
 // Runs over devices that fail or do not end.
-ghost use Rattle.std.specs.Prelude.{◌≡◌, false};
-
 use hol_devices::FromRead;
 use hol_host::NoHost;
-use hol_model::{Fault, Source};
+use hol_model::Fault;
 use hol_sample_devices::{Endless, FailsSecond, Kept, Narrow};
 use hol_sample_logs::logs::{LOG, OUTPUT, SCRIPT};
 use hol_script::run;
@@ -53,27 +51,38 @@ fn a_log_without_room(rt: HostRuntime) {
     }
 }
 
-// What a run over this source is refused for, where it writes nothing.
-fn refusal_without_output<R: Source>(alloc: Global, reader: &mut R) -> Option<Fault>
-    requires { R.has_failed reader.old ≡ false }
-{
-    let mut writer = Kept::new(alloc);
-    let mut log = Kept::new(alloc);
-    let answer = run(alloc, reader, &mut writer, &mut log, true, &NoHost);
-    if writer.bytes.is_empty() && log.bytes.is_empty() {
-        answer.err()
+// What a run is refused for, where it writes nothing.
+fn without_output(refusal: Option<Fault>, output: &[u8], log: &[u8]) -> Option<Fault> {
+    if output.is_empty() && log.is_empty() {
+        refusal
     } else {
         None
     }
 }
 
+// What a run over a source that breaks off is refused for.
+fn refusal_of_break(alloc: Global) -> Option<Fault> {
+    let mut reader = FailsSecond::new(SCRIPT);
+    let mut writer = Kept::new(alloc);
+    let mut log = Kept::new(alloc);
+    let answer = run(alloc, &mut reader, &mut writer, &mut log, true, &NoHost);
+    without_output(answer.err(), &writer.bytes, &log.bytes)
+}
+
+// What a run over a source without an end is refused for.
+fn refusal_of_endless(alloc: Global) -> Option<Fault> {
+    let mut writer = Kept::new(alloc);
+    let mut log = Kept::new(alloc);
+    let answer = run(alloc, &mut Endless, &mut writer, &mut log, true, &NoHost);
+    without_output(answer.err(), &writer.bytes, &log.bytes)
+}
+
 #[test]
 fn a_script_that_breaks_off(rt: HostRuntime) {
-    let mut source = FailsSecond::new(SCRIPT);
-    assert!(rt; refusal_without_output(rt.alloc(), &mut source) == Some(Fault::ReadFault));
+    assert!(rt; refusal_of_break(rt.alloc()) == Some(Fault::ReadFault));
 }
 
 #[test]
 fn a_script_without_an_end(rt: HostRuntime) {
-    assert!(rt; refusal_without_output(rt.alloc(), &mut Endless) == Some(Fault::TooLong));
+    assert!(rt; refusal_of_endless(rt.alloc()) == Some(Fault::TooLong));
 }

@@ -24,22 +24,32 @@ fn host_of_samples(alloc: Global) -> Result<Host, Fault> {
     Ok(host)
 }
 
-/// The log of a script, run with the sample refiners and conversions.
-pub(crate) fn log_of(alloc: Global, script: &[u8]) -> Result<Vec<u8>, Fault> {
-    let host = host_of_samples(alloc)?;
+// The log of a script, run over a host.
+fn log_over(alloc: Global, script: &[u8], host: &Host) -> Result<Vec<u8>, Fault> {
     let mut reader = FromRead::new(script);
     let mut writer = IntoWrite::new(Vec::new(alloc));
     let mut log = Kept::new(alloc);
-    run(alloc, &mut reader, &mut writer, &mut log, true, &host)?;
+    run(alloc, &mut reader, &mut writer, &mut log, true, host)?;
     Ok(log.bytes)
+}
+
+/// The log of a script, run with the sample refiners and conversions.
+pub(crate) fn log_of(alloc: Global, script: &[u8]) -> Result<Vec<u8>, Fault> {
+    let host = host_of_samples(alloc)?;
+    log_over(alloc, script, &host)
+}
+
+/// Whether a log is accepted, and its claims print as these lines.
+pub(crate) fn has_claims(alloc: Global, log: &[u8], lines: &[u8]) -> Result<bool, Fault> {
+    let mut reader = FromRead::new(log);
+    let claims = check(alloc, &mut reader)?;
+    let mut writer = Kept::new(alloc);
+    write_claims(alloc, claims.as_slice(), &mut writer)?;
+    Ok(writer.bytes.as_slice() == lines)
 }
 
 /// Whether the log of a script is accepted, and its claims print as these lines.
 pub(crate) fn claims(alloc: Global, script: &[u8], lines: &[u8]) -> Result<bool, Fault> {
     let log = log_of(alloc, script)?;
-    let mut reader = FromRead::new(log.as_slice());
-    let claims = check(alloc, &mut reader)?;
-    let mut writer = Kept::new(alloc);
-    write_claims(alloc, claims.as_slice(), &mut writer)?;
-    Ok(writer.bytes.as_slice() == lines)
+    has_claims(alloc, &log, lines)
 }
