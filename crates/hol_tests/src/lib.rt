@@ -7,8 +7,6 @@ mod derived_script_tests;
 #[cfg(test)]
 mod goal_script_tests;
 #[cfg(test)]
-mod host_functions;
-#[cfg(test)]
 mod host_script_tests;
 #[cfg(test)]
 mod long_script_tests;

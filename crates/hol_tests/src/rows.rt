@@ -1,8 +1,4 @@
 // Scripts as data, and what their runs write.
-use crate::host_functions::{
-    circular, deep, foreign, guess, mute, nameless, presuming, renamed, shapeless, shared,
-    stranger, twin, twisted, vast, without_lemma, wrong,
-};
 use hol_devices::{FromRead, IntoWrite};
 use hol_host::{Host, NoHost};
 use hol_just::Goal;
@@ -11,6 +7,10 @@ use hol_sample_devices::{Compared, Rows};
 use hol_sample_host::{liar, liar2, peel, swap};
 use hol_script::{Summary, run};
 use hol_terms::Term;
+use hol_test_host::{
+    circular, deep, foreign, guess, mute, nameless, presuming, renamed, shapeless, shared,
+    stranger, twin, twisted, vast, without_lemma, wrong,
+};
 use std::alloc::Global;
 
 /// The title of the first row of a text whose script writes something else than is expected, or how many rows there are.
@@ -33,8 +33,10 @@ pub(crate) fn writes(alloc: Global, script: &[u8], expected: &[u8]) -> Result<bo
     let mut reader = FromRead::new(script);
     let mut writer = Compared::new(expected);
     let mut log = IntoWrite::new(Vec::new(alloc));
-    run(alloc, &mut reader, &mut writer, &mut log, false, &host)?;
-    Ok(writer.is_whole())
+    match run(alloc, &mut reader, &mut writer, &mut log, false, &host) {
+        Ok(_) => Ok(writer.is_whole()),
+        Err(fault) => Err(fault),
+    }
 }
 
 // The sample refiners and conversions, and those of these tests.
@@ -102,6 +104,8 @@ pub(crate) fn summary(alloc: Global, script: &[u8]) -> Result<Summary, Fault> {
     let mut reader = FromRead::new(script);
     let mut writer = IntoWrite::new(Vec::new(alloc));
     let mut log = IntoWrite::new(Vec::new(alloc));
-    let ended = run(alloc, &mut reader, &mut writer, &mut log, false, &NoHost)?;
-    Ok(ended.summary)
+    match run(alloc, &mut reader, &mut writer, &mut log, false, &NoHost) {
+        Ok(ended) => Ok(ended.summary),
+        Err(fault) => Err(fault),
+    }
 }

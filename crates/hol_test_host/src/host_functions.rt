@@ -1,4 +1,4 @@
-// Further functions of the host of these tests.
+// Refiners and conversions with a step to find, to spoil, or to leave.
 use hol_host::HostFail;
 use hol_just::{Goal, Just, Rule, Step, lemma, named, splice, step, sub};
 use hol_model::Fault;
@@ -6,7 +6,7 @@ use hol_terms::{Term, mk_eq};
 use std::alloc::Global;
 
 /// On `p /\ p` without assumptions the subgoal `p`, once for both sides. Of other applications the step is wrong.
-pub(crate) fn twin(alloc: Global, goal: &Goal) -> Result<Step, HostFail> {
+pub fn twin(alloc: Global, goal: &Goal) -> Result<Step, HostFail> {
     let Some((_, half)) = goal.concl.dest_comb() else {
         return Err(HostFail);
     };
@@ -28,17 +28,17 @@ fn halved(alloc: Global, half: &Term) -> Result<Step, Fault> {
 }
 
 /// No step of any goal.
-pub(crate) fn mute(_alloc: Global, _goal: &Goal) -> Result<Step, HostFail> {
+pub fn mute(_alloc: Global, _goal: &Goal) -> Result<Step, HostFail> {
     Err(HostFail)
 }
 
 /// The step of the goal `T`, whatever the goal.
-pub(crate) fn stranger(alloc: Global, _goal: &Goal) -> Result<Step, HostFail> {
+pub fn stranger(alloc: Global, _goal: &Goal) -> Result<Step, HostFail> {
     proved(alloc, named(alloc, "TRUTH"))
 }
 
 /// A subgoal that is no formula.
-pub(crate) fn shapeless(alloc: Global, goal: &Goal) -> Result<Step, HostFail> {
+pub fn shapeless(alloc: Global, goal: &Goal) -> Result<Step, HostFail> {
     match to_a_predicate(alloc, &goal.concl) {
         Ok(step) => Ok(step),
         Err(_) => Err(HostFail),
@@ -46,22 +46,22 @@ pub(crate) fn shapeless(alloc: Global, goal: &Goal) -> Result<Step, HostFail> {
 }
 
 /// No subgoals, by the subgoal of number 0.
-pub(crate) fn circular(alloc: Global, _goal: &Goal) -> Result<Step, HostFail> {
+pub fn circular(alloc: Global, _goal: &Goal) -> Result<Step, HostFail> {
     proved(alloc, sub(alloc, 0))
 }
 
 /// The step of the goal `T` by a tree of more than 2^1000 nodes, which stand in some 4,000 lines.
-pub(crate) fn shared(alloc: Global, _goal: &Goal) -> Result<Step, HostFail> {
+pub fn shared(alloc: Global, _goal: &Goal) -> Result<Step, HostFail> {
     proved(alloc, doubled(alloc))
 }
 
 /// The step of the goal `T` by a tree whose depth is one past the limit: no step.
-pub(crate) fn deep(alloc: Global, _goal: &Goal) -> Result<Step, HostFail> {
+pub fn deep(alloc: Global, _goal: &Goal) -> Result<Step, HostFail> {
     proved(alloc, towering(alloc))
 }
 
 /// The subgoal of the same conclusion with the assumption `p` alone, whether the goal has that assumption or not.
-pub(crate) fn presuming(alloc: Global, goal: &Goal) -> Result<Step, HostFail> {
+pub fn presuming(alloc: Global, goal: &Goal) -> Result<Step, HostFail> {
     match from_p(alloc, &goal.concl) {
         Ok(step) => Ok(step),
         Err(_) => Err(HostFail),
@@ -69,7 +69,7 @@ pub(crate) fn presuming(alloc: Global, goal: &Goal) -> Result<Step, HostFail> {
 }
 
 /// The step of the goal `T`, with a subgoal that names a constant which no theory of these tests has.
-pub(crate) fn foreign(alloc: Global, goal: &Goal) -> Result<Step, HostFail> {
+pub fn foreign(alloc: Global, goal: &Goal) -> Result<Step, HostFail> {
     match beside_unknown(alloc, &goal.concl) {
         Ok(step) => Ok(step),
         Err(_) => Err(HostFail),
@@ -77,17 +77,17 @@ pub(crate) fn foreign(alloc: Global, goal: &Goal) -> Result<Step, HostFail> {
 }
 
 /// No subgoals, by a theorem that is not stored.
-pub(crate) fn nameless(alloc: Global, _goal: &Goal) -> Result<Step, HostFail> {
+pub fn nameless(alloc: Global, _goal: &Goal) -> Result<Step, HostFail> {
     proved(alloc, named(alloc, "nobody"))
 }
 
 /// No subgoals, by a lemma that there is not.
-pub(crate) fn without_lemma(alloc: Global, _goal: &Goal) -> Result<Step, HostFail> {
+pub fn without_lemma(alloc: Global, _goal: &Goal) -> Result<Step, HostFail> {
     proved(alloc, lemma(alloc, 1000))
 }
 
 /// The step of the goal `T` by a tree of 2^2000 - 1 nodes, as deep as a tree may be.
-pub(crate) fn vast(alloc: Global, _goal: &Goal) -> Result<Step, HostFail> {
+pub fn vast(alloc: Global, _goal: &Goal) -> Result<Step, HostFail> {
     proved(alloc, doubled_to_the_limit(alloc))
 }
 
@@ -183,7 +183,7 @@ fn around(alloc: Global, layer: &Just, just: Just) -> Result<Just, Fault> {
 }
 
 /// The term itself, by a theorem that is no equation of the two.
-pub(crate) fn wrong(alloc: Global, term: &Term) -> Result<(Term, Just), HostFail> {
+pub fn wrong(alloc: Global, term: &Term) -> Result<(Term, Just), HostFail> {
     match (term.copy(alloc), named(alloc, "TRUTH")) {
         (Ok(term), Ok(just)) => Ok((term, just)),
         _ => Err(HostFail),
@@ -191,17 +191,17 @@ pub(crate) fn wrong(alloc: Global, term: &Term) -> Result<(Term, Just), HostFail
 }
 
 /// `T`, by the theorem that the formula equals itself.
-pub(crate) fn twisted(alloc: Global, term: &Term) -> Result<(Term, Just), HostFail> {
+pub fn twisted(alloc: Global, term: &Term) -> Result<(Term, Just), HostFail> {
     converted(reflexive(alloc, term))
 }
 
 /// `T`, by the assumption that the formula equals it.
-pub(crate) fn guess(alloc: Global, term: &Term) -> Result<(Term, Just), HostFail> {
+pub fn guess(alloc: Global, term: &Term) -> Result<(Term, Just), HostFail> {
     converted(supposed(alloc, term))
 }
 
 /// `\y:A. y` of `\x:A. x`, and no answer of a term that binds another name.
-pub(crate) fn renamed(alloc: Global, term: &Term) -> Result<(Term, Just), HostFail> {
+pub fn renamed(alloc: Global, term: &Term) -> Result<(Term, Just), HostFail> {
     match identity_renamed(alloc, term) {
         Ok(Some(equal)) => Ok(equal),
         Ok(None) => Err(HostFail),
