@@ -1,8 +1,9 @@
 -- Lemmas on what sources give and sinks take.
-use Rattle.std.proofs.Common.{◌≡◌, ℕ, List, ◌++◌, take, drop, OnErr, Option, Ok, Err, Result, sym, ap, ◌∙◌, append_assoc, take-append-drop}
-use Rattle.std.specs.Io.KnownBytes.{Appends}
-use Rattle.std.proofs.KnownBytes.{Appends-trans}
-use Rattle.hol_bytes.specs.Bytes.{AppendsFront}
+use Rattle.std.proofs.Common.{◌≡◌, ◌≤◌, ◌+◌, ℕ, List, ◌++◌, length, take, drop, OnErr, Option, Ok, Err, Result, sym, ap, ◌∙◌, subst, append_assoc, take-append-drop}
+use Rattle.std.proofs.lemmas.List.{length-append, length-take-le}
+use Rattle.std.specs.Io.KnownBytes.{Appends, Consumes}
+use Rattle.std.proofs.KnownBytes.{Appends-trans, Consumes-trans}
+use Rattle.hol_bytes.specs.Bytes.{AppendsFront, TakesWithin}
 
 -- how far a piece was taken
 pub record TakenUpTo (old new : Option (List ℕ)) (piece rest : List ℕ) : Type 0 where
@@ -29,3 +30,12 @@ front_after a b c first rest before after = record {
 pub err_after : {T E : Type 0} (a b c : Option (List ℕ)) (first rest : List ℕ) (result : Result T E) → Appends a b first → OnErr result (AppendsFront b c rest) → OnErr result (AppendsFront a c (first ++ rest))
 err_after a b c first rest (Ok x) before after = tt
 err_after a b c first rest (Err e) before after = front_after a b c first rest before after
+
+-- what a source gave, with what it gives at one more call, within the limit
+pub taken_within : (a b c : Option (List ℕ)) (bytes buf : List ℕ) (n limit : ℕ) → Consumes a b bytes → Consumes b c (take n buf) → n ≤ length buf → length bytes + n ≤ limit
+    → TakesWithin a c limit
+taken_within a b c bytes buf n limit before more room fits = record {
+  taken = bytes ++ take n buf;
+  told = Consumes-trans a b c bytes (take n buf) before more;
+  within_limit = subst (λ m. m ≤ limit) (sym (length-append bytes (take n buf) ∙ ap (λ m. length bytes + m) (length-take-le n buf room))) fits;
+}

@@ -3,33 +3,40 @@ ghost use Rattle.std.specs.Prelude.{◌≡◌, ◌≤◌, [], ◌∷◌, true, f
 ghost use Rattle.std.specs.Io.KnownBytes.{Appends};
 ghost use Rattle.hol_model.specs.declared.fault.Fault.TheVariants.{Memory, ReadFault, WriteFault, TooLong};
 ghost use Rattle.hol_model.specs.Texts.KnownText.{Tells};
-ghost use Rattle.hol_bytes.specs.Bytes.{AppendsFront, joined};
+ghost use Rattle.hol_bytes.specs.Bytes.{AppendsFront, TakesWithin, joined};
 
 use hol_model::{Fault, Sink, Source, TEXT_BYTES_LIMIT};
 use std::alloc::Global;
 
 /// All that is left of a source, within the limit on texts.
+///
+/// Refusals: ReadFault, where the source fails, and only there; TooLong, where it gives more than the limit; Memory, for
+/// the bytes that it gave within the limit.
 pub fn read_all<R: Source>(alloc: Global, reader: &mut R) -> Result<Vec<u8>, Fault>
     requires { R.has_failed reader.old ≡ false }
     ensures all { IfOk result (λ bytes. Tells (R.remaining reader.old) bytes.items) }
     ensures within_limit { IfOk result (λ bytes. length bytes.items ≤ TEXT_BYTES_LIMIT) }
     ensures too_long { IsErrOf result TooLong → IfSome (R.remaining reader.old) (λ told. TEXT_BYTES_LIMIT < length told) }
     ensures failed { IsErrOf result ReadFault → R.has_failed reader.new ≡ true }
+    ensures told { R.has_failed reader.new ≡ true → IsErrOf result ReadFault }
+    ensures memory { IsErrOf result Memory → TakesWithin (R.remaining reader.old) (R.remaining reader.new) TEXT_BYTES_LIMIT }
     ensures unfailed { OnOk result (R.has_failed reader.new ≡ false) }
     ensures refusals { IfErr result (Contains (ReadFault ∷ TooLong ∷ Memory ∷ [])) }
 {
     let mut bytes = Vec::new(alloc);
     let mut buffer = [0u8; 4096];
-    while bytes.len() <= TEXT_BYTES_LIMIT {
+    loop {
         let Ok(count) = reader.pull(&mut buffer) else {
             return Err(Fault::ReadFault);
         };
         if count == 0 {
             return Ok(bytes);
         }
+        if count > TEXT_BYTES_LIMIT - bytes.len() {
+            return Err(Fault::TooLong);
+        }
         bytes.extend_from_slice(&buffer[..count])?;
     }
-    Err(Fault::TooLong)
 }
 
 /// Gives a sink the whole piece, unless it fails.

@@ -22,6 +22,7 @@ pub fn check<R: Source>(alloc: Global, reader: &mut R) -> Result<Vec<Claim>, Fau
     ensures claims { IfOk result (λ claims. HasClaims (R.remaining reader.old) claims.items) }
     ensures refused { IfErr result (TellsRefusal (R.remaining reader.old)) }
     ensures read_fault { IsErrOf result ReadFault → R.has_failed reader.new ≡ true }
+    ensures told { R.has_failed reader.new ≡ true → IsErrOf result ReadFault }
     ensures too_long { IsErrOf result TooLong → IfSome (R.remaining reader.old) (λ told. TEXT_BYTES_LIMIT < length told) }
     ensures unfailed { OnOk result (R.has_failed reader.new ≡ false) }
     ensures refusals { IfErr result IsRefusal }
@@ -49,6 +50,7 @@ pub fn check_log<R: Source>(alloc: Global, reader: &mut R) -> Result<CheckedLog,
     ensures listed { IfOk result (λ log. HasEntries (R.remaining reader.old) log.claims.items log.entries.items) }
     ensures refused { IfErr result (TellsRefusal (R.remaining reader.old)) }
     ensures read_fault { IsErrOf result ReadFault → R.has_failed reader.new ≡ true }
+    ensures told { R.has_failed reader.new ≡ true → IsErrOf result ReadFault }
     ensures too_long { IsErrOf result TooLong → IfSome (R.remaining reader.old) (λ told. TEXT_BYTES_LIMIT < length told) }
     ensures unfailed { OnOk result (R.has_failed reader.new ≡ false) }
     ensures refusals { IfErr result IsRefusal }

@@ -61,6 +61,7 @@ fn refuse<R: Source>(reader: &mut R, reading: &mut Reading, line: u64, cause: Ca
     ensures too_long { (input : Option (List ℕ)) (handed : List ℕ) → IsUnread input handed reading.old (R.remaining reader.old)
         → result ≡ TooLong → IfSome input (λ told. TEXT_BYTES_LIMIT < length told) }
     ensures failed { result ≡ ReadFault → R.has_failed reader.new ≡ true }
+    ensures told { R.has_failed reader.new ≡ true → result ≡ ReadFault }
     ensures refusals { IsRefusal result }
 {
     match reading.skip_rest(reader) {
@@ -87,6 +88,7 @@ fn read_next<R: Source>(
     ensures too_long { (input : Option (List ℕ)) → IsUnderway input reading.old (R.remaining reader.old) number log.old
         → IsErrOf result TooLong → IfSome input (λ told. TEXT_BYTES_LIMIT < length told) }
     ensures failed { IsErrOf result ReadFault → R.has_failed reader.new ≡ true }
+    ensures told { R.has_failed reader.new ≡ true → IsErrOf result ReadFault }
     ensures unfailed { OnOk result (R.has_failed reader.new ≡ false) }
     ensures refusals { IfErr result IsRefusal }
 {
@@ -120,6 +122,7 @@ fn read_lines<R: Source>(
     ensures too_long { (input : Option (List ℕ)) → IsUnderway input reading.old (R.remaining reader.old) 2 log.old
         → IsErrOf result TooLong → IfSome input (λ told. TEXT_BYTES_LIMIT < length told) }
     ensures failed { IsErrOf result ReadFault → R.has_failed reader.new ≡ true }
+    ensures told { R.has_failed reader.new ≡ true → IsErrOf result ReadFault }
     ensures unfailed { OnOk result (R.has_failed reader.new ≡ false) }
     ensures refusals { IfErr result IsRefusal }
 {
@@ -143,6 +146,7 @@ fn begin<R: Source>(alloc: Global, reader: &mut R, reading: &mut Reading) -> Res
     ensures too_long { (input : Option (List ℕ)) → IsUnread input [] reading.old (R.remaining reader.old)
         → IsErrOf result TooLong → IfSome input (λ told. TEXT_BYTES_LIMIT < length told) }
     ensures failed { IsErrOf result ReadFault → R.has_failed reader.new ≡ true }
+    ensures told { R.has_failed reader.new ≡ true → IsErrOf result ReadFault }
     ensures unfailed { OnOk result (R.has_failed reader.new ≡ false) }
     ensures refusals { IfErr result IsRefusal }
 {
@@ -184,6 +188,7 @@ pub(crate) fn read_log<R: Source>(alloc: Global, reader: &mut R) -> Result<Log, 
     ensures refused { IfErr result (TellsRefusal (R.remaining reader.old)) }
     ensures too_long { IsErrOf result TooLong → IfSome (R.remaining reader.old) (λ told. TEXT_BYTES_LIMIT < length told) }
     ensures failed { IsErrOf result ReadFault → R.has_failed reader.new ≡ true }
+    ensures told { R.has_failed reader.new ≡ true → IsErrOf result ReadFault }
     ensures unfailed { OnOk result (R.has_failed reader.new ≡ false) }
     ensures refusals { IfErr result IsRefusal }
 {

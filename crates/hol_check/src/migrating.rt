@@ -42,6 +42,7 @@ fn migration<R: Source>(alloc: Global, reader: &mut R) -> Result<(Vec<Claim>, Ve
     ensures migration { IfOk result (λ answer. IsMigration (R.remaining reader.old) answer.0.items answer.1.items) }
     ensures refused { IfErr result (TellsRefusal (R.remaining reader.old)) }
     ensures read_fault { IsErrOf result ReadFault → R.has_failed reader.new ≡ true }
+    ensures told { R.has_failed reader.new ≡ true → IsErrOf result ReadFault }
     ensures too_long { IsErrOf result TooLong → IfSome (R.remaining reader.old) (λ told. TEXT_BYTES_LIMIT < length told) }
     ensures unfailed { OnOk result (R.has_failed reader.new ≡ false) }
     ensures refusals { IfErr result IsRefusal }
@@ -77,8 +78,10 @@ pub fn migrate<R: Source, W: Sink>(
     ensures unwritten { IfErr result (λ fault. UnlessWriteFault fault (writer.new ≡ writer.old)) }
     ensures front { IsErrOf result WriteFault → MigratesFront (R.remaining reader.old) (W.contents writer.old) (W.contents writer.new) }
     ensures read_fault { IsErrOf result ReadFault → R.has_failed reader.new ≡ true }
+    ensures told { R.has_failed reader.new ≡ true → IsErrOf result ReadFault }
     ensures too_long { IsErrOf result TooLong → IfSome (R.remaining reader.old) (λ told. TEXT_BYTES_LIMIT < length told) }
     ensures write_fault { IsErrOf result WriteFault → W.has_failed writer.new ≡ true }
+    ensures write_told { W.has_failed writer.new ≡ true → IsErrOf result WriteFault }
     ensures reader_unfailed { OnOk result (R.has_failed reader.new ≡ false) }
     ensures writer_unfailed { OnOk result (W.has_failed writer.new ≡ false) }
     ensures refusals { IfErr result IsMigrationRefusal }

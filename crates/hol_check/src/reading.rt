@@ -60,6 +60,7 @@ impl Reading {
         ensures too_long { (input : Option (List ℕ)) (handed : List ℕ) → IsUnread input handed self.old (R.remaining reader.old)
             → IsErrOf result TooLong → IfSome input (λ told. TEXT_BYTES_LIMIT < length told) }
         ensures failed { IsErrOf result ReadFault → R.has_failed reader.new ≡ true }
+        ensures told { R.has_failed reader.new ≡ true → IsErrOf result ReadFault }
         ensures unfailed { OnOk result (R.has_failed reader.new ≡ false) }
         ensures refusals { IfErr result (Contains (ReadFault ∷ TooLong ∷ [])) }
     {
@@ -108,6 +109,7 @@ impl Reading {
         ensures too_long { (input : Option (List ℕ)) (handed : List ℕ) → IsUnread input handed self.old (R.remaining reader.old)
             → IsErrOf result TooLong → IfSome input (λ told. TEXT_BYTES_LIMIT < length told) }
         ensures failed { IsErrOf result ReadFault → R.has_failed reader.new ≡ true }
+        ensures told { R.has_failed reader.new ≡ true → IsErrOf result ReadFault }
         ensures unfailed { OnOk result (R.has_failed reader.new ≡ false) }
         ensures refusals { IfErr result (Contains (ReadFault ∷ TooLong ∷ [])) }
     {
@@ -137,6 +139,7 @@ impl Reading {
         ensures too_long { (input : Option (List ℕ)) (handed : List ℕ) → IsUnread input handed self.old (R.remaining reader.old)
             → IsErrOf result TooLong → IfSome input (λ told. TEXT_BYTES_LIMIT < length told) }
         ensures failed { IsErrOf result ReadFault → R.has_failed reader.new ≡ true }
+        ensures told { R.has_failed reader.new ≡ true → IsErrOf result ReadFault }
         ensures unfailed { OnOk result (R.has_failed reader.new ≡ false) }
         ensures refusals { IfErr result (Contains (ReadFault ∷ TooLong ∷ Memory ∷ [])) }
     {
@@ -165,6 +168,7 @@ impl Reading {
         ensures too_long { (input : Option (List ℕ)) (handed : List ℕ) → IsUnread input handed self.old (R.remaining reader.old)
             → IsErrOf result TooLong → IfSome input (λ told. TEXT_BYTES_LIMIT < length told) }
         ensures failed { IsErrOf result ReadFault → R.has_failed reader.new ≡ true }
+        ensures told { R.has_failed reader.new ≡ true → IsErrOf result ReadFault }
         ensures unfailed { OnOk result (R.has_failed reader.new ≡ false) }
         ensures refusals { IfErr result (Contains (ReadFault ∷ TooLong ∷ [])) }
     {

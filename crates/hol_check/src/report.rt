@@ -18,6 +18,7 @@ fn write_line<W: Sink>(mut text: Vec<u8>, writer: &mut W) -> Result<(), Fault>
     ensures unfailed { OnOk result (W.has_failed writer.new ≡ false) }
     ensures err { OnErr result (AppendsFront (W.contents writer.old) (W.contents writer.new) (text.items ++ 10 ∷ [])) }
     ensures write_fault { IsErrOf result WriteFault → W.has_failed writer.new ≡ true }
+    ensures told { W.has_failed writer.new ≡ true → IsErrOf result WriteFault }
     ensures refusals { IfErr result (Contains (WriteFault ∷ Memory ∷ [])) }
 {
     if text.push(b'\n').is_err() {
@@ -36,6 +37,7 @@ fn write_claim<W: Sink>(alloc: Global, claim: &Claim, writer: &mut W) -> Result<
     ensures unfailed { OnOk result (W.has_failed writer.new ≡ false) }
     ensures err { OnErr result (AppendsFront (W.contents writer.old) (W.contents writer.new) (claim_line claim.now)) }
     ensures write_fault { IsErrOf result WriteFault → W.has_failed writer.new ≡ true }
+    ensures told { W.has_failed writer.new ≡ true → IsErrOf result WriteFault }
     ensures refusals { IfErr result (Contains (WriteFault ∷ Memory ∷ [])) }
 {
     match text_of_claim(alloc, claim) {
@@ -52,6 +54,7 @@ pub fn write_claims<W: Sink>(alloc: Global, claims: &[Claim], writer: &mut W) ->
     ensures unfailed { OnOk result (W.has_failed writer.new ≡ false) }
     ensures err { OnErr result (AppendsFront (W.contents writer.old) (W.contents writer.new) (claim_lines claims.now)) }
     ensures write_fault { IsErrOf result WriteFault → W.has_failed writer.new ≡ true }
+    ensures told { W.has_failed writer.new ≡ true → IsErrOf result WriteFault }
     ensures refusals { IfErr result (Contains (WriteFault ∷ Memory ∷ [])) }
 {
     for claim in claims {
@@ -70,6 +73,7 @@ fn write_entry<W: Sink>(alloc: Global, entry: &LogEntry, writer: &mut W) -> Resu
     ensures unfailed { OnOk result (W.has_failed writer.new ≡ false) }
     ensures err { OnErr result (AppendsFront (W.contents writer.old) (W.contents writer.new) (entry_line entry.now)) }
     ensures write_fault { IsErrOf result WriteFault → W.has_failed writer.new ≡ true }
+    ensures told { W.has_failed writer.new ≡ true → IsErrOf result WriteFault }
     ensures refusals { IfErr result (Contains (WriteFault ∷ Memory ∷ [])) }
 {
     match text_of_entry(alloc, entry) {
@@ -90,6 +94,7 @@ pub fn write_entries<W: Sink>(
     ensures unfailed { OnOk result (W.has_failed writer.new ≡ false) }
     ensures err { OnErr result (AppendsFront (W.contents writer.old) (W.contents writer.new) (entry_lines entries.now)) }
     ensures write_fault { IsErrOf result WriteFault → W.has_failed writer.new ≡ true }
+    ensures told { W.has_failed writer.new ≡ true → IsErrOf result WriteFault }
     ensures refusals { IfErr result (Contains (WriteFault ∷ Memory ∷ [])) }
 {
     for entry in entries {
