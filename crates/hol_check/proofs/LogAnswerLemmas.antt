@@ -1,6 +1,7 @@
 -- Lemmas on a log that is judged line by line.
-use Rattle.std.proofs.Common.{◌≡◌, ℕ, ◌+◌, List, [], ◌∷◌, ◌++◌, Option, Some, None, Result, Ok, Err, IfOk, false, refl, sym, ap, ◌∙◌, subst, append_assoc}
-use Rattle.std.specs.Prelude.{IsErrOf}
+use Rattle.std.proofs.Common.{◌≡◌, ◌≤◌, ℕ, ◌+◌, List, [], ◌∷◌, ◌++◌, Option, Some, None, Result, Ok, Err, IfOk, Bool, true, false, length, refl, sym, ap, ◌∙◌, subst, append_assoc}
+use Rattle.std.specs.Prelude.{⊤, IsErrOf, MatchBool}
+use Rattle.std.proofs.lemmas.List.{length-append}
 use Rattle.std.specs.Io.KnownBytes.{Consumes}
 use Rattle.std.proofs.KnownBytes.{Consumes-nil}
 use Rattle.hol_model.specs.declared.fault.Cause.{Cause}
@@ -12,7 +13,8 @@ use Rattle.hol_logtext.specs.Fields.{line_feed, has_line_feed}
 use Rattle.hol_logtext.specs.LineReading.{read_text}
 use Rattle.hol_logtext.specs.LogBytes.{log_text, last_part, with_line}
 use Rattle.hol_logtext.proofs.LogLemmas.{log_text_line, log_text_last}
-use Rattle.hol_check.specs.Reading.{Unread, IsUnread}
+use Rattle.hol_model.specs.declared.limits.TheConstants.{TEXT_BYTES_LIMIT}
+use Rattle.hol_check.specs.Reading.{Unread, IsUnread, IsLine, StaysWithin, taken_within, read_whole}
 use Rattle.hol_check.specs.LogAnswers.{log_answer, IsTakenText, LeadsTo, IsRefusedAt, IsUnderway}
 
 -- the bytes handed out, with a line and what follows it
@@ -106,3 +108,19 @@ unread_at_first input unread none nothing = record {
   told = subst (λ (l : List ℕ). Consumes input input l) (sym none) (Consumes-nil input);
   counted = nothing;
 }
+
+-- where memory lacks
+
+unread_within : (input left : Option (List ℕ)) (handed : List ℕ) (unread : Unread) → IsUnread input handed unread left → unread.given + length unread.pending ≤ TEXT_BYTES_LIMIT
+    → StaysWithin input left
+unread_within input left handed unread behind room = taken_within (record {
+  taken = handed ++ unread.pending;
+  told = behind.told;
+  within_limit = subst (λ n. n ≤ TEXT_BYTES_LIMIT) (sym (length-append handed unread.pending ∙ ap (λ n. n + length unread.pending) (sym behind.counted))) room;
+})
+
+-- behind a line
+pub line_within : (input left : Option (List ℕ)) (handed line : List ℕ) (unread : Unread) (fed : Bool) → IsLine input handed line unread left fed
+    → MatchBool fed (unread.given + length unread.pending ≤ TEXT_BYTES_LIMIT) ⊤ → StaysWithin input left
+line_within input left handed line unread true read room = unread_within input left ((handed ++ line) ++ line_feed ∷ []) unread read room
+line_within input left handed line unread false read room = read_whole read

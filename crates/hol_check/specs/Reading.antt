@@ -3,6 +3,7 @@ use Rattle.std.specs.Prelude.{◌≡◌, ◌≤◌, ◌+◌, ℕ, List, [], ◌�
 use Rattle.std.specs.Io.KnownBytes.{Consumes}
 use Rattle.hol_model.specs.Texts.KnownText.{Tells}
 use Rattle.hol_model.specs.declared.limits.TheConstants.{TEXT_BYTES_LIMIT}
+use Rattle.hol_bytes.specs.Bytes.{TakesWithin}
 use Rattle.hol_logtext.specs.Fields.{line_feed}
 use Rattle.hol_check.specs.declared.reading.Reading.TheInside.{Inside}
 
@@ -49,3 +50,8 @@ pub record IsReadOn (input : Option (List ℕ)) (handed : List ℕ) : Type 0 whe
 pub record IsSkipped (input : Option (List ℕ)) (handed : List ℕ) (unread : Unread) (left : Option (List ℕ)) : Type 0 where
   pub more : List ℕ
   pub still : IsUnread input (handed ++ more) unread left
+
+-- no more bytes than a text may have were taken of the input, or all of it was handed out
+pub data StaysWithin (input left : Option (List ℕ)) : Type 0 where
+  taken_within : TakesWithin input left TEXT_BYTES_LIMIT → StaysWithin input left
+  read_whole : {text : List ℕ} → IsRead input text → StaysWithin input left

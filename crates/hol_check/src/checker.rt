@@ -1,6 +1,7 @@
 // The check of a whole log.
 ghost use Rattle.std.specs.Prelude.{◌≡◌, ◌<◌, true, false, length, IfOk, OnOk, IfErr, IfSome, IsErrOf};
-ghost use Rattle.hol_model.specs.declared.fault.Fault.TheVariants.{ReadFault, TooLong};
+ghost use Rattle.hol_model.specs.declared.fault.Fault.TheVariants.{Memory, ReadFault, TooLong};
+ghost use Rattle.hol_check.specs.Reading.{StaysWithin};
 ghost use Rattle.hol_check.specs.LogAnswers.{TellsRefusal, IsRefusal};
 ghost use Rattle.hol_check.specs.Checking.{HasClaims, HasEntries};
 
@@ -25,6 +26,7 @@ pub fn check<R: Source>(alloc: Global, reader: &mut R) -> Result<Vec<Claim>, Fau
     ensures told { R.has_failed reader.new ≡ true → IsErrOf result ReadFault }
     ensures too_long { IsErrOf result TooLong → IfSome (R.remaining reader.old) (λ told. TEXT_BYTES_LIMIT < length told) }
     ensures unfailed { OnOk result (R.has_failed reader.new ≡ false) }
+    ensures memory { IsErrOf result Memory → StaysWithin (R.remaining reader.old) (R.remaining reader.new) }
     ensures refusals { IfErr result IsRefusal }
 {
     accepted_logs_are_sound();
@@ -53,6 +55,7 @@ pub fn check_log<R: Source>(alloc: Global, reader: &mut R) -> Result<CheckedLog,
     ensures told { R.has_failed reader.new ≡ true → IsErrOf result ReadFault }
     ensures too_long { IsErrOf result TooLong → IfSome (R.remaining reader.old) (λ told. TEXT_BYTES_LIMIT < length told) }
     ensures unfailed { OnOk result (R.has_failed reader.new ≡ false) }
+    ensures memory { IsErrOf result Memory → StaysWithin (R.remaining reader.old) (R.remaining reader.new) }
     ensures refusals { IfErr result IsRefusal }
 {
     accepted_logs_are_sound();

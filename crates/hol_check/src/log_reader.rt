@@ -5,7 +5,7 @@ ghost use Rattle.hol_model.specs.Logs.LogText.{dest_header};
 ghost use Rattle.std.specs.Option.{option_map};
 ghost use Rattle.hol_logtext.specs.Lines.{version_of};
 ghost use Rattle.hol_logtext.specs.LineReading.{read_text};
-ghost use Rattle.hol_check.specs.Reading.{IsUnread};
+ghost use Rattle.hol_check.specs.Reading.{IsUnread, StaysWithin};
 ghost use Rattle.hol_check.specs.LogAnswers.{IsTakenText, IsEnded, IsRefusedAt, IsUnderway, IsAcceptedLog, TellsRefusal, IsRefusal};
 
 use crate::reading::Reading;
@@ -62,6 +62,7 @@ fn refuse<R: Source>(reader: &mut R, reading: &mut Reading, line: u64, cause: Ca
         → result ≡ TooLong → IfSome input (λ told. TEXT_BYTES_LIMIT < length told) }
     ensures failed { result ≡ ReadFault → R.has_failed reader.new ≡ true }
     ensures told { R.has_failed reader.new ≡ true → result ≡ ReadFault }
+    ensures no_memory { ¬ (result ≡ Memory) }
     ensures refusals { IsRefusal result }
 {
     match reading.skip_rest(reader) {
@@ -90,6 +91,8 @@ fn read_next<R: Source>(
     ensures failed { IsErrOf result ReadFault → R.has_failed reader.new ≡ true }
     ensures told { R.has_failed reader.new ≡ true → IsErrOf result ReadFault }
     ensures unfailed { OnOk result (R.has_failed reader.new ≡ false) }
+    ensures memory { (input : Option (List ℕ)) → IsUnderway input reading.old (R.remaining reader.old) number log.old
+        → IsErrOf result Memory → StaysWithin input (R.remaining reader.new) }
     ensures refusals { IfErr result IsRefusal }
 {
     match reading.next_line(reader, line) {
@@ -124,6 +127,8 @@ fn read_lines<R: Source>(
     ensures failed { IsErrOf result ReadFault → R.has_failed reader.new ≡ true }
     ensures told { R.has_failed reader.new ≡ true → IsErrOf result ReadFault }
     ensures unfailed { OnOk result (R.has_failed reader.new ≡ false) }
+    ensures memory { (input : Option (List ℕ)) → IsUnderway input reading.old (R.remaining reader.old) 2 log.old
+        → IsErrOf result Memory → StaysWithin input (R.remaining reader.new) }
     ensures refusals { IfErr result IsRefusal }
 {
     let mut line = Vec::new(alloc);
@@ -148,6 +153,8 @@ fn begin<R: Source>(alloc: Global, reader: &mut R, reading: &mut Reading) -> Res
     ensures failed { IsErrOf result ReadFault → R.has_failed reader.new ≡ true }
     ensures told { R.has_failed reader.new ≡ true → IsErrOf result ReadFault }
     ensures unfailed { OnOk result (R.has_failed reader.new ≡ false) }
+    ensures memory { (input : Option (List ℕ)) → IsUnread input [] reading.old (R.remaining reader.old)
+        → IsErrOf result Memory → StaysWithin input (R.remaining reader.new) }
     ensures refusals { IfErr result IsRefusal }
 {
     let mut line = Vec::new(alloc);
@@ -190,6 +197,7 @@ pub(crate) fn read_log<R: Source>(alloc: Global, reader: &mut R) -> Result<Log, 
     ensures failed { IsErrOf result ReadFault → R.has_failed reader.new ≡ true }
     ensures told { R.has_failed reader.new ≡ true → IsErrOf result ReadFault }
     ensures unfailed { OnOk result (R.has_failed reader.new ≡ false) }
+    ensures memory { IsErrOf result Memory → StaysWithin (R.remaining reader.old) (R.remaining reader.new) }
     ensures refusals { IfErr result IsRefusal }
 {
     let mut reading = Reading::new();

@@ -1,6 +1,7 @@
 // Logs under the header of the second version.
 ghost use Rattle.std.specs.Prelude.{◌≡◌, ◌≤◌, ◌<◌, true, false, Some, length, IfOk, OnOk, IfErr, IfSome, IsErrOf};
-ghost use Rattle.hol_model.specs.declared.fault.Fault.TheVariants.{ReadFault, WriteFault, TooLong};
+ghost use Rattle.hol_model.specs.declared.fault.Fault.TheVariants.{Memory, ReadFault, WriteFault, TooLong};
+ghost use Rattle.hol_check.specs.Reading.{StaysWithin};
 ghost use Rattle.hol_check.specs.LogAnswers.{TellsRefusal, IsRefusal};
 ghost use Rattle.hol_check.specs.Checking.{HasClaims};
 ghost use Rattle.hol_check.specs.Migration.{IsHeaded, IsMigrated, IsMigration, Migrates, MigratesFront, IsTextRefusal, IsMigrationRefusal, UnlessWriteFault};
@@ -45,6 +46,7 @@ fn migration<R: Source>(alloc: Global, reader: &mut R) -> Result<(Vec<Claim>, Ve
     ensures told { R.has_failed reader.new ≡ true → IsErrOf result ReadFault }
     ensures too_long { IsErrOf result TooLong → IfSome (R.remaining reader.old) (λ told. TEXT_BYTES_LIMIT < length told) }
     ensures unfailed { OnOk result (R.has_failed reader.new ≡ false) }
+    ensures memory { IsErrOf result Memory → StaysWithin (R.remaining reader.old) (R.remaining reader.new) }
     ensures refusals { IfErr result IsRefusal }
 {
     reading_is_exact();
@@ -84,6 +86,7 @@ pub fn migrate<R: Source, W: Sink>(
     ensures write_told { W.has_failed writer.new ≡ true → IsErrOf result WriteFault }
     ensures reader_unfailed { OnOk result (R.has_failed reader.new ≡ false) }
     ensures writer_unfailed { OnOk result (W.has_failed writer.new ≡ false) }
+    ensures memory { IsErrOf result Memory → StaysWithin (R.remaining reader.old) (R.remaining reader.new) }
     ensures refusals { IfErr result IsMigrationRefusal }
 {
     let (claims, text) = match migration(alloc, reader) {

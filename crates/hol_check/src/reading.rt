@@ -3,7 +3,7 @@ ghost use Rattle.std.specs.Prelude.{⊤, ◌≡◌, ◌≤◌, ◌<◌, ◌+◌,
 ghost use Rattle.hol_model.specs.declared.fault.Fault.TheVariants.{Memory, ReadFault, TooLong};
 ghost use Rattle.hol_logtext.specs.Fields.{line_feed};
 ghost use Rattle.hol_logtext.specs.Fields.{has_line_feed};
-ghost use Rattle.hol_check.specs.Reading.{IsUnread, IsRead, IsNext, IsLine, IsReadOn};
+ghost use Rattle.hol_check.specs.Reading.{IsUnread, IsRead, IsNext, IsLine, IsReadOn, StaysWithin};
 
 use hol_model::{Fault, Source, TEXT_BYTES_LIMIT};
 use std::marker::Model;
@@ -84,7 +84,7 @@ impl Reading {
         ensures read { (input : Option (List ℕ)) (handed : List ℕ) (left : Option (List ℕ)) → IsUnread input handed self.old left
             → IsUnread input (handed ++ result ∷ []) self.new left }
         ensures given { self.new.given ≡ self.old.given + 1 }
-        ensures within_limit { self.new.given ≤ TEXT_BYTES_LIMIT }
+        ensures room { self.new.given + length self.new.pending ≤ TEXT_BYTES_LIMIT }
     {
         let byte = self.bytes[self.next];
         self.next += 1;
@@ -105,7 +105,7 @@ impl Reading {
         ensures read { (input : Option (List ℕ)) (handed : List ℕ) → IsUnread input handed self.old (R.remaining reader.old)
             → IfOk result (IsNext input handed self.new (R.remaining reader.new)) }
         ensures given { IfOk result (λ found. IfSome found (λ byte. self.new.given ≡ self.old.given + 1)) }
-        ensures within_limit { IfOk result (λ found. IfSome found (λ byte. self.new.given ≤ TEXT_BYTES_LIMIT)) }
+        ensures room { IfOk result (λ found. IfSome found (λ byte. self.new.given + length self.new.pending ≤ TEXT_BYTES_LIMIT)) }
         ensures too_long { (input : Option (List ℕ)) (handed : List ℕ) → IsUnread input handed self.old (R.remaining reader.old)
             → IsErrOf result TooLong → IfSome input (λ told. TEXT_BYTES_LIMIT < length told) }
         ensures failed { IsErrOf result ReadFault → R.has_failed reader.new ≡ true }
@@ -135,12 +135,14 @@ impl Reading {
             → IfOk result (λ fed. IsLine input handed line.new.items self.new (R.remaining reader.new) fed) }
         ensures one { OnOk result (has_line_feed line.new.items ≡ false) }
         ensures given { IfOk result (λ fed. MatchBool fed (self.old.given < self.new.given) ⊤) }
-        ensures within_limit { IfOk result (λ fed. MatchBool fed (self.new.given ≤ TEXT_BYTES_LIMIT) ⊤) }
+        ensures room { IfOk result (λ fed. MatchBool fed (self.new.given + length self.new.pending ≤ TEXT_BYTES_LIMIT) ⊤) }
         ensures too_long { (input : Option (List ℕ)) (handed : List ℕ) → IsUnread input handed self.old (R.remaining reader.old)
             → IsErrOf result TooLong → IfSome input (λ told. TEXT_BYTES_LIMIT < length told) }
         ensures failed { IsErrOf result ReadFault → R.has_failed reader.new ≡ true }
         ensures told { R.has_failed reader.new ≡ true → IsErrOf result ReadFault }
         ensures unfailed { OnOk result (R.has_failed reader.new ≡ false) }
+        ensures memory { (input : Option (List ℕ)) (handed : List ℕ) → IsUnread input handed self.old (R.remaining reader.old)
+            → IsErrOf result Memory → StaysWithin input (R.remaining reader.new) }
         ensures refusals { IfErr result (Contains (ReadFault ∷ TooLong ∷ Memory ∷ [])) }
     {
         line.clear();

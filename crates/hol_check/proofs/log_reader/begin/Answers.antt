@@ -1,8 +1,8 @@
 use Rattle.std.proofs.Common.{[], ◌∷◌, ◌++◌, Err, ap}
-use Rattle.hol_model.specs.declared.fault.Fault.TheVariants.{TooLong}
+use Rattle.hol_model.specs.declared.fault.Fault.TheVariants.{Memory, TooLong}
 use Rattle.hol_logtext.specs.Fields.{line_feed}
 use Rattle.hol_logtext.specs.Lines.{version_of}
-use Rattle.hol_check.proofs.LogAnswerLemmas.{begun, refused_first, cut_first, headless_first, fault_is}
+use Rattle.hol_check.proofs.LogAnswerLemmas.{begun, refused_first, cut_first, headless_first, fault_is, line_within}
 use Rattle.hol_check.proofs.log_reader.begin.Goals as goal
 
 pub returns-in-Err-clause-too_long : goal.returns-in-Err-clause-too_long
@@ -35,3 +35,14 @@ returns-in-Ok-None-clause-refused g c = λ input unread.
 pub returns-in-Ok-None-clause-too_long : goal.returns-in-Ok-None-clause-too_long
 returns-in-Ok-None-clause-too_long g c = λ input unread wrong.
     c.refuse.ensures.too_long input (([] ++ c.next_line.new.line.items) ++ line_feed ∷ []) (rw c.if-not-is_line-2.false at (c.in-Ok.ensures.read input [] unread)) (fault_is c.refuse.result TooLong wrong)
+
+pub returns-in-Err-clause-memory : goal.returns-in-Err-clause-memory
+returns-in-Err-clause-memory g c = λ input unread wants. c.in-Err.ensures.memory input [] unread (ap Err (fault_is c.in-Err.fault Memory wants))
+
+pub returns-in-Ok-Some-clause-memory : goal.returns-in-Ok-Some-clause-memory
+returns-in-Ok-Some-clause-memory g c = λ input unread wants.
+    line_within input (g.R.Source.remaining c.next_line.new.reader) [] c.next_line.new.line.items c.next_line.new.self c.in-Ok.is_line (c.in-Ok.ensures.read input [] unread) c.in-Ok.ensures.room
+
+pub returns-clause-memory : goal.returns-clause-memory
+returns-clause-memory g c = λ input unread wants.
+    line_within input (g.R.Source.remaining c.next_line.new.reader) [] c.next_line.new.line.items c.next_line.new.self c.in-Ok.is_line (c.in-Ok.ensures.read input [] unread) c.in-Ok.ensures.room

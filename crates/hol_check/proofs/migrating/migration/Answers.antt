@@ -1,3 +1,4 @@
+use Rattle.hol_check.specs.Reading.{IsRead, read_whole}
 use Rattle.hol_check.proofs.HeaderLemmas.{is_headed}
 use Rattle.hol_check.proofs.MigrationLemmas.{text_accepted, is_migration}
 use Rattle.hol_check.proofs.migrating.migration.Goals as goal
@@ -11,3 +12,8 @@ pub returns-clause-migration : goal.returns-clause-migration
 returns-clause-migration g c =
     is_migration (g.R.Source.remaining c.args.reader.now) c.in-Ok.text.items c.set_second_version.new.text.items c.in-Ok-check_text.claims.items c.migration_keeps_claims.ensures c.in-Ok.ensures.all
     c.in-Ok.ensures.within_limit (rw c.as_slice.ensures.value at c.in-Ok-check_text.ensures.claims) c.set_second_version.ensures
+
+pub returns-in-Err-check_text-clause-memory : goal.returns-in-Err-check_text-clause-memory
+returns-in-Err-check_text-clause-memory g c = λ wants.
+    let read : IsRead (g.R.Source.remaining c.args.reader.now) c.in-Ok.text.items = record { whole = c.in-Ok.ensures.all; within_limit = c.in-Ok.ensures.within_limit } in
+    read_whole read
