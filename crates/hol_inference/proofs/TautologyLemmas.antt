@@ -102,7 +102,7 @@ is-answer : (answer : Result Theorem Fault) (term : NamedTerm) (outcome : Result
 is-answer (Ok theorem) term (Ok sequent) states = states
 is-answer (Ok theorem) term (Err refusal) never = absurd never
 is-answer (Err fault) term (Ok sequent) want = want
-is-answer (Err fault) term (Err refusal) (inl memory) = inr (inl memory)
+is-answer (Err fault) term (Err refusal) (inl memory) = inr memory
 is-answer (Err fault) term (Err refusal) (inr same) = inl same
 
 decides : (answer : Result Theorem Fault) (theory : Theory) (term : NamedTerm) → AnswersSmall answer (image term) (tautology_outcome theory term) → AnswersTautology theory term answer

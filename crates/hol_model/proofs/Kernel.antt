@@ -1,3 +1,4 @@
 -- What the kernel's calls answer.
 pub mod Refusals
 pub mod Outcomes
+pub mod Acceptance

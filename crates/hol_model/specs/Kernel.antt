@@ -5,6 +5,7 @@ pub mod Answers
 pub mod Theorem
 pub mod TheoremCode
 pub mod Rules
+pub mod Acceptance
 pub mod Constructors
 pub mod Instantiation
 pub mod NamedAxioms

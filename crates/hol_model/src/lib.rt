@@ -15,7 +15,7 @@ pub use device::DeviceFail;
 pub use fault::{Cause, Fault};
 pub use laws::{
     accepted_logs_are_sound, checks_decide, fill_undoes_close, logical_definitions_are_legal,
-    term_order, type_order,
+    term_order, the_legal_are_accepted, type_order, types_are_of_images,
 };
 pub use limits::{
     ATOMS_LIMIT, DEFINITIONS_LIMIT, DESCENTS_LIMIT, EXPRESSION_NESTING_LIMIT, HOST_FUNCTIONS_LIMIT,

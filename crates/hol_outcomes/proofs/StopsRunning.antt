@@ -79,7 +79,7 @@ if_small-never small (Ok stated) (Ok theorem) never answers = never-ok
 if_small-never small (Err refusal) (Ok theorem) never answers = never-ok
 if_small-never small (Ok stated) (Err fault) never want = never-err (never-want fault small want)
 if_small-never small (Err refusal) (Err fault) never (inl is) = never-err (never-other fault refusal is never.other)
-if_small-never small (Err refusal) (Err fault) never (inr want) = never-err (never-want fault small want)
+if_small-never small (Err refusal) (Err fault) never (inr memory) = never-err (never-want fault small (inl memory))
 
 tautology-never : (theory : Theory) (term : NamedTerm) (answer : Result Theorem Fault) → AnswersTautology theory term answer → Never answer
 tautology-never theory term answer answers =

@@ -15,7 +15,7 @@ if-small : (term : Nameless) (outcome : Result Stated Fault) (answer : Result Th
 if-small term (Ok stated) (Ok theorem) h = h
 if-small term (Err refusal) (Ok theorem) h = absurd h
 if-small term (Ok stated) (Err fault) h = h
-if-small term (Err refusal) (Err fault) (inl memory) = inr (inl memory)
+if-small term (Err refusal) (Err fault) (inl memory) = inr memory
 if-small term (Err refusal) (Err fault) (inr same) = inl same
 
 pub taut-answers : (theory : Theory) (term : NamedTerm) (answer : Result Theorem Fault) → AnswersSmall answer (image term) (tautology_outcome theory term)

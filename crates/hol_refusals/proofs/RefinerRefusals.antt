@@ -139,7 +139,7 @@ falsity-listed term fault is = go (nat_le (length (atoms_of term)) ATOMS_LIMIT) 
 if_small-listed : (small : Bool) (outcome : Result Stated Fault) (fault : Fault) → Lists outcome → AnswersIfSmall small outcome (Err fault) → IsRefinerFault fault
 if_small-listed small (Ok stated) fault lists wanted = want fault small wanted
 if_small-listed small (Err refusal) fault lists (inl is) = fault-is fault refusal is (lists.listed refusal refl)
-if_small-listed small (Err refusal) fault lists (inr wanted) = want fault small wanted
+if_small-listed small (Err refusal) fault lists (inr memory) = want fault small (inl memory)
 
 tautology-listed : (theory : Theory) (term : NamedTerm) (fault : Fault) → IsKnown theory (image term) bool_type → AnswersTautology theory term (Err fault) → IsRefinerFault fault
 tautology-listed theory term fault known answers =

@@ -6,10 +6,12 @@ use Rattle.hol_model.specs.Terms.HolType.{HolType, is_instance}
 use Rattle.hol_model.specs.Terms.NamedTerm.{NamedTerm, variable, constant, combination, abstraction, Binder, same_variable, type_of}
 use Rattle.hol_model.specs.Terms.Nameless.{free, bound, image, image_under, variable_image, binder_index}
 use Rattle.hol_model.specs.Logic.Theory.{Theory, generic_type, HasKnownParts, IsKnown}
-use Rattle.hol_model.specs.Logic.Checks.{ChecksDecide}
+use Rattle.hol_model.specs.Logic.Checks.{ChecksDecide, TypesAreOfImages}
 use Rattle.hol_model.specs.Logic.KnownTerm.{knows_type, knows_types, knows_constants, has_instances, is_known}
 use Rattle.hol_model.proofs.Tests.{first_of_both, second_of_both, both, same_variable-type}
-use Rattle.hol_model.proofs.Terms.TypeTests.{knows_type-Decides}
+use Rattle.hol_model.proofs.Terms.TypeTests.{knows_type-Decides, is_fixed-Decides, is_new_name-Decides}
+use Rattle.hol_model.proofs.Terms.Images.{image-typed, image-type}
+use Rattle.hol_model.proofs.Logic.LegalEntries.{is_closed-Decides, reflects-Decides}
 use Rattle.hol_model.proofs.Logic.KnownTerms.{image-known}
 use Rattle.hol_model.proofs.Logic.Checks.{knows_constant-Decides, knows_nameless-Decides, is_legal-Decides}
 
@@ -78,4 +80,15 @@ is_known-Decides theory term ty typed = (
 )
 
 pub checks_decide : ChecksDecide
-checks_decide = record { known = knows_nameless-Decides; known_image = is_known-Decides; legal = is_legal-Decides }
+checks_decide = record {
+  known = knows_nameless-Decides;
+  known_image = is_known-Decides;
+  legal = is_legal-Decides;
+  closed = is_closed-Decides;
+  reflected = reflects-Decides;
+  fixed = is_fixed-Decides;
+  new_name = is_new_name-Decides;
+}
+
+pub types_are_of_images : TypesAreOfImages
+types_are_of_images = record { typed = image-typed; type_is = image-type }

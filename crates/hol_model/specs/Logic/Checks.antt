@@ -3,12 +3,13 @@ use Rattle.std.specs.Prelude.{◌≡◌, ◌&&◌, ℕ, List, [], ◌∷◌, Boo
 use Rattle.std.specs.Option.{option_map, option_map_or}
 use Rattle.std.specs.Bool.{Decides}
 use Rattle.hol_model.specs.Terms.Name.{is_constant_name, is_declared_type_name}
-use Rattle.hol_model.specs.Terms.HolType.{HolType, function_type, type_eq, is_instance}
+use Rattle.hol_model.specs.Terms.HolType.{HolType, function_type, type_eq, is_instance, OccursInType}
 use Rattle.hol_model.specs.Terms.NamedTerm.{NamedTerm, type_of, application_type}
-use Rattle.hol_model.specs.Terms.Nameless.{Nameless, free, const, bound, app, lam, image}
-use Rattle.hol_model.specs.Logic.Theory.{Theory, definition, declaration_of_type, declaration_of_constant, generic_type, IsLegal, IsKnown}
+use Rattle.hol_model.specs.Terms.Nameless.{Nameless, free, const, bound, app, lam, image, HasType}
+use Rattle.hol_model.specs.Terms.Substitution.{HasNoFree, OccursInTerm}
+use Rattle.hol_model.specs.Logic.Theory.{Theory, definition, declaration_of_type, declaration_of_constant, generic_type, IsLegal, IsKnown, IsNewName}
 use Rattle.hol_model.specs.Logic.KnownTerm.{knows_type, is_known}
-use Rattle.hol_model.specs.Logic.Legality.{reflects_type, is_fixed, is_new_name}
+use Rattle.hol_model.specs.Logic.Legality.{is_closed, reflects_type, reflects, is_fixed, is_new_name}
 
 -- the type of a term, where it has one
 abbrev pub found_type : List HolType → Nameless → Option HolType
@@ -78,3 +79,12 @@ pub record ChecksDecide : Type 0 where
   pub known : (theory : Theory) (term : Nameless) (ty : HolType) → Decides (knows_nameless theory term ty) (IsKnown theory term ty)
   pub known_image : (theory : Theory) (term : NamedTerm) (ty : HolType) → type_of term ≡ Some ty → Decides (is_known theory term) (IsKnown theory (image term) ty)
   pub legal : (theory : Theory) → Decides (is_legal theory) (IsLegal theory)
+  pub closed : (term : NamedTerm) → Decides (is_closed term) (HasNoFree (image term))
+  pub reflected : (whole : HolType) (term : NamedTerm) → Decides (reflects whole term) ((variable : List ℕ) → OccursInTerm variable (image term) → OccursInType variable whole)
+  pub fixed : (ty : HolType) → Decides (is_fixed ty) ((variable : List ℕ) → ¬ (OccursInType variable ty))
+  pub new_name : (theory : Theory) (name : List ℕ) → Decides (is_new_name theory name) (IsNewName theory name)
+
+-- a term with names has a type where its image has it, and only there
+pub record TypesAreOfImages : Type 0 where
+  pub typed : (term : NamedTerm) (ty : HolType) → type_of term ≡ Some ty → HasType [] (image term) ty
+  pub type_is : (term : NamedTerm) (ty : HolType) → HasType [] (image term) ty → type_of term ≡ Some ty

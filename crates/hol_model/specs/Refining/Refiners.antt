@@ -5,7 +5,7 @@ use Rattle.std.specs.List.{list_any}
 use Rattle.std.specs.Option.{is_some}
 use Rattle.std.specs.Str.{bytes_eq}
 use Rattle.hol_model.specs.declared.fault.Fault.{Fault}
-use Rattle.hol_model.specs.declared.fault.Fault.TheVariants.{TooLarge, TypeMismatch, BadShape, RefineFails, UnknownName}
+use Rattle.hol_model.specs.declared.fault.Fault.TheVariants.{Memory, TooLarge, TypeMismatch, BadShape, RefineFails, UnknownName}
 use Rattle.hol_model.specs.Terms.HolType.{HolType, bool_type}
 use Rattle.hol_model.specs.Terms.NamedTerm.{NamedTerm, variable}
 use Rattle.hol_model.specs.Terms.Nameless.{Nameless, free, const, bound, app, lam, image}
@@ -319,8 +319,9 @@ abbrev pub AnswersIfSmall : Bool → Result Stated Fault → Result Theorem Faul
 AnswersIfSmall small (Ok stated) (Ok theorem) = States stated theorem
 AnswersIfSmall small (Err refusal) (Ok theorem) = ⊥
 AnswersIfSmall small (Ok stated) (Err fault) = IsWant fault small
-AnswersIfSmall small (Err refusal) (Err fault) = (fault ≡ refusal) ⊎ IsWant fault small
+AnswersIfSmall small (Err refusal) (Err fault) = (fault ≡ refusal) ⊎ (fault ≡ Memory)
 
--- a theorem that is stated so, or the refusal; TooLarge may come in their place only where the term is not small
+-- a theorem that is stated so, or the refusal; TooLarge may come in a theorem's place only where the term is not small,
+-- and Memory in the place of either
 abbrev pub AnswersTautology : Theory → NamedTerm → Result Theorem Fault → Type 0
 AnswersTautology theory term answer = AnswersIfSmall (is_small (image term)) (tautology_outcome theory term) answer
