@@ -132,4 +132,5 @@ module _ (printed : TextsArePrinted) where
     spelled = ap (λ (row : List ℕ). codes "line " ++ decimal line ++ codes ": E" ++ decimal (number_of refusal.fault) ++ codes " " ++ name_of refusal.fault ++ row ++ codes "\n")
         (row-same (scope_in state) (scope_over state.library.theory) refl refusal.row);
     one_line = row-one_line (scope_over state.library.theory) refusal.row (formulas_over state (map (λ value. value.0) refusal.row) are);
+    readable = formulas_over state (map (λ value. value.0) refusal.row) are;
   }

@@ -45,12 +45,13 @@ pub record IsTheoremLine (theory : Theory) (line : List ℕ) : Type 0 where
   pub holds : Holds theory (map image theorem.hypotheses) (image theorem.conclusion)
 
 -- The line tells a refusal of the command in some line of the script; of a proposition that is no tautology, with values of
--- its atoms that make it false.
+-- its atoms, each of which reads back as itself.
 pub record IsRefusalLine (theory : Theory) (line : List ℕ) : Type 0 where
   pub number : ℕ
   pub refusal : Refusal
   pub spelled : line ≡ text_of_refusal number (scope_over theory) refusal
   pub one_line : is_one_line (row_text (scope_over theory) refusal.row) ≡ true
+  pub readable : AreReadableFormulas (scope_over theory) (map (λ value. value.0) refusal.row)
 
 -- The line says how many goals are open, of which there is one at least.
 pub record IsCountLine (line : List ℕ) : Type 0 where

@@ -11,3 +11,4 @@ pub mod Running
 pub mod Runs
 pub mod SessionTools
 pub mod Headline
+pub mod Walking
