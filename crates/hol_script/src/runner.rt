@@ -3,7 +3,7 @@ ghost use Rattle.std.specs.Prelude.{◌≡◌, ◌⊎◌, ◌≤◌, ◌∷◌, 
 ghost use Rattle.std.specs.Io.KnownBytes.{Appends};
 ghost use Rattle.hol_session_model.specs.Headline.{TellsLines, TellsFront};
 ghost use Rattle.hol_session_model.specs.Runs.{Ends};
-ghost use Rattle.hol_model.specs.declared.fault.Fault.TheVariants.{Memory, WriteFault, TooLong};
+ghost use Rattle.hol_model.specs.declared.fault.Fault.TheVariants.{Memory, ReadFault, WriteFault, TooLong};
 ghost use Rattle.hol_log.specs.Pruning.{HaveIdentifiers};
 ghost use Rattle.hol_bytes.specs.Bytes.{AppendsFront};
 ghost use Rattle.hol_proof_manager.specs.Session.{session_tools, row_bytes, answer_text};
@@ -202,6 +202,9 @@ pub fn run<R: Source, W: Sink, L: Sink, H: Refiners>(
     ensures reader_unfailed { OnOk result (R.has_failed reader.new ≡ false) }
     ensures writer_unfailed { OnOk result (W.has_failed writer.new ≡ false) }
     ensures log_unfailed { OnOk result (L.has_failed log.new ≡ false) }
+    ensures reader_told { R.has_failed reader.new ≡ true → IsErrOf result ReadFault }
+    ensures writer_told { W.has_failed writer.new ≡ true → IsErrOf result WriteFault }
+    ensures log_told { L.has_failed log.new ≡ true → IsErrOf result WriteFault }
     ensures leaves { IfOk result (Leaves (session_tools (H.refiners host.now) (H.conversions host.now)) (R.remaining reader.old) (W.contents writer.old) (W.contents writer.new)) }
     ensures manager { IfOk result (λ progress. IsManager progress.manager) }
 {
