@@ -3,12 +3,9 @@ use Rattle.std.proofs.Common.{◌≡◌, List, [], ◌∷◌, ◌++◌, sym, ◌
 use Rattle.std.specs.Prelude.{slice_get}
 use Rattle.hol_model.specs.Logic.Theory.{Theory, IsEarlier}
 use Rattle.hol_model.proofs.Logic.Earlier.{earlier-same, earlier-twice}
-use Rattle.hol_journal.specs.Steps.{derived, sequent_of_theorem}
+use Rattle.hol_journal.specs.Steps.{JournalEntry, derived, sequent_of_theorem}
 use Rattle.hol_journal.specs.Journal.{Journal}
 use Rattle.hol_journal.specs.Growth.{IsGrown, JournalsGrow}
-use Rattle.hol_journal.specs.Views.{entry_of, entries_of}
-use Rattle.hol_journal.specs.declared.entry.Entry.{Entry}
-use Rattle.hol_journal.proofs.JournalLemmas.{entries_of-last}
 use Rattle.hol_journal.proofs.Places.{get_earlier, get_at_end}
 
 pub journals-grow : JournalsGrow
@@ -31,11 +28,11 @@ journals-grow = record {
   };
 }
 
--- one entry more, as the program stores it
-pub entry-grown : (shown now : Journal) (theory : Theory) (stored mid items : List Entry) (entry : Entry) → shown ≡ now → shown.entries ≡ entries_of stored
-    → mid ≡ stored → items ≡ mid ++ entry ∷ [] → IsEarlier shown.theory theory → IsGrown now (record { theory = theory; entries = entries_of items })
-entry-grown shown now theory stored mid items entry view listed reserved pushed earlier = record {
-  added = entry_of entry ∷ [];
-  entries = ap entries_of (pushed ∙ ap (λ l. l ++ entry ∷ []) reserved) ∙ entries_of-last stored entry ∙ ap (λ l. l ++ entry_of entry ∷ []) (sym listed ∙ ap (λ (j : Journal). j.entries) view);
+-- one entry more, as the program holds it
+pub entry-grown : (shown now : Journal) (theory : Theory) (mid items : List JournalEntry) (entry : JournalEntry) → shown ≡ now
+    → mid ≡ shown.entries → items ≡ mid ++ entry ∷ [] → IsEarlier shown.theory theory → IsGrown now (record { theory = theory; entries = items })
+entry-grown shown now theory mid items entry view same pushed earlier = record {
+  added = entry ∷ [];
+  entries = pushed ∙ ap (λ l. l ++ entry ∷ []) same ∙ ap (λ (j : Journal). j.entries ++ entry ∷ []) view;
   earlier = subst (λ (j : Journal). IsEarlier j.theory theory) view earlier;
 }

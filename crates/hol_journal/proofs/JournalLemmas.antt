@@ -66,14 +66,12 @@ journal-more journal entry is next = record {
   ];
 }
 
--- the same, as the program stores it
-pub journal-stored : (old : Journal) (theory : Theory) (stored items : List Entry) (entry : Entry) → IsJournal old → old.entries ≡ entries_of stored
-    → theory ≡ added_by (entry_of entry) ++ old.theory → items ≡ stored ++ entry ∷ []
-    → IsNextEntry old (entry_of entry)
-    → IsJournal (record { theory = theory; entries = entries_of items })
-journal-stored old theory stored items entry is listed grown pushed next =
-    let all : entries_of items ≡ old.entries ++ entry_of entry ∷ [] = ap entries_of pushed ∙ entries_of-last stored entry ∙ ap (λ l. l ++ entry_of entry ∷ []) (sym listed) in
-    subst IsJournal (λ i. record { theory = sym grown i; entries = sym all i }) (journal-more old (entry_of entry) is next)
+-- the same, as the program holds it
+pub journal-stored : (old : Journal) (theory : Theory) (items : List JournalEntry) (entry : JournalEntry) → IsJournal old
+    → theory ≡ added_by entry ++ old.theory → items ≡ old.entries ++ entry ∷ [] → IsNextEntry old entry
+    → IsJournal (record { theory = theory; entries = items })
+journal-stored old theory items entry is grown pushed next =
+    subst IsJournal (λ i. record { theory = sym grown i; entries = sym pushed i }) (journal-more old entry is next)
 
 -- what is given over the theory of a journal follows
 pub given-follows : (journal : Journal) (step : Step) (sequent : Sequent) → IsJournal journal → ((number : ℕ) → IsMember number (steps.entries_of step) → HasTheorem journal.entries number)

@@ -9,3 +9,4 @@ pub mod FollowLemmas
 pub mod StoredLemmas
 pub mod GrowthLemmas
 pub mod Places
+pub mod KeptLemmas

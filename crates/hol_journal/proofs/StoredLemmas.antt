@@ -18,14 +18,12 @@ use Rattle.hol_model.specs.Kernel.Rules.{is_full, define_outcome, new_type_outco
 use Rattle.hol_journal.specs.Steps.{by_definition, JournalEntry, derived, declared_type, declared_constant, sequent_of_theorem}
 use Rattle.hol_journal.specs.Limits.{FitsLog}
 use Rattle.hol_journal.specs.Journal.{Journal, added_by, Follows, IsJournal}
-use Rattle.hol_journal.specs.Views.{step_of, entry_of, entries_of}
+use Rattle.hol_journal.specs.Views.{step_of}
 use Rattle.hol_journal.specs.declared.entry.Rule.{Rule}
 use Rattle.hol_journal.specs.declared.entry.Rule.TheVariants.{Refl, Trans, MkComb, Abs, Beta, Assume, EqMp, DeductAntisym, Inst, InstType, Eta, Select}
-use Rattle.hol_journal.specs.declared.entry.Entry.{Entry}
-use Rattle.hol_journal.specs.declared.entry.Entry.TheVariants.{Derived}
 use Rattle.hol_journal.proofs.Showing.{unless-is, answered}
 use Rattle.hol_journal.proofs.DefinitionLaws.{define-answers, define-may, one_more}
-use Rattle.hol_journal.proofs.JournalLemmas.{IsNextEntry, journal-stored, entries_of-last}
+use Rattle.hol_journal.proofs.JournalLemmas.{IsNextEntry, journal-stored}
 use Rattle.hol_journal.proofs.FollowLemmas.{define-follows}
 
 -- a rule adds nothing to the theory
@@ -43,16 +41,14 @@ rule_adds_nothing (InstType theorem pairs) sequent = refl
 rule_adds_nothing Eta sequent = refl
 rule_adds_nothing Select sequent = refl
 
-pub rule-stored : (shown now : Journal) (stored mid items : List Entry) (rule : Rule) (theorem copy : Theorem) → shown ≡ now → IsJournal shown → shown.entries ≡ entries_of stored
-    → mid ≡ stored → items ≡ mid ++ Derived rule copy ∷ [] → copy ≡ theorem → Follows now.entries (step_of rule) (sequent_of_theorem theorem)
-    → IsJournal (record { theory = shown.theory; entries = entries_of items })
-rule-stored shown now stored mid items rule theorem copy view is listed reserved pushed same follows =
-    let nothing = ap (λ t. t ++ shown.theory) (sym (rule_adds_nothing rule (sequent_of_theorem copy))) in
-    let there : Follows shown.entries (step_of rule) (sequent_of_theorem copy) =
-    subst (λ (j : Journal). Follows j.entries (step_of rule) (sequent_of_theorem copy)) (sym view)
-    (subst (λ (t : Theorem). Follows now.entries (step_of rule) (sequent_of_theorem t)) (sym same) follows) in
-    journal-stored shown shown.theory stored items (Derived rule copy) is listed nothing
-    (pushed ∙ ap (λ l. l ++ Derived rule copy ∷ []) reserved)
+pub rule-stored : (shown now : Journal) (items : List JournalEntry) (rule : Rule) (theorem : Theorem) → shown ≡ now → IsJournal shown
+    → items ≡ shown.entries ++ derived (step_of rule) (sequent_of_theorem theorem) ∷ [] → Follows now.entries (step_of rule) (sequent_of_theorem theorem)
+    → IsJournal (record { theory = shown.theory; entries = items })
+rule-stored shown now items rule theorem view is pushed follows =
+    let nothing = ap (λ t. t ++ shown.theory) (sym (rule_adds_nothing rule (sequent_of_theorem theorem))) in
+    let there : Follows shown.entries (step_of rule) (sequent_of_theorem theorem) =
+    subst (λ (j : Journal). Follows j.entries (step_of rule) (sequent_of_theorem theorem)) (sym view) follows in
+    journal-stored shown shown.theory items (derived (step_of rule) (sequent_of_theorem theorem)) is nothing pushed
     (record {
       legal = subst IsLegal nothing is.legal;
       within_limit = ap (λ t. nat_le (length t) DEFINITIONS_LIMIT) (sym nothing) ∙ is.within_limit;
@@ -67,11 +63,11 @@ definition-entry : (theory : Theory) (name : List ℕ) (term : NamedTerm) (answe
     → defined_entry name term ≡ derived (by_definition name term) (sequent_of_theorem answer)
 definition-entry theory name term answer outcome = ap (λ t. derived (by_definition name term) (sequent_of_theorem t)) (sym (define-answers theory name term answer outcome))
 
-pub definition-stored : (shown : Journal) (theory : Theory) (stored mid items : List Entry) (entry : Entry) (name : List ℕ) (term : NamedTerm) (ty : HolType) (answer : Theorem)
-    → IsJournal shown → shown.entries ≡ entries_of stored → mid ≡ stored → items ≡ mid ++ entry ∷ []
-    → type_of term ≡ Some ty → define_outcome shown.theory name term ≡ Ok answer → FitsLog answer → is_within_limits term ≡ true → theory ≡ answer.theory → entry_of entry ≡ defined_entry name term
-    → IsJournal (record { theory = theory; entries = entries_of items })
-definition-stored shown theory stored mid items entry name term ty answer is listed reserved pushed typed outcome fits within grown entry_is =
+pub definition-stored : (shown : Journal) (theory : Theory) (mid items : List JournalEntry) (entry : JournalEntry) (name : List ℕ) (term : NamedTerm) (ty : HolType) (answer : Theorem)
+    → IsJournal shown → mid ≡ shown.entries → items ≡ mid ++ entry ∷ []
+    → type_of term ≡ Some ty → define_outcome shown.theory name term ≡ Ok answer → FitsLog answer → is_within_limits term ≡ true → theory ≡ answer.theory → entry ≡ defined_entry name term
+    → IsJournal (record { theory = theory; entries = items })
+definition-stored shown theory mid items entry name term ty answer is same pushed typed outcome fits within grown entry_is =
     let derived_is = entry_is ∙ definition-entry shown.theory name term answer outcome in
     let entry_follows = define-follows shown is name term ty answer typed within outcome fits in
     let may = define-may shown.theory is.legal name term ty answer typed outcome in
@@ -80,18 +76,18 @@ definition-stored shown theory stored mid items entry name term ty answer is lis
       within_limit = may.within_limit;
       follows = entry_follows;
     } in
-    journal-stored shown theory stored items entry is listed
+    journal-stored shown theory items entry is
     (grown ∙ ap (λ t. t.theory) (define-answers shown.theory name term answer outcome) ∙ ap (λ e. added_by e ++ shown.theory) (sym entry_is))
-    (pushed ∙ ap (λ l. l ++ entry ∷ []) reserved)
+    (pushed ∙ ap (λ l. l ++ entry ∷ []) same)
     (subst (IsNextEntry shown) (sym derived_is) next)
 
-pub definition-listed : (shown now : Journal) (stored mid items : List Entry) (entry : Entry) (name : List ℕ) (term : NamedTerm) (answer : Theorem)
-    → shown ≡ now → shown.entries ≡ entries_of stored → mid ≡ stored → items ≡ mid ++ entry ∷ []
-    → define_outcome shown.theory name term ≡ Ok answer → entry_of entry ≡ defined_entry name term
-    → entries_of items ≡ now.entries ++ derived (by_definition name term) (sequent_of_theorem answer) ∷ []
-definition-listed shown now stored mid items entry name term answer view listed reserved pushed outcome entry_is =
+pub definition-listed : (shown now : Journal) (mid items : List JournalEntry) (entry : JournalEntry) (name : List ℕ) (term : NamedTerm) (answer : Theorem)
+    → shown ≡ now → mid ≡ shown.entries → items ≡ mid ++ entry ∷ []
+    → define_outcome shown.theory name term ≡ Ok answer → entry ≡ defined_entry name term
+    → items ≡ now.entries ++ derived (by_definition name term) (sequent_of_theorem answer) ∷ []
+definition-listed shown now mid items entry name term answer view same pushed outcome entry_is =
     let derived_is = entry_is ∙ definition-entry shown.theory name term answer outcome in
-    ap entries_of (pushed ∙ ap (λ l. l ++ entry ∷ []) reserved) ∙ entries_of-last stored entry ∙ (λ i. (sym listed ∙ ap (λ (j : Journal). j.entries) view) i ++ derived_is i ∷ [])
+    pushed ∙ ap (λ l. l ++ entry ∷ []) same ∙ (λ i. (ap (λ (j : Journal). j.entries) view) i ++ derived_is i ∷ [])
 
 -- what a declaration leaves
 
@@ -137,25 +133,25 @@ new_const-leaves theory now name ty legal outcome =
       within_limit = one_more theory (declaration_of_constant name ty) five.0;
     }
 
-pub type-stored : (shown : Journal) (theory : Theory) (stored mid items : List Entry) (entry : Entry) (name : List ℕ)
-    → IsJournal shown → shown.entries ≡ entries_of stored → mid ≡ stored → items ≡ mid ++ entry ∷ []
-    → new_type_outcome shown.theory name ≡ Ok theory → entry_of entry ≡ declared_type name → IsJournal (record { theory = theory; entries = entries_of items })
-type-stored shown theory stored mid items entry name is listed reserved pushed outcome entry_is =
+pub type-stored : (shown : Journal) (theory : Theory) (mid items : List JournalEntry) (entry : JournalEntry) (name : List ℕ)
+    → IsJournal shown → mid ≡ shown.entries → items ≡ mid ++ entry ∷ []
+    → new_type_outcome shown.theory name ≡ Ok theory → entry ≡ declared_type name → IsJournal (record { theory = theory; entries = items })
+type-stored shown theory mid items entry name is same pushed outcome entry_is =
     let leaves = new_type-leaves shown.theory theory name is.legal outcome in
     let next : IsNextEntry shown (declared_type name) = record { legal = leaves.legal; within_limit = leaves.within_limit; follows = tt } in
-    journal-stored shown theory stored items entry is listed
+    journal-stored shown theory items entry is
     (leaves.is ∙ ap (λ e. added_by e ++ shown.theory) (sym entry_is))
-    (pushed ∙ ap (λ l. l ++ entry ∷ []) reserved)
+    (pushed ∙ ap (λ l. l ++ entry ∷ []) same)
     (subst (IsNextEntry shown) (sym entry_is) next)
 
-pub constant-stored : (shown : Journal) (theory : Theory) (stored mid items : List Entry) (entry : Entry) (name : List ℕ) (ty : HolType)
-    → IsJournal shown → shown.entries ≡ entries_of stored → mid ≡ stored → items ≡ mid ++ entry ∷ []
-    → new_const_outcome shown.theory name ty ≡ Ok theory → type_fits ty ≡ true → entry_of entry ≡ declared_constant name ty
-    → IsJournal (record { theory = theory; entries = entries_of items })
-constant-stored shown theory stored mid items entry name ty is listed reserved pushed outcome fits entry_is =
+pub constant-stored : (shown : Journal) (theory : Theory) (mid items : List JournalEntry) (entry : JournalEntry) (name : List ℕ) (ty : HolType)
+    → IsJournal shown → mid ≡ shown.entries → items ≡ mid ++ entry ∷ []
+    → new_const_outcome shown.theory name ty ≡ Ok theory → type_fits ty ≡ true → entry ≡ declared_constant name ty
+    → IsJournal (record { theory = theory; entries = items })
+constant-stored shown theory mid items entry name ty is same pushed outcome fits entry_is =
     let leaves = new_const-leaves shown.theory theory name ty is.legal outcome in
     let next : IsNextEntry shown (declared_constant name ty) = record { legal = leaves.legal; within_limit = leaves.within_limit; follows = fits } in
-    journal-stored shown theory stored items entry is listed
+    journal-stored shown theory items entry is
     (leaves.is ∙ ap (λ e. added_by e ++ shown.theory) (sym entry_is))
-    (pushed ∙ ap (λ l. l ++ entry ∷ []) reserved)
+    (pushed ∙ ap (λ l. l ++ entry ∷ []) same)
     (subst (IsNextEntry shown) (sym entry_is) next)

@@ -90,9 +90,12 @@ code_entry_injective _ _ same = cc
 abbrev entry_code : Coded JournalEntry
 entry_code = record { code = code_entry; inj = code_entry_injective }
 
+abbrev pub entries_code : Coded (List JournalEntry)
+entries_code = coded_list entry_code
+
 abbrev pub journal_code : Coded Journal
 journal_code =
-    code_by (Theory × List JournalEntry) (coded× theory_code (coded_list entry_code))
+    code_by (Theory × List JournalEntry) (coded× theory_code entries_code)
     (λ j. (j.theory, j.entries)) (λ p. record { theory = p.0; entries = p.1 }) (λ _. refl)
 
 abbrev pub recorded_code : Coded Recorded

@@ -6,3 +6,6 @@ pub mod Views
 pub mod Recorder
 pub mod JournalCode
 pub mod Growth
+pub mod Kept
+pub mod KeptCode
+pub mod KeptViews

@@ -2,9 +2,11 @@
 #![tactic(auto)]
 
 pub mod entry;
+mod kept;
 mod laws;
 mod limits;
 mod recorder;
+mod trail;
 
 pub use laws::journals_grow;
 pub use recorder::{Rec, Recorder};

@@ -1,5 +1,5 @@
 // The recorder.
-ghost use Rattle.std.specs.Prelude.{◌≡◌, [], ◌∷◌, ◌++◌, true, None, length, IfOk, IfErr, OnErr, OnOk};
+ghost use Rattle.std.specs.Prelude.{◌≡◌, [], ◌∷◌, ◌++◌, true, None, length, IfOk, IfErr, IfSome, OnErr, OnOk};
 ghost use Rattle.hol_model.specs.Kernel.Instantiation as instance;
 ghost use Rattle.hol_model.specs.Kernel.NamedAxioms as axioms;
 ghost use Rattle.hol_model.specs.Kernel.Outcome.{Answers, AnswersSuch};
@@ -16,6 +16,7 @@ ghost use Rattle.hol_journal.specs.Growth.{IsGrown};
 ghost use Rattle.hol_journal.specs.Views.{step_of, entries_of};
 
 use crate::entry::{Entry, Rule};
+use crate::kept::KeptEntries;
 use crate::limits::{pairs_fit, type_fit, type_pairs_fit, within_limits};
 use hol_kernel::{Theory, Thm};
 use hol_model::Fault;
@@ -30,7 +31,7 @@ use std::marker::Model;
 #[derive(Drop)]
 pub struct Recorder {
     theory: Theory,
-    entries: Vec<Entry>,
+    entries: KeptEntries,
 }
 
 impl Model for Recorder {
@@ -101,7 +102,7 @@ impl Recorder {
     {
         Ok(Recorder {
             theory: Theory::new(alloc)?,
-            entries: Vec::new(alloc),
+            entries: KeptEntries::new(alloc),
         })
     }
 
@@ -112,12 +113,19 @@ impl Recorder {
         self.entries.len()
     }
 
-    /// The entries.
-    pub fn stored(&self) -> &[Entry]
-        ensures value { entries_of result.now ≡ self.now.entries }
+    /// The entries, where they are kept.
+    pub fn stored(&self) -> Option<&[Entry]>
+        ensures value { IfSome result (λ stored. entries_of stored.now ≡ self.now.entries) }
         ensures journal { IsJournal self.now }
     {
-        &self.entries
+        self.entries.stored()
+    }
+
+    /// From here on no entry is kept, and none that was.
+    pub fn forget(&mut self)
+        ensures { self.new ≡ self.old }
+    {
+        self.entries.forget();
     }
 
     /// The theorem.
@@ -150,12 +158,11 @@ impl Recorder {
         ensures err { IfErr result (λ fault. fault ≡ Memory) }
         ensures kept { OnErr result (self.new ≡ self.old) }
     {
-        let copy = theorem.copy(alloc)?;
-        if self.entries.reserve(1).is_err() {
-            return Err(Fault::Memory);
-        }
         let entry = self.entries.len();
-        self.entries.push_reserved(Entry::Derived(rule, copy));
+        match self.entries.push_step(alloc, rule, &theorem) {
+            Ok(()) => {}
+            Err(fault) => return Err(fault),
+        }
         Ok(Rec { theorem, entry })
     }
 
@@ -470,7 +477,7 @@ impl Recorder {
         ensures kept { OnErr result (self.new ≡ self.old) }
     {
         let definition = Entry::Defined(String::from_str(alloc, name)?, term.copy(alloc)?);
-        if self.entries.reserve(1).is_err() {
+        if self.entries.reserve().is_err() {
             return Err(Fault::Memory);
         }
         let number = self.entries.len();
@@ -481,7 +488,7 @@ impl Recorder {
             Err(fault) => return Err(fault),
         };
         within_limits(&theorem);
-        self.entries.push_reserved(definition);
+        self.entries.push(definition);
         Ok(Rec {
             theorem,
             entry: number,
@@ -496,14 +503,14 @@ impl Recorder {
         ensures kept { OnErr result (self.new ≡ self.old) }
     {
         let declared_type = Entry::DeclaredType(String::from_str(alloc, name)?);
-        if self.entries.reserve(1).is_err() {
+        if self.entries.reserve().is_err() {
             return Err(Fault::Memory);
         }
         match self.theory.new_type(alloc, name) {
             Ok(()) => {}
             Err(fault) => return Err(fault),
         }
-        self.entries.push_reserved(declared_type);
+        self.entries.push(declared_type);
         Ok(())
     }
 
@@ -518,7 +525,7 @@ impl Recorder {
             String::from_str(alloc, name)?,
             ty.copy(alloc)?,
         );
-        if self.entries.reserve(1).is_err() {
+        if self.entries.reserve().is_err() {
             return Err(Fault::Memory);
         }
         type_fit(ty);
@@ -526,7 +533,7 @@ impl Recorder {
             Ok(()) => {}
             Err(fault) => return Err(fault),
         }
-        self.entries.push_reserved(declared_constant);
+        self.entries.push(declared_constant);
         Ok(())
     }
 }

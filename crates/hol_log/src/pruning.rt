@@ -49,7 +49,9 @@ fn claims_log<'a>(
     ensures named { IfOk result (λ lines. HasNames (map line_of lines.items)) }
     ensures err { IfErr result (λ fault. fault ≡ Memory) }
 {
-    let entries = recorder.stored();
+    let Some(entries) = recorder.stored() else {
+        return Err(Fault::Memory);
+    };
     let cited = cited_entries(alloc, claims)?;
     let marks = needed(alloc, entries, &cited)?;
     log(alloc, entries, &marks, claims)

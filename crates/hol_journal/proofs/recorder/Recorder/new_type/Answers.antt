@@ -7,10 +7,10 @@ use Rattle.hol_journal.proofs.recorder.Recorder.new_type.Goals as goal
 
 pub invariant_of-self-2 : goal.invariant_of-self-2
 invariant_of-self-2 c =
-    type-stored (viewed_recorder c.self.inside) c.new_type.new.self c.self.inside.entries.items c.reserve.new.self.items c.push_reserved.new.self.items _
-    c.args.name.now c.self.invariant refl c.reserve.ensures.items c.push_reserved.ensures.items c.in-Ok.ensures.outcome (ap steps.declared_type c.in_ok-from_str.ensures.ok)
+    type-stored (viewed_recorder c.self.inside) c.new_type.new.self c.reserve.new.self.entries c.push.new.self.entries _
+    c.args.name.now c.self.invariant c.reserve.ensures.same c.push.ensures c.in-Ok.ensures.outcome (ap steps.declared_type c.in_ok-from_str.ensures.ok)
 
 pub returns-clause-grown : goal.returns-clause-grown
 returns-clause-grown c =
-    entry-grown (viewed_recorder c.self.inside) c.args.self.now c.new_type.new.self c.self.inside.entries.items c.reserve.new.self.items c.push_reserved.new.self.items _
-    c.self.view_is refl c.reserve.ensures.items c.push_reserved.ensures.items c.in-Ok.ensures.earlier
+    entry-grown (viewed_recorder c.self.inside) c.args.self.now c.new_type.new.self c.reserve.new.self.entries c.push.new.self.entries _
+    c.self.view_is c.reserve.ensures.same c.push.ensures c.in-Ok.ensures.earlier
