@@ -20,3 +20,9 @@ pub record TakesWithin (old new : Option (List ℕ)) (limit : ℕ) : Type 0 wher
 abbrev pub joined : List (Bor (List ℕ)) → List ℕ
 joined [] = []
 joined (piece ∷ pieces) = piece.now ++ joined pieces
+
+-- what was held, and the piece behind it: the front of them was appended, and the rest is held
+pub record Puts (old new : Option (List ℕ)) (before after piece : List ℕ) : Type 0 where
+  pub front : List ℕ
+  pub whole : before ++ piece ≡ front ++ after
+  pub taken : Appends old new front

@@ -1,9 +1,9 @@
 // Whole inputs and whole pieces of output.
-ghost use Rattle.std.specs.Prelude.{◌≡◌, ◌≤◌, [], ◌∷◌, true, false, length, Ok, Err, IfOk, OnOk, OnErr, IsErrOf, IfErr, IfSome, Contains, ◌<◌};
+ghost use Rattle.std.specs.Prelude.{◌≡◌, ◌≤◌, ◌+◌, ◌++◌, [], ◌∷◌, take, true, false, length, Ok, Err, IfOk, OnOk, OnErr, IsErrOf, IfErr, IfSome, Contains, ◌<◌};
 ghost use Rattle.std.specs.Io.KnownBytes.{Appends};
 ghost use Rattle.hol_model.specs.declared.fault.Fault.TheVariants.{Memory, ReadFault, WriteFault, TooLong};
 ghost use Rattle.hol_model.specs.Texts.KnownText.{Tells};
-ghost use Rattle.hol_bytes.specs.Bytes.{AppendsFront, TakesWithin, joined};
+ghost use Rattle.hol_bytes.specs.Bytes.{AppendsFront, Puts, TakesWithin, joined};
 
 use hol_model::{Fault, Sink, Source, TEXT_BYTES_LIMIT};
 use std::alloc::Global;
@@ -59,7 +59,53 @@ pub fn write_all<W: Sink>(writer: &mut W, piece: &[u8]) -> Result<(), Fault>
     Ok(())
 }
 
-/// Gives a sink the pieces, one after another, unless it fails.
+// Puts a piece behind the bytes that are held, of which there are so many, and answers how many there are then.
+fn hold(buffer: &mut [u8], held: usize, piece: &[u8]) -> usize
+    requires { held + length piece.now ≤ length buffer.old }
+    ensures held { take result buffer.new ≡ take held buffer.old ++ piece.now }
+    ensures within { result ≡ held + length piece.now }
+    ensures length { length buffer.new ≡ length buffer.old }
+{
+    let end = held + piece.len();
+    buffer[held..end].copy_from_slice(piece);
+    end
+}
+
+// Puts a piece behind the bytes that are held, where it finds room; where it does not, gives a sink what is held, and then the piece
+// too, or holds it. Answers how many bytes are held then.
+fn put<W: Sink>(
+    writer: &mut W,
+    buffer: &mut [u8],
+    held: usize,
+    piece: &[u8],
+) -> Result<usize, Fault>
+    requires unfailed { W.has_failed writer.old ≡ false }
+    requires within { held ≤ length buffer.old }
+    ensures ok { IfOk result (λ count. Puts (W.contents writer.old) (W.contents writer.new) (take held buffer.old) (take count buffer.new) piece.now) }
+    ensures within { IfOk result (λ count. count ≤ length buffer.new) }
+    ensures length { length buffer.new ≡ length buffer.old }
+    ensures unfailed { OnOk result (W.has_failed writer.new ≡ false) }
+    ensures err { OnErr result (AppendsFront (W.contents writer.old) (W.contents writer.new) (take held buffer.old ++ piece.now)) }
+    ensures failed { OnErr result (W.has_failed writer.new ≡ true) }
+    ensures kinds { IfErr result (λ e. e ≡ WriteFault) }
+{
+    if piece.len() <= buffer.len() - held {
+        return Ok(hold(buffer, held, piece));
+    }
+    match write_all(writer, &buffer[..held]) {
+        Ok(()) => {}
+        Err(fault) => return Err(fault),
+    }
+    if piece.len() <= buffer.len() {
+        return Ok(hold(buffer, 0, piece));
+    }
+    match write_all(writer, piece) {
+        Ok(()) => Ok(0),
+        Err(fault) => Err(fault),
+    }
+}
+
+/// Gives a sink the pieces, one after another, unless it fails: those that find room in a small buffer with one write.
 pub fn write_pieces<W: Sink>(writer: &mut W, pieces: &[&[u8]]) -> Result<(), Fault>
     requires { W.has_failed writer.old ≡ false }
     ensures ok { OnOk result (Appends (W.contents writer.old) (W.contents writer.new) (joined pieces.now)) }
@@ -68,11 +114,13 @@ pub fn write_pieces<W: Sink>(writer: &mut W, pieces: &[&[u8]]) -> Result<(), Fau
     ensures failed { OnErr result (W.has_failed writer.new ≡ true) }
     ensures kinds { IfErr result (λ e. e ≡ WriteFault) }
 {
-    let Some((first, rest)) = pieces.split_first() else {
-        return Ok(());
-    };
-    match write_all(writer, first) {
-        Ok(()) => write_pieces(writer, rest),
-        Err(fault) => Err(fault),
+    let mut buffer = [0u8; 512];
+    let mut held = 0usize;
+    for piece in pieces {
+        match put(writer, &mut buffer, held, piece) {
+            Ok(count) => held = count,
+            Err(fault) => return Err(fault),
+        }
     }
+    write_all(writer, &buffer[..held])
 }
