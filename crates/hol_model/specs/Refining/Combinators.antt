@@ -9,6 +9,7 @@ use Rattle.hol_model.specs.Logic.Derivable.{IsMember}
 use Rattle.hol_model.specs.Kernel.Theorem.{Theorem}
 use Rattle.hol_model.specs.Kernel.Rules.{dest_equation}
 use Rattle.hol_model.specs.Goals.Goals.{Goal}
+use Rattle.hol_model.specs.Goals.Justifications.{sub}
 use Rattle.hol_model.specs.Goals.ValidSteps.{Step}
 use Rattle.hol_model.specs.Goals.Splicing.{spliced}
 use Rattle.hol_model.specs.Goals.Replays.{Store, with_lemma, IsProvedOver, is_within_depth}
@@ -107,6 +108,10 @@ abbrev pub with_step : Step → Result (List Step) Fault → Result (List Step) 
 with_step step (Ok steps) = Ok (step ∷ steps)
 with_step step (Err fault) = Err fault
 
+-- a goal that nothing has refined yet
+abbrev pub left_open : Goal → Step
+left_open goal = record { goals = goal ∷ []; justification = sub 0 }
+
 module _ (theory : Theory) (host : Host) where
   mutual
     -- From the first stage the refiner may answer this for the goal and leave the last stage, where the host has these
@@ -159,6 +164,9 @@ module _ (theory : Theory) (host : Host) where
           → Runs before t goal (Err fault) mid → is_caught fault ≡ true → Runs mid (orelse u ts) goal answer after
           → Runs before (orelse t (more u ts)) goal answer after
       -- others
+      -- the justification of REPEAT is too deep already, whatever refines the goals that are left
+      repeat_is_too_deep : {before after : Stage} {t : Tactic} {goal : Goal} {step : Step} → RepeatsSoFar before t goal step after
+          → is_within_depth step.justification ≡ false → Runs before (repeat t) goal (Err TooLarge) after
       runs_as_defined : {before after : Stage} {t u : Tactic} {goal : Goal} {answer : Result Step Fault} → defined_as t ≡ Some u
           → Runs before u goal answer after → Runs before t goal answer after
       -- any may find no memory
@@ -190,3 +198,11 @@ module _ (theory : Theory) (host : Host) where
           → RunsEach before ((t, goal) ∷ tasks) answer after
       each_finds_no_memory : {before after : Stage} {tasks : List (Tactic × Goal)} → IsLater theory before after
           → RunsEach before tasks (Err Memory) after
+
+    -- What REPEAT has made of the goal: the refiner has run on it, REPEAT has answered for the first of its subgoals and has come
+    -- so far with the next, and the others are left.
+    pub data RepeatsSoFar : Stage → Tactic → Goal → Step → Stage → Type 0 where
+      has_run : {before after : Stage} {t : Tactic} {goal : Goal} {step : Step} → Runs before t goal (Ok step) after → RepeatsSoFar before t goal step after
+      goes_down : {before mid later after : Stage} {t : Tactic} {goal next : Goal} {step further : Step} (firsts others : List Goal) {steps : List Step}
+          → Runs before t goal (Ok step) mid → step.goals ≡ firsts ++ next ∷ others → RunsEach mid (on_all (repeat t) firsts) (Ok steps) later
+          → RepeatsSoFar later t next further after → RepeatsSoFar before t goal (spliced step (steps ++ further ∷ map left_open others)) after
