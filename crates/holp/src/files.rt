@@ -61,15 +61,15 @@ fn run_hosted<R: Source, W: Sink, L: Sink>(
     let ended = run(alloc, reader, writer, log, wants_log, &host)?;
     let summary = ended.summary;
     match explained {
-        // The program ends, and the session goes with its memory, as one.
-        None => forget(ended),
-        Some(script) => {
+        Some(script) if summary.refused > 0 => {
             drop(ended);
             let mut output = rt.stderr();
             if let Ok(writes) = Box::new(alloc, move |piece: &[u8]| output.write(piece)) {
                 let _ = explain(alloc, script, &host, &mut IntoCall::new(writes));
             }
         }
+        // The program ends, and the session goes with its memory, as one.
+        _ => forget(ended),
     }
     Ok(summary)
 }
