@@ -17,7 +17,7 @@ for c in allc:
             if m[1]!=c: wanted.setdefault(m[1],set()).add(m[2].rstrip('.'))
         for m in re.finditer(r"\b(hol_\w+)::proofs::([\w:]+)",t):
             if m[1]!=c: wanted.setdefault(m[1],set()).add(m[2].replace("::","."))
-EXTRA={"hol_session":["ToolLemmas"]}
+EXTRA={"hol_script_session":["ToolLemmas"]}
 for c in EXTRA: wanted.setdefault(c,set()).update(EXTRA[c])
 for c in names:
     base=f"{stubs}/crates/{c}/proofs"

@@ -16,7 +16,7 @@ use Rattle.hol_model.proofs.Logic.Later.{head_is_new, rest_is_legal, generic_typ
 use Rattle.hol_model.proofs.Terms.Images.{image-type}
 use Rattle.hol_journal.specs.Journal.{Journal, Recorded}
 use Rattle.hol_prelude.specs.declared.stored.Bool.{Bool as Stored}
-use Rattle.hol_derivations.specs.Derivations.{theorems}
+use Rattle.hol_prelude_derivations.specs.Derivations.{theorems}
 use Rattle.hol_prelude.specs.Prelude.{prelude_theorems, shown, p}
 use Rattle.hol_prelude.specs.HasLogic.{HasLogic}
 use Rattle.hol_equal.specs.Formulas.{IsFormula, AreSides, IsNegated}

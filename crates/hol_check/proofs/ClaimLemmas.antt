@@ -5,12 +5,12 @@ use Rattle.std.proofs.lemmas.List.{get_or-map}
 use Rattle.std.proofs.lemmas.List.Elements.{All-get_or}
 use Rattle.hol_model.specs.Logs.LogState.{no_sequent}
 use Rattle.hol_model.specs.Goals.Goals.{Sequent}
-use Rattle.hol_shared.specs.Terms.{TermTable, name_at}
-use Rattle.hol_steps.specs.State.{sequent_in, claim_in, IsClaim, IsContents}
+use Rattle.hol_check_terms.specs.Terms.{TermTable, name_at}
+use Rattle.hol_check_rules.specs.State.{sequent_in, claim_in, IsClaim, IsContents}
 use Rattle.hol_check.specs.PrintedClaims.{claims_in, no_claim}
-use Rattle.hol_steps.specs.declared.state.Theorem.{Theorem}
-use Rattle.hol_steps.specs.declared.state.ListedClaim.{ListedClaim}
-use Rattle.hol_steps.specs.declared.state.Contents.{Contents}
+use Rattle.hol_check_rules.specs.declared.state.Theorem.{Theorem}
+use Rattle.hol_check_rules.specs.declared.state.ListedClaim.{ListedClaim}
+use Rattle.hol_check_rules.specs.declared.state.Contents.{Contents}
 
 -- the claim at a place, by its name and its theorem
 pub claim_at : (table : TermTable) (contents : Contents) (place : ℕ) (claim : ListedClaim) (theorem : Theorem) → IsContents table contents → place < length contents.claims.items

@@ -4,7 +4,7 @@ use Rattle.std.specs.List.{slice_index_or}
 use Rattle.std.proofs.lemmas.List.{take_more, drop_more}
 use Rattle.std.specs.Io.KnownBytes.{Appends}
 use Rattle.std.proofs.KnownBytes.{Appends-nil, Appends-trans}
-use Rattle.hol_bytes.specs.Bytes.{AppendsFront}
+use Rattle.hol_device_io.specs.Bytes.{AppendsFront}
 use Rattle.hol_check.specs.Report.{lines_of}
 
 lines_append : {A : Type 0} → (line : A → List ℕ) (first second : List A) → lines_of line (first ++ second) ≡ lines_of line first ++ lines_of line second

@@ -3,9 +3,9 @@ use Rattle.std.specs.Prelude.{◌<◌, ℕ, length}
 use Rattle.std.specs.List.{slice_index_or}
 use Rattle.hol_model.specs.Logs.LogState.{LogClaim}
 use Rattle.hol_check.specs.PrintedClaims.{no_claim}
-use Rattle.hol_shared.specs.Terms.{TermTable, name_at}
-use Rattle.hol_steps.specs.State.{sequent_in}
-use Rattle.hol_steps.specs.declared.state.Theorem.{Theorem}
+use Rattle.hol_check_terms.specs.Terms.{TermTable, name_at}
+use Rattle.hol_check_rules.specs.State.{sequent_in}
+use Rattle.hol_check_rules.specs.declared.state.Theorem.{Theorem}
 use Rattle.hol_check.specs.declared.claim.Claim.TheInside.{Inside}
 
 abbrev pub viewed_claim : Inside → LogClaim

@@ -7,7 +7,7 @@ use Rattle.hol_model.specs.declared.fault.Cause.TheVariants.{Shape}
 use Rattle.hol_model.specs.Logs.LogState.{LogState}
 use Rattle.hol_model.specs.Logs.LogText.{ReadLine, LogOutcome, from_line, at_last, log_outcome}
 use Rattle.hol_logtext.specs.LogBytes.{log_text, last_part}
-use Rattle.hol_judge.specs.Taken.{IsTaken}
+use Rattle.hol_check_lines.specs.Taken.{IsTaken}
 use Rattle.hol_check.specs.Reading.{Unread, IsUnread, IsRead}
 
 -- the answer of the bytes of a whole log

@@ -9,7 +9,7 @@ use Rattle.hol_model.specs.Logs.LogLine.LogLine.{header_line}
 use Rattle.hol_model.specs.Logs.LogState.{LogState, LogClaim}
 use Rattle.hol_logtext.specs.LineText.{line_bytes}
 use Rattle.hol_check.specs.Reading.{IsRead}
-use Rattle.hol_bytes.specs.Bytes.{AppendsFront}
+use Rattle.hol_device_io.specs.Bytes.{AppendsFront}
 use Rattle.hol_check.specs.LogAnswers.{log_answer, IsRefusal}
 use Rattle.hol_check.specs.Checking.{HasClaims}
 

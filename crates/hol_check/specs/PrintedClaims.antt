@@ -8,9 +8,9 @@ use Rattle.hol_model.specs.Texts.Texts.{type_bytes}
 use Rattle.hol_model.specs.Goals.Goals.{Sequent}
 use Rattle.hol_model.specs.Logs.LogClaims.{nameless_bytes, listed_nameless}
 use Rattle.hol_model.specs.Logs.LogState.{LogClaim, no_sequent}
-use Rattle.hol_shared.specs.Terms.{TermTable, term_at}
-use Rattle.hol_steps.specs.declared.state.Contents.{Contents}
-use Rattle.hol_steps.specs.State.{state_of}
+use Rattle.hol_check_terms.specs.Terms.{TermTable, term_at}
+use Rattle.hol_check_rules.specs.declared.state.Contents.{Contents}
+use Rattle.hol_check_rules.specs.State.{state_of}
 
 -- a parenthesis, where it is wanted
 abbrev pub opening : Bool → List ℕ → List ℕ

@@ -3,7 +3,7 @@ use Rattle.std.specs.Prelude.{◌≡◌, ◌≤◌, ◌+◌, ℕ, List, [], ◌�
 use Rattle.std.specs.Io.KnownBytes.{Consumes}
 use Rattle.hol_model.specs.Texts.KnownText.{Tells}
 use Rattle.hol_model.specs.declared.limits.TheConstants.{TEXT_BYTES_LIMIT}
-use Rattle.hol_bytes.specs.Bytes.{TakesWithin}
+use Rattle.hol_device_io.specs.Bytes.{TakesWithin}
 use Rattle.hol_logtext.specs.Fields.{line_feed}
 use Rattle.hol_check.specs.declared.reading.Reading.TheInside.{Inside}
 

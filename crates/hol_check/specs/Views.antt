@@ -2,7 +2,7 @@
 use Rattle.std.specs.Prelude.{◌<◌, length}
 use Rattle.hol_model.specs.Terms.HolType.{HolType, type_variable, bool_type, function_type, declared_type}
 use Rattle.hol_model.specs.Terms.Nameless.{Nameless, free, const, bound, app, lam}
-use Rattle.hol_shared.specs.Terms.{type_at, term_at}
+use Rattle.hol_check_terms.specs.Terms.{type_at, term_at}
 use Rattle.hol_check.specs.declared.view.TypeView.TheInside as types
 use Rattle.hol_check.specs.declared.view.TermView.TheInside as terms
 use Rattle.hol_check.specs.declared.view.TypeParts.{TypeParts}

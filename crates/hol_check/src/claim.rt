@@ -4,16 +4,16 @@ ghost use Rattle.std.specs.List.{slice_index_or};
 ghost use Rattle.hol_model.specs.declared.fault.Fault.TheVariants.{Memory};
 ghost use Rattle.hol_model.specs.Logs.LogClaims.{claim_text};
 ghost use Rattle.hol_logtext.specs.Writing.{Appends};
-ghost use Rattle.hol_steps.specs.State.{IsContents, IsFittingTheorem, sequent_in};
+ghost use Rattle.hol_check_rules.specs.State.{IsContents, IsFittingTheorem, sequent_in};
 ghost use Rattle.hol_check.specs.PrintedClaims.{sequent_bytes, claim_bytes, claims_in, no_claim};
 ghost use Rattle.hol_check.specs.Claims.{claim_of};
 
 use crate::print::{print, print_listed, print_term};
 use crate::view::TermView;
-use hol_judge::log::Log;
+use hol_check_lines::log::Log;
+use hol_check_rules::state::{Contents, Theorem};
+use hol_check_terms::terms::Terms;
 use hol_model::Fault;
-use hol_shared::terms::Terms;
-use hol_steps::state::{Contents, Theorem};
 use std::alloc::{AllocError, Global};
 use std::marker::Model;
 use std::rc::Rc;
@@ -27,7 +27,7 @@ pub struct Claim {
 
 impl Model for Claim {
     ghost use Rattle.hol_model.specs.Logs.LogState.{LogClaim};
-    ghost use Rattle.hol_judge.specs.LogCode.{claim_code};
+    ghost use Rattle.hol_check_lines.specs.LogCode.{claim_code};
 
     ghost Value = { LogClaim };
 

@@ -9,8 +9,8 @@ ghost use Rattle.hol_check.specs.Reading.{IsUnread, StaysWithin};
 ghost use Rattle.hol_check.specs.LogAnswers.{IsTakenText, IsEnded, IsRefusedAt, IsUnderway, IsAcceptedLog, TellsRefusal, IsRefusal};
 
 use crate::reading::Reading;
-use hol_judge::log::Log;
-use hol_judge::take::take;
+use hol_check_lines::log::Log;
+use hol_check_lines::take::take;
 use hol_logtext::{Line, Version, read_line};
 use hol_model::{Cause, Fault, Source, TEXT_BYTES_LIMIT};
 use std::alloc::Global;

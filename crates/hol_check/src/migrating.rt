@@ -10,7 +10,7 @@ use crate::checker::check;
 use crate::claim::Claim;
 use crate::laws::migration_keeps_claims;
 use crate::text_source::TextSource;
-use hol_bytes::{read_all, write_all};
+use hol_device_io::{read_all, write_all};
 use hol_logtext::reading_is_exact;
 use hol_model::{Fault, Sink, Source, TEXT_BYTES_LIMIT};
 use std::alloc::Global;

@@ -3,11 +3,11 @@ ghost use Rattle.std.specs.Prelude.{◌<◌, ◌∷◌, ◌++◌, false, length,
 ghost use Rattle.std.specs.List.{All};
 ghost use Rattle.hol_model.specs.Logs.LogClaims.{nameless_bytes, further_nameless, listed_nameless};
 ghost use Rattle.hol_logtext.specs.Writing.{Appends};
-ghost use Rattle.hol_shared.specs.Terms.{name_at, type_at, term_at};
+ghost use Rattle.hol_check_terms.specs.Terms.{name_at, type_at, term_at};
 ghost use Rattle.hol_check.specs.PrintedClaims.{opening, closing, type_text, terms_at};
 
-use hol_shared::terms::{TermShape, Terms};
-use hol_shared::types::TypeShape;
+use hol_check_terms::terms::{TermShape, Terms};
+use hol_check_terms::types::TypeShape;
 use itoa::Buffer;
 use std::alloc::AllocError;
 

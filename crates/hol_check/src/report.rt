@@ -2,12 +2,12 @@
 ghost use Rattle.std.specs.Prelude.{◌≡◌, ◌∷◌, [], ◌++◌, true, false, OnOk, OnErr, IfErr, IsErrOf, Contains};
 ghost use Rattle.std.specs.Io.KnownBytes.{Appends};
 ghost use Rattle.hol_model.specs.declared.fault.Fault.TheVariants.{Memory, WriteFault};
-ghost use Rattle.hol_bytes.specs.Bytes.{AppendsFront};
+ghost use Rattle.hol_device_io.specs.Bytes.{AppendsFront};
 ghost use Rattle.hol_check.specs.Report.{claim_line, claim_lines, entry_line, entry_lines};
 
 use crate::claim::{Claim, text_of_claim};
 use crate::entry::{LogEntry, text_of_entry};
-use hol_bytes::write_all;
+use hol_device_io::write_all;
 use hol_model::{Fault, Sink};
 use std::alloc::Global;
 

@@ -1,10 +1,10 @@
 // The types and terms of claims, as a caller sees them.
 ghost use Rattle.std.specs.Prelude.{◌≡◌, ◌<◌, length};
-ghost use Rattle.hol_shared.specs.Terms.{type_at, term_at};
+ghost use Rattle.hol_check_terms.specs.Terms.{type_at, term_at};
 ghost use Rattle.hol_check.specs.Views.{type_of_parts, term_of_parts};
 
-use hol_shared::terms::{TermShape, Terms};
-use hol_shared::types::TypeShape;
+use hol_check_terms::terms::{TermShape, Terms};
+use hol_check_terms::types::TypeShape;
 use std::marker::Model;
 
 /// A type in a claim.

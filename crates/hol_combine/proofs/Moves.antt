@@ -9,8 +9,8 @@ use Rattle.hol_model.specs.Refining.Conversions.{is_caught}
 use Rattle.hol_model.specs.Refining.Refiners.{StatedStep, all_tac}
 use Rattle.hol_model.specs.Refining.Combinators.{Tactic, Stage, leaf, Runs, no_step_is_left, leaf_refines, leaf_is_refused, conversion_is_refused, conversion_is_not_assumed}
 use Rattle.hol_model.specs.Refining.Combinators.{conversion_refines, taut_refines, host_refines, first_goes_on, first_answers, first_is_caught, runs_as_defined, finds_no_memory}
-use Rattle.hol_outcomes.proofs.Spending.{converts-spends}
-use Rattle.hol_outcomes.proofs.Later.{runs-later, runs_on-later}
+use Rattle.hol_laws_refiners.proofs.Spending.{converts-spends}
+use Rattle.hol_laws_refiners.proofs.Later.{runs-later, runs_on-later}
 
 one-less : (left : ℕ) → left < suc left
 one-less left = omega arith

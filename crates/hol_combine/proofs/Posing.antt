@@ -12,9 +12,9 @@ use Rattle.hol_model.specs.Refining.HostFunctions.{Host}
 use Rattle.hol_model.specs.Refining.RefinerConditions.{HasKnownWitnesses, HaveKnownWitnesses, HasKnownWitnessesInLink, HaveKnownWitnessesInLinks}
 use Rattle.hol_model.specs.Refining.Combinators.{Tactic, Tactics, Link, Links, chain, orelse, leaf, no_more, more, link, then_all, then_each, on_all, paired, paired_before}
 use Rattle.hol_model.specs.Refining.Combinators.{assigned, with_step, Stage, IsLater, Runs, RunsEach, none_is_left, one_is_refused, one_is_done, each_finds_no_memory}
-use Rattle.hol_outcomes.proofs.Later.{runs-later, runs_each-later}
-use Rattle.hol_outcomes.proofs.GoodSteps.{store-later}
-use Rattle.hol_outcomes.proofs.Lemmas.{refiners-answer-valid}
+use Rattle.hol_laws_refiners.proofs.Later.{runs-later, runs_each-later}
+use Rattle.hol_laws_refiners.proofs.GoodSteps.{store-later}
+use Rattle.hol_laws_refiners.proofs.Lemmas.{refiners-answer-valid}
 use Rattle.hol_model.specs.Refining.Refiners.{all_tac}
 use Rattle.hol_just.specs.Steps.{goal_of, goals_of, step_of}
 use Rattle.hol_just.specs.declared.goal.Goal as code_goal

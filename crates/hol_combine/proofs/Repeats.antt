@@ -12,7 +12,7 @@ use Rattle.hol_model.specs.Refining.Refiners.{all_tac}
 use Rattle.hol_model.specs.Refining.Combinators.{Tactic, Stage, leaf, repeat, on_all, Runs, RunsEach, first_is_refused, first_goes_on, first_answers, first_is_not_caught}
 use Rattle.hol_model.specs.Refining.Combinators.{first_is_caught, runs_as_defined, ends, next_is_refused, splice_is_too_deep, next_goes_on, goes_on_without_memory}
 use Rattle.hol_model.specs.Refining.Combinators.{each_finds_no_memory}
-use Rattle.hol_outcomes.proofs.Later.{later-same, runs_each-later}
+use Rattle.hol_laws_refiners.proofs.Later.{later-same, runs_each-later}
 use Rattle.hol_combine.specs.Answers.{AnswersSpliced}
 use Rattle.hol_just.specs.Steps.{goal_of, goals_of, step_of}
 use Rattle.hol_just.specs.declared.goal.Goal as code_goal

@@ -17,11 +17,11 @@ use Rattle.hol_model.specs.Refining.Combinators.{Tactic, Tactics, Link, Links, S
 use Rattle.hol_model.specs.Refining.Combinators.{paired, with_step, Runs, RunsOn, RunsEach, no_step_is_left, host_is_unknown, host_fails, host_refines, first_answers}
 use Rattle.hol_model.specs.Refining.Combinators.{first_is_not_caught, last_is_refused, first_is_caught, runs_as_defined, ends, lengths_differ, next_is_refused, splice_is_too_deep}
 use Rattle.hol_model.specs.Refining.Combinators.{next_goes_on, goes_on_without_memory, none_is_left, one_is_refused, one_is_done, each_finds_no_memory}
-use Rattle.hol_outcomes.proofs.Later.{later-same, runs_each-later}
-use Rattle.hol_exprs.specs.Expressions.{tactic_of, tactics_of, link_of, links_of}
+use Rattle.hol_laws_refiners.proofs.Later.{later-same, runs_each-later}
+use Rattle.hol_tactic_exprs.specs.Expressions.{tactic_of, tactics_of, link_of, links_of}
 use Rattle.hol_model.specs.Terms.NamedTerm.{NamedTerm}
-use Rattle.hol_exprs.specs.declared.tac.Tac.{Tac}
-use Rattle.hol_exprs.specs.declared.tac.Link as code
+use Rattle.hol_tactic_exprs.specs.declared.tac.Tac.{Tac}
+use Rattle.hol_tactic_exprs.specs.declared.tac.Link as code
 use Rattle.hol_just.specs.Steps.{goal_of, goals_of}
 use Rattle.hol_just.specs.declared.goal.Goal as code_goal
 use Rattle.hol_combine.specs.Answers.{AnswersSpliced, RunsLink, none_assigned, runs_assigned, RunsPaired, GoesOnAfter}

@@ -11,10 +11,10 @@ use Rattle.hol_model.specs.Goals.Splicing.{spliced}
 use Rattle.hol_model.specs.Goals.Replays.{Store, is_within_depth}
 use Rattle.hol_model.specs.Refining.HostFunctions.{Host, HostConversions}
 use Rattle.hol_model.specs.Refining.Combinators.{Tactic, Tactics, leaf, host_tac, orelse, repeat, Link, Stage, at, assigned, paired, on_all, Runs, RunsOn, RunsEach}
-use Rattle.hol_exprs.specs.Expressions.{leaf_of, tactic_of, tactics_of, link_of, links_of}
-use Rattle.hol_exprs.specs.declared.leaf.Leaf.{Leaf}
-use Rattle.hol_exprs.specs.declared.tac.Tac.{Tac}
-use Rattle.hol_exprs.specs.declared.tac.Link as code_link
+use Rattle.hol_tactic_exprs.specs.Expressions.{leaf_of, tactic_of, tactics_of, link_of, links_of}
+use Rattle.hol_tactic_exprs.specs.declared.leaf.Leaf.{Leaf}
+use Rattle.hol_tactic_exprs.specs.declared.tac.Tac.{Tac}
+use Rattle.hol_tactic_exprs.specs.declared.tac.Link as code_link
 use Rattle.hol_just.specs.Steps.{goal_of, goals_of, step_of}
 use Rattle.hol_just.specs.declared.goal.Goal as code_goal
 use Rattle.hol_just.specs.declared.goal.Step as code

@@ -8,8 +8,8 @@ use Rattle.hol_model.specs.Goals.Replays.{Store}
 use Rattle.hol_model.specs.Refining.HostFunctions.{Host, HostConversions}
 use Rattle.hol_model.specs.Refining.Conversions.{is_caught}
 use Rattle.hol_model.specs.Refining.Combinators.{Tactic, repeat, Stage, at, Runs}
-use Rattle.hol_exprs.specs.Expressions.{tactic_of}
-use Rattle.hol_exprs.specs.declared.tac.Tac.{Tac}
+use Rattle.hol_tactic_exprs.specs.Expressions.{tactic_of}
+use Rattle.hol_tactic_exprs.specs.declared.tac.Tac.{Tac}
 use Rattle.hol_just.specs.Steps.{goal_of, step_of}
 use Rattle.hol_just.specs.declared.goal.Goal as code_goal
 use Rattle.hol_host.specs.Host.{HostRefiners, host_of}

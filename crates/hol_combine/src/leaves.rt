@@ -4,15 +4,15 @@ ghost use Rattle.hol_model.specs.Logic.Theory.{Theory};
 ghost use Rattle.hol_model.specs.Goals.Replays.{Store};
 ghost use Rattle.hol_model.specs.Refining.HostFunctions.{AnswersAccept};
 ghost use Rattle.hol_model.specs.Refining.Combinators as combinators;
-ghost use Rattle.hol_exprs.specs.Expressions.{leaf_of};
+ghost use Rattle.hol_tactic_exprs.specs.Expressions.{leaf_of};
 ghost use Rattle.hol_just.specs.Steps.{goal_of, step_of};
 ghost use Rattle.hol_combine.specs.Posed.{IsPosed};
 ghost use Rattle.hol_combine.specs.Answers.{LeafRefines};
 
-use hol_exprs::{Fuel, Leaf};
 use hol_host::Refiners;
 use hol_just::{Goal, Step};
 use hol_model::Fault;
+use hol_tactic_exprs::{Fuel, Leaf};
 use hol_terms::Term;
 use std::alloc::Global;
 

@@ -3,17 +3,17 @@ ghost use Rattle.std.specs.Prelude.{◌≡◌, IfOk};
 ghost use Rattle.hol_model.specs.Goals.Replays.{IsStoreOver};
 ghost use Rattle.hol_model.specs.Goals.GoodSteps.{IsGoodStep};
 ghost use Rattle.hol_model.specs.Refining.Combinators.{IsLater, at};
-ghost use Rattle.hol_exprs.specs.Expressions.{tactic_of};
+ghost use Rattle.hol_tactic_exprs.specs.Expressions.{tactic_of};
 ghost use Rattle.hol_just.specs.Steps.{goal_of, step_of};
 ghost use Rattle.hol_combine.specs.Posed.{IsPosed};
 ghost use Rattle.hol_combine.specs.Answers.{Refines};
 
 use crate::leaves::Leaves;
 use crate::running::run;
-use hol_exprs::{Fuel, Tac};
 use hol_host::Refiners;
 use hol_just::{Goal, Step};
 use hol_model::Fault;
+use hol_tactic_exprs::{Fuel, Tac};
 use hol_terms::Term;
 use std::alloc::Global;
 

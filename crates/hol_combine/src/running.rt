@@ -2,7 +2,7 @@
 ghost use Rattle.std.specs.Prelude.{◌≡◌, ◌∷◌, [], length};
 ghost use Rattle.hol_model.specs.Goals.Replays.{IsKnownGoal};
 ghost use Rattle.hol_model.specs.Refining.RefinerConditions.{HaveKnownWitnesses, HasKnownWitnesses, HasKnownWitnessesInLink, HaveKnownWitnessesInLinks};
-ghost use Rattle.hol_exprs.specs.Expressions.{tactic_of, tactics_of, link_of, links_of};
+ghost use Rattle.hol_tactic_exprs.specs.Expressions.{tactic_of, tactics_of, link_of, links_of};
 ghost use Rattle.hol_just.specs.Steps.{goal_of, goals_of};
 ghost use Rattle.hol_combine.specs.Posed.{IsPosed, ArePosed};
 ghost use Rattle.hol_combine.specs.Answers.{Refines, HostRefines, Repeats, GoesOn, Chains, LinkRefines, AllRefine, EachRefines};
@@ -11,10 +11,10 @@ ghost use Rattle.hol_combine.specs.Repeating.{OnceRefines};
 use crate::frames::{Frame, begin, descend, pop, resume};
 use crate::leaves::Leaves;
 use crate::splicing::{keep, spliced};
-use hol_exprs::{Fuel, Leaf, Link, Tac, is_caught};
 use hol_host::Refiners;
 use hol_just::{Goal, Step};
 use hol_model::Fault;
+use hol_tactic_exprs::{Fuel, Leaf, Link, Tac, is_caught};
 use hol_terms::Term;
 use std::alloc::Global;
 

@@ -13,10 +13,10 @@ use Rattle.hol_model.specs.Goals.Replays.{Store}
 use Rattle.hol_model.specs.Refining.HostFunctions.{HostConversions}
 use Rattle.hol_model.specs.Refining.Conversions as conv
 use Rattle.hol_model.specs.Refining.Conversions.{Conversion, Conversions, no_more, more, one_more, all_conv, thenc, orelsec, repeatc, rand_conv, rator_conv, abs_conv, sub_conv, depth_conv, Converts, ConvertsOn, is_caught, of_argument, of_function, of_body, of_parts, lacks_part, spends_step}
-use Rattle.hol_outcomes.proofs.Spending.{converts-spends}
-use Rattle.hol_outcomes.proofs.Equations.{conversions-answer-equations, equation-sides}
-use Rattle.hol_outcomes.proofs.Repeating.{onto}
-use Rattle.hol_outcomes.proofs.Chains.{ThencSoFar}
+use Rattle.hol_laws_refiners.proofs.Spending.{converts-spends}
+use Rattle.hol_laws_refiners.proofs.Equations.{conversions-answer-equations, equation-sides}
+use Rattle.hol_laws_refiners.proofs.Repeating.{onto}
+use Rattle.hol_laws_refiners.proofs.Chains.{ThencSoFar}
 use Rattle.hol_conv_rules.specs.Makes.{Joins}
 use Rattle.hol_conv.specs.Parts.{AreParts, AreBoundParts, RefusesParts, is_no_combination, combination_is_too_deep, RefusesBoundParts, is_no_abstraction, abstraction_is_too_deep}
 use Rattle.hol_conv.specs.Chains.{Reflects, without_step, by_refl, FinishesBy, Tries}

@@ -13,11 +13,11 @@ use Rattle.hol_model.specs.Refining.HostFunctions.{HostConversions}
 use Rattle.hol_model.specs.Refining.Conversions as conv
 use Rattle.hol_model.specs.Refining.Conversions.{Conversion, Conversions, more, one_more, all_conv, thenc, orelsec, repeatc, try_conv, changed_conv, rand_conv, rator_conv, abs_conv, sub_conv, depth_conv, once_depth_conv, top_depth_conv}
 use Rattle.hol_model.specs.Refining.Conversions.{Converts, is_caught, of_argument, of_function, of_body, of_parts, if_changed, lacks_part}
-use Rattle.hol_outcomes.proofs.Repeating.{IsFinal, onto, JoinedSoFar, joined_defined}
-use Rattle.hol_outcomes.proofs.Chains.{ThencSoFar}
+use Rattle.hol_laws_refiners.proofs.Repeating.{IsFinal, onto, JoinedSoFar, joined_defined}
+use Rattle.hol_laws_refiners.proofs.Chains.{ThencSoFar}
 use Rattle.hol_journal.specs.Journal.{Recorded, IsMade, theorem_in}
-use Rattle.hol_library.specs.Library.{IsContinued, store_in}
-use Rattle.hol_library.specs.declared.library.Library.{Library}
+use Rattle.hol_theorem_library.specs.Library.{IsContinued, store_in}
+use Rattle.hol_theorem_library.specs.declared.library.Library.{Library}
 use Rattle.hol_conv_rules.specs.Makes.{Makes, Joins, IsRightSide}
 use Rattle.hol_conv.specs.Answers.{ConvertsOver}
 use Rattle.hol_conv.specs.Parts.{AreParts, AreBoundParts}

@@ -9,11 +9,11 @@ use Rattle.hol_model.specs.Refining.HostFunctions.{HostConversions}
 use Rattle.hol_model.specs.Refining.Conversions.{Conversion, Converts}
 use Rattle.hol_journal.specs.Journal.{Recorded}
 use Rattle.hol_journal.proofs.GrowthLemmas.{journals-grow}
-use Rattle.hol_store.specs.Stored.{theorems_in}
-use Rattle.hol_store.specs.Store.{stored_of}
-use Rattle.hol_store.specs.declared.store.Store.{Store}
-use Rattle.hol_library.specs.Library.{IsLibrary, IsContinued, store_in}
-use Rattle.hol_library.specs.declared.library.Library.{Library}
+use Rattle.hol_theorem_store.specs.Stored.{theorems_in}
+use Rattle.hol_theorem_store.specs.Store.{stored_of}
+use Rattle.hol_theorem_store.specs.declared.store.Store.{Store}
+use Rattle.hol_theorem_library.specs.Library.{IsLibrary, IsContinued, store_in}
+use Rattle.hol_theorem_library.specs.declared.library.Library.{Library}
 use Rattle.hol_conv_rules.specs.Makes.{Makes}
 use Rattle.hol_conv.specs.Answers.{IsAsked}
 

@@ -11,11 +11,11 @@ use Rattle.hol_model.specs.Logic.KnownTerm.{is_known}
 use Rattle.hol_model.specs.Kernel.Theorem.{Theorem}
 use Rattle.hol_model.specs.Kernel.Rules.{refl_outcome, trans_outcome}
 use Rattle.hol_model.specs.Refining.Conversions.{is_caught}
-use Rattle.hol_outcomes.proofs.Repeating.{onto, joined_from, joined-last, joined-err}
+use Rattle.hol_laws_refiners.proofs.Repeating.{onto, joined_from, joined-last, joined-err}
 use Rattle.hol_journal.specs.Journal.{Recorded, IsMade}
 use Rattle.hol_journal.proofs.GrowthLemmas.{journals-grow}
-use Rattle.hol_library.specs.Library.{IsContinued}
-use Rattle.hol_library.specs.declared.library.Library.{Library}
+use Rattle.hol_theorem_library.specs.Library.{IsContinued}
+use Rattle.hol_theorem_library.specs.declared.library.Library.{Library}
 use Rattle.hol_conv_rules.specs.Makes.{Joins, IsRightSide}
 use Rattle.hol_conv.specs.Chains.{theorems, Reflects, without_step, by_refl, Finishes, FinishesBy, IsExtended, IsChain}
 use Rattle.hol_conv.specs.declared.chain.Chain.{Chain}

@@ -3,8 +3,8 @@ use Rattle.std.proofs.Common.{◌≡◌, ◌+◌, ◌<◌, List, refl, ap, ◌�
 use Rattle.std.proofs.Math.Seq.{drop-cons}
 use Rattle.hol_model.specs.Refining.Conversions.{Conversion, Conversions, no_more, more, all_conv, no_conv, beta_conv, rewr_conv, rules_conv, host_conv, thenc, orelsec, repeatc, try_conv}
 use Rattle.hol_model.specs.Refining.Conversions.{changed_conv, rand_conv, rator_conv, abs_conv, sub_conv, depth_conv, once_depth_conv, top_depth_conv}
-use Rattle.hol_exprs.specs.declared.conv.Conv.{Conv, Then, OrElse}
-use Rattle.hol_exprs.proofs.Rows.{then_means, or_else_means}
+use Rattle.hol_tactic_exprs.specs.declared.conv.Conv.{Conv, Then, OrElse}
+use Rattle.hol_tactic_exprs.proofs.Rows.{then_means, or_else_means}
 use Rattle.hol_conv.specs.Leaves.{with_leaves, all_with_leaves, stands_for, all_stand_for, thenc_of, orelsec_of}
 use Rattle.hol_conv.proofs.Sizes.{size, size_of, sizes_of}
 

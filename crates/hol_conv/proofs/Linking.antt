@@ -11,9 +11,9 @@ use Rattle.hol_model.specs.Kernel.Rules.{refl_outcome}
 use Rattle.hol_model.specs.Goals.Replays.{Store}
 use Rattle.hol_model.specs.Refining.HostFunctions.{HostConversions}
 use Rattle.hol_model.specs.Refining.Conversions.{Conversion, one_more, all_conv, thenc, orelsec, Converts, is_caught, first_is_refused}
-use Rattle.hol_outcomes.proofs.Costs.{converts-costs}
-use Rattle.hol_outcomes.proofs.Spending.{converts-spends}
-use Rattle.hol_outcomes.proofs.Repeating.{IsFinal, JoinedSoFar, joined_tried, joined_next, joined_end, joined_stop, joined_starves}
+use Rattle.hol_laws_refiners.proofs.Costs.{converts-costs}
+use Rattle.hol_laws_refiners.proofs.Spending.{converts-spends}
+use Rattle.hol_laws_refiners.proofs.Repeating.{IsFinal, JoinedSoFar, joined_tried, joined_next, joined_end, joined_stop, joined_starves}
 use Rattle.hol_journal.specs.Journal.{Recorded, theorem_in}
 use Rattle.hol_conv_rules.specs.Makes.{Joins}
 use Rattle.hol_conv.specs.Chains.{Reflects, without_step, by_refl, FinishesBy, Links, theorems}

@@ -1,8 +1,8 @@
 -- Rules that are made before a conversion is tried.
 use Rattle.std.proofs.Common.{◌≡◌, List, [], ◌∷◌, ◌++◌, Bool, true, false, if◌then◌else◌, sym, subst}
 use Rattle.std.proofs.lemmas.List.Elements.{All-push}
-use Rattle.hol_library.specs.Library.{IsLibrary, IsContinued}
-use Rattle.hol_library.specs.declared.library.Library.{Library}
+use Rattle.hol_theorem_library.specs.Library.{IsLibrary, IsContinued}
+use Rattle.hol_theorem_library.specs.declared.library.Library.{Library}
 use Rattle.hol_conv_rules.specs.declared.prepared.NamedRules.{NamedRules}
 use Rattle.hol_conv_rules.specs.Prepared.{IsPrepared, ArePrepared, stay-prepared}
 use Rattle.hol_conv.specs.Prepares.{Prepares}

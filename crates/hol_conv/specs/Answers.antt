@@ -6,8 +6,8 @@ use Rattle.hol_model.specs.Logic.KnownTerm.{is_known}
 use Rattle.hol_model.specs.Refining.HostFunctions.{HostConversions}
 use Rattle.hol_model.specs.Refining.Conversions.{Conversion, Converts}
 use Rattle.hol_journal.specs.Journal.{Recorded, theorem_in}
-use Rattle.hol_library.specs.Library.{IsLibrary, store_in}
-use Rattle.hol_library.specs.declared.library.Library.{Library}
+use Rattle.hol_theorem_library.specs.Library.{IsLibrary, store_in}
+use Rattle.hol_theorem_library.specs.declared.library.Library.{Library}
 
 -- a term that the library's theory knows, and leaves that are ready for the library
 pub record IsAsked (IsReady : Library → Type 0) (library : Library) (t : NamedTerm) : Type 0 where

@@ -9,9 +9,9 @@ use Rattle.hol_model.specs.Logic.KnownTerm.{is_known}
 use Rattle.hol_model.specs.Kernel.Theorem.{Theorem}
 use Rattle.hol_model.specs.Kernel.Rules.{refl_outcome}
 use Rattle.hol_model.specs.Refining.Conversions.{is_caught}
-use Rattle.hol_outcomes.proofs.Repeating.{joined_from}
+use Rattle.hol_laws_refiners.proofs.Repeating.{joined_from}
 use Rattle.hol_journal.specs.Journal.{Recorded, IsMade, theorem_in}
-use Rattle.hol_library.specs.declared.library.Library.{Library}
+use Rattle.hol_theorem_library.specs.declared.library.Library.{Library}
 use Rattle.hol_conv_rules.specs.Makes.{Joins, IsRightSide}
 use Rattle.hol_conv.specs.declared.chain.Chain.{Chain}
 use Rattle.hol_conv.specs.declared.chain.Linked.{Linked}

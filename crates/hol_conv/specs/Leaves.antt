@@ -2,8 +2,8 @@
 use Rattle.std.specs.Prelude.{List}
 use Rattle.hol_model.specs.Refining.Conversions.{Conversion, Conversions, no_more, more, thenc, orelsec, repeatc, try_conv, changed_conv, rand_conv, rator_conv}
 use Rattle.hol_model.specs.Refining.Conversions.{abs_conv, sub_conv, depth_conv, once_depth_conv, top_depth_conv}
-use Rattle.hol_exprs.specs.Expressions.{conversion_of, conversions_of}
-use Rattle.hol_exprs.specs.declared.conv.Conv.{Conv, All, No, Beta, Rewr, Host}
+use Rattle.hol_tactic_exprs.specs.Expressions.{conversion_of, conversions_of}
+use Rattle.hol_tactic_exprs.specs.declared.conv.Conv.{Conv, All, No, Beta, Rewr, Host}
 
 abbrev mutual
   pub with_leaves : (Conversion → Conversion) → Conversion → Conversion

@@ -1,7 +1,7 @@
 -- What making rules before a conversion is tried leaves.
 use Rattle.std.specs.Prelude.{List}
-use Rattle.hol_library.specs.Library.{IsLibrary, IsContinued}
-use Rattle.hol_library.specs.declared.library.Library.{Library}
+use Rattle.hol_theorem_library.specs.Library.{IsLibrary, IsContinued}
+use Rattle.hol_theorem_library.specs.declared.library.Library.{Library}
 use Rattle.hol_conv_rules.specs.declared.prepared.NamedRules.{NamedRules}
 use Rattle.hol_conv_rules.specs.Prepared.{ArePrepared}
 

@@ -2,13 +2,13 @@
 
 use crate::leaves::Leaves;
 use hol_conv_rules::rules_conv;
-use hol_exprs::{Conv, Fuel};
 use hol_host::Converters;
 use hol_journal::Rec;
-use hol_library::Library;
 use hol_model::Fault;
 use hol_rewrite::Choice;
+use hol_tactic_exprs::{Conv, Fuel};
 use hol_terms::Term;
+use hol_theorem_library::Library;
 use std::alloc::Global;
 
 /// Rewriting by these rules, whatever the conversion without parts. A host's conversions stand beside it, and none is called.
@@ -21,7 +21,7 @@ pub(crate) struct ByRules<'a, H> {
 
 impl<'a, H: Converters> Leaves for ByRules<'a, H> {
     ghost use Rattle.hol_model.specs.Refining.Conversions as conversions;
-    ghost use Rattle.hol_derivations.specs.Derivations.{theorems};
+    ghost use Rattle.hol_prelude_derivations.specs.Derivations.{theorems};
     ghost use Rattle.hol_conv_rules.specs.Prepared.{AreReady, stay-ready};
 
     ghost means = { λ leaves conversion. conversions.rules_conv (theorems leaves.rules.now) };

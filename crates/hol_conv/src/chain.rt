@@ -2,20 +2,20 @@
 ghost use Rattle.std.specs.Prelude.{◌≡◌, [], Ok, IfOk, IfErr, IsSome};
 ghost use Rattle.hol_model.specs.declared.fault.Fault.TheVariants.{Memory};
 ghost use Rattle.hol_model.specs.Kernel.Rules.{dest_equation};
-ghost use Rattle.hol_outcomes.proofs.Repeating.{joined_from};
+ghost use Rattle.hol_laws_refiners.proofs.Repeating.{joined_from};
 ghost use Rattle.hol_journal.specs.Journal.{IsMade, theorem_in};
 ghost use Rattle.std.specs.List.{All};
 ghost use Rattle.hol_conv.specs.Chains as chains;
-ghost use Rattle.hol_library.specs.Library.{IsLibrary, IsContinued};
+ghost use Rattle.hol_theorem_library.specs.Library.{IsLibrary, IsContinued};
 ghost use Rattle.hol_conv_rules.specs.Makes.{Makes, Joins};
 ghost use Rattle.hol_conv.specs.Chains.{IsChain, Reflects, Finishes, Tries, Links, LinksMade};
 
 use hol_conv_rules::{refl, right_side, trans};
-use hol_exprs::{Fuel, is_caught};
 use hol_journal::Rec;
-use hol_library::Library;
 use hol_model::Fault;
+use hol_tactic_exprs::{Fuel, is_caught};
 use hol_terms::Term;
+use hol_theorem_library::Library;
 use std::alloc::Global;
 
 /// Theorems, each of the right side of the one before, and the term of which the next is to be proved.

@@ -1,8 +1,8 @@
 // Tries conversions.
 ghost use Rattle.std.specs.Prelude.{◌≡◌};
 ghost use Rattle.hol_model.specs.Refining.Conversions as conversions;
-ghost use Rattle.hol_outcomes.proofs.Repeating.{IsFinal};
-ghost use Rattle.hol_exprs.specs.Expressions.{conversion_of};
+ghost use Rattle.hol_laws_refiners.proofs.Repeating.{IsFinal};
+ghost use Rattle.hol_tactic_exprs.specs.Expressions.{conversion_of};
 ghost use Rattle.hol_journal.specs.Journal.{theorem_in};
 ghost use Rattle.hol_conv_rules.specs.Makes.{Makes};
 ghost use Rattle.hol_conv.specs.Leaves.{stands_for, thenc_of, orelsec_of};
@@ -13,11 +13,11 @@ use crate::joining::{changed, of_argument, of_body, of_function, of_parts, then}
 use crate::leaves::Leaves;
 use crate::parts::{abstraction, combination};
 use hol_conv_rules::right_side;
-use hol_exprs::{Conv, Fuel, Prefix, is_caught};
 use hol_journal::Rec;
-use hol_library::Library;
 use hol_model::{DESCENTS_LIMIT, Fault};
+use hol_tactic_exprs::{Conv, Fuel, Prefix, is_caught};
 use hol_terms::{Parts, Term};
+use hol_theorem_library::Library;
 use std::alloc::Global;
 
 /// Tries a conversion on a known term, where so many descents are open: the answer is one that it may have, with the steps that

@@ -3,16 +3,16 @@ ghost use Rattle.std.specs.Prelude.{◌≡◌, ℕ, List, Ok, IfOk};
 ghost use Rattle.hol_model.specs.Terms.HolType.{HolType};
 ghost use Rattle.hol_model.specs.Terms.NamedTerm.{variable};
 ghost use Rattle.hol_model.specs.Refining.Conversions as conversions;
-ghost use Rattle.hol_outcomes.proofs.Repeating.{onto};
+ghost use Rattle.hol_laws_refiners.proofs.Repeating.{onto};
 ghost use Rattle.hol_journal.specs.Journal.{IsMade, theorem_in};
-ghost use Rattle.hol_library.specs.Library.{IsLibrary};
+ghost use Rattle.hol_theorem_library.specs.Library.{IsLibrary};
 ghost use Rattle.hol_conv_rules.specs.Makes.{Makes, Joins};
 
 use hol_conv_rules::{abs, ap_term, ap_thm, if_changed, mk_comb, trans};
 use hol_journal::Rec;
-use hol_library::Library;
 use hol_model::Fault;
 use hol_terms::Term;
+use hol_theorem_library::Library;
 use std::alloc::Global;
 
 /// TRANS.

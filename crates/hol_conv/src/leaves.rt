@@ -1,18 +1,18 @@
 // What stands in front of the conversions without parts.
 ghost use Rattle.hol_model.specs.Refining.Conversions.{Conversion};
 ghost use Rattle.hol_model.specs.Refining.HostFunctions.{HostConversions};
-ghost use Rattle.hol_library.specs.Library.{IsContinued};
-ghost use Rattle.hol_library.specs.declared.library.Library as library;
+ghost use Rattle.hol_theorem_library.specs.Library.{IsContinued};
+ghost use Rattle.hol_theorem_library.specs.declared.library.Library as library;
 ghost use Rattle.hol_conv_rules.specs.Makes.{Makes};
 ghost use Rattle.std.specs.Prelude.{ℕ};
 ghost use Rattle.hol_conv.specs.Leaves.{IsLeaf, stands_for};
 ghost use Rattle.hol_conv.specs.Answers.{IsAsked, ConvertsOver};
 
-use hol_exprs::{Conv, Fuel};
 use hol_journal::Rec;
-use hol_library::Library;
 use hol_model::Fault;
+use hol_tactic_exprs::{Conv, Fuel};
 use hol_terms::Term;
+use hol_theorem_library::Library;
 use std::alloc::Global;
 
 /// Tries conversions without parts. What is above is generic in it.

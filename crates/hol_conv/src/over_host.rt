@@ -1,9 +1,9 @@
 // The conversions without parts that expressions have.
 ghost use Rattle.std.specs.Prelude.{◌≡◌, true};
 ghost use Rattle.hol_model.specs.Logic.KnownTerm.{is_known};
-ghost use Rattle.hol_exprs.specs.Expressions.{conversion_of};
+ghost use Rattle.hol_tactic_exprs.specs.Expressions.{conversion_of};
 ghost use Rattle.hol_journal.specs.Journal.{theorem_in};
-ghost use Rattle.hol_library.specs.Library.{IsLibrary, store_in};
+ghost use Rattle.hol_theorem_library.specs.Library.{IsLibrary, store_in};
 ghost use Rattle.hol_conv_rules.specs.Makes.{Makes};
 ghost use Rattle.hol_conv_rules.specs.OneStep.{ConvertsInStep, RewritesByName};
 ghost use Rattle.hol_conv_rules.specs.Prepared.{ArePrepared};
@@ -12,12 +12,12 @@ ghost use Rattle.hol_conv.specs.Leaves.{IsLeaf};
 use crate::leaves::Leaves;
 use crate::preparing::prepared_for;
 use hol_conv_rules::{NamedRules, beta_conv, host_conv, prepared_rewr_conv, refl, rewr_conv};
-use hol_exprs::{Conv, Fuel};
 use hol_host::Converters;
 use hol_journal::Rec;
-use hol_library::Library;
 use hol_model::Fault;
+use hol_tactic_exprs::{Conv, Fuel};
 use hol_terms::Term;
+use hol_theorem_library::Library;
 use std::alloc::Global;
 
 /// The conversions without parts, each as itself, over a host's conversions. The rules of some names are there.

@@ -1,13 +1,13 @@
 // The rules that a conversion names, made before it is tried.
 ghost use Rattle.std.specs.Prelude.{IfSome};
-ghost use Rattle.hol_library.specs.Library.{IsLibrary};
-ghost use Rattle.hol_library.specs.declared.library.Library as library;
+ghost use Rattle.hol_theorem_library.specs.Library.{IsLibrary};
+ghost use Rattle.hol_theorem_library.specs.declared.library.Library as library;
 ghost use Rattle.hol_conv_rules.specs.Prepared.{ArePrepared, IsPreparedFor};
 ghost use Rattle.hol_conv.specs.Prepares.{Prepares};
 
 use hol_conv_rules::{NamedRules, rules_named};
-use hol_exprs::Conv;
-use hol_library::Library;
+use hol_tactic_exprs::Conv;
+use hol_theorem_library::Library;
 use std::alloc::Global;
 
 // So many names have their rules made before; those of others are made at each place.

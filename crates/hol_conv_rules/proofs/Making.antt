@@ -10,9 +10,9 @@ use Rattle.hol_journal.specs.Growth.{IsGrown}
 use Rattle.hol_journal.proofs.GrowthLemmas.{journals-grow}
 use Rattle.hol_equal.specs.Sequents.{Continues, IsHeld}
 use Rattle.hol_equal.proofs.StepLemmas.{StandsOn, continues}
-use Rattle.hol_library.specs.Library.{IsLibrary, IsContinued}
-use Rattle.hol_library.specs.declared.library.Library.{Library}
-use Rattle.hol_library.proofs.Continuing.{libraries-continue}
+use Rattle.hol_theorem_library.specs.Library.{IsLibrary, IsContinued}
+use Rattle.hol_theorem_library.specs.declared.library.Library.{Library}
+use Rattle.hol_theorem_library.proofs.Continuing.{libraries-continue}
 use Rattle.hol_conv_rules.specs.Makes.{Makes}
 
 held-made : (journal : Journal) (result : Result Recorded Fault) → IfOk result (IsHeld journal) → IfOk result (IsMade journal)

@@ -7,14 +7,14 @@ use Rattle.hol_model.specs.Kernel.Theorem.{Theorem}
 use Rattle.hol_model.specs.Goals.Replays as replays
 use Rattle.hol_model.specs.Rewrites.Rewriting.{AnswersRules}
 use Rattle.hol_journal.specs.Journal.{Recorded}
-use Rattle.hol_store.specs.Stored.{theorems_in}
-use Rattle.hol_store.specs.Store.{stored_of}
-use Rattle.hol_store.specs.declared.store.Store.{Store}
-use Rattle.hol_derivations.specs.Derivations.{AreMade, theorems}
+use Rattle.hol_theorem_store.specs.Stored.{theorems_in}
+use Rattle.hol_theorem_store.specs.Store.{stored_of}
+use Rattle.hol_theorem_store.specs.declared.store.Store.{Store}
+use Rattle.hol_prelude_derivations.specs.Derivations.{AreMade, theorems}
 use Rattle.hol_rewrite.specs.RuleSides.{sides_of_rules}
 use Rattle.hol_rewrite.proofs.RuleEquations.{rules-are-equations}
-use Rattle.hol_library.specs.Library.{IsLibrary, IsContinued, store_in}
-use Rattle.hol_library.specs.declared.library.Library.{Library}
+use Rattle.hol_theorem_library.specs.Library.{IsLibrary, IsContinued, store_in}
+use Rattle.hol_theorem_library.specs.declared.library.Library.{Library}
 use Rattle.hol_conv_rules.specs.Makes.{Makes}
 use Rattle.hol_conv_rules.specs.OneStep as one_step
 use Rattle.hol_conv_rules.specs.OneStep.{RewritesByName}

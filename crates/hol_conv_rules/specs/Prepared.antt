@@ -10,13 +10,13 @@ use Rattle.hol_model.specs.Rewrites.Choice.{Side}
 use Rattle.hol_model.specs.Rewrites.Rewriting.{AnswersRules}
 use Rattle.hol_journal.specs.Journal.{Recorded}
 use Rattle.hol_journal.proofs.GrowthLemmas.{journals-grow}
-use Rattle.hol_store.specs.Stored.{theorems_in}
-use Rattle.hol_store.specs.Store.{stored_of}
-use Rattle.hol_store.specs.declared.store.Store.{Store}
-use Rattle.hol_derivations.specs.Derivations.{AreMade, theorems}
+use Rattle.hol_theorem_store.specs.Stored.{theorems_in}
+use Rattle.hol_theorem_store.specs.Store.{stored_of}
+use Rattle.hol_theorem_store.specs.declared.store.Store.{Store}
+use Rattle.hol_prelude_derivations.specs.Derivations.{AreMade, theorems}
 use Rattle.hol_rewrite.specs.RuleSides.{AreEquations, sides_of_rules}
-use Rattle.hol_library.specs.Library.{IsContinued, store_in}
-use Rattle.hol_library.specs.declared.library.Library.{Library}
+use Rattle.hol_theorem_library.specs.Library.{IsContinued, store_in}
+use Rattle.hol_theorem_library.specs.declared.library.Library.{Library}
 use Rattle.hol_conv_rules.specs.declared.prepared.NamedRules.{NamedRules}
 
 -- the recorder made the rules, they are equations, and the choice is theirs

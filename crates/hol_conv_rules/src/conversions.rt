@@ -9,16 +9,16 @@ ghost use Rattle.hol_model.specs.Refining.Conversions.{redex_outcome};
 ghost use Rattle.hol_model.specs.Derived.DerivedRules.{AnswersStated};
 ghost use Rattle.hol_model.specs.Terms.Nameless.{image};
 ghost use Rattle.hol_journal.specs.Journal.{theorem_in};
-ghost use Rattle.hol_derivations.specs.Derivations.{AreMade, theorems};
+ghost use Rattle.hol_prelude_derivations.specs.Derivations.{AreMade, theorems};
 ghost use Rattle.hol_rewrite.specs.RuleSides.{AreEquations, sides_of_rules};
-ghost use Rattle.hol_library.specs.Library.{IsLibrary};
+ghost use Rattle.hol_theorem_library.specs.Library.{IsLibrary};
 ghost use Rattle.hol_conv_rules.specs.Makes.{Makes};
 
 use hol_journal::Rec;
-use hol_library::Library;
 use hol_model::Fault;
 use hol_rewrite::{Choice, rewrite_at};
 use hol_terms::{Parts, Term};
+use hol_theorem_library::Library;
 use std::alloc::Global;
 
 // Whether the term is an abstraction that is applied.

@@ -7,7 +7,7 @@ ghost use Rattle.hol_model.specs.Refining.HostFunctions.{promised, AnswersHostEq
 ghost use Rattle.hol_model.specs.Refining.Conversions as conv;
 ghost use Rattle.hol_journal.specs.Journal.{theorem_in};
 ghost use Rattle.hol_just.specs.Steps.{tree_of};
-ghost use Rattle.hol_library.specs.Library.{IsLibrary, store_in};
+ghost use Rattle.hol_theorem_library.specs.Library.{IsLibrary, store_in};
 ghost use Rattle.hol_conv_rules.specs.Makes.{Makes};
 ghost use Rattle.hol_conv_rules.specs.OneStep.{ConvertsInStep};
 ghost use Rattle.hol_conv_rules.specs.HostAnswers.{says_equal};
@@ -17,11 +17,11 @@ use hol_equal::equality::equation_parts;
 use hol_host::{Converters, HostFail};
 use hol_journal::Rec;
 use hol_just::Just;
+use hol_just_replay::replay;
 use hol_kernel::Thm;
-use hol_library::Library;
 use hol_model::Fault;
-use hol_replay::replay;
 use hol_terms::Term;
+use hol_theorem_library::Library;
 use std::alloc::Global;
 
 // Whether the theorem says, without hypotheses, that the first term equals the second.

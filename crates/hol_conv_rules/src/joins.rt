@@ -7,16 +7,16 @@ ghost use Rattle.hol_model.specs.Kernel.Rules.{dest_equation, refl_outcome, tran
 ghost use Rattle.hol_model.specs.Refining.Conversions.{binder_fault, of_argument, of_function, of_parts, of_body};
 ghost use Rattle.hol_model.specs.Refining.Conversions as outcome;
 ghost use Rattle.hol_journal.specs.Journal.{Journal, IsMade, theorem_in};
-ghost use Rattle.hol_library.specs.Library.{IsLibrary};
+ghost use Rattle.hol_theorem_library.specs.Library.{IsLibrary};
 ghost use Rattle.hol_conv_rules.specs.Makes.{Makes, Joins, IsRightSide};
 
 use hol_alpha::aconv;
 use hol_equal::conclusion_of;
 use hol_equal::equality::equation_parts;
 use hol_journal::Rec;
-use hol_library::Library;
 use hol_model::Fault;
 use hol_terms::Term;
+use hol_theorem_library::Library;
 use std::alloc::Global;
 
 /// REFL: `|- t = t`, as ALL_CONV. Refused as the kernel's rule.

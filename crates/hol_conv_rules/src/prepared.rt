@@ -3,19 +3,19 @@ ghost use Rattle.std.specs.Prelude.{◌≡◌, ◌≢◌, true, IfOk, IfErr, str
 ghost use Rattle.std.specs.Bool.{OnTrue, OnFalse};
 ghost use Rattle.hol_model.specs.Logic.KnownTerm.{is_known};
 ghost use Rattle.hol_journal.specs.Journal.{theorem_in};
-ghost use Rattle.hol_derivations.specs.Derivations.{AreMade, theorems};
-ghost use Rattle.hol_library.specs.Library.{IsLibrary, IsContinued, store_in};
+ghost use Rattle.hol_prelude_derivations.specs.Derivations.{AreMade, theorems};
+ghost use Rattle.hol_theorem_library.specs.Library.{IsLibrary, IsContinued, store_in};
 ghost use Rattle.hol_conv_rules.specs.Makes.{Makes};
 ghost use Rattle.hol_conv_rules.specs.OneStep.{RewritesByName};
 ghost use Rattle.hol_conv_rules.specs.Prepared.{AreRulesOf, RefusesRules, IsPrepared, IsPreparedFor};
 
 use crate::conversions::rules_conv;
 use hol_journal::Rec;
-use hol_library::{Library, libraries_continue};
 use hol_model::Fault;
 use hol_rewrite::{Choice, choice_of};
-use hol_rules::rules_of;
+use hol_rewrite_rules::rules_of;
 use hol_terms::Term;
+use hol_theorem_library::{Library, libraries_continue};
 use std::alloc::Global;
 
 /// The rules of a stored theorem, and the choice among them.

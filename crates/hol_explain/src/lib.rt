@@ -1,4 +1,4 @@
-//! Messages that explain the refusals of a script, by a second walk over it: what is said is worked out in `hol_hints`. They take
+//! Messages that explain the refusals of a script, by a second walk over it: what is said is worked out in `hol_explain_hints`. They take
 //! no part in any promise: what a run prints, and how it ends, is told by `hol_script` alone.
 #![tactic(auto)]
 

@@ -3,7 +3,7 @@ ghost use Rattle.std.specs.Prelude.{OnOk};
 ghost use Rattle.hol_script.specs.Managers.{IsManager};
 
 use crate::search::{Trial, refused_part};
-use hol_hints::{
+use hol_explain_hints::{
     Arguments, Case, Known, Message, NoMemory, Piece, Premise, Span, given, is_looked_up,
     no_command, of_case, of_part, plain, span_of,
 };

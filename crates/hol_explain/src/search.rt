@@ -2,7 +2,7 @@
 ghost use Rattle.std.specs.Prelude.{OnOk};
 ghost use Rattle.hol_script.specs.Managers.{IsManager};
 
-use hol_hints::{
+use hol_explain_hints::{
     Known, NoMemory, Part, Piece, Span, command_of, count_of_goals, first_member, given,
     has_misfit, next_joint, next_member, unwrapped,
 };

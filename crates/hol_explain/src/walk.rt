@@ -5,13 +5,13 @@ ghost use Rattle.hol_script.specs.Managers.{IsManager};
 
 use crate::message::message_of;
 use crate::search::Trial;
-use hol_bytes::write_all;
-use hol_command::cut::{cut, is_blank_text};
-use hol_hints::{Known, NoMemory, Piece, Place, between, told, unfinished};
+use hol_device_io::write_all;
+use hol_explain_hints::{Known, NoMemory, Piece, Place, between, told, unfinished};
 use hol_host::Refiners;
 use hol_model::{Fault, Sink};
 use hol_script::execute::execute;
 use hol_script::{Manager, Refused};
+use hol_script_commands::cut::{cut, is_blank_text};
 use std::alloc::Global;
 
 /// A script, the name of its file, and the names of the host's functions.

@@ -29,7 +29,7 @@ use Rattle.hol_model.specs.Goals.GoalStates.{closing_outcome}
 use Rattle.hol_model.specs.Logic.Derivable.{IsMember}
 use Rattle.hol_model.proofs.Terms.Membership.{of_map, IsMember-map}
 use Rattle.hol_model.proofs.Tests.{first_of_both, second_of_both, both, same_term-Decides}
-use Rattle.hol_valid.proofs.Members.{list_all-member, list_all-from, is_among-member, member-is_among}
+use Rattle.hol_laws_steps.proofs.Members.{list_all-member, list_all-from, is_among-member, member-is_among}
 
 -- ---- the test of a theorem against a goal
 

@@ -20,14 +20,14 @@ use Rattle.hol_model.specs.Goals.GoalLaws.{IsValidProof, IsValidIfAny, IsValidSt
 use Rattle.hol_model.specs.Refining.HostFunctions.{Host}
 use Rattle.hol_model.specs.Refining.Combinators.{Tactic, at, Runs, IsLater}
 use Rattle.hol_model.specs.Refining.Combinators as combinators
-use Rattle.hol_session_model.specs.SessionTools.{over_lemmas, IsStackExpansion}
-use Rattle.hol_outcomes.proofs.GoodSteps.{later-store}
-use Rattle.hol_outcomes.proofs.StopsRunning.{refiners-spend}
-use Rattle.hol_goal_laws.proofs.ValidProofs.{focus-sound, expand-valid, expand-refused, if_any-stays}
+use Rattle.hol_model_sessions.specs.SessionTools.{over_lemmas, IsStackExpansion}
+use Rattle.hol_laws_refiners.proofs.GoodSteps.{later-store}
+use Rattle.hol_laws_refiners.proofs.StopsRunning.{refiners-spend}
+use Rattle.hol_laws_goals.proofs.ValidProofs.{focus-sound, expand-valid, expand-refused, if_any-stays}
 use Rattle.hol_goals.specs.Refinements.{goal_in_focus}
 use Rattle.hol_model.specs.Refining.HostFunctions.{HostConversions}
-use Rattle.hol_exprs.specs.Expressions.{tactic_of}
-use Rattle.hol_exprs.specs.declared.tac.Tac.{Tac}
+use Rattle.hol_tactic_exprs.specs.Expressions.{tactic_of}
+use Rattle.hol_tactic_exprs.specs.declared.tac.Tac.{Tac}
 use Rattle.hol_just.specs.Steps.{step_of}
 use Rattle.hol_just.specs.declared.goal.Step as code
 use Rattle.hol_host.specs.Host.{HostRefiners, host_of}

@@ -12,9 +12,9 @@ use Rattle.hol_model.specs.Goals.GoalStates as states
 use Rattle.hol_model.specs.Goals.StackCalls.{Expands, RefusesExpansion}
 use Rattle.hol_model.specs.Refining.HostFunctions.{Host, HostConversions}
 use Rattle.hol_model.specs.Refining.Combinators.{Tactic, Stage, at, Runs}
-use Rattle.hol_session_model.specs.SessionTools.{IsStackExpansion}
-use Rattle.hol_exprs.specs.Expressions.{tactic_of}
-use Rattle.hol_exprs.specs.declared.tac.Tac.{Tac}
+use Rattle.hol_model_sessions.specs.SessionTools.{IsStackExpansion}
+use Rattle.hol_tactic_exprs.specs.Expressions.{tactic_of}
+use Rattle.hol_tactic_exprs.specs.declared.tac.Tac.{Tac}
 use Rattle.hol_just.specs.Steps.{step_of}
 use Rattle.hol_just.specs.declared.goal.Step as code
 use Rattle.hol_host.specs.Host.{HostRefiners, host_of}

@@ -16,7 +16,7 @@ use std::alloc::Global;
 fn achieves(recorder: &Recorder, theorem: &Rec, goal: &Goal) -> bool
     ensures { result ≡ achieves (goal_of goal.now) theorem.now.theorem }
 {
-    hol_replay::achieves(recorder, theorem, goal)
+    hol_just_replay::achieves(recorder, theorem, goal)
 }
 
 /// The theorem of the goal's own term, from one that achieves the goal: by EQ_MP with REFL of the term. Refused: InvalidStep

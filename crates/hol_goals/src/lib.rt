@@ -14,7 +14,7 @@ mod turning;
 
 pub use closing::closed;
 pub use expanding::Expansion;
-pub use hol_replay::{accept, replay};
+pub use hol_just_replay::{accept, replay};
 pub use laws::kept_theorems_stay_made;
 pub use proving::Prover;
 pub use stack::Stack;

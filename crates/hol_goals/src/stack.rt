@@ -15,12 +15,12 @@ use crate::expanding::Expansion;
 use crate::proving::Prover;
 use crate::stage::{Opening, Stage};
 use hol_combine::refine_goal;
-use hol_exprs::{Fuel, Tac};
 use hol_host::Refiners;
 use hol_journal::{Rec, Recorder};
 use hol_just::{Goal, Step, sub};
 use hol_kernel::Thm;
 use hol_model::Fault;
+use hol_tactic_exprs::{Fuel, Tac};
 use hol_terms::Term;
 use std::alloc::Global;
 use std::collections::VecDeque;
@@ -121,7 +121,7 @@ impl Stack {
     ghost use Rattle.hol_model.specs.Logic.Theory.{IsLegal};
     ghost use Rattle.hol_model.specs.Refining.Combinators.{IsLater, at};
     ghost use Rattle.hol_model.specs.Refining.RefinerConditions.{HasKnownWitnesses};
-    ghost use Rattle.hol_exprs.specs.Expressions.{tactic_of};
+    ghost use Rattle.hol_tactic_exprs.specs.Expressions.{tactic_of};
     ghost use Rattle.hol_combine.specs.Posed.{IsGrounded};
     ghost use Rattle.hol_goals.specs.Running.{RefinesFirst, IsGoodFirst, IsExpandedTo, ClosesIfValid};
 

@@ -9,14 +9,14 @@ use Rattle.hol_model.specs.declared.fault.Fault.TheVariants.{Memory}
 use Rattle.hol_model.specs.Logic.Theory.{Theory}
 use Rattle.hol_model.specs.Kernel.Theorem.{Theorem}
 use Rattle.hol_journal.specs.Journal.{Journal, Recorded}
-use Rattle.hol_derivations.specs.Derivations.{theorems, AreMade}
-use Rattle.hol_derivations.specs.Makings.{Made, all_made, made_in, MakesAll, HasMade}
+use Rattle.hol_prelude_derivations.specs.Derivations.{theorems, AreMade}
+use Rattle.hol_prelude_derivations.specs.Makings.{Made, all_made, made_in, MakesAll, HasMade}
 use Rattle.hol_prelude.specs.Laws.{without_laws}
 use Rattle.hol_prelude.specs.Stages.{MakesTheorems}
 use Rattle.hol_model.specs.Logic.Logic.{logical_definitions}
 use Rattle.hol_model.specs.Kernel.Outcome.{Answers}
 use Rattle.hol_prelude.specs.declared.tables.TheConstants.{FIRST_LAW, BEHIND_LAWS}
-use Rattle.hol_derivations.specs.declared.making.Making.{Making}
+use Rattle.hol_prelude_derivations.specs.declared.making.Making.{Making}
 
 one_answer : (outcome : Result Made Fault) (a b : Made) → outcome ≡ Ok a → outcome ≡ Ok b → a ≡ b
 one_answer outcome a b one other = cc

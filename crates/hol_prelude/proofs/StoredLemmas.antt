@@ -7,7 +7,7 @@ use Rattle.std.specs.Option.{option_map}
 use Rattle.hol_model.specs.Kernel.Theorem.{Theorem}
 use Rattle.hol_journal.specs.Journal.{Recorded}
 use Rattle.hol_journal.proofs.GrowthLemmas.{journals-grow}
-use Rattle.hol_derivations.specs.Derivations.{theorems}
+use Rattle.hol_prelude_derivations.specs.Derivations.{theorems}
 use Rattle.hol_prelude.specs.Prelude.{prelude_theorems}
 use Rattle.hol_prelude.specs.HasLogic.{LogicStays}
 

@@ -7,7 +7,7 @@ use Rattle.hol_model.specs.declared.fault.Fault.TheVariants.{Memory}
 use Rattle.hol_model.specs.Logic.Theory.{Theory}
 use Rattle.hol_model.specs.Kernel.Theorem.{Theorem}
 use Rattle.hol_journal.specs.Journal.{Recorded}
-use Rattle.hol_derivations.specs.Makings.{HasMade}
+use Rattle.hol_prelude_derivations.specs.Makings.{HasMade}
 
 -- it answers these theorems over the logical definitions, or that there is no memory
 pub record MakesTheorems (wanted : List Theorem) (new : Theory) (result : Result (Vec Recorded Global) Fault) : Type 0 where

@@ -1,20 +1,22 @@
 // The pieces of EXISTS and CHOOSE, as data.
-use hol_derivations::conjunction::{FIRST, TRUE_AT_FIRST};
-use hol_derivations::derivation::Derivation;
-use hol_derivations::formulas::{
+use hol_model::{PairRule, TermRule};
+use hol_prelude_derivations::conjunction::{FIRST, TRUE_AT_FIRST};
+use hol_prelude_derivations::derivation::Derivation;
+use hol_prelude_derivations::formulas::{
     ALWAYS, EACH_IMP_Q, EACH_IMP_Q_IMP, EACH_IMP_Q_IMP_Q, EXISTS_BODY, FORALL_Q_EACH, IMP, PRED, Q,
     Q_EACH, QUANTIFIER, TEST, TESTED_TRUE, X, X_PRED_X_IMP_Q,
 };
-use hol_derivations::logic::{
+use hol_prelude_derivations::logic::{
     ALWAYS_X, FORALL_FORMULA_IS, FORALL_PRED_IS, FORMULA, FORMULA_ALWAYS, FORMULA_PRED,
 };
-use hol_derivations::numbers;
-use hol_derivations::sketch::TermSketch;
-use hol_derivations::truth::EARLIER_TRUTH;
-use hol_laws::choice::PRED_X_HOLDS;
-use hol_laws::disjunction::{EACH_FORMULA, FORMULA_ALWAYS_X, GENERALIZES_FORMULA};
-use hol_laws::laws::{DISCHARGE, EXISTS_PRED_IS, FIRST_OF_TESTS, FROM_TRUE, SPECIALIZES, U, V};
-use hol_model::{PairRule, TermRule};
+use hol_prelude_derivations::numbers;
+use hol_prelude_derivations::sketch::TermSketch;
+use hol_prelude_derivations::truth::EARLIER_TRUTH;
+use hol_prelude_laws::choice::PRED_X_HOLDS;
+use hol_prelude_laws::disjunction::{EACH_FORMULA, FORMULA_ALWAYS_X, GENERALIZES_FORMULA};
+use hol_prelude_laws::laws::{
+    DISCHARGE, EXISTS_PRED_IS, FIRST_OF_TESTS, FROM_TRUE, SPECIALIZES, U, V,
+};
 
 // |- (?) P <=> (!q. (!x. P x ==> q) ==> q): EXISTS_DEF at P
 const EXISTS_DEF: Derivation<'static> = Derivation::Earlier(numbers::EXISTS_DEF);

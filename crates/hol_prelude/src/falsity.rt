@@ -1,18 +1,18 @@
 // Laws of falsity, of `p ==> p` and of `p \/ T`, as data.
-use hol_derivations::conjunction::{FIRST, TRUE_AT_FIRST};
-use hol_derivations::derivation::Derivation;
-use hol_derivations::formulas::{
+use hol_model::{PairRule, TermRule};
+use hol_prelude_derivations::conjunction::{FIRST, TRUE_AT_FIRST};
+use hol_prelude_derivations::derivation::Derivation;
+use hol_prelude_derivations::formulas::{
     F, FORALL_BOOL, IMP, P, P_CASE, P_IMP, P_IMP_R, Q, R, T, TEST, TEST_P, TESTED_TRUE,
 };
-use hol_derivations::logic::{ASSUME_F, FORMULA_ALWAYS, FORMULA_PRED};
-use hol_derivations::numbers;
-use hol_derivations::sketch::TermSketch;
-use hol_derivations::truth::{ASSUME_P, EARLIER_TRUTH, EQT_INTRO};
-use hol_laws::disjunction::{FROM_TRUE_R, GENERALIZES_FORMULA, P_OR, T_IMP_R};
-use hol_laws::laws::{
+use hol_prelude_derivations::logic::{ASSUME_F, FORMULA_ALWAYS, FORMULA_PRED};
+use hol_prelude_derivations::numbers;
+use hol_prelude_derivations::sketch::TermSketch;
+use hol_prelude_derivations::truth::{ASSUME_P, EARLIER_TRUTH, EQT_INTRO};
+use hol_prelude_laws::disjunction::{FROM_TRUE_R, GENERALIZES_FORMULA, P_OR, T_IMP_R};
+use hol_prelude_laws::laws::{
     P_OR_Q_FROM, TEST_P_HOLDS, TRUE_FOLLOWS_OPEN_DISCHARGE, TRUE_FOLLOWS_OPEN_FIRST, V,
 };
-use hol_model::{PairRule, TermRule};
 
 // |- ((p <=> F) <=> p) <=> F
 const P_IS_F: TermSketch<'static> = TermSketch::Equation(&P, &F);

@@ -1,16 +1,16 @@
 // EXCLUDED_MIDDLE, as data: a formula that is chosen to deny `@x. T` or to make `p \/ ~p` hold.
 use crate::falsity::{P_FOLLOWS_P, P_FROM_F, TO_TRUE};
-use hol_derivations::conjunction::{FIRST, TRUE_AT_FIRST};
-use hol_derivations::derivation::Derivation;
-use hol_derivations::formulas::{
+use hol_model::{PairRule, TermRule};
+use hol_prelude_derivations::conjunction::{FIRST, TRUE_AT_FIRST};
+use hol_prelude_derivations::derivation::Derivation;
+use hol_prelude_derivations::formulas::{
     A, BOOL, BOOL_QUANTIFIER, F, FORALL_BOOL, IMP, NOT, P, P_IMP, Q, T, TEST, TESTED_TRUE,
 };
-use hol_derivations::logic::{FORMULA, FORMULA_ALWAYS, FORMULA_PRED, NOT_P, SYM_NOT_P_IS};
-use hol_derivations::sketch::TermSketch;
-use hol_derivations::truth::{EARLIER_TRUTH, EQ_BOOL, REFL_T};
-use hol_laws::disjunction::{FORMULA_PRED_X, GENERALIZES_FORMULA, OR, P_OR, P_OR_Q};
-use hol_laws::laws::{CHOSEN, DISCHARGE, FIRST_OF_TESTS, FROM_TRUE, T_IMP, U, V};
-use hol_model::{PairRule, TermRule};
+use hol_prelude_derivations::logic::{FORMULA, FORMULA_ALWAYS, FORMULA_PRED, NOT_P, SYM_NOT_P_IS};
+use hol_prelude_derivations::sketch::TermSketch;
+use hol_prelude_derivations::truth::{EARLIER_TRUTH, EQ_BOOL, REFL_T};
+use hol_prelude_laws::disjunction::{FORMULA_PRED_X, GENERALIZES_FORMULA, OR, P_OR, P_OR_Q};
+use hol_prelude_laws::laws::{CHOSEN, DISCHARGE, FIRST_OF_TESTS, FROM_TRUE, T_IMP, U, V};
 
 // p |- p \/ ~p <=> T
 pub(crate) const P_OR_Q_FROM_P: Derivation<'static> = Derivation::Earlier(41);

@@ -1,6 +1,6 @@
 // The numbers, among the theorems of the prelude, of those that rules are made from.
 
-pub use hol_derivations::numbers::{
+pub use hol_prelude_derivations::numbers::{
     CONJ, CONJUNCT1, CONJUNCT2, CONTR, DISCH, EQT_ELIM, EQT_INTRO, GEN, MP, NOT_ELIM, NOT_INTRO,
     SPEC,
 };

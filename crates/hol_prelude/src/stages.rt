@@ -1,7 +1,7 @@
 // The theorems of the prelude and the laws among them, table by table.
 ghost use Rattle.std.specs.Prelude.{◌≡◌, [], ◌++◌, IfOk};
 ghost use Rattle.hol_journal.specs.Growth.{IsGrown};
-ghost use Rattle.hol_derivations.specs.Derivations.{AreMade};
+ghost use Rattle.hol_prelude_derivations.specs.Derivations.{AreMade};
 ghost use Rattle.hol_prelude.specs.Prelude.{first_theorems, disjunction_theorems, case_theorems, existence_theorems, axiom_theorems, middle_theorems};
 ghost use Rattle.hol_prelude.specs.Stages.{MakesTheorems};
 ghost use Rattle.hol_prelude.specs.Laws.{laws, falsity_laws, decider_laws};
@@ -9,9 +9,9 @@ ghost use Rattle.hol_prelude.specs.Laws.{laws, falsity_laws, decider_laws};
 use crate::tables::{
     AXIOMS, CASES, DECIDER_LAWS, DISJUNCTION, EXISTENCE, FALSITY_LAWS, FIRST_THEOREMS, LAWS, MIDDLE,
 };
-use hol_derivations::making::{make_first, make_table};
 use hol_journal::{Rec, Recorder};
 use hol_model::Fault;
+use hol_prelude_derivations::making::{make_first, make_table};
 use std::alloc::Global;
 
 // The definitions, TRUTH and the theorems of the first connectives.

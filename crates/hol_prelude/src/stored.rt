@@ -4,7 +4,7 @@ ghost use Rattle.hol_model.specs.Logic.Logic.{logical_definitions};
 ghost use Rattle.hol_model.specs.declared.fault.Fault.TheVariants.{Memory};
 ghost use Rattle.hol_journal.specs.Growth.{IsGrown};
 ghost use Rattle.hol_journal.specs.Journal.{IsMade};
-ghost use Rattle.hol_derivations.specs.Derivations.{theorems, AreMade};
+ghost use Rattle.hol_prelude_derivations.specs.Derivations.{theorems, AreMade};
 ghost use Rattle.hol_prelude.specs.Laws.{without_laws};
 ghost use Rattle.hol_prelude.specs.declared.tables.TheConstants.{BEHIND_LAWS};
 ghost use Rattle.hol_prelude.specs.Prelude.{prelude_theorems};

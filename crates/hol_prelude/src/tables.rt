@@ -5,19 +5,19 @@ use crate::middle::{
     EXCLUDED_MIDDLE, EXCLUDED_MIDDLE_EACH, MIDDLE_CHOSEN, MIDDLE_TRUE_FROM_DECIDER,
     MIDDLE_TRUE_FROM_P, P_OR_Q_FROM_P,
 };
-use hol_derivations::conjunction::{AND_UNFOLDED, CONJ, CONJUNCT1, CONJUNCT2};
-use hol_derivations::formulas::{
+use hol_prelude_derivations::conjunction::{AND_UNFOLDED, CONJ, CONJUNCT1, CONJUNCT2};
+use hol_prelude_derivations::formulas::{
     AND_BODY, EXISTS_BODY, F, FALSE_BODY, FORALL_BODY, IMP_BODY, NOT_BODY, OR_BODY, T, TRUE_BODY,
 };
-use hol_derivations::logic::{
+use hol_prelude_derivations::logic::{
     CONJ_EQUATION, CONTR, DISCH, FORALL_UNFOLDED, GEN, IMP_UNFOLDED, MP, MP_EQUATION, NOT_ELIM,
     NOT_INTRO, NOT_UNFOLDED, SPEC, SYM_FORALL_PRED_IS,
 };
-use hol_derivations::making::Making;
-use hol_derivations::truth::{EQT_ELIM, EQT_INTRO, TRUTH};
-use hol_laws::choice::{CHOOSES, ETA_AX, SELECT_AX};
-use hol_laws::disjunction::{DISJ_CASES, DISJ_P, DISJ_Q, OR_UNFOLDED, SYM_P_OR_Q_IS};
-use hol_laws::laws::{
+use hol_prelude_derivations::making::Making;
+use hol_prelude_derivations::truth::{EQT_ELIM, EQT_INTRO, TRUTH};
+use hol_prelude_laws::choice::{CHOOSES, ETA_AX, SELECT_AX};
+use hol_prelude_laws::disjunction::{DISJ_CASES, DISJ_P, DISJ_Q, OR_UNFOLDED, SYM_P_OR_Q_IS};
+use hol_prelude_laws::laws::{
     EACH_HOLDS_AT_X, FIRST_IS_U, IMP_TRUE_EQUATION, T_IMP_Q_IS_Q, TESTS_DISCHARGE, TRUE_EQUATION,
 };
 

@@ -3,10 +3,10 @@ use Rattle.std.proofs.Common.{◌≡◌, refl, ◌∙◌, ap}
 use Rattle.hol_model.specs.Kernel.Theorem.{Theorem}
 use Rattle.hol_journal.specs.Journal.{Recorded}
 use Rattle.hol_journal.proofs.GrowthLemmas.{journals-grow}
-use Rattle.hol_store.specs.Stored.{theorems_in}
-use Rattle.hol_store.specs.Store.{stored_of}
-use Rattle.hol_library.specs.Library.{IsContinued, store_in}
-use Rattle.hol_library.specs.declared.library.Library.{Library}
+use Rattle.hol_theorem_store.specs.Stored.{theorems_in}
+use Rattle.hol_theorem_store.specs.Store.{stored_of}
+use Rattle.hol_theorem_library.specs.Library.{IsContinued, store_in}
+use Rattle.hol_theorem_library.specs.declared.library.Library.{Library}
 use Rattle.hol_refine.specs.Growth.{same-grown}
 
 -- the journal alone has grown

@@ -10,8 +10,8 @@ use Rattle.hol_model.specs.Goals.Replays.{Store}
 use Rattle.hol_model.specs.Rewrites.Rewriting.{AnswersRules}
 use Rattle.hol_model.specs.Refining.Refiners.{theorems_named, AnswersAllRules}
 use Rattle.hol_journal.specs.Journal.{Journal, Recorded, IsMade}
-use Rattle.hol_derivations.specs.Derivations.{AreMade, theorems}
-use Rattle.hol_store.specs.Stored.{Stored, theorems_in}
+use Rattle.hol_prelude_derivations.specs.Derivations.{AreMade, theorems}
+use Rattle.hol_theorem_store.specs.Stored.{Stored, theorems_in}
 
 -- ---- names
 

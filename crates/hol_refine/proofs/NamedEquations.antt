@@ -4,7 +4,7 @@ use Rattle.hol_model.specs.Kernel.Theorem.{Theorem}
 use Rattle.hol_model.specs.Goals.Replays.{Store}
 use Rattle.hol_model.specs.Refining.Refiners.{AnswersAllRules}
 use Rattle.hol_journal.specs.Journal.{Recorded}
-use Rattle.hol_derivations.specs.Derivations.{theorems}
+use Rattle.hol_prelude_derivations.specs.Derivations.{theorems}
 use Rattle.hol_rewrite.specs.RuleSides.{AreEquations}
 use Rattle.hol_rewrite.proofs.RuleEquations.{rules-are-equations, equations-append}
 use Rattle.hol_refine.specs.Answers.{AreNamedRules}

@@ -12,7 +12,7 @@ use Rattle.hol_model.specs.Refining.Conversions.{Conversion, Converts}
 use Rattle.hol_model.specs.Refining.Refiners.{Leaf, taut_tac, is_in_table, AnswersTable, GoesBy, IsRefusedBefore, AnswersTautology}
 use Rattle.hol_model.specs.Refining.Combinators.{leaf, at, IsLater, Runs, leaf_refines, leaf_is_refused, conversion_is_refused, conversion_is_not_assumed, conversion_refines}
 use Rattle.hol_model.specs.Refining.Combinators.{taut_is_refused, taut_refines, finds_no_memory}
-use Rattle.hol_outcomes.proofs.Spending.{converts-spends}
+use Rattle.hol_laws_refiners.proofs.Spending.{converts-spends}
 use Rattle.hol_refine.specs.Answers.{IsConverted, IsProvedStep, IsRefusal, IsUnassumed, AnswersConverted, AnswersProved, AnswersTaut, taut_refuses, taut_answers}
 
 module _ (theory : Theory) (host : Host) where

@@ -16,7 +16,7 @@ use Rattle.hol_model.specs.Refining.Combinators.{leaf, at, Runs}
 use Rattle.hol_just.specs.Steps.{goal_of}
 use Rattle.hol_just.specs.declared.goal.Goal as code_goal
 use Rattle.hol_just.specs.declared.goal.Step as code_step
-use Rattle.hol_leaves.specs.Answers.{step_in}
+use Rattle.hol_refine_table.specs.Answers.{step_in}
 use Rattle.hol_host.specs.Host.{HostRefiners, host_of}
 
 -- why names are refused, where these are their theorems

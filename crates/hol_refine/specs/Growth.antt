@@ -5,9 +5,9 @@ use Rattle.hol_model.proofs.Logic.Earlier.{earlier-same}
 use Rattle.hol_journal.specs.Journal.{Journal}
 use Rattle.hol_journal.specs.Growth.{IsGrown}
 use Rattle.hol_journal.proofs.GrowthLemmas.{journals-grow}
-use Rattle.hol_store.specs.Stored.{KeepsTheorems}
-use Rattle.hol_store.specs.Store.{stored_of}
-use Rattle.hol_library.specs.declared.library.Library.{Library}
+use Rattle.hol_theorem_store.specs.Stored.{KeepsTheorems}
+use Rattle.hol_theorem_store.specs.Store.{stored_of}
+use Rattle.hol_theorem_library.specs.declared.library.Library.{Library}
 
 -- the journal has grown, and the theory and the theorems under names are the same; lemmas may have come
 pub record IsExtended (old new : Library) : Type 0 where

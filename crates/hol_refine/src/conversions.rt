@@ -3,20 +3,20 @@ ghost use Rattle.std.specs.Prelude.{◌≡◌, true, map, string_bytes};
 ghost use Rattle.hol_model.specs.Logic.KnownTerm.{is_known};
 ghost use Rattle.hol_model.specs.Goals.Replays.{IsKnownGoal};
 ghost use Rattle.hol_model.specs.Refining.Refiners as refiners;
-ghost use Rattle.hol_exprs.specs.Expressions.{conversion_of};
+ghost use Rattle.hol_tactic_exprs.specs.Expressions.{conversion_of};
 ghost use Rattle.hol_just.specs.Steps.{goal_of};
-ghost use Rattle.hol_library.specs.Library.{IsLibrary, store_in};
+ghost use Rattle.hol_theorem_library.specs.Library.{IsLibrary, store_in};
 ghost use Rattle.hol_refine.specs.Growth.{IsExtended};
 ghost use Rattle.hol_refine.specs.Answers.{RefinesOn};
 
 use crate::converting::Conversions;
 use crate::lemmas::by_equation;
 use crate::rules::rules_named;
-use hol_exprs::{Conv, Fuel};
 use hol_host::Refiners;
 use hol_just::{Goal, Step};
-use hol_library::Library;
 use hol_model::Fault;
+use hol_tactic_exprs::{Conv, Fuel};
+use hol_theorem_library::Library;
 use std::alloc::Global;
 
 /// CONV_TAC: the goal by what the conversion proves of its target.

@@ -2,18 +2,18 @@
 ghost use Rattle.std.specs.Prelude.{◌≡◌, true, IfOk};
 ghost use Rattle.hol_model.specs.Logic.KnownTerm.{is_known};
 ghost use Rattle.hol_model.specs.Refining.Conversions.{Converts, top_depth_conv, rules_conv};
-ghost use Rattle.hol_exprs.specs.Expressions.{conversion_of};
+ghost use Rattle.hol_tactic_exprs.specs.Expressions.{conversion_of};
 ghost use Rattle.hol_journal.specs.Journal.{IsMade, theorem_in};
-ghost use Rattle.hol_derivations.specs.Derivations.{AreMade, theorems};
+ghost use Rattle.hol_prelude_derivations.specs.Derivations.{AreMade, theorems};
 ghost use Rattle.hol_rewrite.specs.RuleSides.{AreEquations};
-ghost use Rattle.hol_library.specs.Library.{IsLibrary, IsContinued, store_in};
+ghost use Rattle.hol_theorem_library.specs.Library.{IsLibrary, IsContinued, store_in};
 
-use hol_exprs::{Conv, Fuel};
 use hol_host::Converters;
 use hol_journal::Rec;
-use hol_library::Library;
 use hol_model::Fault;
+use hol_tactic_exprs::{Conv, Fuel};
 use hol_terms::Term;
+use hol_theorem_library::Library;
 use std::alloc::Global;
 
 /// Conversions over a library: what proves of a term that it equals another (HOL Light's equal.ml).

@@ -3,14 +3,14 @@ ghost use Rattle.std.specs.Prelude.{◌≡◌, ◌∷◌, ◌++◌, [], Some, ma
 ghost use Rattle.hol_model.specs.declared.fault.Fault.TheVariants.{Memory};
 ghost use Rattle.hol_model.specs.Refining.Refiners as refiners;
 ghost use Rattle.hol_journal.specs.Journal.{Journal};
-ghost use Rattle.hol_derivations.specs.Derivations.{AreMade, theorems};
-ghost use Rattle.hol_store.specs.Stored.{IsStoreOf, theorems_in};
-ghost use Rattle.hol_store.specs.Store.{stored_of};
+ghost use Rattle.hol_prelude_derivations.specs.Derivations.{AreMade, theorems};
+ghost use Rattle.hol_theorem_store.specs.Stored.{IsStoreOf, theorems_in};
+ghost use Rattle.hol_theorem_store.specs.Store.{stored_of};
 ghost use Rattle.hol_refine.specs.Answers.{IsUnnamed};
 
 use hol_journal::Rec;
 use hol_model::Fault;
-use hol_store::Store;
+use hol_theorem_store::Store;
 use std::alloc::Global;
 
 // One theorem more.

@@ -2,23 +2,23 @@
 ghost use Rattle.std.specs.Prelude.{◌≡◌, true};
 ghost use Rattle.hol_model.specs.Goals.Replays.{IsKnownGoal};
 ghost use Rattle.hol_model.specs.Refining.Refiners as refiners;
-ghost use Rattle.hol_exprs.specs.Expressions.{leaf_of};
+ghost use Rattle.hol_tactic_exprs.specs.Expressions.{leaf_of};
 ghost use Rattle.hol_just.specs.Steps.{goal_of};
-ghost use Rattle.hol_leaves.specs.Answers.{step_in, AnswersLeaf};
+ghost use Rattle.hol_refine_table.specs.Answers.{step_in, AnswersLeaf};
 ghost use Rattle.hol_combine.specs.Answers.{LeafRefines};
-ghost use Rattle.hol_library.specs.Library.{IsLibrary, store_in};
+ghost use Rattle.hol_theorem_library.specs.Library.{IsLibrary, store_in};
 ghost use Rattle.hol_refine.specs.Growth.{IsExtended};
 
 use crate::conversions::{conv_tac, rewrite_tac};
 use crate::converting::Conversions;
 use crate::tautologies::taut_tac;
-use hol_exprs::{Fuel, Leaf};
 use hol_host::Refiners;
 use hol_just::{Goal, Step};
-use hol_leaves::leaf_step;
-use hol_library::Library;
 use hol_model::Fault;
+use hol_refine_table::leaf_step;
+use hol_tactic_exprs::{Fuel, Leaf};
 use hol_terms::Term;
+use hol_theorem_library::Library;
 use std::alloc::Global;
 
 // By a refiner of the table.

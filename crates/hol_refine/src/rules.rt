@@ -4,15 +4,15 @@ ghost use Rattle.hol_model.specs.declared.fault.Fault.TheVariants.{Memory};
 ghost use Rattle.hol_model.specs.Rewrites.Rewriting.{AnswersRules};
 ghost use Rattle.hol_model.specs.Refining.Refiners.{AnswersAllRules, IsRefusedBefore, rewrite_tac};
 ghost use Rattle.hol_journal.specs.Journal.{IsMade};
-ghost use Rattle.hol_derivations.specs.Derivations.{AreMade, theorems};
-ghost use Rattle.hol_library.specs.Library.{IsLibrary, IsContinued, store_in};
+ghost use Rattle.hol_prelude_derivations.specs.Derivations.{AreMade, theorems};
+ghost use Rattle.hol_theorem_library.specs.Library.{IsLibrary, IsContinued, store_in};
 ghost use Rattle.hol_refine.specs.Answers.{AreNamedRules};
 
 use crate::naming::theorems_named;
 use hol_journal::Rec;
-use hol_library::{Library, libraries_continue};
 use hol_model::Fault;
-use hol_rules::rules_of;
+use hol_rewrite_rules::rules_of;
+use hol_theorem_library::{Library, libraries_continue};
 use std::alloc::Global;
 
 // The rules of a theorem, in order. Refused as `rules_of`.

@@ -3,18 +3,18 @@ ghost use Rattle.std.specs.Prelude.{IfOk};
 ghost use Rattle.hol_model.specs.Refining.Refiners.{AnswersTautology};
 ghost use Rattle.hol_just.specs.Steps.{goal_of};
 ghost use Rattle.hol_journal.specs.Journal.{IsMade, theorem_in};
-ghost use Rattle.hol_leaves.specs.Answers.{step_in};
-ghost use Rattle.hol_library.specs.Library.{IsLibrary, IsContinued, store_in};
+ghost use Rattle.hol_refine_table.specs.Answers.{step_in};
+ghost use Rattle.hol_theorem_library.specs.Library.{IsLibrary, IsContinued, store_in};
 ghost use Rattle.hol_refine.specs.Growth.{IsExtended};
 ghost use Rattle.hol_refine.specs.Answers.{AnswersTaut};
 
 use crate::lemmas::by_theorem;
 use hol_journal::Rec;
 use hol_just::{Goal, Step};
-use hol_library::{Library, libraries_continue};
 use hol_model::Fault;
 use hol_taut::taut;
 use hol_terms::Term;
+use hol_theorem_library::{Library, libraries_continue};
 use std::alloc::Global;
 
 // TAUT, over a library.

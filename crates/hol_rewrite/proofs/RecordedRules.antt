@@ -10,7 +10,7 @@ use Rattle.hol_model.specs.Rewrites.Rewriting.{Replacements, IsFirstRule, IsRewr
 use Rattle.hol_model.specs.Rewrites.Rewriting.Rewrites.{none_matches, rewrites, instance_is_too_large}
 use Rattle.hol_match.specs.declared.matching.Match.{Match}
 use Rattle.hol_journal.specs.Journal.{Recorded, theorem_in}
-use Rattle.hol_derivations.specs.Derivations.{theorems}
+use Rattle.hol_prelude_derivations.specs.Derivations.{theorems}
 use Rattle.hol_rewrite.specs.RuleSides.{AreEquations, side_of_rule, sides_of_rules}
 use Rattle.hol_rewrite.specs.Instances.{replacements_of}
 use Rattle.hol_rewrite.proofs.FirstRules.{first_applies, none_applies}

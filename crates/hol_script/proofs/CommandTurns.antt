@@ -5,14 +5,14 @@ use Rattle.hol_model.specs.declared.fault.Fault.TheVariants.{Memory, Syntax}
 use Rattle.hol_model.specs.Texts.Token.{Token}
 use Rattle.hol_model.specs.Texts.Lexing.{Lexes}
 use Rattle.hol_model.specs.Texts.Reading.{Scope}
-use Rattle.hol_session_model.specs.CommandGrammar.{CommandTree, IsReadCommand, SpellsCommand}
-use Rattle.hol_session_model.specs.Replies.{refusal_of, Reply}
-use Rattle.hol_session_model.specs.ScriptSessions.{State, Tools, Outcome, Allows, finds_no_memory, is_no_command, is_refused, is_done}
-use Rattle.hol_session_model.specs.SessionCalls.{Turns}
-use Rattle.hol_proof_manager.specs.Session.{Printed}
-use Rattle.hol_proof_manager.specs.Session.{Refused}
-use Rattle.hol_proof_manager.specs.Session.{ComesTo, Performs, no_tools, Says, plain}
-use Rattle.hol_proof_manager.specs.Session.{any-tools-here}
+use Rattle.hol_model_sessions.specs.CommandGrammar.{CommandTree, IsReadCommand, SpellsCommand}
+use Rattle.hol_model_sessions.specs.Replies.{refusal_of, Reply}
+use Rattle.hol_model_sessions.specs.ScriptSessions.{State, Tools, Outcome, Allows, finds_no_memory, is_no_command, is_refused, is_done}
+use Rattle.hol_model_sessions.specs.SessionCalls.{Turns}
+use Rattle.hol_script_manager.specs.Session.{Printed}
+use Rattle.hol_script_manager.specs.Session.{Refused}
+use Rattle.hol_script_manager.specs.Session.{ComesTo, Performs, no_tools, Says, plain}
+use Rattle.hol_script_manager.specs.Session.{any-tools-here}
 
 module _ (tools : Tools) (state : State) (text : List ℕ) where
   abbrev RefusesFor : Fault → Type 0

@@ -4,10 +4,10 @@ use Rattle.std.specs.Prelude.{IfSome, IsErrOf, Contains}
 use Rattle.hol_model.specs.declared.fault.Fault.{Fault}
 use Rattle.hol_model.specs.declared.fault.Fault.TheVariants.{Memory, ReadFault, TooLong, WriteFault}
 use Rattle.hol_model.specs.declared.limits.TheConstants.{TEXT_BYTES_LIMIT}
-use Rattle.hol_session_model.specs.ScriptSessions.{Tools, text_of_turns}
-use Rattle.hol_session_model.specs.Runs.{Counts, no_counts, counts_after, SourceUse, SinkUse, Tells, BreaksOff, CannotBegin, IsWhole, Ends, unread, in_output, before_log, in_log, logged, unlogged}
-use Rattle.hol_bytes.specs.Bytes.{AppendsFront}
-use Rattle.hol_proof_manager.specs.Managers.{state_of}
+use Rattle.hol_model_sessions.specs.ScriptSessions.{Tools, text_of_turns}
+use Rattle.hol_model_sessions.specs.Runs.{Counts, no_counts, counts_after, SourceUse, SinkUse, Tells, BreaksOff, CannotBegin, IsWhole, Ends, unread, in_output, before_log, in_log, logged, unlogged}
+use Rattle.hol_device_io.specs.Bytes.{AppendsFront}
+use Rattle.hol_script_manager.specs.Managers.{state_of}
 use Rattle.hol_script.specs.declared.progress.Progress.{Progress}
 use Rattle.hol_script.specs.Runs.{counts_of, names_of, Finishes, Breaks, devices}
 use Rattle.hol_script.specs.RunLogs.{IsLogOver, IsLongLogOver, WritesLog, WritesFront, claims_listed, theory_of}

@@ -2,14 +2,14 @@
 use Rattle.std.proofs.Common.{List, ℕ, [], refl, sym, ◌∙◌, append-nil, Option, None, Some}
 use Rattle.std.proofs.KnownBytes.{Appends-nil}
 use Rattle.hol_model.specs.Texts.KnownText.{Tells}
-use Rattle.hol_session_model.specs.ScriptSessions.{State, start, Tools, text_of_turns}
-use Rattle.hol_session_model.specs.Runs.{Counts}
-use Rattle.hol_session_model.specs.Headline.{TellsLines, TellsFront}
-use Rattle.hol_print.proofs.SequentTexts.{sequents_read_back}
-use Rattle.hol_print.proofs.OneLine.{sequent_one_line, sequent_same, goal_one_line, goal_same}
-use Rattle.hol_session_laws.specs.HeadlineLaws.{TextsArePrinted}
-use Rattle.hol_session_laws.proofs.RunProgress.{begins, stopped-begins}
-use Rattle.hol_session_laws.proofs.ToldRuns.{runs-told}
+use Rattle.hol_model_sessions.specs.ScriptSessions.{State, start, Tools, text_of_turns}
+use Rattle.hol_model_sessions.specs.Runs.{Counts}
+use Rattle.hol_model_sessions.specs.Headline.{TellsLines, TellsFront}
+use Rattle.hol_syntax_print.proofs.SequentTexts.{sequents_read_back}
+use Rattle.hol_syntax_print.proofs.OneLine.{sequent_one_line, sequent_same, goal_one_line, goal_same}
+use Rattle.hol_laws_sessions.specs.HeadlineLaws.{TextsArePrinted}
+use Rattle.hol_laws_sessions.proofs.RunProgress.{begins, stopped-begins}
+use Rattle.hol_laws_sessions.proofs.ToldRuns.{runs-told}
 use Rattle.hol_script.specs.Runs.{Finishes, Breaks}
 
 texts_are_printed : TextsArePrinted

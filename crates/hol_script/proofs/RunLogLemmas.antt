@@ -9,21 +9,21 @@ use Rattle.hol_model.specs.Logic.Theory.{Theory}
 use Rattle.hol_model.specs.Logic.Derivable.{IsMember}
 use Rattle.hol_model.specs.Kernel.Theorem.{Theorem}
 use Rattle.hol_model.specs.Logs.LogState.{LogClaim}
-use Rattle.hol_session_model.specs.Script.{requested}
-use Rattle.hol_session_model.specs.Replies.{NamedTheorem}
-use Rattle.hol_session_model.specs.ScriptSessions.{State, start, Tools, last_state, theorems_in_turns}
-use Rattle.hol_session_model.specs.Runs.{Counts, claim_of, claims_of_turns}
+use Rattle.hol_model_sessions.specs.Script.{requested}
+use Rattle.hol_model_sessions.specs.Replies.{NamedTheorem}
+use Rattle.hol_model_sessions.specs.ScriptSessions.{State, start, Tools, last_state, theorems_in_turns}
+use Rattle.hol_model_sessions.specs.Runs.{Counts, claim_of, claims_of_turns}
 use Rattle.hol_model.proofs.Terms.Membership.{of_append}
-use Rattle.hol_session_laws.proofs.StoredTheorems.{printed-stay}
+use Rattle.hol_laws_sessions.proofs.StoredTheorems.{printed-stay}
 use Rattle.hol_journal.specs.Steps.{sequent_of_theorem}
 use Rattle.hol_journal.specs.Journal.{Recorded}
-use Rattle.hol_log.specs.LogWriting.{Claimed}
-use Rattle.hol_log.specs.LogAccepted.{log_claim}
-use Rattle.hol_log.specs.Pruning.{HaveIdentifiers}
-use Rattle.hol_store.specs.Store.{stored_of}
-use Rattle.hol_proof_manager.specs.Session.{theorem_of}
-use Rattle.hol_proof_manager.specs.Session.{stored_claim, stored_claims}
-use Rattle.hol_proof_manager.specs.Managers.{state_of}
+use Rattle.hol_journal_log.specs.LogWriting.{Claimed}
+use Rattle.hol_journal_log.specs.LogAccepted.{log_claim}
+use Rattle.hol_journal_log.specs.Pruning.{HaveIdentifiers}
+use Rattle.hol_theorem_store.specs.Store.{stored_of}
+use Rattle.hol_script_manager.specs.Session.{theorem_of}
+use Rattle.hol_script_manager.specs.Session.{stored_claim, stored_claims}
+use Rattle.hol_script_manager.specs.Managers.{state_of}
 use Rattle.hol_script.specs.declared.progress.Progress.{Progress}
 use Rattle.hol_script.specs.Runs.{names_of, Finishes}
 use Rattle.hol_script.specs.RunLogs.{claims_stored, claims_listed, theory_of}

@@ -6,15 +6,15 @@ use Rattle.hol_model.specs.Logic.Theory.{Theory}
 use Rattle.hol_model.specs.Logs.LogState.{LogState, LogClaim}
 use Rattle.hol_model.specs.Logs.LogText.{log_outcome}
 use Rattle.hol_logtext.specs.LogBytes.{log_text}
-use Rattle.hol_bytes.specs.Bytes.{AppendsFront}
+use Rattle.hol_device_io.specs.Bytes.{AppendsFront}
 use Rattle.hol_journal.specs.Journal.{Journal}
-use Rattle.hol_log.specs.LogAccepted.{log_claim, IsPartOf}
-use Rattle.hol_log.specs.LogWriting.{Claimed}
+use Rattle.hol_journal_log.specs.LogAccepted.{log_claim, IsPartOf}
+use Rattle.hol_journal_log.specs.LogWriting.{Claimed}
 use Rattle.hol_script.specs.declared.progress.Progress.{Progress}
 use Rattle.hol_script.specs.Runs.{names_of}
-use Rattle.hol_proof_manager.specs.Session.{IsLog}
-use Rattle.hol_proof_manager.specs.Managers as managers
-use Rattle.hol_proof_manager.specs.Managers.{claims_of}
+use Rattle.hol_script_manager.specs.Session.{IsLog}
+use Rattle.hol_script_manager.specs.Managers as managers
+use Rattle.hol_script_manager.specs.Managers.{claims_of}
 
 -- The text is a log that is accepted, with these claims, over entries of this theory.
 pub record IsAcceptedWith (theory : Theory) (claims : List LogClaim) (text : List ℕ) : Type 0 where

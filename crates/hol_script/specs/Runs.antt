@@ -2,17 +2,17 @@
 use Rattle.std.specs.Prelude.{◌≡◌, ◌+◌, ◌++◌, ℕ, List, [], Bool, map, Option, Result, Ok, Err, codes, string_bytes}
 use Rattle.std.specs.Io.KnownBytes.{Appends}
 use Rattle.hol_model.specs.declared.fault.Fault.{Fault}
-use Rattle.hol_session_model.specs.ScriptSessions.{State, start, Tools, Turn, last_state, text_of_turns, as_list, theorems_in_turns}
+use Rattle.hol_model_sessions.specs.ScriptSessions.{State, start, Tools, Turn, last_state, text_of_turns, as_list, theorems_in_turns}
 use Rattle.hol_model.specs.Texts.KnownText.{Tells}
-use Rattle.hol_session_model.specs.Runs.{Counts, no_counts, counts_after, IsRun, SourceUse, SinkUse, Devices}
-use Rattle.hol_bytes.specs.Bytes.{AppendsFront}
+use Rattle.hol_model_sessions.specs.Runs.{Counts, no_counts, counts_after, IsRun, SourceUse, SinkUse, Devices}
+use Rattle.hol_device_io.specs.Bytes.{AppendsFront}
 use Rattle.hol_script.specs.declared.progress.Summary.{Summary}
 use Rattle.hol_script.specs.declared.progress.Progress.{Progress}
-use Rattle.hol_proof_manager.specs.Session.{Printed}
-use Rattle.hol_proof_manager.specs.Session.{Nothing, Line, Goals}
-use Rattle.hol_proof_manager.specs.Session.{Refused}
-use Rattle.hol_proof_manager.specs.Session.{printed_name}
-use Rattle.hol_proof_manager.specs.Managers.{state_of}
+use Rattle.hol_script_manager.specs.Session.{Printed}
+use Rattle.hol_script_manager.specs.Session.{Nothing, Line, Goals}
+use Rattle.hol_script_manager.specs.Session.{Refused}
+use Rattle.hol_script_manager.specs.Session.{printed_name}
+use Rattle.hol_script_manager.specs.Managers.{state_of}
 
 -- ---- answers
 

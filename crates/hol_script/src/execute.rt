@@ -1,17 +1,17 @@
 // What a command's text does.
 ghost use Rattle.std.specs.Prelude.{Some};
-ghost use Rattle.hol_session_model.specs.CommandGrammar.{CommandTree};
-ghost use Rattle.hol_session_model.specs.SessionCalls.{Turns};
-ghost use Rattle.hol_proof_manager.specs.Session.{Performs, session_tools, Says};
-ghost use Rattle.hol_command.specs.Views.{IsCommand};
-ghost use Rattle.hol_proof_manager.specs.Managers.{state_of, IsManager};
+ghost use Rattle.hol_model_sessions.specs.CommandGrammar.{CommandTree};
+ghost use Rattle.hol_model_sessions.specs.SessionCalls.{Turns};
+ghost use Rattle.hol_script_manager.specs.Session.{Performs, session_tools, Says};
+ghost use Rattle.hol_script_commands.specs.Views.{IsCommand};
+ghost use Rattle.hol_script_manager.specs.Managers.{state_of, IsManager};
 ghost use Rattle.hol_script.specs.Commands.{IsOfTree};
 
-use hol_command::command::{Command, parse_command};
-use hol_grammar::{ReadError, tokens_in};
 use hol_host::Refiners;
 use hol_model::Fault;
-use hol_proof_manager::{Manager, Printed, Refused, plainly};
+use hol_script_commands::command::{Command, parse_command};
+use hol_script_manager::{Manager, Printed, Refused, plainly};
+use hol_syntax_grammar::{ReadError, tokens_in};
 use std::alloc::Global;
 
 /// Answers a command, which may call a host's functions: what it prints, or a refusal, which changes nothing.

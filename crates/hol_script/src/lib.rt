@@ -5,6 +5,6 @@ pub mod execute;
 mod progress;
 mod runner;
 
-pub use hol_proof_manager::{Manager, Printed, Refused};
+pub use hol_script_manager::{Manager, Printed, Refused};
 pub use progress::{Progress, Summary};
 pub use runner::run;

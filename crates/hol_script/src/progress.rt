@@ -1,19 +1,19 @@
 // How far a run has come.
 ghost use Rattle.std.specs.Prelude.{◌≡◌, ◌≤◌, ◌<◌, ◌+◌, ◌^◌, ◌++◌, ◌∷◌, [], Some, OnOk, IfOk, IfErr, IsErrOf, Contains, vec_len, vec_capacity};
-ghost use Rattle.hol_session_model.specs.ScriptSessions.{start};
-ghost use Rattle.hol_session_model.specs.SessionCalls.{Turns};
+ghost use Rattle.hol_model_sessions.specs.ScriptSessions.{start};
+ghost use Rattle.hol_model_sessions.specs.SessionCalls.{Turns};
 ghost use Rattle.hol_model.specs.declared.fault.Fault.TheVariants.{Memory, TooLong};
-ghost use Rattle.hol_log.specs.Pruning.{HaveIdentifiers};
-ghost use Rattle.hol_proof_manager.specs.Session.{session_tools, Says};
+ghost use Rattle.hol_journal_log.specs.Pruning.{HaveIdentifiers};
+ghost use Rattle.hol_script_manager.specs.Session.{session_tools, Says};
 ghost use Rattle.hol_script.specs.Runs.{counts_of, counting_answer, names_of, names_in_answer};
 ghost use Rattle.hol_script.specs.RunLogs.{journal_of, claims_stored, claims_listed};
-ghost use Rattle.hol_proof_manager.specs.Managers.{state_of, IsManager};
-ghost use Rattle.hol_proof_manager.specs.Session.{IsAcceptedLog, IsLongLog};
+ghost use Rattle.hol_script_manager.specs.Managers.{state_of, IsManager};
+ghost use Rattle.hol_script_manager.specs.Session.{IsAcceptedLog, IsLongLog};
 
 use crate::execute::execute;
 use hol_host::Refiners;
 use hol_model::Fault;
-use hol_proof_manager::{Manager, Printed, Refused};
+use hol_script_manager::{Manager, Printed, Refused};
 use std::alloc::Global;
 
 /// How many commands were accepted and refused, and how many theorems were printed.

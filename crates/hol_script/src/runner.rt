@@ -1,22 +1,22 @@
 // Runs a script from a source to a sink, and writes its log to another.
 ghost use Rattle.std.specs.Prelude.{◌≡◌, ◌⊎◌, ◌≤◌, ◌∷◌, [], true, false, length, Err, OnOk, OnErr, IfOk, IfErr, IsErrOf, Contains};
 ghost use Rattle.std.specs.Io.KnownBytes.{Appends};
-ghost use Rattle.hol_session_model.specs.Headline.{TellsLines, TellsFront};
-ghost use Rattle.hol_session_model.specs.Runs.{Ends};
+ghost use Rattle.hol_model_sessions.specs.Headline.{TellsLines, TellsFront};
+ghost use Rattle.hol_model_sessions.specs.Runs.{Ends};
 ghost use Rattle.hol_model.specs.declared.fault.Fault.TheVariants.{Memory, ReadFault, WriteFault, TooLong};
-ghost use Rattle.hol_log.specs.Pruning.{HaveIdentifiers};
-ghost use Rattle.hol_bytes.specs.Bytes.{AppendsFront};
-ghost use Rattle.hol_proof_manager.specs.Session.{session_tools, row_bytes, answer_text};
-ghost use Rattle.hol_proof_manager.specs.Managers.{state_of, IsManager};
+ghost use Rattle.hol_journal_log.specs.Pruning.{HaveIdentifiers};
+ghost use Rattle.hol_device_io.specs.Bytes.{AppendsFront};
+ghost use Rattle.hol_script_manager.specs.Session.{session_tools, row_bytes, answer_text};
+ghost use Rattle.hol_script_manager.specs.Managers.{state_of, IsManager};
 ghost use Rattle.hol_script.specs.Runs.{refusal_of_parts, counts_of, names_of, Finishes, Breaks, Leaves, answer_of, source_use, sink_use, devices};
 ghost use Rattle.hol_script.specs.RunLogs.{claims_stored, claims_listed, theory_of, IsLogOver, IsLongLogOver, WritesLog, WritesFront};
 
 use crate::progress::Progress;
-use hol_bytes::{read_all, write_all, write_pieces};
-use hol_command::cut::{cut, is_blank_text, leading_line_feeds, line_feeds};
+use hol_device_io::{read_all, write_all, write_pieces};
 use hol_host::Refiners;
 use hol_model::{Fault, Sink, Source, TEXT_BYTES_LIMIT};
-use hol_proof_manager::{Printed, Refused};
+use hol_script_commands::cut::{cut, is_blank_text, leading_line_feeds, line_feeds};
+use hol_script_manager::{Printed, Refused};
 use itoa::Buffer;
 use std::alloc::Global;
 

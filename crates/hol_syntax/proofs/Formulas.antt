@@ -9,9 +9,9 @@ use Rattle.hol_model.specs.Texts.TermGrammar.{TermTree}
 use Rattle.hol_model.specs.Texts.Reading.{Scope, ◌>>=◌}
 use Rattle.hol_model.specs.Texts.SequentGrammar.{formula_meaning, formulas_meaning}
 use Rattle.hol_model.specs.Kernel.Outcome.{Answers}
-use Rattle.hol_grammar.specs.declared.steps.TermStep.{TermStep}
-use Rattle.hol_grammar.specs.Steps.{flat_steps_of}
-use Rattle.hol_grammar.specs.TermSteps.{flat_steps, term_steps}
+use Rattle.hol_syntax_grammar.specs.declared.steps.TermStep.{TermStep}
+use Rattle.hol_syntax_grammar.specs.Steps.{flat_steps_of}
+use Rattle.hol_syntax_grammar.specs.TermSteps.{flat_steps, term_steps}
 use Rattle.hol_syntax.specs.SequentStates.{AreSteps}
 
 -- terms before those of an answer

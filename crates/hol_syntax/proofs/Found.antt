@@ -1,11 +1,11 @@
 -- The first separator of its kind.
 use Rattle.std.proofs.Common.{◌≡◌, ℕ, zero, suc, ◌+◌, ◌<◌, List, [], ◌∷◌, length, take, drop, get_or, Bool, true, false, Some, sym, ap, ◌∙◌, subst, add-one}
 use Rattle.hol_model.specs.Texts.Token.{Token as TokenModel}
-use Rattle.hol_grammar.specs.declared.token.Token.{Token}
+use Rattle.hol_syntax_grammar.specs.declared.token.Token.{Token}
 use Rattle.hol_syntax.specs.declared.sequents.Separator.{Separator}
-use Rattle.hol_grammar.specs.Views.{token_of, tokens_of}
+use Rattle.hol_syntax_grammar.specs.Views.{token_of, tokens_of}
 use Rattle.hol_syntax.specs.SequentStates.{separates, Without, IsFound}
-use Rattle.hol_grammar.proofs.TypeRuns.{rest_at}
+use Rattle.hol_syntax_grammar.proofs.TypeRuns.{rest_at}
 
 pub found_at : (separator : Separator) (tokens : List Token) (i : ℕ) (d : Token) → i < length tokens → separates separator (token_of (get_or tokens i d)) ≡ true
     → Without (separates separator) (take i (tokens_of tokens)) → IsFound (Some i) separator (tokens_of tokens)

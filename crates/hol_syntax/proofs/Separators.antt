@@ -11,8 +11,8 @@ use Rattle.hol_model.specs.Texts.SequentGrammar.{with_commas, AreReadTerms}
 use Rattle.hol_syntax.specs.declared.sequents.Separator.{Separator}
 use Rattle.hol_syntax.specs.declared.sequents.Separator.TheVariants.{Comma as CommaHere, Turnstile as TurnstileHere}
 use Rattle.hol_syntax.specs.SequentStates.{separates, Without, IsFound}
-use Rattle.hol_grammar.proofs.TermReading.{ArePieces}
-use Rattle.hol_grammar.proofs.Pieces.{to_read}
+use Rattle.hol_syntax_grammar.proofs.TermReading.{ArePieces}
+use Rattle.hol_syntax_grammar.proofs.Pieces.{to_read}
 
 -- a comma, a turnstile or a backquote
 abbrev pub is_separator : Token → Bool

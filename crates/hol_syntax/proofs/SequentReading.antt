@@ -7,13 +7,13 @@ use Rattle.hol_model.specs.Texts.Token.{Token, Mark}
 use Rattle.hol_model.specs.declared.symbol.Symbol.TheVariants.{Turnstile}
 use Rattle.hol_model.specs.Texts.TermGrammar.{TermTree, IsReadTerm}
 use Rattle.hol_model.specs.Texts.SequentGrammar.{with_commas, AreReadTerms, IsReadSequent}
-use Rattle.hol_grammar.specs.declared.token.Token.{Token as TokenHere}
-use Rattle.hol_grammar.specs.declared.steps.TermStep.{TermStep}
-use Rattle.hol_grammar.specs.declared.type_reader.ReadError.{ReadError}
-use Rattle.hol_grammar.specs.declared.type_reader.ReadError.TheVariants.{Memory, Syntax}
+use Rattle.hol_syntax_grammar.specs.declared.token.Token.{Token as TokenHere}
+use Rattle.hol_syntax_grammar.specs.declared.steps.TermStep.{TermStep}
+use Rattle.hol_syntax_grammar.specs.declared.type_reader.ReadError.{ReadError}
+use Rattle.hol_syntax_grammar.specs.declared.type_reader.ReadError.TheVariants.{Memory, Syntax}
 use Rattle.hol_syntax.specs.declared.sequents.Separator.TheVariants.{Comma as CommaHere, Turnstile as TurnstileHere}
-use Rattle.hol_grammar.specs.Views.{token_of, tokens_of}
-use Rattle.hol_grammar.specs.TermStates.{Parses}
+use Rattle.hol_syntax_grammar.specs.Views.{token_of, tokens_of}
+use Rattle.hol_syntax_grammar.specs.TermStates.{Parses}
 use Rattle.hol_syntax.specs.SequentStates.{separates, Without, IsFound, AreSteps, ParsesList, ParsesSequent}
 use Rattle.hol_syntax.proofs.Separators.{split_found, split_none, split_parts, rejoined, found_cuts, found_within, is_turnstile, list_without, cut_same, uncut}
 

@@ -11,10 +11,10 @@ use Rattle.hol_model.specs.Texts.TypeGrammar.{TypeTree, type_steps}
 use Rattle.hol_model.specs.Texts.TermGrammar.{Bare, Variable, Constant, TermTree}
 use Rattle.hol_model.specs.Texts.Reading.{Scope, ◌>>=◌, named_variable, named_binding, meaning}
 use Rattle.hol_model.specs.Kernel.Outcome.{Answers}
-use Rattle.hol_grammar.specs.declared.steps.TermStep.{TermStep as HeldStep}
+use Rattle.hol_syntax_grammar.specs.declared.steps.TermStep.{TermStep as HeldStep}
 use Rattle.hol_syntax.specs.declared.evaluate.Evaluator.{Evaluator}
-use Rattle.hol_grammar.specs.Steps.{flat_step_of, flat_steps_of}
-use Rattle.hol_grammar.specs.TermSteps.{TermStep, TakeAtom, MakeApply, MakeNot, MakeJoin, EnterBinder, LeaveBinder, FlatStep, FlatBare, FlatVariable, FlatConstant, FlatApply, FlatNot, FlatJoin, FlatEnter, FlatLeave, flat_step, flat_steps, term_steps, Workspace, enter, take_step, exec_term}
+use Rattle.hol_syntax_grammar.specs.Steps.{flat_step_of, flat_steps_of}
+use Rattle.hol_syntax_grammar.specs.TermSteps.{TermStep, TakeAtom, MakeApply, MakeNot, MakeJoin, EnterBinder, LeaveBinder, FlatStep, FlatBare, FlatVariable, FlatConstant, FlatApply, FlatNot, FlatJoin, FlatEnter, FlatLeave, flat_step, flat_steps, term_steps, Workspace, enter, take_step, exec_term}
 use Rattle.hol_syntax.specs.OpenBinders.{IsOpened, Enters}
 use Rattle.hol_syntax.specs.Evaluating.{IsHeld, Arrives}
 use Rattle.hol_syntax.proofs.TermBuilding.{builds_all}

@@ -5,15 +5,15 @@ use Rattle.hol_model.specs.Texts.TypeGrammar.{TypeTree, IsRead}
 use Rattle.hol_model.specs.Texts.Lexing.{Lexes, is_blank}
 use Rattle.hol_model.specs.Texts.TermGrammar.{TermTree, Lexeme, all_tokens, IsReadTerm}
 use Rattle.hol_model.specs.Texts.Texts.{TypesAreUnambiguous, TermsAreUnambiguous}
-use Rattle.hol_grammar.specs.Lexer.{back}
-use Rattle.hol_grammar.specs.TypeReader.{run}
-use Rattle.hol_grammar.proofs.Lexing.{first_is, nothing_left}
-use Rattle.hol_grammar.specs.TermReader.{run as run_pieces}
-use Rattle.hol_grammar.specs.Pieces.{piece_at}
-use Rattle.hol_grammar.proofs.TypeReading.{complete}
-use Rattle.hol_grammar.proofs.TermReading.{ArePieces}
-use Rattle.hol_grammar.proofs.Pieces.{some_pair, piece_found, to_read}
-use Rattle.hol_grammar.proofs.TermRuns.{no_pieces}
+use Rattle.hol_syntax_grammar.specs.Lexer.{back}
+use Rattle.hol_syntax_grammar.specs.TypeReader.{run}
+use Rattle.hol_syntax_grammar.proofs.Lexing.{first_is, nothing_left}
+use Rattle.hol_syntax_grammar.specs.TermReader.{run as run_pieces}
+use Rattle.hol_syntax_grammar.specs.Pieces.{piece_at}
+use Rattle.hol_syntax_grammar.proofs.TypeReading.{complete}
+use Rattle.hol_syntax_grammar.proofs.TermReading.{ArePieces}
+use Rattle.hol_syntax_grammar.proofs.Pieces.{some_pair, piece_found, to_read}
+use Rattle.hol_syntax_grammar.proofs.TermRuns.{no_pieces}
 
 -- where a token begins, something is left
 not_blank : (bytes : List ℕ) (token : Token) (tokens : List Token) → Lexes bytes (token ∷ tokens) → back is_blank bytes ≢ []

@@ -6,7 +6,7 @@ use Rattle.hol_model.specs.Terms.NamedTerm.{NamedTerm}
 use Rattle.hol_model.specs.Texts.Reading.{◌>>=◌}
 use Rattle.hol_syntax.specs.declared.evaluate.Evaluator.{Evaluator}
 use Rattle.hol_syntax.specs.OpenBinders.{IsOpened}
-use Rattle.hol_grammar.specs.TermSteps.{Workspace, push}
+use Rattle.hol_syntax_grammar.specs.TermSteps.{Workspace, push}
 
 -- a term that is made goes on those that wait
 abbrev pub pushed : Workspace → Result NamedTerm Fault → Result Workspace Fault

@@ -11,11 +11,11 @@ use Rattle.hol_model.specs.Texts.SequentGrammar.{with_commas, AreReadTerms, IsRe
 use Rattle.hol_model.specs.Texts.Reading.{Scope}
 use Rattle.hol_syntax.specs.declared.sequents.Separator.{Separator}
 use Rattle.hol_syntax.specs.declared.sequents.Separator.TheVariants.{Comma as CommaHere, Turnstile as TurnstileHere}
-use Rattle.hol_grammar.specs.declared.type_reader.ReadError.{ReadError}
-use Rattle.hol_grammar.specs.declared.type_reader.ReadError.TheVariants.{Memory, Syntax}
-use Rattle.hol_grammar.specs.declared.steps.TermStep.{TermStep}
-use Rattle.hol_grammar.specs.Steps.{flat_steps_of}
-use Rattle.hol_grammar.specs.TermSteps.{flat_steps, term_steps}
+use Rattle.hol_syntax_grammar.specs.declared.type_reader.ReadError.{ReadError}
+use Rattle.hol_syntax_grammar.specs.declared.type_reader.ReadError.TheVariants.{Memory, Syntax}
+use Rattle.hol_syntax_grammar.specs.declared.steps.TermStep.{TermStep}
+use Rattle.hol_syntax_grammar.specs.Steps.{flat_steps_of}
+use Rattle.hol_syntax_grammar.specs.TermSteps.{flat_steps, term_steps}
 
 abbrev pub separates : Separator → Token → Bool
 separates CommaHere (Mark Comma) = true

@@ -8,11 +8,11 @@ ghost use Rattle.hol_model.specs.Texts.Reading as reading;
 ghost use Rattle.hol_model.specs.Texts.Reading.{meaning};
 ghost use Rattle.hol_model.specs.Kernel.Outcome.{Answers};
 ghost use Rattle.hol_syntax.specs.Scope.{scope_of};
-ghost use Rattle.hol_grammar.specs.Views.{steps_of};
-ghost use Rattle.hol_grammar.specs.Grammar.{infix_here, binder_here};
-ghost use Rattle.hol_grammar.specs.Steps.{flat_step_of, flat_steps_of};
-ghost use Rattle.hol_grammar.specs.TermSteps as model;
-ghost use Rattle.hol_grammar.specs.TermSteps.{Workspace, MakeApply, MakeNot, MakeJoin, EnterBinder, LeaveBinder, flat_step, flat_steps, term_steps};
+ghost use Rattle.hol_syntax_grammar.specs.Views.{steps_of};
+ghost use Rattle.hol_syntax_grammar.specs.Grammar.{infix_here, binder_here};
+ghost use Rattle.hol_syntax_grammar.specs.Steps.{flat_step_of, flat_steps_of};
+ghost use Rattle.hol_syntax_grammar.specs.TermSteps as model;
+ghost use Rattle.hol_syntax_grammar.specs.TermSteps.{Workspace, MakeApply, MakeNot, MakeJoin, EnterBinder, LeaveBinder, flat_step, flat_steps, term_steps};
 ghost use Rattle.hol_syntax.specs.TypeStack.{IsPopped};
 ghost use Rattle.hol_syntax.specs.Evaluating.{pushed, IsHeld, Arrives};
 
@@ -20,9 +20,9 @@ use crate::binders::Binders;
 use crate::builder::{apply, bare, bind, join, negate, typed_constant, typed_variable};
 use crate::leaves::Leaves;
 use crate::scope::Scope;
-use hol_grammar::grammar::{Binder, Infix};
-use hol_grammar::{TermStep, TypeStep};
 use hol_model::Fault;
+use hol_syntax_grammar::grammar::{Binder, Infix};
+use hol_syntax_grammar::{TermStep, TypeStep};
 use hol_terms::Term;
 use std::alloc::Global;
 

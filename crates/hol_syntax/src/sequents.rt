@@ -5,16 +5,16 @@ ghost use Rattle.hol_model.specs.Kernel.Rules.{is_formula};
 ghost use Rattle.hol_model.specs.Texts.SequentGrammar.{formula_meaning, ReadsSequent, RefusesSequent};
 ghost use Rattle.hol_model.specs.Kernel.Outcome.{Answers};
 ghost use Rattle.hol_syntax.specs.Scope.{scope_of};
-ghost use Rattle.hol_grammar.specs.Steps.{flat_steps_of};
-ghost use Rattle.hol_grammar.specs.TermSteps.{flat_steps, term_steps};
-ghost use Rattle.hol_grammar.specs.Views.{token_of, tokens_of};
+ghost use Rattle.hol_syntax_grammar.specs.Steps.{flat_steps_of};
+ghost use Rattle.hol_syntax_grammar.specs.TermSteps.{flat_steps, term_steps};
+ghost use Rattle.hol_syntax_grammar.specs.Views.{token_of, tokens_of};
 ghost use Rattle.hol_syntax.specs.SequentStates.{separates, IsFound, ParsesList, ParsesSequent, MeansFormulas};
 ghost use Rattle.hol_syntax.specs.UniqueSequents.{SequentsAreUnambiguous};
 
 use crate::evaluate::term_of_steps;
 use crate::scope::Scope;
-use hol_grammar::{ReadError, TermStep, Token, parse_term, tokens_in};
 use hol_model::{Fault, Symbol};
+use hol_syntax_grammar::{ReadError, TermStep, Token, parse_term, tokens_in};
 use hol_terms::Term;
 use std::alloc::Global;
 

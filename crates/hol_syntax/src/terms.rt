@@ -5,8 +5,8 @@ ghost use Rattle.hol_syntax.specs.Scope.{scope_of};
 
 use crate::evaluate::term_of_steps;
 use crate::scope::Scope;
-use hol_grammar::{ReadError, parse_term, tokens_in};
 use hol_model::Fault;
+use hol_syntax_grammar::{ReadError, parse_term, tokens_in};
 use hol_terms::Term;
 use std::alloc::Global;
 

@@ -4,19 +4,19 @@ use Rattle.std.specs.Prelude.{codes}
 use Rattle.std.proofs.Math.Nat.{le-max_left, le-max_right, max-le}
 use Rattle.hol_model.specs.declared.symbol.Symbol.TheVariants.{OpenParenthesis, CloseParenthesis}
 use Rattle.hol_model.specs.Texts.Token.{Token, Name, Number, Mark}
-use Rattle.hol_session_model.specs.ConversionGrammar as grammar
-use Rattle.hol_session_model.specs.ConversionGrammar.{Conversional, Repeatc, TryConv, RandConv, RatorConv, AbsConv, SubConv, DepthConv, OnceDepthConv, TopDepthConv, conversional_word, ConversionLeaf, all_conv, no_conv, beta_conv, rewr_conv, host_conv, thenc_chain, FurtherConversions, no_more_thenc, thenc, ConversionChoice, orelsec_chain, no_more_orelsec, orelsec, ConversionUnit, prefixed, enclosed, leaf, leaf_tokens, conversion_tokens, further_tokens, choice_tokens, other_tokens, unit_tokens, conversion_depth, further_depth, choice_depth, other_depth, unit_depth}
-use Rattle.hol_session_model.specs.SessionTools as tools
-use Rattle.hol_session_model.specs.SessionTools.{in_order, either, conversion_of_leaf, conversion_of_choice, conversion_of_unit, further_conversions, other_conversions}
+use Rattle.hol_model_sessions.specs.ConversionGrammar as grammar
+use Rattle.hol_model_sessions.specs.ConversionGrammar.{Conversional, Repeatc, TryConv, RandConv, RatorConv, AbsConv, SubConv, DepthConv, OnceDepthConv, TopDepthConv, conversional_word, ConversionLeaf, all_conv, no_conv, beta_conv, rewr_conv, host_conv, thenc_chain, FurtherConversions, no_more_thenc, thenc, ConversionChoice, orelsec_chain, no_more_orelsec, orelsec, ConversionUnit, prefixed, enclosed, leaf, leaf_tokens, conversion_tokens, further_tokens, choice_tokens, other_tokens, unit_tokens, conversion_depth, further_depth, choice_depth, other_depth, unit_depth}
+use Rattle.hol_model_sessions.specs.SessionTools as tools
+use Rattle.hol_model_sessions.specs.SessionTools.{in_order, either, conversion_of_leaf, conversion_of_choice, conversion_of_unit, further_conversions, other_conversions}
 use Rattle.hol_model.specs.Refining.Conversions as conversions
 use Rattle.hol_model.specs.Refining.Conversions.{Conversion, Conversions}
-use Rattle.hol_exprs.specs.declared.conv.Conv.{Conv}
-use Rattle.hol_exprs.specs.declared.conv.Prefix.{Prefix}
-use Rattle.hol_exprs.specs.declared.conv.Prefix.TheVariants.{Repeat, Try, Rand, Rator, Abs, Sub, Depth, OnceDepth, TopDepth}
-use Rattle.hol_exprs.specs.Expressions.{conversion_of, with_prefix, all_conversions, conversions_of}
-use Rattle.hol_grammar.specs.declared.token.Token.{Token as TokenHere}
-use Rattle.hol_grammar.specs.declared.type_reader.ReadError.{ReadError}
-use Rattle.hol_grammar.specs.declared.type_reader.ReadError.TheVariants.{Memory, Syntax}
+use Rattle.hol_tactic_exprs.specs.declared.conv.Conv.{Conv}
+use Rattle.hol_tactic_exprs.specs.declared.conv.Prefix.{Prefix}
+use Rattle.hol_tactic_exprs.specs.declared.conv.Prefix.TheVariants.{Repeat, Try, Rand, Rator, Abs, Sub, Depth, OnceDepth, TopDepth}
+use Rattle.hol_tactic_exprs.specs.Expressions.{conversion_of, with_prefix, all_conversions, conversions_of}
+use Rattle.hol_syntax_grammar.specs.declared.token.Token.{Token as TokenHere}
+use Rattle.hol_syntax_grammar.specs.declared.type_reader.ReadError.{ReadError}
+use Rattle.hol_syntax_grammar.specs.declared.type_reader.ReadError.TheVariants.{Memory, Syntax}
 use Rattle.hol_tactic_grammar.specs.declared.conversion_words.Single.{Single}
 use Rattle.hol_tactic_grammar.specs.declared.conversion_words.Single.TheVariants.{All, No, Beta, Rewr, Host}
 use Rattle.hol_tactic_grammar.specs.ConversionWords.{conversional_of, prefix_of_word, single_word, single_of_word}

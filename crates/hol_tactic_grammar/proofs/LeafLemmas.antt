@@ -6,14 +6,14 @@ use Rattle.hol_model.specs.declared.symbol.Symbol.TheVariants.{OpenParenthesis, 
 use Rattle.hol_model.specs.Texts.Token.{Token, Name, Mark}
 use Rattle.hol_model.specs.Texts.TermGrammar.{TermTree}
 use Rattle.hol_model.specs.Refining.Conversions.{Conversion}
-use Rattle.hol_session_model.specs.Commands.{quote_tokens}
-use Rattle.hol_session_model.specs.ConversionGrammar.{unit_tokens}
-use Rattle.hol_session_model.specs.TacticGrammar as grammar
-use Rattle.hol_session_model.specs.TacticGrammar.{plain_word, named_word, quoted_word, TacticLeaf, further_name_tokens, name_tokens, leaf_tokens, TacticUnit, repeated, tried, enclosed, leaf, tactic_unit_tokens}
-use Rattle.hol_grammar.specs.declared.token.Token.{Token as TokenHere}
-use Rattle.hol_grammar.specs.declared.type_reader.ReadError.{ReadError}
-use Rattle.hol_grammar.specs.declared.type_reader.ReadError.TheVariants.{Memory, Syntax}
-use Rattle.hol_grammar.specs.TermSteps.{FlatStep}
+use Rattle.hol_model_sessions.specs.Commands.{quote_tokens}
+use Rattle.hol_model_sessions.specs.ConversionGrammar.{unit_tokens}
+use Rattle.hol_model_sessions.specs.TacticGrammar as grammar
+use Rattle.hol_model_sessions.specs.TacticGrammar.{plain_word, named_word, quoted_word, TacticLeaf, further_name_tokens, name_tokens, leaf_tokens, TacticUnit, repeated, tried, enclosed, leaf, tactic_unit_tokens}
+use Rattle.hol_syntax_grammar.specs.declared.token.Token.{Token as TokenHere}
+use Rattle.hol_syntax_grammar.specs.declared.type_reader.ReadError.{ReadError}
+use Rattle.hol_syntax_grammar.specs.declared.type_reader.ReadError.TheVariants.{Memory, Syntax}
+use Rattle.hol_syntax_grammar.specs.TermSteps.{FlatStep}
 use Rattle.hol_tactic_grammar.specs.declared.tactic_words.Plain.{Plain}
 use Rattle.hol_tactic_grammar.specs.declared.tactic_words.Named.{Named}
 use Rattle.hol_tactic_grammar.specs.declared.tactic_words.Quoted.{Quoted}

@@ -4,15 +4,15 @@ use Rattle.std.proofs.lemmas.List.{reverse-append}
 use Rattle.std.specs.Prelude.{codes}
 use Rattle.hol_model.specs.declared.symbol.Symbol.TheVariants.{OpenParenthesis, CloseParenthesis}
 use Rattle.hol_model.specs.Texts.Token.{Name, Mark}
-use Rattle.hol_session_model.specs.ConversionGrammar.{conversional_word}
-use Rattle.hol_session_model.specs.SessionTools.{in_order, either}
+use Rattle.hol_model_sessions.specs.ConversionGrammar.{conversional_word}
+use Rattle.hol_model_sessions.specs.SessionTools.{in_order, either}
 use Rattle.hol_model.specs.Refining.Conversions as conversions
-use Rattle.hol_exprs.specs.declared.conv.Conv.{Conv}
-use Rattle.hol_exprs.specs.declared.conv.Prefix.{Prefix}
-use Rattle.hol_exprs.specs.Expressions.{conversion_of, with_prefix, conversions_of}
-use Rattle.hol_grammar.specs.declared.token.Token.{Token as TokenHere}
-use Rattle.hol_grammar.specs.declared.type_reader.ReadError.{ReadError}
-use Rattle.hol_grammar.specs.declared.type_reader.ReadError.TheVariants.{Memory, Syntax}
+use Rattle.hol_tactic_exprs.specs.declared.conv.Conv.{Conv}
+use Rattle.hol_tactic_exprs.specs.declared.conv.Prefix.{Prefix}
+use Rattle.hol_tactic_exprs.specs.Expressions.{conversion_of, with_prefix, conversions_of}
+use Rattle.hol_syntax_grammar.specs.declared.token.Token.{Token as TokenHere}
+use Rattle.hol_syntax_grammar.specs.declared.type_reader.ReadError.{ReadError}
+use Rattle.hol_syntax_grammar.specs.declared.type_reader.ReadError.TheVariants.{Memory, Syntax}
 use Rattle.hol_tactic_grammar.specs.declared.conversions.Open.{Open}
 use Rattle.hol_tactic_grammar.specs.declared.conversions.Open.TheVariants.{Prefixed, Enclosed}
 use Rattle.hol_tactic_grammar.specs.declared.conversions.Step.TheVariants.{Begin, Close}

@@ -7,14 +7,14 @@ use Rattle.hol_model.specs.declared.limits.TheConstants.{EXPRESSION_NESTING_LIMI
 use Rattle.hol_model.specs.declared.symbol.Symbol.TheVariants.{OpenParenthesis, CloseParenthesis, OpenBracket, CloseBracket, Semicolon}
 use Rattle.hol_model.specs.Texts.Token.{Token, Name, Mark}
 use Rattle.hol_model.specs.Texts.TermGrammar.{TermTree}
-use Rattle.hol_session_model.specs.TacticGrammar.{Tactic, Tactics, tactic_tokens, first_tokens, choice_tokens, list_depth, HasQuotableList, IsTactic}
-use Rattle.hol_exprs.specs.declared.tac.Tac.{Tac}
-use Rattle.hol_exprs.specs.declared.tac.Link.{Link, Then}
-use Rattle.hol_grammar.specs.declared.token.Token.{Token as TokenHere}
-use Rattle.hol_grammar.specs.declared.type_reader.ReadError.{ReadError}
-use Rattle.hol_grammar.specs.declared.type_reader.ReadError.TheVariants.{Memory, Syntax}
-use Rattle.hol_grammar.specs.TermSteps.{FlatStep}
-use Rattle.hol_grammar.specs.Views.{tokens_of}
+use Rattle.hol_model_sessions.specs.TacticGrammar.{Tactic, Tactics, tactic_tokens, first_tokens, choice_tokens, list_depth, HasQuotableList, IsTactic}
+use Rattle.hol_tactic_exprs.specs.declared.tac.Tac.{Tac}
+use Rattle.hol_tactic_exprs.specs.declared.tac.Link.{Link, Then}
+use Rattle.hol_syntax_grammar.specs.declared.token.Token.{Token as TokenHere}
+use Rattle.hol_syntax_grammar.specs.declared.type_reader.ReadError.{ReadError}
+use Rattle.hol_syntax_grammar.specs.declared.type_reader.ReadError.TheVariants.{Memory, Syntax}
+use Rattle.hol_syntax_grammar.specs.TermSteps.{FlatStep}
+use Rattle.hol_syntax_grammar.specs.Views.{tokens_of}
 use Rattle.hol_tactic_grammar.specs.declared.tactic_reader.Open.{Open}
 use Rattle.hol_tactic_grammar.specs.declared.tactic_reader.Open.TheVariants.{Repeated, Tried, Enclosed, Choice, Chain, Listed}
 use Rattle.hol_tactic_grammar.specs.declared.tactic_reader.Reading.{Reading}

@@ -5,14 +5,14 @@ use Rattle.hol_model.specs.Texts.Token.{Token, Name, Number, Mark}
 use Rattle.hol_model.specs.Texts.TypeGrammar.{TypeTree, Named, Enclosed, Function, type_tokens}
 use Rattle.hol_model.specs.Texts.TermGrammar.{Bare, Variable, Constant, TermTree, Leaf, Apply, Not, Join, Bind, IsConstantName, IsTermTree, Infix, IffInfix, ImpliesInfix, OrInfix, AndInfix, EqualInfix, Binder, Lambda, ForAll, Exists, Choice, Lexeme, InfixPiece, BinderPiece, pieces, all_tokens}
 use Rattle.hol_model.specs.Texts.TermGrammar.{Enclosed as EnclosedTerm}
-use Rattle.hol_session_model.specs.Commands.{quoted, quote_tokens, IsQuotable}
-use Rattle.hol_grammar.specs.declared.token.Token.{Token as TokenHere}
-use Rattle.hol_grammar.specs.declared.token.Token.TheVariants.{Mark as MarkHere}
-use Rattle.hol_grammar.specs.declared.steps.TermStep.{TermStep}
-use Rattle.hol_grammar.specs.declared.type_reader.ReadError.{ReadError}
-use Rattle.hol_grammar.specs.declared.type_reader.ReadError.TheVariants.{Memory, Syntax}
-use Rattle.hol_grammar.specs.Views.{token_of, tokens_of}
-use Rattle.hol_grammar.specs.TermStates.{Parses}
+use Rattle.hol_model_sessions.specs.Commands.{quoted, quote_tokens, IsQuotable}
+use Rattle.hol_syntax_grammar.specs.declared.token.Token.{Token as TokenHere}
+use Rattle.hol_syntax_grammar.specs.declared.token.Token.TheVariants.{Mark as MarkHere}
+use Rattle.hol_syntax_grammar.specs.declared.steps.TermStep.{TermStep}
+use Rattle.hol_syntax_grammar.specs.declared.type_reader.ReadError.{ReadError}
+use Rattle.hol_syntax_grammar.specs.declared.type_reader.ReadError.TheVariants.{Memory, Syntax}
+use Rattle.hol_syntax_grammar.specs.Views.{token_of, tokens_of}
+use Rattle.hol_syntax_grammar.specs.TermStates.{Parses}
 use Rattle.hol_tactic_grammar.specs.Tokens.{behind, IsAt, IsNotAt}
 use Rattle.hol_tactic_grammar.specs.Quotes.{is_quote, HasNoQuote, IsUnquoted, Quotes}
 use Rattle.hol_tactic_grammar.proofs.TokenLemmas.{token-at, nothing-at}

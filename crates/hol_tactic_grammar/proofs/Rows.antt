@@ -1,9 +1,9 @@
 -- The rows of parts of an expression, as lists.
 use Rattle.std.proofs.Common.{rules, ◌≡◌, map, refl, ap}
 use Rattle.hol_tactic_grammar.specs.Expressions.{Kept, chain, orelse, more, link, on_each, expression_here, expressions_in, joint_here, links_in, all_expressions, all_links}
-use Rattle.hol_exprs.specs.declared.tac.Tac.{Tac, Row_of-Tac, end_of-Tac, more_of-Tac, Row_of-Link, end_of-Link, more_of-Link, items-the_row-Tac, items-the_row-Link}
-use Rattle.hol_exprs.specs.declared.tac.Tac as tac
-use Rattle.hol_exprs.specs.declared.tac.Link as links
+use Rattle.hol_tactic_exprs.specs.declared.tac.Tac.{Tac, Row_of-Tac, end_of-Tac, more_of-Tac, Row_of-Link, end_of-Link, more_of-Link, items-the_row-Tac, items-the_row-Link}
+use Rattle.hol_tactic_exprs.specs.declared.tac.Tac as tac
+use Rattle.hol_tactic_exprs.specs.declared.tac.Link as links
 
 pub expressions_in_row : (n : _) (row : Row_of-Tac Kept n) → expressions_in row ≡ all_expressions (map expression_here (items-the_row-Tac Kept n row))
 expressions_in_row _ end_of-Tac = refl

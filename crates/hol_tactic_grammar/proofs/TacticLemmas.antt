@@ -6,12 +6,12 @@ use Rattle.hol_model.specs.declared.limits.TheConstants.{EXPRESSION_NESTING_LIMI
 use Rattle.hol_model.specs.declared.symbol.Symbol.TheVariants.{OpenParenthesis, CloseParenthesis, OpenBracket, CloseBracket, Semicolon}
 use Rattle.hol_model.specs.Texts.Token.{Token, Name, Mark}
 use Rattle.hol_model.specs.Texts.TermGrammar.{TermTree}
-use Rattle.hol_session_model.specs.TacticGrammar as grammar
-use Rattle.hol_session_model.specs.TacticGrammar.{TacticLeaf, Tactic, then_chain, TacticLinks, no_more_then, then_all, then_each, Tactics, no_tactics, tactic_and, TacticChoice, orelse_chain, OtherTactics, no_more_orelse, TacticUnit, repeated, tried, enclosed, leaf, leaf_tokens, tactic_tokens, link_tokens, first_tokens, further_tokens, choice_tokens, other_tokens, tactic_unit_tokens, tactic_depth, link_depth, list_depth, choice_depth, other_depth, tactic_unit_depth, IsTactic}
-use Rattle.hol_exprs.specs.declared.tac.Tac.{Tac}
-use Rattle.hol_exprs.specs.declared.tac.Link.{Link}
-use Rattle.hol_grammar.specs.declared.token.Token.{Token as TokenHere}
-use Rattle.hol_grammar.specs.TermSteps.{FlatStep}
+use Rattle.hol_model_sessions.specs.TacticGrammar as grammar
+use Rattle.hol_model_sessions.specs.TacticGrammar.{TacticLeaf, Tactic, then_chain, TacticLinks, no_more_then, then_all, then_each, Tactics, no_tactics, tactic_and, TacticChoice, orelse_chain, OtherTactics, no_more_orelse, TacticUnit, repeated, tried, enclosed, leaf, leaf_tokens, tactic_tokens, link_tokens, first_tokens, further_tokens, choice_tokens, other_tokens, tactic_unit_tokens, tactic_depth, link_depth, list_depth, choice_depth, other_depth, tactic_unit_depth, IsTactic}
+use Rattle.hol_tactic_exprs.specs.declared.tac.Tac.{Tac}
+use Rattle.hol_tactic_exprs.specs.declared.tac.Link.{Link}
+use Rattle.hol_syntax_grammar.specs.declared.token.Token.{Token as TokenHere}
+use Rattle.hol_syntax_grammar.specs.TermSteps.{FlatStep}
 use Rattle.hol_tactic_grammar.specs.declared.tactic_words.Other.{Other}
 use Rattle.hol_tactic_grammar.specs.declared.tactic_words.Other.TheVariants.{Repeat, Try, Conv, Rewrite}
 use Rattle.hol_tactic_grammar.specs.declared.tactic_words.Start.TheVariants.{OfOther}

@@ -4,9 +4,9 @@ use Rattle.hol_model.specs.Terms.Name.{is_capital, is_small, continues_name, all
 use Rattle.hol_model.specs.Texts.Token.{Name}
 use Rattle.hol_model.specs.Texts.Lexing.{IsIdentifier, Every, is_name_byte}
 use Rattle.hol_model.proofs.Tests.{both}
-use Rattle.hol_grammar.specs.declared.token.Token.{Token as TokenHere}
-use Rattle.hol_grammar.specs.declared.token.Token.TheVariants.{Name as NameHere}
-use Rattle.hol_grammar.specs.Views.{token_of, tokens_of}
+use Rattle.hol_syntax_grammar.specs.declared.token.Token.{Token as TokenHere}
+use Rattle.hol_syntax_grammar.specs.declared.token.Token.TheVariants.{Name as NameHere}
+use Rattle.hol_syntax_grammar.specs.Views.{token_of, tokens_of}
 use Rattle.hol_tactic_grammar.specs.Tokens.{AreTokens, behind, IsAt, IsNameAt}
 
 -- ---- places

@@ -1,9 +1,9 @@
 -- The words of conversions.
 use Rattle.std.specs.Prelude.{ℕ, List, Option, None, Some, codes, if◌then◌else◌}
 use Rattle.std.specs.Str.{bytes_eq}
-use Rattle.hol_session_model.specs.ConversionGrammar.{Conversional, Repeatc, TryConv, RandConv, RatorConv, AbsConv, SubConv, DepthConv, OnceDepthConv, TopDepthConv}
-use Rattle.hol_exprs.specs.declared.conv.Prefix.{Prefix}
-use Rattle.hol_exprs.specs.declared.conv.Prefix.TheVariants.{Repeat, Try, Rand, Rator, Abs, Sub, Depth, OnceDepth, TopDepth}
+use Rattle.hol_model_sessions.specs.ConversionGrammar.{Conversional, Repeatc, TryConv, RandConv, RatorConv, AbsConv, SubConv, DepthConv, OnceDepthConv, TopDepthConv}
+use Rattle.hol_tactic_exprs.specs.declared.conv.Prefix.{Prefix}
+use Rattle.hol_tactic_exprs.specs.declared.conv.Prefix.TheVariants.{Repeat, Try, Rand, Rator, Abs, Sub, Depth, OnceDepth, TopDepth}
 use Rattle.hol_tactic_grammar.specs.declared.conversion_words.Single.{Single}
 use Rattle.hol_tactic_grammar.specs.declared.conversion_words.Single.TheVariants.{All, No, Beta, Rewr, Host}
 

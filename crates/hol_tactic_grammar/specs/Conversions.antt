@@ -2,16 +2,16 @@
 use Rattle.std.specs.Prelude.{◌≡◌, ◌≢◌, ℕ, ◌<◌, ◌≤◌, List, ◌∷◌, codes, length, Result, Ok, Err}
 use Rattle.hol_model.specs.declared.limits.TheConstants.{EXPRESSION_NESTING_LIMIT}
 use Rattle.hol_model.specs.Texts.Token.{Token, Name}
-use Rattle.hol_session_model.specs.ConversionGrammar as grammar
-use Rattle.hol_session_model.specs.ConversionGrammar.{ConversionUnit, ConversionChoice, unit_tokens, choice_tokens, conversion_tokens, unit_depth, choice_depth, conversion_depth}
-use Rattle.hol_session_model.specs.SessionTools as tools
-use Rattle.hol_session_model.specs.SessionTools.{conversion_of_choice, conversion_of_unit}
+use Rattle.hol_model_sessions.specs.ConversionGrammar as grammar
+use Rattle.hol_model_sessions.specs.ConversionGrammar.{ConversionUnit, ConversionChoice, unit_tokens, choice_tokens, conversion_tokens, unit_depth, choice_depth, conversion_depth}
+use Rattle.hol_model_sessions.specs.SessionTools as tools
+use Rattle.hol_model_sessions.specs.SessionTools.{conversion_of_choice, conversion_of_unit}
 use Rattle.hol_model.specs.Refining.Conversions.{Conversion}
-use Rattle.hol_exprs.specs.declared.conv.Conv.{Conv}
-use Rattle.hol_exprs.specs.Expressions.{conversion_of}
-use Rattle.hol_grammar.specs.declared.token.Token.{Token as TokenHere}
-use Rattle.hol_grammar.specs.declared.type_reader.ReadError.{ReadError}
-use Rattle.hol_grammar.specs.declared.type_reader.ReadError.TheVariants.{Memory, Syntax}
+use Rattle.hol_tactic_exprs.specs.declared.conv.Conv.{Conv}
+use Rattle.hol_tactic_exprs.specs.Expressions.{conversion_of}
+use Rattle.hol_syntax_grammar.specs.declared.token.Token.{Token as TokenHere}
+use Rattle.hol_syntax_grammar.specs.declared.type_reader.ReadError.{ReadError}
+use Rattle.hol_syntax_grammar.specs.declared.type_reader.ReadError.TheVariants.{Memory, Syntax}
 use Rattle.hol_tactic_grammar.specs.Tokens.{behind}
 
 -- the rest does not begin with the word

@@ -3,19 +3,19 @@ use Rattle.std.specs.Prelude.{ℕ, List, [], ◌∷◌, map}
 use Rattle.std.specs.String.{string_bytes}
 use Rattle.std.proofs.Common.{Vec, Global}
 use Rattle.hol_model.specs.Refining.Conversions.{Conversion}
-use Rattle.hol_session_model.specs.TacticGrammar as grammar
-use Rattle.hol_session_model.specs.TacticGrammar.{PlainTactic, AllTac, NoTac, AssumptionTac, ReflTac, ConjTac, EqTac, Disj1Tac, Disj2Tac, DischTac, GenTac, TautTac, NamedTactic, AcceptTac, AssumeTac, MpTac, DisjCasesTac, ChooseTac, Host, QuotedTactic, ExistsTac, UndischTac, TacticLeaf, Tactic, then_chain, TacticLinks, no_more_then, then_all, then_each, Tactics, no_tactics, tactic_and, TacticChoice, orelse_chain, OtherTactics, no_more_orelse, TacticUnit, repeated, tried, enclosed, leaf}
-use Rattle.hol_session_model.specs.SessionTools.{conversion_of_unit}
-use Rattle.hol_exprs.specs.Expressions.{conversion_of}
-use Rattle.hol_exprs.specs.declared.leaf.Leaf.{Leaf}
-use Rattle.hol_exprs.specs.declared.leaf.Leaf.TheVariants as leaves
-use Rattle.hol_exprs.specs.declared.tac.Tac as tac
-use Rattle.hol_exprs.specs.declared.tac.Tac.{Tac, Row_of-Tac, end_of-Tac, more_of-Tac, Row_of-Link, end_of-Link, more_of-Link}
-use Rattle.hol_exprs.specs.declared.tac.Link as links
-use Rattle.hol_exprs.specs.declared.tac.Link.{Link}
-use Rattle.hol_grammar.specs.declared.steps.TermStep.{TermStep}
-use Rattle.hol_grammar.specs.TermSteps.{FlatStep}
-use Rattle.hol_grammar.specs.Steps.{flat_steps_of}
+use Rattle.hol_model_sessions.specs.TacticGrammar as grammar
+use Rattle.hol_model_sessions.specs.TacticGrammar.{PlainTactic, AllTac, NoTac, AssumptionTac, ReflTac, ConjTac, EqTac, Disj1Tac, Disj2Tac, DischTac, GenTac, TautTac, NamedTactic, AcceptTac, AssumeTac, MpTac, DisjCasesTac, ChooseTac, Host, QuotedTactic, ExistsTac, UndischTac, TacticLeaf, Tactic, then_chain, TacticLinks, no_more_then, then_all, then_each, Tactics, no_tactics, tactic_and, TacticChoice, orelse_chain, OtherTactics, no_more_orelse, TacticUnit, repeated, tried, enclosed, leaf}
+use Rattle.hol_model_sessions.specs.SessionTools.{conversion_of_unit}
+use Rattle.hol_tactic_exprs.specs.Expressions.{conversion_of}
+use Rattle.hol_tactic_exprs.specs.declared.leaf.Leaf.{Leaf}
+use Rattle.hol_tactic_exprs.specs.declared.leaf.Leaf.TheVariants as leaves
+use Rattle.hol_tactic_exprs.specs.declared.tac.Tac as tac
+use Rattle.hol_tactic_exprs.specs.declared.tac.Tac.{Tac, Row_of-Tac, end_of-Tac, more_of-Tac, Row_of-Link, end_of-Link, more_of-Link}
+use Rattle.hol_tactic_exprs.specs.declared.tac.Link as links
+use Rattle.hol_tactic_exprs.specs.declared.tac.Link.{Link}
+use Rattle.hol_syntax_grammar.specs.declared.steps.TermStep.{TermStep}
+use Rattle.hol_syntax_grammar.specs.TermSteps.{FlatStep}
+use Rattle.hol_syntax_grammar.specs.Steps.{flat_steps_of}
 
 -- A refiner without parts; what stands for a quoted term is left open.
 pub data Simple (Quote : Type 0) : Type 0 where

@@ -2,18 +2,18 @@
 use Rattle.std.specs.Prelude.{◌≡◌, ℕ, ◌+◌, ◌-◌, ◌*◌, ◌<◌, ◌≤◌, List, [], ◌∷◌, map, length, codes, Result, Ok, Err}
 use Rattle.hol_model.specs.declared.symbol.Symbol.TheVariants.{OpenParenthesis}
 use Rattle.hol_model.specs.Texts.Token.{Token, Name, Mark}
-use Rattle.hol_session_model.specs.ConversionGrammar as grammar
-use Rattle.hol_session_model.specs.ConversionGrammar.{conversional_word, thenc_chain, ConversionChoice, orelsec_chain, choice_tokens, conversion_tokens, choice_depth, conversion_depth}
-use Rattle.hol_session_model.specs.SessionTools.{in_order, either, conversion_of_choice, conversion_of_unit, further_conversions, other_conversions}
-use Rattle.hol_session_model.specs.SessionTools as tools
+use Rattle.hol_model_sessions.specs.ConversionGrammar as grammar
+use Rattle.hol_model_sessions.specs.ConversionGrammar.{conversional_word, thenc_chain, ConversionChoice, orelsec_chain, choice_tokens, conversion_tokens, choice_depth, conversion_depth}
+use Rattle.hol_model_sessions.specs.SessionTools.{in_order, either, conversion_of_choice, conversion_of_unit, further_conversions, other_conversions}
+use Rattle.hol_model_sessions.specs.SessionTools as tools
 use Rattle.hol_model.specs.Refining.Conversions as conversions
 use Rattle.hol_model.specs.Refining.Conversions.{Conversion, Conversions}
-use Rattle.hol_exprs.specs.declared.conv.Conv.{Conv}
-use Rattle.hol_exprs.specs.declared.conv.Prefix.{Prefix}
-use Rattle.hol_exprs.specs.Expressions.{conversion_of}
-use Rattle.hol_grammar.specs.declared.token.Token.{Token as TokenHere}
-use Rattle.hol_grammar.specs.declared.type_reader.ReadError.{ReadError}
-use Rattle.hol_grammar.specs.declared.type_reader.ReadError.TheVariants.{Memory, Syntax}
+use Rattle.hol_tactic_exprs.specs.declared.conv.Conv.{Conv}
+use Rattle.hol_tactic_exprs.specs.declared.conv.Prefix.{Prefix}
+use Rattle.hol_tactic_exprs.specs.Expressions.{conversion_of}
+use Rattle.hol_syntax_grammar.specs.declared.token.Token.{Token as TokenHere}
+use Rattle.hol_syntax_grammar.specs.declared.type_reader.ReadError.{ReadError}
+use Rattle.hol_syntax_grammar.specs.declared.type_reader.ReadError.TheVariants.{Memory, Syntax}
 use Rattle.hol_tactic_grammar.specs.declared.conversions.Open.{Open}
 use Rattle.hol_tactic_grammar.specs.declared.conversions.Open.TheVariants.{Prefixed, Enclosed}
 use Rattle.hol_tactic_grammar.specs.declared.conversions.Step.{Step}

@@ -5,13 +5,13 @@ use Rattle.hol_model.specs.declared.symbol.Symbol.{Symbol}
 use Rattle.hol_model.specs.declared.symbol.Symbol.TheVariants.{Backquote}
 use Rattle.hol_model.specs.Texts.Token.{Token, Mark}
 use Rattle.hol_model.specs.Texts.TermGrammar.{TermTree}
-use Rattle.hol_session_model.specs.Commands.{quote_tokens, IsQuotable}
-use Rattle.hol_grammar.specs.declared.token.Token.{Token as TokenHere}
-use Rattle.hol_grammar.specs.declared.steps.TermStep.{TermStep}
-use Rattle.hol_grammar.specs.declared.type_reader.ReadError.{ReadError}
-use Rattle.hol_grammar.specs.declared.type_reader.ReadError.TheVariants.{Memory, Syntax}
-use Rattle.hol_grammar.specs.TermSteps.{FlatStep, term_steps, flat_steps}
-use Rattle.hol_grammar.specs.Steps.{flat_steps_of}
+use Rattle.hol_model_sessions.specs.Commands.{quote_tokens, IsQuotable}
+use Rattle.hol_syntax_grammar.specs.declared.token.Token.{Token as TokenHere}
+use Rattle.hol_syntax_grammar.specs.declared.steps.TermStep.{TermStep}
+use Rattle.hol_syntax_grammar.specs.declared.type_reader.ReadError.{ReadError}
+use Rattle.hol_syntax_grammar.specs.declared.type_reader.ReadError.TheVariants.{Memory, Syntax}
+use Rattle.hol_syntax_grammar.specs.TermSteps.{FlatStep, term_steps, flat_steps}
+use Rattle.hol_syntax_grammar.specs.Steps.{flat_steps_of}
 use Rattle.hol_tactic_grammar.specs.Tokens.{behind, IsAt}
 use Rattle.hol_tactic_grammar.specs.Conversions.{Reaches}
 

@@ -2,8 +2,8 @@
 use Rattle.std.specs.Prelude.{ℕ, List, Option, None, Some, codes, if◌then◌else◌}
 use Rattle.std.specs.Option.{option_map, option_or}
 use Rattle.std.specs.Str.{bytes_eq}
-use Rattle.hol_session_model.specs.TacticGrammar as grammar
-use Rattle.hol_session_model.specs.TacticGrammar.{PlainTactic, NamedTactic, QuotedTactic, plain_word, named_word, quoted_word}
+use Rattle.hol_model_sessions.specs.TacticGrammar as grammar
+use Rattle.hol_model_sessions.specs.TacticGrammar.{PlainTactic, NamedTactic, QuotedTactic, plain_word, named_word, quoted_word}
 use Rattle.hol_tactic_grammar.specs.declared.tactic_words.Plain.{Plain}
 use Rattle.hol_tactic_grammar.specs.declared.tactic_words.Plain.TheVariants.{All, No, Assumption, Refl, Conj, Eq, Disj1, Disj2, Disch, Gen, Taut}
 use Rattle.hol_tactic_grammar.specs.declared.tactic_words.Named.{Named}

@@ -4,10 +4,10 @@ use Rattle.std.proofs.Common.{Bor, String, Global}
 use Rattle.hol_model.specs.Texts.Token.{Token, Name}
 use Rattle.hol_model.specs.Texts.Lexing.{IsToken}
 use Rattle.std.specs.String.{string_bytes}
-use Rattle.hol_grammar.specs.declared.token.Token.{Token as TokenHere}
-use Rattle.hol_grammar.specs.declared.type_reader.ReadError.{ReadError}
-use Rattle.hol_grammar.specs.declared.type_reader.ReadError.TheVariants.{Memory, Syntax}
-use Rattle.hol_grammar.specs.Views.{tokens_of}
+use Rattle.hol_syntax_grammar.specs.declared.token.Token.{Token as TokenHere}
+use Rattle.hol_syntax_grammar.specs.declared.type_reader.ReadError.{ReadError}
+use Rattle.hol_syntax_grammar.specs.declared.type_reader.ReadError.TheVariants.{Memory, Syntax}
+use Rattle.hol_syntax_grammar.specs.Views.{tokens_of}
 
 -- each of them is a token
 abbrev pub AreTokens : List Token → Type 0

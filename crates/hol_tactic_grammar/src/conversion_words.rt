@@ -2,7 +2,7 @@
 ghost use Rattle.std.specs.Prelude.{◌≡◌};
 ghost use Rattle.hol_tactic_grammar.specs.ConversionWords.{prefix_of_word, single_of_word};
 
-use hol_exprs::Prefix;
+use hol_tactic_exprs::Prefix;
 
 /// A conversion without parts, and without the name that it takes.
 #[derive(Clone, Copy, Debug, Drop)]

@@ -2,10 +2,10 @@
 ghost use Rattle.std.specs.Prelude.{◌≡◌, ℕ, ◌+◌, ◌<◌, ◌∷◌, length, reverse};
 ghost use Rattle.hol_model.specs.declared.symbol.Symbol.TheVariants.{OpenParenthesis};
 ghost use Rattle.hol_model.specs.Texts.Token.{Name, Mark};
-ghost use Rattle.hol_session_model.specs.ConversionGrammar.{conversional_word};
-ghost use Rattle.hol_session_model.specs.SessionTools.{in_order, either};
-ghost use Rattle.hol_exprs.specs.Expressions.{conversion_of, conversions_of};
-ghost use Rattle.hol_grammar.specs.Views.{tokens_of};
+ghost use Rattle.hol_model_sessions.specs.ConversionGrammar.{conversional_word};
+ghost use Rattle.hol_model_sessions.specs.SessionTools.{in_order, either};
+ghost use Rattle.hol_tactic_exprs.specs.Expressions.{conversion_of, conversions_of};
+ghost use Rattle.hol_syntax_grammar.specs.Views.{tokens_of};
 ghost use Rattle.hol_tactic_grammar.specs.declared.conversions.Open.TheVariants.{Enclosed};
 ghost use Rattle.hol_tactic_grammar.specs.Tokens.{AreTokens, IsAt};
 ghost use Rattle.hol_tactic_grammar.specs.ConversionWords.{conversional_of, single_word};
@@ -14,9 +14,9 @@ ghost use Rattle.hol_tactic_grammar.specs.OpenConversions.{IsWanted, IsRead, IsR
 
 use crate::conversion_words::{Single, prefix_named, single_named};
 use crate::tokens::{is_mark, is_word, name_at, read_name};
-use hol_exprs::{Conv, Prefix};
-use hol_grammar::{ReadError, Token};
 use hol_model::{EXPRESSION_NESTING_LIMIT, Symbol};
+use hol_syntax_grammar::{ReadError, Token};
+use hol_tactic_exprs::{Conv, Prefix};
 use std::alloc::Global;
 
 // Where a unit stands, as long as it is read.

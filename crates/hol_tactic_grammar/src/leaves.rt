@@ -2,9 +2,9 @@
 ghost use Rattle.std.specs.Prelude.{◌≡◌, ℕ};
 ghost use Rattle.std.specs.String.{string_bytes};
 ghost use Rattle.hol_model.specs.Texts.Token.{Name};
-ghost use Rattle.hol_session_model.specs.TacticGrammar.{plain_word, named_word, quoted_word};
-ghost use Rattle.hol_grammar.specs.Steps.{flat_steps_of};
-ghost use Rattle.hol_grammar.specs.Views.{tokens_of};
+ghost use Rattle.hol_model_sessions.specs.TacticGrammar.{plain_word, named_word, quoted_word};
+ghost use Rattle.hol_syntax_grammar.specs.Steps.{flat_steps_of};
+ghost use Rattle.hol_syntax_grammar.specs.Views.{tokens_of};
 ghost use Rattle.hol_tactic_grammar.specs.Tokens.{AreTokens, IsAt};
 ghost use Rattle.hol_tactic_grammar.specs.TacticWords.{plain_of, named_of, quoted_of, other_word};
 ghost use Rattle.hol_tactic_grammar.specs.declared.tactic_words.Other.TheVariants.{Conv, Rewrite};
@@ -15,9 +15,9 @@ use crate::conversions::read_unit;
 use crate::quotes::read_quote;
 use crate::tactic_words::{Named, Plain, Quoted};
 use crate::tokens::{is_mark, read_name};
-use hol_exprs::{Leaf, Tac};
-use hol_grammar::{ReadError, TermStep, Token};
 use hol_model::Symbol;
+use hol_syntax_grammar::{ReadError, TermStep, Token};
+use hol_tactic_exprs::{Leaf, Tac};
 use std::alloc::Global;
 
 fn plain_tactic<'a>(tactic: Plain) -> Tac<Vec<TermStep<'a>>>

@@ -4,8 +4,8 @@ ghost use Rattle.hol_model.specs.Texts.Token.{Mark};
 ghost use Rattle.hol_tactic_grammar.specs.Quotes.{FindsQuote, ReadsQuote};
 
 use crate::tokens::is_mark;
-use hol_grammar::{ReadError, TermStep, Token, parse_term};
 use hol_model::Symbol;
+use hol_syntax_grammar::{ReadError, TermStep, Token, parse_term};
 use std::alloc::Global;
 
 // The place of the first backquote from a place on.

@@ -1,8 +1,8 @@
 // Refiner expressions, read from tokens by one loop over open places.
 ghost use Rattle.std.specs.Prelude.{◌≡◌, ◌≤◌, ℕ, ◌+◌, ◌-◌, ◌*◌, List, ◌∷◌, codes, length, vec_len};
 ghost use Rattle.hol_model.specs.Texts.Token.{Name};
-ghost use Rattle.hol_grammar.specs.declared.token.Token.{Token};
-ghost use Rattle.hol_grammar.specs.Views.{tokens_of};
+ghost use Rattle.hol_syntax_grammar.specs.declared.token.Token.{Token};
+ghost use Rattle.hol_syntax_grammar.specs.Views.{tokens_of};
 ghost use Rattle.hol_tactic_grammar.specs.Tokens.{AreTokens, IsAt, behind};
 ghost use Rattle.hol_tactic_grammar.specs.Expressions.{expression_here};
 ghost use Rattle.hol_tactic_grammar.specs.Tactics.{ReadsTactic};
@@ -12,9 +12,9 @@ use crate::leaves::{read_by_name, read_by_quote, read_conv_tac, read_plain, read
 use crate::tactic_words::{Other, Start, start_named};
 use crate::tactics::{or_else, repeated, then_on, tried};
 use crate::tokens::{is_mark, is_word, name_at};
-use hol_exprs::{Link, Tac};
-use hol_grammar::{ReadError, TermStep, Token};
 use hol_model::{EXPRESSION_NESTING_LIMIT, Symbol};
+use hol_syntax_grammar::{ReadError, TermStep, Token};
+use hol_tactic_exprs::{Link, Tac};
 use std::alloc::Global;
 
 type Refiner<'a> = Tac<Vec<TermStep<'a>>>;

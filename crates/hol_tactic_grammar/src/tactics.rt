@@ -3,8 +3,8 @@ ghost use Rattle.std.specs.Prelude.{map};
 ghost use Rattle.hol_tactic_grammar.specs.Expressions.{chain, orelse, repeat, try, or_else, then_on, all_expressions, all_links, expression_here, joint_here};
 ghost use Rattle.hol_tactic_grammar.specs.Tactics.{Means};
 
-use hol_exprs::{Link, Tac};
-use hol_grammar::{ReadError, TermStep};
+use hol_syntax_grammar::{ReadError, TermStep};
+use hol_tactic_exprs::{Link, Tac};
 use std::alloc::Global;
 
 // The first and the others, by ORELSE.

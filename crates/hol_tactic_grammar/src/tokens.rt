@@ -1,12 +1,12 @@
 // The token at a place, and what follows it.
 ghost use Rattle.std.specs.Prelude.{MatchBool};
 ghost use Rattle.hol_model.specs.Texts.Token.{Name, Mark};
-ghost use Rattle.hol_grammar.specs.Views.{tokens_of};
+ghost use Rattle.hol_syntax_grammar.specs.Views.{tokens_of};
 ghost use Rattle.hol_tactic_grammar.specs.Tokens.{AreTokens, IsAt, IsNotAt, IsNameAt, ReadsName};
 
-use hol_grammar::{ReadError, Token};
 use hol_model::Symbol;
 use hol_syntax::identifier;
+use hol_syntax_grammar::{ReadError, Token};
 use std::alloc::Global;
 
 /// The name at a place.

@@ -6,9 +6,9 @@ use Rattle.hol_model.specs.declared.fault.Fault.TheVariants.{Memory}
 use Rattle.hol_model.specs.Terms.NamedTerm.{NamedTerm}
 use Rattle.hol_model.specs.Texts.Reading.{Scope, ◌>>=◌}
 use Rattle.hol_model.specs.Refining.Combinators as combinators
-use Rattle.hol_exprs.specs.declared.tac.Tac.{Tac}
-use Rattle.hol_exprs.specs.declared.tac.Link.{Link}
-use Rattle.hol_exprs.specs.Expressions.{tactic_of, link_of, all_tactics, all_links}
+use Rattle.hol_tactic_exprs.specs.declared.tac.Tac.{Tac}
+use Rattle.hol_tactic_exprs.specs.declared.tac.Link.{Link}
+use Rattle.hol_tactic_exprs.specs.Expressions.{tactic_of, link_of, all_tactics, all_links}
 use Rattle.hol_tactic_grammar.specs.Expressions.{Kept, expression_here, joint_here, all_expressions}
 use Rattle.hol_tactic_grammar.specs.Expressions as expressions
 use Rattle.hol_tactic_reading.specs.Reading.{AnswersAs, IsReadOfOne, IsReadInTurn, IsRead, AreRead, IsJointRead, AreLinksRead, ReadsExpression, ReadsLink}

@@ -6,11 +6,11 @@ use Rattle.hol_model.specs.Terms.NamedTerm.{NamedTerm}
 use Rattle.hol_model.specs.Texts.TermGrammar.{TermTree}
 use Rattle.hol_model.specs.Texts.Reading.{Scope, ◌>>=◌, meaning}
 use Rattle.hol_model.specs.Refining.Combinators as combinators
-use Rattle.hol_session_model.specs.TacticGrammar as grammar
-use Rattle.hol_session_model.specs.TacticGrammar.{Tactic, then_chain, TacticLinks, no_more_then, then_all, then_each, Tactics, no_tactics, tactic_and, TacticChoice, orelse_chain, OtherTactics, no_more_orelse, orelse, TacticUnit, repeated, tried, enclosed, leaf, TacticLeaf, read_tactic, read_links, read_tactics, read_choice, read_others, read_unit, read_leaf}
-use Rattle.hol_session_model.specs.SessionTools as session
-use Rattle.hol_exprs.specs.declared.tac.Tac.{Tac}
-use Rattle.hol_exprs.specs.Expressions.{tactic_of}
+use Rattle.hol_model_sessions.specs.TacticGrammar as grammar
+use Rattle.hol_model_sessions.specs.TacticGrammar.{Tactic, then_chain, TacticLinks, no_more_then, then_all, then_each, Tactics, no_tactics, tactic_and, TacticChoice, orelse_chain, OtherTactics, no_more_orelse, orelse, TacticUnit, repeated, tried, enclosed, leaf, TacticLeaf, read_tactic, read_links, read_tactics, read_choice, read_others, read_unit, read_leaf}
+use Rattle.hol_model_sessions.specs.SessionTools as session
+use Rattle.hol_tactic_exprs.specs.declared.tac.Tac.{Tac}
+use Rattle.hol_tactic_exprs.specs.Expressions.{tactic_of}
 use Rattle.hol_tactic_grammar.specs.Quotes.{steps_of_tree}
 use Rattle.hol_tactic_grammar.specs.Expressions.{Kept, expression_of, links_of, expressions_of, expression_of_choice, others_of, expression_of_unit, simple_of_leaf}
 use Rattle.hol_tactic_grammar.specs.Tactics.{Meaning, IsExpression}

@@ -3,10 +3,10 @@ use Rattle.std.proofs.Common.{◌≡◌, List, map, Box, Vec, Global, Result, sy
 use Rattle.hol_model.specs.declared.fault.Fault.{Fault}
 use Rattle.hol_model.specs.Texts.Reading.{Scope}
 use Rattle.hol_model.specs.Refining.Combinators as combinators
-use Rattle.hol_exprs.specs.declared.tac.Tac as tac
-use Rattle.hol_exprs.specs.declared.tac.Tac.{Tac}
-use Rattle.hol_exprs.specs.declared.tac.Link as links
-use Rattle.hol_exprs.specs.declared.tac.Link.{Link}
+use Rattle.hol_tactic_exprs.specs.declared.tac.Tac as tac
+use Rattle.hol_tactic_exprs.specs.declared.tac.Tac.{Tac}
+use Rattle.hol_tactic_exprs.specs.declared.tac.Link as links
+use Rattle.hol_tactic_exprs.specs.declared.tac.Link.{Link}
 use Rattle.hol_tactic_grammar.specs.Expressions.{Kept, chain, orelse, on_each, expression_here, joint_here, all_expressions, all_links}
 use Rattle.hol_tactic_grammar.specs.Tactics.{Meaning}
 use Rattle.hol_tactic_grammar.proofs.Rows.{chain_means, orelse_means, thenl_means}

@@ -8,14 +8,14 @@ use Rattle.hol_model.specs.Texts.TermGrammar.{TermTree}
 use Rattle.hol_model.specs.Texts.Reading.{Scope, ◌>>=◌, meaning}
 use Rattle.hol_model.specs.Refining.Refiners as refiners
 use Rattle.hol_model.specs.Refining.Combinators as combinators
-use Rattle.hol_session_model.specs.TacticGrammar as grammar
-use Rattle.hol_session_model.specs.SessionTools as session
-use Rattle.hol_session_model.specs.SessionTools.{of_plain, of_named, of_quoted}
-use Rattle.hol_exprs.specs.declared.leaf.Leaf.{Leaf}
-use Rattle.hol_exprs.specs.declared.tac.Tac.{Tac}
-use Rattle.hol_exprs.specs.declared.tac.Link.{Link}
-use Rattle.hol_exprs.specs.Expressions.{leaf_of, tactic_of, tactics_of, link_of, links_of}
-use Rattle.hol_grammar.specs.TermSteps.{FlatStep}
+use Rattle.hol_model_sessions.specs.TacticGrammar as grammar
+use Rattle.hol_model_sessions.specs.SessionTools as session
+use Rattle.hol_model_sessions.specs.SessionTools.{of_plain, of_named, of_quoted}
+use Rattle.hol_tactic_exprs.specs.declared.leaf.Leaf.{Leaf}
+use Rattle.hol_tactic_exprs.specs.declared.tac.Tac.{Tac}
+use Rattle.hol_tactic_exprs.specs.declared.tac.Link.{Link}
+use Rattle.hol_tactic_exprs.specs.Expressions.{leaf_of, tactic_of, tactics_of, link_of, links_of}
+use Rattle.hol_syntax_grammar.specs.TermSteps.{FlatStep}
 use Rattle.hol_tactic_grammar.specs.Quotes.{steps_of_tree}
 use Rattle.hol_tactic_grammar.specs.Expressions.{Kept, Simple, plain, by_name, by_quote, conv_tac, rewrite_tac, Expression, simple, chain, orelse, repeat, try, Expressions, no_more, more, Joint, on_all, on_each, Links, no_link, link, simple_here, expression_here, joint_here, all_expressions, all_links}
 use Rattle.hol_tactic_grammar.specs.Tactics.{IsExpression}

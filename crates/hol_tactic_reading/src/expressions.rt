@@ -3,10 +3,10 @@ ghost use Rattle.hol_syntax.specs.Scope.{scope_of};
 ghost use Rattle.hol_tactic_reading.specs.Reading.{ReadsTactic, ReadsExpression, ReadsEach, ReadsLink, ReadsLinks};
 
 use crate::leaves::read_leaf;
-use hol_exprs::{Link, Tac};
-use hol_grammar::TermStep;
 use hol_model::Fault;
 use hol_syntax::Scope;
+use hol_syntax_grammar::TermStep;
+use hol_tactic_exprs::{Link, Tac};
 use hol_terms::Term;
 use std::alloc::Global;
 

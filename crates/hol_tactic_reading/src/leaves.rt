@@ -4,10 +4,10 @@ ghost use Rattle.hol_model.specs.declared.fault.Fault.TheVariants.{Memory};
 ghost use Rattle.hol_syntax.specs.Scope.{scope_of};
 ghost use Rattle.hol_tactic_reading.specs.Reading.{ReadsLeaf};
 
-use hol_exprs::Leaf;
-use hol_grammar::TermStep;
 use hol_model::Fault;
 use hol_syntax::{Scope, term_of_steps};
+use hol_syntax_grammar::TermStep;
+use hol_tactic_exprs::Leaf;
 use hol_terms::Term;
 use std::alloc::Global;
 

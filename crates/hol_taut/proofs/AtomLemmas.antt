@@ -20,7 +20,7 @@ use Rattle.hol_model.specs.Propositional.Propositions.{atom, constantly, negated
 use Rattle.hol_taut.specs.Refuted.{IsAlwaysTrue, is_listed, AreTold, AreAllFormulas, AreAllSmall}
 use Rattle.hol_model.specs.Propositional.Tautologies.{falsity_of, falsifying_row, row_in_full}
 use Rattle.hol_taut.specs.Ways.{IsSmallIf}
-use Rattle.hol_propositions.proofs.FormLemmas.{connective-is, not-is}
+use Rattle.hol_taut_formulas.proofs.FormLemmas.{connective-is, not-is}
 use Rattle.hol_taut.proofs.FormLemmas.{sides-formulas, part-formula}
 use Rattle.hol_taut.proofs.KnownValues.{always-true, place-listed}
 use Rattle.hol_taut.proofs.WayLemmas.{small-left, small-right}

@@ -16,7 +16,7 @@ use Rattle.hol_model.specs.Kernel.Theorem.{are_alpha_equivalent}
 use Rattle.hol_model.specs.Propositional.Tautologies.{rows, value_in, is_true_in, falsifying_row}
 use Rattle.hol_taut.specs.FactLists.{known_table, known_by}
 use Rattle.hol_taut.specs.Refuted.{IsByImage, IsAlwaysTrue, is_listed}
-use Rattle.hol_propositions.proofs.Rows.{find-map}
+use Rattle.hol_taut_formulas.proofs.Rows.{find-map}
 
 -- ---- what is known holds of each assignment that agrees
 

@@ -15,7 +15,7 @@ use Rattle.hol_model.specs.Derived.DerivedRules.{Stated, stated}
 use Rattle.hol_model.proofs.Logic.Known.{equation-known}
 use Rattle.hol_model.proofs.Terms.Images.{image-equation}
 use Rattle.hol_journal.specs.Journal.{Journal, Recorded, theorem_in}
-use Rattle.hol_derivations.proofs.DerivationLemmas.{unchanged}
+use Rattle.hol_prelude_derivations.proofs.DerivationLemmas.{unchanged}
 use Rattle.hol_bool.proofs.RoomLemmas.{fits-within}
 use Rattle.hol_equal.specs.Formulas.{IsFormula, IsPassed, IsRefused}
 use Rattle.hol_equal.specs.Sequents.{Shows, Continues, IsPast, DerivesIf}

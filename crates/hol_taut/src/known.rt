@@ -1,11 +1,11 @@
 // The value of a formula, where the facts of its atoms tell it.
 ghost use Rattle.std.specs.Prelude.{◌≡◌};
 ghost use Rattle.hol_model.specs.Propositional.Propositions.{proposition};
-ghost use Rattle.hol_propositions.specs.Forms.{meant};
+ghost use Rattle.hol_taut_formulas.specs.Forms.{meant};
 ghost use Rattle.hol_taut.specs.FactLists.{value_of, known_by, known_table};
 
 use crate::facts::{Facts, fact_of};
-use hol_propositions::{Connective, Form, form_of};
+use hol_taut_formulas::{Connective, Form, form_of};
 use hol_terms::Term;
 
 /// The value of a formula, where the facts tell it.

@@ -17,7 +17,7 @@ use crate::taken::{
 use crate::way::way_to;
 use hol_journal::{Rec, Recorder};
 use hol_model::Fault;
-use hol_propositions::{Form, form_of};
+use hol_taut_formulas::{Form, form_of};
 use hol_taut_laws::Laws;
 use hol_terms::Term;
 use std::alloc::Global;

@@ -20,7 +20,7 @@ use crate::steps::by_one;
 use hol_equal::assume;
 use hol_journal::{Rec, Recorder};
 use hol_model::Fault;
-use hol_propositions::atoms_of_tautology;
+use hol_taut_formulas::atoms_of_tautology;
 use hol_taut_laws::{Law, Laws};
 use hol_terms::Term;
 use std::alloc::Global;

@@ -1,9 +1,9 @@
 // How a formula of a binary connective follows from its sides.
 ghost use Rattle.std.specs.Prelude.{◌≡◌};
-ghost use Rattle.hol_propositions.specs.Forms.{meant};
+ghost use Rattle.hol_taut_formulas.specs.Forms.{meant};
 ghost use Rattle.hol_taut.specs.Ways.{the_way};
 
-use hol_propositions::Connective;
+use hol_taut_formulas::Connective;
 use hol_taut_laws::Law;
 
 /// By which law a formula, or its equation with `F`, follows from its sides.

@@ -3,7 +3,7 @@ ghost use Rattle.std.specs.Prelude.{◌<◌, IfSome};
 ghost use Rattle.hol_model.specs.Terms.NamedTerm.{height};
 
 use hol_alpha::aconv;
-use hol_propositions::{Connective, Form, form_of};
+use hol_taut_formulas::{Connective, Form, form_of};
 use hol_terms::Term;
 
 // The fewest parts of a chain for whose sake a formula is shortened before it is split.

@@ -14,7 +14,7 @@ use hol_equal::steps::deduct_antisym;
 use hol_equal::{conclusion_of, trans};
 use hol_journal::{Rec, Recorder};
 use hol_model::Fault;
-use hol_propositions::{Form, form_of};
+use hol_taut_formulas::{Form, form_of};
 use hol_terms::Term;
 use std::alloc::Global;
 

@@ -2,7 +2,7 @@
 use crate::chains::is_chain;
 use hol_alpha::aconv;
 use hol_model::Fault;
-use hol_propositions::{Form, form_of};
+use hol_taut_formulas::{Form, form_of};
 use hol_terms::Term;
 use std::alloc::Global;
 

@@ -12,7 +12,7 @@ use Rattle.hol_model.specs.Logic.Logic.{logical_definitions}
 use Rattle.hol_journal.specs.Journal.{Journal, Recorded, IsMade}
 use Rattle.hol_journal.specs.Growth.{IsGrown}
 use Rattle.hol_journal.proofs.GrowthLemmas.{journals-grow}
-use Rattle.hol_derivations.specs.Derivations.{theorems, AreMade}
+use Rattle.hol_prelude_derivations.specs.Derivations.{theorems, AreMade}
 use Rattle.hol_prelude.specs.Prelude.{prelude_theorems}
 use Rattle.hol_prelude.specs.Stages.{MakesTheorems}
 use Rattle.hol_prelude.proofs.StoredLemmas.{stored-within}

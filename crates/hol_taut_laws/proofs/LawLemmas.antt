@@ -8,7 +8,7 @@ use Rattle.hol_model.specs.Kernel.Theorem.{Theorem}
 use Rattle.hol_model.specs.Logic.Theory.{IsEarlier}
 use Rattle.hol_model.specs.Logic.Logic.{logical_definitions}
 use Rattle.hol_journal.specs.Journal.{Journal, Recorded}
-use Rattle.hol_derivations.specs.Derivations.{theorems}
+use Rattle.hol_prelude_derivations.specs.Derivations.{theorems}
 use Rattle.hol_taut_laws.specs.LawTheorems.{tautology_theorems, law_theorem, place}
 use Rattle.hol_taut_laws.specs.HasLaws.{HasLaws, LawsStay}
 use Rattle.hol_taut_laws.specs.declared.law.Law.{Law}

@@ -2,7 +2,7 @@
 use Rattle.std.specs.Prelude.{◌≡◌}
 use Rattle.hol_journal.specs.Journal.{Journal}
 use Rattle.hol_journal.specs.Growth.{IsGrown}
-use Rattle.hol_derivations.specs.Derivations.{theorems, AreMade}
+use Rattle.hol_prelude_derivations.specs.Derivations.{theorems, AreMade}
 use Rattle.hol_taut_laws.specs.LawTheorems.{tautology_theorems}
 use Rattle.hol_taut_laws.specs.declared.stored.Laws.{Laws}
 

@@ -3,15 +3,15 @@ use crate::discharged::P_IMP_P;
 use crate::disjunction::DECIDES;
 use crate::negations::P_FOLLOWS_P;
 use crate::sides::{P_FROM_F, P_IS_F};
-use hol_derivations::conjunction::{FIRST, TRUE_AT_FIRST};
-use hol_derivations::derivation::Derivation;
-use hol_derivations::formulas::{F, IMP, P, P_CASE, Q, R, TEST, TESTED_TRUE};
-use hol_derivations::logic::NOT_P;
-use hol_derivations::sketch::TermSketch;
-use hol_derivations::truth::EARLIER_TRUTH;
-use hol_laws::disjunction::P_OR;
-use hol_laws::laws::{DISCHARGE, FIRST_OF_TESTS, FROM_TRUE, T_IMP, U, V};
 use hol_model::{PairRule, TermRule};
+use hol_prelude_derivations::conjunction::{FIRST, TRUE_AT_FIRST};
+use hol_prelude_derivations::derivation::Derivation;
+use hol_prelude_derivations::formulas::{F, IMP, P, P_CASE, Q, R, TEST, TESTED_TRUE};
+use hol_prelude_derivations::logic::NOT_P;
+use hol_prelude_derivations::sketch::TermSketch;
+use hol_prelude_derivations::truth::EARLIER_TRUTH;
+use hol_prelude_laws::disjunction::P_OR;
+use hol_prelude_laws::laws::{DISCHARGE, FIRST_OF_TESTS, FROM_TRUE, T_IMP, U, V};
 
 // (p <=> F) <=> F |- p
 const TEST_NOT_P: TermSketch<'static> = TermSketch::Combination(&TEST, &NOT_P);

@@ -1,12 +1,12 @@
 // `p ==> p`, and cases of a disjunction as an implication, as data.
-use hol_derivations::conjunction::{FIRST, TRUE_AT_FIRST};
-use hol_derivations::derivation::Derivation;
-use hol_derivations::formulas::{BOTH_CASES, IMP, P, P_IMP, TEST, TEST_P, TESTED_TRUE};
-use hol_derivations::sketch::TermSketch;
-use hol_derivations::truth::{EARLIER_TRUTH, EQT_INTRO};
-use hol_laws::disjunction::P_OR_Q;
-use hol_laws::laws::{DISCHARGE, FIRST_OF_TESTS, U, V};
 use hol_model::{PairRule, TermRule};
+use hol_prelude_derivations::conjunction::{FIRST, TRUE_AT_FIRST};
+use hol_prelude_derivations::derivation::Derivation;
+use hol_prelude_derivations::formulas::{BOTH_CASES, IMP, P, P_IMP, TEST, TEST_P, TESTED_TRUE};
+use hol_prelude_derivations::sketch::TermSketch;
+use hol_prelude_derivations::truth::{EARLIER_TRUTH, EQT_INTRO};
+use hol_prelude_laws::disjunction::P_OR_Q;
+use hol_prelude_laws::laws::{DISCHARGE, FIRST_OF_TESTS, U, V};
 
 // |- p ==> p
 const SELF_OPEN_TEST: TermSketch<'static> = TermSketch::Combination(&TEST_P, &V);

@@ -1,12 +1,12 @@
 // The law of `\/` of which one side is `F`, as data.
 use crate::discharged::{ASSUME_P_OR_Q, P_OR_Q_IMP};
 use crate::negations::P_FOLLOWS_P;
-use hol_derivations::derivation::Derivation;
-use hol_derivations::formulas::{IMP, P, P_IMP, Q, R};
-use hol_derivations::sketch::TermSketch;
-use hol_derivations::truth::EARLIER_TRUTH;
-use hol_laws::laws::{FROM_TRUE, T_IMP};
 use hol_model::PairRule;
+use hol_prelude_derivations::derivation::Derivation;
+use hol_prelude_derivations::formulas::{IMP, P, P_IMP, Q, R};
+use hol_prelude_derivations::sketch::TermSketch;
+use hol_prelude_derivations::truth::EARLIER_TRUTH;
+use hol_prelude_laws::laws::{FROM_TRUE, T_IMP};
 
 // p <=> F |- p \/ q <=> q
 const P_OR_Q_FROM_Q: Derivation<'static> = Derivation::Earlier(32);

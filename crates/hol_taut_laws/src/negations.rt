@@ -1,14 +1,14 @@
 // Laws of `~` and of `<=>` at truth values, as data.
 use crate::sides::{ASSUME_P_IS_F, ASSUME_Q, ASSUME_Q_IS_F};
-use hol_derivations::conjunction::P_TRUE;
-use hol_derivations::derivation::Derivation;
-use hol_derivations::formulas::{F, IMP, P, P_IMP, Q};
-use hol_derivations::logic::SYM_NOT_P_IS;
-use hol_derivations::numbers;
-use hol_derivations::sketch::TermSketch;
-use hol_derivations::truth::ASSUME_P;
-use hol_laws::laws::{FROM_TRUE, T_IMP};
 use hol_model::{PairRule, TermRule};
+use hol_prelude_derivations::conjunction::P_TRUE;
+use hol_prelude_derivations::derivation::Derivation;
+use hol_prelude_derivations::formulas::{F, IMP, P, P_IMP, Q};
+use hol_prelude_derivations::logic::SYM_NOT_P_IS;
+use hol_prelude_derivations::numbers;
+use hol_prelude_derivations::sketch::TermSketch;
+use hol_prelude_derivations::truth::ASSUME_P;
+use hol_prelude_laws::laws::{FROM_TRUE, T_IMP};
 
 // p |- ~p <=> F
 const NOT_P_IS: Derivation<'static> = Derivation::Earlier(numbers::NOT_UNFOLDED);

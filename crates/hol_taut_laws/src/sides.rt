@@ -1,11 +1,11 @@
 // Laws of `/\` and `==>` of which one side is `T` or `F`, as data.
-use hol_derivations::derivation::Derivation;
-use hol_derivations::formulas::{F, P, Q, T};
-use hol_derivations::numbers;
-use hol_derivations::sketch::TermSketch;
-use hol_derivations::truth::{ASSUME_P, EARLIER_TRUTH, EQ_BOOL};
-use hol_laws::laws::EQUALS_TRUE;
 use hol_model::{PairRule, TermRule};
+use hol_prelude_derivations::derivation::Derivation;
+use hol_prelude_derivations::formulas::{F, P, Q, T};
+use hol_prelude_derivations::numbers;
+use hol_prelude_derivations::sketch::TermSketch;
+use hol_prelude_derivations::truth::{ASSUME_P, EARLIER_TRUTH, EQ_BOOL};
+use hol_prelude_laws::laws::EQUALS_TRUE;
 
 // p <=> F |- p /\ q <=> F
 pub(crate) const P_IS_F: TermSketch<'static> = TermSketch::Equation(&P, &F);

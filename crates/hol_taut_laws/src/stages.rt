@@ -3,7 +3,7 @@ ghost use Rattle.std.specs.Prelude.{◌≡◌, ◌≤◌, ◌++◌, take, drop, 
 ghost use Rattle.hol_model.specs.declared.fault.Fault.TheVariants.{Memory};
 ghost use Rattle.hol_model.specs.Logic.Logic.{logical_definitions};
 ghost use Rattle.hol_journal.specs.Growth.{IsGrown};
-ghost use Rattle.hol_derivations.specs.Derivations.{AreMade};
+ghost use Rattle.hol_prelude_derivations.specs.Derivations.{AreMade};
 ghost use Rattle.hol_prelude.specs.HasLogic.{HasLogic};
 ghost use Rattle.hol_prelude.specs.Laws.{laws};
 ghost use Rattle.hol_prelude.specs.Prelude.{first_theorems};
@@ -12,10 +12,10 @@ ghost use Rattle.hol_taut_laws.specs.declared.tables.TheConstants.{CITED_FIRST};
 ghost use Rattle.hol_taut_laws.specs.LawTheorems.{cited_theorems, discharged_laws, side_laws, negation_laws, disjunction_laws, tautology_theorems};
 
 use crate::tables::{CITED_FIRST, DENIAL, DISCHARGED, DISJUNCTION, NEGATIONS, SIDES, TRUTH_LAWS};
-use hol_derivations::making::make_table;
 use hol_journal::{Rec, Recorder};
 use hol_model::Fault;
 use hol_prelude::Bool;
+use hol_prelude_derivations::making::make_table;
 use std::alloc::Global;
 
 // A list with copies of more theorems at its end.

@@ -2,17 +2,17 @@
 ghost use Rattle.std.specs.Prelude.{◌≡◌, false};
 
 use crate::laws::logs_are_checked;
-use hol_bytes::read_all;
 use hol_check::{Claim, check, check_log, migrate, write_claims, write_entries};
-use hol_devices::{FromCall, FromRead, IntoCall, IntoWrite};
+use hol_device_adapters::{FromCall, FromRead, IntoCall, IntoWrite};
+use hol_device_io::read_all;
 use hol_explain::{Script, explain};
 use hol_host::Host;
+use hol_host_samples::{liar, liar2, peel, swap};
 use hol_just::Goal;
 use hol_model::{Fault, Sink, Source};
-use hol_program_files::{Asked, Input, NewFile, ScriptFile, status};
-use hol_sample_host::{liar, liar2, peel, swap};
 use hol_script::{Summary, run};
 use hol_terms::Term;
+use holp_files::{Asked, Input, NewFile, ScriptFile, status};
 use std::alloc::Global;
 use std::fs::{self, File};
 use std::io::{self, Write};

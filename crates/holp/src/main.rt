@@ -6,7 +6,7 @@ mod laws;
 mod words;
 
 use files::{check_file, check_file_with_theory, migrate_file, run_file, run_file_with_log, tell};
-use hol_program_files::Asked;
+use holp_files::Asked;
 use std::env;
 use std::process::ExitCode;
 use words::{command_line, value};

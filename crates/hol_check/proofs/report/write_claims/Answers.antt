@@ -1,7 +1,7 @@
 use Rattle.std.proofs.Common.{subst}
 use Rattle.std.specs.Io.KnownBytes.{Appends}
 use Rattle.hol_model.specs.Logs.LogState.{LogClaim}
-use Rattle.hol_bytes.specs.Bytes.{AppendsFront}
+use Rattle.hol_device_io.specs.Bytes.{AppendsFront}
 use Rattle.hol_check.specs.Report.{claim_line}
 use Rattle.hol_check.proofs.ReportLemmas.{line_written, line_broken}
 use Rattle.hol_check.proofs.report.write_claims.Goals as goal

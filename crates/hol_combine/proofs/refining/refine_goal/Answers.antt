@@ -1,4 +1,4 @@
-use Rattle.hol_outcomes.proofs.Later.{runs-later}
+use Rattle.hol_laws_refiners.proofs.Later.{runs-later}
 use Rattle.hol_combine.proofs.Posing.{grounded-after, answer-good}
 use Rattle.hol_combine.proofs.refining.refine_goal.Goals as goal
 

@@ -1,12 +1,12 @@
 use Rattle.std.proofs.Common.{rules, refl, ap, arith, ◌∙◌, ◌+◌, ◌<◌, ◌≤◌, ◌≡◌, length, get_or, drop}
 use Rattle.std.proofs.lemmas.List.{drop_all, map-append}
 use Rattle.std.proofs.lemmas.Result.{err_from_is_err_and}
-use Rattle.hol_exprs.specs.Expressions.{tactic_of, tactics_of, link_of, links_of}
+use Rattle.hol_tactic_exprs.specs.Expressions.{tactic_of, tactics_of, link_of, links_of}
 use Rattle.hol_just.specs.Steps.{step_of}
 use Rattle.hol_model.specs.Refining.Combinators.{first_is_refused, first_goes_on, first_answers, first_is_not_caught, first_is_caught, none_is_left}
-use Rattle.hol_exprs.specs.declared.tac.Tac as tac
-use Rattle.hol_exprs.specs.declared.tac.Link as link
-use Rattle.hol_exprs.proofs.Rows.{chain_means, orelse_means, thenl_means}
+use Rattle.hol_tactic_exprs.specs.declared.tac.Tac as tac
+use Rattle.hol_tactic_exprs.specs.declared.tac.Link as link
+use Rattle.hol_tactic_exprs.proofs.Rows.{chain_means, orelse_means, thenl_means}
 use Rattle.hol_combine.specs.Answers.{none_assigned, runs_assigned}
 use Rattle.hol_combine.proofs.Runs.{alone, tries, no-goals, some-goals, none-assigned, each-assigned, links-drop, goals-drop, tactics-drop, pairs-left, on-next, on-stop}
 use Rattle.hol_combine.proofs.Runs.{on-unspliced, on-end, each-next, each-stop, each-starved, each-end, paired-next, paired-stop, paired-starved, paired-end, others-next}

@@ -1,7 +1,7 @@
 use Rattle.std.proofs.Common.{◌≡◌, ◌∷◌, [], ◌+◌, ◌*◌, drop, length, map}
 use Rattle.hol_model.specs.Refining.Combinators.{at, on_all}
 use Rattle.hol_model.specs.Refining.RefinerConditions.{HasKnownWitnesses, HaveKnownWitnesses, HaveKnownWitnessesInLinks}
-use Rattle.hol_exprs.specs.Expressions.{tactic_of, tactics_of, links_of}
+use Rattle.hol_tactic_exprs.specs.Expressions.{tactic_of, tactics_of, links_of}
 use Rattle.hol_just.specs.Steps.{goal_of, goals_of, step_of}
 use Rattle.hol_host.specs.Host.{host_of}
 use Rattle.hol_combine.specs.Posed.{ArePosed}

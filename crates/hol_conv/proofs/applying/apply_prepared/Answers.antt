@@ -1,5 +1,5 @@
 use Rattle.hol_journal.specs.Journal.{theorem_in}
-use Rattle.hol_library.specs.Library.{store_in}
+use Rattle.hol_theorem_library.specs.Library.{store_in}
 use Rattle.hol_conv.proofs.Trying.{expression-converts}
 use Rattle.hol_conv.proofs.applying.apply_prepared.Goals as goal
 

@@ -1,8 +1,8 @@
 use Rattle.std.proofs.Common.{◌≡◌, length, Ok}
 use Rattle.std.specs.List.{All}
-use Rattle.hol_outcomes.proofs.Repeating.{joined_from}
+use Rattle.hol_laws_refiners.proofs.Repeating.{joined_from}
 use Rattle.hol_journal.specs.Journal.{IsMade}
-use Rattle.hol_library.specs.Library.{IsLibrary, IsContinued}
+use Rattle.hol_theorem_library.specs.Library.{IsLibrary, IsContinued}
 use Rattle.hol_conv.specs.Chains.{theorems}
 use Rattle.hol_conv.proofs.chain.joined.Given as goal
 

@@ -3,10 +3,10 @@ use Rattle.std.proofs.lemmas.List.{drop_all}
 use Rattle.hol_model.specs.declared.limits.TheConstants.{DESCENTS_LIMIT}
 use Rattle.hol_model.specs.Terms.NamedTerm.{combination}
 use Rattle.hol_model.specs.Refining.Conversions.{first_is_refused, first_answers}
-use Rattle.hol_outcomes.proofs.Chains.{thenc_start, thenc_end}
-use Rattle.hol_outcomes.proofs.Repeating.{joined_defined, joined_tried}
+use Rattle.hol_laws_refiners.proofs.Chains.{thenc_start, thenc_end}
+use Rattle.hol_laws_refiners.proofs.Repeating.{joined_defined, joined_tried}
 use Rattle.hol_journal.specs.Journal.{theorem_in}
-use Rattle.hol_exprs.specs.declared.conv.Conv.{Conv}
+use Rattle.hol_tactic_exprs.specs.declared.conv.Conv.{Conv}
 use Rattle.hol_conv_rules.proofs.Making.{still_made}
 use Rattle.hol_conv.specs.Leaves.{with_leaves, stands_for, thenc_of, orelsec_of}
 use Rattle.hol_conv.specs.Chains.{theorems}

@@ -2,10 +2,10 @@ use Rattle.std.proofs.Common.{◌+◌, ◌*◌, ◌-◌, drop, IsSome}
 use Rattle.hol_model.specs.declared.limits.TheConstants.{DESCENTS_LIMIT}
 use Rattle.hol_model.specs.Kernel.Rules.{dest_equation}
 use Rattle.hol_model.specs.Refining.Conversions.{repeatc}
-use Rattle.hol_outcomes.proofs.Chains.{ThencSoFar}
-use Rattle.hol_outcomes.proofs.Repeating.{JoinedSoFar}
+use Rattle.hol_laws_refiners.proofs.Chains.{ThencSoFar}
+use Rattle.hol_laws_refiners.proofs.Repeating.{JoinedSoFar}
 use Rattle.hol_journal.specs.Journal.{IsMade}
-use Rattle.hol_library.specs.Library.{IsLibrary, IsContinued, store_in}
+use Rattle.hol_theorem_library.specs.Library.{IsLibrary, IsContinued, store_in}
 use Rattle.hol_conv.specs.Leaves.{stands_for, all_stand_for, thenc_of, orelsec_of}
 use Rattle.hol_conv.specs.Chains.{IsChain, theorems}
 use Rattle.hol_conv.proofs.Sizes.{size_of, sizes_of}

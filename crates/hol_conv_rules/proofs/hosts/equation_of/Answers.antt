@@ -4,7 +4,7 @@ use Rattle.hol_model.specs.Refining.HostFunctions.{HostEquation, promised}
 use Rattle.hol_model.specs.Kernel.Theorem.{Theorem}
 use Rattle.hol_model.specs.Goals.Replays.{HasSequent}
 use Rattle.hol_just.specs.Steps.{tree_of}
-use Rattle.hol_library.specs.Library.{store_in}
+use Rattle.hol_theorem_library.specs.Library.{store_in}
 use Rattle.hol_conv_rules.proofs.Making.{makes}
 use Rattle.hol_conv_rules.proofs.HostEquations.{host-passes, host-differs}
 use Rattle.hol_conv_rules.proofs.hosts.equation_of.Goals as goal

@@ -1,8 +1,8 @@
 use Rattle.std.proofs.Common.{sym, subst, List, string_bytes, Ok}
 use Rattle.hol_model.specs.Rewrites.Rewriting.{AnswersRules}
 use Rattle.hol_journal.specs.Journal.{Recorded, theorem_in}
-use Rattle.hol_derivations.specs.Derivations.{theorems}
-use Rattle.hol_library.specs.Library.{store_in}
+use Rattle.hol_prelude_derivations.specs.Derivations.{theorems}
+use Rattle.hol_theorem_library.specs.Library.{store_in}
 use Rattle.hol_conv_rules.proofs.Converting.{rewritten-by-rules}
 use Rattle.hol_conv_rules.proofs.prepared.prepared_rewr_conv.Goals as goal
 

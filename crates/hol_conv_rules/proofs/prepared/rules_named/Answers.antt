@@ -1,7 +1,7 @@
 use Rattle.std.proofs.Common.{sym, subst, ap, ◌∙◌}
 use Rattle.hol_model.specs.declared.fault.Fault.{Fault}
 use Rattle.hol_rewrite.specs.RuleSides.{sides_of_rules}
-use Rattle.hol_library.specs.Library.{store_in}
+use Rattle.hol_theorem_library.specs.Library.{store_in}
 use Rattle.hol_conv_rules.specs.Prepared.{RefusesRules, is_without_memory}
 use Rattle.hol_conv_rules.proofs.Preparing.{prepared}
 use Rattle.hol_conv_rules.proofs.prepared.rules_named.Goals as goal

@@ -1,7 +1,7 @@
 use Rattle.std.proofs.Common.{ap, refl, sym}
 use Rattle.std.specs.Option.{option_map}
 use Rattle.hol_journal.specs.Journal.{Recorded}
-use Rattle.hol_library.specs.Library.{store_in}
+use Rattle.hol_theorem_library.specs.Library.{store_in}
 use Rattle.hol_conv_rules.specs.Prepared.{is_unnamed}
 use Rattle.hol_conv_rules.proofs.Preparing.{refused-rules}
 use Rattle.hol_conv_rules.proofs.prepared.stored_rules.Goals as goal

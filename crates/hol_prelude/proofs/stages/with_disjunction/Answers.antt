@@ -3,7 +3,7 @@ use Rattle.hol_model.specs.Logic.Logic.{logical_definitions}
 use Rattle.hol_prelude.specs.Prelude.{first_theorems, disjunction_theorems}
 use Rattle.hol_prelude.specs.Laws.{laws, falsity_laws, decider_laws}
 use Rattle.hol_journal.proofs.GrowthLemmas.{journals-grow}
-use Rattle.hol_derivations.specs.Derivations.{theorems}
+use Rattle.hol_prelude_derivations.specs.Derivations.{theorems}
 use Rattle.hol_prelude.proofs.PreludeLemmas.{table-makes}
 use Rattle.hol_prelude.proofs.stages.with_disjunction.Goals as goal
 

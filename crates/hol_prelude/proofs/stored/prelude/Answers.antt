@@ -1,5 +1,5 @@
 use Rattle.std.proofs.Common.{sym, ap, ◌∙◌, subst}
-use Rattle.hol_derivations.specs.Derivations.{theorems, AreMade}
+use Rattle.hol_prelude_derivations.specs.Derivations.{theorems, AreMade}
 use Rattle.hol_prelude.specs.Laws.{without_laws}
 use Rattle.hol_prelude.proofs.PreludeLemmas.{theorems-without_laws, made-without_laws}
 use Rattle.hol_prelude.proofs.stored.prelude.Goals as goal

@@ -1,11 +1,11 @@
 use Rattle.std.proofs.Common.{refl}
-use Rattle.hol_exprs.specs.Expressions.{conversion_of}
+use Rattle.hol_tactic_exprs.specs.Expressions.{conversion_of}
 use Rattle.hol_host.specs.Host.{host_of}
 use Rattle.hol_just.specs.Steps.{goal_of}
-use Rattle.hol_leaves.specs.Answers.{step_in}
-use Rattle.hol_library.specs.Library.{store_in}
+use Rattle.hol_refine_table.specs.Answers.{step_in}
+use Rattle.hol_theorem_library.specs.Library.{store_in}
 use Rattle.hol_model.specs.Refining.Refiners as refiners
-use Rattle.hol_outcomes.proofs.Equations.{conversions-answer-equations}
+use Rattle.hol_laws_refiners.proofs.Equations.{conversions-answer-equations}
 use Rattle.hol_refine.proofs.Extending.{store-same}
 use Rattle.hol_refine.proofs.Posed.{target-known}
 use Rattle.hol_refine.proofs.Running.{by-conversion, not-converted}

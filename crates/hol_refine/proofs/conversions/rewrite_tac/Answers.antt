@@ -1,13 +1,13 @@
 use Rattle.std.proofs.Common.{refl, map, string_bytes, ◌∙◌}
-use Rattle.hol_derivations.specs.Derivations.{theorems}
+use Rattle.hol_prelude_derivations.specs.Derivations.{theorems}
 use Rattle.hol_host.specs.Host.{host_of}
 use Rattle.hol_journal.specs.Journal.{theorem_in}
 use Rattle.hol_just.specs.Steps.{goal_of}
-use Rattle.hol_leaves.specs.Answers.{step_in}
-use Rattle.hol_library.specs.Library.{store_in}
+use Rattle.hol_refine_table.specs.Answers.{step_in}
+use Rattle.hol_theorem_library.specs.Library.{store_in}
 use Rattle.hol_model.specs.Refining.Conversions.{top_depth_conv, rules_conv}
 use Rattle.hol_model.specs.Refining.Refiners as refiners
-use Rattle.hol_outcomes.proofs.Equations.{conversions-answer-equations}
+use Rattle.hol_laws_refiners.proofs.Equations.{conversions-answer-equations}
 use Rattle.hol_refine.proofs.Extending.{store-same}
 use Rattle.hol_refine.proofs.NamedEquations.{named-are-equations}
 use Rattle.hol_refine.proofs.Posed.{target-known}

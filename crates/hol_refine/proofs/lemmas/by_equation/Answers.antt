@@ -1,6 +1,6 @@
 use Rattle.std.proofs.Common.{◌∙◌, sym}
 use Rattle.hol_just.specs.Steps.{goal_of}
-use Rattle.hol_outcomes.proofs.Equations.{equations-of-targets}
+use Rattle.hol_laws_refiners.proofs.Equations.{equations-of-targets}
 use Rattle.hol_refine.proofs.lemmas.by_equation.Goals as goal
 
 pub returns-in-Ok-add_lemma-clause-outcome : goal.returns-in-Ok-add_lemma-clause-outcome

@@ -1,6 +1,6 @@
 use Rattle.std.proofs.Common.{arith, sym, ◌∙◌, ap, inr, refl, string_bytes, ◌<◌, ◌≤◌, length}
-use Rattle.hol_derivations.proofs.DerivationLemmas.{one_more_made}
-use Rattle.hol_store.specs.Store.{stored_of}
+use Rattle.hol_prelude_derivations.proofs.DerivationLemmas.{one_more_made}
+use Rattle.hol_theorem_store.specs.Store.{stored_of}
 use Rattle.hol_refine.specs.Growth.{same-grown}
 use Rattle.hol_refine.proofs.Gathering.{named-begin, next-named, stop-named, end-named, none-made}
 use Rattle.hol_refine.proofs.naming.theorems_named.Goals as goal

@@ -1,8 +1,8 @@
 use Rattle.std.proofs.Common.{map, drop, string_bytes}
-use Rattle.hol_derivations.specs.Derivations.{theorems, AreMade}
+use Rattle.hol_prelude_derivations.specs.Derivations.{theorems, AreMade}
 use Rattle.hol_journal.specs.Journal.{Journal}
-use Rattle.hol_store.specs.Stored.{IsStoreOf, theorems_in}
-use Rattle.hol_store.specs.Store.{stored_of}
+use Rattle.hol_theorem_store.specs.Stored.{IsStoreOf, theorems_in}
+use Rattle.hol_theorem_store.specs.Store.{stored_of}
 use Rattle.hol_refine.proofs.Gathering.{NamedSoFar}
 use Rattle.hol_refine.proofs.naming.theorems_named.Given as goal
 

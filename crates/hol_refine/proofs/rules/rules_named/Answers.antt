@@ -1,6 +1,6 @@
 use Rattle.std.proofs.Common.{map, string_bytes}
-use Rattle.hol_derivations.specs.Derivations.{theorems}
-use Rattle.hol_library.specs.Library.{store_in}
+use Rattle.hol_prelude_derivations.specs.Derivations.{theorems}
+use Rattle.hol_theorem_library.specs.Library.{store_in}
 use Rattle.hol_refine.proofs.Refusals.{no-names, no-rules}
 use Rattle.hol_refine.proofs.rules.rules_named.Goals as goal
 

@@ -1,6 +1,6 @@
 use Rattle.std.proofs.Common.{drop}
-use Rattle.hol_derivations.specs.Derivations.{theorems, AreMade}
-use Rattle.hol_library.specs.Library.{IsLibrary, IsContinued}
+use Rattle.hol_prelude_derivations.specs.Derivations.{theorems, AreMade}
+use Rattle.hol_theorem_library.specs.Library.{IsLibrary, IsContinued}
 use Rattle.hol_refine.proofs.Gathering.{RulesSoFar}
 use Rattle.hol_refine.proofs.rules.rules_of_all.Given as goal
 

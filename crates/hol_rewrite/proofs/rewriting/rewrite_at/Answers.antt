@@ -1,7 +1,7 @@
 -- The place of the first match is that of the first rule that applies.
 use Rattle.std.proofs.Common.{◌<◌, length, refl}
 use Rattle.std.proofs.lemmas.Option.{slice_get_read}
-use Rattle.hol_derivations.specs.Derivations.{theorems}
+use Rattle.hol_prelude_derivations.specs.Derivations.{theorems}
 use Rattle.hol_rewrite.specs.Instances.{replacements_of}
 use Rattle.hol_rewrite.proofs.RecordedRules.{place_within, first_rule, rewritten, not_rewritten}
 use Rattle.hol_rewrite.proofs.rewriting.rewrite_at.Goals as goal

@@ -1,9 +1,9 @@
 use Rattle.std.proofs.Common.{◌≡◌, refl, ap, ◌∙◌, subst}
-use Rattle.hol_session_model.specs.CommandGrammar.{CommandTree}
-use Rattle.hol_grammar.specs.Steps.{flat_steps_of}
-use Rattle.hol_grammar.specs.Views.{steps_of}
-use Rattle.hol_command.specs.declared.command.Command.{Command}
-use Rattle.hol_command.specs.Views.{IsCommand}
+use Rattle.hol_model_sessions.specs.CommandGrammar.{CommandTree}
+use Rattle.hol_syntax_grammar.specs.Steps.{flat_steps_of}
+use Rattle.hol_syntax_grammar.specs.Views.{steps_of}
+use Rattle.hol_script_commands.specs.declared.command.Command.{Command}
+use Rattle.hol_script_commands.specs.Views.{IsCommand}
 use Rattle.hol_script.proofs.CommandTurns.{carried, carried-plainly}
 use Rattle.hol_script.proofs.execute.carry_out.Goals as goal
 

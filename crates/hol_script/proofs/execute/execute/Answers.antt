@@ -1,9 +1,9 @@
 use Rattle.std.proofs.Common.{List, sym, subst, ap, ◌∙◌}
 use Rattle.hol_model.specs.Texts.Lexing.{Lexes}
-use Rattle.hol_grammar.specs.Views.{tokens_of}
-use Rattle.hol_command.proofs.ReadingLemmas.{tokens-lexed}
-use Rattle.hol_proof_manager.specs.Session.{session_tools}
-use Rattle.hol_proof_manager.specs.Managers.{state_of}
+use Rattle.hol_syntax_grammar.specs.Views.{tokens_of}
+use Rattle.hol_script_commands.proofs.ReadingLemmas.{tokens-lexed}
+use Rattle.hol_script_manager.specs.Session.{session_tools}
+use Rattle.hol_script_manager.specs.Managers.{state_of}
 use Rattle.hol_script.proofs.CommandTurns.{lacks_memory, unlexed, unread, spelled_turn}
 use Rattle.hol_script.proofs.execute.execute.Goals as goal
 

@@ -1,7 +1,7 @@
 use Rattle.std.proofs.Common.{◌≡◌, List, ℕ, sym, subst, refl, length, ◌≤◌}
 use Rattle.hol_model.specs.Texts.KnownText.{Tells}
 use Rattle.hol_model.specs.declared.limits.TheConstants.{TEXT_BYTES_LIMIT}
-use Rattle.hol_proof_manager.specs.Session.{session_tools}
+use Rattle.hol_script_manager.specs.Session.{session_tools}
 use Rattle.hol_script.specs.Runs.{source_use, sink_use}
 use Rattle.hol_script.proofs.HeadlineLemmas.{finishes_told, front_told, breaks_told, unread_told}
 use Rattle.hol_script.proofs.RunLogLemmas.{run-named}

@@ -1,9 +1,9 @@
 use Rattle.std.proofs.Common.{◌≡◌, ℕ, List, ◌++◌, ◌+◌, ◌≤◌, ◌∙◌, ap, sym, subst, arith, lit<, length}
-use Rattle.hol_session_model.specs.ScriptSessions.{State, start}
+use Rattle.hol_model_sessions.specs.ScriptSessions.{State, start}
 use Rattle.hol_script.specs.declared.progress.Summary.{Summary}
-use Rattle.hol_proof_manager.specs.declared.manager.Manager.{Manager}
-use Rattle.hol_proof_manager.specs.Managers.{state_of, IsManager}
-use Rattle.hol_proof_manager.specs.Session.{session_tools}
+use Rattle.hol_script_manager.specs.declared.manager.Manager.{Manager}
+use Rattle.hol_script_manager.specs.Managers.{state_of, IsManager}
+use Rattle.hol_script_manager.specs.Session.{session_tools}
 use Rattle.hol_script.specs.Runs.{counts_of, counting_answer, names_of, names_in_answer, Finishes}
 use Rattle.hol_script.proofs.RunLemmas.{Underway, underway-begun, underway-passed, underway-turned, underway-broken, underway-ended, underway-unfinished, unfinished-broken, cut_length}
 use Rattle.hol_script.proofs.HeadlineLemmas.{unwritten}

@@ -1,7 +1,7 @@
 use Rattle.std.proofs.Common.{◌≡◌, ◌≤◌, ◌+◌, false, length}
 use Rattle.hol_script.specs.Runs.{counts_of, names_of}
-use Rattle.hol_proof_manager.specs.Session.{session_tools}
-use Rattle.hol_proof_manager.specs.Managers.{state_of, IsManager}
+use Rattle.hol_script_manager.specs.Session.{session_tools}
+use Rattle.hol_script_manager.specs.Managers.{state_of, IsManager}
 use Rattle.hol_script.proofs.RunLemmas.{Underway}
 use Rattle.hol_script.proofs.runner.run_script.Given as goal
 

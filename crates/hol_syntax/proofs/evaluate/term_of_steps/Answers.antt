@@ -1,7 +1,7 @@
 use Rattle.std.proofs.Common.{◌≡◌, [], ◌∷◌, Ok, sym, ap, ◌∙◌, reverse}
 use Rattle.hol_syntax.specs.Scope.{scope_of}
-use Rattle.hol_grammar.specs.Steps.{flat_step_of}
-use Rattle.hol_grammar.specs.TermSteps.{term_steps}
+use Rattle.hol_syntax_grammar.specs.Steps.{flat_step_of}
+use Rattle.hol_syntax_grammar.specs.TermSteps.{term_steps}
 use Rattle.hol_syntax.proofs.TermEvaluation.{begun, goes_on, refused, ended, step_at, all_taken}
 use Rattle.hol_syntax.proofs.evaluate.term_of_steps.Goals as goal
 

@@ -1,7 +1,7 @@
 use Rattle.std.proofs.Common.{◌≡◌, List, drop}
 use Rattle.hol_syntax.specs.Scope.{scope_of}
-use Rattle.hol_grammar.specs.Steps.{flat_steps_of}
-use Rattle.hol_grammar.specs.TermSteps.{TermStep, flat_steps}
+use Rattle.hol_syntax_grammar.specs.Steps.{flat_steps_of}
+use Rattle.hol_syntax_grammar.specs.TermSteps.{TermStep, flat_steps}
 use Rattle.hol_syntax.proofs.TermEvaluation.{IsUnderway}
 use Rattle.hol_syntax.proofs.evaluate.term_of_steps.Given as goal
 

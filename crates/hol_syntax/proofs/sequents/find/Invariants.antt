@@ -1,5 +1,5 @@
 use Rattle.std.proofs.Common.{take}
-use Rattle.hol_grammar.specs.Views.{tokens_of}
+use Rattle.hol_syntax_grammar.specs.Views.{tokens_of}
 use Rattle.hol_syntax.specs.SequentStates.{separates, Without}
 use Rattle.hol_syntax.proofs.sequents.find.Given as goal
 

@@ -1,8 +1,8 @@
 use Rattle.std.proofs.Common.{◌≡◌, ◌∷◌, suc, drop, inl, inr, ⊎_elim, ap, sym, ◌∙◌, add-one, arith}
 use Rattle.hol_model.specs.Texts.SequentGrammar.{formulas_meaning}
 use Rattle.hol_syntax.specs.Scope.{scope_of}
-use Rattle.hol_grammar.specs.Steps.{flat_steps_of}
-use Rattle.hol_grammar.specs.TermSteps.{flat_steps, term_steps}
+use Rattle.hol_syntax_grammar.specs.Steps.{flat_steps_of}
+use Rattle.hol_syntax_grammar.specs.TermSteps.{flat_steps, term_steps}
 use Rattle.hol_syntax.proofs.Formulas.{behind, behind_none, steps_at, made_one, refused_one, made_all}
 use Rattle.hol_syntax.proofs.sequents.formulas_of_steps.Goals as goal
 

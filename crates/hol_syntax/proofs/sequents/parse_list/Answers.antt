@@ -1,9 +1,9 @@
 use Rattle.std.proofs.Common.{[], None, Some, Ok, Err, sym, subst}
 use Rattle.hol_syntax.specs.declared.sequents.Separator.TheVariants.{Comma as CommaHere}
-use Rattle.hol_grammar.specs.Views.{tokens_of}
-use Rattle.hol_grammar.specs.TermStates.{Parses}
+use Rattle.hol_syntax_grammar.specs.Views.{tokens_of}
+use Rattle.hol_syntax_grammar.specs.TermStates.{Parses}
 use Rattle.hol_syntax.specs.SequentStates.{IsFound, AreSteps}
-use Rattle.hol_grammar.proofs.TermRuns.{rest_here}
+use Rattle.hol_syntax_grammar.proofs.TermRuns.{rest_here}
 use Rattle.hol_syntax.proofs.SequentReading.{listed_more, fails_within, fails_last, lists_all, part_here, within_more, not_empty, is_nil}
 use Rattle.hol_syntax.proofs.sequents.parse_list.Goals as goal
 

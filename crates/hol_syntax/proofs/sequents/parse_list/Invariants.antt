@@ -1,5 +1,5 @@
 use Rattle.std.proofs.Common.{◌-◌, ◌≤◌, length}
-use Rattle.hol_grammar.specs.Views.{tokens_of}
+use Rattle.hol_syntax_grammar.specs.Views.{tokens_of}
 use Rattle.hol_syntax.proofs.SequentReading.{IsListed}
 use Rattle.hol_syntax.proofs.sequents.parse_list.Given as goal
 

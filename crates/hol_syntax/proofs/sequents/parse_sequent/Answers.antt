@@ -1,8 +1,8 @@
 use Rattle.std.proofs.Common.{◌+◌, Ok, Err, subst}
-use Rattle.hol_grammar.specs.Views.{tokens_of}
-use Rattle.hol_grammar.specs.TermStates.{Parses}
+use Rattle.hol_syntax_grammar.specs.Views.{tokens_of}
+use Rattle.hol_syntax_grammar.specs.TermStates.{Parses}
 use Rattle.hol_syntax.specs.SequentStates.{ParsesList}
-use Rattle.hol_grammar.proofs.TermRuns.{rest_here}
+use Rattle.hol_syntax_grammar.proofs.TermRuns.{rest_here}
 use Rattle.hol_syntax.proofs.SequentReading.{no_turnstile, fails_hypotheses, fails_conclusion, reads_sequent, front_here}
 use Rattle.hol_syntax.proofs.sequents.parse_sequent.Goals as goal
 

@@ -1,7 +1,7 @@
 use Rattle.std.proofs.Common.{Err, sym, ap, ◌∙◌, subst}
 use Rattle.hol_model.specs.Texts.SequentGrammar.{SpellsSequent, IsReadSequent, sequent_meaning}
 use Rattle.hol_syntax.specs.Scope.{scope_of}
-use Rattle.hol_grammar.specs.Views.{tokens_of}
+use Rattle.hol_syntax_grammar.specs.Views.{tokens_of}
 use Rattle.hol_syntax.specs.SequentStates.{ParsesSequent}
 use Rattle.hol_syntax.proofs.Readings.{no_tree}
 use Rattle.hol_syntax.proofs.sequents.read_sequent.Goals as goal

@@ -1,6 +1,6 @@
 use Rattle.std.proofs.Common.{◌≡◌, length, arith}
 use Rattle.std.proofs.lemmas.List.{length-map}
-use Rattle.hol_grammar.specs.Views.{token_of, tokens_of}
+use Rattle.hol_syntax_grammar.specs.Views.{token_of, tokens_of}
 use Rattle.hol_syntax.proofs.TypeBuilding.{all_read}
 use Rattle.hol_syntax.proofs.Readings.{type_unread, type_goes_on}
 use Rattle.hol_syntax.proofs.types.parse_type.Goals as goal

@@ -1,5 +1,5 @@
 use Rattle.std.proofs.Common.{◌+◌, reverse, sym}
-use Rattle.hol_grammar.specs.declared.type_reader.ReadError.TheVariants.{Syntax}
+use Rattle.hol_syntax_grammar.specs.declared.type_reader.ReadError.TheVariants.{Syntax}
 use Rattle.hol_tactic_grammar.specs.Tokens.{behind}
 use Rattle.hol_tactic_grammar.proofs.ConversionLemmas.{no-unit, no-unit-word}
 use Rattle.hol_tactic_grammar.proofs.OpenConversionLemmas.{unread, leaf-taken}

@@ -1,5 +1,5 @@
 use Rattle.std.proofs.Common.{◌∙◌}
-use Rattle.hol_exprs.specs.Expressions.{conversion_of}
+use Rattle.hol_tactic_exprs.specs.Expressions.{conversion_of}
 use Rattle.hol_tactic_grammar.proofs.ConversionLemmas.{in_order-several}
 use Rattle.hol_tactic_grammar.proofs.conversions.in_order.Goals as goal
 

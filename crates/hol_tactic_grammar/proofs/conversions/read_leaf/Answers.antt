@@ -1,7 +1,7 @@
 use Rattle.std.proofs.Common.{◌+◌, subst, arith}
 use Rattle.std.specs.String.{string_bytes}
 use Rattle.hol_model.specs.Texts.Token.{Name}
-use Rattle.hol_session_model.specs.ConversionGrammar.{all_conv, no_conv, beta_conv, rewr_conv, host_conv}
+use Rattle.hol_model_sessions.specs.ConversionGrammar.{all_conv, no_conv, beta_conv, rewr_conv, host_conv}
 use Rattle.hol_tactic_grammar.specs.declared.conversion_words.Single.{Single}
 use Rattle.hol_tactic_grammar.specs.declared.conversion_words.Single.TheVariants.{Rewr, Host}
 use Rattle.hol_tactic_grammar.specs.Tokens.{IsAt}

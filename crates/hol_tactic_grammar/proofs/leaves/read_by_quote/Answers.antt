@@ -1,4 +1,4 @@
-use Rattle.hol_grammar.specs.Steps.{flat_steps_of}
+use Rattle.hol_syntax_grammar.specs.Steps.{flat_steps_of}
 use Rattle.hol_tactic_grammar.specs.Expressions.{expression_here}
 use Rattle.hol_tactic_grammar.proofs.LeafLemmas.{quoted-at, unquoted-at}
 use Rattle.hol_tactic_grammar.proofs.leaves.read_by_quote.Goals as goal

@@ -1,4 +1,4 @@
-use Rattle.hol_exprs.specs.Expressions.{conversion_of}
+use Rattle.hol_tactic_exprs.specs.Expressions.{conversion_of}
 use Rattle.hol_tactic_grammar.proofs.LeafLemmas.{conv-at, unconverted-at}
 use Rattle.hol_tactic_grammar.proofs.leaves.read_conv_tac.Goals as goal
 

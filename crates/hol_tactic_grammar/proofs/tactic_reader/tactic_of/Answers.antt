@@ -1,6 +1,6 @@
 use Rattle.std.proofs.Common.{List, reverse, refl, sym, subst, arith}
 use Rattle.hol_model.specs.declared.limits.TheConstants.{EXPRESSION_NESTING_LIMIT}
-use Rattle.hol_grammar.specs.Views.{tokens_of}
+use Rattle.hol_syntax_grammar.specs.Views.{tokens_of}
 use Rattle.hol_tactic_grammar.specs.declared.tactic_reader.Open.{Open}
 use Rattle.hol_tactic_grammar.specs.declared.tactic_reader.Reading.{Reading}
 use Rattle.hol_tactic_grammar.specs.declared.tactic_reader.Reading.TheVariants as readings

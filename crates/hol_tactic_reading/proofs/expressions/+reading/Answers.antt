@@ -1,8 +1,8 @@
 use Rattle.std.proofs.Common.{◌∙◌, Ok, arith, subst}
 use Rattle.hol_syntax.specs.Scope.{scope_of}
-use Rattle.hol_exprs.specs.declared.tac.Link.{Thenl}
-use Rattle.hol_exprs.specs.Expressions.{tactic_of, link_of}
-use Rattle.hol_exprs.proofs.Rows.{thenl_means}
+use Rattle.hol_tactic_exprs.specs.declared.tac.Link.{Thenl}
+use Rattle.hol_tactic_exprs.specs.Expressions.{tactic_of, link_of}
+use Rattle.hol_tactic_exprs.proofs.Rows.{thenl_means}
 use Rattle.hol_tactic_reading.specs.Reading.{tactics_made, links_made, ReadsExpression, ReadsLink}
 use Rattle.hol_tactic_reading.proofs.Parts.{made-of-one, refused-of-one, made-in-turn, refused-second, list-goes-on, list-ended, links-goes-on, links-ended}
 use Rattle.hol_tactic_reading.proofs.Wholes.{chain-in-turn, orelse-in-turn, thenl-of-one}

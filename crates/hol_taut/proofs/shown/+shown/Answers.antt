@@ -6,7 +6,7 @@ use Rattle.hol_taut.specs.FactLists.{value_of, known_by}
 use Rattle.hol_taut.proofs.ShownLemmas.{is-known, still_held, still_all_held}
 use Rattle.hol_taut.proofs.ShownSteps.{taken, lower-first, first-formula, first-side-known, first-side-small, first-gives, first-only, lower-second, second-formula}
 use Rattle.hol_taut.proofs.ShownSteps.{second-side-known, second-side-small, second-gives, lower-part, negated-formula, negated-known, negated-small, negated-gives, atom-shown, constant-shown}
-use Rattle.hol_propositions.specs.Forms.{meant}
+use Rattle.hol_taut_formulas.specs.Forms.{meant}
 use Rattle.hol_taut.proofs.shown.+shown.Goals as goal
 
 pub from_fact-requires-clause-known : goal.from_fact-requires-clause-known

@@ -1,7 +1,7 @@
 use Rattle.std.proofs.Common.{◌++◌, refl}
 use Rattle.hol_model.specs.Logic.Logic.{logical_definitions}
 use Rattle.hol_journal.proofs.GrowthLemmas.{journals-grow}
-use Rattle.hol_derivations.specs.Derivations.{theorems}
+use Rattle.hol_prelude_derivations.specs.Derivations.{theorems}
 use Rattle.hol_prelude.proofs.PreludeLemmas.{table-makes}
 use Rattle.hol_taut_laws.specs.LawTheorems.{cited_theorems, discharged_laws, side_laws, negation_laws, disjunction_laws, tautology_theorems}
 use Rattle.hol_taut_laws.proofs.stages.with_denial.Goals as goal

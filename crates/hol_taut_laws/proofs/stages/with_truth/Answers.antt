@@ -1,6 +1,6 @@
 use Rattle.std.proofs.Common.{◌++◌, take, refl}
 use Rattle.hol_model.specs.Logic.Logic.{logical_definitions}
-use Rattle.hol_derivations.specs.Derivations.{theorems}
+use Rattle.hol_prelude_derivations.specs.Derivations.{theorems}
 use Rattle.hol_prelude.specs.Prelude.{first_theorems}
 use Rattle.hol_prelude.specs.Laws.{laws}
 use Rattle.hol_prelude.proofs.PreludeLemmas.{table-makes}

@@ -1,8 +1,8 @@
 use Rattle.std.proofs.Common.{refl}
 use Rattle.hol_model.specs.Refining.Conversions.{rules_conv}
 use Rattle.hol_journal.specs.Journal.{theorem_in}
-use Rattle.hol_derivations.specs.Derivations.{theorems}
-use Rattle.hol_library.specs.Library.{store_in}
+use Rattle.hol_prelude_derivations.specs.Derivations.{theorems}
+use Rattle.hol_theorem_library.specs.Library.{store_in}
 use Rattle.hol_conv_rules.proofs.Converting.{converts_rules}
 use Rattle.hol_conv.proofs.Trying.{other-tried, other-untried}
 use Rattle.hol_conv.proofs.by_rules.ByRulesLeaves.try_leaf.Goals as goal

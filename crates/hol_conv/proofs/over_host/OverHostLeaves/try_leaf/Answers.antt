@@ -1,5 +1,5 @@
 use Rattle.hol_journal.specs.Journal.{theorem_in}
-use Rattle.hol_library.specs.Library.{store_in}
+use Rattle.hol_theorem_library.specs.Library.{store_in}
 use Rattle.hol_conv.proofs.Trying.{leaf-tried, leaf-untried}
 use Rattle.hol_conv.proofs.over_host.OverHostLeaves.try_leaf.Goals as goal
 

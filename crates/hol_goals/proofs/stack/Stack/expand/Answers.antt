@@ -1,5 +1,5 @@
 use Rattle.hol_model.specs.Refining.Combinators.{at}
-use Rattle.hol_exprs.specs.Expressions.{tactic_of}
+use Rattle.hol_tactic_exprs.specs.Expressions.{tactic_of}
 use Rattle.hol_host.specs.Host.{host_of}
 use Rattle.hol_goals.specs.Stages.{stack_of}
 use Rattle.hol_goals.proofs.Running.{refused-first, stack-later, expanded-to, valid-after, refused-itself, closes-if-valid}

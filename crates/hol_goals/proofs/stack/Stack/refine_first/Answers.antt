@@ -1,7 +1,7 @@
 use Rattle.std.proofs.Common.{refl}
 use Rattle.hol_model.specs.Refining.Combinators.{at}
 use Rattle.hol_model.specs.Goals.GoalStates.{focus_outcome}
-use Rattle.hol_exprs.specs.Expressions.{tactic_of}
+use Rattle.hol_tactic_exprs.specs.Expressions.{tactic_of}
 use Rattle.hol_host.specs.Host.{host_of}
 use Rattle.hol_just.specs.Steps.{goal_of}
 use Rattle.hol_combine.specs.Answers.{answer_of}

@@ -1,5 +1,5 @@
-use Rattle.hol_proof_manager.specs.Session.{session_tools}
-use Rattle.hol_proof_manager.specs.Managers.{state_of}
+use Rattle.hol_script_manager.specs.Session.{session_tools}
+use Rattle.hol_script_manager.specs.Managers.{state_of}
 use Rattle.hol_script.proofs.CommandTurns.{lacks_memory}
 use Rattle.hol_script.proofs.progress.Progress.answer.Goals as goal
 

@@ -1,7 +1,7 @@
 use Rattle.std.proofs.Common.{sym, ap, ◌∙◌, subst}
 use Rattle.hol_syntax.specs.Scope.{scope_of}
-use Rattle.hol_grammar.specs.Steps.{flat_step_of}
-use Rattle.hol_grammar.specs.TermSteps.{TermStep, take_step}
+use Rattle.hol_syntax_grammar.specs.Steps.{flat_step_of}
+use Rattle.hol_syntax_grammar.specs.TermSteps.{TermStep, take_step}
 use Rattle.hol_syntax.specs.Evaluating.{Arrives}
 use Rattle.hol_syntax.proofs.TermEvaluation.{unflatten}
 use Rattle.hol_syntax.proofs.evaluate.Evaluator.take_step.Goals as goal

@@ -2,7 +2,7 @@ use Rattle.std.proofs.Common.{◌+◌, sym, rules}
 use Rattle.std.specs.Prelude.{codes}
 use Rattle.hol_model.specs.declared.symbol.Symbol.TheVariants.{OpenParenthesis}
 use Rattle.hol_model.specs.Texts.Token.{Name, Mark}
-use Rattle.hol_grammar.specs.Views.{tokens_of}
+use Rattle.hol_syntax_grammar.specs.Views.{tokens_of}
 use Rattle.hol_tactic_grammar.specs.declared.tactic_reader.Open.TheVariants.{Repeated, Tried, Enclosed}
 use Rattle.hol_tactic_grammar.specs.Tokens.{behind, IsAt}
 use Rattle.hol_tactic_grammar.specs.OpenTactics.{opens_of}

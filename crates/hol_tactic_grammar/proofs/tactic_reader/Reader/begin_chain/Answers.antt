@@ -1,5 +1,5 @@
 use Rattle.std.proofs.Common.{◌∷◌, refl, arith}
-use Rattle.hol_grammar.specs.Views.{tokens_of}
+use Rattle.hol_syntax_grammar.specs.Views.{tokens_of}
 use Rattle.hol_tactic_grammar.specs.Tokens.{behind}
 use Rattle.hol_tactic_grammar.specs.Expressions.{expression_here}
 use Rattle.hol_tactic_grammar.specs.OpenTactics.{opens_of}

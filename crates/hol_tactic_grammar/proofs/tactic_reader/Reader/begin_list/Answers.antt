@@ -1,7 +1,7 @@
 use Rattle.std.proofs.Common.{◌+◌, ◌-◌, List, map, arith, ap, ◌∙◌}
-use Rattle.hol_exprs.specs.declared.tac.Tac.{Tac}
-use Rattle.hol_exprs.specs.declared.tac.Link.{Thenl}
-use Rattle.hol_grammar.specs.Views.{tokens_of}
+use Rattle.hol_tactic_exprs.specs.declared.tac.Tac.{Tac}
+use Rattle.hol_tactic_exprs.specs.declared.tac.Link.{Thenl}
+use Rattle.hol_syntax_grammar.specs.Views.{tokens_of}
 use Rattle.hol_tactic_grammar.specs.declared.tactic_reader.Open.TheVariants.{Listed}
 use Rattle.hol_tactic_grammar.specs.declared.tactic_reader.Reading.TheVariants as readings
 use Rattle.hol_tactic_grammar.specs.Expressions.{Kept, on_each, expression_here, joint_here, all_expressions}

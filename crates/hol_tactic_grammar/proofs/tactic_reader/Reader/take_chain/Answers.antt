@@ -1,5 +1,5 @@
 use Rattle.std.proofs.Common.{◌+◌, map, arith}
-use Rattle.hol_grammar.specs.Views.{tokens_of}
+use Rattle.hol_syntax_grammar.specs.Views.{tokens_of}
 use Rattle.hol_tactic_grammar.specs.declared.tactic_reader.Open.TheVariants.{Chain}
 use Rattle.hol_tactic_grammar.specs.declared.tactic_reader.Reading.TheVariants as readings
 use Rattle.hol_tactic_grammar.specs.Tokens.{behind}

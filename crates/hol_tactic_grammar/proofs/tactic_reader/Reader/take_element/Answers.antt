@@ -1,6 +1,6 @@
 use Rattle.std.proofs.Common.{◌+◌, ◌*◌, ◌-◌, ◌∷◌, length, arith, vec_len}
-use Rattle.hol_exprs.specs.declared.tac.Link.{Thenl}
-use Rattle.hol_grammar.specs.Views.{tokens_of}
+use Rattle.hol_tactic_exprs.specs.declared.tac.Link.{Thenl}
+use Rattle.hol_syntax_grammar.specs.Views.{tokens_of}
 use Rattle.hol_tactic_grammar.specs.declared.tactic_reader.Open.TheVariants.{Listed}
 use Rattle.hol_tactic_grammar.specs.OpenTactics.{opens_of}
 use Rattle.hol_tactic_grammar.proofs.Rows.{thenl_means}

@@ -1,5 +1,5 @@
 use Rattle.std.proofs.Common.{◌+◌, ◌*◌, ◌-◌, ◌∷◌, length, sym, ap, ◌∙◌, subst, arith, vec_len}
-use Rattle.hol_grammar.specs.Views.{tokens_of}
+use Rattle.hol_syntax_grammar.specs.Views.{tokens_of}
 use Rattle.hol_tactic_grammar.specs.declared.tactic_reader.Open.{Open}
 use Rattle.hol_tactic_grammar.specs.declared.tactic_reader.Open.TheVariants.{Enclosed, Chain, Listed}
 use Rattle.hol_tactic_grammar.specs.Tokens.{behind}

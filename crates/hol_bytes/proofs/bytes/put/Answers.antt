@@ -1,5 +1,0 @@
-use Rattle.hol_bytes.proofs.BytesLemmas.{written-puts}
-use Rattle.hol_bytes.proofs.bytes.put.Goals as goal
-
-pub returns-in-Ok-write_all-clause-ok : goal.returns-in-Ok-write_all-clause-ok
-returns-in-Ok-write_all-clause-ok g c = written-puts _ (g.W.Sink.contents c.write_all.new.writer) _ _ _ c.in-Ok.ensures.ok c.in-Ok-write_all.ensures.ok

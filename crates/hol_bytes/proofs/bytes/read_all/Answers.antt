@@ -1,7 +1,0 @@
-use Rattle.std.proofs.Common.{rules}
-use Rattle.hol_bytes.proofs.BytesLemmas.{taken_within}
-use Rattle.hol_bytes.proofs.bytes.read_all.Goals as goal
-
-pub returns-in_err-extend_from_slice-clause-memory : goal.returns-in_err-extend_from_slice-clause-memory
-returns-in_err-extend_from_slice-clause-memory g c = λ wants.
-    taken_within _ _ _ c.loop-count.bytes.items c.pull.new.buf c.in-Ok.count _ c.loop-count.invariant.0 c.in-Ok.ensures.bytes.0 (search rules) (search rules)

@@ -1,4 +1,0 @@
-use Rattle.hol_change.proofs.instance.«+instantiate_type».Given as goal
-
-abbrev pub decreases-instantiate_type : goal.decreases-instantiate_type
-decreases-instantiate_type l = l.ty

@@ -1,0 +1,165 @@
+// Changes of terms: each part is worked out once for each number of binders around it that is counted.
+ghost use Rattle.std.specs.Prelude.{◌≡◌, ◌+◌, ◌<◌, ◌≤◌, ℕ, List, Some, slice_get, length};
+ghost use Rattle.hol_model.specs.Terms.HolType.{HolType, type_instance_of};
+ghost use Rattle.hol_model.specs.Terms.Measures.{nameless_height};
+ghost use Rattle.hol_model.specs.Terms.Nameless.{Nameless, free};
+ghost use Rattle.hol_model.specs.Terms.Substitution as substitution;
+ghost use Rattle.hol_model.specs.Logs.LogSequents.{term_instance_of};
+ghost use Rattle.hol_model.specs.declared.limits.TheConstants.{TERM_HEIGHT_LIMIT};
+ghost use Rattle.hol_check_terms.specs.Terms.{term_at, IsGrown};
+ghost use Rattle.hol_check_changes.specs.Pairs.{ArePairs};
+ghost use Rattle.hol_check_changes.specs.Change.{PartChange, changed, IsHeld, IsWork, Answers, IsMeant, HasMeaning, IsAnswered, IsMade, IsVariable, NamePairs};
+
+use crate::leaves::{
+    Change, change_bound, change_constant, change_free, change_type, deeper, spares,
+};
+use hol_check_terms::memo::{Place, recall, remember};
+use hol_check_terms::terms::{TermShape, Terms};
+use hol_model::{Fault, TERM_HEIGHT_LIMIT};
+use indexmap::IndexMap;
+use std::alloc::Global;
+
+// The change of a part that stands under the passed binders.
+fn change_at(
+    terms: &mut Terms,
+    parts: &mut IndexMap<Place, usize>,
+    types: &mut IndexMap<usize, usize>,
+    change: &Change<'_>,
+    passed: usize,
+    number: usize,
+) -> Result<usize, Fault>
+    requires number { number < length terms.old.terms }
+    requires shallow { passed + nameless_height (term_at terms.old.terms number) ≤ TERM_HEIGHT_LIMIT }
+    requires work { IsWork terms.old change.now parts.old.entries types.old.entries }
+    ensures changed { (meaning : PartChange) → IsHeld terms.old change.now parts.old.entries types.old.entries meaning
+        → Answers (changed meaning passed (term_at terms.old.terms number)) result terms.new change.now parts.new.entries types.new.entries meaning }
+    ensures grows { IsGrown terms.old terms.new }
+{
+    if spares(change) && terms.has_no_free(number) {
+        return Ok(number);
+    }
+    let place = Place { passed, number };
+    match terms.shape(number) {
+        TermShape::Free(name, ty) => change_free(terms, types, change, passed, number, name, ty),
+        TermShape::Constant(name, ty) => {
+            change_constant(terms, types, change, passed, number, name, ty)
+        }
+        TermShape::Bound(index) => Ok(change_bound(terms, change, passed, number, index)),
+        TermShape::Application(function, argument) => {
+            if let Some(new) = recall(parts, place) {
+                return Ok(new);
+            }
+            let new_function = match change_at(terms, parts, types, change, passed, function) {
+                Ok(new_function) => new_function,
+                Err(fault) => return Err(fault),
+            };
+            let new_argument = match change_at(terms, parts, types, change, passed, argument) {
+                Ok(new_argument) => new_argument,
+                Err(fault) => return Err(fault),
+            };
+            match terms.application(new_function, new_argument) {
+                Ok(new) => remember(parts, place, new),
+                Err(fault) => Err(fault),
+            }
+        }
+        TermShape::Abstraction(ty, body) => {
+            if let Some(new) = recall(parts, place) {
+                return Ok(new);
+            }
+            let new_ty = match change_type(terms, types, change, ty) {
+                Ok(new_ty) => new_ty,
+                Err(fault) => return Err(fault),
+            };
+            let inside = deeper(change, passed);
+            let new_body = match change_at(terms, parts, types, change, inside, body) {
+                Ok(new_body) => new_body,
+                Err(fault) => return Err(fault),
+            };
+            match terms.abstraction(new_ty, new_body) {
+                Ok(new) => remember(parts, place, new),
+                Err(fault) => Err(fault),
+            }
+        }
+    }
+}
+
+/// The body of an abstraction over a variable.
+pub(crate) fn close(
+    alloc: Global,
+    terms: &mut Terms,
+    variable: usize,
+    number: usize,
+) -> Result<usize, Fault>
+    requires variable { IsVariable terms.old.terms variable }
+    requires number { number < length terms.old.terms }
+    ensures closed { (name : List ℕ) (ty : HolType) → slice_get terms.old.terms variable ≡ Some (free name ty)
+        → IsAnswered (substitution.close name ty (term_at terms.old.terms number)) result terms.new.terms }
+    ensures grows { IsGrown terms.old terms.new }
+{
+    change_whole(alloc, terms, &Change::Close(variable), number)
+}
+
+/// The body of an abstraction with a term in place of its variable.
+pub(crate) fn fill(
+    alloc: Global,
+    terms: &mut Terms,
+    new: usize,
+    number: usize,
+) -> Result<usize, Fault>
+    requires new { new < length terms.old.terms }
+    requires number { number < length terms.old.terms }
+    ensures filled { IsMade (substitution.fill (term_at terms.old.terms new) (term_at terms.old.terms number)) result terms.new.terms }
+    ensures grows { IsGrown terms.old terms.new }
+{
+    change_whole(alloc, terms, &Change::Fill(new), number)
+}
+
+/// A term with its free variables replaced, all at once, by pairs (new, old), of which the first counts.
+pub(crate) fn put(
+    alloc: Global,
+    terms: &mut Terms,
+    pairs: &[(usize, usize)],
+    number: usize,
+) -> Result<usize, Fault>
+    requires pairs { NamePairs terms.old.terms pairs.now }
+    requires number { number < length terms.old.terms }
+    ensures put { (theta : List (Nameless × Nameless)) → ArePairs terms.old.terms pairs.now theta
+        → IsMade (substitution.put (term_instance_of theta) (term_at terms.old.terms number)) result terms.new.terms }
+    ensures grows { IsGrown terms.old terms.new }
+{
+    change_whole(alloc, terms, &Change::Put(pairs), number)
+}
+
+/// A term with its type variables replaced, all at once, by pairs (new, old), of which the first counts.
+pub(crate) fn instantiate(
+    alloc: Global,
+    terms: &mut Terms,
+    pairs: &[(usize, usize)],
+    number: usize,
+) -> Result<usize, Fault>
+    requires pairs { NamePairs terms.old.types pairs.now }
+    requires number { number < length terms.old.terms }
+    ensures instantiated { (theta : List (HolType × HolType)) → ArePairs terms.old.types pairs.now theta
+        → IsMade (substitution.instantiate (type_instance_of theta) (term_at terms.old.terms number)) result terms.new.terms }
+    ensures grows { IsGrown terms.old terms.new }
+{
+    change_whole(alloc, terms, &Change::Instantiate(pairs), number)
+}
+
+/// The change of a term that stands under no binders.
+pub fn change_whole(
+    alloc: Global,
+    terms: &mut Terms,
+    change: &Change<'_>,
+    number: usize,
+) -> Result<usize, Fault>
+    requires number { number < length terms.old.terms }
+    requires meaning { HasMeaning terms.old change.now }
+    ensures changed { (meaning : PartChange) → IsMeant terms.old change.now meaning → IsAnswered (changed meaning 0 (term_at terms.old.terms number)) result terms.new.terms }
+    ensures grows { IsGrown terms.old terms.new }
+{
+    let (_height, _nodes) = terms.size(number);
+    let mut parts = IndexMap::new(alloc);
+    let mut types = IndexMap::new(alloc);
+    change_at(terms, &mut parts, &mut types, change, 0, number)
+}

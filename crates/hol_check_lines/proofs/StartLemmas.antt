@@ -1,0 +1,139 @@
+-- What is known before the first line.
+use Rattle.std.proofs.Common.{◌≡◌, ◌⊎◌, ℕ, zero, suc, ◌<◌, ◌≤◌, List, [], ◌∷◌, Bool, true, false, refl, sym, ◌∙◌, ap, subst, inl, inr, Some, None, Result, Ok, Err, IfOk, IfErr, if◌then◌else◌, arith}
+use Rattle.std.specs.Prelude.{slice_get, nat_eq}
+use Rattle.std.specs.Str.{bytes_eq}
+use Rattle.std.proofs.lemmas.Bool.{eqb-true}
+use Rattle.std.proofs.lemmas.Option.{get_or_from_slice_get}
+use Rattle.std.proofs.lemmas.Slice.Eq.{bytes_eq-Decides}
+use Rattle.indexmap.specs.IndexMap.{insert_entry}
+use Rattle.hol_model.specs.declared.fault.Fault.{Fault}
+use Rattle.hol_model.specs.declared.fault.Fault.TheVariants.{Memory, TooLarge}
+use Rattle.hol_model.specs.declared.limits.TheConstants.{TYPE_NODES_LIMIT}
+use Rattle.hol_model.specs.Terms.HolType.{HolType, bool_type, function_type, type_nodes}
+use Rattle.hol_model.specs.Logic.Theory.{generic_type, equality_name, choice_name, equality_type, choice_type, type_a}
+use Rattle.hol_check_terms.specs.Growth.{IsLonger}
+use Rattle.hol_check_terms.specs.Terms.{TermTable, name_at, type_at, IsGrown}
+use Rattle.hol_check_terms.specs.Entries.{IsEntry}
+use Rattle.hol_check_rules.specs.Known.{IsGiven, IsListed, Knows}
+use Rattle.hol_check_terms.proofs.TableLemmas.{is_within}
+use Rattle.hol_check_rules.proofs.StateLemmas.{longer-place}
+use Rattle.hol_check_terms.proofs.GrowthLemmas.{type-place, type-there}
+
+-- a type within the limit is made, unless memory is used up
+pub small-function : (result : Result ℕ Fault) (types : List HolType) (made wanted : HolType) → made ≡ wanted → type_nodes wanted ≤ TYPE_NODES_LIMIT
+    → IfOk result (λ ty. slice_get types ty ≡ Some made) → IfErr result (λ fault. (fault ≡ Memory) ⊎ ((fault ≡ TooLarge) × (TYPE_NODES_LIMIT < type_nodes made)))
+    → IfOk result (λ ty. slice_get types ty ≡ Some wanted) × IfErr result (λ fault. fault ≡ Memory)
+small-function (Ok ty) types made wanted same small number refused = (number ∙ ap Some same, refused)
+small-function (Err fault) types made wanted same small number refused =
+    (number, elim refused [ inl memory ↦ memory | inr large ↦ let nodes : type_nodes made ≡ type_nodes wanted = ap type_nodes same in absurd (omega (arith, large.1, small, nodes)) ])
+
+pub equality-typed : (t1 t2 t3 : List HolType) (a formula predicate : ℕ) → slice_get t1 a ≡ Some type_a → IsLonger t1 t2 → slice_get t2 formula ≡ Some bool_type → IsLonger t2 t3
+    → slice_get t3 predicate ≡ Some (function_type (type_at t2 a) (type_at t2 formula)) → function_type (type_at t3 a) (type_at t3 predicate) ≡ equality_type type_a
+equality-typed t1 t2 t3 a formula predicate is_a first is_formula second is_predicate =
+    let a2 = type-place t1 t2 a type_a first is_a in
+    let here : type_at t2 a ≡ type_a = type-there t2 a type_a a2 in
+    let there : type_at t3 a ≡ type_a = type-there t3 a type_a (type-place t2 t3 a type_a second a2) in
+    let formulas : type_at t2 formula ≡ bool_type = type-there t2 formula bool_type is_formula in
+    let predicates : type_at t3 predicate ≡ function_type (type_at t2 a) (type_at t2 formula) = type-there t3 predicate _ is_predicate in
+    cc
+
+pub choice-typed : (t1 t2 t3 : List HolType) (a formula predicate : ℕ) → slice_get t1 a ≡ Some type_a → IsLonger t1 t2 → slice_get t2 formula ≡ Some bool_type → IsLonger t2 t3
+    → slice_get t3 predicate ≡ Some (function_type (type_at t2 a) (type_at t2 formula)) → function_type (type_at t3 predicate) (type_at t3 a) ≡ choice_type type_a
+choice-typed t1 t2 t3 a formula predicate is_a first is_formula second is_predicate =
+    let a2 = type-place t1 t2 a type_a first is_a in
+    let here : type_at t2 a ≡ type_a = type-there t2 a type_a a2 in
+    let there : type_at t3 a ≡ type_a = type-there t3 a type_a (type-place t2 t3 a type_a second a2) in
+    let formulas : type_at t2 formula ≡ bool_type = type-there t2 formula bool_type is_formula in
+    let predicates : type_at t3 predicate ≡ function_type (type_at t2 a) (type_at t2 formula) = type-there t3 predicate _ is_predicate in
+    cc
+
+-- the two constants in the table
+module _ (table : TermTable) (equality equality_ty choice choice_ty : ℕ) (is_equality : slice_get table.names equality ≡ Some equality_name) (is_equality_ty : slice_get table.types equality_ty ≡ Some (equality_type type_a))
+    (is_choice : slice_get table.names choice ≡ Some choice_name) (is_choice_ty : slice_get table.types choice_ty ≡ Some (choice_type type_a)) where
+  abbrev pub entries : List (ℕ × ℕ)
+  entries = (equality, equality_ty) ∷ (choice, choice_ty) ∷ []
+
+  given : (name ty : ℕ) → IsEntry entries name ty → IsGiven table [] name ty
+  given name ty (zero, there) =
+      let pair : (equality, equality_ty) ≡ (name, ty) = cc in
+      let names : equality ≡ name = ap (λ (p : ℕ × ℕ). p.0) pair in
+      let types : equality_ty ≡ ty = ap (λ (p : ℕ × ℕ). p.1) pair in
+      subst (λ n. IsGiven table [] n ty) names (subst (IsGiven table [] equality) types given_equality)
+    where
+      given_equality : IsGiven table [] equality equality_ty
+      given_equality = record {
+        name_within = is_within table.names equality equality_name is_equality;
+        type_within = is_within table.types equality_ty (equality_type type_a) is_equality_ty;
+        given = ap (generic_type []) (get_or_from_slice_get table.names equality equality_name [] is_equality) ∙ ap Some (sym (get_or_from_slice_get table.types equality_ty (equality_type type_a) bool_type is_equality_ty));
+      }
+  given name ty (suc zero, there) =
+      let pair : (choice, choice_ty) ≡ (name, ty) = cc in
+      let names : choice ≡ name = ap (λ (p : ℕ × ℕ). p.0) pair in
+      let types : choice_ty ≡ ty = ap (λ (p : ℕ × ℕ). p.1) pair in
+      subst (λ n. IsGiven table [] n ty) names (subst (IsGiven table [] choice) types given_choice)
+    where
+      given_choice : IsGiven table [] choice choice_ty
+      given_choice = record {
+        name_within = is_within table.names choice choice_name is_choice;
+        type_within = is_within table.types choice_ty (choice_type type_a) is_choice_ty;
+        given = ap (generic_type []) (get_or_from_slice_get table.names choice choice_name [] is_choice) ∙ ap Some (sym (get_or_from_slice_get table.types choice_ty (choice_type type_a) bool_type is_choice_ty));
+      }
+  given name ty (suc (suc i), there) = cc
+
+  listed : (name : List ℕ) (ty : HolType) → generic_type [] name ≡ Some ty → IsListed table entries name ty
+  listed name ty = go (bytes_eq equality_name name) refl (bytes_eq choice_name name) refl
+    where
+      go : (first : Bool) → bytes_eq equality_name name ≡ first → (second : Bool) → bytes_eq choice_name name ≡ second
+          → (if first then Some (equality_type type_a) else (if second then Some (choice_type type_a) else None)) ≡ Some ty → IsListed table entries name ty
+      go true is second other same = record {
+        name_number = equality;
+        type_number = equality_ty;
+        listed = (0, refl);
+        name_is = is_equality ∙ ap Some ((bytes_eq-Decides equality_name name).0 is);
+        type_is = is_equality_ty ∙ same;
+      }
+      go false not true is same = record {
+        name_number = choice;
+        type_number = choice_ty;
+        listed = (1, refl);
+        name_is = is_choice ∙ ap Some ((bytes_eq-Decides choice_name name).0 is);
+        type_is = is_choice_ty ∙ same;
+      }
+      go false not false other same = cc
+
+  pub knows-constants : Knows table entries [] []
+  knows-constants = record {
+    constants_given = given;
+    constants_listed = listed;
+    types_declared = λ name noted. cc;
+    types_listed = λ name is. cc;
+  }
+
+  differ : choice ≡ equality → ⊥
+  differ same =
+      let chosen : name_at table.names choice ≡ choice_name = get_or_from_slice_get table.names choice choice_name [] is_choice in
+      let equal : name_at table.names equality ≡ equality_name = get_or_from_slice_get table.names equality equality_name [] is_equality in
+      let names : choice_name ≡ equality_name = sym chosen ∙ (ap (name_at table.names) same ∙ equal) in
+      let tested : false ≡ true = (bytes_eq-Decides choice_name equality_name).1 names in
+      cc
+
+  inserted : (test : Bool) → nat_eq choice equality ≡ test → (if test then (equality, choice_ty) ∷ [] else (equality, equality_ty) ∷ (choice, choice_ty) ∷ []) ≡ entries
+  inserted true is = absurd (differ (eqb-true choice equality is))
+  inserted false is = refl
+
+  pub knows-inserted : (none first second : List (ℕ × ℕ)) (declared : List ℕ) → none ≡ [] → first ≡ insert_entry nat_eq none equality equality_ty → second ≡ insert_entry nat_eq first choice choice_ty → declared ≡ [] → Knows table second declared []
+  knows-inserted none first second declared empty one two no_type =
+      let firsts : first ≡ (equality, equality_ty) ∷ [] = one ∙ ap (λ l. insert_entry nat_eq l equality equality_ty) empty in
+      let both : second ≡ entries = two ∙ (ap (λ l. insert_entry nat_eq l choice choice_ty) firsts ∙ inserted (nat_eq choice equality) refl) in
+      subst (λ l. Knows table l declared []) (sym both) (subst (λ d. Knows table entries d []) (sym no_type) knows-constants)
+
+-- the same, where the tables grow meanwhile
+pub knows-first : (t1 t2 t3 t4 : TermTable) (equality equality_ty choice choice_ty : ℕ) → slice_get t1.names equality ≡ Some equality_name → IsGrown t1 t2 → slice_get t2.types equality_ty ≡ Some (equality_type type_a) → IsGrown t2 t3
+    → slice_get t3.names choice ≡ Some choice_name → IsGrown t3 t4 → slice_get t4.types choice_ty ≡ Some (choice_type type_a)
+    → (none first second : List (ℕ × ℕ)) (declared : List ℕ) → none ≡ [] → first ≡ insert_entry nat_eq none equality equality_ty → second ≡ insert_entry nat_eq first choice choice_ty → declared ≡ [] → Knows t4 second declared []
+knows-first t1 t2 t3 t4 equality equality_ty choice choice_ty is_equality one is_equality_ty two is_choice three is_choice_ty =
+    knows-inserted t4 equality equality_ty choice choice_ty
+    (longer-place t3.names t4.names equality equality_name three.names (longer-place t2.names t3.names equality equality_name two.names (longer-place t1.names t2.names equality equality_name one.names is_equality)))
+    (longer-place t3.types t4.types equality_ty (equality_type type_a) three.types (longer-place t2.types t3.types equality_ty (equality_type type_a) two.types is_equality_ty))
+    (longer-place t3.names t4.names choice choice_name three.names is_choice)
+    is_choice_ty

@@ -1,0 +1,32 @@
+use Rattle.std.proofs.Common.{sym, ◌∙◌}
+use Rattle.hol_check_terms.proofs.TableLemmas.{is_within}
+use Rattle.hol_check_rules.proofs.StateLemmas.{knows-grown}
+use Rattle.hol_check_lines.proofs.TermLineLemmas.{judged-term, adds-grown-constant, no-constant, memory-made, made-within}
+use Rattle.hol_check_lines.proofs.term_lines.judge_constant.Goals as goal
+use Rattle.hol_check_terms.proofs.GrowthLemmas.{type-within, IsGrown-trans}
+
+pub knows_constant-requires-clause-ty : goal.knows_constant-requires-clause-ty
+knows_constant-requires-clause-ty c = type-within c.args.terms.now.types c.name.new.self.types c.in-Some.named c.in-Ok.ensures.grows.types (c.in-Some.ensures c.args.terms.now c.requires).within
+
+pub knows_constant-requires-clause-known : goal.knows_constant-requires-clause-known
+knows_constant-requires-clause-known c = record { theory = _; knows = knows-grown c.args.terms.now c.name.new.self c.in-Ok.ensures.grows _ _ _ c.requires.knows }
+
+pub returns-then-not-knows_constant : goal.returns-then-not-knows_constant
+returns-then-not-knows_constant c = no-constant c.args.terms.now c.name.new.self c.args.contents.now c.args.name.now c.args.ty c.in-Ok.number c.in-Some.named (c.in-Some.ensures c.args.terms.now c.requires) c.in-Ok.ensures.grows c.in-Ok.ensures.number (sym c.is_constant_name.ensures ∙ c.if-not-is_constant_name.false) (sym (c.knows_constant.ensures _ (knows-grown c.args.terms.now c.name.new.self c.in-Ok.ensures.grows _ _ _ c.requires.knows)) ∙ c.if-not-knows_constant.true)
+
+pub constant-made-requires-clause-name : goal.constant-made-requires-clause-name
+constant-made-requires-clause-name c = is_within c.name.new.self.names c.in-Ok.number _ c.in-Ok.ensures.number
+
+pub constant-made-requires-clause-ty : goal.constant-made-requires-clause-ty
+constant-made-requires-clause-ty c = type-within c.args.terms.now.types c.name.new.self.types c.in-Some.named c.in-Ok.ensures.grows.types (c.in-Some.ensures c.args.terms.now c.requires).within
+
+pub judge_term-requires : goal.judge_term-requires
+judge_term-requires c = made-within _ c.constant-made.result c.constant-made.new.self.terms (memory-made _ c.constant-made.result c.constant-made.new.self.terms c.constant-made.ensures.number c.constant-made.ensures.refused)
+
+pub returns : goal.returns
+returns c =
+    judged-term _ c.args.contents.now c.args.terms.now c.judge_term.new.terms _ c.judge_term.result
+    (adds-grown-constant c.args.terms.now c.name.new.self c.args.contents.now c.args.name.now c.args.ty c.in-Ok.number c.in-Some.named (c.in-Some.ensures c.args.terms.now c.requires) c.in-Ok.ensures.grows c.in-Ok.ensures.number (sym c.is_constant_name.ensures ∙ c.if-not-is_constant_name.false)
+    (sym (c.knows_constant.ensures _ (knows-grown c.args.terms.now c.name.new.self c.in-Ok.ensures.grows _ _ _ c.requires.knows)) ∙ c.if-not-knows_constant.false)) c.requires
+    (c.judge_term.ensures.answers _ (memory-made _ c.constant-made.result c.constant-made.new.self.terms c.constant-made.ensures.number c.constant-made.ensures.refused))
+    (IsGrown-trans c.args.terms.now c.name.new.self c.judge_term.new.terms c.in-Ok.ensures.grows (IsGrown-trans c.name.new.self c.constant-made.new.self c.judge_term.new.terms c.constant-made.ensures.grows c.judge_term.ensures.grows))

@@ -1,0 +1,58 @@
+// The pairs (new, old) that a line of an instance names.
+ghost use Rattle.std.specs.Prelude.{◌≡◌, IfOk, IfErr};
+ghost use Rattle.hol_model.specs.declared.fault.Fault.TheVariants.{Memory};
+ghost use Rattle.hol_check_rules.specs.State.{state_of, IsContents};
+ghost use Rattle.hol_check_rules.specs.StepPairs.{FindsTermPairs, FindsTypePairs};
+
+use hol_check_rules::state::{Contents, term_at, type_at};
+use hol_check_terms::terms::Terms;
+use hol_model::Fault;
+use std::alloc::Global;
+
+/// The numbers in the tables of pairs of terms.
+pub(crate) fn term_pairs(
+    alloc: Global,
+    terms: &Terms,
+    contents: &Contents,
+    lines: &[(u32, u32)],
+) -> Result<Option<Vec<(usize, usize)>>, Fault>
+    requires { IsContents terms.now contents.now }
+    ensures found { IfOk result (FindsTermPairs (state_of terms.now contents.now) lines.now terms.now.terms) }
+    ensures refused { IfErr result (λ fault. fault ≡ Memory) }
+{
+    let mut pairs = Vec::new(alloc);
+    for line in lines {
+        match (term_at(contents, line.0), term_at(contents, line.1)) {
+            (Some(new), Some(old)) => match pairs.push((new, old)) {
+                Ok(()) => {}
+                Err(_pair) => return Err(Fault::Memory),
+            },
+            _ => return Ok(None),
+        }
+    }
+    Ok(Some(pairs))
+}
+
+/// The numbers in the tables of pairs of types.
+pub(crate) fn type_pairs(
+    alloc: Global,
+    terms: &Terms,
+    contents: &Contents,
+    lines: &[(u32, u32)],
+) -> Result<Option<Vec<(usize, usize)>>, Fault>
+    requires { IsContents terms.now contents.now }
+    ensures found { IfOk result (FindsTypePairs (state_of terms.now contents.now) lines.now terms.now.types) }
+    ensures refused { IfErr result (λ fault. fault ≡ Memory) }
+{
+    let mut pairs = Vec::new(alloc);
+    for line in lines {
+        match (type_at(contents, line.0), type_at(contents, line.1)) {
+            (Some(new), Some(old)) => match pairs.push((new, old)) {
+                Ok(()) => {}
+                Err(_pair) => return Err(Fault::Memory),
+            },
+            _ => return Ok(None),
+        }
+    }
+    Ok(Some(pairs))
+}

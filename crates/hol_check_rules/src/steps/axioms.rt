@@ -1,0 +1,243 @@
+// The axioms.
+ghost use Rattle.std.specs.Prelude.{◌≡◌, ◌∷◌, [], codes, Some, slice_get, IfOk, IfErr};
+ghost use Rattle.hol_model.specs.declared.fault.Fault.TheVariants.{Memory};
+ghost use Rattle.hol_model.specs.Terms.HolType as types;
+ghost use Rattle.hol_model.specs.Terms.Nameless.{const, bound, app, lam};
+ghost use Rattle.hol_model.specs.Logic.Theory as theory;
+ghost use Rattle.hol_model.specs.Logic.Derivable as derivable;
+ghost use Rattle.hol_check_terms.specs.Terms.{IsGrown};
+ghost use Rattle.hol_check_rules.specs.Steps as spec;
+ghost use Rattle.hol_check_rules.specs.Steps.{IsNamed, IsNamedType, Takes};
+ghost use Rattle.hol_check_changes.specs.Forming.{IsFormed, IsFitting};
+
+use super::conclude::conclude;
+use crate::hypotheses::set_of;
+use crate::state::Theorem;
+use hol_check_changes::forming::{application, constant, equation_of, variable, within_limits};
+use hol_check_terms::terms::Terms;
+use hol_model::{Cause, Fault};
+use std::alloc::Global;
+
+/// A function equals the abstraction of its application.
+pub fn eta(alloc: Global, terms: &mut Terms) -> Result<Result<Theorem, Cause>, Fault>
+    ensures taken { Takes spec.eta_step result terms.new.terms }
+    ensures grows { IsGrown terms.old terms.new }
+{
+    let hypotheses = match set_of(alloc, terms, &[]) {
+        Ok(hypotheses) => hypotheses,
+        Err(fault) => return Err(fault),
+    };
+    conclude(hypotheses, eta_conclusion(alloc, terms))
+}
+
+// (\x:A. t x) = t
+fn eta_conclusion(alloc: Global, terms: &mut Terms) -> Result<usize, Fault>
+    ensures formed { IsFormed derivable.eta_axiom result terms.new.terms }
+    ensures grows { IsGrown terms.old terms.new }
+{
+    let left = match eta_abstraction(alloc, terms) {
+        Ok(left) => left,
+        Err(_fault) => return Err(Fault::Memory),
+    };
+    match eta_variable(alloc, terms) {
+        Ok(right) => equation_of(alloc, terms, left, right),
+        Err(_fault) => Err(Fault::Memory),
+    }
+}
+
+// \x:A. t x
+fn eta_abstraction(alloc: Global, terms: &mut Terms) -> Result<usize, Fault>
+    ensures named { IsNamed (lam theory.type_a (app derivable.eta_variable (bound 0))) result terms.new.terms }
+    ensures grows { IsGrown terms.old terms.new }
+{
+    let body = match eta_application(alloc, terms) {
+        Ok(body) => body,
+        Err(fault) => return Err(fault),
+    };
+    match terms.type_variable(alloc, b"A") {
+        Ok(ty) => match terms.abstraction(ty, body) {
+            Ok(number) => Ok(number),
+            Err(_fault) => Err(Fault::Memory),
+        },
+        Err(fault) => Err(fault),
+    }
+}
+
+// t x, under the binder of x
+fn eta_application(alloc: Global, terms: &mut Terms) -> Result<usize, Fault>
+    ensures named { IsNamed (app derivable.eta_variable (bound 0)) result terms.new.terms }
+    ensures grows { IsGrown terms.old terms.new }
+{
+    let function = match eta_variable(alloc, terms) {
+        Ok(function) => function,
+        Err(fault) => return Err(fault),
+    };
+    match terms.bound(0) {
+        Ok(argument) => match terms.application(function, argument) {
+            Ok(number) => Ok(number),
+            Err(_fault) => Err(Fault::Memory),
+        },
+        Err(fault) => Err(fault),
+    }
+}
+
+// t:A->B
+fn eta_variable(alloc: Global, terms: &mut Terms) -> Result<usize, Fault>
+    ensures named { IsNamed derivable.eta_variable result terms.new.terms }
+    ensures grows { IsGrown terms.old terms.new }
+{
+    match eta_type(alloc, terms) {
+        Ok(ty) => variable(alloc, terms, b"t", ty),
+        Err(fault) => Err(fault),
+    }
+}
+
+// A->B
+fn eta_type(alloc: Global, terms: &mut Terms) -> Result<usize, Fault>
+    ensures named { IsNamedType (types.function_type theory.type_a theory.type_b) result terms.new.types }
+    ensures grows { IsGrown terms.old terms.new }
+{
+    let domain = match terms.type_variable(alloc, b"A") {
+        Ok(domain) => domain,
+        Err(fault) => return Err(fault),
+    };
+    match terms.type_variable(alloc, b"B") {
+        Ok(codomain) => match terms.function_type(domain, codomain) {
+            Ok(number) => Ok(number),
+            Err(_fault) => Err(Fault::Memory),
+        },
+        Err(fault) => Err(fault),
+    }
+}
+
+/// A predicate that holds of something holds of its choice.
+pub fn select(alloc: Global, terms: &mut Terms) -> Result<Result<Theorem, Cause>, Fault>
+    ensures taken { Takes spec.select_step result terms.new.terms }
+    ensures grows { IsGrown terms.old terms.new }
+{
+    let hypothesis = match select_hypothesis(alloc, terms) {
+        Ok(hypothesis) => hypothesis,
+        Err(fault) => return Err(fault),
+    };
+    let hypotheses = match set_of(alloc, terms, &[hypothesis]) {
+        Ok(hypotheses) => hypotheses,
+        Err(fault) => return Err(fault),
+    };
+    conclude(hypotheses, select_conclusion(alloc, terms))
+}
+
+// P x
+fn select_hypothesis(alloc: Global, terms: &mut Terms) -> Result<usize, Fault>
+    ensures named { IsNamed derivable.select_hypothesis result terms.new.terms }
+    ensures fitting { IfOk result (IsFitting terms.new.terms) }
+    ensures grows { IsGrown terms.old terms.new }
+{
+    let predicate = match select_predicate(alloc, terms) {
+        Ok(predicate) => predicate,
+        Err(fault) => return Err(fault),
+    };
+    let argument = match select_variable(alloc, terms) {
+        Ok(argument) => argument,
+        Err(fault) => return Err(fault),
+    };
+    match terms.application(predicate, argument) {
+        Ok(number) => Ok(number),
+        Err(_fault) => Err(Fault::Memory),
+    }
+}
+
+// P (@ P)
+fn select_conclusion(alloc: Global, terms: &mut Terms) -> Result<usize, Fault>
+    ensures formed { IsFormed derivable.select_conclusion result terms.new.terms }
+    ensures grows { IsGrown terms.old terms.new }
+{
+    let chosen = match choice_application(alloc, terms) {
+        Ok(chosen) => chosen,
+        Err(_fault) => return Err(Fault::Memory),
+    };
+    let predicate = match select_predicate(alloc, terms) {
+        Ok(predicate) => predicate,
+        Err(_fault) => return Err(Fault::Memory),
+    };
+    match application(terms, predicate, chosen) {
+        Ok(number) => within_limits(alloc, terms, number),
+        Err(_fault) => Err(Fault::Memory),
+    }
+}
+
+// @ P
+fn choice_application(alloc: Global, terms: &mut Terms) -> Result<usize, Fault>
+    ensures named { IsNamed (app (const theory.choice_name (theory.choice_type theory.type_a)) derivable.select_predicate) result terms.new.terms }
+    ensures grows { IsGrown terms.old terms.new }
+{
+    let choice = match choice(alloc, terms) {
+        Ok(choice) => choice,
+        Err(fault) => return Err(fault),
+    };
+    match select_predicate(alloc, terms) {
+        Ok(predicate) => match terms.application(choice, predicate) {
+            Ok(number) => Ok(number),
+            Err(_fault) => Err(Fault::Memory),
+        },
+        Err(fault) => Err(fault),
+    }
+}
+
+// @:(A->bool)->A
+fn choice(alloc: Global, terms: &mut Terms) -> Result<usize, Fault>
+    ensures named { IsNamed (const theory.choice_name (theory.choice_type theory.type_a)) result terms.new.terms }
+    ensures grows { IsGrown terms.old terms.new }
+{
+    let predicates = match predicate_type(alloc, terms) {
+        Ok(predicates) => predicates,
+        Err(fault) => return Err(fault),
+    };
+    let argument = match terms.type_variable(alloc, b"A") {
+        Ok(argument) => argument,
+        Err(fault) => return Err(fault),
+    };
+    match terms.function_type(predicates, argument) {
+        Ok(ty) => constant(alloc, terms, b"@", ty),
+        Err(_fault) => Err(Fault::Memory),
+    }
+}
+
+// P:A->bool
+fn select_predicate(alloc: Global, terms: &mut Terms) -> Result<usize, Fault>
+    ensures named { IsNamed derivable.select_predicate result terms.new.terms }
+    ensures grows { IsGrown terms.old terms.new }
+{
+    match predicate_type(alloc, terms) {
+        Ok(ty) => variable(alloc, terms, b"P", ty),
+        Err(fault) => Err(fault),
+    }
+}
+
+// x:A
+fn select_variable(alloc: Global, terms: &mut Terms) -> Result<usize, Fault>
+    ensures named { IsNamed derivable.select_variable result terms.new.terms }
+    ensures grows { IsGrown terms.old terms.new }
+{
+    match terms.type_variable(alloc, b"A") {
+        Ok(ty) => variable(alloc, terms, b"x", ty),
+        Err(fault) => Err(fault),
+    }
+}
+
+// A->bool
+fn predicate_type(alloc: Global, terms: &mut Terms) -> Result<usize, Fault>
+    ensures named { IsNamedType (types.function_type theory.type_a types.bool_type) result terms.new.types }
+    ensures grows { IsGrown terms.old terms.new }
+{
+    let domain = match terms.type_variable(alloc, b"A") {
+        Ok(domain) => domain,
+        Err(fault) => return Err(fault),
+    };
+    match terms.boolean() {
+        Ok(codomain) => match terms.function_type(domain, codomain) {
+            Ok(number) => Ok(number),
+            Err(_fault) => Err(Fault::Memory),
+        },
+        Err(fault) => Err(fault),
+    }
+}

@@ -1,0 +1,93 @@
+// Rules about hypotheses and formulas.
+ghost use Rattle.std.specs.Prelude.{◌≡◌, ◌<◌, ◌++◌, [], List, length};
+ghost use Rattle.hol_check_terms.specs.Terms.{term_at, IsGrown};
+ghost use Rattle.hol_check_rules.specs.State.{sequent_in, IsFittingTheorem};
+ghost use Rattle.hol_check_rules.specs.Steps as spec;
+ghost use Rattle.hol_check_rules.specs.Steps.{Takes};
+ghost use Rattle.hol_check_changes.specs.Forming.{IsFitting};
+
+use super::conclude::conclude;
+use crate::hypotheses::{set_of, union, without};
+use crate::state::Theorem;
+use hol_check_changes::equation::{is_equation, left_side, right_side};
+use hol_check_changes::forming::{equation_of, is_formula, within_limits};
+use hol_check_terms::terms::Terms;
+use hol_model::{Cause, Fault};
+use std::alloc::Global;
+
+/// A formula follows from itself.
+pub fn assume(
+    alloc: Global,
+    terms: &mut Terms,
+    term: usize,
+) -> Result<Result<Theorem, Cause>, Fault>
+    requires { IsFitting terms.old.terms term }
+    ensures taken { Takes (spec.assume_step (term_at terms.old.terms term)) result terms.new.terms }
+    ensures grows { IsGrown terms.old terms.new }
+{
+    let hypotheses = match set_of(alloc, terms, &[term]) {
+        Ok(hypotheses) => hypotheses,
+        Err(fault) => return Err(fault),
+    };
+    match is_formula(alloc, terms, term) {
+        Ok(true) => conclude(hypotheses, Ok(term)),
+        Ok(false) => Ok(Err(Cause::Kind)),
+        Err(fault) => Err(fault),
+    }
+}
+
+/// From `p = q` and `p` follows `q`.
+pub fn eq_mp(
+    alloc: Global,
+    terms: &mut Terms,
+    first: &Theorem,
+    second: &Theorem,
+) -> Result<Result<Theorem, Cause>, Fault>
+    requires first { IsFittingTheorem terms.old.terms first.now }
+    requires second { IsFittingTheorem terms.old.terms second.now }
+    ensures taken { Takes (spec.eq_mp_step (sequent_in terms.old.terms first.now) (sequent_in terms.old.terms second.now)) result terms.new.terms }
+    ensures grows { IsGrown terms.old terms.new }
+{
+    if !is_equation(terms, first.conclusion) {
+        return Ok(Err(Cause::Rule));
+    }
+    if !terms.is_same(left_side(terms, first.conclusion), second.conclusion) {
+        return Ok(Err(Cause::Rule));
+    }
+    let right = right_side(terms, first.conclusion);
+    let hypotheses = match union(alloc, terms, &first.hypotheses, &second.hypotheses) {
+        Ok(hypotheses) => hypotheses,
+        Err(fault) => return Err(fault),
+    };
+    conclude(hypotheses, within_limits(alloc, terms, right))
+}
+
+/// From `p` and `q` follows `p = q`, each without the other among its hypotheses.
+pub fn deduct(
+    alloc: Global,
+    terms: &mut Terms,
+    first: &Theorem,
+    second: &Theorem,
+) -> Result<Result<Theorem, Cause>, Fault>
+    requires first { IsFittingTheorem terms.old.terms first.now }
+    requires second { IsFittingTheorem terms.old.terms second.now }
+    ensures taken { Takes (spec.deduct_step (sequent_in terms.old.terms first.now) (sequent_in terms.old.terms second.now)) result terms.new.terms }
+    ensures grows { IsGrown terms.old terms.new }
+{
+    let first_left = match without(alloc, terms, second.conclusion, &first.hypotheses) {
+        Ok(first_left) => first_left,
+        Err(fault) => return Err(fault),
+    };
+    let second_left = match without(alloc, terms, first.conclusion, &second.hypotheses) {
+        Ok(second_left) => second_left,
+        Err(fault) => return Err(fault),
+    };
+    let hypotheses = match union(alloc, terms, &first_left, &second_left) {
+        Ok(hypotheses) => hypotheses,
+        Err(fault) => return Err(fault),
+    };
+    conclude(
+        hypotheses,
+        equation_of(alloc, terms, first.conclusion, second.conclusion),
+    )
+}

@@ -1,6 +1,0 @@
-use Rattle.hol_grammar.specs.Views.{tokens_of}
-use Rattle.hol_command.proofs.CommandLemmas.{rule-asked}
-use Rattle.hol_command.proofs.command.parse_asked.Goals as goal
-
-pub returns-in-Ok : goal.returns-in-Ok
-returns-in-Ok c = rule-asked c.in-Ok.rule (tokens_of c.args.tokens.now) c.in-Ok.ensures

@@ -1,7 +1,0 @@
-use Rattle.std.proofs.Common.{refl}
-use Rattle.hol_session_model.specs.CommandGrammar.{b_command}
-use Rattle.hol_command.proofs.ReadingLemmas.{no-tokens}
-use Rattle.hol_command.proofs.goals.parse_back.Goals as goal
-
-pub returns : goal.returns
-returns c = (b_command, tt, refl, no-tokens c.args.tokens.now c.if-not-is_empty.ensures, record { is = refl })

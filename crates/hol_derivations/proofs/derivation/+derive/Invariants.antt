@@ -1,5 +1,0 @@
-use Rattle.hol_derivations.proofs.DerivationSize.{size}
-use Rattle.hol_derivations.proofs.derivation.+derive.Given as goal
-
-abbrev pub decreases-derive : goal.decreases-derive
-decreases-derive l = size l.derivation.now

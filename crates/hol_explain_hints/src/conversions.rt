@@ -1,0 +1,97 @@
+// Which conversion of an expression does not apply, and to which term.
+use crate::case::Case;
+use crate::said::Said::{Quoted, Shown, Text, Theorem};
+use crate::shapes::wanted;
+use crate::span::{Span, next_outside};
+use hol_explain_words::{
+    Message, NoMemory, Piece, between, end_of_conversion, is_before_theorem, text_of,
+};
+use hol_terms::{Parts, Term};
+
+// What joins two conversions.
+const JOINTS: (&str, &str) = ("THENC", "ORELSEC");
+
+// The part of a term to which a word hands the conversion behind it.
+fn part_for<'a>(word: &str, term: &'a Term) -> Option<&'a Term> {
+    match (word, term.parts()) {
+        ("RAND_CONV", Parts::Combination(_, argument)) => Some(argument),
+        ("RATOR_CONV", Parts::Combination(function, _)) => Some(function),
+        ("ABS_CONV", Parts::Abstraction(_, _, body)) => Some(body),
+        _ => None,
+    }
+}
+
+// The text of a conversion.
+fn text_within<'a>(piece: &'a Piece<'_>, span: Span) -> &'a str {
+    let end = piece.word(span.to.saturating_sub(1)).end;
+    text_of(between(piece.bytes, piece.start(span.from), end))
+}
+
+// A conversion, and the term that it is applied to.
+#[derive(Clone, Copy)]
+struct Applied<'a> {
+    span: Span,
+    term: &'a Term,
+}
+
+// What parentheses, `RAND_CONV`, `RATOR_CONV` and `ABS_CONV` make of a conversion and a term.
+fn innermost<'a>(piece: &Piece<'_>, whole: Applied<'a>) -> Applied<'a> {
+    let mut applied = whole;
+    for _ in 0..piece.words.len() {
+        let word = piece.text(applied.span.from);
+        let inside = Span {
+            from: applied.span.from.saturating_add(1),
+            to: applied.span.to.saturating_sub(1),
+        };
+        if word == "(" && next_outside(piece, inside, JOINTS) >= inside.to {
+            applied.span = inside;
+            continue;
+        }
+        let Some(part) = part_for(word, applied.term) else {
+            break;
+        };
+        applied.term = part;
+        applied.span.from = inside.from;
+    }
+    applied
+}
+
+/// Puts the conversion that does not apply at the end, what it wants, and the term that it is applied to: that of the expression
+/// from a word on, or what `RAND_CONV`, `RATOR_CONV` and `ABS_CONV` make of both. The message is on that conversion then.
+pub(crate) fn push_conversion<'a>(
+    case: &Case<'a>,
+    from: usize,
+    term: &'a Term,
+    message: &mut Message,
+) -> Result<(), NoMemory> {
+    let to = end_of_conversion(case.alloc, case.piece, from)?;
+    let span = Span { from, to };
+    let applied = innermost(case.piece, Applied { span, term });
+    let at = applied.span.from;
+    let word = case.piece.text(at);
+    let (lead, wanted) = match wanted(word) {
+        Some(wanted) => (" wants ", wanted),
+        None => ("", ""),
+    };
+    let parts = [
+        Text(": "),
+        Quoted(text_within(case.piece, applied.span)),
+        Text(lead),
+        Text(wanted),
+        Text(if wanted.is_empty() {
+            " is applied to "
+        } else {
+            ", and is applied to "
+        }),
+        Shown(applied.term),
+    ];
+    message.at = case.piece.start(at);
+    case.teller().push(&mut message.text, &parts)?;
+    match case.theorem_at(at.saturating_add(1)) {
+        Some(premise) if is_before_theorem(word) => {
+            case.teller()
+                .push(&mut message.text, &[Text(", and "), Theorem(premise)])
+        }
+        _ => Ok(()),
+    }
+}

@@ -1,0 +1,95 @@
+// Refiner expressions: their parts, and what stands behind their joints.
+use crate::span::{Span, next_outside};
+use hol_explain_words::{NoMemory, Piece, between};
+use std::alloc::Global;
+
+const JOINTS: (&str, &str) = ("THEN", "THENL");
+
+const MEMBER_ENDS: (&str, &str) = (";", "]");
+
+const CLOSING: (&str, &str) = (")", ")");
+
+/// The command `e` of a part.
+pub fn command_of(alloc: Global, piece: &Piece<'_>, span: Span) -> Result<Vec<u8>, NoMemory> {
+    let mut text = Vec::new(alloc);
+    text.extend_from_slice(b"e ")?;
+    text.extend_from_slice(between(piece.bytes, piece.start(span.from), piece.start(span.to)))?;
+    Ok(text)
+}
+
+/// A part without the parentheses around it.
+pub fn unwrapped(piece: &Piece<'_>, span: Span) -> Span {
+    let mut inner = span;
+    for _ in 0..piece.words.len() {
+        let behind = Span {
+            from: inner.from.saturating_add(1),
+            to: inner.to,
+        };
+        let closing = next_outside(piece, behind, CLOSING);
+        if piece.text(inner.from) != "(" || closing != inner.to.saturating_sub(1) {
+            break;
+        }
+        inner = Span {
+            from: behind.from,
+            to: closing,
+        };
+    }
+    inner
+}
+
+/// The place in the list of the first joint of a part from a place on, or the end of the part.
+pub fn next_joint(piece: &Piece<'_>, from: usize, to: usize) -> usize {
+    next_outside(piece, Span { from, to }, JOINTS)
+}
+
+// The member of a list that begins at a place.
+fn member_at(piece: &Piece<'_>, from: usize, to: usize) -> Span {
+    Span {
+        from,
+        to: next_outside(piece, Span { from, to }, MEMBER_ENDS),
+    }
+}
+
+// How many members the list has whose first begins at a place.
+fn count_of_members(piece: &Piece<'_>, from: usize, to: usize) -> usize {
+    if piece.text(from) == "]" {
+        return 0;
+    }
+    let mut members = 1usize;
+    let mut member = member_at(piece, from, to);
+    for _ in 0..piece.words.len() {
+        if piece.text(member.to) != ";" {
+            break;
+        }
+        members = members.saturating_add(1);
+        member = member_at(piece, member.to.saturating_add(1), to);
+    }
+    members
+}
+
+/// Whether behind a joint stands a list, and not one member for each of so many subgoals.
+pub fn has_misfit(piece: &Piece<'_>, behind: Span, subgoals: usize) -> bool {
+    piece.text(behind.from) == "THENL"
+        && count_of_members(piece, behind.from.saturating_add(2), behind.to) != subgoals
+}
+
+/// The refiner for the first subgoal behind a joint.
+pub fn first_member(piece: &Piece<'_>, behind: Span) -> Span {
+    if piece.text(behind.from) == "THENL" {
+        member_at(piece, behind.from.saturating_add(2), behind.to)
+    } else {
+        Span {
+            from: behind.from.saturating_add(1),
+            to: behind.to,
+        }
+    }
+}
+
+/// The refiner for the next subgoal, behind the refiner for this one: the next member of a list, or the same.
+pub fn next_member(piece: &Piece<'_>, behind: Span, member: Span) -> Span {
+    if piece.text(behind.from) == "THENL" {
+        member_at(piece, member.to.saturating_add(1), behind.to)
+    } else {
+        member
+    }
+}

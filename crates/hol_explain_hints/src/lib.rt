@@ -1,0 +1,32 @@
+//! What is said of a refused command, from its words, terms, theorems and goals, and where in the script: `hol_explain` asks
+//! the proof manager for them. No promise stands on it.
+#![tactic(auto)]
+
+mod arguments;
+mod case;
+mod conversions;
+mod expressions;
+mod goals;
+mod misfits;
+mod names;
+mod parts;
+mod place;
+mod quoted;
+mod refused;
+mod report;
+mod rules;
+mod said;
+mod shapes;
+mod span;
+mod steps;
+mod unlike;
+
+pub use arguments::{Arguments, Premise, is_looked_up, span_of};
+pub use case::Case;
+pub use expressions::{command_of, first_member, has_misfit, next_joint, next_member, unwrapped};
+pub use goals::{Part, count_of_goals, of_part};
+pub use hol_explain_words::{Known, Message, NoMemory, Piece, between, given, no_command};
+pub use place::Place;
+pub use refused::{of_case, plain};
+pub use report::{told, unfinished};
+pub use span::Span;

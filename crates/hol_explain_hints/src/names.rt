@@ -1,0 +1,142 @@
+// Names that are unknown, or that a command may not make known.
+use crate::case::Case;
+use crate::said::Said::{Quoted, Text};
+use hol_explain_words::{
+    Kind, Known, Message, NoMemory, Piece, Unknown, is_among, is_before_theorem, line_of_pair,
+    unknown_name,
+};
+use std::alloc::Global;
+
+// Whether the name at a place in the list is that of a host's function.
+fn is_host_place(piece: &Piece<'_>, at: usize) -> bool {
+    at > 0 && piece.text(at.saturating_sub(1)) == "HOST"
+}
+
+// The last word before a place in the list that is no part of a list of names.
+fn word_before_list(piece: &Piece<'_>, at: usize) -> usize {
+    let mut before = at;
+    for _ in 0..at {
+        before = before.saturating_sub(1);
+        if piece.text(before) == "[" {
+            return before.saturating_sub(1);
+        }
+        if piece.kind(before) != Kind::Name && piece.text(before) != ";" {
+            return before;
+        }
+    }
+    before
+}
+
+// Whether the name at a place in the list is that of a theorem.
+fn is_theorem_place(piece: &Piece<'_>, at: usize) -> bool {
+    if at > 0 && is_before_theorem(piece.text(at.saturating_sub(1))) {
+        return true;
+    }
+    match piece.text(0) {
+        "show" => at == 1,
+        "thm" => at > 3 && piece.text(3) != "CONV",
+        "e" => piece.text(word_before_list(piece, at)) == "REWRITE_TAC",
+        _ => false,
+    }
+}
+
+// The name at a place in the list, where it is that of a theorem or of a host's function and is unknown.
+fn unknown_at<'a>(case: &Case<'a>, at: usize) -> Option<Unknown<'a>> {
+    let (said, names) = if is_host_place(case.piece, at) {
+        (
+            "the host has no function of this kind under",
+            case.host_names,
+        )
+    } else if is_theorem_place(case.piece, at) {
+        ("no theorem is stored under", case.known.theorems.as_slice())
+    } else {
+        return None;
+    };
+    let name = case.piece.text(at);
+    if is_among(names, name) {
+        return None;
+    }
+    Some(Unknown {
+        said,
+        name,
+        first: names,
+        second: &[],
+        otherwise: "",
+    })
+}
+
+/// The first name of a theorem or of a host's function that is unknown.
+pub(crate) fn in_names(case: &Case<'_>) -> Result<Option<Message>, NoMemory> {
+    for at in 1..case.piece.words.len() {
+        if case.piece.kind(at) == Kind::Name {
+            if let Some(unknown) = unknown_at(case, at) {
+                let message = unknown_name(case.alloc, case.piece.start(at), &unknown)?;
+                return Ok(Some(message));
+            }
+        }
+    }
+    Ok(None)
+}
+
+/// How many parentheses are open in a type behind a word, with one for the colon before it; none outside of types.
+pub(crate) fn type_depth(before: usize, word: &str) -> usize {
+    match word {
+        ":" if before == 0 => 1,
+        "(" if before > 0 => before.saturating_add(1),
+        ")" if before > 1 => before.saturating_sub(1),
+        ")" | "]" | "." => 0,
+        _ => before,
+    }
+}
+
+/// The first name in the types of a text that stands for none, from a word on; where `in_type`, the text is a type itself.
+pub(crate) fn unknown_type(
+    alloc: Global,
+    known: &Known,
+    piece: &Piece<'_>,
+    from: usize,
+    in_type: bool,
+) -> Result<Option<Message>, NoMemory> {
+    let mut depth = 0usize;
+    for at in from..piece.words.len() {
+        let name = piece.text(at);
+        let is_type = in_type || depth > 0;
+        if is_type && piece.kind(at) == Kind::Name && !known.is_type(name) {
+            let unknown = Unknown {
+                said: "no type is named",
+                name,
+                first: &known.types,
+                second: &[],
+                otherwise: "; `newtype` declares one, and a type variable begins with a capital letter",
+            };
+            return Ok(Some(unknown_name(alloc, piece.start(at), &unknown)?));
+        }
+        depth = type_depth(depth, name);
+    }
+    Ok(None)
+}
+
+// What is said behind a name that a command may not make known: by the refusal and the word of the command, or any word.
+const NEW_NAMES: &str = "\
+BadName thm : names of theorems that end in `_def` belong to definitions
+BadName save : names of theorems that end in `_def` belong to definitions
+BadName newtype  is no name of a declared type, which begins with a small letter and is not `bool`
+BadName #any  is no name of a constant
+NameTaken thm  is the name of a theorem that is stored already, and stays its name
+NameTaken save  is the name of a theorem that is stored already, and stays its name
+NameTaken #any  is taken, or a theorem is stored under it with `_def` behind it
+AlreadyDefined #any  is the name of a constant or a type already
+TypeVarsNotReflected newconst  is declared at a type with type variables, and a declared constant has none";
+
+/// What is said of a name that a command makes, where that is refused.
+pub(crate) fn at_new_name(case: &Case<'_>) -> Result<Option<Message>, NoMemory> {
+    let fault = case.fault.name();
+    let said = match line_of_pair(NEW_NAMES, fault, case.piece.text(0)) {
+        Some(said) => said,
+        None => match line_of_pair(NEW_NAMES, fault, "#any") {
+            Some(said) => said,
+            None => return Ok(None),
+        },
+    };
+    case.say(1, &[Quoted(case.piece.text(1)), Text(said)])
+}

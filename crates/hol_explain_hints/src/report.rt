@@ -1,0 +1,40 @@
+// Lines that tell what is said of a refusal, and where.
+use crate::place::Place;
+use hol_explain_words::{Message, NoMemory, Piece, between};
+use hol_model::Fault;
+use std::alloc::Global;
+
+/// The place in the script, the number and the name of a refusal, and what is said of it.
+pub fn told(
+    alloc: Global,
+    file: &str,
+    place: &Place,
+    fault: &Fault,
+    message: &Message,
+) -> Result<String, NoMemory> {
+    let line = place.line;
+    let column = place.column;
+    let number = fault.number();
+    let name = fault.name();
+    let said = message.text.as_str();
+    let mut text = String::new(alloc);
+    write!(text, "{file}:{line}:{column}: E{number} {name}: {said}\n")?;
+    Ok(text)
+}
+
+/// What is said of a rest without a mark behind it, which begins at a place.
+pub fn unfinished(
+    alloc: Global,
+    file: &str,
+    rest: &[u8],
+    place: &Place,
+) -> Result<String, NoMemory> {
+    let piece = Piece::new(alloc, rest)?;
+    let here = place.behind(between(rest, 0, piece.start(0)));
+    let message = Message::new(
+        alloc,
+        0,
+        "a command ends with `;;`, and here the script ends before one",
+    )?;
+    told(alloc, file, &here, &Fault::Syntax, &message)
+}

@@ -1,0 +1,252 @@
+// Which entries of a journal the log of some theorems needs.
+ghost use Rattle.std.specs.Prelude.{◌≡◌, ◌<◌, ℕ, List, [], ◌∷◌, ◌++◌, length, slice_get, Some, IfOk, IfErr, OnOk};
+ghost use Rattle.std.specs.List.{flat_map};
+ghost use Rattle.hol_model.specs.Logic.Derivable.{IsMember};
+ghost use Rattle.hol_model.specs.declared.fault.Fault.TheVariants.{Memory};
+ghost use Rattle.hol_journal.specs.Steps as steps;
+ghost use Rattle.hol_journal.specs.Steps.{terms_of, types_of, both_parts};
+ghost use Rattle.hol_journal.specs.Views.{step_of, entry_of, entries_of};
+ghost use Rattle.hol_journal_log.specs.Needed.{names_in_type, names_in_term, names_in, introduced_by, MarksNeeded, StandOnEarlier};
+ghost use Rattle.hol_journal_log.specs.Marking as marking;
+ghost use Rattle.hol_journal_log.specs.Marking.{Marks, Notes, held_names, IsMarkedFrom};
+
+use hol_journal::entry::{Entry, Rule};
+use hol_model::Fault;
+use hol_terms::{Parts, Term};
+use hol_types::{Ty, TypeParts};
+use indexmap::IndexSet;
+use std::alloc::Global;
+
+/// Which entries are needed for the theorems of the claimed entries.
+pub(crate) fn needed(
+    alloc: Global,
+    entries: &[Entry],
+    claimed: &[usize],
+) -> Result<Vec<bool>, Fault>
+    requires earlier { StandOnEarlier (entries_of entries.now) }
+    requires within { (number : ℕ) → IsMember number claimed.now → number < length entries.now }
+    ensures ok { IfOk result (λ marks. MarksNeeded (entries_of entries.now) claimed.now marks.items) }
+    ensures err { IfErr result (λ fault. fault ≡ Memory) }
+{
+    let mut marks = marks_of(alloc, entries.len(), claimed)?;
+    let mut names = IndexSet::new(alloc);
+    match mark_all(entries, claimed, &mut marks, &mut names) {
+        Ok(()) => Ok(marks),
+        Err(fault) => Err(fault),
+    }
+}
+
+// So many marks, of which those of these numbers are set.
+fn marks_of(alloc: Global, count: usize, numbers: &[usize]) -> Result<Vec<bool>, Fault>
+    requires { (number : ℕ) → IsMember number numbers.now → number < count }
+    ensures count { IfOk result (λ marks. length marks.items ≡ count) }
+    ensures set { IfOk result (λ marks. marking.AreMarked marks.items numbers.now) }
+    ensures err { IfErr result (λ fault. fault ≡ Memory) }
+{
+    let mut marks = vec![in alloc; false; count]?;
+    for number in numbers {
+        mark(*number, &mut marks);
+    }
+    Ok(marks)
+}
+
+// Marks the needed entries, from the newest back.
+fn mark_all<'a>(
+    entries: &'a [Entry],
+    claimed: &[usize],
+    marks: &mut Vec<bool>,
+    names: &mut IndexSet<&'a str>,
+) -> Result<(), Fault>
+    requires earlier { StandOnEarlier (entries_of entries.now) }
+    requires begun { IsMarkedFrom (entries_of entries.now) claimed.now (length entries.now) marks.old.items (held_names names.old.keys) }
+    ensures ok { OnOk result (IsMarkedFrom (entries_of entries.now) claimed.now 0 marks.new.items (held_names names.new.keys)) }
+    ensures err { IfErr result (λ fault. fault ≡ Memory) }
+{
+    for behind in 0..entries.len() {
+        let at = entries.len() - 1 - behind;
+        mark_entry(&entries[at], at, marks, names)?;
+    }
+    Ok(())
+}
+
+// Marks an entry, where it is needed, and what it needs.
+fn mark_entry<'a>(
+    entry: &'a Entry,
+    place: usize,
+    marks: &mut Vec<bool>,
+    names: &mut IndexSet<&'a str>,
+) -> Result<(), Fault>
+    requires place { place < length marks.old.items }
+    requires within { marking.CitesWithin (entry_of entry.now) (length marks.old.items) }
+    ensures ok { OnOk result (marking.IsEntryMarked place (entry_of entry.now) marks.old.items (held_names names.old.keys) marks.new.items (held_names names.new.keys)) }
+    ensures err { IfErr result (λ fault. fault ≡ Memory) }
+{
+    if !is_reached(entry, place, marks, names) {
+        return Ok(());
+    }
+    mark(place, marks);
+    mark_parts(entry, marks, names)
+}
+
+// Marks what an entry cites, and notes the names that it mentions.
+fn mark_parts<'a>(
+    entry: &'a Entry,
+    marks: &mut Vec<bool>,
+    names: &mut IndexSet<&'a str>,
+) -> Result<(), Fault>
+    requires { marking.CitesWithin (entry_of entry.now) (length marks.old.items) }
+    ensures marked { Marks marks.old.items marks.new.items (marking.cited_by (entry_of entry.now)) }
+    ensures noted { OnOk result (Notes (held_names names.old.keys) (held_names names.new.keys) (names_in (entry_of entry.now))) }
+    ensures err { IfErr result (λ fault. fault ≡ Memory) }
+{
+    match entry {
+        Entry::Derived(rule, _) => {
+            mark_cited(rule, marks);
+            note_rule(rule, names)
+        }
+        Entry::Defined(_, term) => note_term(term, names),
+        Entry::DeclaredType(_) => Ok(()),
+        Entry::DeclaredConstant(_, ty) => note_type(ty, names),
+    }
+}
+
+// Whether the entry is marked or introduces a noted name.
+fn is_reached(entry: &Entry, place: usize, marks: &[bool], names: &IndexSet<&str>) -> bool
+    requires { place < length marks.now }
+    ensures { result ≡ marking.is_reached place (entry_of entry.now) marks.now (held_names names.now.keys) }
+{
+    if marks[place] {
+        return true;
+    }
+    is_noted(names, entry)
+}
+
+// Whether the entry introduces a noted name.
+fn is_noted(names: &IndexSet<&str>, entry: &Entry) -> bool
+    ensures { result ≡ marking.is_noted (held_names names.now.keys) (introduced_by (entry_of entry.now)) }
+{
+    match entry {
+        Entry::Derived(_, _) => false,
+        Entry::Defined(name, _) => names.contains(&name.as_str()),
+        Entry::DeclaredType(name) => names.contains(&name.as_str()),
+        Entry::DeclaredConstant(name, _) => names.contains(&name.as_str()),
+    }
+}
+
+// Marks the entries that a rule cites.
+fn mark_cited(rule: &Rule, marks: &mut Vec<bool>)
+    requires { (number : ℕ) → IsMember number (steps.entries_of (step_of rule.now)) → number < length marks.old.items }
+    ensures { Marks marks.old.items marks.new.items (steps.entries_of (step_of rule.now)) }
+{
+    match rule {
+        Rule::Trans(first, second) => mark_both(*first, *second, marks),
+        Rule::MkComb(first, second) => mark_both(*first, *second, marks),
+        Rule::EqMp(first, second) => mark_both(*first, *second, marks),
+        Rule::DeductAntisym(first, second) => mark_both(*first, *second, marks),
+        Rule::Abs(_, theorem) => mark(*theorem, marks),
+        Rule::Inst(theorem, _) => mark(*theorem, marks),
+        Rule::InstType(theorem, _) => mark(*theorem, marks),
+        _ => {}
+    }
+}
+
+fn mark(number: usize, marks: &mut Vec<bool>)
+    requires { number < length marks.old.items }
+    ensures { Marks marks.old.items marks.new.items (number ∷ []) }
+{
+    marks[number] = true;
+}
+
+fn mark_both(first: usize, second: usize, marks: &mut Vec<bool>)
+    requires first { first < length marks.old.items }
+    requires second { second < length marks.old.items }
+    ensures { Marks marks.old.items marks.new.items (first ∷ second ∷ []) }
+{
+    mark(first, marks);
+    mark(second, marks);
+}
+
+fn note<'a>(name: &'a str, names: &mut IndexSet<&'a str>) -> Result<(), Fault>
+    ensures ok { OnOk result (Notes (held_names names.old.keys) (held_names names.new.keys) (name.now ∷ [])) }
+    ensures err { IfErr result (λ fault. fault ≡ Memory) }
+{
+    names.insert(name)?;
+    Ok(())
+}
+
+fn note_type<'a>(ty: &'a Ty, names: &mut IndexSet<&'a str>) -> Result<(), Fault>
+    ensures ok { OnOk result (Notes (held_names names.old.keys) (held_names names.new.keys) (names_in_type ty.now)) }
+    ensures err { IfErr result (λ fault. fault ≡ Memory) }
+{
+    match ty.parts() {
+        TypeParts::Variable(_) | TypeParts::Bool => Ok(()),
+        TypeParts::Function(domain, codomain) => {
+            note_type(domain, names)?;
+            note_type(codomain, names)
+        }
+        TypeParts::Declared(name) => note(name, names),
+    }
+}
+
+fn note_term<'a>(term: &'a Term, names: &mut IndexSet<&'a str>) -> Result<(), Fault>
+    ensures ok { OnOk result (Notes (held_names names.old.keys) (held_names names.new.keys) (names_in_term term.now)) }
+    ensures err { IfErr result (λ fault. fault ≡ Memory) }
+{
+    match term.parts() {
+        Parts::Variable(_, ty) => note_type(ty, names),
+        Parts::Constant(name, ty) => {
+            note(name, names)?;
+            note_type(ty, names)
+        }
+        Parts::Combination(function, argument) => {
+            note_term(function, names)?;
+            note_term(argument, names)
+        }
+        Parts::Abstraction(_, ty, body) => {
+            note_type(ty, names)?;
+            note_term(body, names)
+        }
+    }
+}
+
+fn note_term_pairs<'a>(
+    pairs: &'a [(Term, Term)],
+    names: &mut IndexSet<&'a str>,
+) -> Result<(), Fault>
+    ensures ok { OnOk result (Notes (held_names names.old.keys) (held_names names.new.keys) (flat_map names_in_term (both_parts pairs.now))) }
+    ensures err { IfErr result (λ fault. fault ≡ Memory) }
+{
+    for pair in pairs {
+        note_term(&pair.0, names)?;
+        note_term(&pair.1, names)?;
+    }
+    Ok(())
+}
+
+fn note_type_pairs<'a>(pairs: &'a [(Ty, Ty)], names: &mut IndexSet<&'a str>) -> Result<(), Fault>
+    ensures ok { OnOk result (Notes (held_names names.old.keys) (held_names names.new.keys) (flat_map names_in_type (both_parts pairs.now))) }
+    ensures err { IfErr result (λ fault. fault ≡ Memory) }
+{
+    for pair in pairs {
+        note_type(&pair.0, names)?;
+        note_type(&pair.1, names)?;
+    }
+    Ok(())
+}
+
+// Notes the names in the terms and types of a rule.
+fn note_rule<'a>(rule: &'a Rule, names: &mut IndexSet<&'a str>) -> Result<(), Fault>
+    ensures ok { OnOk result (Notes (held_names names.old.keys) (held_names names.new.keys)
+        (flat_map names_in_term (terms_of (step_of rule.now)) ++ flat_map names_in_type (types_of (step_of rule.now)))) }
+    ensures err { IfErr result (λ fault. fault ≡ Memory) }
+{
+    match rule {
+        Rule::Refl(term) => note_term(term, names),
+        Rule::Abs(binder, _) => note_term(binder, names),
+        Rule::Beta(term) => note_term(term, names),
+        Rule::Assume(term) => note_term(term, names),
+        Rule::Inst(_, pairs) => note_term_pairs(pairs, names),
+        Rule::InstType(_, pairs) => note_type_pairs(pairs, names),
+        _ => Ok(()),
+    }
+}

@@ -1,0 +1,118 @@
+// The pruned log of a journal.
+ghost use Rattle.std.specs.Prelude.{◌≡◌, length, map, IfOk, IfErr, OnOk};
+ghost use Rattle.hol_model.specs.declared.fault.Fault.TheVariants.{Memory};
+ghost use Rattle.hol_logtext.specs.Lines.{line_of};
+ghost use Rattle.hol_journal_log.specs.Claims.{claims_of};
+ghost use Rattle.hol_journal_log.specs.LogWriting.{nothing_written, log_written, log_lines};
+ghost use Rattle.hol_journal_log.specs.Pruning.{IsPruned, AreMade, AreFitting, HaveIdentifiers, HasNames, entries_of_claims};
+ghost use Rattle.hol_journal_log.specs.LogAccepted.{IsAccepted};
+ghost use Rattle.hol_journal.specs.Views.{entries_of};
+ghost use Rattle.hol_journal_log.specs.Writer.{written};
+
+use crate::claim::Claim;
+use crate::fitting::formulas_fit;
+use crate::log_laws::journal_logs_are_accepted;
+use crate::needed::needed;
+use crate::writer::Writer;
+use hol_journal::Recorder;
+use hol_journal::entry::Entry;
+use hol_logtext::Line;
+use hol_model::Fault;
+use std::alloc::Global;
+
+/// The log of the claims: the lines of the entries that they need, and of the claims. Where each claim's name is an
+/// identifier, the log is accepted, over entries of the recorder's theory.
+pub fn pruned<'a>(
+    recorder: &'a Recorder,
+    alloc: Global,
+    claims: &[Claim<'a>],
+) -> Result<Vec<Line<'a>>, Fault>
+    requires { AreMade recorder.now (claims_of claims.now) }
+    ensures lines { IfOk result (λ lines. IsPruned recorder.now (claims_of claims.now) (map line_of lines.items)) }
+    ensures named { IfOk result (λ lines. HasNames (map line_of lines.items)) }
+    ensures accepted { HaveIdentifiers (claims_of claims.now) → IfOk result (λ lines. IsAccepted recorder.now.theory (map line_of lines.items) (claims_of claims.now)) }
+    ensures err { IfErr result (λ fault. fault ≡ Memory) }
+{
+    let _entries = recorder.stored();
+    journal_logs_are_accepted();
+    claims_fit(claims);
+    claims_log(recorder, alloc, claims)
+}
+
+fn claims_log<'a>(
+    recorder: &'a Recorder,
+    alloc: Global,
+    claims: &[Claim<'a>],
+) -> Result<Vec<Line<'a>>, Fault>
+    requires { AreMade recorder.now (claims_of claims.now) }
+    ensures lines { IfOk result (λ lines. IsPruned recorder.now (claims_of claims.now) (map line_of lines.items)) }
+    ensures named { IfOk result (λ lines. HasNames (map line_of lines.items)) }
+    ensures err { IfErr result (λ fault. fault ≡ Memory) }
+{
+    let Some(entries) = recorder.stored() else {
+        return Err(Fault::Memory);
+    };
+    let cited = cited_entries(alloc, claims)?;
+    let marks = needed(alloc, entries, &cited)?;
+    log(alloc, entries, &marks, claims)
+}
+
+// The theorems of claims are theorems, of formulas within the limits.
+fn claims_fit(claims: &[Claim<'_>])
+    ensures { AreFitting (claims_of claims.now) }
+{
+    for at in 0..claims.len() {
+        let claim = &claims[at];
+        formulas_fit(claim.theorem.theorem());
+    }
+}
+
+// The numbers of the entries of claims.
+fn cited_entries(alloc: Global, claims: &[Claim<'_>]) -> Result<Vec<usize>, Fault>
+    ensures ok { IfOk result (λ numbers. numbers.items ≡ entries_of_claims (claims_of claims.now)) }
+    ensures err { IfErr result (λ fault. fault ≡ Memory) }
+{
+    let mut numbers = Vec::new(alloc);
+    for at in 0..claims.len() {
+        let claim = &claims[at];
+        numbers.push(claim.theorem.entry())?;
+    }
+    Ok(numbers)
+}
+
+// The log of the marked entries and the claims.
+fn log<'a>(
+    alloc: Global,
+    entries: &'a [Entry],
+    marks: &[bool],
+    claims: &[Claim<'a>],
+) -> Result<Vec<Line<'a>>, Fault>
+    requires { length marks.now ≡ length entries.now }
+    ensures lines { IfOk result (λ lines. map line_of lines.items ≡ log_lines (entries_of entries.now) marks.now (claims_of claims.now)) }
+    ensures named { IfOk result (λ lines. HasNames (map line_of lines.items)) }
+    ensures err { IfErr result (λ fault. fault ≡ Memory) }
+{
+    let mut writer = Writer::new(alloc);
+    match write_log(alloc, entries, marks, claims, &mut writer) {
+        Ok(()) => writer.finish(claims.len()),
+        Err(fault) => Err(fault),
+    }
+}
+
+// Writes the marked entries and the claims.
+fn write_log<'a>(
+    alloc: Global,
+    entries: &'a [Entry],
+    marks: &[bool],
+    claims: &[Claim<'a>],
+    writer: &mut Writer<'a>,
+) -> Result<(), Fault>
+    requires begun { written writer.old ≡ nothing_written }
+    requires one_each { length marks.now ≡ length entries.now }
+    ensures ok { OnOk result (written writer.new ≡ log_written (entries_of entries.now) marks.now (claims_of claims.now)) }
+    ensures named { OnOk result (HasNames (written writer.new).lines) }
+    ensures err { IfErr result (λ fault. fault ≡ Memory) }
+{
+    writer.write_entries(alloc, entries, marks)?;
+    writer.write_claims(alloc, claims)
+}

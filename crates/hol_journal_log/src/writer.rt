@@ -1,0 +1,456 @@
+// The lines of a log, as they are written.
+ghost use Rattle.std.specs.Prelude.{◌≡◌, ◌+◌, length, List, [], ◌∷◌, ◌++◌, nat_eq, map, IfOk, IfErr, OnOk, IsTrue, IsFalse};
+ghost use Rattle.std.specs.List.{list_any};
+ghost use Rattle.hol_model.specs.Terms.NamedTerm.{NamedTerm};
+ghost use Rattle.hol_model.specs.Logs.LogLine.LogLine.{header_line, theorem_line, end_line};
+ghost use Rattle.hol_model.specs.Logs.LogLine.LogVersion.{second_version};
+ghost use Rattle.hol_model.specs.declared.fault.Fault.TheVariants.{Memory};
+ghost use Rattle.hol_logtext.specs.Lines.{line_of, rule_of};
+ghost use Rattle.hol_journal.specs.Steps.{both_parts};
+ghost use Rattle.hol_journal.specs.Views.{step_of, entry_of, entries_of};
+ghost use Rattle.hol_journal_log.specs.LogWriting as log;
+ghost use Rattle.hol_journal_log.specs.LogWriting.{Written, Claimed, nothing_written, number_of_entry, with_line};
+ghost use Rattle.hol_model.specs.Terms.NamedTerm.{variable};
+ghost use Rattle.hol_model.specs.Terms.Name.{is_identifier};
+ghost use Rattle.hol_journal_log.specs.LogAccepted.{has_name};
+ghost use Rattle.hol_journal_log.specs.Writing.{KeepsNames, StandBelow, write_marked, AreTypesWritten, AreTermsWritten, IsStepWritten, IsTypeLineWritten, IsTermLineWritten, IsTypeWritten, IsTermWritten};
+ghost use Rattle.hol_journal_log.specs.Claims.{claims_of};
+ghost use Rattle.hol_journal_log.specs.Writer.{line_of_type, line_of_term, written};
+
+use crate::claim::Claim;
+use hol_journal::entry::{Entry, Rule};
+use hol_kernel::Thm;
+use hol_logtext::{Line, Rule as LogRule, Version};
+use hol_model::Fault;
+use hol_terms::{Parts, Term};
+use hol_types::{Ty, TypeParts};
+use indexmap::IndexSet;
+use std::alloc::Global;
+
+/// The line of a type, whose parts are named by the numbers of their lines.
+#[derive(Clone, Copy, PartialEq, Eq, Hash)]
+pub(crate) enum TypeLine<'a> {
+    Variable(&'a str),
+    Bool,
+    Function(u32, u32),
+    Declared(&'a str),
+}
+
+/// The line of a term, whose parts are named by the numbers of their lines.
+#[derive(Clone, Copy, PartialEq, Eq, Hash)]
+pub(crate) enum TermLine<'a> {
+    Variable(&'a str, u32),
+    Constant(&'a str, u32),
+    Combination(u32, u32),
+    Abstraction(u32, u32),
+}
+
+impl<'a> TypeLine<'a> {
+    fn line(self) -> Line<'a>
+        ensures { line_of result ≡ line_of_type self.entry }
+    {
+        match self {
+            TypeLine::Variable(name) => Line::TypeVariable(name),
+            TypeLine::Bool => Line::Bool,
+            TypeLine::Function(domain, codomain) => Line::FunctionType(domain, codomain),
+            TypeLine::Declared(name) => Line::DeclaredType(name),
+        }
+    }
+}
+
+impl<'a> TermLine<'a> {
+    fn line(self) -> Line<'a>
+        ensures { line_of result ≡ line_of_term self.entry }
+    {
+        match self {
+            TermLine::Variable(name, ty) => Line::Variable(name, ty),
+            TermLine::Constant(name, ty) => Line::Constant(name, ty),
+            TermLine::Combination(function, argument) => Line::Combination(function, argument),
+            TermLine::Abstraction(binder, body) => Line::Abstraction(binder, body),
+        }
+    }
+}
+
+/// The lines of a log so far. The places of types, terms and theorems are their numbers.
+#[derive(Drop)]
+pub(crate) struct Writer<'a> {
+    types: IndexSet<TypeLine<'a>>,
+    terms: IndexSet<TermLine<'a>>,
+    // The entries whose theorems have lines.
+    theorems: IndexSet<usize>,
+    lines: Vec<Line<'a>>,
+}
+
+// A place as a number of a log.
+fn number(place: usize) -> Result<u32, Fault>
+    ensures ok { IfOk result (λ number. number ≡ place) }
+    ensures err { IfErr result (λ fault. fault ≡ Memory) }
+{
+    match u32::try_from(place) {
+        Ok(number) => Ok(number),
+        Err(_) => Err(Fault::Memory),
+    }
+}
+
+impl<'a> Writer<'a> {
+    /// Nothing is written.
+    pub(crate) fn new(alloc: Global) -> Writer<'a>
+        ensures { written result ≡ nothing_written }
+    {
+        Writer {
+            types: IndexSet::new(alloc),
+            terms: IndexSet::new(alloc),
+            theorems: IndexSet::new(alloc),
+            lines: Vec::new(alloc),
+        }
+    }
+
+    // Puts the line of a type, unless it is there.
+    fn put_type(&mut self, line: TypeLine<'a>) -> Result<u32, Fault>
+        requires { IsTrue (has_name (line_of_type line)) }
+        ensures ok { IfOk result (IsTypeLineWritten (written self.old) (written self.new) (line_of_type line.entry)) }
+        ensures named { OnOk result (KeepsNames (written self.old) (written self.new)) }
+        ensures err { IfErr result (λ fault. fault ≡ Memory) }
+    {
+        let (place, is_new) = self.types.insert_full(line)?;
+        if !is_new {
+            return number(place);
+        }
+        self.lines.push(line.line())?;
+        number(place)
+    }
+
+    // Puts the line of a term, unless it is there.
+    fn put_term(&mut self, line: TermLine<'a>) -> Result<u32, Fault>
+        requires { IsTrue (has_name (line_of_term line)) }
+        ensures ok { IfOk result (IsTermLineWritten (written self.old) (written self.new) (line_of_term line.entry)) }
+        ensures named { OnOk result (KeepsNames (written self.old) (written self.new)) }
+        ensures err { IfErr result (λ fault. fault ≡ Memory) }
+    {
+        let (place, is_new) = self.terms.insert_full(line)?;
+        if !is_new {
+            return number(place);
+        }
+        self.lines.push(line.line())?;
+        number(place)
+    }
+
+    // Writes a type.
+    fn type_number(&mut self, ty: &'a Ty) -> Result<u32, Fault>
+        ensures ok { IfOk result (IsTypeWritten (written self.old) (written self.new) ty.now) }
+        ensures named { OnOk result (KeepsNames (written self.old) (written self.new)) }
+        ensures err { IfErr result (λ fault. fault ≡ Memory) }
+    {
+        match ty.parts() {
+            TypeParts::Variable(name) => self.put_type(TypeLine::Variable(name)),
+            TypeParts::Bool => self.put_type(TypeLine::Bool),
+            TypeParts::Function(domain, codomain) => {
+                let domain = self.type_number(domain)?;
+                let codomain = self.type_number(codomain)?;
+                self.put_type(TypeLine::Function(domain, codomain))
+            }
+            TypeParts::Declared(name) => self.put_type(TypeLine::Declared(name)),
+        }
+    }
+
+    // Writes a term.
+    fn term_number(&mut self, term: &'a Term) -> Result<u32, Fault>
+        ensures ok { IfOk result (IsTermWritten (written self.old) (written self.new) term.now) }
+        ensures named { OnOk result (KeepsNames (written self.old) (written self.new)) }
+        ensures err { IfErr result (λ fault. fault ≡ Memory) }
+    {
+        match term.parts() {
+            Parts::Variable(name, ty) => self.variable_number(name, ty),
+            Parts::Constant(name, ty) => {
+                let ty = self.type_number(ty)?;
+                self.put_term(TermLine::Constant(name, ty))
+            }
+            Parts::Combination(function, argument) => {
+                let function = self.term_number(function)?;
+                let argument = self.term_number(argument)?;
+                self.put_term(TermLine::Combination(function, argument))
+            }
+            Parts::Abstraction(name, ty, body) => {
+                let binder = self.variable_number(name, ty)?;
+                let body = self.term_number(body)?;
+                self.put_term(TermLine::Abstraction(binder, body))
+            }
+        }
+    }
+
+    // Writes a variable.
+    fn variable_number(&mut self, name: &'a str, ty: &'a Ty) -> Result<u32, Fault>
+        requires { IsTrue (is_identifier name.now) }
+        ensures ok { IfOk result (IsTermWritten (written self.old) (written self.new) (variable name.now ty.now)) }
+        ensures named { OnOk result (KeepsNames (written self.old) (written self.new)) }
+        ensures err { IfErr result (λ fault. fault ≡ Memory) }
+    {
+        let ty = self.type_number(ty)?;
+        self.put_term(TermLine::Variable(name, ty))
+    }
+
+    // The number of the theorem of an entry.
+    fn theorem_number(&self, entry: usize) -> Result<u32, Fault>
+        ensures ok { IfOk result (λ number. number ≡ number_of_entry (written self.now) entry) }
+        ensures err { IfErr result (λ fault. fault ≡ Memory) }
+    {
+        match self.theorems.get_index_of(&entry) {
+            Some(place) => number(place),
+            None => number(self.theorems.len()),
+        }
+    }
+
+    // Writes terms, from left to right.
+    fn term_numbers(&mut self, terms: &'a [Term], numbers: &mut Vec<u32>) -> Result<(), Fault>
+        ensures ok { (old : Written) (before : List NamedTerm) → AreTermsWritten old (written self.old) before numbers.old.items
+            → OnOk result (AreTermsWritten old (written self.new) (before ++ terms.now) numbers.new.items) }
+        ensures named { OnOk result (KeepsNames (written self.old) (written self.new)) }
+        ensures err { IfErr result (λ fault. fault ≡ Memory) }
+    {
+        for term in terms {
+            let number = self.term_number(term)?;
+            numbers.push(number)?;
+        }
+        Ok(())
+    }
+
+    // Writes pairs of terms, from left to right.
+    fn term_pairs(
+        &mut self,
+        alloc: Global,
+        pairs: &'a [(Term, Term)],
+    ) -> Result<Vec<(u32, u32)>, Fault>
+        ensures ok { IfOk result (λ numbers. AreTermsWritten (written self.old) (written self.new) (both_parts pairs.now) (both_parts numbers.items)) }
+        ensures named { OnOk result (KeepsNames (written self.old) (written self.new)) }
+        ensures err { IfErr result (λ fault. fault ≡ Memory) }
+    {
+        let mut numbers = Vec::new(alloc);
+        for pair in pairs {
+            let new = self.term_number(&pair.0)?;
+            let old = self.term_number(&pair.1)?;
+            numbers.push((new, old))?;
+        }
+        Ok(numbers)
+    }
+
+    // Writes pairs of types, from left to right.
+    fn type_pairs(&mut self, alloc: Global, pairs: &'a [(Ty, Ty)]) -> Result<Vec<(u32, u32)>, Fault>
+        ensures ok { IfOk result (λ numbers. AreTypesWritten (written self.old) (written self.new) (both_parts pairs.now) (both_parts numbers.items)) }
+        ensures named { OnOk result (KeepsNames (written self.old) (written self.new)) }
+        ensures err { IfErr result (λ fault. fault ≡ Memory) }
+    {
+        let mut numbers = Vec::new(alloc);
+        for pair in pairs {
+            let new = self.type_number(&pair.0)?;
+            let old = self.type_number(&pair.1)?;
+            numbers.push((new, old))?;
+        }
+        Ok(numbers)
+    }
+
+    // The rule of a step over two theorems.
+    fn theorem_pair(&self, first: usize, second: usize) -> Result<(u32, u32), Fault>
+        ensures ok { IfOk result (λ pair. pair ≡ (number_of_entry (written self.now) first, number_of_entry (written self.now) second)) }
+        ensures err { IfErr result (λ fault. fault ≡ Memory) }
+    {
+        let first = self.theorem_number(first)?;
+        let second = self.theorem_number(second)?;
+        Ok((first, second))
+    }
+
+    // Writes what a step names.
+    fn step(&mut self, alloc: Global, rule: &'a Rule) -> Result<LogRule<'a>, Fault>
+        ensures ok { IfOk result (λ line. IsStepWritten (written self.old) (written self.new) (step_of rule.now) (rule_of line)) }
+        ensures named { OnOk result (KeepsNames (written self.old) (written self.new)) }
+        ensures err { IfErr result (λ fault. fault ≡ Memory) }
+    {
+        match rule {
+            Rule::Refl(term) => {
+                let term = self.term_number(term)?;
+                Ok(LogRule::Refl(term))
+            }
+            Rule::Trans(first, second) => {
+                let (first, second) = self.theorem_pair(*first, *second)?;
+                Ok(LogRule::Trans(first, second))
+            }
+            Rule::MkComb(first, second) => {
+                let (first, second) = self.theorem_pair(*first, *second)?;
+                Ok(LogRule::MkComb(first, second))
+            }
+            Rule::Abs(binder, theorem) => {
+                let binder = self.term_number(binder)?;
+                let theorem = self.theorem_number(*theorem)?;
+                Ok(LogRule::Abs(binder, theorem))
+            }
+            Rule::Beta(term) => {
+                let term = self.term_number(term)?;
+                Ok(LogRule::Beta(term))
+            }
+            Rule::Assume(term) => {
+                let term = self.term_number(term)?;
+                Ok(LogRule::Assume(term))
+            }
+            Rule::EqMp(first, second) => {
+                let (first, second) = self.theorem_pair(*first, *second)?;
+                Ok(LogRule::EqMp(first, second))
+            }
+            Rule::DeductAntisym(first, second) => {
+                let (first, second) = self.theorem_pair(*first, *second)?;
+                Ok(LogRule::Deduct(first, second))
+            }
+            Rule::Inst(theorem, pairs) => {
+                let pairs = self.term_pairs(alloc, pairs)?;
+                let theorem = self.theorem_number(*theorem)?;
+                Ok(LogRule::Inst(theorem, pairs))
+            }
+            Rule::InstType(theorem, pairs) => {
+                let pairs = self.type_pairs(alloc, pairs)?;
+                let theorem = self.theorem_number(*theorem)?;
+                Ok(LogRule::InstType(theorem, pairs))
+            }
+            Rule::Eta => Ok(LogRule::Eta),
+            Rule::Select => Ok(LogRule::Select),
+        }
+    }
+
+    // Puts the line of the theorem of an entry.
+    fn put_theorem(&mut self, entry: usize, line: LogRule<'a>) -> Result<(), Fault>
+        requires { IsFalse (list_any (nat_eq entry) (written self.old).theorems) }
+        ensures ok { OnOk result (written self.new ≡ record (written self.old)
+            { theorems = (written self.old).theorems ++ entry ∷ []; lines = (written self.old).lines ++ theorem_line (rule_of line.entry) ∷ [] }) }
+        ensures named { OnOk result (KeepsNames (written self.old) (written self.new)) }
+        ensures err { IfErr result (λ fault. fault ≡ Memory) }
+    {
+        self.theorems.insert(entry)?;
+        self.lines.push(Line::Theorem(line))?;
+        Ok(())
+    }
+
+    // Puts a line that is neither that of a type nor that of a term.
+    fn put_line(&mut self, line: Line<'a>) -> Result<(), Fault>
+        requires { IsTrue (has_name (line_of line)) }
+        ensures ok { OnOk result (written self.new ≡ with_line (line_of line.entry) (written self.old)) }
+        ensures named { OnOk result (KeepsNames (written self.old) (written self.new)) }
+        ensures err { IfErr result (λ fault. fault ≡ Memory) }
+    {
+        self.lines.push(line)?;
+        Ok(())
+    }
+
+    // Writes an entry.
+    fn write_entry(&mut self, alloc: Global, number: usize, entry: &'a Entry) -> Result<(), Fault>
+        requires { IsFalse (list_any (nat_eq number) (written self.old).theorems) }
+        ensures ok { OnOk result (written self.new ≡ log.write_entry number (entry_of entry.now) (written self.old)) }
+        ensures named { OnOk result (KeepsNames (written self.old) (written self.new)) }
+        ensures err { IfErr result (λ fault. fault ≡ Memory) }
+    {
+        match entry {
+            Entry::Derived(rule, _) => {
+                let line = self.step(alloc, rule)?;
+                self.put_theorem(number, line)
+            }
+            Entry::Defined(name, term) => {
+                let term = self.term_number(term)?;
+                self.put_theorem(number, LogRule::Def(name.as_str(), term))
+            }
+            Entry::DeclaredType(name) => self.put_line(Line::NewType(name.as_str())),
+            Entry::DeclaredConstant(name, ty) => {
+                let ty = self.type_number(ty)?;
+                self.put_line(Line::NewConstant(name.as_str(), ty))
+            }
+        }
+    }
+
+    // Writes a name for the theorem of an entry.
+    fn write_claim(
+        &mut self,
+        alloc: Global,
+        name: &'a str,
+        theorem: &'a Thm,
+        entry: usize,
+    ) -> Result<(), Fault>
+        ensures ok { let claim : Claimed = record { name = name.now; made = record { theorem = theorem.now; entry = entry } } in
+            OnOk result (written self.new ≡ log.write_claim claim (written self.old)) }
+        ensures named { OnOk result (KeepsNames (written self.old) (written self.new)) }
+        ensures err { IfErr result (λ fault. fault ≡ Memory) }
+    {
+        let mut hypotheses = Vec::new(alloc);
+        let conclusion = self.term_number(theorem.concl())?;
+        self.term_numbers(theorem.hyps(), &mut hypotheses)?;
+        let theorem = self.theorem_number(entry)?;
+        self.put_line(Line::Claim(name, theorem, conclusion, hypotheses))
+    }
+
+    /// Writes the marked entries.
+    pub(crate) fn write_entries(
+        &mut self,
+        alloc: Global,
+        entries: &'a [Entry],
+        marks: &[bool],
+    ) -> Result<(), Fault>
+        requires begun { written self.old ≡ nothing_written }
+        requires one_each { length marks.now ≡ length entries.now }
+        ensures ok { OnOk result (written self.new ≡ log.write_entries 0 (entries_of entries.now) marks.now nothing_written) }
+        ensures named { OnOk result (KeepsNames (written self.old) (written self.new)) }
+        ensures err { IfErr result (λ fault. fault ≡ Memory) }
+    {
+        for at in 0..entries.len() {
+            self.write_marked(alloc, at, &entries[at], marks[at])?;
+        }
+        Ok(())
+    }
+
+    // Writes an entry if it is marked.
+    fn write_marked(
+        &mut self,
+        alloc: Global,
+        number: usize,
+        entry: &'a Entry,
+        mark: bool,
+    ) -> Result<(), Fault>
+        requires { StandBelow number (written self.old) }
+        ensures ok { OnOk result (written self.new ≡ write_marked number mark (entry_of entry.now) (written self.old)) }
+        ensures below { OnOk result (StandBelow (number + 1) (written self.new)) }
+        ensures named { OnOk result (KeepsNames (written self.old) (written self.new)) }
+        ensures err { IfErr result (λ fault. fault ≡ Memory) }
+    {
+        if !mark {
+            return Ok(());
+        }
+        self.write_entry(alloc, number, entry)
+    }
+
+    /// Writes claims.
+    pub(crate) fn write_claims(&mut self, alloc: Global, claims: &[Claim<'a>]) -> Result<(), Fault>
+        ensures ok { OnOk result (written self.new ≡ log.write_claims (claims_of claims.now) (written self.old)) }
+        ensures named { OnOk result (KeepsNames (written self.old) (written self.new)) }
+        ensures err { IfErr result (λ fault. fault ≡ Memory) }
+    {
+        for at in 0..claims.len() {
+            let claim = &claims[at];
+            self.write_claim(
+                alloc,
+                claim.name,
+                claim.theorem.theorem(),
+                claim.theorem.entry(),
+            )?;
+        }
+        Ok(())
+    }
+
+    /// The lines of the log, from the header to the end.
+    pub(crate) fn finish(self, claims: usize) -> Result<Vec<Line<'a>>, Fault>
+        ensures ok { IfOk result (λ lines. map line_of lines.items ≡ header_line second_version ∷ ((written self.entry).lines ++ end_line claims ∷ [])) }
+        ensures err { IfErr result (λ fault. fault ≡ Memory) }
+    {
+        let Writer {
+            types: _,
+            terms: _,
+            theorems: _,
+            mut lines,
+        } = self;
+        lines.insert(0, Line::Header(Version::Second))?;
+        lines.push(Line::End(number(claims)?))?;
+        Ok(lines)
+    }
+}

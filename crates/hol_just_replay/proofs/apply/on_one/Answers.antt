@@ -1,0 +1,20 @@
+use Rattle.hol_just_replay.proofs.DerivedRooms.{room-disch, room-disj1, room-disj2}
+use Rattle.hol_just_replay.proofs.QuantifierRooms.{room-spec, room-exists}
+use Rattle.hol_just_replay.proofs.apply.on_one.Goals as goal
+
+pub returns-in-Disch-clause-room : goal.returns-in-Disch-clause-room
+returns-in-Disch-clause-room c = rw c.in-Disch.is (room-disch c.ty-type-in-Disch.ensures c.disch.ensures.outcome)
+
+pub returns-in-Disj1-clause-room : goal.returns-in-Disj1-clause-room
+returns-in-Disj1-clause-room c = rw c.in-Disj1.is (room-disj1 c.ty-type-in-Disj1.ensures c.disj1.ensures.outcome)
+
+pub returns-in-Disj2-clause-room : goal.returns-in-Disj2-clause-room
+returns-in-Disj2-clause-room c = rw c.in-Disj2.is (room-disj2 c.ty-type-in-Disj2.ensures c.disj2.ensures.outcome)
+
+pub returns-in-Spec-clause-room : goal.returns-in-Spec-clause-room
+returns-in-Spec-clause-room c =
+    rw c.in-Spec.is (room-spec {journal = c.args.recorder.now} {logic = c.args.logic.now} c.requires.logic c.conclusion_of-premise.ensures.legal c.ty-type-in-Spec.ensures c.conclusion_of-premise.ensures.formula c.spec.ensures.outcome)
+
+pub returns-in-Exists-clause-room : goal.returns-in-Exists-clause-room
+returns-in-Exists-clause-room c =
+    rw c.in-Exists.is (room-exists {journal = c.args.recorder.now} {logic = c.args.logic.now} c.requires.logic c.conclusion_of-premise.ensures.legal c.ty-formula.ensures c.ty-witness.ensures c.exists.ensures.outcome)

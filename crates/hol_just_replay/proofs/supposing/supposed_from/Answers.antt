@@ -1,0 +1,27 @@
+use Rattle.std.proofs.Common.{List, subst, map, Err}
+use Rattle.hol_model.specs.Terms.NamedTerm.{NamedTerm}
+use Rattle.hol_model.specs.Terms.Nameless.{image}
+use Rattle.hol_model.specs.Logic.Theory.{Theory}
+use Rattle.hol_journal.specs.Journal.{theorem_in}
+use Rattle.hol_equal.specs.Inferred.{IsDrawn}
+use Rattle.hol_just.specs.Steps.{goal_of}
+use Rattle.hol_just_replay.specs.Accepting.{with_assumptions}
+use Rattle.hol_just_replay.proofs.SupposingLemmas.{contr-supposes}
+use Rattle.hol_just_replay.proofs.SupposingLemmas.{contr-fits, supposing-roomy}
+use Rattle.hol_just_replay.proofs.supposing.supposed_from.Goals as goal
+
+pub returns-clause-drawn : goal.returns-clause-drawn
+returns-clause-drawn c =
+    contr-supposes c.args.recorder.now.theory c.args.falsity.now.theorem (goal_of c.args.goal.now) c.in-Ok.theorem.theorem (theorem_in c.with_assumptions.result) c.requires.concludes c.in-Ok.ensures.inferred
+    (subst (λ (theory : Theory). IsDrawn (with_assumptions theory (map image c.in-Ok.theorem.theorem.hypotheses) (image c.in-Ok.theorem.theorem.conclusion) c.args.goal.now.asms.items) (theorem_in c.with_assumptions.result))
+    c.in-Ok.ensures.continues.theory
+    (subst (λ (assumptions : List NamedTerm). IsDrawn (with_assumptions c.contr.new.recorder.theory (map image c.in-Ok.theorem.theorem.hypotheses) (image c.in-Ok.theorem.theorem.conclusion) assumptions) (theorem_in c.with_assumptions.result))
+    c.deref.ensures.value c.with_assumptions.ensures.drawn))
+
+pub returns-in-Err-clause-fits : goal.returns-in-Err-clause-fits
+returns-in-Err-clause-fits c room = contr-fits c.args.recorder.now.theory c.args.falsity.now.theorem (goal_of c.args.goal.now) (Err c.in-Err.fault) c.in-Err.ensures.outcome room
+
+pub returns-clause-fits : goal.returns-clause-fits
+returns-clause-fits c room =
+    let roomy = supposing-roomy c.args.recorder.now.theory c.args.falsity.now.theorem c.in-Ok.theorem.theorem (goal_of c.args.goal.now) c.in-Ok.ensures.inferred room in
+    c.with_assumptions.ensures.fits roomy.0 (rw c.deref.ensures.value roomy.1)

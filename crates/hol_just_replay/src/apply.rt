@@ -1,0 +1,218 @@
+// A rule of inference on theorems.
+ghost use Rattle.std.specs.Prelude.{◌≡◌, ◌<◌, [], ◌∷◌, length, Err};
+ghost use Rattle.hol_model.specs.declared.fault.Fault.TheVariants.{InvalidStep};
+ghost use Rattle.hol_journal.specs.Journal.{IsMade, theorem_in};
+ghost use Rattle.hol_prelude.specs.HasLogic.{HasLogic};
+ghost use Rattle.hol_equal.specs.Sequents.{Continues};
+ghost use Rattle.hol_equal.specs.Inferred.{Infers};
+ghost use Rattle.hol_just.specs.Rules.{rule_of};
+ghost use Rattle.hol_just_replay.specs.Room.{FindsRoom};
+ghost use Rattle.hol_just_replay.specs.Outcomes.{AnswersBy, AreLent, lent_theorems};
+
+use crate::primitive;
+use hol_bool::{
+    conj, conjunct1, conjunct2, contr, disch, disj_cases, disj1, disj2, eqt_elim, eqt_intro, mp,
+    not_elim, not_intro, undisch,
+};
+use hol_equal::{add_assum, beta_conv, conclusion_of, prove_hyp, sym};
+use hol_journal::{Rec, Recorder};
+use hol_just::Rule;
+use hol_model::Fault;
+use hol_prelude::Bool;
+use hol_quant::{choose, exists, generalize, spec};
+use std::alloc::Global;
+
+// The refusal of a rule that takes another number of premises.
+fn refuse(recorder: &mut Recorder) -> Result<Rec, Fault>
+    ensures continues { Continues recorder.old recorder.new result }
+    ensures refused { result ≡ Err InvalidStep }
+{
+    let _entries = recorder.entries();
+    Err(Fault::InvalidStep)
+}
+
+// A rule without premises. Here and below a term's type and a premise's conclusion are read for what is known of them.
+#[tactic(auto, using(crate::proofs::DerivedRooms::equality_rooms))]
+fn on_none(recorder: &mut Recorder, alloc: Global, logic: &Bool, rule: &Rule) -> Result<Rec, Fault>
+    requires logic { HasLogic recorder.old logic.now }
+    ensures continues { Continues recorder.old recorder.new result }
+    ensures inferred { Infers recorder.old.theory (rule_of rule.now) [] (theorem_in result) }
+    ensures room { FindsRoom recorder.old.theory (rule_of rule.now) [] (theorem_in result) }
+    ensures outcome { AnswersBy recorder.old.theory (rule_of rule.now) [] (theorem_in result) }
+{
+    match rule {
+        Rule::Refl(t) => primitive::refl(recorder, alloc, t),
+        Rule::Beta(t) => primitive::beta(recorder, alloc, t),
+        Rule::Assume(p) => primitive::assume(recorder, alloc, p),
+        Rule::EtaAxiom => primitive::eta(recorder, alloc),
+        Rule::SelectAxiom => primitive::select(recorder, alloc),
+        Rule::BetaConv(t) => {
+            let _type = t.ty();
+            beta_conv(recorder, alloc, t)
+        }
+        _ => refuse(recorder),
+    }
+}
+
+// A rule of one premise.
+#[tactic(auto, using(crate::proofs::DerivedRooms::connective_rooms, crate::proofs::QuantifierRooms::quantifier_rooms))]
+fn on_one(
+    recorder: &mut Recorder,
+    alloc: Global,
+    logic: &Bool,
+    rule: &Rule,
+    premise: &Rec,
+) -> Result<Rec, Fault>
+    requires logic { HasLogic recorder.old logic.now }
+    requires premise { IsMade recorder.old premise.now }
+    ensures continues { Continues recorder.old recorder.new result }
+    ensures inferred { Infers recorder.old.theory (rule_of rule.now) (premise.now.theorem ∷ []) (theorem_in result) }
+    ensures room { FindsRoom recorder.old.theory (rule_of rule.now) (premise.now.theorem ∷ []) (theorem_in result) }
+    ensures outcome { AnswersBy recorder.old.theory (rule_of rule.now) (premise.now.theorem ∷ []) (theorem_in result) }
+{
+    let _premise = conclusion_of(recorder, premise);
+    match rule {
+        Rule::Abs(x) => primitive::abs(recorder, alloc, x, premise),
+        Rule::Inst(theta) => primitive::inst(recorder, alloc, theta, premise),
+        Rule::InstType(theta) => primitive::inst_type(recorder, alloc, theta, premise),
+        Rule::Sym => sym(recorder, alloc, premise),
+        Rule::AddAssum(p) => {
+            let _type = p.ty();
+            add_assum(recorder, alloc, p, premise)
+        }
+        Rule::EqtIntro => eqt_intro(recorder, alloc, logic, premise),
+        Rule::EqtElim => eqt_elim(recorder, alloc, logic, premise),
+        Rule::Conjunct1 => conjunct1(recorder, alloc, logic, premise),
+        Rule::Conjunct2 => conjunct2(recorder, alloc, logic, premise),
+        Rule::Disch(p) => {
+            let _type = p.ty();
+            disch(recorder, alloc, logic, p, premise)
+        }
+        Rule::Undisch => undisch(recorder, alloc, logic, premise),
+        Rule::Spec(t) => {
+            let _type = t.ty();
+            spec(recorder, alloc, logic, t, premise)
+        }
+        Rule::Gen(x) => generalize(recorder, alloc, logic, x, premise),
+        Rule::Disj1(q) => {
+            let _type = q.ty();
+            disj1(recorder, alloc, logic, q, premise)
+        }
+        Rule::Disj2(p) => {
+            let _type = p.ty();
+            disj2(recorder, alloc, logic, p, premise)
+        }
+        Rule::Contr(p) => {
+            let _type = p.ty();
+            contr(recorder, alloc, logic, p, premise)
+        }
+        Rule::NotIntro => not_intro(recorder, alloc, logic, premise),
+        Rule::NotElim => not_elim(recorder, alloc, logic, premise),
+        Rule::Exists(formula, witness) => {
+            let _formula = formula.ty();
+            let _witness = witness.ty();
+            exists(recorder, alloc, logic, formula, witness, premise)
+        }
+        _ => refuse(recorder),
+    }
+}
+
+// A rule of two premises.
+#[tactic(auto, using(crate::proofs::DerivedRooms::connective_rooms, crate::proofs::QuantifierRooms::quantifier_rooms))]
+fn on_two(
+    recorder: &mut Recorder,
+    alloc: Global,
+    logic: &Bool,
+    rule: &Rule,
+    first: &Rec,
+    second: &Rec,
+) -> Result<Rec, Fault>
+    requires logic { HasLogic recorder.old logic.now }
+    requires first { IsMade recorder.old first.now }
+    requires second { IsMade recorder.old second.now }
+    ensures continues { Continues recorder.old recorder.new result }
+    ensures inferred { Infers recorder.old.theory (rule_of rule.now) (first.now.theorem ∷ second.now.theorem ∷ []) (theorem_in result) }
+    ensures room { FindsRoom recorder.old.theory (rule_of rule.now) (first.now.theorem ∷ second.now.theorem ∷ []) (theorem_in result) }
+    ensures outcome { AnswersBy recorder.old.theory (rule_of rule.now) (first.now.theorem ∷ second.now.theorem ∷ []) (theorem_in result) }
+{
+    let _first = conclusion_of(recorder, first);
+    match rule {
+        Rule::Trans => primitive::trans(recorder, alloc, first, second),
+        Rule::MkComb => primitive::mk_comb(recorder, alloc, first, second),
+        Rule::EqMp => primitive::eq_mp(recorder, alloc, first, second),
+        Rule::DeductAntisym => primitive::deduct_antisym(recorder, alloc, first, second),
+        Rule::ProveHyp => prove_hyp(recorder, alloc, first, second),
+        Rule::Conj => conj(recorder, alloc, logic, first, second),
+        Rule::Mp => mp(recorder, alloc, logic, first, second),
+        Rule::Choose(v) => choose(recorder, alloc, logic, v, first, second),
+        _ => refuse(recorder),
+    }
+}
+
+// A rule of three premises.
+#[tactic(auto, using(crate::proofs::DerivedRooms::connective_rooms))]
+fn on_three(
+    recorder: &mut Recorder,
+    alloc: Global,
+    logic: &Bool,
+    rule: &Rule,
+    first: &Rec,
+    second: &Rec,
+    third: &Rec,
+) -> Result<Rec, Fault>
+    requires logic { HasLogic recorder.old logic.now }
+    requires first { IsMade recorder.old first.now }
+    requires second { IsMade recorder.old second.now }
+    requires third { IsMade recorder.old third.now }
+    ensures continues { Continues recorder.old recorder.new result }
+    ensures inferred { Infers recorder.old.theory (rule_of rule.now) (first.now.theorem ∷ second.now.theorem ∷ third.now.theorem ∷ []) (theorem_in result) }
+    ensures room { FindsRoom recorder.old.theory (rule_of rule.now) (first.now.theorem ∷ second.now.theorem ∷ third.now.theorem ∷ []) (theorem_in result) }
+    ensures outcome { AnswersBy recorder.old.theory (rule_of rule.now) (first.now.theorem ∷ second.now.theorem ∷ third.now.theorem ∷ []) (theorem_in result) }
+{
+    let _first = conclusion_of(recorder, first);
+    match rule {
+        Rule::DisjCases => disj_cases(recorder, alloc, logic, first, second, third),
+        _ => refuse(recorder),
+    }
+}
+
+// The refusal of too many premises.
+#[tactic(auto, using(crate::proofs::Premises::too_many_lent))]
+fn refuse_many(recorder: &mut Recorder, rule: &Rule, premises: &[&Rec]) -> Result<Rec, Fault>
+    requires { 3 < length premises.now }
+    ensures continues { Continues recorder.old recorder.new result }
+    ensures inferred { Infers recorder.old.theory (rule_of rule.now) (lent_theorems premises.now) (theorem_in result) }
+    ensures room { FindsRoom recorder.old.theory (rule_of rule.now) (lent_theorems premises.now) (theorem_in result) }
+    ensures outcome { AnswersBy recorder.old.theory (rule_of rule.now) (lent_theorems premises.now) (theorem_in result) }
+{
+    let _rule = rule;
+    let _premises = premises.len();
+    refuse(recorder)
+}
+
+/// A rule on theorems that the recorder made, one for each premise (fusion.ml, equal.ml and bool.ml of HOL Light). It
+/// answers by the rule's own outcome, and the theorem has the sequent that the table of rules draws; where it draws none,
+/// the rule is refused. TooLarge comes only where a term that the rule takes, of a premise, or of what is drawn leaves no
+/// room.
+pub fn apply_rule(
+    recorder: &mut Recorder,
+    alloc: Global,
+    logic: &Bool,
+    rule: &Rule,
+    premises: &[&Rec],
+) -> Result<Rec, Fault>
+    requires logic { HasLogic recorder.old logic.now }
+    requires premises { AreLent recorder.old premises.now }
+    ensures continues { Continues recorder.old recorder.new result }
+    ensures inferred { Infers recorder.old.theory (rule_of rule.now) (lent_theorems premises.now) (theorem_in result) }
+    ensures room { FindsRoom recorder.old.theory (rule_of rule.now) (lent_theorems premises.now) (theorem_in result) }
+    ensures outcome { AnswersBy recorder.old.theory (rule_of rule.now) (lent_theorems premises.now) (theorem_in result) }
+{
+    match premises {
+        [] => on_none(recorder, alloc, logic, rule),
+        [premise] => on_one(recorder, alloc, logic, rule, premise),
+        [first, second] => on_two(recorder, alloc, logic, rule, first, second),
+        [first, second, third] => on_three(recorder, alloc, logic, rule, first, second, third),
+        _ => refuse_many(recorder, rule, premises),
+    }
+}

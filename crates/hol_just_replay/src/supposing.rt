@@ -1,0 +1,233 @@
+// Subgoals supposed under one more hypothesis.
+ghost use Rattle.std.specs.Prelude.{◌≡◌, [], ◌∷◌, ◌++◌, map, Bool as Truth, true, Some, Ok, Err, IfOk, IfErr, OnOk};
+ghost use Rattle.hol_model.specs.declared.fault.Fault.TheVariants.{Memory, TooLarge};
+ghost use Rattle.hol_model.specs.Terms.Nameless.{image};
+ghost use Rattle.hol_model.specs.Logic.NamedLogic.{false_term as named_false};
+ghost use Rattle.hol_model.specs.Logic.Logic.{false_term};
+ghost use Rattle.hol_model.specs.Goals.Goals.{Sequent};
+ghost use Rattle.hol_model.specs.Derived.Inference.{require};
+ghost use Rattle.hol_model.specs.Goals.ValidSteps.{false_twice};
+ghost use Rattle.hol_model.specs.Goals.Replays.{terms_of_goals};
+ghost use Rattle.hol_model.specs.Derived.DerivedRules.{terms_of_theorem};
+ghost use Rattle.hol_just_replay.specs.Room.{IsNotLarge, are_roomy};
+ghost use Rattle.hol_journal.specs.Journal.{IsMade, theorem_in};
+ghost use Rattle.hol_journal.specs.Growth.{IsGrown};
+ghost use Rattle.hol_prelude_derivations.specs.Derivations.{AreMade};
+ghost use Rattle.hol_prelude.specs.HasLogic.{HasLogic};
+ghost use Rattle.hol_equal.specs.Sequents.{Continues, IsHeld};
+ghost use Rattle.hol_equal.specs.Inferred.{IsDrawn};
+ghost use Rattle.hol_just.specs.Steps.{goal_of, goals_of};
+ghost use Rattle.hol_just_replay.specs.Accepting.{falsity_from, with_assumptions, supposed_from, is_known_goal, are_known_goals, AreSupposed, IsUnsupposed, HasGoalRoom};
+
+use hol_bool::{conj, conjunct1, contr};
+use hol_equal::{add_assum, assume, conclusion_of};
+use hol_journal::{Rec, Recorder};
+use hol_just::Goal;
+use hol_model::Fault;
+use hol_prelude::{Bool, logic_stays};
+use hol_terms::Term;
+use hol_types::Ty;
+use std::alloc::Global;
+
+// `F`.
+fn falsity(alloc: Global) -> Result<Term, Fault>
+    ensures ok { IfOk result (λ term. term ≡ named_false) }
+    ensures err { IfErr result (λ fault. fault ≡ Memory) }
+{
+    let boolean = Ty::boolean(alloc)?;
+    Term::mk_const(alloc, "F", &boolean)
+}
+
+// From `F`, `F`.
+#[tactic(auto, using(crate::proofs::SupposingLemmas::supposing))]
+pub(crate) fn falsity_once(
+    recorder: &mut Recorder,
+    alloc: Global,
+    logic: &Bool,
+) -> Result<Rec, Fault>
+    requires logic { HasLogic recorder.old logic.now }
+    ensures continues { Continues recorder.old recorder.new result }
+    ensures drawn { IsDrawn (Some (falsity_from false_term)) (theorem_in result) }
+    ensures fits { IsNotLarge (theorem_in result) }
+{
+    let _logic = logic;
+    recorder.theory_is_legal();
+    let term = match falsity(alloc) {
+        Ok(term) => term,
+        Err(fault) => return Err(fault),
+    };
+    assume(recorder, alloc, &term)
+}
+
+// From `F`, `F /\ F`.
+#[tactic(auto, using(crate::proofs::SupposingLemmas::supposing))]
+fn conjoined(recorder: &mut Recorder, alloc: Global, logic: &Bool) -> Result<Rec, Fault>
+    requires logic { HasLogic recorder.old logic.now }
+    ensures continues { Continues recorder.old recorder.new result }
+    ensures drawn { IsDrawn (Some (record { hypotheses = false_term ∷ []; conclusion = false_twice })) (theorem_in result) }
+    ensures fits { IsNotLarge (theorem_in result) }
+{
+    logic_stays();
+    let once = match falsity_once(recorder, alloc, logic) {
+        Ok(once) => once,
+        Err(fault) => return Err(fault),
+    };
+    conj(recorder, alloc, logic, &once, &once)
+}
+
+// From `F /\ F`, `F /\ F`.
+#[tactic(auto, using(crate::proofs::SupposingLemmas::supposing))]
+fn conjunction_assumed(recorder: &mut Recorder, alloc: Global, logic: &Bool) -> Result<Rec, Fault>
+    requires logic { HasLogic recorder.old logic.now }
+    ensures continues { Continues recorder.old recorder.new result }
+    ensures drawn { IsDrawn (Some (record { hypotheses = false_twice ∷ []; conclusion = false_twice })) (theorem_in result) }
+    ensures fits { IsNotLarge (theorem_in result) }
+{
+    let conjoined = match conjoined(recorder, alloc, logic) {
+        Ok(conjoined) => conjoined,
+        Err(fault) => return Err(fault),
+    };
+    let term = conclusion_of(recorder, &conjoined);
+    assume(recorder, alloc, term)
+}
+
+// From `F /\ F`, `F`.
+#[tactic(auto, using(crate::proofs::SupposingLemmas::supposing))]
+pub(crate) fn falsity_twice(
+    recorder: &mut Recorder,
+    alloc: Global,
+    logic: &Bool,
+) -> Result<Rec, Fault>
+    requires logic { HasLogic recorder.old logic.now }
+    ensures continues { Continues recorder.old recorder.new result }
+    ensures drawn { IsDrawn (Some (falsity_from false_twice)) (theorem_in result) }
+    ensures fits { IsNotLarge (theorem_in result) }
+{
+    logic_stays();
+    let assumed = match conjunction_assumed(recorder, alloc, logic) {
+        Ok(assumed) => assumed,
+        Err(fault) => return Err(fault),
+    };
+    let _conclusion = conclusion_of(recorder, &assumed);
+    conjunct1(recorder, alloc, logic, &assumed)
+}
+
+// A theorem under further assumptions.
+fn with_assumptions(
+    recorder: &mut Recorder,
+    alloc: Global,
+    assumptions: &[Term],
+    mut theorem: Rec,
+) -> Result<Rec, Fault>
+    requires { IsHeld recorder.old theorem }
+    ensures continues { Continues recorder.old recorder.new result }
+    ensures drawn { IsDrawn (with_assumptions recorder.old.theory (map image theorem.theorem.hypotheses) (image theorem.theorem.conclusion) assumptions.now) (theorem_in result) }
+    ensures fits { are_roomy (terms_of_theorem theorem.theorem) ≡ true → are_roomy (map image assumptions.now) ≡ true → IsNotLarge (theorem_in result) }
+{
+    for p in assumptions {
+        theorem = match add_assum(recorder, alloc, p, &theorem) {
+            Ok(theorem) => theorem,
+            Err(fault) => return Err(fault),
+        };
+    }
+    Ok(theorem)
+}
+
+// A goal's sequent, under the hypotheses of a theorem that says `F`.
+#[tactic(auto, using(crate::proofs::SupposingLemmas::supposing))]
+fn supposed_from(
+    recorder: &mut Recorder,
+    alloc: Global,
+    logic: &Bool,
+    falsity: &Rec,
+    goal: &Goal,
+) -> Result<Rec, Fault>
+    requires logic { HasLogic recorder.old logic.now }
+    requires premise { IsMade recorder.old falsity.now }
+    requires concludes { image falsity.now.theorem.conclusion ≡ false_term }
+    ensures continues { Continues recorder.old recorder.new result }
+    ensures drawn { IsDrawn (supposed_from recorder.old.theory (map image falsity.now.theorem.hypotheses) (goal_of goal.now)) (theorem_in result) }
+    ensures fits { HasGoalRoom falsity.now.theorem (goal_of goal.now) → IsNotLarge (theorem_in result) }
+{
+    let theorem = match contr(recorder, alloc, logic, &goal.concl, falsity) {
+        Ok(theorem) => theorem,
+        Err(fault) => return Err(fault),
+    };
+    with_assumptions(recorder, alloc, &goal.asms, theorem)
+}
+
+// A refusal of a goal's sequent, as one of the step.
+#[tactic(auto, using(crate::proofs::SupposingLemmas::unsupposing))]
+fn refusal(fault: Fault) -> Fault
+    ensures unsupposed { (known : Truth) (sequent : Sequent) → IsDrawn (require known (Some sequent)) (Err fault) → IsUnsupposed known result }
+    ensures fits { (fault ≡ TooLarge → ⊥) → result ≡ TooLarge → ⊥ }
+{
+    match fault {
+        Fault::Memory => Fault::Memory,
+        Fault::TooLarge => Fault::TooLarge,
+        _ => Fault::InvalidStep,
+    }
+}
+
+// A goal's sequent, or the refusal of the step.
+fn suppose_one(
+    recorder: &mut Recorder,
+    alloc: Global,
+    logic: &Bool,
+    falsity: &Rec,
+    goal: &Goal,
+) -> Result<Rec, Fault>
+    requires logic { HasLogic recorder.old logic.now }
+    requires premise { IsMade recorder.old falsity.now }
+    requires concludes { image falsity.now.theorem.conclusion ≡ false_term }
+    ensures grown { IsGrown recorder.old recorder.new }
+    ensures theory { recorder.new.theory ≡ recorder.old.theory }
+    ensures made { IfOk result (IsMade recorder.new) }
+    ensures ok { IfOk result (λ made. IsDrawn (supposed_from recorder.old.theory (map image falsity.now.theorem.hypotheses) (goal_of goal.now)) (Ok made.theorem)) }
+    ensures err { IfErr result (IsUnsupposed (is_known_goal recorder.old.theory (goal_of goal.now))) }
+    ensures fits { HasGoalRoom falsity.now.theorem (goal_of goal.now) → IsNotLarge result }
+{
+    match supposed_from(recorder, alloc, logic, falsity, goal) {
+        Ok(made) => Ok(made),
+        Err(fault) => Err(refusal(fault)),
+    }
+}
+
+// One theorem more.
+fn pushed(theorems: &mut Vec<Rec>, theorem: Rec) -> Result<(), Fault>
+    ensures ok { OnOk result (theorems.new.items ≡ theorems.old.items ++ theorem ∷ []) }
+    ensures err { IfErr result (λ fault. fault ≡ Memory) }
+{
+    theorems.push(theorem)?;
+    Ok(())
+}
+
+// Each goal's sequent, under the hypotheses of a theorem that says `F`.
+pub(crate) fn suppose_all(
+    recorder: &mut Recorder,
+    alloc: Global,
+    logic: &Bool,
+    falsity: &Rec,
+    goals: &[Goal],
+) -> Result<Vec<Rec>, Fault>
+    requires logic { HasLogic recorder.old logic.now }
+    requires premise { IsMade recorder.old falsity.now }
+    requires concludes { image falsity.now.theorem.conclusion ≡ false_term }
+    ensures grown { IsGrown recorder.old recorder.new }
+    ensures theory { recorder.new.theory ≡ recorder.old.theory }
+    ensures made { IfOk result (λ theorems. AreMade recorder.new theorems.items) }
+    ensures ok { IfOk result (λ theorems. AreSupposed recorder.old.theory (map image falsity.now.theorem.hypotheses) (goals_of goals.now) theorems.items) }
+    ensures err { IfErr result (IsUnsupposed (are_known_goals recorder.old.theory (goals_of goals.now))) }
+    ensures fits { are_roomy (terms_of_theorem falsity.now.theorem) ≡ true → are_roomy (terms_of_goals (goals_of goals.now)) ≡ true → IsNotLarge result }
+{
+    logic_stays();
+    let mut theorems = Vec::new(alloc);
+    for goal in goals {
+        let theorem = match suppose_one(recorder, alloc, logic, falsity, goal) {
+            Ok(theorem) => theorem,
+            Err(fault) => return Err(fault),
+        };
+        pushed(&mut theorems, theorem)?;
+    }
+    Ok(theorems)
+}

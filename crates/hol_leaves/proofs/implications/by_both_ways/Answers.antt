@@ -1,9 +1,0 @@
-use Rattle.std.proofs.Common.{refl}
-use Rattle.hol_model.specs.Goals.Justifications.{by_rule}
-use Rattle.hol_model.specs.Derived.InferenceRules.{rule_undisch}
-use Rattle.hol_model.specs.Refining.Refiners.{one_part, from_first, from_second}
-use Rattle.hol_leaves.proofs.implications.by_both_ways.Goals as goal
-
-pub returns : goal.returns
-returns c =
-    c.by_two.ensures (by_rule rule_undisch (one_part from_second)) (by_rule rule_undisch (one_part from_first)) c.in_ok-second.ensures c.in_ok-first.ensures refl refl

@@ -1,9 +1,0 @@
-use Rattle.hol_model.specs.Derived.DerivedRules.{named}
-use Rattle.hol_model.specs.Refining.Refiners.{toward}
-use Rattle.hol_just.specs.Steps.{goal_of}
-use Rattle.hol_leaves.proofs.making.to_targets.Goals as goal
-
-pub returns : goal.returns
-returns c t is =
-    c.to_two.ensures (toward (goal_of c.args.goal.now) (named c.args.left.now)) (toward (goal_of c.args.goal.now) (named c.args.right.now)) t
-    (c.in_ok-first.ensures.ok (named c.args.left.now) c.in_ok-left.ensures.ok) (c.in_ok-second.ensures.ok (named c.args.right.now) c.in_ok-right.ensures.ok) is

@@ -1,7 +1,0 @@
-use Rattle.hol_model.specs.Goals.Justifications.{by_rule}
-use Rattle.hol_model.specs.Derived.InferenceRules.{rule_conj}
-use Rattle.hol_model.specs.Refining.Refiners.{two_parts, from_first, from_second}
-use Rattle.hol_leaves.proofs.rows.both.Goals as goal
-
-pub returns : goal.returns
-returns c = c.to_targets.ensures (by_rule rule_conj (two_parts from_first from_second)) c.in_ok-just.ensures

@@ -1,5 +1,0 @@
-use Rattle.hol_library.proofs.Continuing.{libraries-continue}
-use Rattle.hol_library.proofs.laws.libraries_continue.Goals as goal
-
-pub returns : goal.returns
-returns c = libraries-continue

@@ -1,5 +1,0 @@
-use Rattle.std.proofs.Common.{length}
-use Rattle.hol_meaning.proofs.meanings.+listed_value.Given as goal
-
-abbrev pub decreases-listed_value : goal.decreases-listed_value
-decreases-listed_value l = length l.variables.now

@@ -1,5 +1,0 @@
-use Rattle.std.proofs.Common.{length}
-use Rattle.hol_meaning.proofs.sequent.+are_true.Given as goal
-
-abbrev pub decreases-are_true : goal.decreases-are_true
-decreases-are_true l = length l.terms.now

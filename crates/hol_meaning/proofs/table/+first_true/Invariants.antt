@@ -1,5 +1,0 @@
-use Rattle.std.proofs.Common.{length}
-use Rattle.hol_meaning.proofs.table.+first_true.Given as goal
-
-abbrev pub decreases-first_true : goal.decreases-first_true
-decreases-first_true l = length l.elements.now

@@ -1,6 +1,0 @@
-use Rattle.std.proofs.Common.{arith}
-use Rattle.std.proofs.lemmas.Map.Text.{text_keys}
-use Rattle.hol_print.proofs.innermost.set_type.Goals as goal
-
-pub returns-clause-new : goal.returns-clause-new
-returns-clause-new c = λ other. grind (arith, text_keys)

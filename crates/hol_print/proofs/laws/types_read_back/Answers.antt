@@ -1,5 +1,0 @@
-use Rattle.hol_print.proofs.TextsReadBack as laws
-use Rattle.hol_print.proofs.laws.types_read_back.Goals as goal
-
-pub returns : goal.returns
-returns c = laws.types_read_back

@@ -1,6 +1,0 @@
--- hol_proof_manager/proofs/laws/managers_refuse/Answers.antt
-use Rattle.hol_proof_manager.proofs.Refusing.{managers-refuse}
-use Rattle.hol_proof_manager.proofs.laws.managers_refuse.Goals as goal
-
-pub returns : goal.returns
-returns g c = managers-refuse g.R.Refining.host

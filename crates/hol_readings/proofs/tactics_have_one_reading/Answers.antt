@@ -1,5 +1,0 @@
-use Rattle.hol_readings.proofs.Parts.{quotes-unambiguous}
-use Rattle.hol_readings.proofs.tactics_have_one_reading.Goals as goal
-
-pub returns : goal.returns
-returns c = c.tactics_are_unambiguous.ensures quotes-unambiguous

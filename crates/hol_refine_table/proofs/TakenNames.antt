@@ -1,0 +1,92 @@
+-- Names that are taken are not longer than the longest.
+use Rattle.std.proofs.Common.{◌≡◌, ℕ, ◌≤◌, max, List, [], ◌∷◌, Bool, true, false, ◌||◌, refl, sym, ◌∙◌, ap, length, arith, Option, Some, None, if◌then◌else◌}
+use Rattle.std.specs.List.{list_any}
+use Rattle.std.specs.Option.{is_some, option_map_or}
+use Rattle.std.specs.Str.{bytes_eq}
+use Rattle.std.proofs.lemmas.Slice.Eq.{bytes_eq-Decides}
+use Rattle.hol_model.specs.Terms.HolType.{HolType}
+use Rattle.hol_model.specs.Terms.NamedTerm.{NamedTerm, Binder, is_free}
+use Rattle.hol_model.specs.Terms.Nameless.{Nameless, free, const, bound, app, lam, image, binder_index, variable_image}
+use Rattle.hol_model.specs.Logic.Theory.{Theory, definition, declaration_of_type, declaration_of_constant, generic_type, equality_name, choice_name, equality_type, choice_type, type_a}
+use Rattle.hol_model.specs.Terms.Substitution.{occurs_free}
+use Rattle.hol_model.proofs.Terms.Images.{occurs_free-image}
+use Rattle.hol_model.specs.Goals.Goals.{Goal}
+use Rattle.hol_refine_table.proofs.Primes.{longest_free, longest_of, free_is_bounded}
+use Rattle.hol_model.specs.Refining.Refiners.{has_free_name, is_taken, is_taken_beside}
+
+pub bound_passes : (binders : List Binder) (name other : List ℕ) (ty : HolType) → is_some (binder_index binders other ty) ≡ true → has_free_name name (variable_image binders other ty) ≡ false
+bound_passes binders name other ty is = go (binder_index binders other ty) is
+  where
+    go : (found : Option ℕ) → is_some found ≡ true → has_free_name name (option_map_or bound found (free other ty)) ≡ false
+    go None is = cc
+    go (Some index) is = refl
+
+pub free_compares : (binders : List Binder) (name other : List ℕ) (ty : HolType)
+    → is_some (binder_index binders other ty) ≡ false → has_free_name name (variable_image binders other ty) ≡ bytes_eq name other
+free_compares binders name other ty is = go (binder_index binders other ty) is
+  where
+    go : (found : Option ℕ) → is_some found ≡ false → has_free_name name (option_map_or bound found (free other ty)) ≡ bytes_eq name other
+    go None is = refl
+    go (Some index) is = cc
+
+either_bound : (p q : Bool) (n a b : ℕ) → (p ≡ true → n ≤ a) → (q ≡ true → n ≤ b) → (p || q) ≡ true → n ≤ max a b
+either_bound true q n a b left right some = let below : n ≤ a = left refl in omega arith
+either_bound false q n a b left right some = let below : n ≤ b = right some in omega arith
+
+free_name_is_bounded : (name : List ℕ) (t : Nameless) → has_free_name name t ≡ true → length name ≤ longest_free t
+free_name_is_bounded name (free other ty) is = let same : length name ≡ length other = ap length ((bytes_eq-Decides name other).0 is) in omega arith
+free_name_is_bounded name (const other ty) is = cc
+free_name_is_bounded name (bound index) is = cc
+free_name_is_bounded name (app f x) is =
+    either_bound (has_free_name name f) (has_free_name name x) (length name) (longest_free f) (longest_free x) (free_name_is_bounded name f) (free_name_is_bounded name x) is
+free_name_is_bounded name (lam ty body) is = free_name_is_bounded name body is
+
+some_free_name_is_bounded : (name : List ℕ) (terms : List NamedTerm) → list_any (λ term. has_free_name name (image term)) terms ≡ true → length name ≤ longest_of terms
+some_free_name_is_bounded name [] is = cc
+some_free_name_is_bounded name (term ∷ terms) is =
+    either_bound (has_free_name name (image term)) (list_any (λ t. has_free_name name (image t)) terms) (length name) (longest_free (image term)) (longest_of terms)
+    (free_name_is_bounded name (image term)) (some_free_name_is_bounded name terms) is
+
+-- the length of the longest name of a constant
+abbrev pub longest_constant : Theory → ℕ
+longest_constant [] = 1
+longest_constant (definition other ty body ∷ rest) = max (length other) (longest_constant rest)
+longest_constant (declaration_of_type other ∷ rest) = longest_constant rest
+longest_constant (declaration_of_constant other ty ∷ rest) = max (length other) (longest_constant rest)
+
+found-bounded : (other name : List ℕ) (ty : HolType) (more : Option HolType) (n : ℕ) → (is_some more ≡ true → length name ≤ n) → (test : Bool) → bytes_eq other name ≡ test
+    → is_some (if◌then◌else◌ {A = Option HolType} test (Some ty) more) ≡ true → length name ≤ max (length other) n
+found-bounded other name ty more n below true same is = let same_length : length other ≡ length name = ap length ((bytes_eq-Decides other name).0 same) in omega arith
+found-bounded other name ty more n below false differs is = let at_most : length name ≤ n = below is in omega arith
+
+constant_is_bounded : (theory : Theory) (name : List ℕ) → is_some (generic_type theory name) ≡ true → length name ≤ longest_constant theory
+constant_is_bounded [] name is =
+    found-bounded equality_name name (equality_type type_a) (if◌then◌else◌ {A = Option HolType} (bytes_eq choice_name name) (Some (choice_type type_a)) None) 1
+    (found-bounded choice_name name (choice_type type_a) None 1 (λ none. cc) (bytes_eq choice_name name) refl) (bytes_eq equality_name name) refl is
+constant_is_bounded (definition other ty body ∷ rest) name is =
+    found-bounded other name ty (generic_type rest name) (longest_constant rest) (constant_is_bounded rest name) (bytes_eq other name) refl is
+constant_is_bounded (declaration_of_type other ∷ rest) name is = constant_is_bounded rest name is
+constant_is_bounded (declaration_of_constant other ty ∷ rest) name is =
+    found-bounded other name ty (generic_type rest name) (longest_constant rest) (constant_is_bounded rest name) (bytes_eq other name) refl is
+
+abbrev pub longest_taken : Theory → Goal → ℕ
+longest_taken theory goal = max (longest_constant theory) (longest_of (goal.target ∷ goal.assumptions))
+
+pub taken_is_bounded : (theory : Theory) (goal : Goal) (name : List ℕ) → is_taken theory goal name ≡ true → length name ≤ longest_taken theory goal
+taken_is_bounded theory goal name is =
+    either_bound (is_some (generic_type theory name)) (list_any (λ t. has_free_name name (image t)) (goal.target ∷ goal.assumptions)) (length name) (longest_constant theory)
+    (longest_of (goal.target ∷ goal.assumptions)) (constant_is_bounded theory name) (some_free_name_is_bounded name (goal.target ∷ goal.assumptions)) is
+
+-- ---- beside a conclusion
+
+pub free_in_image : (test : Bool) (name : List ℕ) (ty : HolType) (term : NamedTerm) → test ≡ is_free name ty term → test ≡ occurs_free name ty (image term)
+free_in_image test name ty term is = is ∙ sym (occurs_free-image name ty term)
+
+abbrev pub longest_taken_beside : Theory → Goal → NamedTerm → ℕ
+longest_taken_beside theory goal conclusion = max (longest_taken theory goal) (longest_free (image conclusion))
+
+pub taken_beside_is_bounded : (theory : Theory) (goal : Goal) (ty : HolType) (conclusion : NamedTerm) (name : List ℕ)
+    → is_taken_beside theory goal ty conclusion name ≡ true → length name ≤ longest_taken_beside theory goal conclusion
+taken_beside_is_bounded theory goal ty conclusion name is =
+    either_bound (is_taken theory goal name) (occurs_free name ty (image conclusion)) (length name) (longest_taken theory goal) (longest_free (image conclusion))
+    (taken_is_bounded theory goal name) (free_is_bounded (image conclusion) name ty) is

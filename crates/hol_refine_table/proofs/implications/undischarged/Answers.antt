@@ -1,0 +1,27 @@
+use Rattle.std.proofs.Common.{◌≡◌, ◌∙◌, ◌∷◌, [], List, ap, subst}
+use Rattle.hol_model.specs.Terms.NamedTerm.{NamedTerm}
+use Rattle.hol_model.specs.Terms.Nameless.{image}
+use Rattle.hol_model.specs.Terms.Measures.{nameless_within_limits}
+use Rattle.hol_model.specs.Logic.NamedLogic.{implication}
+use Rattle.hol_model.specs.Derived.DerivedRules.{named}
+use Rattle.hol_model.specs.Derived.InferenceRules.{rule_undisch}
+use Rattle.hol_model.specs.Kernel.Theorem.{without_hypothesis}
+use Rattle.hol_model.specs.Goals.Justifications.{by_rule}
+use Rattle.hol_model.specs.Refining.Refiners.{from_assumptions, one_part, from_first}
+use Rattle.hol_refine_table.specs.Answers.{IsGoal, step_in}
+use Rattle.hol_refine_table.proofs.Goals.{with_target}
+use Rattle.hol_refine_table.proofs.Fitting.{fitting}
+use Rattle.hol_refine_table.proofs.implications.undischarged.Goals as goal
+
+pub returns : goal.returns
+returns c p_typed q_typed =
+    let tree = by_rule rule_undisch (one_part from_first) in
+    let whole = implication c.args.p.now c.args.goal.now.concl in
+    let others = without_hypothesis c.args.p.now c.args.goal.now.asms.items in
+    let left : c.in-Ok-without.asms.items ≡ others = c.in-Ok-without.ensures.ok ∙ ap (without_hypothesis c.args.p.now) c.deref.ensures.value in
+    fitting (nameless_within_limits (image whole)) (record { goals = from_assumptions others [] (named whole) ∷ []; justification = tree }) (step_in c.to_one.result)
+    (c.in-Ok.ensures p_typed q_typed).0
+    (c.to_one.ensures (from_assumptions others [] (named whole)) tree
+    (subst (λ (a : List NamedTerm). IsGoal (from_assumptions a [] (named whole)) (record { assumptions = c.in-Ok-without.asms.items; target = c.in-Ok.implication })) left
+    (with_target c.in-Ok-without.asms.items c.in-Ok.implication (named whole) (c.in-Ok.ensures p_typed q_typed).1))
+    c.in-Ok-by_first.ensures)

@@ -1,0 +1,11 @@
+use Rattle.std.proofs.Common.{refl}
+use Rattle.hol_model.specs.Derived.DerivedRules.{named}
+use Rattle.hol_model.specs.Refining.Refiners.{assuming}
+use Rattle.hol_just.specs.Steps.{goal_of}
+use Rattle.hol_refine_table.proofs.making.to_cases.Goals as goal
+
+pub returns : goal.returns
+returns c t is =
+    c.to_two.ensures (assuming (goal_of c.args.goal.now) (named c.args.left.now)) (assuming (goal_of c.args.goal.now) (named c.args.right.now)) t
+    (c.in_ok-first.ensures.ok (named c.args.left.now) (named c.args.goal.now.concl) c.in_ok-left.ensures.ok refl)
+    (c.in_ok-second.ensures.ok (named c.args.right.now) (named c.args.goal.now.concl) c.in_ok-right.ensures.ok refl) is

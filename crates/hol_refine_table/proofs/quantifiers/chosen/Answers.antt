@@ -1,0 +1,27 @@
+use Rattle.std.proofs.Common.{◌∷◌, []}
+use Rattle.hol_model.specs.Terms.NamedTerm.{variable}
+use Rattle.hol_model.specs.Terms.Measures.{nameless_within_limits}
+use Rattle.hol_model.specs.Derived.DerivedRules.{body_with}
+use Rattle.hol_model.specs.Derived.InferenceRules.{rule_choose}
+use Rattle.hol_model.specs.Goals.Justifications as trees
+use Rattle.hol_model.specs.Rewrites.RenamedBody.{renamed_body}
+use Rattle.hol_model.specs.Refining.Refiners.{assuming, two_parts, from_first}
+use Rattle.hol_just.specs.Steps.{goal_of}
+use Rattle.hol_refine_table.specs.Answers.{step_in, abstracted}
+use Rattle.hol_refine_table.proofs.Fitting.{fitting, unfitting}
+use Rattle.hol_refine_table.proofs.quantifiers.chosen.Goals as goal
+
+pub returns-in-Err : goal.returns-in-Err
+returns-in-Err c =
+    let at = abstracted c.args.parts.name.now c.args.parts.ty.now c.args.parts.body.now in
+    let tree = trees.by_rule (rule_choose (variable c.args.fresh.now c.args.parts.ty.now)) (two_parts (trees.named c.args.theorem.now) from_first) in
+    unfitting (nameless_within_limits (body_with at (variable c.args.fresh.now c.args.parts.ty.now)))
+    (record { goals = assuming (goal_of c.args.goal.now) (renamed_body at c.args.fresh.now) ∷ []; justification = tree }) c.in-Err.fault c.in-Err.ensures
+
+pub returns : goal.returns
+returns c =
+    let at = abstracted c.args.parts.name.now c.args.parts.ty.now c.args.parts.body.now in
+    let tree = trees.by_rule (rule_choose (variable c.args.fresh.now c.args.parts.ty.now)) (two_parts (trees.named c.args.theorem.now) from_first) in
+    fitting (nameless_within_limits (body_with at (variable c.args.fresh.now c.args.parts.ty.now)))
+    (record { goals = assuming (goal_of c.args.goal.now) (renamed_body at c.args.fresh.now) ∷ []; justification = tree }) (step_in c.to_assuming_stated.result)
+    c.in-Ok.ensures.0 (c.to_assuming_stated.ensures (renamed_body at c.args.fresh.now) tree c.in-Ok.ensures.1 c.in-Ok-by_choose.ensures)

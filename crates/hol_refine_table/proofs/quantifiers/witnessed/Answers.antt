@@ -1,0 +1,23 @@
+use Rattle.std.proofs.Common.{◌∷◌, []}
+use Rattle.hol_model.specs.Terms.Measures.{nameless_within_limits}
+use Rattle.hol_model.specs.Derived.DerivedRules.{up_to_names, body_with}
+use Rattle.hol_model.specs.Derived.InferenceRules.{rule_exists}
+use Rattle.hol_model.specs.Goals.Justifications as trees
+use Rattle.hol_model.specs.Refining.Refiners.{toward, one_part, from_first}
+use Rattle.hol_just.specs.Steps.{goal_of}
+use Rattle.hol_refine_table.specs.Answers.{step_in, abstracted}
+use Rattle.hol_refine_table.proofs.Fitting.{fitting, unfitting}
+use Rattle.hol_refine_table.proofs.quantifiers.witnessed.Goals as goal
+
+pub returns-in-Err : goal.returns-in-Err
+returns-in-Err c =
+    let made = body_with (abstracted c.args.name.now c.args.ty.now c.args.body.now) c.args.witness.now in
+    let tree = trees.by_rule (rule_exists c.args.goal.now.concl c.args.witness.now) (one_part from_first) in
+    unfitting (nameless_within_limits made) (record { goals = toward (goal_of c.args.goal.now) (up_to_names made) ∷ []; justification = tree }) c.in-Err.fault c.in-Err.ensures
+
+pub returns : goal.returns
+returns c =
+    let made = body_with (abstracted c.args.name.now c.args.ty.now c.args.body.now) c.args.witness.now in
+    let tree = trees.by_rule (rule_exists c.args.goal.now.concl c.args.witness.now) (one_part from_first) in
+    fitting (nameless_within_limits made) (record { goals = toward (goal_of c.args.goal.now) (up_to_names made) ∷ []; justification = tree }) (step_in c.to_stated.result)
+    c.in-Ok.ensures.0 (c.to_stated.ensures (up_to_names made) tree c.in-Ok.ensures.1 c.in-Ok-by_exists.ensures)

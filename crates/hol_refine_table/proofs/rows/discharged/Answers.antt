@@ -1,0 +1,7 @@
+use Rattle.hol_model.specs.Goals.Justifications.{by_rule}
+use Rattle.hol_model.specs.Derived.InferenceRules.{rule_disch}
+use Rattle.hol_model.specs.Refining.Refiners.{one_part, from_first}
+use Rattle.hol_refine_table.proofs.rows.discharged.Goals as goal
+
+pub returns : goal.returns
+returns c = c.to_assuming.ensures (by_rule (rule_disch c.args.p.now) (one_part from_first)) c.in_ok-just.ensures

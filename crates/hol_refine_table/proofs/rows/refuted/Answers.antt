@@ -1,0 +1,16 @@
+use Rattle.std.proofs.Common.{◌∷◌, [], subst, refl}
+use Rattle.hol_model.specs.Goals.Justifications.{by_rule}
+use Rattle.hol_model.specs.Terms.NamedTerm.{NamedTerm}
+use Rattle.hol_model.specs.Derived.DerivedRules.{named}
+use Rattle.hol_model.specs.Derived.InferenceRules.{rule_disch, rule_not_intro}
+use Rattle.hol_model.specs.Refining.Refiners.{one_part, from_first, from_assumptions, leaves}
+use Rattle.hol_refine_table.specs.Answers.{AnswersStep, step_in}
+use Rattle.hol_refine_table.proofs.rows.refuted.Goals as goal
+
+pub returns-in-Ok : goal.returns-in-Ok
+returns-in-Ok c =
+    subst (λ (f : NamedTerm). AnswersStep (leaves (from_assumptions c.args.goal.now.asms.items (named c.args.p.now ∷ []) (named f) ∷ [])
+    (by_rule rule_not_intro (one_part (by_rule (rule_disch c.args.p.now) (one_part from_first))))) (step_in c.to_assuming.result))
+    c.in_ok-falsity.ensures.ok
+    (c.to_assuming.ensures (by_rule rule_not_intro (one_part (by_rule (rule_disch c.args.p.now) (one_part from_first))))
+    (c.in-Ok.ensures (by_rule (rule_disch c.args.p.now) (one_part from_first)) c.in_ok-discharged.ensures refl))

@@ -1,0 +1,194 @@
+// The refiners of the table that make an implication.
+ghost use Rattle.std.specs.Prelude.{◌≡◌, [], ◌∷◌, Some, true, IfOk, IfErr};
+ghost use Rattle.std.specs.Option.{option_map};
+ghost use Rattle.hol_model.specs.declared.fault.Fault.TheVariants.{Memory};
+ghost use Rattle.hol_model.specs.Terms.HolType.{bool_type};
+ghost use Rattle.hol_model.specs.Terms.NamedTerm.{NamedTerm, constant, type_of};
+ghost use Rattle.hol_model.specs.Terms.Nameless.{image};
+ghost use Rattle.hol_model.specs.Terms.Measures.{nameless_within_limits};
+ghost use Rattle.hol_model.specs.Kernel.Rules.{dest_equation};
+ghost use Rattle.hol_model.specs.Logic.Logic.{binary, implies_name};
+ghost use Rattle.hol_model.specs.Logic.NamedLogic.{implication};
+ghost use Rattle.hol_model.specs.Kernel.Theorem.{without_hypothesis};
+ghost use Rattle.hol_model.specs.Goals.Justifications as trees;
+ghost use Rattle.hol_model.specs.Goals.Achieving as achieving;
+ghost use Rattle.hol_model.specs.Refining.Refiners as refiners;
+ghost use Rattle.hol_just.specs.Steps.{goal_of};
+ghost use Rattle.hol_refine_table.specs.Answers.{step_in, AnswersStep, AnswersRow, AnswersNamedRow, Makes, AnswersImplication};
+ghost use Rattle.hol_refine_table.specs.Rows as stated;
+
+use crate::assumed::{are_assumed, is_assumed};
+use crate::making::{by_first, by_second, by_two, to_one, to_target, to_targets, with_theorem};
+use crate::parts::equation_sides;
+use hol_alpha::aconv;
+use hol_just::{Goal, Just, Rule, Step};
+use hol_kernel::Thm;
+use hol_model::Fault;
+use hol_terms::Term;
+use hol_types::Ty;
+use std::alloc::Global;
+
+// `==>`.
+fn connective(alloc: Global) -> Result<Term, Fault>
+    ensures ok { IfOk result (λ term. term ≡ constant implies_name binary) }
+    ensures err { IfErr result (λ fault. fault ≡ Memory) }
+{
+    let boolean = Ty::boolean(alloc)?;
+    let unary = Ty::fun(alloc, &boolean, &boolean)?;
+    let binary = Ty::fun(alloc, &boolean, &unary)?;
+    Term::mk_const(alloc, "==>", &binary)
+}
+
+// `p ==> q`.
+fn implies(alloc: Global, p: &Term, q: &Term) -> Result<Term, Fault>
+    ensures { type_of p.now ≡ Some bool_type → type_of q.now ≡ Some bool_type → AnswersImplication result p.now q.now }
+{
+    let connective = match connective(alloc) {
+        Ok(connective) => connective,
+        Err(fault) => return Err(fault),
+    };
+    let half = match Term::mk_comb(alloc, &connective, p) {
+        Ok(half) => half,
+        Err(fault) => return Err(fault),
+    };
+    Term::mk_comb(alloc, &half, q)
+}
+
+// The goal's target behind the conclusion of the theorem of this name.
+fn implied(alloc: Global, name: &str, conclusion: &Term, goal: &Goal) -> Result<Step, Fault>
+    ensures { type_of conclusion.now ≡ Some bool_type → type_of goal.now.concl ≡ Some bool_type → AnswersStep (stated.implied (goal_of goal.now) name.now conclusion.now) (step_in result) }
+{
+    let implication = match implies(alloc, conclusion, &goal.concl) {
+        Ok(implication) => implication,
+        Err(fault) => return Err(fault),
+    };
+    let just = match with_theorem(alloc, Rule::Mp, name) {
+        Ok(just) => just,
+        Err(fault) => return Err(fault),
+    };
+    to_target(alloc, goal, &implication, just)
+}
+
+/// `q` becomes `p ==> q`, `p` the theorem's conclusion.
+pub(crate) fn mp_tac(
+    alloc: Global,
+    name: &str,
+    theorem: Option<&Thm>,
+    goal: &Goal,
+) -> Result<Step, Fault>
+    requires { type_of goal.now.concl ≡ Some bool_type }
+    ensures { AnswersNamedRow (refiners.mp_tac name.now) name.now (option_map (λ t. t.now) theorem.entry) (goal_of goal.now) (step_in result) }
+{
+    match theorem {
+        Some(theorem) => {
+            if !are_assumed(theorem.hyps(), goal) {
+                return Err(Fault::RefineFails);
+            }
+            implied(alloc, name, theorem.concl(), goal)
+        }
+        None => Err(Fault::UnknownName),
+    }
+}
+
+// The terms without those that are alpha-equivalent to `p`.
+fn without(alloc: Global, p: &Term, terms: &[Term]) -> Result<Vec<Term>, Fault>
+    ensures ok { IfOk result (λ others. others.items ≡ without_hypothesis p.now terms.now) }
+    ensures err { IfErr result (λ fault. fault ≡ Memory) }
+{
+    let mut others = Vec::new(alloc);
+    for hypothesis in terms {
+        if !aconv(hypothesis, p) {
+            others.push(hypothesis.copy(alloc)?)?;
+        }
+    }
+    Ok(others)
+}
+
+// The goal's target behind `p`, which is no longer assumed.
+fn undischarged(alloc: Global, p: &Term, goal: &Goal) -> Result<Step, Fault>
+    ensures { type_of p.now ≡ Some bool_type → type_of goal.now.concl ≡ Some bool_type → AnswersStep (stated.undischarged (goal_of goal.now) p.now) (step_in result) }
+{
+    let implication = match implies(alloc, p, &goal.concl) {
+        Ok(implication) => implication,
+        Err(fault) => return Err(fault),
+    };
+    let just = match by_first(alloc, Rule::Undisch) {
+        Ok(just) => just,
+        Err(fault) => return Err(fault),
+    };
+    let asms = match without(alloc, p, &goal.asms) {
+        Ok(asms) => asms,
+        Err(fault) => return Err(fault),
+    };
+    let subgoal = Goal {
+        asms,
+        concl: implication,
+    };
+    to_one(alloc, subgoal, just)
+}
+
+/// `q` becomes `p ==> q`, `p` no longer assumed.
+pub(crate) fn undisch_tac(alloc: Global, p: &Term, goal: &Goal) -> Result<Step, Fault>
+    requires target { type_of goal.now.concl ≡ Some bool_type }
+    requires assumption { achieving.is_assumed p.now (goal_of goal.now) ≡ true → type_of p.now ≡ Some bool_type }
+    ensures { AnswersRow (refiners.undisch_tac p.now) (goal_of goal.now) (step_in result) }
+{
+    if !is_assumed(p, goal) {
+        return Err(Fault::RefineFails);
+    }
+    undischarged(alloc, p, goal)
+}
+
+// What DEDUCT_ANTISYM draws from both subgoals, each without its antecedent.
+pub(crate) fn by_both_ways(alloc: Global) -> Result<Just, Fault>
+    ensures { Makes result stated.by_both_ways }
+{
+    let second = by_second(alloc, Rule::Undisch)?;
+    let first = by_first(alloc, Rule::Undisch)?;
+    by_two(alloc, Rule::DeductAntisym, second, first)
+}
+
+// The two implications as targets.
+pub(crate) fn both_ways(
+    alloc: Global,
+    goal: &Goal,
+    left: &Term,
+    right: &Term,
+) -> Result<Step, Fault>
+    requires left { type_of left.now ≡ Some bool_type }
+    requires right { type_of right.now ≡ Some bool_type }
+    requires fits { nameless_within_limits (image (implication left.now right.now)) ≡ true }
+    ensures { AnswersStep (stated.both_ways (goal_of goal.now) left.now right.now) (step_in result) }
+{
+    let there = match implies(alloc, left, right) {
+        Ok(there) => there,
+        Err(fault) => return Err(fault),
+    };
+    let back = match implies(alloc, right, left) {
+        Ok(back) => back,
+        Err(fault) => return Err(fault),
+    };
+    let just = match by_both_ways(alloc) {
+        Ok(just) => just,
+        Err(fault) => return Err(fault),
+    };
+    to_targets(alloc, goal, &there, &back, just)
+}
+
+/// `p <=> q` becomes `p ==> q`, and `q ==> p`.
+pub(crate) fn eq_tac(alloc: Global, goal: &Goal) -> Result<Step, Fault>
+    requires target { type_of goal.now.concl ≡ Some bool_type }
+    requires sides { (p q : NamedTerm) → dest_equation goal.now.concl ≡ Some (p, q) → type_of p ≡ Some bool_type → type_of q ≡ Some bool_type }
+    ensures { AnswersRow refiners.eq_tac (goal_of goal.now) (step_in result) }
+{
+    goal.concl.well_formed();
+    match equation_sides(&goal.concl) {
+        Some(sides) => {
+            if !sides.left.ty().is_bool() {
+                return Err(Fault::BadShape);
+            }
+            both_ways(alloc, goal, sides.left, sides.right)
+        }
+        None => Err(Fault::BadShape),
+    }
+}

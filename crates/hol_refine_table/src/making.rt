@@ -1,0 +1,269 @@
+// Justifications and steps of the table.
+ghost use Rattle.std.specs.Prelude.{◌≡◌, [], ◌∷◌, true, IfOk, IfErr};
+ghost use Rattle.hol_model.specs.declared.fault.Fault.TheVariants.{Memory};
+ghost use Rattle.hol_model.specs.Derived.DerivedRules.{Conclusion, named, IsConclusion};
+ghost use Rattle.hol_model.specs.Goals.Justifications.{Justification, by_rule, no_parts};
+ghost use Rattle.hol_model.specs.Goals.Justifications as trees;
+ghost use Rattle.hol_model.specs.Refining.Refiners as refiners;
+ghost use Rattle.hol_model.specs.Refining.Refiners.{StatedGoal, from_assumptions, one_part, two_parts, three_parts, leaves, from_first, from_second};
+ghost use Rattle.hol_just.specs.Rules.{rule_of};
+ghost use Rattle.hol_just.specs.Steps.{tree_of, goal_of};
+ghost use Rattle.hol_refine_table.specs.Answers.{step_in, IsGoal, AnswersStep, Makes, MakesOver, is_shallow};
+ghost use Rattle.hol_refine_table.specs.Rows.{two_targets, two_cases};
+
+use hol_just::{Goal, Just, Rule, Step, named, step, sub};
+use hol_model::Fault;
+use hol_terms::Term;
+use std::alloc::Global;
+
+/// What a rule draws from nothing.
+pub(crate) fn by_none(alloc: Global, rule: Rule) -> Result<Just, Fault>
+    ensures { Makes result (by_rule (rule_of rule) no_parts) }
+{
+    step(alloc, rule, &[])
+}
+
+/// What a rule draws from one premise. Refused: Memory.
+pub fn by_one(alloc: Global, rule: Rule, part: Just) -> Result<Just, Fault>
+    ensures { (t : Justification) → tree_of part ≡ t → is_shallow t ≡ true → Makes result (by_rule (rule_of rule) (one_part t)) }
+{
+    let parts = [part];
+    step(alloc, rule, &parts)
+}
+
+/// What a rule draws from two premises. Refused: Memory.
+pub fn by_two(alloc: Global, rule: Rule, first: Just, second: Just) -> Result<Just, Fault>
+    ensures { (t u : Justification) → tree_of first ≡ t → tree_of second ≡ u → is_shallow t ≡ true → is_shallow u ≡ true → Makes result (by_rule (rule_of rule) (two_parts t u)) }
+{
+    let parts = [first, second];
+    step(alloc, rule, &parts)
+}
+
+/// What a rule draws from three premises.
+pub(crate) fn by_three(
+    alloc: Global,
+    rule: Rule,
+    first: Just,
+    second: Just,
+    third: Just,
+) -> Result<Just, Fault>
+    ensures { (t u v : Justification) → tree_of first ≡ t → tree_of second ≡ u → tree_of third ≡ v
+        → MakesOver (t ∷ u ∷ v ∷ []) result (by_rule (rule_of rule) (three_parts t u v)) }
+{
+    let parts = [first, second, third];
+    step(alloc, rule, &parts)
+}
+
+// Copies of the terms.
+fn copies(alloc: Global, terms: &[Term]) -> Result<Vec<Term>, Fault>
+    ensures ok { IfOk result (λ all. all.items ≡ terms.now) }
+    ensures err { IfErr result (λ fault. fault ≡ Memory) }
+{
+    let mut all = Vec::new(alloc);
+    for term in terms {
+        all.push(term.copy(alloc)?)?;
+    }
+    Ok(all)
+}
+
+/// The goal's assumptions, with another target.
+#[tactic(auto, using(crate::proofs::Goals::with_target))]
+pub(crate) fn toward(alloc: Global, goal: &Goal, target: Term) -> Result<Goal, Fault>
+    ensures ok { IfOk result (λ made. (c : Conclusion) → IsConclusion c target → IsGoal (from_assumptions (goal_of goal.now).assumptions [] c) (goal_of made)) }
+    ensures err { IfErr result (λ fault. fault ≡ Memory) }
+{
+    Ok(Goal {
+        asms: copies(alloc, &goal.asms)?,
+        concl: target,
+    })
+}
+
+/// The goal's assumptions and one more behind them, with this target.
+#[tactic(auto, using(crate::proofs::Goals::with_assumption))]
+pub(crate) fn assuming(
+    alloc: Global,
+    goal: &Goal,
+    added: Term,
+    target: &Term,
+) -> Result<Goal, Fault>
+    ensures ok { IfOk result (λ made. (c d : Conclusion) → IsConclusion c added → IsConclusion d target.now
+        → IsGoal (from_assumptions (goal_of goal.now).assumptions (c ∷ []) d) (goal_of made)) }
+    ensures err { IfErr result (λ fault. fault ≡ Memory) }
+{
+    let mut asms = copies(alloc, &goal.asms)?;
+    asms.push(added)?;
+    Ok(Goal {
+        asms,
+        concl: target.copy(alloc)?,
+    })
+}
+
+/// A step that closes the goal. Refused: Memory.
+pub fn closed(alloc: Global, just: Just) -> Result<Step, Fault>
+    ensures { (t : Justification) → tree_of just ≡ t → AnswersStep (leaves [] t) (step_in result) }
+{
+    Ok(Step {
+        goals: Vec::new(alloc),
+        just,
+    })
+}
+
+/// A step to one subgoal.
+pub(crate) fn to_one(alloc: Global, goal: Goal, just: Just) -> Result<Step, Fault>
+    ensures { (s : StatedGoal) (t : Justification) → IsGoal s (goal_of goal) → tree_of just ≡ t → AnswersStep (leaves (s ∷ []) t) (step_in result) }
+{
+    let mut goals = Vec::new(alloc);
+    goals.push(goal)?;
+    Ok(Step { goals, just })
+}
+
+/// A step to two subgoals.
+pub(crate) fn to_two(alloc: Global, first: Goal, second: Goal, just: Just) -> Result<Step, Fault>
+    ensures { (s r : StatedGoal) (t : Justification) → IsGoal s (goal_of first) → IsGoal r (goal_of second) → tree_of just ≡ t → AnswersStep (leaves (s ∷ r ∷ []) t) (step_in result) }
+{
+    let mut goals = Vec::new(alloc);
+    goals.push(first)?;
+    goals.push(second)?;
+    Ok(Step { goals, just })
+}
+
+/// What a rule draws from the first subgoal.
+pub(crate) fn by_first(alloc: Global, rule: Rule) -> Result<Just, Fault>
+    ensures { Makes result (by_rule (rule_of rule) (one_part from_first)) }
+{
+    let first = sub(alloc, 0)?;
+    by_one(alloc, rule, first)
+}
+
+/// What a rule draws from the second subgoal.
+pub(crate) fn by_second(alloc: Global, rule: Rule) -> Result<Just, Fault>
+    ensures { Makes result (by_rule (rule_of rule) (one_part from_second)) }
+{
+    let second = sub(alloc, 1)?;
+    by_one(alloc, rule, second)
+}
+
+/// What a rule draws from both subgoals.
+pub(crate) fn by_both(alloc: Global, rule: Rule) -> Result<Just, Fault>
+    ensures { Makes result (by_rule (rule_of rule) (two_parts from_first from_second)) }
+{
+    let first = sub(alloc, 0)?;
+    let second = sub(alloc, 1)?;
+    by_two(alloc, rule, first, second)
+}
+
+/// What a rule draws from a stored theorem and the first subgoal.
+pub(crate) fn by_theorem(alloc: Global, rule: Rule, name: &str) -> Result<Just, Fault>
+    ensures { Makes result (by_rule (rule_of rule) (two_parts (trees.named name.now) from_first)) }
+{
+    let theorem = named(alloc, name)?;
+    let first = sub(alloc, 0)?;
+    by_two(alloc, rule, theorem, first)
+}
+
+/// What a rule draws from the first subgoal and a stored theorem.
+pub(crate) fn with_theorem(alloc: Global, rule: Rule, name: &str) -> Result<Just, Fault>
+    ensures { Makes result (by_rule (rule_of rule) (two_parts from_first (trees.named name.now))) }
+{
+    let first = sub(alloc, 0)?;
+    let theorem = named(alloc, name)?;
+    by_two(alloc, rule, first, theorem)
+}
+
+/// What a rule draws from a stored theorem and both subgoals.
+pub(crate) fn by_cases(alloc: Global, rule: Rule, name: &str) -> Result<Just, Fault>
+    ensures { Makes result (by_rule (rule_of rule) (three_parts (trees.named name.now) from_first from_second)) }
+{
+    let theorem = named(alloc, name)?;
+    let first = sub(alloc, 0)?;
+    let second = sub(alloc, 1)?;
+    by_three(alloc, rule, theorem, first, second)
+}
+
+/// A step by a rule without premises.
+pub(crate) fn by_itself(alloc: Global, rule: Rule) -> Result<Step, Fault>
+    ensures { AnswersStep (leaves [] (by_rule (rule_of rule) no_parts)) (step_in result) }
+{
+    let just = by_none(alloc, rule)?;
+    closed(alloc, just)
+}
+
+/// A step to a subgoal with this target. Refused: Memory.
+pub fn to_target(alloc: Global, goal: &Goal, target: &Term, just: Just) -> Result<Step, Fault>
+    ensures { (t : Justification) → tree_of just ≡ t → AnswersStep (leaves (refiners.toward (goal_of goal.now) (named target.now) ∷ []) t) (step_in result) }
+{
+    let target = target.copy(alloc)?;
+    let subgoal = toward(alloc, goal, target)?;
+    to_one(alloc, subgoal, just)
+}
+
+/// A step to subgoals with these targets.
+pub(crate) fn to_targets(
+    alloc: Global,
+    goal: &Goal,
+    left: &Term,
+    right: &Term,
+    just: Just,
+) -> Result<Step, Fault>
+    ensures { (t : Justification) → tree_of just ≡ t → AnswersStep (leaves (two_targets (goal_of goal.now) left.now right.now) t) (step_in result) }
+{
+    let left = left.copy(alloc)?;
+    let right = right.copy(alloc)?;
+    let first = toward(alloc, goal, left)?;
+    let second = toward(alloc, goal, right)?;
+    to_two(alloc, first, second, just)
+}
+
+/// A step to a subgoal with one more assumption and this target.
+pub(crate) fn to_assuming(
+    alloc: Global,
+    goal: &Goal,
+    added: &Term,
+    target: &Term,
+    just: Just,
+) -> Result<Step, Fault>
+    ensures { (t : Justification) → tree_of just ≡ t → AnswersStep (leaves
+        (from_assumptions (goal_of goal.now).assumptions (named added.now ∷ []) (named target.now) ∷ []) t) (step_in result) }
+{
+    let added = added.copy(alloc)?;
+    let subgoal = assuming(alloc, goal, added, target)?;
+    to_one(alloc, subgoal, just)
+}
+
+/// A step to two subgoals, each with one more assumption.
+pub(crate) fn to_cases(
+    alloc: Global,
+    goal: &Goal,
+    left: &Term,
+    right: &Term,
+    just: Just,
+) -> Result<Step, Fault>
+    ensures { (t : Justification) → tree_of just ≡ t → AnswersStep (leaves (two_cases (goal_of goal.now) left.now right.now) t) (step_in result) }
+{
+    let left = left.copy(alloc)?;
+    let right = right.copy(alloc)?;
+    let first = assuming(alloc, goal, left, &goal.concl)?;
+    let second = assuming(alloc, goal, right, &goal.concl)?;
+    to_two(alloc, first, second, just)
+}
+
+/// A step to the goal with one more assumption.
+pub(crate) fn to_assuming_stated(
+    alloc: Global,
+    goal: &Goal,
+    added: Term,
+    just: Just,
+) -> Result<Step, Fault>
+    ensures { (c : Conclusion) (t : Justification) → IsConclusion c added → tree_of just ≡ t → AnswersStep (leaves (refiners.assuming (goal_of goal.now) c ∷ []) t) (step_in result) }
+{
+    let subgoal = assuming(alloc, goal, added, &goal.concl)?;
+    to_one(alloc, subgoal, just)
+}
+
+/// A step to a subgoal with this target.
+pub(crate) fn to_stated(alloc: Global, goal: &Goal, target: Term, just: Just) -> Result<Step, Fault>
+    ensures { (c : Conclusion) (t : Justification) → IsConclusion c target → tree_of just ≡ t → AnswersStep (leaves (refiners.toward (goal_of goal.now) c ∷ []) t) (step_in result) }
+{
+    let subgoal = toward(alloc, goal, target)?;
+    to_one(alloc, subgoal, just)
+}

@@ -1,0 +1,136 @@
+// Names that nothing in a goal has.
+ghost use Rattle.std.specs.Prelude.{◌≡◌, IfOk, IfErr, IsTrue};
+ghost use Rattle.std.specs.List.{list_any};
+ghost use Rattle.std.specs.Option.{is_some};
+ghost use Rattle.std.specs.String.{string_bytes};
+ghost use Rattle.hol_model.specs.declared.fault.Fault.TheVariants.{Memory};
+ghost use Rattle.hol_model.specs.Terms.Name.{is_identifier};
+ghost use Rattle.hol_model.specs.Terms.Nameless.{binder_index, image, image_under};
+ghost use Rattle.hol_model.specs.Terms.Substitution.{IsFirstFree, occurs_free};
+ghost use Rattle.hol_model.specs.Refining.Refiners as refiners;
+ghost use Rattle.hol_just.specs.Steps.{goal_of};
+ghost use Rattle.hol_refine_table.specs.Scope.{binders_of};
+
+use hol_just::Goal;
+use hol_kernel::Theory;
+use hol_model::Fault;
+use hol_terms::{Parts, Term, is_free, same_variable};
+use hol_types::Ty;
+use std::alloc::Global;
+
+/// The binders that a part of a term stands under.
+#[derive(Drop)]
+enum Scope<'a> {
+    Outermost,
+    // The name and the type of a binder, and those outside it.
+    Under(&'a str, &'a Ty, &'a Scope<'a>),
+}
+
+// Whether one of the binders binds the variable of this name and type.
+fn is_bound(scope: &Scope<'_>, name: &str, ty: &Ty) -> bool
+    ensures { result ≡ is_some (binder_index (binders_of scope.now) name.now ty.now) }
+{
+    match scope {
+        Scope::Outermost => false,
+        Scope::Under(other, s, outer) => same_variable(other, s, name, ty)
+            || is_bound(outer, name, ty),
+    }
+}
+
+// Whether a variable of this name is free in a term that stands under these binders.
+#[tactic(auto, using(crate::proofs::TakenNames::bound_passes, crate::proofs::TakenNames::free_compares))]
+fn has_free_name(name: &str, term: &Term, scope: &Scope<'_>) -> bool
+    ensures { result ≡ refiners.has_free_name name.now (image_under (binders_of scope.now) term.now) }
+{
+    match term.parts() {
+        Parts::Variable(other, ty) => {
+            if is_bound(&*scope, other, ty) {
+                return false;
+            }
+            name == other
+        }
+        Parts::Constant(_, _) => false,
+        Parts::Combination(function, argument) => has_free_name(name, function, &*scope)
+            || has_free_name(name, argument, &*scope),
+        Parts::Abstraction(other, ty, body) => has_free_name(
+            name,
+            body,
+            &Scope::Under(other, ty, &*scope),
+        ),
+    }
+}
+
+// Whether a variable of this name is free in one of the terms.
+fn is_free_name_in_some(name: &str, terms: &[Term]) -> bool
+    ensures { result ≡ list_any (λ term. refiners.has_free_name name.now (image term)) terms.now }
+{
+    terms
+        .iter()
+        .any(|term| has_free_name(name, term, &Scope::Outermost))
+}
+
+// Whether a free variable of the goal or a constant has the name.
+fn is_taken(theory: &Theory, goal: &Goal, name: &str) -> bool
+    ensures { result ≡ refiners.is_taken theory.now (goal_of goal.now) name.now }
+{
+    theory.const_type(name).is_some()
+        || has_free_name(name, &goal.concl, &Scope::Outermost)
+        || is_free_name_in_some(name, &goal.asms)
+}
+
+/// The name with so many primes that it is not taken.
+#[tactic(auto, using(crate::proofs::Primes::no_primes, crate::proofs::Primes::free_at_last))]
+pub(crate) fn fresh_name(
+    alloc: Global,
+    theory: &Theory,
+    goal: &Goal,
+    name: &str,
+) -> Result<String, Fault>
+    requires { IsTrue (is_identifier name.now) }
+    ensures fresh { IfOk result (λ fresh. IsFirstFree (refiners.is_taken theory.now (goal_of goal.now)) name.now (string_bytes fresh)) }
+    ensures named { IfOk result (λ fresh. IsTrue (is_identifier (string_bytes fresh))) }
+    ensures err { IfErr result (λ fault. fault ≡ Memory) }
+{
+    let mut fresh = String::from_str(alloc, name)?;
+    while is_taken(theory, goal, fresh.as_str()) {
+        fresh.push_str("'")?;
+    }
+    Ok(fresh)
+}
+
+// Whether the variable of this name and type is free in the term.
+#[tactic(auto, using(crate::proofs::TakenNames::free_in_image))]
+fn is_free_in(term: &Term, name: &str, ty: &Ty) -> bool
+    ensures { result ≡ occurs_free name.now ty.now (image term.now) }
+{
+    is_free(term, name, ty)
+}
+
+// Whether the name is taken, or a variable of this name and type is free in the conclusion.
+fn is_taken_beside(theory: &Theory, goal: &Goal, ty: &Ty, conclusion: &Term, name: &str) -> bool
+    ensures { result ≡ refiners.is_taken_beside theory.now (goal_of goal.now) ty.now conclusion.now name.now }
+{
+    is_taken(theory, goal, name) || is_free_in(conclusion, name, ty)
+}
+
+/// The name with so many primes that it is not taken, nor free at this type in the conclusion.
+#[tactic(auto, using(crate::proofs::Primes::no_primes, crate::proofs::Primes::free_at_last))]
+pub(crate) fn fresh_name_beside(
+    alloc: Global,
+    theory: &Theory,
+    goal: &Goal,
+    ty: &Ty,
+    conclusion: &Term,
+    name: &str,
+) -> Result<String, Fault>
+    requires { IsTrue (is_identifier name.now) }
+    ensures fresh { IfOk result (λ fresh. IsFirstFree (refiners.is_taken_beside theory.now (goal_of goal.now) ty.now conclusion.now) name.now (string_bytes fresh)) }
+    ensures named { IfOk result (λ fresh. IsTrue (is_identifier (string_bytes fresh))) }
+    ensures err { IfErr result (λ fault. fault ≡ Memory) }
+{
+    let mut fresh = String::from_str(alloc, name)?;
+    while is_taken_beside(theory, goal, ty, conclusion, fresh.as_str()) {
+        fresh.push_str("'")?;
+    }
+    Ok(fresh)
+}

@@ -1,0 +1,219 @@
+// The refiners of the table that take a quantifier away.
+ghost use Rattle.std.specs.Prelude.{◌≡◌, [], ◌∷◌, Some, true, IsTrue};
+ghost use Rattle.std.specs.Option.{option_map};
+ghost use Rattle.hol_model.specs.Terms.Name.{is_identifier};
+ghost use Rattle.hol_model.specs.Terms.NamedTerm.{variable, type_of};
+ghost use Rattle.hol_model.specs.Derived.DerivedRules as spec;
+ghost use Rattle.hol_model.specs.Derived.InferenceRules.{rule_choose, rule_exists, rule_gen};
+ghost use Rattle.hol_model.specs.Goals.Justifications as trees;
+ghost use Rattle.hol_model.specs.Goals.Justifications.{by_rule};
+ghost use Rattle.hol_model.specs.Goals.Replays.{Store};
+ghost use Rattle.hol_model.specs.Refining.Refiners as refiners;
+ghost use Rattle.hol_model.specs.Refining.Refiners.{one_part, two_parts, from_first};
+ghost use Rattle.hol_just.specs.Steps.{goal_of};
+ghost use Rattle.hol_refine_table.specs.Answers.{step_in, AnswersLeaf, AnswersNamedLeaf, AnswersStep, AnswersRow, Makes, abstracted};
+ghost use Rattle.hol_refine_table.specs.Rows as stated;
+
+use crate::assumed::are_assumed;
+use crate::making::{by_first, by_theorem, to_assuming_stated, to_stated};
+use crate::names::{fresh_name, fresh_name_beside};
+use crate::quantified::{Quantified, instance, quantified_parts, renamed, variable_of};
+use hol_just::{Goal, Just, Rule, Step};
+use hol_kernel::{Theory, Thm};
+use hol_model::Fault;
+use hol_terms::Term;
+use hol_types::Ty;
+use std::alloc::Global;
+
+// What EXISTS draws from the first subgoal.
+fn by_exists(alloc: Global, formula: &Term, witness: &Term) -> Result<Just, Fault>
+    ensures { Makes result (by_rule (rule_exists formula.now witness.now) (one_part from_first)) }
+{
+    let formula = formula.copy(alloc)?;
+    let witness = witness.copy(alloc)?;
+    by_first(alloc, Rule::Exists(formula, witness))
+}
+
+// The body with the witness for the variable.
+fn witnessed(
+    alloc: Global,
+    goal: &Goal,
+    witness: &Term,
+    name: &str,
+    ty: &Ty,
+    body: &Term,
+) -> Result<Step, Fault>
+    requires named { is_identifier name.now ≡ true }
+    requires typed { type_of witness.now ≡ Some ty.now }
+    ensures { AnswersStep (stated.witnessed (goal_of goal.now) (abstracted name.now ty.now body.now) witness.now) (step_in result) }
+{
+    let instance = match instance(alloc, name, ty, body, witness) {
+        Ok(instance) => instance,
+        Err(fault) => return Err(fault),
+    };
+    let just = match by_exists(alloc, &goal.concl, witness) {
+        Ok(just) => just,
+        Err(fault) => return Err(fault),
+    };
+    to_stated(alloc, goal, instance, just)
+}
+
+// Whether the term is of this type.
+#[tactic(auto, using(crate::proofs::Fitting::of_type))]
+fn is_of_type(ty: &Ty, term: &Term) -> bool
+    ensures test { result ≡ spec.is_of_type ty.now term.now }
+    ensures typed { IsTrue result → type_of term.now ≡ Some ty.now }
+{
+    term.ty().eq(ty)
+}
+
+/// `?x. p` becomes `p` with the witness for `x`.
+pub(crate) fn exists_tac(alloc: Global, witness: &Term, goal: &Goal) -> Result<Step, Fault>
+    ensures { AnswersRow (refiners.exists_tac witness.now) (goal_of goal.now) (step_in result) }
+{
+    match quantified_parts(&goal.concl, "?") {
+        Some(parts) => {
+            if !is_of_type(parts.ty, witness) {
+                return Err(Fault::TypeMismatch);
+            }
+            witnessed(alloc, goal, witness, parts.name, parts.ty, parts.body)
+        }
+        None => Err(Fault::BadShape),
+    }
+}
+
+// What GEN draws from the first subgoal.
+fn by_gen(alloc: Global, name: &str, ty: &Ty) -> Result<Just, Fault>
+    requires { is_identifier name.now ≡ true }
+    ensures { Makes result (by_rule (rule_gen (variable name.now ty.now)) (one_part from_first)) }
+{
+    let variable = variable_of(alloc, name, ty)?;
+    by_first(alloc, Rule::Gen(variable))
+}
+
+// The body with a new variable.
+fn generalized(
+    alloc: Global,
+    goal: &Goal,
+    name: &str,
+    ty: &Ty,
+    body: &Term,
+    fresh: &str,
+) -> Result<Step, Fault>
+    requires named { is_identifier name.now ≡ true }
+    requires fresh { is_identifier fresh.now ≡ true }
+    ensures { AnswersStep (stated.generalized (goal_of goal.now) (abstracted name.now ty.now body.now) fresh.now) (step_in result) }
+{
+    let instance = match renamed(alloc, name, ty, body, fresh) {
+        Ok(instance) => instance,
+        Err(fault) => return Err(fault),
+    };
+    let just = match by_gen(alloc, fresh, ty) {
+        Ok(just) => just,
+        Err(fault) => return Err(fault),
+    };
+    to_stated(alloc, goal, instance, just)
+}
+
+/// `!x. p` becomes `p` with a new variable for `x`.
+#[tactic(auto, using(crate::proofs::FreshAnswers::gen_answers, crate::proofs::FreshAnswers::gen_refused, crate::proofs::FreshAnswers::leaf_memory))]
+pub(crate) fn gen_tac(alloc: Global, theory: &Theory, goal: &Goal) -> Result<Step, Fault>
+    ensures { (store : Store) → AnswersLeaf theory.now store refiners.gen_tac (goal_of goal.now) (step_in result) }
+{
+    match quantified_parts(&goal.concl, "!") {
+        Some(parts) => {
+            let fresh = match fresh_name(alloc, theory, goal, parts.name) {
+                Ok(fresh) => fresh,
+                Err(fault) => return Err(fault),
+            };
+            generalized(
+                alloc,
+                goal,
+                parts.name,
+                parts.ty,
+                parts.body,
+                fresh.as_str(),
+            )
+        }
+        None => Err(Fault::BadShape),
+    }
+}
+
+// What CHOOSE draws from the theorem of this name and the first subgoal.
+fn by_choose(alloc: Global, theorem: &str, name: &str, ty: &Ty) -> Result<Just, Fault>
+    requires { is_identifier name.now ≡ true }
+    ensures { Makes result (by_rule (rule_choose (variable name.now ty.now)) (two_parts (trees.named theorem.now) from_first)) }
+{
+    let variable = variable_of(alloc, name, ty)?;
+    by_theorem(alloc, Rule::Choose(variable), theorem)
+}
+
+// The goal, with the body of the theorem's conclusion assumed of a new variable.
+fn chosen(
+    alloc: Global,
+    goal: &Goal,
+    theorem: &str,
+    parts: Quantified<'_>,
+    fresh: &str,
+) -> Result<Step, Fault>
+    requires named { is_identifier parts.name.now ≡ true }
+    requires fresh { is_identifier fresh.now ≡ true }
+    ensures { AnswersStep (stated.chosen (goal_of goal.now) theorem.now (abstracted parts.entry.name.now parts.entry.ty.now parts.entry.body.now) fresh.now) (step_in result) }
+{
+    let instance = match renamed(alloc, parts.name, parts.ty, parts.body, fresh) {
+        Ok(instance) => instance,
+        Err(fault) => return Err(fault),
+    };
+    let just = match by_choose(alloc, theorem, fresh, parts.ty) {
+        Ok(just) => just,
+        Err(fault) => return Err(fault),
+    };
+    to_assuming_stated(alloc, goal, instance, just)
+}
+
+// The same of this theorem.
+#[tactic(auto, using(crate::proofs::FreshAnswers::leaf_memory))]
+fn chosen_from(
+    alloc: Global,
+    theory: &Theory,
+    name: &str,
+    theorem: &Thm,
+    goal: &Goal,
+) -> Result<Step, Fault>
+    ensures { (store : Store) → store.named name.now ≡ Some theorem.now → AnswersLeaf theory.now store (refiners.choose_tac name.now) (goal_of goal.now) (step_in result) }
+{
+    let hypotheses = theorem.hyps();
+    let conclusion = theorem.concl();
+    match quantified_parts(conclusion, "?") {
+        Some(parts) => {
+            if !are_assumed(hypotheses, goal) {
+                return Err(Fault::RefineFails);
+            }
+            let fresh = match fresh_name_beside(
+                alloc, theory, goal, parts.ty, conclusion, parts.name,
+            ) {
+                Ok(fresh) => fresh,
+                Err(fault) => return Err(fault),
+            };
+            chosen(alloc, goal, name, parts, fresh.as_str())
+        }
+        None => Err(Fault::BadShape),
+    }
+}
+
+/// The theorem's conclusion is `?x. p`: the goal with `p` assumed of a new variable for `x`.
+#[tactic(auto, using(crate::proofs::FreshAnswers::choose_unknown))]
+pub(crate) fn choose_tac(
+    alloc: Global,
+    theory: &Theory,
+    name: &str,
+    theorem: Option<&Thm>,
+    goal: &Goal,
+) -> Result<Step, Fault>
+    ensures { AnswersNamedLeaf theory.now (refiners.choose_tac name.now) name.now (option_map (λ t. t.now) theorem.entry) (goal_of goal.now) (step_in result) }
+{
+    match theorem {
+        Some(theorem) => chosen_from(alloc, theory, name, theorem, goal),
+        None => Err(Fault::UnknownName),
+    }
+}

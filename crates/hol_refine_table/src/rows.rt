@@ -1,0 +1,186 @@
+// The refiners of the table that name no theorem and call no variable.
+ghost use Rattle.std.specs.Prelude.{◌≡◌, [], ◌∷◌, IfOk, IfErr};
+ghost use Rattle.hol_model.specs.declared.fault.Fault.TheVariants.{Memory};
+ghost use Rattle.hol_model.specs.Goals.Goals as goals;
+ghost use Rattle.hol_model.specs.Derived.DerivedRules.{named};
+ghost use Rattle.hol_model.specs.Logic.NamedLogic.{false_term};
+ghost use Rattle.hol_model.specs.Goals.Justifications.{by_rule, no_parts};
+ghost use Rattle.hol_model.specs.Refining.Refiners as refiners;
+ghost use Rattle.hol_model.specs.Refining.Refiners.{leaves, from_first, one_part};
+ghost use Rattle.hol_model.specs.Derived.InferenceRules.{rule_disch, rule_disj1, rule_disj2, rule_assume, rule_refl};
+ghost use Rattle.hol_just.specs.Steps.{goal_of};
+ghost use Rattle.hol_refine_table.specs.Answers.{step_in, AnswersStep, AnswersRow, Makes};
+ghost use Rattle.hol_refine_table.specs.Rows as stated;
+
+use crate::assumed::is_assumed;
+use crate::making::{by_both, by_first, by_itself, by_one, to_assuming, to_target, to_targets};
+use crate::parts::{connected_sides, equation_sides, negated_part};
+use hol_alpha::aconv;
+use hol_just::{Goal, Just, Rule, Step, sub};
+use hol_model::Fault;
+use hol_terms::Term;
+use hol_types::Ty;
+use std::alloc::Global;
+
+/// The goal itself.
+pub(crate) fn all_tac(alloc: Global, goal: &Goal) -> Result<Step, Fault>
+    ensures { AnswersRow refiners.all_tac (goal_of goal.now) (step_in result) }
+{
+    let just = sub(alloc, 0)?;
+    to_target(alloc, goal, &goal.concl, just)
+}
+
+/// Refuses every goal.
+pub(crate) fn no_tac() -> Result<Step, Fault>
+    ensures { (goal : goals.Goal) → AnswersRow refiners.no_tac goal (step_in result) }
+{
+    Err(Fault::RefineFails)
+}
+
+// The assumption `p`.
+fn assumed(alloc: Global, p: &Term) -> Result<Step, Fault>
+    ensures { AnswersStep (leaves [] (by_rule (rule_assume p.now) no_parts)) (step_in result) }
+{
+    let p = p.copy(alloc)?;
+    by_itself(alloc, Rule::Assume(p))
+}
+
+/// The target is an assumption.
+pub(crate) fn assumption_tac(alloc: Global, goal: &Goal) -> Result<Step, Fault>
+    ensures { AnswersRow refiners.assumption_tac (goal_of goal.now) (step_in result) }
+{
+    if !is_assumed(&goal.concl, goal) {
+        return Err(Fault::RefineFails);
+    }
+    assumed(alloc, &goal.concl)
+}
+
+// `a = a`.
+fn reflexive(alloc: Global, a: &Term) -> Result<Step, Fault>
+    ensures { AnswersStep (leaves [] (by_rule (rule_refl a.now) no_parts)) (step_in result) }
+{
+    let a = a.copy(alloc)?;
+    by_itself(alloc, Rule::Refl(a))
+}
+
+/// The target is `a = a`.
+pub(crate) fn refl_tac(alloc: Global, goal: &Goal) -> Result<Step, Fault>
+    ensures { AnswersRow refiners.refl_tac (goal_of goal.now) (step_in result) }
+{
+    match equation_sides(&goal.concl) {
+        Some(sides) => {
+            if !aconv(sides.left, sides.right) {
+                return Err(Fault::RefineFails);
+            }
+            reflexive(alloc, sides.left)
+        }
+        None => Err(Fault::BadShape),
+    }
+}
+
+// Subgoals with these targets, joined by CONJ.
+fn both(alloc: Global, goal: &Goal, left: &Term, right: &Term) -> Result<Step, Fault>
+    ensures { AnswersStep (stated.both (goal_of goal.now) left.now right.now) (step_in result) }
+{
+    let just = by_both(alloc, Rule::Conj)?;
+    to_targets(alloc, goal, left, right, just)
+}
+
+/// `p /\ q` becomes `p`, and `q`.
+pub(crate) fn conj_tac(alloc: Global, goal: &Goal) -> Result<Step, Fault>
+    ensures { AnswersRow refiners.conj_tac (goal_of goal.now) (step_in result) }
+{
+    match connected_sides(&goal.concl, "/\\") {
+        Some(sides) => both(alloc, goal, sides.left, sides.right),
+        None => Err(Fault::BadShape),
+    }
+}
+
+// The left side alone.
+fn left_alone(alloc: Global, goal: &Goal, left: &Term, right: &Term) -> Result<Step, Fault>
+    ensures { AnswersStep (leaves (refiners.toward (goal_of goal.now) (named left.now) ∷ []) (by_rule (rule_disj1 right.now) (one_part from_first))) (step_in result) }
+{
+    let right = right.copy(alloc)?;
+    let just = by_first(alloc, Rule::Disj1(right))?;
+    to_target(alloc, goal, left, just)
+}
+
+/// `p \/ q` becomes `p`.
+pub(crate) fn disj1_tac(alloc: Global, goal: &Goal) -> Result<Step, Fault>
+    ensures { AnswersRow refiners.disj1_tac (goal_of goal.now) (step_in result) }
+{
+    match connected_sides(&goal.concl, "\\/") {
+        Some(sides) => left_alone(alloc, goal, sides.left, sides.right),
+        None => Err(Fault::BadShape),
+    }
+}
+
+// The right side alone.
+fn right_alone(alloc: Global, goal: &Goal, left: &Term, right: &Term) -> Result<Step, Fault>
+    ensures { AnswersStep (leaves (refiners.toward (goal_of goal.now) (named right.now) ∷ []) (by_rule (rule_disj2 left.now) (one_part from_first))) (step_in result) }
+{
+    let left = left.copy(alloc)?;
+    let just = by_first(alloc, Rule::Disj2(left))?;
+    to_target(alloc, goal, right, just)
+}
+
+/// `p \/ q` becomes `q`.
+pub(crate) fn disj2_tac(alloc: Global, goal: &Goal) -> Result<Step, Fault>
+    ensures { AnswersRow refiners.disj2_tac (goal_of goal.now) (step_in result) }
+{
+    match connected_sides(&goal.concl, "\\/") {
+        Some(sides) => right_alone(alloc, goal, sides.left, sides.right),
+        None => Err(Fault::BadShape),
+    }
+}
+
+// What DISCH draws from the first subgoal.
+fn by_disch(alloc: Global, p: &Term) -> Result<Just, Fault>
+    ensures { Makes result (by_rule (rule_disch p.now) (one_part from_first)) }
+{
+    let p = p.copy(alloc)?;
+    by_first(alloc, Rule::Disch(p))
+}
+
+// `q`, with `p` assumed.
+fn discharged(alloc: Global, goal: &Goal, p: &Term, q: &Term) -> Result<Step, Fault>
+    ensures { AnswersStep (stated.discharged (goal_of goal.now) p.now q.now) (step_in result) }
+{
+    let just = by_disch(alloc, p)?;
+    to_assuming(alloc, goal, p, q, just)
+}
+
+// `F`.
+fn falsity(alloc: Global) -> Result<Term, Fault>
+    ensures ok { IfOk result (λ term. term ≡ false_term) }
+    ensures err { IfErr result (λ fault. fault ≡ Memory) }
+{
+    let boolean = Ty::boolean(alloc)?;
+    Term::mk_const(alloc, "F", &boolean)
+}
+
+// `F`, with `p` assumed.
+fn refuted(alloc: Global, goal: &Goal, p: &Term) -> Result<Step, Fault>
+    ensures { AnswersStep (stated.refuted (goal_of goal.now) p.now) (step_in result) }
+{
+    let falsity = falsity(alloc)?;
+    let discharged = by_disch(alloc, p)?;
+    let just = by_one(alloc, Rule::NotIntro, discharged);
+    match just {
+        Ok(just) => to_assuming(alloc, goal, p, &falsity, just),
+        Err(fault) => Err(fault),
+    }
+}
+
+/// `p ==> q` becomes `q` with `p` assumed, and `~p` becomes `F` with `p` assumed.
+pub(crate) fn disch_tac(alloc: Global, goal: &Goal) -> Result<Step, Fault>
+    ensures { AnswersRow refiners.disch_tac (goal_of goal.now) (step_in result) }
+{
+    match connected_sides(&goal.concl, "==>") {
+        Some(sides) => discharged(alloc, goal, sides.left, sides.right),
+        None => match negated_part(&goal.concl) {
+            Some(p) => refuted(alloc, goal, p),
+            None => Err(Fault::BadShape),
+        },
+    }
+}

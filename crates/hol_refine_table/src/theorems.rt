@@ -1,0 +1,112 @@
+// The refiners of the table that name a theorem, and make no term.
+ghost use Rattle.std.specs.Prelude.{◌≡◌, [], ◌∷◌};
+ghost use Rattle.std.specs.Option.{option_map};
+ghost use Rattle.hol_model.specs.Derived.DerivedRules.{named};
+ghost use Rattle.hol_model.specs.Derived.InferenceRules.{rule_prove_hyp};
+ghost use Rattle.hol_model.specs.Goals.Justifications as trees;
+ghost use Rattle.hol_model.specs.Goals.Justifications.{by_rule};
+ghost use Rattle.hol_model.specs.Refining.Refiners as refiners;
+ghost use Rattle.hol_model.specs.Refining.Refiners.{leaves, two_parts, from_first};
+ghost use Rattle.hol_just.specs.Steps.{goal_of};
+ghost use Rattle.hol_refine_table.specs.Answers.{step_in, AnswersStep, AnswersNamedRow};
+ghost use Rattle.hol_refine_table.specs.Rows as stated;
+
+use crate::assumed::are_assumed;
+use crate::making::{by_cases, by_theorem, closed, to_assuming, to_cases};
+use crate::parts::connected_sides;
+use hol_alpha::aconv;
+use hol_just::{Goal, Rule, Step, named};
+use hol_kernel::Thm;
+use hol_model::Fault;
+use hol_terms::Term;
+use std::alloc::Global;
+
+// The stored theorem itself.
+fn stored(alloc: Global, name: &str) -> Result<Step, Fault>
+    ensures { AnswersStep (leaves [] (trees.named name.now)) (step_in result) }
+{
+    let just = named(alloc, name)?;
+    closed(alloc, just)
+}
+
+/// The target is the theorem's conclusion.
+pub(crate) fn accept_tac(
+    alloc: Global,
+    name: &str,
+    theorem: Option<&Thm>,
+    goal: &Goal,
+) -> Result<Step, Fault>
+    ensures { AnswersNamedRow (refiners.accept_tac name.now) name.now (option_map (λ t. t.now) theorem.entry) (goal_of goal.now) (step_in result) }
+{
+    match theorem {
+        Some(theorem) => {
+            if !aconv(theorem.concl(), &goal.concl) {
+                return Err(Fault::RefineFails);
+            }
+            if !are_assumed(theorem.hyps(), goal) {
+                return Err(Fault::RefineFails);
+            }
+            stored(alloc, name)
+        }
+        None => Err(Fault::UnknownName),
+    }
+}
+
+// The goal with the conclusion of the theorem of this name assumed.
+fn assumed(alloc: Global, name: &str, conclusion: &Term, goal: &Goal) -> Result<Step, Fault>
+    ensures { AnswersStep (leaves (refiners.assuming (goal_of goal.now) (named conclusion.now) ∷ []) (by_rule rule_prove_hyp (two_parts (trees.named name.now) from_first))) (step_in result) }
+{
+    let just = by_theorem(alloc, Rule::ProveHyp, name)?;
+    to_assuming(alloc, goal, conclusion, &goal.concl, just)
+}
+
+/// The theorem's conclusion is assumed.
+pub(crate) fn assume_tac(
+    alloc: Global,
+    name: &str,
+    theorem: Option<&Thm>,
+    goal: &Goal,
+) -> Result<Step, Fault>
+    ensures { AnswersNamedRow (refiners.assume_tac name.now) name.now (option_map (λ t. t.now) theorem.entry) (goal_of goal.now) (step_in result) }
+{
+    match theorem {
+        Some(theorem) => {
+            if !are_assumed(theorem.hyps(), goal) {
+                return Err(Fault::RefineFails);
+            }
+            assumed(alloc, name, theorem.concl(), goal)
+        }
+        None => Err(Fault::UnknownName),
+    }
+}
+
+// The goal with the one side assumed, and with the other.
+fn split(alloc: Global, name: &str, left: &Term, right: &Term, goal: &Goal) -> Result<Step, Fault>
+    ensures { AnswersStep (stated.split (goal_of goal.now) name.now left.now right.now) (step_in result) }
+{
+    let just = by_cases(alloc, Rule::DisjCases, name)?;
+    to_cases(alloc, goal, left, right, just)
+}
+
+/// The theorem's conclusion is `p \/ q`: the goal with `p` assumed, and with `q` assumed.
+pub(crate) fn disj_cases_tac(
+    alloc: Global,
+    name: &str,
+    theorem: Option<&Thm>,
+    goal: &Goal,
+) -> Result<Step, Fault>
+    ensures { AnswersNamedRow (refiners.disj_cases_tac name.now) name.now (option_map (λ t. t.now) theorem.entry) (goal_of goal.now) (step_in result) }
+{
+    match theorem {
+        Some(theorem) => match connected_sides(theorem.concl(), "\\/") {
+            Some(sides) => {
+                if !are_assumed(theorem.hyps(), goal) {
+                    return Err(Fault::RefineFails);
+                }
+                split(alloc, name, sides.left, sides.right, goal)
+            }
+            None => Err(Fault::BadShape),
+        },
+        None => Err(Fault::UnknownName),
+    }
+}

@@ -1,6 +1,0 @@
--- hol_refusals/proofs/converting_refuses/Answers.antt
-use Rattle.hol_refusals.proofs.SessionRefusals.{converting-refuses}
-use Rattle.hol_refusals.proofs.converting_refuses.Goals as goal
-
-pub returns : goal.returns
-returns g c = converting-refuses g.R.Refining.host

@@ -1,5 +1,0 @@
-use Rattle.hol_refusals.proofs.RefinerRefusals.{refiners-refuse}
-use Rattle.hol_refusals.proofs.refiners_refuse.Goals as goal
-
-pub returns : goal.returns
-returns g c = refiners-refuse g.R.Refining.host

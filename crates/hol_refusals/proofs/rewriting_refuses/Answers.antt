@@ -1,5 +1,0 @@
-use Rattle.hol_refusals.proofs.RewritingRefusals.{rewriting-refuses}
-use Rattle.hol_refusals.proofs.rewriting_refuses.Goals as goal
-
-pub returns : goal.returns
-returns g c = rewriting-refuses g.C.Converting.conversions

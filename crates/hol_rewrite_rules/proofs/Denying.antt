@@ -1,0 +1,150 @@
+-- From a denied formula, that it is false: what each step states.
+use Rattle.std.proofs.Common.{◌≡◌, List, [], ◌∷◌, ◌++◌, Bool, true, false, ◌||◌, refl, sym, ◌∙◌, ap, subst, inl, inr, Some, Result, Ok, Err, IfOk, if◌then◌else◌}
+use Rattle.hol_model.specs.declared.fault.Fault.{Fault}
+use Rattle.hol_model.specs.declared.fault.Fault.TheVariants.{NotBool}
+use Rattle.hol_model.specs.Terms.HolType.{bool_type}
+use Rattle.hol_model.specs.Terms.NamedTerm.{NamedTerm, equation}
+use Rattle.hol_model.specs.Logic.NamedLogic.{false_term, negation, implication, dest_negation}
+use Rattle.hol_model.specs.Terms.Nameless.{Nameless, free, const, bound, app, lam, image, same_term}
+use Rattle.hol_model.specs.Logic.Logic.{not_name, unary}
+use Rattle.hol_model.specs.Logic.Theory.{Theory, IsLegal}
+use Rattle.hol_model.specs.Logic.Derivable.{IsMember, IsSameSet, without}
+use Rattle.hol_model.specs.Kernel.Theorem.{Theorem}
+use Rattle.hol_model.specs.Kernel.Outcome.{refused}
+use Rattle.hol_model.specs.Kernel.Rules.{first_unknown, is_formula, assume_outcome}
+use Rattle.hol_model.specs.Derived.DerivedRules.{States, AnswersStated, named, images, stated, is_among, not_elim_outcome, undisch_outcome, contr_outcome, prove_hyp_outcome}
+use Rattle.hol_model.proofs.Tests.{same_term-Decides}
+use Rattle.hol_model.proofs.Terms.Membership.{of_append, IsMember-append_left, IsMember-append_right}
+use Rattle.hol_journal.specs.Journal.{Journal, Recorded, theorem_in}
+use Rattle.hol_journal.proofs.GrowthLemmas.{journals-grow}
+use Rattle.hol_journal.proofs.Showing.{refused-is, unless-is, ok_is}
+use Rattle.hol_equal.specs.Sequents.{Shows, Continues}
+use Rattle.hol_equal.specs.Formulas.{IsFormula}
+use Rattle.hol_prelude.specs.HasLogic.{HasLogic}
+use Rattle.hol_prelude.specs.declared.stored.Bool.{Bool as Stored}
+use Rattle.hol_equal.proofs.StepLemmas.{no_unknown, not_without, of_without, in_without}
+use Rattle.hol_bool.proofs.LogicLemmas.{logical-type, negated-part}
+use Rattle.hol_rewrite_rules.specs.Rules.{Concludes}
+
+pub continues-twice : (first second third : Journal) (one two : Result Recorded Fault) → Continues first second one → Continues second third two → Continues first third two
+continues-twice first second third one two before after = record {
+  grown = journals-grow.twice first second third before.grown after.grown;
+  theory = after.theory ∙ before.theory;
+  held = after.held;
+}
+
+pub assumed-is : (theory : Theory) (term : NamedTerm) (theorem : Theorem) → assume_outcome theory term ≡ Ok theorem → theorem ≡ record { theory = theory; hypotheses = term ∷ []; conclusion = term }
+assumed-is theory term theorem is =
+    let made : Theorem = record { theory = theory; hypotheses = term ∷ []; conclusion = term } in
+    let one = unless-is (is_formula term) NotBool (refused (first_unknown theory term) (Ok made)) theorem is in
+    sym (ok_is made theorem (refused-is (first_unknown theory term) (Ok made) theorem one.1))
+
+-- the denied formula
+pub record IsDenied (theory : Theory) (denial part : NamedTerm) : Type 0 where
+  pub is : denial ≡ negation part
+  pub formula : IsFormula theory part
+
+pub denied-at : (journal : Journal) (logic : Stored) → HasLogic journal logic → IsLegal journal.theory → (denial part : NamedTerm) → dest_negation denial ≡ Some part → IsFormula journal.theory denial
+    → IsDenied journal.theory denial part
+denied-at journal logic has legal denial part dest formula =
+    let at = negated-part journal.theory (logical-type journal logic has legal not_name unary refl) denial part dest formula.known in
+    record { is = at.is; formula = at.formula }
+
+pub not_elim-is : (theorem : Theorem) (part : NamedTerm) → theorem.conclusion ≡ negation part → not_elim_outcome theorem ≡ stated (images theorem) (implication part false_term)
+not_elim-is theorem part is = rw is refl
+
+pub undisch-is : (theorem : Theorem) (part : NamedTerm) → theorem.conclusion ≡ implication part false_term → undisch_outcome theorem ≡ stated (image part ∷ images theorem) false_term
+undisch-is theorem part is = rw is refl
+
+pub contr-is : (theory : Theory) (theorem : Theorem) (part : NamedTerm) → theorem.conclusion ≡ false_term → IsFormula theory part → contr_outcome theory part theorem ≡ stated (images theorem) part
+contr-is theory theorem part is formula = rw (is, formula.typed, no_unknown theory part bool_type formula.known) refl
+
+-- sets
+
+app-differs : (c t : Nameless) → app c t ≡ t → ⊥
+app-differs c (app f x) e = let deeper : app f x ≡ x = cc in app-differs f x deeper
+app-differs c (free n s) e = cc
+app-differs c (const n s) e = cc
+app-differs c (bound i) e = cc
+app-differs c (lam s b) e = cc
+
+differs : (c t : Nameless) → same_term (app c t) t ≡ false
+differs c t = go (same_term (app c t) t) refl
+  where
+    go : (test : Bool) → same_term (app c t) t ≡ test → test ≡ false
+    go true is = absurd (app-differs c t ((same_term-Decides (app c t) t).0 is))
+    go false is = refl
+
+or_right : (a b : Bool) → b ≡ true → (a || b) ≡ true
+or_right true b is = refl
+or_right false b is = is
+
+among : (x : Nameless) (xs : List Nameless) → IsMember x xs → is_among x xs ≡ true
+among x [] m = absurd m
+among x (y ∷ ys) (inl e) = rw ((same_term-Decides x y).1 e) refl
+among x (y ∷ ys) (inr m) = or_right (same_term x y) (is_among x ys) (among x ys m)
+
+-- the hypotheses on the way: the denial alone
+abbrev pub on_the_way : Nameless → Nameless → Nameless → List Nameless
+on_the_way f p d = without f (f ∷ []) ++ without p (p ∷ d ∷ [])
+
+itself-left : (x p : Nameless) → x ≡ p → same_term x p ≡ false → ⊥
+itself-left x p e not = let yes : same_term x p ≡ true = (same_term-Decides x p).1 e in let no : true ≡ false = sym yes ∙ not in cc
+
+pub only-denial : (f p d x : Nameless) → IsMember x (on_the_way f p d) → x ≡ d
+only-denial f p d x m = elim (of_append x (without f (f ∷ [])) (without p (p ∷ d ∷ [])) m) [
+  | inl a ↦ first (of_without x f (f ∷ []) a) (not_without x f (f ∷ []) a)
+  | inr b ↦ second (of_without x p (p ∷ d ∷ []) b) (not_without x p (p ∷ d ∷ []) b)
+]
+  where
+    first : IsMember x (f ∷ []) → same_term x f ≡ false → x ≡ d
+    first (inl e) not = absurd (itself-left x f e not)
+    first (inr none) not = absurd none
+
+    second : IsMember x (p ∷ d ∷ []) → same_term x p ≡ false → x ≡ d
+    second (inl e) not = absurd (itself-left x p e not)
+    second (inr (inl e)) not = e
+    second (inr (inr none)) not = absurd none
+
+denial-there : (f p d : Nameless) → same_term d p ≡ false → IsMember d (on_the_way f p d)
+denial-there f p d other = IsMember-append_right d (without f (f ∷ [])) (without p (p ∷ d ∷ [])) (in_without d p (p ∷ d ∷ []) (inr (inl refl)) other)
+
+same_kept : (f p d : Nameless) (h k : List Nameless) → IsSameSet (on_the_way f p d) k → IsSameSet (h ++ without d k) h
+same_kept f p d h k same = record {
+  to = λ x m. elim (of_append x h (without d k) m) [ inl a ↦ a | inr b ↦ absurd (itself-left x d (only-denial f p d x (same.back x (of_without x d k b))) (not_without x d k b)) ];
+  back = λ x m. IsMember-append_left x h (without d k) m;
+}
+
+same-through : (xs ys zs : List Nameless) → IsSameSet xs ys → IsSameSet ys zs → IsSameSet xs zs
+same-through xs ys zs one two = record { to = λ x m. two.to x (one.to x m); back = λ x m. one.back x (two.back x m) }
+
+-- F under the formula and its denial
+pub falsity-shows : (falsity implies : Theorem) (p d f : Nameless) → IsSameSet (images falsity) (p ∷ images implies) → IsSameSet (images implies) (d ∷ [])
+    → image falsity.conclusion ≡ f → Shows falsity (p ∷ d ∷ []) f
+falsity-shows falsity implies p d f one two is = record {
+  same_set = record {
+    to = λ x m. elim m [ inl e ↦ one.back x (inl e) | inr k ↦ one.back x (inr (two.back x k)) ];
+    back = λ x m. elim (one.to x m) [ inl e ↦ inl e | inr k ↦ inr (two.to x k) ];
+  };
+  concludes = is;
+}
+
+-- PROVE_HYP takes the denial away
+pub denial-proved : (result : Result Recorded Fault) (arguments : List Nameless) (premise equation_made : Theorem) (part : NamedTerm) (c : Nameless) → premise.conclusion ≡ negation part
+    → equation_made.conclusion ≡ equation part false_term → Shows equation_made (on_the_way (image false_term) (image part) (image premise.conclusion)) c
+    → AnswersStated (theorem_in result) arguments (prove_hyp_outcome premise equation_made) → IfOk result (λ made. Concludes premise (equation part false_term) made.theorem)
+denial-proved (Err fault) arguments premise equation_made part c is named_is shown answers = tt
+denial-proved (Ok made) arguments premise equation_made part c is named_is shown answers =
+    let d = image premise.conclusion in
+    let p = image part in
+    let f = image false_term in
+    let k = images equation_made in
+    let other : same_term d p ≡ false = ap (λ (t : NamedTerm). same_term (image t) p) is ∙ differs (const not_name unary) p in
+    let there : is_among d k ≡ true = among d k (shown.same_set.to d (denial-there f p d other)) in
+    let states : States (record { hypotheses = images premise ++ without d k; conclusion = named equation_made.conclusion }) made.theorem =
+    subst (λ (b : Bool). States (record { hypotheses = if b then images premise ++ without d k else k; conclusion = named equation_made.conclusion }) made.theorem) there answers in
+    record {
+      same_hypotheses = same-through (images made.theorem) (images premise ++ without d k) (images premise) states.hypotheses
+          (same_kept f p d (images premise) k shown.same_set);
+      conclusion = states.conclusion ∙ named_is;
+    }

@@ -1,0 +1,113 @@
+use Rattle.std.proofs.Common.{◌∷◌, ◌∙◌, sym, ap}
+use Rattle.hol_model.specs.Terms.HolType.{bool_type}
+use Rattle.hol_model.specs.Terms.NamedTerm.{is_variable}
+use Rattle.hol_model.specs.Terms.Nameless.{image}
+use Rattle.hol_model.specs.Terms.Measures.{nameless_within_limits}
+use Rattle.hol_model.specs.Logic.Derivable.{nameless_equation}
+use Rattle.hol_model.specs.Derived.DerivedRules.{images, terms_of_theorem}
+use Rattle.hol_rewrite_rules.proofs.Fresh.{started, instance-past, instance-states, is-renamed, captured-instance, shows-renamed, renamed-room, named-instance}
+use Rattle.hol_rewrite_rules.specs.Rules.{are_small}
+use Rattle.hol_rewrite_rules.proofs.RoomSteps.{derives-past}
+use Rattle.hol_rewrite_rules.proofs.instances.at_fresh_variable.Goals as goal
+
+pub returns-in-Err-spec-clause-err : goal.returns-in-Err-spec-clause-err
+returns-in-Err-spec-clause-err c =
+    let theory = c.args.recorder.now.theory in
+    let premise = c.args.premise.now.theorem in
+    let hypotheses = c.args.hypotheses.now in
+    let binder = c.in-Some.parts.binder.now in
+    let body = c.in-Some.parts.body.now in
+    let term = c.in-Ok-variant.fresh in
+    let at =
+    started theory hypotheses c.deref.result.now premise c.conclusion_of-conclusion.result.now c.in-Some.parts.quantifier.now c.in-Some.parts.predicate.now binder body term c.ty-type.result.now
+    c.conclusion_of-conclusion.ensures.value c.in-Some.ensures.whole c.in-Some.ensures.named c.in-Some.ensures.abstraction c.conclusion_of-conclusion.ensures.formula.known c.ty-type.ensures
+    (c.deref.ensures.value ∙ c.in-Ok.ensures.ok) c.in-Ok-variant.ensures.outcome.1 in
+    instance-past theory hypotheses premise binder body term at c.in-Err-spec.fault c.in-Err-spec.ensures.outcome
+
+pub with_variable_renamed-requires-clause-old : goal.with_variable_renamed-requires-clause-old
+with_variable_renamed-requires-clause-old c =
+    let theory = c.args.recorder.now.theory in
+    let premise = c.args.premise.now.theorem in
+    let hypotheses = c.args.hypotheses.now in
+    let binder = c.in-Some.parts.binder.now in
+    let body = c.in-Some.parts.body.now in
+    let term = c.in-Ok-variant.fresh in
+    let at =
+    started theory hypotheses c.deref.result.now premise c.conclusion_of-conclusion.result.now c.in-Some.parts.quantifier.now c.in-Some.parts.predicate.now binder body term c.ty-type.result.now
+    c.conclusion_of-conclusion.ensures.value c.in-Some.ensures.whole c.in-Some.ensures.named c.in-Some.ensures.abstraction c.conclusion_of-conclusion.ensures.formula.known c.ty-type.ensures
+    (c.deref.ensures.value ∙ c.in-Ok.ensures.ok) c.in-Ok-variant.ensures.outcome.1 in
+    ap is_variable at.binder_is
+
+pub with_variable_renamed-requires-clause-new : goal.with_variable_renamed-requires-clause-new
+with_variable_renamed-requires-clause-new c =
+    let theory = c.args.recorder.now.theory in
+    let premise = c.args.premise.now.theorem in
+    let hypotheses = c.args.hypotheses.now in
+    let binder = c.in-Some.parts.binder.now in
+    let body = c.in-Some.parts.body.now in
+    let term = c.in-Ok-variant.fresh in
+    let at =
+    started theory hypotheses c.deref.result.now premise c.conclusion_of-conclusion.result.now c.in-Some.parts.quantifier.now c.in-Some.parts.predicate.now binder body term c.ty-type.result.now
+    c.conclusion_of-conclusion.ensures.value c.in-Some.ensures.whole c.in-Some.ensures.named c.in-Some.ensures.abstraction c.conclusion_of-conclusion.ensures.formula.known c.ty-type.ensures
+    (c.deref.ensures.value ∙ c.in-Ok.ensures.ok) c.in-Ok-variant.ensures.outcome.1 in
+    ap is_variable at.term_is
+
+pub returns-then-aconv-clause-ok : goal.returns-then-aconv-clause-ok
+returns-then-aconv-clause-ok c =
+    let theory = c.args.recorder.now.theory in
+    let premise = c.args.premise.now.theorem in
+    let hypotheses = c.args.hypotheses.now in
+    let binder = c.in-Some.parts.binder.now in
+    let body = c.in-Some.parts.body.now in
+    let term = c.in-Ok-variant.fresh in
+    let at =
+    started theory hypotheses c.deref.result.now premise c.conclusion_of-conclusion.result.now c.in-Some.parts.quantifier.now c.in-Some.parts.predicate.now binder body term c.ty-type.result.now
+    c.conclusion_of-conclusion.ensures.value c.in-Some.ensures.whole c.in-Some.ensures.named c.in-Some.ensures.abstraction c.conclusion_of-conclusion.ensures.formula.known c.ty-type.ensures
+    (c.deref.ensures.value ∙ c.in-Ok.ensures.ok) c.in-Ok-variant.ensures.outcome.1 in
+    let instance = c.in-Ok-spec.instance.theorem in
+    let states = instance-states theory hypotheses premise binder body term at instance (image term ∷ terms_of_theorem premise) c.in-Ok-spec.ensures.outcome in
+    let made = c.in-Ok-with_variable_renamed.stated in
+    let made_is = is-renamed theory hypotheses premise binder body term at made c.in-Ok-with_variable_renamed.ensures.ok in
+    let same = c.aconv.ensures.same.0 c.if-aconv.true ∙ ap image c.conclusion_of.ensures.value in
+    let fits = nameless_within_limits (nameless_equation bool_type (image made) (image made)) in
+    let derives = c.named.ensures.derives (images premise) (shows-renamed theory hypotheses premise binder body term at instance made states same) in
+    named-instance theory hypotheses premise binder body term at c.named.result fits instance made states made_is same c.named.ensures.names derives
+
+pub returns-then-aconv-clause-err : goal.returns-then-aconv-clause-err
+returns-then-aconv-clause-err c =
+    let theory = c.args.recorder.now.theory in
+    let premise = c.args.premise.now.theorem in
+    let hypotheses = c.args.hypotheses.now in
+    let binder = c.in-Some.parts.binder.now in
+    let body = c.in-Some.parts.body.now in
+    let term = c.in-Ok-variant.fresh in
+    let at =
+    started theory hypotheses c.deref.result.now premise c.conclusion_of-conclusion.result.now c.in-Some.parts.quantifier.now c.in-Some.parts.predicate.now binder body term c.ty-type.result.now
+    c.conclusion_of-conclusion.ensures.value c.in-Some.ensures.whole c.in-Some.ensures.named c.in-Some.ensures.abstraction c.conclusion_of-conclusion.ensures.formula.known c.ty-type.ensures
+    (c.deref.ensures.value ∙ c.in-Ok.ensures.ok) c.in-Ok-variant.ensures.outcome.1 in
+    let instance = c.in-Ok-spec.instance.theorem in
+    let states = instance-states theory hypotheses premise binder body term at instance (image term ∷ terms_of_theorem premise) c.in-Ok-spec.ensures.outcome in
+    let made = c.in-Ok-with_variable_renamed.stated in
+    let same = c.aconv.ensures.same.0 c.if-aconv.true ∙ ap image c.conclusion_of.ensures.value in
+    let fits = nameless_within_limits (nameless_equation bool_type (image made) (image made)) in
+    let derives = c.named.ensures.derives (images premise) (shows-renamed theory hypotheses premise binder body term at instance made states same) in
+    derives-past c.named.result fits (are_small premise) (images premise) (image made) (renamed-room theory hypotheses premise binder body term at instance made states same) derives
+
+pub returns-clause-ok : goal.returns-clause-ok
+returns-clause-ok c =
+    let theory = c.args.recorder.now.theory in
+    let premise = c.args.premise.now.theorem in
+    let hypotheses = c.args.hypotheses.now in
+    let binder = c.in-Some.parts.binder.now in
+    let body = c.in-Some.parts.body.now in
+    let term = c.in-Ok-variant.fresh in
+    let at =
+    started theory hypotheses c.deref.result.now premise c.conclusion_of-conclusion.result.now c.in-Some.parts.quantifier.now c.in-Some.parts.predicate.now binder body term c.ty-type.result.now
+    c.conclusion_of-conclusion.ensures.value c.in-Some.ensures.whole c.in-Some.ensures.named c.in-Some.ensures.abstraction c.conclusion_of-conclusion.ensures.formula.known c.ty-type.ensures
+    (c.deref.ensures.value ∙ c.in-Ok.ensures.ok) c.in-Ok-variant.ensures.outcome.1 in
+    let instance = c.in-Ok-spec.instance.theorem in
+    let states = instance-states theory hypotheses premise binder body term at instance (image term ∷ terms_of_theorem premise) c.in-Ok-spec.ensures.outcome in
+    let made = c.in-Ok-with_variable_renamed.stated in
+    let made_is = is-renamed theory hypotheses premise binder body term at made c.in-Ok-with_variable_renamed.ensures.ok in
+    captured-instance theory hypotheses premise binder body term at instance made states made_is c.aconv.result
+    (λ same. c.aconv.ensures.same.1 (same ∙ sym (ap image c.conclusion_of.ensures.value))) c.if-aconv.false

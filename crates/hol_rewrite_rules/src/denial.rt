@@ -1,0 +1,61 @@
+// From a denied formula, that it is false.
+ghost use Rattle.std.specs.Prelude.{◌≡◌, Some, IfOk, IfErr};
+ghost use Rattle.hol_model.specs.Terms.NamedTerm.{equation};
+ghost use Rattle.hol_model.specs.Logic.NamedLogic.{false_term, dest_negation};
+ghost use Rattle.hol_journal.specs.Journal.{IsMade};
+ghost use Rattle.hol_prelude.specs.HasLogic.{HasLogic};
+ghost use Rattle.hol_equal.specs.Sequents.{Continues, IsPast};
+ghost use Rattle.hol_rewrite_rules.specs.Rules.{Concludes, are_small};
+
+use hol_bool::{contr, not_elim, undisch};
+use hol_equal::steps::deduct_antisym;
+use hol_equal::{assume, conclusion_of, prove_hyp};
+use hol_journal::{Rec, Recorder};
+use hol_model::Fault;
+use hol_prelude::Bool;
+use hol_terms::Term;
+use std::alloc::Global;
+
+// From `~p`, `p <=> F`, by `p, ~p |- F` and `F |- p`.
+pub(crate) fn denied(
+    recorder: &mut Recorder,
+    alloc: Global,
+    logic: &Bool,
+    part: &Term,
+    premise: &Rec,
+) -> Result<Rec, Fault>
+    requires logic { HasLogic recorder.old logic.now }
+    requires premise { IsMade recorder.old premise.now }
+    requires part { dest_negation premise.now.theorem.conclusion ≡ Some part.now }
+    ensures continues { Continues recorder.old recorder.new result }
+    ensures ok { IfOk result (λ made. Concludes premise.now.theorem (equation part.now false_term) made.theorem) }
+    ensures err { IfErr result (λ fault. IsPast fault (are_small premise.now.theorem)) }
+{
+    let denial = conclusion_of(recorder, premise);
+    let assumed = match assume(recorder, alloc, denial) {
+        Ok(assumed) => assumed,
+        Err(fault) => return Err(fault),
+    };
+    let implication = match not_elim(recorder, alloc, logic, &assumed) {
+        Ok(implication) => implication,
+        Err(fault) => return Err(fault),
+    };
+    let falsity = match undisch(recorder, alloc, logic, &implication) {
+        Ok(falsity) => falsity,
+        Err(fault) => return Err(fault),
+    };
+    let false_term = conclusion_of(recorder, &falsity);
+    let assumed_falsity = match assume(recorder, alloc, false_term) {
+        Ok(assumed_falsity) => assumed_falsity,
+        Err(fault) => return Err(fault),
+    };
+    let part_of_falsity = match contr(recorder, alloc, logic, part, &assumed_falsity) {
+        Ok(part_of_falsity) => part_of_falsity,
+        Err(fault) => return Err(fault),
+    };
+    let equation = match deduct_antisym(recorder, alloc, &part_of_falsity, &falsity) {
+        Ok(equation) => equation,
+        Err(fault) => return Err(fault),
+    };
+    prove_hyp(recorder, alloc, premise, &equation)
+}

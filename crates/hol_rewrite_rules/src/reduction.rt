@@ -1,0 +1,159 @@
+// What a theorem leads to on the way to its rules.
+ghost use Rattle.std.specs.Prelude.{◌≡◌, List, map, IfOk, IfErr};
+ghost use Rattle.hol_model.specs.Terms.NamedTerm.{NamedTerm};
+ghost use Rattle.hol_model.specs.Logic.NamedLogic.{Abstracted};
+ghost use Rattle.hol_model.specs.Terms.Nameless.{image};
+ghost use Rattle.hol_model.specs.Logic.Derivable.{IsSameSet};
+ghost use Rattle.hol_journal.specs.Journal.{IsMade};
+ghost use Rattle.hol_prelude.specs.HasLogic.{HasLogic};
+ghost use Rattle.hol_model.specs.Rewrites.RewriteRules as spec;
+ghost use Rattle.hol_equal.specs.Sequents.{IsPast};
+ghost use Rattle.hol_rewrite_rules.specs.Rules.{GoesOn, are_small};
+ghost use Rattle.hol_rewrite_rules.specs.Reduction.{IsReduced};
+
+use crate::denial::denied;
+use crate::forms::{Form, rule_form};
+use crate::instances::at_fresh_variable;
+use crate::sides::{affirmed, left_part, right_part};
+use hol_equal::conclusion_of;
+use hol_journal::{Rec, Recorder};
+use hol_model::Fault;
+use hol_prelude::Bool;
+use hol_terms::Term;
+use std::alloc::Global;
+
+// The theorems whose rules are those of a theorem, or its only rule.
+pub(crate) enum Reduced {
+    // The two parts of a conjunction.
+    Parts(Rec, Rec),
+    // The body of a universal theorem.
+    Body(Rec),
+    // The only rule.
+    Rule(Rec),
+}
+
+// The parts of `p /\ q`.
+fn parts(
+    recorder: &mut Recorder,
+    alloc: Global,
+    logic: &Bool,
+    theorem: &Rec,
+) -> Result<Reduced, Fault>
+    requires logic { HasLogic recorder.old logic.now }
+    requires made { IsMade recorder.old theorem.now }
+    requires form { (p : NamedTerm) × (q : NamedTerm) × (spec.rule_form theorem.now.theorem.conclusion ≡ spec.both p q) }
+    ensures goes_on { GoesOn recorder.old recorder.new }
+    ensures reduced { (under : List NamedTerm) → IsSameSet (map image theorem.now.theorem.hypotheses) (map image under) → IfOk result (IsReduced recorder.new under theorem.now.theorem) }
+    ensures err { IfErr result (λ fault. IsPast fault (are_small theorem.now.theorem)) }
+{
+    let left = match left_part(recorder, alloc, logic, theorem) {
+        Ok(left) => left,
+        Err(fault) => return Err(fault),
+    };
+    match right_part(recorder, alloc, logic, theorem) {
+        Ok(right) => Ok(Reduced::Parts(left, right)),
+        Err(fault) => Err(fault),
+    }
+}
+
+// The body of `!x. p`.
+fn body(
+    recorder: &mut Recorder,
+    alloc: Global,
+    logic: &Bool,
+    hypotheses: &[Term],
+    theorem: &Rec,
+) -> Result<Reduced, Fault>
+    requires logic { HasLogic recorder.old logic.now }
+    requires made { IsMade recorder.old theorem.now }
+    requires same { IsSameSet (map image theorem.now.theorem.hypotheses) (map image hypotheses.now) }
+    requires form { (bound : Abstracted) × (spec.rule_form theorem.now.theorem.conclusion ≡ spec.every bound) }
+    ensures goes_on { GoesOn recorder.old recorder.new }
+    ensures reduced { IfOk result (IsReduced recorder.new hypotheses.now theorem.now.theorem) }
+    ensures err { IfErr result (λ fault. IsPast fault (are_small theorem.now.theorem)) }
+{
+    match at_fresh_variable(recorder, alloc, logic, hypotheses, theorem) {
+        Ok(instance) => Ok(Reduced::Body(instance)),
+        Err(fault) => Err(fault),
+    }
+}
+
+// `a = b` itself.
+fn itself(recorder: &mut Recorder, alloc: Global, theorem: &Rec) -> Result<Reduced, Fault>
+    requires made { IsMade recorder.old theorem.now }
+    requires form { (a : NamedTerm) × (b : NamedTerm) × (spec.rule_form theorem.now.theorem.conclusion ≡ spec.equal a b) }
+    ensures goes_on { GoesOn recorder.old recorder.new }
+    ensures reduced { (under : List NamedTerm) → IsSameSet (map image theorem.now.theorem.hypotheses) (map image under) → IfOk result (IsReduced recorder.new under theorem.now.theorem) }
+    ensures err { IfErr result (λ fault. IsPast fault (are_small theorem.now.theorem)) }
+{
+    match theorem.copy(alloc) {
+        Ok(rule) => Ok(Reduced::Rule(rule)),
+        Err(fault) => Err(fault),
+    }
+}
+
+// `p <=> F`, from `~p`.
+fn falsity(
+    recorder: &mut Recorder,
+    alloc: Global,
+    logic: &Bool,
+    part: &Term,
+    theorem: &Rec,
+) -> Result<Reduced, Fault>
+    requires logic { HasLogic recorder.old logic.now }
+    requires made { IsMade recorder.old theorem.now }
+    requires form { spec.rule_form theorem.now.theorem.conclusion ≡ spec.denied part.now }
+    ensures goes_on { GoesOn recorder.old recorder.new }
+    ensures reduced { (under : List NamedTerm) → IsSameSet (map image theorem.now.theorem.hypotheses) (map image under) → IfOk result (IsReduced recorder.new under theorem.now.theorem) }
+    ensures err { IfErr result (λ fault. IsPast fault (are_small theorem.now.theorem)) }
+{
+    match denied(recorder, alloc, logic, part, theorem) {
+        Ok(rule) => Ok(Reduced::Rule(rule)),
+        Err(fault) => Err(fault),
+    }
+}
+
+// `p <=> T`, from `p`.
+fn truth(
+    recorder: &mut Recorder,
+    alloc: Global,
+    logic: &Bool,
+    theorem: &Rec,
+) -> Result<Reduced, Fault>
+    requires logic { HasLogic recorder.old logic.now }
+    requires made { IsMade recorder.old theorem.now }
+    requires form { (p : NamedTerm) × (spec.rule_form theorem.now.theorem.conclusion ≡ spec.stated p) }
+    ensures goes_on { GoesOn recorder.old recorder.new }
+    ensures reduced { (under : List NamedTerm) → IsSameSet (map image theorem.now.theorem.hypotheses) (map image under) → IfOk result (IsReduced recorder.new under theorem.now.theorem) }
+    ensures err { IfErr result (λ fault. IsPast fault (are_small theorem.now.theorem)) }
+{
+    match affirmed(recorder, alloc, logic, theorem) {
+        Ok(rule) => Ok(Reduced::Rule(rule)),
+        Err(fault) => Err(fault),
+    }
+}
+
+// One step towards the rules of a theorem, whose hypotheses are these.
+pub(crate) fn reduce(
+    recorder: &mut Recorder,
+    alloc: Global,
+    logic: &Bool,
+    hypotheses: &[Term],
+    theorem: &Rec,
+) -> Result<Reduced, Fault>
+    requires logic { HasLogic recorder.old logic.now }
+    requires made { IsMade recorder.old theorem.now }
+    requires same { IsSameSet (map image theorem.now.theorem.hypotheses) (map image hypotheses.now) }
+    ensures goes_on { GoesOn recorder.old recorder.new }
+    ensures reduced { IfOk result (IsReduced recorder.new hypotheses.now theorem.now.theorem) }
+    ensures err { IfErr result (λ fault. IsPast fault (are_small theorem.now.theorem)) }
+{
+    let conclusion = conclusion_of(recorder, theorem);
+    match rule_form(conclusion) {
+        Form::Both(_, _) => parts(recorder, alloc, logic, theorem),
+        Form::Every(_, _, _) => body(recorder, alloc, logic, hypotheses, theorem),
+        Form::Equal(_, _) => itself(recorder, alloc, theorem),
+        Form::Denied(part) => falsity(recorder, alloc, logic, part, theorem),
+        Form::Stated(_) => truth(recorder, alloc, logic, theorem),
+    }
+}

@@ -1,0 +1,14 @@
+use Rattle.std.proofs.Common.{refl}
+use Rattle.hol_script_manager.proofs.manager.Manager.forget.Goals as goal
+
+pub returns : goal.returns
+returns c = record {
+  stack = refl;
+  scope = refl;
+  recorder = refl;
+  logic = refl;
+  laws = refl;
+  theorems = c.keep_lemmas.ensures.theorems;
+  lemmas = c.keep_lemmas.ensures.lemmas;
+  stored = c.keep_lemmas.ensures.made;
+}

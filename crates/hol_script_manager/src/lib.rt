@@ -1,0 +1,12 @@
+//! The proof manager (HOL Light's goalstack, tactics.ml): a session, the proof of a goal under way, and what the commands of
+//! goals do with them.
+#![tactic(auto)]
+
+mod goal_texts;
+mod laws;
+mod manager;
+mod prover;
+
+pub use hol_script_session::reply::{Printed, Refused, plainly};
+pub use laws::managers_refuse;
+pub use manager::Manager;

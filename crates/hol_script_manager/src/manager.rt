@@ -1,0 +1,342 @@
+// What the commands of goals do, and what the other commands leave of a proof under way.
+ghost use Rattle.std.specs.Prelude.{◌≡◌, ℕ, List, [], ◌∷◌, map, IfOk, IfErr, IsErrOf, OnOk, OnErr, Ok, Contains, string_bytes};
+ghost use Rattle.hol_model.specs.declared.fault.Fault.TheVariants.{Memory, TooLong};
+ghost use Rattle.hol_model.specs.Texts.TermGrammar.{TermTree};
+ghost use Rattle.hol_model.specs.Texts.TypeGrammar.{TypeTree, type_steps};
+ghost use Rattle.hol_model.specs.Texts.Lexing.{numeral_value};
+ghost use Rattle.hol_syntax_grammar.specs.Steps.{flat_steps_of};
+ghost use Rattle.hol_syntax_grammar.specs.TermSteps.{term_steps, flat_steps};
+ghost use Rattle.hol_syntax_grammar.specs.Views.{steps_of};
+ghost use Rattle.hol_model_sessions.specs.CommandGrammar.{TheoremTree, var_command, newtype_command, newconst_command, def_command, thm_command, show_command};
+ghost use Rattle.hol_model_sessions.specs.CommandGrammar.{goal_command, e_command, b_command, p_command, r_command, save_command};
+ghost use Rattle.hol_model_sessions.specs.ScriptSessions.{start};
+ghost use Rattle.hol_script_session.specs.Performing.{Performs};
+ghost use Rattle.hol_script_session.specs.Answers.{no_tools, plainly, Says};
+ghost use Rattle.hol_script_inference.specs.Answers.{session_tools};
+ghost use Rattle.hol_script_commands.specs.Views.{IsAsked};
+ghost use Rattle.hol_tactic_grammar.specs.Tactics.{IsExpression};
+ghost use Rattle.hol_model.specs.Kernel.Theorem.{Theorem};
+ghost use Rattle.hol_model.specs.Goals.GoalStates.{top_outcome};
+ghost use Rattle.hol_model_sessions.specs.ScriptSessions.{IsProved};
+ghost use Rattle.hol_model_sessions.specs.TacticGrammar.{Tactic};
+ghost use Rattle.hol_journal_log.specs.LogAccepted.{log_claim};
+ghost use Rattle.hol_journal_log.specs.Pruning.{HaveIdentifiers};
+ghost use Rattle.hol_script_session.specs.StoredClaims.{IsAcceptedLog, IsLongLog};
+ghost use Rattle.hol_script_manager.specs.Managers.{state_of, journal_of, claims_of, IsManager, IsOfTree, ShowsGoals, IsUndone, Forgets};
+
+use crate::goal_texts::{goals_are_well_formed, text_of_goals, text_of_only_goal};
+use crate::prover::Prover;
+use hol_goals::Stack;
+use hol_host::Refiners;
+use hol_model::{Fault, STEPS_LIMIT};
+use hol_script_commands::command::Asked;
+use hol_script_inference::thm;
+use hol_script_session::reply::{Printed, Refused};
+use hol_script_session::session::Session;
+use hol_sound::sound;
+use hol_syntax::term_of_steps;
+use hol_syntax_grammar::{TermStep, TypeStep};
+use hol_tactic_exprs::{Fuel, Tac};
+use hol_tactic_reading::read_tactic;
+use std::alloc::Global;
+
+/// A session, and the proof of a goal under way.
+#[derive(Drop)]
+pub struct Manager {
+    prover: Prover,
+    stack: Stack,
+}
+
+impl Manager {
+    /// Where a script begins: the session's beginning, and no goal.
+    pub fn new(alloc: Global) -> Result<Manager, Fault>
+        ensures ok { IfOk result (λ manager. state_of manager ≡ start) }
+        ensures kept { IfOk result IsManager }
+        ensures err { IfErr result (λ fault. fault ≡ Memory) }
+    {
+        match Session::new(alloc) {
+            Ok(session) => Ok(Manager {
+                prover: Prover { session },
+                stack: Stack::new(),
+            }),
+            Err(fault) => Err(fault),
+        }
+    }
+
+    // A theorem that proves the goal is told by its text. Nothing is computed: the clause is the law.
+    fn top_is_proved(&self)
+        requires { IsManager self.now }
+        ensures { (theorem : Theorem) → top_outcome (state_of self.now).proof ≡ Ok theorem → IsProved (state_of self.now) theorem }
+    {
+        sound();
+        match self.stack.top_thm() {
+            Ok(theorem) => self
+                .prover
+                .session
+                .library
+                .recorder
+                .thm(theorem)
+                .well_formed(),
+            Err(_) => {}
+        }
+    }
+
+    // The answer that shows the open goals. Refused: Memory.
+    fn shown(&self, alloc: Global) -> Result<Printed, Fault>
+        requires { IsManager self.now }
+        ensures ok { IfOk result (ShowsGoals (state_of self.now)) }
+        ensures err { IfErr result (λ fault. fault ≡ Memory) }
+    {
+        self.top_is_proved();
+        let goals = self.stack.open_goals();
+        goals_are_well_formed(goals);
+        match text_of_goals(alloc, &self.prover.session.scope, goals) {
+            Ok(text) => Ok(Printed::Goals(text)),
+            Err(fault) => Err(fault),
+        }
+    }
+
+    /// `goal "p"` (HOL Light's `g`): sets a goal without assumptions, in place of the one before, and shows it. Refused, where
+    /// nothing changes: as the term is; as `Stack::set`.
+    pub fn goal(&mut self, alloc: Global, steps: &[TermStep<'_>]) -> Result<Printed, Fault>
+        requires { IsManager self.old }
+        ensures performs { (tree : TermTree) → flat_steps_of steps.now ≡ flat_steps (term_steps tree)
+            → Performs no_tools (state_of self.old) (goal_command tree) (Says (plainly result)) (state_of self.new) }
+        ensures kept { IsManager self.new }
+    {
+        let session = &mut self.prover.session;
+        let term = match term_of_steps(alloc, &session.scope, steps) {
+            Ok(term) => term,
+            Err(fault) => return Err(fault),
+        };
+        let text = match text_of_only_goal(alloc, &session.scope, &term) {
+            Ok(text) => text,
+            Err(fault) => return Err(fault),
+        };
+        term.well_formed();
+        term.well_named();
+        match self.stack.set(alloc, &session.library.recorder, &term) {
+            Ok(()) => {
+                session.library.store.clear_lemmas();
+                Ok(Printed::Goals(text))
+            }
+            Err(fault) => Err(fault),
+        }
+    }
+
+    // Forgets the lemmas behind the first ones, so many.
+    fn forget(&mut self, lemmas: usize)
+        ensures { Forgets self.old self.new lemmas }
+    {
+        self.prover.session.library.store.keep_lemmas(lemmas);
+    }
+
+    /// `e` (HOL Light's `e`): refines the first open goal by an expression, and shows the goals that are open then. It may spend
+    /// as many steps as one command may (`STEPS_LIMIT`). Refused, where nothing changes: as the first quoted term that is; as
+    /// `Stack::expand`.
+    pub fn expand<H: Refiners>(
+        &mut self,
+        alloc: Global,
+        host: &H,
+        tac: &Tac<Vec<TermStep<'_>>>,
+    ) -> Result<Printed, Fault>
+        requires manager { IsManager self.old }
+        requires expression { IsOfTree tac.now }
+        ensures performs { (tree : Tactic TermTree) → IsExpression tac.now tree
+            → Performs (session_tools (H.refiners host.now) (H.conversions host.now)) (state_of self.old) (e_command tree) (Says (plainly result)) (state_of self.new) }
+        ensures kept { IsManager self.new }
+    {
+        let tac = match read_tactic(alloc, &self.prover.session.scope, tac) {
+            Ok(tac) => tac,
+            Err(fault) => return Err(fault),
+        };
+        let lemmas = self.prover.session.library.store.lemma_count();
+        let mut fuel = Fuel::new(STEPS_LIMIT);
+        match self
+            .stack
+            .expand(alloc, &mut self.prover, &tac, host, &mut fuel)
+        {
+            Ok(_told) => {}
+            Err(fault) => {
+                self.forget(lemmas);
+                return Err(fault);
+            }
+        }
+        match self.shown_or_undone(alloc) {
+            Ok(printed) => Ok(printed),
+            Err(fault) => {
+                self.forget(lemmas);
+                Err(fault)
+            }
+        }
+    }
+
+    /// `b` (HOL Light's `b`): takes the last change of the proof back, and shows the goals that are open then. Refused, where
+    /// nothing changes: NoGoal, NothingToUndo; Memory.
+    pub fn back(&mut self, alloc: Global) -> Result<Printed, Fault>
+        requires { IsManager self.old }
+        ensures performs { Performs no_tools (state_of self.old) b_command (Says (plainly result)) (state_of self.new) }
+        ensures kept { IsManager self.new }
+    {
+        match self.stack.back() {
+            Ok(()) => {}
+            Err(fault) => return Err(fault),
+        }
+        self.shown_or_undone(alloc)
+    }
+
+    // The answer that shows the open goals behind a change, which is undone where there is no memory.
+    fn shown_or_undone(&mut self, alloc: Global) -> Result<Printed, Fault>
+        requires { IsManager self.old }
+        ensures ok { IfOk result (ShowsGoals (state_of self.old)) }
+        ensures same { OnOk result (self.new ≡ self.old) }
+        ensures undone { OnErr result (IsUndone self.old self.new) }
+        ensures err { IfErr result (λ fault. fault ≡ Memory) }
+        ensures kept { IsManager self.new }
+    {
+        match self.shown(alloc) {
+            Ok(printed) => Ok(printed),
+            Err(fault) => {
+                self.stack.revert();
+                Err(fault)
+            }
+        }
+    }
+
+    /// `p` (HOL Light's `p`): shows the open goals. Refused: NoGoal where none is set; Memory.
+    pub fn print(&self, alloc: Global) -> Result<Printed, Fault>
+        requires { IsManager self.now }
+        ensures { Performs no_tools (state_of self.now) p_command (Says (plainly result)) (state_of self.now) }
+    {
+        if !self.stack.is_set() {
+            return Err(Fault::NoGoal);
+        }
+        self.shown(alloc)
+    }
+
+    /// `r n` (HOL Light's `r`): moves the first open goal behind the others, n times, and shows the goals. Refused, where nothing
+    /// changes: NoGoal; Memory.
+    pub fn rotate(&mut self, alloc: Global, turns: u32) -> Result<Printed, Fault>
+        requires { IsManager self.old }
+        ensures performs { (digits : List ℕ) → numeral_value digits ≡ turns
+            → Performs no_tools (state_of self.old) (r_command digits) (Says (plainly result)) (state_of self.new) }
+        ensures kept { IsManager self.new }
+    {
+        match self.stack.rotate(alloc, turns) {
+            Ok(()) => {}
+            Err(fault) => return Err(fault),
+        }
+        self.shown_or_undone(alloc)
+    }
+
+    /// `save NAME`: stores and prints the theorem of the goal. Refused, where nothing changes: BadName, NameTaken, NoGoal,
+    /// GoalsRemain; Memory.
+    pub fn save(&mut self, alloc: Global, name: &str) -> Result<Printed, Fault>
+        requires { IsManager self.old }
+        ensures performs { Performs no_tools (state_of self.old) (save_command name.now) (Says (plainly result)) (state_of self.new) }
+        ensures kept { IsManager self.new }
+    {
+        match self.prover.session.test_name(name) {
+            Ok(()) => {}
+            Err(fault) => return Err(fault),
+        }
+        let theorem = match self.stack.top_thm() {
+            Ok(theorem) => theorem,
+            Err(fault) => return Err(fault),
+        };
+        match theorem.copy(alloc) {
+            Ok(theorem) => self.prover.session.keep(alloc, name, theorem),
+            Err(fault) => Err(fault),
+        }
+    }
+
+    /// `thm NAME = ..`: stores and prints the theorem that is asked for (`hol_script_inference::thm`).
+    pub fn thm<H: Refiners>(
+        &mut self,
+        alloc: Global,
+        host: &H,
+        name: &str,
+        asked: &Asked<'_>,
+    ) -> Result<Printed, Refused>
+        requires { IsManager self.old }
+        ensures performs { (tree : TheoremTree) → IsAsked asked.now tree
+            → Performs (session_tools (H.refiners host.now) (H.conversions host.now)) (state_of self.old) (thm_command name.now tree) (Says result) (state_of self.new) }
+        ensures kept { IsManager self.new }
+    {
+        thm(&mut self.prover.session, alloc, host, name, asked)
+    }
+
+    /// `show NAME`: prints a stored theorem again (`Session::show`).
+    pub fn show(&self, alloc: Global, name: &str) -> Result<Printed, Fault>
+        requires { IsManager self.now }
+        ensures { Performs no_tools (state_of self.now) (show_command name.now) (Says (plainly result)) (state_of self.now) }
+    {
+        self.prover.session.show(alloc, name)
+    }
+
+    /// `var NAME : type`: declares a variable (`Session::var`).
+    pub fn var(
+        &mut self,
+        alloc: Global,
+        name: &str,
+        steps: &[TypeStep<'_>],
+    ) -> Result<Printed, Fault>
+        requires { IsManager self.old }
+        ensures performs { (tree : TypeTree) → steps_of steps.now ≡ type_steps tree
+            → Performs no_tools (state_of self.old) (var_command name.now tree) (Says (plainly result)) (state_of self.new) }
+        ensures kept { IsManager self.new }
+    {
+        self.prover.session.var(alloc, name, steps)
+    }
+
+    /// `def NAME = t`: defines a constant (`Session::def`).
+    pub fn def(
+        &mut self,
+        alloc: Global,
+        name: &str,
+        steps: &[TermStep<'_>],
+    ) -> Result<Printed, Fault>
+        requires { IsManager self.old }
+        ensures performs { (tree : TermTree) → flat_steps_of steps.now ≡ flat_steps (term_steps tree)
+            → Performs no_tools (state_of self.old) (def_command name.now tree) (Says (plainly result)) (state_of self.new) }
+        ensures kept { IsManager self.new }
+    {
+        self.prover.session.def(alloc, name, steps)
+    }
+
+    /// `newtype NAME`: declares a type (`Session::newtype`).
+    pub fn newtype(&mut self, alloc: Global, name: &str) -> Result<Printed, Fault>
+        requires { IsManager self.old }
+        ensures performs { Performs no_tools (state_of self.old) (newtype_command name.now) (Says (plainly result)) (state_of self.new) }
+        ensures kept { IsManager self.new }
+    {
+        self.prover.session.newtype(alloc, name)
+    }
+
+    /// `newconst NAME : type`: declares a constant (`Session::newconst`).
+    pub fn newconst(
+        &mut self,
+        alloc: Global,
+        name: &str,
+        steps: &[TypeStep<'_>],
+    ) -> Result<Printed, Fault>
+        requires { IsManager self.old }
+        ensures performs { (tree : TypeTree) → steps_of steps.now ≡ type_steps tree
+            → Performs no_tools (state_of self.old) (newconst_command name.now tree) (Says (plainly result)) (state_of self.new) }
+        ensures kept { IsManager self.new }
+    {
+        self.prover.session.newconst(alloc, name, steps)
+    }
+
+    /// The text of the log of the theorems that are stored under these names, with a claim for each (`Session::log_text`).
+    /// Refusals: Memory, and TooLong, where the text would be longer than the limit on texts.
+    pub fn log_text<'a>(&'a self, alloc: Global, names: &'a [String]) -> Result<Vec<u8>, Fault>
+        requires manager { IsManager self.now }
+        requires named { HaveIdentifiers (claims_of self.now (map string_bytes names.now)) }
+        ensures ok { IfOk result (λ text. IsAcceptedLog (journal_of self.now) (map log_claim (claims_of self.now (map string_bytes names.now))) text.items) }
+        ensures too_long { IsErrOf result TooLong → IsLongLog (journal_of self.now) (map log_claim (claims_of self.now (map string_bytes names.now))) }
+        ensures refusals { IfErr result (Contains (TooLong ∷ Memory ∷ [])) }
+    {
+        self.prover.session.log_text(alloc, names)
+    }
+}

@@ -1,5 +1,0 @@
-use Rattle.std.proofs.Common.{refl}
-use Rattle.hol_session_laws.proofs.expressions_are_spelled.Goals as goal
-
-pub returns : goal.returns
-returns c = record { first = refl; second = refl; second_depth = refl; third = refl; third_depth = refl }

@@ -1,5 +1,0 @@
-use Rattle.std.proofs.Common.{refl}
-use Rattle.hol_session_laws.proofs.goals_are_kept.Goals as goal
-
-pub returns : goal.returns
-returns c = record { stays = refl; turns = refl; goes_back = refl; goes_back_again = refl; ends = refl }

@@ -1,5 +1,0 @@
-use Rattle.hol_session_laws.proofs.HeadlineProofs.{goals-no_theorems}
-use Rattle.hol_session_laws.proofs.goals_are_no_theorems.Goals as goal
-
-pub returns : goal.returns
-returns c = goals-no_theorems

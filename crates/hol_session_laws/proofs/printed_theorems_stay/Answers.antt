@@ -1,5 +1,0 @@
-use Rattle.hol_session_laws.proofs.StoredTheorems.{printed-stay}
-use Rattle.hol_session_laws.proofs.printed_theorems_stay.Goals as goal
-
-pub returns : goal.returns
-returns g c = printed-stay g.T.Toolbox.tools

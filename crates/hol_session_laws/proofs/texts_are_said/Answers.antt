@@ -1,5 +1,0 @@
-use Rattle.std.proofs.Common.{refl}
-use Rattle.hol_session_laws.proofs.texts_are_said.Goals as goal
-
-pub returns : goal.returns
-returns c = record { none = refl; first = refl; lines = refl; row = refl; no_atoms = refl }

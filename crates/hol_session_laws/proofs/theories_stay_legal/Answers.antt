@@ -1,5 +1,0 @@
-use Rattle.hol_session_laws.proofs.Turns.{turns-legal}
-use Rattle.hol_session_laws.proofs.theories_stay_legal.Goals as goal
-
-pub returns : goal.returns
-returns g c = turns-legal g.T.Toolbox.tools

@@ -1,4 +1,0 @@
-use Rattle.hol_shared.proofs.compare.«+compare_types».Given as goal
-
-abbrev pub decreases-compare_types : goal.decreases-compare_types
-decreases-compare_types l = l.first

@@ -1,4 +1,0 @@
-use Rattle.hol_shared.proofs.matching.«+part_at».Given as goal
-
-abbrev pub decreases-part_at : goal.decreases-part_at
-decreases-part_at l = l.generic

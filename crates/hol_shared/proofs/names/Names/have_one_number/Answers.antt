@@ -1,5 +1,0 @@
-use Rattle.hol_shared.proofs.NamesLemmas.{distinct_names}
-use Rattle.hol_shared.proofs.names.Names.have_one_number.Goals as goal
-
-pub returns : goal.returns
-returns c = rw (← c.self.view_is) (distinct_names (λ name. name.items) c.self.inside.set.keys c.self.invariant)

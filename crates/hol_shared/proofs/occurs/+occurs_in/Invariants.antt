@@ -1,4 +1,0 @@
-use Rattle.hol_shared.proofs.occurs.«+occurs_in».Given as goal
-
-abbrev pub decreases-occurs_in : goal.decreases-occurs_in
-decreases-occurs_in l = l.number

@@ -1,6 +1,0 @@
-use Rattle.hol_shared.proofs.OccursLemmas.{nothing-noted}
-use Rattle.hol_shared.proofs.occurs.occurs_free.Goals as goal
-
-pub returns-clause-found : goal.returns-clause-found
-returns-clause-found c = λ name ty there.
-    (c.occurs_in.ensures.found name ty there (nothing-noted c.args.terms.now.terms name ty c.new-absent.result.keys c.new-absent.ensures.empty)).found

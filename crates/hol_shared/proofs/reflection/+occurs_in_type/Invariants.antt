@@ -1,4 +1,0 @@
-use Rattle.hol_shared.proofs.reflection.«+occurs_in_type».Given as goal
-
-abbrev pub decreases-occurs_in_type : goal.decreases-occurs_in_type
-decreases-occurs_in_type l = l.ty

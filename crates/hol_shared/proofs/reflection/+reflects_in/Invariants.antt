@@ -1,4 +1,0 @@
-use Rattle.hol_shared.proofs.reflection.«+reflects_in».Given as goal
-
-abbrev pub decreases-reflects_in : goal.decreases-reflects_in
-decreases-reflects_in l = l.number

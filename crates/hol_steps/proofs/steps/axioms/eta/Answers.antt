@@ -1,6 +1,0 @@
-use Rattle.std.proofs.Common.{[]}
-use Rattle.hol_model.specs.Logic.Derivable.{eta_axiom}
-use Rattle.hol_steps.proofs.steps.axioms.eta.Goals as goal
-
-pub returns-clause-taken : goal.returns-clause-taken
-returns-clause-taken c = c.conclude.ensures c.args.terms.now c.eta_conclusion.new.terms [] eta_axiom c.eta_conclusion.ensures.grows c.in-Ok.ensures.all c.eta_conclusion.ensures.formed

@@ -1,7 +1,0 @@
-use Rattle.std.proofs.Common.{subst}
-use Rattle.hol_steps.proofs.StepLemmas.{concluded}
-use Rattle.hol_steps.proofs.steps.conclude.conclude.Goals as goal
-use Rattle.hol_change.specs.Forming.{IsFormed}
-
-pub returns-in-Ok : goal.returns-in-Ok
-returns-in-Ok c = λ earlier now wanted formed grows order made. concluded earlier now (record { hypotheses = c.args.hypotheses; conclusion = c.in-Ok.conclusion }) wanted formed grows order (subst (λ r. IsFormed formed r now.terms) c.in-Ok.is made)

@@ -1,0 +1,76 @@
+// Bytes at the end of a text.
+ghost use Rattle.std.specs.Prelude.{◌≡◌, ◌∷◌, ◌++◌, OnOk};
+ghost use Rattle.std.specs.String.{string_bytes};
+ghost use Rattle.hol_model.specs.Texts.Printing.{type_tree};
+ghost use Rattle.hol_model.specs.Texts.Texts.{type_bytes};
+ghost use Rattle.hol_syntax_print.specs.Output.{Appends, opening, closing};
+ghost use Rattle.hol_syntax_print.specs.PrintedType.{placed};
+
+use hol_types::{Ty, TypeParts};
+use std::alloc::AllocError;
+
+/// Puts a text at the end. One of a byte or two, as marks and most names are, is put there without a call.
+#[inline(always)]
+pub fn append(out: &mut String, text: &str) -> Result<(), AllocError>
+    ensures ok { OnOk result (Appends (string_bytes out.old) (string_bytes out.new) (λ rest. text.now ++ rest)) }
+{
+    match text.as_bytes() {
+        [byte] if *byte < 128 => out.push(*byte as char),
+        [first, second] if *first < 128 && *second < 128 => {
+            out.push(*first as char)?;
+            out.push(*second as char)
+        }
+        _ => out.push_str(text),
+    }
+}
+
+/// Opens a parenthesis, where it is wanted.
+pub fn open(out: &mut String, wanted: bool) -> Result<(), AllocError>
+    ensures ok { OnOk result (Appends (string_bytes out.old) (string_bytes out.new) (opening wanted)) }
+{
+    if wanted { append(out, "(") } else { Ok(()) }
+}
+
+/// Closes a parenthesis, where it is wanted.
+pub fn close(out: &mut String, wanted: bool) -> Result<(), AllocError>
+    ensures ok { OnOk result (Appends (string_bytes out.old) (string_bytes out.new) (closing wanted)) }
+{
+    if wanted { append(out, ")") } else { Ok(()) }
+}
+
+/// Prints a type; on the left of an arrow a function type is in parentheses.
+pub fn print_type(ty: &Ty, on_left: bool, out: &mut String) -> Result<(), AllocError>
+    ensures ok { OnOk result (Appends (string_bytes out.old) (string_bytes out.new) (type_bytes (placed on_left (type_tree ty.now)))) }
+{
+    match ty.parts() {
+        TypeParts::Variable(name) => append(out, name),
+        TypeParts::Bool => append(out, "bool"),
+        TypeParts::Function(domain, codomain) => {
+            open(out, on_left)?;
+            print_type(domain, true, out)?;
+            append(out, "->")?;
+            print_type(codomain, false, out)?;
+            close(out, on_left)
+        }
+        TypeParts::Declared(name) => append(out, name),
+    }
+}
+
+/// Prints a name with its type, between two texts.
+#[inline(always)]
+pub fn print_typed(
+    before: &str,
+    name: &str,
+    ty: &Ty,
+    after: &str,
+    out: &mut String,
+) -> Result<(), AllocError>
+    ensures ok { OnOk result (Appends (string_bytes out.old) (string_bytes out.new)
+        (λ rest. before.now ++ (name.now ++ 58 ∷ type_bytes (type_tree ty.now) (after.now ++ rest)))) }
+{
+    append(out, before)?;
+    append(out, name)?;
+    append(out, ":")?;
+    print_type(ty, false, out)?;
+    append(out, after)
+}

@@ -1,0 +1,300 @@
+// The texts of types, terms and sequents.
+ghost use Rattle.std.specs.Prelude.{◌≡◌, ◌∷◌, [], IfOk, OnOk, IfErr, IsTrue};
+ghost use Rattle.std.specs.String.{string_bytes};
+ghost use Rattle.hol_model.specs.declared.fault.Fault.TheVariants.{Memory};
+ghost use Rattle.hol_model.specs.Terms.Name.{is_constant_name};
+ghost use Rattle.hol_model.specs.Texts.Printing.{enclose, type_tree, apply_tree, variable_tree, constant_tree, term_tree};
+ghost use Rattle.hol_model.specs.Texts.TermGrammar as grammar;
+ghost use Rattle.hol_model.specs.Texts.Reading as reading;
+ghost use Rattle.hol_model.specs.Texts.Reading.{Bindings, bound_type};
+ghost use Rattle.hol_model.specs.Texts.SequentGrammar.{ReadsSequent};
+ghost use Rattle.hol_model.specs.Texts.SequentTexts.{IsReadableFormula, AreReadableFormulas};
+ghost use Rattle.hol_model.specs.Texts.Texts.{term_bytes, further_bytes, listed_bytes, IsNamedType, IsKnownTerm, ReadsType, ReadsTerm};
+ghost use Rattle.hol_model.specs.Texts.Texts as texts;
+ghost use Rattle.hol_syntax_print.specs.Output.{Appends};
+ghost use Rattle.hol_syntax.specs.Scope.{scope_of};
+ghost use Rattle.hol_syntax_grammar.specs.Grammar.{infix_here, binder_here};
+ghost use Rattle.hol_syntax_print.specs.Innermost.{IsInnermost};
+ghost use Rattle.hol_syntax_print.specs.Shape.{shape_tree, joined_tree, IsNamed};
+
+use crate::innermost::Innermost;
+use crate::output::{append, close, open, print_type, print_typed};
+use crate::shape::{
+    Shape, binder_text, infix_level, infix_text, is_bare_constant, is_bound, level, shape_of,
+};
+use hol_model::Fault;
+use hol_syntax::Scope;
+use hol_syntax_grammar::grammar::{Binder, Infix};
+use hol_terms::Term;
+use hol_types::Ty;
+use std::alloc::{AllocError, Global};
+
+// Prints a variable: its bare name where the innermost binder of that name is its own, else its type too.
+fn print_variable(
+    binders: &Innermost,
+    name: &str,
+    ty: &Ty,
+    out: &mut String,
+) -> Result<(), AllocError>
+    ensures ok { (bindings : Bindings) → IsInnermost binders.now bindings → OnOk result (Appends (string_bytes out.old) (string_bytes out.new)
+        (term_bytes (variable_tree (bound_type bindings name.now) name.now ty.now))) }
+{
+    if is_bound(binders, name, ty) {
+        append(out, name)
+    } else {
+        print_typed("(", name, ty, ")", out)
+    }
+}
+
+// Prints a constant: its bare name where that says which constant it is, else its type too.
+fn print_constant(
+    scope: &Scope,
+    binders: &Innermost,
+    name: &str,
+    ty: &Ty,
+    out: &mut String,
+) -> Result<(), AllocError>
+    requires { IsTrue (is_constant_name name.now) }
+    ensures ok { (bindings : Bindings) → IsInnermost binders.now bindings → OnOk result (Appends (string_bytes out.old) (string_bytes out.new)
+        (term_bytes (constant_tree (scope_of scope.now) bindings name.now ty.now))) }
+{
+    if is_bare_constant(scope, binders, name) {
+        append(out, name)
+    } else {
+        print_typed("[", name, ty, "]", out)
+    }
+}
+
+// Prints a term that stands under binders, in parentheses where its form is below the level.
+#[cycle(print_term)]
+fn print_term(
+    term: &Term,
+    alloc: Global,
+    scope: &Scope,
+    min_level: u8,
+    binders: &mut Innermost,
+    out: &mut String,
+) -> Result<(), AllocError>
+    ensures ok { (bindings : Bindings) → IsInnermost binders.old bindings → OnOk result (Appends (string_bytes out.old) (string_bytes out.new)
+        (term_bytes (enclose min_level (term_tree (scope_of scope.now) bindings term.now)))) }
+    ensures kept { (bindings : Bindings) → IsInnermost binders.old bindings → OnOk result (IsInnermost binders.new bindings) }
+{
+    let shape = shape_of(term);
+    let enclosed = level(shape) < min_level;
+    open(out, enclosed)?;
+    print_shape(shape, alloc, scope, binders, out)?;
+    close(out, enclosed)
+}
+
+// Prints a term of this form.
+#[cycle(print_term)]
+fn print_shape(
+    shape: Shape<'_>,
+    alloc: Global,
+    scope: &Scope,
+    binders: &mut Innermost,
+    out: &mut String,
+) -> Result<(), AllocError>
+    requires { IsNamed shape }
+    ensures ok { (bindings : Bindings) → IsInnermost binders.old bindings → OnOk result (Appends (string_bytes out.old) (string_bytes out.new)
+        (term_bytes (shape_tree (scope_of scope.now) bindings shape.entry))) }
+    ensures kept { (bindings : Bindings) → IsInnermost binders.old bindings → OnOk result (IsInnermost binders.new bindings) }
+{
+    match shape {
+        Shape::Variable(name, ty) => print_variable(binders, name, ty, out),
+        Shape::Constant(name, ty) => print_constant(scope, binders, name, ty, out),
+        Shape::Apply(function, argument) => {
+            print_application(function, argument, alloc, scope, binders, out)
+        }
+        Shape::Not(operand) => print_negation(operand, alloc, scope, binders, out),
+        Shape::Join(operation, left, right) => {
+            print_infix(operation, left, right, alloc, scope, binders, out)
+        }
+        Shape::Bind(binder, name, ty, body) => {
+            print_binding(binder, name, ty, body, alloc, scope, binders, out)
+        }
+    }
+}
+
+#[cycle(print_term)]
+fn print_application(
+    function: &Term,
+    argument: &Term,
+    alloc: Global,
+    scope: &Scope,
+    binders: &mut Innermost,
+    out: &mut String,
+) -> Result<(), AllocError>
+    ensures ok { (bindings : Bindings) → IsInnermost binders.old bindings → OnOk result (Appends (string_bytes out.old) (string_bytes out.new)
+        (term_bytes (apply_tree (term_tree (scope_of scope.now) bindings function.now) (term_tree (scope_of scope.now) bindings argument.now)))) }
+    ensures kept { (bindings : Bindings) → IsInnermost binders.old bindings → OnOk result (IsInnermost binders.new bindings) }
+{
+    print_term(function, alloc, scope, 16, binders, out)?;
+    append(out, " ")?;
+    print_term(argument, alloc, scope, 20, binders, out)
+}
+
+#[cycle(print_term)]
+fn print_negation(
+    operand: &Term,
+    alloc: Global,
+    scope: &Scope,
+    binders: &mut Innermost,
+    out: &mut String,
+) -> Result<(), AllocError>
+    ensures ok { (bindings : Bindings) → IsInnermost binders.old bindings → OnOk result (Appends (string_bytes out.old) (string_bytes out.new)
+        (term_bytes (grammar.Not (enclose 14 (term_tree (scope_of scope.now) bindings operand.now))))) }
+    ensures kept { (bindings : Bindings) → IsInnermost binders.old bindings → OnOk result (IsInnermost binders.new bindings) }
+{
+    append(out, "~")?;
+    print_term(operand, alloc, scope, 14, binders, out)
+}
+
+#[cycle(print_term)]
+fn print_infix(
+    operation: Infix,
+    left: &Term,
+    right: &Term,
+    alloc: Global,
+    scope: &Scope,
+    binders: &mut Innermost,
+    out: &mut String,
+) -> Result<(), AllocError>
+    ensures ok { (bindings : Bindings) → IsInnermost binders.old bindings → OnOk result (Appends (string_bytes out.old) (string_bytes out.new)
+        (term_bytes (joined_tree (infix_here operation) (term_tree (scope_of scope.now) bindings left.now) (term_tree (scope_of scope.now) bindings right.now)))) }
+    ensures kept { (bindings : Bindings) → IsInnermost binders.old bindings → OnOk result (IsInnermost binders.new bindings) }
+{
+    let level = infix_level(operation);
+    print_term(left, alloc, scope, level + 1, binders, out)?;
+    append(out, infix_text(operation))?;
+    print_term(right, alloc, scope, level, binders, out)
+}
+
+#[cycle(print_term)]
+fn print_binding(
+    binder: Binder,
+    name: &str,
+    ty: &Ty,
+    body: &Term,
+    alloc: Global,
+    scope: &Scope,
+    binders: &mut Innermost,
+    out: &mut String,
+) -> Result<(), AllocError>
+    ensures ok { (bindings : Bindings) → IsInnermost binders.old bindings → OnOk result (Appends (string_bytes out.old) (string_bytes out.new)
+        (term_bytes (grammar.Bind (binder_here binder) name.now (type_tree ty.now) (term_tree (scope_of scope.now) ((name.now, ty.now) ∷ bindings) body.now)))) }
+    ensures kept { (bindings : Bindings) → IsInnermost binders.old bindings → OnOk result (IsInnermost binders.new bindings) }
+{
+    print_typed(binder_text(binder), name, ty, ". ", out)?;
+    let hidden = binders.enter(alloc, name, ty)?;
+    print_term(body, alloc, scope, 0, binders, out)?;
+    binders.leave(alloc, name, hidden)
+}
+
+// Prints a term that stands under no binder.
+fn print_whole(
+    alloc: Global,
+    scope: &Scope,
+    term: &Term,
+    out: &mut String,
+) -> Result<(), AllocError>
+    ensures ok { OnOk result (Appends (string_bytes out.old) (string_bytes out.new) (term_bytes (term_tree (scope_of scope.now) [] term.now))) }
+{
+    let mut binders = Innermost::new(alloc);
+    print_term(term, alloc, scope, 0, &mut binders, out)
+}
+
+// Prints each term behind a comma.
+fn print_further(
+    alloc: Global,
+    scope: &Scope,
+    terms: &[Term],
+    out: &mut String,
+) -> Result<(), AllocError>
+    ensures ok { OnOk result (Appends (string_bytes out.old) (string_bytes out.new) (further_bytes (scope_of scope.now) terms.now)) }
+{
+    for term in terms {
+        append(out, ", ")?;
+        print_whole(alloc, scope, term, out)?;
+    }
+    Ok(())
+}
+
+// Prints the terms with commas between them and a space behind, if there are any.
+fn print_listed(
+    alloc: Global,
+    scope: &Scope,
+    terms: &[Term],
+    out: &mut String,
+) -> Result<(), AllocError>
+    ensures ok { OnOk result (Appends (string_bytes out.old) (string_bytes out.new) (listed_bytes (scope_of scope.now) terms.now)) }
+{
+    match terms {
+        [] => Ok(()),
+        [first, rest @ ..] => {
+            print_whole(alloc, scope, first, out)?;
+            print_further(alloc, scope, rest, out)?;
+            append(out, " ")
+        }
+    }
+}
+
+/// The text of a type.
+pub fn text_of_type(alloc: Global, ty: &Ty) -> Result<String, Fault>
+    ensures ok { IfOk result (λ text. string_bytes text ≡ texts.text_of_type ty.now) }
+    ensures reads_back { IfOk result (λ text. (scope : reading.Scope) → IsNamedType scope ty.now → ReadsType scope (string_bytes text) ty.now) }
+    ensures err { IfErr result (λ fault. fault ≡ Memory) }
+{
+    let _within_limit = ty.nodes();
+    let mut out = String::new(alloc);
+    print_type(ty, false, &mut out)?;
+    Ok(out)
+}
+
+/// The text of a term.
+pub fn text_of_term(alloc: Global, scope: &Scope, term: &Term) -> Result<String, Fault>
+    ensures ok { IfOk result (λ text. string_bytes text ≡ texts.text_of_term (scope_of scope.now) term.now) }
+    ensures reads_back { IfOk result (λ text. IsKnownTerm (scope_of scope.now) term.now → ReadsTerm (scope_of scope.now) (string_bytes text) term.now) }
+    ensures err { IfErr result (λ fault. fault ≡ Memory) }
+{
+    term.well_formed();
+    let mut out = String::new(alloc);
+    print_whole(alloc, scope, term, &mut out)?;
+    Ok(out)
+}
+
+/// The text of a sequent.
+pub fn text_of_sequent(
+    alloc: Global,
+    scope: &Scope,
+    hyps: &[Term],
+    concl: &Term,
+) -> Result<String, Fault>
+    ensures ok { IfOk result (λ text. string_bytes text ≡ texts.text_of_sequent (scope_of scope.now) hyps.now concl.now) }
+    ensures reads_back { IfOk result (λ text. AreReadableFormulas (scope_of scope.now) hyps.now → IsReadableFormula (scope_of scope.now) concl.now
+        → ReadsSequent (scope_of scope.now) (string_bytes text) (hyps.now, concl.now)) }
+    ensures err { IfErr result (λ fault. fault ≡ Memory) }
+{
+    let mut out = String::new(alloc);
+    print_listed(alloc, scope, hyps, &mut out)?;
+    append(&mut out, "|- ")?;
+    print_whole(alloc, scope, concl, &mut out)?;
+    Ok(out)
+}
+
+/// The text of a goal.
+pub fn text_of_goal(
+    alloc: Global,
+    scope: &Scope,
+    assumptions: &[Term],
+    concl: &Term,
+) -> Result<String, Fault>
+    ensures ok { IfOk result (λ text. string_bytes text ≡ texts.text_of_goal (scope_of scope.now) assumptions.now concl.now) }
+    ensures err { IfErr result (λ fault. fault ≡ Memory) }
+{
+    let mut out = String::new(alloc);
+    print_listed(alloc, scope, assumptions, &mut out)?;
+    append(&mut out, "?- ")?;
+    print_whole(alloc, scope, concl, &mut out)?;
+    Ok(out)
+}

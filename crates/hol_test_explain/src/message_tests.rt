@@ -1,0 +1,70 @@
+// Refused commands, with what is said of each.
+use crate::rows::{first_wrong, says};
+use hol_model::Fault;
+use hol_test_sample_devices::push_times;
+use hol_test_sample_scripts::messages::{
+    COMMANDS, FURTHER_NAMES, GOALS, LIMITS, MISFITS, NAMES, QUOTES, RULES, SHAPES, TERMS,
+};
+use std::alloc::Global;
+
+// What is said of a term that is too high.
+fn tells_the_height(alloc: Global) -> Result<bool, Fault> {
+    let mut script = Vec::new(alloc);
+    script.extend_from_slice(b"thm a = REFL `")?;
+    push_times(&mut script, b"~", 1998)?;
+    script.extend_from_slice(b"T` ;;")?;
+    let said =
+        b"s:1:9: E2 TooLarge: a term, a type or a justification would pass the limits on its size (a rewriting that makes terms grow has no end)\n";
+    says(alloc, &script, said)
+}
+
+#[test]
+fn names_are_explained(rt: HostRuntime) {
+    assert!(rt; first_wrong(rt.alloc(), NAMES) == Ok(8));
+}
+
+#[test]
+fn nearest_names_are_told(rt: HostRuntime) {
+    assert!(rt; first_wrong(rt.alloc(), FURTHER_NAMES) == Ok(6));
+}
+
+#[test]
+fn misfits_are_explained(rt: HostRuntime) {
+    assert!(rt; first_wrong(rt.alloc(), MISFITS) == Ok(9));
+}
+
+#[test]
+fn shapes_are_told(rt: HostRuntime) {
+    assert!(rt; first_wrong(rt.alloc(), SHAPES) == Ok(2));
+}
+
+#[test]
+fn terms_are_explained(rt: HostRuntime) {
+    assert!(rt; first_wrong(rt.alloc(), TERMS) == Ok(8));
+}
+
+#[test]
+fn rules_are_explained(rt: HostRuntime) {
+    assert!(rt; first_wrong(rt.alloc(), RULES) == Ok(10));
+}
+
+#[test]
+fn goals_are_explained(rt: HostRuntime) {
+    assert!(rt; first_wrong(rt.alloc(), GOALS) == Ok(7));
+}
+
+#[test]
+fn texts_are_explained(rt: HostRuntime) {
+    assert!(rt; first_wrong(rt.alloc(), COMMANDS) == Ok(14));
+}
+
+#[test]
+fn quotes_are_explained(rt: HostRuntime) {
+    assert!(rt; first_wrong(rt.alloc(), QUOTES) == Ok(9));
+}
+
+#[test]
+fn limits_are_explained(rt: HostRuntime) {
+    assert!(rt; first_wrong(rt.alloc(), LIMITS) == Ok(7));
+    assert!(rt; tells_the_height(rt.alloc()) == Ok(true));
+}

@@ -1,0 +1,51 @@
+// Scripts as data, and what is said of their refusals.
+use hol_explain::{Refused, Script, explain, explain_refusal};
+use hol_host::{Host, NoHost};
+use hol_host_samples::liar;
+use hol_just::Goal;
+use hol_model::Fault;
+use hol_test_sample_devices::{Compared, Row, Rows};
+use std::alloc::Global;
+
+/// The title of the first row of a text of whose script something else is said, or how many rows there are.
+pub(crate) fn first_wrong(alloc: Global, text: &str) -> Result<usize, &str> {
+    let mut rows = Rows::new(text);
+    for count in 0..text.len() {
+        let Some(row) = rows.next() else {
+            return Ok(count);
+        };
+        if says(alloc, row.script.as_bytes(), row.expected.as_bytes()) != Ok(true) {
+            return Err(row.title);
+        }
+    }
+    Ok(text.len())
+}
+
+/// Whether this is said of a script, and no more, where the host has a refiner that lies.
+pub(crate) fn says(alloc: Global, script: &[u8], messages: &[u8]) -> Result<bool, Fault> {
+    let mut host = Host::new(alloc);
+    let lies = Box::new(alloc, |alloc: Global, goal: &Goal| liar(alloc, goal))?;
+    host.refiner(alloc, "liar", lies)?;
+    let mut host_names = Vec::new(alloc);
+    host_names.push(String::from_str(alloc, "liar")?)?;
+    let script = Script {
+        file: "s",
+        text: script,
+        host_names: &host_names,
+    };
+    let mut writer = Compared::new(messages);
+    explain(alloc, &script, &host, &mut writer)?;
+    Ok(writer.is_whole())
+}
+
+/// Whether this is said of the first command of a script, where it is refused so.
+pub(crate) fn says_of(alloc: Global, row: &Row<'_>, fault: Fault) -> Result<bool, Fault> {
+    let host_names = Vec::new(alloc);
+    let script = Script {
+        file: "s",
+        text: row.script.as_bytes(),
+        host_names: &host_names,
+    };
+    let text = explain_refusal(alloc, &script, &NoHost, &Refused::plain(fault))?;
+    Ok(text.as_str() == row.expected)
+}

@@ -1,0 +1,14 @@
+use Rattle.std.proofs.Common.{refl}
+use Rattle.hol_test_replay.proofs.replays.replayed.Goals as goal
+
+pub returns : goal.returns
+returns c =
+    c.libraries_continue.ensures c.args.library.now _
+    (record {
+      grown = c.replay.ensures.grown;
+      theory = c.replay.ensures.theory;
+      logic = refl;
+      laws = refl;
+      stored = refl;
+    })
+    c.requires
