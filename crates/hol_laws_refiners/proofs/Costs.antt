@@ -99,5 +99,6 @@ module _ (theory : Theory) (host : Host) where
   runs-costs (tac.first_is_not_caught r passes) = tt
   runs-costs (tac.last_is_refused r) = tt
   runs-costs (tac.first_is_caught {before} {mid} {after} {answer} r caught s) = costs-later answer before.steps mid.steps after.steps (runs-later theory host r).steps (runs-costs s)
+  runs-costs (tac.repeat_is_too_deep r deep) = tt
   runs-costs (tac.runs_as_defined is r) = runs-costs r
   runs-costs (tac.finds_no_memory later) = tt

@@ -9,7 +9,7 @@ use Rattle.hol_model.proofs.Terms.Membership.{of_append}
 use Rattle.hol_model.specs.Goals.ValidSteps.{Step}
 use Rattle.hol_model.specs.Goals.Replays.{Store, with_lemma, IsProvedOver}
 use Rattle.hol_model.specs.Refining.HostFunctions.{Host}
-use Rattle.hol_model.specs.Refining.Combinators.{Tactic, Links, Stage, at, IsLater, Runs, RunsOn, RunsEach, no_step_is_left, leaf_refines, leaf_is_refused, conversion_is_refused, conversion_is_not_assumed, conversion_refines, taut_is_refused, taut_refines, host_is_unknown, host_fails, host_refines, first_is_refused, first_goes_on, first_answers, first_is_not_caught, last_is_refused, first_is_caught, runs_as_defined, finds_no_memory, ends, lengths_differ, next_is_refused, splice_is_too_deep, next_goes_on, goes_on_without_memory, none_is_left, one_is_refused, one_is_done, each_finds_no_memory}
+use Rattle.hol_model.specs.Refining.Combinators.{Tactic, Links, Stage, at, IsLater, Runs, RunsOn, RunsEach, RepeatsSoFar, no_step_is_left, leaf_refines, leaf_is_refused, conversion_is_refused, conversion_is_not_assumed, conversion_refines, taut_is_refused, taut_refines, host_is_unknown, host_fails, host_refines, first_is_refused, first_goes_on, first_answers, first_is_not_caught, last_is_refused, first_is_caught, repeat_is_too_deep, runs_as_defined, finds_no_memory, ends, lengths_differ, next_is_refused, splice_is_too_deep, next_goes_on, goes_on_without_memory, none_is_left, one_is_refused, one_is_done, each_finds_no_memory, has_run, goes_down}
 use Rattle.hol_laws_refiners.proofs.Spending.{converts-spends}
 
 module _ (theory : Theory) where
@@ -71,6 +71,7 @@ module _ (theory : Theory) where
       runs-later (first_is_not_caught r passes) = runs-later r
       runs-later (last_is_refused r) = runs-later r
       runs-later (first_is_caught {before} {mid} {after} r caught s) = later-twice before mid after (runs-later r) (runs-later s)
+      runs-later (repeat_is_too_deep r deep) = repeats-later r
       runs-later (runs_as_defined is r) = runs-later r
       runs-later (finds_no_memory later) = later
 
@@ -88,3 +89,8 @@ module _ (theory : Theory) where
       runs_each-later (one_is_refused r) = runs-later r
       runs_each-later (one_is_done {before} {mid} {after} r s is) = later-twice before mid after (runs-later r) (runs_each-later s)
       runs_each-later (each_finds_no_memory later) = later
+
+      repeats-later : {before after : Stage} {t : Tactic} {goal : Goal} {step : Step} → RepeatsSoFar theory host before t goal step after → IsLater theory before after
+      repeats-later (has_run r) = runs-later r
+      repeats-later (goes_down {before} {mid} {later} {after} firsts others r is each s) =
+          later-twice before mid after (runs-later r) (later-twice mid later after (runs_each-later each) (repeats-later s))
