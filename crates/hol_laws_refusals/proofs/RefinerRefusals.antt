@@ -305,6 +305,7 @@ module _ (theory : Theory) (has : HasLogic theory) where
       runs-lists (tac.first_is_not_caught r passes) over w h k = runs-lists r over w.0 h.0 k
       runs-lists (tac.last_is_refused r) over w h k = runs-lists r over w.0 h.0 k
       runs-lists (tac.first_is_caught {before} {mid} r caught s) over w h k = runs-lists s (store-later theory before mid (runs-later theory host r) over) w.1 h.1 k
+      runs-lists (tac.repeat_is_too_deep r deep) over w h k = lists-err _ tt
       runs-lists (tac.runs_as_defined {t} {u} is r) over w h k = let ready = definition-ready t u is w h in runs-lists r over ready.0 ready.1 k
       runs-lists (tac.finds_no_memory later) over w h k = lists-err _ tt
 
