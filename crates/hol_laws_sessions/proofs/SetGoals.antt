@@ -85,7 +85,7 @@ pub set-kept : (texts : List (List ℕ)) (theory : Theory) (found : Option Proof
 set-kept texts theory None proof kept set = absurd kept
 set-kept texts theory (Some old) proof kept set = record { term = set.term; is_goal = kept ∙ set.is_goal; is_set = set.is_set }
 
-goal-later : (texts : List (List ℕ)) (earlier now : Theory) (term : NamedTerm) → IsEarlier earlier now → IsGoalOf texts earlier term → IsGoalOf texts now term
+pub goal-later : (texts : List (List ℕ)) (earlier now : Theory) (term : NamedTerm) → IsEarlier earlier now → IsGoalOf texts earlier term → IsGoalOf texts now term
 goal-later texts earlier now term is_earlier set = record {
   text = set.text;
   there = set.there;
@@ -100,7 +100,7 @@ set-later texts earlier now is_earlier (Some proof) set = record { term = set.te
 
 -- ---- a finished proof
 
-nothing : (terms : List Nameless) → ((term : Nameless) → IsMember term terms → IsMember term []) → terms ≡ []
+pub nothing : (terms : List Nameless) → ((term : Nameless) → IsMember term terms → IsMember term []) → terms ≡ []
 nothing [] none = refl
 nothing (term ∷ terms) none = absurd (none term (inl refl))
 

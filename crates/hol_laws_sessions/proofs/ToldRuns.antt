@@ -38,16 +38,16 @@ use Rattle.hol_laws_sessions.proofs.SetGoals.{set-goal, IsOfGoal, back-goal, rot
 use Rattle.hol_laws_sessions.proofs.ToldTexts.{theorem-told, goal-told, refusal-told}
 
 -- the tokens of a command's text
-lexed : (text : List ℕ) (tree : CommandTree) → SpellsCommand text tree → Lexes text (command_tokens tree)
+pub lexed : (text : List ℕ) (tree : CommandTree) → SpellsCommand text tree → Lexes text (command_tokens tree)
 lexed text tree spelled = subst (λ tokens. Lexes text tokens) spelled.read.spelled spelled.lexed
 
 -- ---- theories grow by what the texts declare
 
 module _ (texts : List (List ℕ)) where
-  same-grown : (theory : Theory) → IsGrownBy texts theory theory
+  pub same-grown : (theory : Theory) → IsGrownBy texts theory theory
   same-grown theory = record { added = []; is_added = refl; declared = tt }
 
-  one-grown : (text : List ℕ) (entry : Entry) (before now : Theory) → IsMember text texts → Declares before text entry → now ≡ entry ∷ before → IsGrownBy texts before now
+  pub one-grown : (text : List ℕ) (entry : Entry) (before now : Theory) → IsMember text texts → Declares before text entry → now ≡ entry ∷ before → IsGrownBy texts before now
   one-grown text entry before now there declares is = record { added = entry ∷ []; is_added = is; declared = ((text, there, declares), tt) }
 
   more-declared : (entries before : List Entry) (theory middle : Theory) → middle ≡ before ++ theory → AreDeclared texts entries middle → AreDeclared texts before theory
@@ -269,7 +269,7 @@ module _ (texts : List (List ℕ)) where
   -- ---- sessions
 
   -- what is told over a later theory is told over an earlier one
-  told-before : (before now : Theory) (lines : List (List ℕ)) → IsGrownBy texts before now → AreTold texts now lines → AreTold texts before lines
+  pub told-before : (before now : Theory) (lines : List (List ℕ)) → IsGrownBy texts before now → AreTold texts now lines → AreTold texts before lines
   told-before before now [] is told = tt
   told-before before now (line ∷ lines) is (later, then', one, others) = (later, twice-grown before now later is then', one, others)
 
@@ -362,12 +362,12 @@ module _ (texts : List (List ℕ)) where
 
 -- ---- runs
 
-with_theorems-theory : (library : Library) (named : List (List ℕ × Theorem)) → (with_theorems library named).theory ≡ library.theory
+pub with_theorems-theory : (library : Library) (named : List (List ℕ × Theorem)) → (with_theorems library named).theory ≡ library.theory
 with_theorems-theory library [] = refl
 with_theorems-theory library (one ∷ others) = with_theorems-theory (with_theorem library one.0 one.1) others
 
 -- before the theorems of the prelude are stored
-abbrev unstored : Library
+abbrev pub unstored : Library
 unstored = record { theory = logical_definitions; variables = λ _. None; theorems = λ _. None }
 
 pub runs-told : (tools : Tools) → RunsAreTold tools

@@ -31,13 +31,13 @@ module _ (state : State) where
   term_over (combination f a) known = (term_over f known.0, term_over a known.1)
   term_over (abstraction name ty body) known = (type_over ty known.0, known.1, term_over body known.2)
 
-  formula_over : (term : NamedTerm) → IsReadableFormula (scope_in state) term → IsReadableFormula (scope_over state.library.theory) term
+  pub formula_over : (term : NamedTerm) → IsReadableFormula (scope_in state) term → IsReadableFormula (scope_over state.library.theory) term
   formula_over term is = record {
     readable = record { known = term_over term is.readable.known; typed = is.readable.typed };
     is_formula = is.is_formula;
   }
 
-  formulas_over : (terms : List NamedTerm) → AreReadableFormulas (scope_in state) terms → AreReadableFormulas (scope_over state.library.theory) terms
+  pub formulas_over : (terms : List NamedTerm) → AreReadableFormulas (scope_in state) terms → AreReadableFormulas (scope_over state.library.theory) terms
   formulas_over [] are = tt
   formulas_over (term ∷ terms) are = (formula_over term are.0, formulas_over terms are.1)
 
@@ -119,18 +119,23 @@ module _ (printed : TextsArePrinted) where
   further-one_line scope (value ∷ row) are =
       joined (codes ", " ++ value_text scope value) (further_values scope row) (joined (codes ", ") (value_text scope value) refl (value-one_line scope value are.0)) (further-one_line scope row are.1)
 
-  row-one_line : (scope : Scope) (row : List (NamedTerm × Bool)) → AreReadableFormulas scope (map (λ value. value.0) row) → is_one_line (row_text scope row) ≡ true
+  pub row-one_line : (scope : Scope) (row : List (NamedTerm × Bool)) → AreReadableFormulas scope (map (λ value. value.0) row) → is_one_line (row_text scope row) ≡ true
   row-one_line scope [] are = refl
   row-one_line scope (value ∷ row) are =
       joined (codes " " ++ value_text scope value) (further_values scope row) (joined (codes " ") (value_text scope value) refl (value-one_line scope value are.0)) (further-one_line scope row are.1)
+
+  -- the line of a refusal does not depend on the declared variables
+  pub refusal-same : (scope other : Scope) → scope.generic_type ≡ other.generic_type → (line : ℕ) (refusal : Refusal) → text_of_refusal line scope refusal ≡ text_of_refusal line other refusal
+  refusal-same scope other same line refusal =
+      ap (λ (row : List ℕ). codes "line " ++ decimal line ++ codes ": E" ++ decimal (number_of refusal.fault) ++ codes " " ++ name_of refusal.fault ++ row ++ codes "\n")
+      (row-same scope other same refusal.row)
 
   -- a refusal is told by its line
   pub refusal-told : (state : State) (line : ℕ) (refusal : Refusal) → IsReadableRow state refusal.row → IsRefusalLine state.library.theory (text_of_refusal line (scope_in state) refusal)
   refusal-told state line refusal are = record {
     number = line;
     refusal = refusal;
-    spelled = ap (λ (row : List ℕ). codes "line " ++ decimal line ++ codes ": E" ++ decimal (number_of refusal.fault) ++ codes " " ++ name_of refusal.fault ++ row ++ codes "\n")
-        (row-same (scope_in state) (scope_over state.library.theory) refl refusal.row);
+    spelled = refusal-same (scope_in state) (scope_over state.library.theory) refl line refusal;
     one_line = row-one_line (scope_over state.library.theory) refusal.row (formulas_over state (map (λ value. value.0) refusal.row) are);
     readable = formulas_over state (map (λ value. value.0) refusal.row) are;
   }

@@ -11,6 +11,7 @@ use Rattle.hol_model.specs.Texts.Texts.{text_of_sequent, text_of_goal, is_one_li
 use Rattle.hol_model.specs.Texts.SequentTexts.{IsReadableFormula, AreReadableFormulas, SequentsReadBack}
 use Rattle.hol_model_sessions.specs.ScriptSessions.{Tools, Turn, text_of_turns}
 use Rattle.hol_model_sessions.specs.Runs.{IsRun}
+use Rattle.hol_model_sessions.specs.Walking.{Place, first_place, Walks, TellsWalk}
 use Rattle.hol_model_sessions.specs.Headline.{IsTheoremLine, IsRefusalLine, IsCountLine, IsGoalLine, IsProvedLine, IsTold, IsGrownBy, AreTold, text_of_lines, TellsLines}
 
 -- no line tells falsity without hypotheses, whatever the script added to the logical definitions
@@ -120,3 +121,19 @@ pub record IsToldFrom (theory : Theory) (texts : List (List ℕ)) (text : List �
 abbrev pub RunsAreTold : Tools → Type 0
 RunsAreTold tools =
     TextsArePrinted → (script : List ℕ) (turns : List Turn) (is_run : IsRun tools script turns) → IsToldFrom logical_definitions is_run.pieces (text_of_turns turns)
+
+-- The text is that of lines with which the pieces are answered, from this line of the script and this place on.
+pub record IsWalkedFrom (line : ℕ) (place : Place) (pieces : List (List ℕ)) (last text : List ℕ) : Type 0 where
+  pub lines : List (List ℕ)
+  pub walks : Walks line place pieces last lines
+  pub whole : text_of_lines lines ≡ text
+
+-- What a run writes is told piece by piece.
+abbrev pub RunsAreWalked : Tools → Type 0
+RunsAreWalked tools =
+    TextsArePrinted → (script : List ℕ) (turns : List Turn) (is_run : IsRun tools script turns) → IsWalkedFrom 1 first_place is_run.pieces is_run.last (text_of_turns turns)
+
+-- What is told piece by piece is told line by line.
+abbrev pub WalksAreTold : Type 0
+WalksAreTold =
+    TextsArePrinted → (input before after : Option (List ℕ)) (unwritten : List ℕ) → TellsWalk input before after unwritten → TellsLines input before after unwritten

@@ -11,7 +11,7 @@ ghost use Rattle.hol_laws_sessions.specs.Examples.{ExpressionsAreSpelled, GoalsA
 ghost use Rattle.hol_laws_sessions.specs.ReadTerms.{ReadTermsAreKnown, VariablesStayKnown, ScopesAreOver};
 ghost use Rattle.hol_laws_sessions.specs.ValidSessions.{TurnsKeepValid, ExpansionsAreRefused};
 ghost use Rattle.hol_laws_sessions.specs.UniqueReadings.{QuotesAreUnambiguous, ConversionsAreUnambiguous, TacticsAreUnambiguous, PartsAreUnambiguous, CommandsAreUnambiguous};
-ghost use Rattle.hol_laws_sessions.specs.HeadlineLaws.{NoLineIsFalsity, RefusalsAreNoTheorems, GoalsAreNoTheorems, TheoremsAreSeen, ToldLinesAreLines, WrittenLinesAreTold, RunsAreTold};
+ghost use Rattle.hol_laws_sessions.specs.HeadlineLaws.{NoLineIsFalsity, RefusalsAreNoTheorems, GoalsAreNoTheorems, TheoremsAreSeen, ToldLinesAreLines, WrittenLinesAreTold, RunsAreTold, RunsAreWalked, WalksAreTold};
 ghost use Rattle.hol_laws_sessions.specs.SessionLaws.{MayLackMemory, RefusalsChangeNothing, TheoriesStayLegal, TheoriesGrow, PrintedTheoremsAreProved, NoSubgoalsMeansProved, PrintedTheoremsStay, SequentsSuffice};
 
 use hol_sound::consistent;
@@ -201,4 +201,15 @@ pub fn written_lines_are_told()
 /// What a run writes is told by the pieces of its script, in lines of theorems, of refusals and of goals.
 pub fn runs_are_told<T: Toolbox>()
     ensures { RunsAreTold T.tools }
+{}
+
+/// What a run writes is told piece by piece: the answer to each piece speaks of what the pieces up to it declare, and of the goal
+/// that was set last.
+pub fn runs_walk<T: Toolbox>()
+    ensures { RunsAreWalked T.tools }
+{}
+
+/// What is told piece by piece is told line by line.
+pub fn walks_are_told()
+    ensures { WalksAreTold }
 {}
