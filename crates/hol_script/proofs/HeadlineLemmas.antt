@@ -1,16 +1,16 @@
--- A run's output is told in lines of theorems, of refusals and of goals.
+-- A run's output is told piece by piece.
 use Rattle.std.proofs.Common.{List, ℕ, [], refl, sym, ◌∙◌, append-nil, Option, None, Some}
 use Rattle.std.proofs.KnownBytes.{Appends-nil}
 use Rattle.hol_model.specs.Texts.KnownText.{Tells}
 use Rattle.hol_model_sessions.specs.ScriptSessions.{State, start, Tools, text_of_turns}
 use Rattle.hol_model_sessions.specs.Runs.{Counts}
-use Rattle.hol_model_sessions.specs.Headline.{TellsLines, TellsFront}
+use Rattle.hol_model_sessions.specs.Walking.{TellsWalk}
 use Rattle.hol_syntax_print.proofs.SequentTexts.{sequents_read_back}
 use Rattle.hol_syntax_print.proofs.OneLine.{sequent_one_line, sequent_same, goal_one_line, goal_same}
 use Rattle.hol_laws_sessions.specs.HeadlineLaws.{TextsArePrinted}
 use Rattle.hol_laws_sessions.proofs.RunProgress.{begins, stopped-begins}
-use Rattle.hol_laws_sessions.proofs.ToldRuns.{runs-told}
-use Rattle.hol_script.specs.Runs.{Finishes, Breaks}
+use Rattle.hol_laws_sessions.proofs.WalkedRuns.{runs-walked}
+use Rattle.hol_script.specs.Runs.{Finishes, Breaks, TellsFront}
 
 texts_are_printed : TextsArePrinted
 texts_are_printed = record {
@@ -22,15 +22,15 @@ texts_are_printed = record {
 }
 
 -- a whole run is a front of itself
-pub front_told : {input written now : Option (List ℕ)} → TellsLines input written now [] → TellsFront input written now
+pub front_told : {input written now : Option (List ℕ)} → TellsWalk input written now [] → TellsFront input written now
 front_told lines = ([], lines)
 
 module _ (tools : Tools) where
   -- a whole run
   pub finishes_told : {input written now : Option (List ℕ)} {counts : Counts} {names : List (List ℕ)} {state : State} (script : List ℕ) → Tells input script
-      → Finishes tools script written now counts names state → TellsLines input written now []
+      → Finishes tools script written now counts names state → TellsWalk input written now []
   finishes_told script read f =
-      let text = runs-told tools texts_are_printed script f.turns f.is_run in
+      let text = runs-walked tools texts_are_printed script f.turns f.is_run in
       record {
         script = script;
         pieces = f.is_run.pieces;
@@ -39,7 +39,7 @@ module _ (tools : Tools) where
         front = text_of_turns f.turns;
         read = read;
         cuts = f.is_run.cuts;
-        told = text.told;
+        walks = text.walks;
         whole = text.whole ∙ sym (append-nil (text_of_turns f.turns));
         wrote = f.wrote;
       }
@@ -47,7 +47,7 @@ module _ (tools : Tools) where
   -- a run that broke off
   pub breaks_told : {input written now : Option (List ℕ)} (script : List ℕ) → Tells input script → Breaks tools script written now → TellsFront input written now
   breaks_told script read b =
-      let text = runs-told tools texts_are_printed script b.turns b.is_run in (
+      let text = runs-walked tools texts_are_printed script b.turns b.is_run in (
         b.wrote.rest,
         record {
           script = script;
@@ -57,7 +57,7 @@ module _ (tools : Tools) where
           front = b.wrote.front;
           read = read;
           cuts = b.is_run.cuts;
-          told = text.told;
+          walks = text.walks;
           whole = text.whole ∙ b.wrote.whole;
           wrote = b.wrote.taken;
         },

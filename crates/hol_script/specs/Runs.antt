@@ -4,6 +4,7 @@ use Rattle.std.specs.Io.KnownBytes.{Appends}
 use Rattle.hol_model.specs.declared.fault.Fault.{Fault}
 use Rattle.hol_model_sessions.specs.ScriptSessions.{State, start, Tools, Turn, last_state, text_of_turns, as_list, theorems_in_turns}
 use Rattle.hol_model.specs.Texts.KnownText.{Tells}
+use Rattle.hol_model_sessions.specs.Walking.{TellsWalk}
 use Rattle.hol_model_sessions.specs.Runs.{Counts, no_counts, counts_after, IsRun, SourceUse, SinkUse, Devices}
 use Rattle.hol_device_io.specs.Bytes.{AppendsFront}
 use Rattle.hol_script.specs.declared.progress.Summary.{Summary}
@@ -44,6 +45,10 @@ abbrev pub printed_names : List Turn → List (List ℕ)
 printed_names turns = map (λ shown. shown.name) (theorems_in_turns turns)
 
 -- ---- runs
+
+-- What was written is the front of the lines with which the pieces of a script are answered.
+abbrev pub TellsFront : Option (List ℕ) → Option (List ℕ) → Option (List ℕ) → Type 0
+TellsFront input before after = (unwritten : List ℕ) × TellsWalk input before after unwritten
 
 -- What a run of the script writes was written; it printed theorems under these names and ended in this state.
 pub record Finishes (tools : Tools) (script : List ℕ) (written new_written : Option (List ℕ)) (counts : Counts) (names : List (List ℕ)) (state : State) : Type 0 where

@@ -1,14 +1,14 @@
 // Runs a script from a source to a sink, and writes its log to another.
 ghost use Rattle.std.specs.Prelude.{◌≡◌, ◌⊎◌, ◌≤◌, ◌∷◌, [], true, false, length, Err, OnOk, OnErr, IfOk, IfErr, IsErrOf, Contains};
 ghost use Rattle.std.specs.Io.KnownBytes.{Appends};
-ghost use Rattle.hol_model_sessions.specs.Headline.{TellsLines, TellsFront};
+ghost use Rattle.hol_model_sessions.specs.Walking.{TellsWalk};
 ghost use Rattle.hol_model_sessions.specs.Runs.{Ends};
 ghost use Rattle.hol_model.specs.declared.fault.Fault.TheVariants.{Memory, ReadFault, WriteFault, TooLong};
 ghost use Rattle.hol_journal_log.specs.Pruning.{HaveIdentifiers};
 ghost use Rattle.hol_device_io.specs.Bytes.{AppendsFront};
 ghost use Rattle.hol_script_manager.specs.Session.{session_tools, row_bytes, answer_text};
 ghost use Rattle.hol_script_manager.specs.Managers.{state_of, IsManager};
-ghost use Rattle.hol_script.specs.Runs.{refusal_of_parts, counts_of, names_of, Finishes, Breaks, Leaves, answer_of, source_use, sink_use, devices};
+ghost use Rattle.hol_script.specs.Runs.{TellsFront, refusal_of_parts, counts_of, names_of, Finishes, Breaks, Leaves, answer_of, source_use, sink_use, devices};
 ghost use Rattle.hol_script.specs.RunLogs.{claims_stored, claims_listed, theory_of, IsLogOver, IsLongLogOver, WritesLog, WritesFront};
 
 use crate::progress::Progress;
@@ -168,10 +168,11 @@ fn write_log<L: Sink>(alloc: Global, progress: &Progress, log: &mut L) -> Result
 /// writes, or the front of it where the output breaks off. Each theorem in it follows from the entries accepted before it, and
 /// holds in every finite standard model, whatever the host's functions answer. The summary counts that session's replies.
 ///
-/// The same told without sessions (`told`, `told_front`): what is written is lines, or the front of them where the run
-/// stops. Each is a refusal's, an open goal's or the number of the goals that are open; or a name and the text of a sequent
-/// that reads back as itself, follows from a legal theory and holds; or it says that no goal is open, and then a goal that the
-/// script sets follows and holds. The theory has the logical definitions and what the script's own commands define and declare.
+/// The same told without sessions (`told`, `told_front`): the script is cut into pieces, and each piece is answered by lines,
+/// one piece after another, or by the front of these where the run stops. A piece may declare one entry or set the goal, and
+/// its answer speaks of what the pieces up to it have declared, and of the goal that was set last. It is nothing; or a name and
+/// the text of a sequent that reads back as itself, follows from a legal theory and holds; or a refusal with the number of the
+/// piece's own line; or the goals that are open; or that none is open, and then the goal that was set last follows and holds.
 ///
 /// Where a log is wanted, it is written after the last command: the pruned log of the theorems that were printed, over the
 /// theory at the end, which is accepted, with a claim for each line of a theorem, in order. Where none is wanted, `log` is left
@@ -197,7 +198,7 @@ pub fn run<R: Source, W: Sink, L: Sink, H: Refiners>(
         (sink_use (W.contents writer.old) (W.contents writer.new) (W.has_failed writer.new) (writer.new ≡ writer.old))
         (sink_use (L.contents log.old) (L.contents log.new) (L.has_failed log.new) (log.new ≡ log.old)))
         (answer_of result) wants_log }
-    ensures told { OnOk result (TellsLines (R.remaining reader.old) (W.contents writer.old) (W.contents writer.new) []) }
+    ensures told { OnOk result (TellsWalk (R.remaining reader.old) (W.contents writer.old) (W.contents writer.new) []) }
     ensures told_front { OnErr result (TellsFront (R.remaining reader.old) (W.contents writer.old) (W.contents writer.new)) }
     ensures reader_unfailed { OnOk result (R.has_failed reader.new ≡ false) }
     ensures writer_unfailed { OnOk result (W.has_failed writer.new ≡ false) }
