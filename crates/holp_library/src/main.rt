@@ -14,23 +14,73 @@ use std::fs;
 use std::io::{Read, Write};
 use std::process::ExitCode;
 
-// Scripts, each behind those that it needs.
-const RUNS: [&str; 15] = [
-    "logic.hol",
-    "logic.hol choice.hol",
-    "logic.hol choice.hol functions.hol",
-    "logic.hol relations.hol",
-    "logic.hol sets.hol",
-    "logic.hol relations.hol sets.hol orders.hol",
-    "logic.hol numbers.hol",
-    "logic.hol developments/fulladder.hol",
-    "logic.hol developments/mutex.hol",
-    "logic.hol developments/groups.hol",
-    "logic.hol developments/lattice.hol",
-    "logic.hol sets.hol developments/tarski.hol",
-    "logic.hol developments/relations.hol",
-    "logic.hol developments/twophase.hol",
-    "logic.hol developments/hoare.hol",
+// A script, and those that it needs before it.
+struct Run {
+    needed: &'static str,
+    name: &'static str,
+}
+
+const RUNS: [Run; 15] = [
+    Run {
+        needed: "",
+        name: "logic.hol",
+    },
+    Run {
+        needed: "logic.hol",
+        name: "choice.hol",
+    },
+    Run {
+        needed: "logic.hol choice.hol",
+        name: "functions.hol",
+    },
+    Run {
+        needed: "logic.hol",
+        name: "relations.hol",
+    },
+    Run {
+        needed: "logic.hol",
+        name: "sets.hol",
+    },
+    Run {
+        needed: "logic.hol relations.hol sets.hol",
+        name: "orders.hol",
+    },
+    Run {
+        needed: "logic.hol",
+        name: "numbers.hol",
+    },
+    Run {
+        needed: "logic.hol",
+        name: "developments/fulladder.hol",
+    },
+    Run {
+        needed: "logic.hol",
+        name: "developments/mutex.hol",
+    },
+    Run {
+        needed: "logic.hol",
+        name: "developments/groups.hol",
+    },
+    Run {
+        needed: "logic.hol",
+        name: "developments/lattice.hol",
+    },
+    Run {
+        needed: "logic.hol sets.hol",
+        name: "developments/tarski.hol",
+    },
+    Run {
+        needed: "logic.hol",
+        name: "developments/relations.hol",
+    },
+    Run {
+        needed: "logic.hol",
+        name: "developments/twophase.hol",
+    },
+    Run {
+        needed: "logic.hol",
+        name: "developments/hoare.hol",
+    },
 ];
 
 // What a run has written.
@@ -59,12 +109,19 @@ fn print(rt: &HostRuntime, bytes: &[u8]) -> Result<(), Fault> {
     write_all(&mut IntoCall::new(writes), bytes)
 }
 
-// Runs a text as a script.
-fn run_text(alloc: Global, text: &[u8]) -> Result<Written, Fault> {
+// Runs a text as a script, with its log where one is wanted.
+fn run_text(alloc: Global, text: &[u8], wants_log: bool) -> Result<Written, Fault> {
     let mut writer = Kept::new(alloc);
     let mut log = Kept::new(alloc);
     let mut reader = FromRead::new(text);
-    run(alloc, &mut reader, &mut writer, &mut log, true, &NoHost)?;
+    run(
+        alloc,
+        &mut reader,
+        &mut writer,
+        &mut log,
+        wants_log,
+        &NoHost,
+    )?;
     Ok(Written {
         output: writer.bytes,
         log: log.bytes,
@@ -77,34 +134,36 @@ fn count_claims(alloc: Global, log: &[u8]) -> Result<usize, Fault> {
     Ok(claims.len())
 }
 
-// Runs the last of the scripts behind the others.
-fn run_last(rt: &HostRuntime, names: &str) -> Result<(), Fault> {
+// Prints what a run writes behind what it wrote for the scripts before the last, and counts the claims of its log.
+fn print_run(rt: &HostRuntime, text: &[u8], written_before: usize) -> Result<(), Fault> {
     let alloc = rt.alloc();
-    let mut text = Vec::new(alloc);
-    let mut last = "";
-    let mut written_before = 0;
-    for name in names.split(' ') {
-        if !text.is_empty() {
-            let before = run_text(alloc, &text)?;
-            written_before = before.output.len();
-        }
-        append_file(rt, &mut text, name)?;
-        last = name;
-    }
-    let written = run_text(alloc, &text)?;
-    let claims = count_claims(alloc, &written.log)?;
-    let title = format!(in alloc; "== {last}\n")?;
-    print(rt, title.as_bytes())?;
+    let written = run_text(alloc, text, true)?;
     if let Some(own) = written.output.get(written_before..) {
         print(rt, own)?;
     }
+    let claims = count_claims(alloc, &written.log)?;
     let count = format!(in alloc; "claims of its log: {claims}\n")?;
     print(rt, count.as_bytes())
 }
 
+// Runs a script behind those that it needs.
+fn run_behind(rt: &HostRuntime, needed: &str, name: &str) -> Result<(), Fault> {
+    let alloc = rt.alloc();
+    let mut text = Vec::new(alloc);
+    for before in needed.split_whitespace() {
+        append_file(rt, &mut text, before)?;
+    }
+    let before = run_text(alloc, &text, false)?;
+    append_file(rt, &mut text, name)?;
+    let title = format!(in alloc; "== {name}\n")?;
+    print(rt, title.as_bytes())?;
+    print_run(rt, &text, before.output.len())
+}
+
 fn run_all(rt: &HostRuntime) -> Result<(), Fault> {
     for at in 0..RUNS.len() {
-        run_last(rt, RUNS[at])?;
+        let run = &RUNS[at];
+        run_behind(rt, run.needed, run.name)?;
     }
     Ok(())
 }
