@@ -1,5 +1,5 @@
 -- The depths of the trees of lines, computed from line to line.
-use Rattle.std.specs.Prelude.{ℕ, ◌+◌, List, [], ◌∷◌, ◌++◌, max, slice_index_or}
+use Rattle.std.specs.Prelude.{ℕ, ◌+◌, ◌≤◌, List, [], ◌∷◌, ◌++◌, max, slice_index_or}
 use Rattle.hol_just.specs.Flat.{FlatLine, flat_rule}
 
 -- the depth of a cited line
@@ -19,3 +19,8 @@ depth_of_line depths _ = 1
 abbrev pub depths_after : List ℕ → List FlatLine → List ℕ
 depths_after depths [] = depths
 depths_after depths (line ∷ lines) = depths_after (depths ++ depth_of_line depths line ∷ []) lines
+
+-- each number is at most the limit
+abbrev pub AreWithin : ℕ → List ℕ → Type 0
+AreWithin limit [] = Unit {0}
+AreWithin limit (x ∷ xs) = (x ≤ limit) × AreWithin limit xs

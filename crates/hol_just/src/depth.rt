@@ -1,9 +1,9 @@
 // The depths of the trees of lines, each computed once.
-ghost use Rattle.std.specs.Prelude.{◌≡◌, [], IfOk, IfErr, IfSome};
+ghost use Rattle.std.specs.Prelude.{◌≡◌, ◌+◌, ◌<◌, ◌^◌, [], length, IfOk, IfErr};
 ghost use Rattle.hol_model.specs.declared.fault.Fault.TheVariants.{Memory};
 ghost use Rattle.hol_model.specs.Goals.Replays.{depth, is_within_depth};
 ghost use Rattle.hol_just.specs.Lines.{flat_line, flat_lines, flat_of_lines};
-ghost use Rattle.hol_just.specs.Depths.{cited_depth, deepest, depth_of_line, depths_after};
+ghost use Rattle.hol_just.specs.Depths.{AreWithin, cited_depth, deepest, depth_of_line, depths_after};
 ghost use Rattle.hol_just.specs.Flat.{tree};
 
 use crate::line::Line;
@@ -36,12 +36,14 @@ fn deepest(depths: &[usize], places: &[usize]) -> usize
 }
 
 // The depth of a line's tree, behind lines of these depths.
-fn depth_of_line(depths: &[usize], line: &Line) -> Option<usize>
-    ensures { IfSome result (λ depth. depth ≡ depth_of_line depths.now (flat_line line.now)) }
+fn depth_of_line(depths: &[usize], line: &Line) -> usize
+    requires within { AreWithin (length depths.now + 1) depths.now }
+    requires short { length depths.now < 2 ^ 63 }
+    ensures { result ≡ depth_of_line depths.now (flat_line line.now) }
 {
     match line {
-        Line::ByRule(_, places) => deepest(depths, places).checked_add(1),
-        _ => Some(1),
+        Line::ByRule(_, places) => deepest(depths, places) + 1,
+        _ => 1,
     }
 }
 
@@ -52,17 +54,15 @@ fn depths(alloc: Global, lines: &[Line]) -> Result<Vec<usize>, Fault>
 {
     let mut depths = Vec::new(alloc);
     for line in lines {
-        let Some(depth) = depth_of_line(&depths, line) else {
-            return Err(Fault::Memory);
-        };
+        let depth = depth_of_line(&depths, line);
         depths.push(depth)?;
     }
     Ok(depths)
 }
 
-// The depth of the tree of the line at a place.
+/// The depth of the tree of the line at a place.
 #[tactic(auto, using(crate::proofs::Depths::root_depth))]
-fn root_depth(alloc: Global, lines: &[Line], root: usize) -> Result<usize, Fault>
+pub(crate) fn root_depth(alloc: Global, lines: &[Line], root: usize) -> Result<usize, Fault>
     ensures ok { IfOk result (λ found. found ≡ depth (tree (flat_of_lines lines.now root))) }
     ensures err { IfErr result (λ fault. fault ≡ Memory) }
 {
