@@ -5,6 +5,8 @@ use Rattle.hol_journal.specs.Journal.{Journal, Recorded}
 use Rattle.hol_equal.specs.Sequents.{Continues}
 use Rattle.hol_equal.proofs.StepLemmas.{continues-twice, still_made}
 use Rattle.hol_taut_chains.specs.Chains.{HasChainLaws}
+use Rattle.hol_taut_chains.specs.Negations.{HasNegationLaws}
+use Rattle.hol_taut_chains.specs.declared.negations.NegationLaws.{NegationLaws}
 use Rattle.hol_taut_chains.specs.declared.pulled.ChainLaws.{ChainLaws}
 
 pub continued_twice : (first second third : Journal) (one two : Result Recorded Fault) → Continues first second one → Continues second third two → Continues first third two
@@ -16,4 +18,11 @@ still_chain_laws old new result laws continues has = record {
   commuted = still_made old new result laws.commuted continues has.commuted;
   exchanged = still_made old new result laws.exchanged continues has.exchanged;
   paired = still_made old new result laws.paired continues has.paired;
+}
+
+pub still_negation_laws : (old new : Journal) (result : Result Recorded Fault) (laws : NegationLaws) → Continues old new result → HasNegationLaws old laws → HasNegationLaws new laws
+still_negation_laws old new result laws continues has = record {
+  left = still_made old new result laws.left continues has.left;
+  right = still_made old new result laws.right continues has.right;
+  twice = still_made old new result laws.twice continues has.twice;
 }

@@ -8,7 +8,7 @@ use hol_terms::Term;
 use std::alloc::Global;
 
 /// REFL.
-pub(crate) fn reflexive(recorder: &mut Recorder, alloc: Global, term: &Term) -> Result<Rec, Fault>
+pub fn reflexive(recorder: &mut Recorder, alloc: Global, term: &Term) -> Result<Rec, Fault>
     ensures continues { Continues recorder.old recorder.new result }
 {
     recorder.refl(alloc, term)

@@ -42,3 +42,11 @@ pub(crate) fn equal_to(alloc: Global, left: &Term) -> Result<Term, Fault> {
         None => Err(Fault::BadShape),
     }
 }
+
+/// `~` of a formula.
+pub(crate) fn negation(alloc: Global, p: &Term) -> Result<Term, Fault> {
+    let boolean = Ty::boolean(alloc)?;
+    let ty = Ty::fun(alloc, &boolean, &boolean)?;
+    let not = Term::mk_const(alloc, "~", &ty)?;
+    Term::mk_comb(alloc, &not, p)
+}

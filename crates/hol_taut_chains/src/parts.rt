@@ -53,9 +53,9 @@ fn function_of(term: &Term) -> Option<&Term> {
     }
 }
 
-// The equation of a connective's formula, from those of its sides.
+/// The equation of a connective's formula, from those of its sides.
 #[tactic(auto, using(hol_equal::proofs::StepLemmas::still_made, hol_equal::proofs::StepLemmas::now_made, crate::proofs::ChainLemmas::continued_twice))]
-fn joined(
+pub(crate) fn joined(
     recorder: &mut Recorder,
     alloc: Global,
     term: &Term,
@@ -83,8 +83,8 @@ fn joined(
     applied(recorder, alloc, &first, &right)
 }
 
-// The equation of a connective's formula, from that of its last part.
-fn beneath(
+/// The equation of a connective's formula, from that of its last part.
+pub(crate) fn beneath(
     recorder: &mut Recorder,
     alloc: Global,
     term: &Term,
