@@ -5,6 +5,8 @@
 #[cfg(test)]
 mod device_tests;
 #[cfg(test)]
+mod fault_tests;
+#[cfg(test)]
 mod line_tests;
 #[cfg(test)]
 mod meaning_tests;

@@ -13,9 +13,10 @@ use hol_model::{Fault, Sink, Source};
 use hol_script::{Summary, run};
 use hol_terms::Term;
 use holp_files::{Asked, Input, NewFile, ScriptFile, status};
+use itoa::Buffer;
 use std::alloc::Global;
 use std::fs::{self, File};
-use std::io::{self, Write};
+use std::io::Write;
 use std::mem::forget;
 
 // The file of this name, to be read; `-` names standard input.
@@ -188,7 +189,8 @@ fn print_claims(rt: &HostRuntime, claims: &[Claim]) -> Result<u64, Fault> {
     let mut output = rt.stdout();
     let writes = Box::new(alloc, move |piece: &[u8]| output.write(piece))?;
     write_claims(alloc, claims, &mut IntoCall::new(writes))?;
-    match println!(rt; "claims: {}", claims.len()) {
+    let mut digits = Buffer::new();
+    match println!(rt; "claims: {}", digits.format(claims.len())) {
         Ok(()) => Ok(0),
         Err(_) => Err(Fault::WriteFault),
     }
@@ -203,25 +205,27 @@ pub(crate) fn migrate_file(rt: &HostRuntime, log: &str, new: &str) -> Result<u64
     let mut reader = FromCall::new(reads);
     let mut writer = NewFile::new(rt, new);
     let claims = migrate(alloc, &mut reader, &mut writer)?;
-    match println!(rt; "migrated: {} claims", claims.len()) {
+    let mut digits = Buffer::new();
+    match println!(rt; "migrated: {} claims", digits.format(claims.len())) {
         Ok(()) => Ok(0),
         Err(_) => Err(Fault::WriteFault),
     }
 }
 
 /// Tells how a command ended, and answers the exit status: a refused log on standard output, another fault on standard
-/// error.
-pub(crate) fn tell(rt: &HostRuntime, answer: Result<u64, Fault>) -> io::Result<u8> {
+/// error. Where standard error fails too, only the status tells.
+pub(crate) fn tell(rt: &HostRuntime, answer: Result<u64, Fault>) -> u8 {
     let fault = match answer {
-        Ok(refused) => return Ok(status(refused, None)),
+        Ok(refused) => return status(refused, None),
         Err(Fault::LogFault { line, cause }) => {
-            match println!(rt; "refused at line {line}: {cause}") {
-                Ok(()) => return Ok(status(0, Some(Fault::LogFault { line, cause }))),
+            let mut digits = Buffer::new();
+            match println!(rt; "refused at line {}: {cause}", digits.format(line)) {
+                Ok(()) => return status(0, Some(Fault::LogFault { line, cause })),
                 Err(_) => Fault::WriteFault,
             }
         }
         Err(fault) => fault,
     };
-    eprintln!(rt; "holp: {fault}")?;
-    Ok(status(0, Some(fault)))
+    let _ = eprintln!(rt; "holp: {fault}");
+    status(0, Some(fault))
 }

@@ -5,20 +5,24 @@ mod files;
 mod laws;
 mod words;
 
+use clap::error::ErrorKind;
 use files::{check_file, check_file_with_theory, migrate_file, run_file, run_file_with_log, tell};
-use holp_files::Asked;
-use std::env;
+use hol_model::Fault;
+use holp_files::{Asked, hold_standard_descriptors};
 use std::process::ExitCode;
-use words::{command_line, value};
+use words::{command_line, value, words};
 
 // Runs the command that the words on the command line name.
 fn run_command(rt: &HostRuntime) -> anyhow::Result<u8> {
-    let alloc = rt.alloc();
-    let words: Vec<String> = env::args(rt)?.collect(alloc)?;
-    let command = command_line(alloc)?;
+    hold_standard_descriptors(rt)?;
+    let words = words(rt)?;
+    let command = command_line(rt.alloc())?;
     let matches = match command.try_get_matches_from(words.as_slice()) {
         Ok(matches) => matches,
         Err(error) => {
+            if error.kind() == ErrorKind::OutOfMemory {
+                return Ok(tell(rt, Err(Fault::Memory)));
+            }
             error.print(rt)?;
             return Ok(error.exit_code() as u8);
         }
@@ -32,7 +36,7 @@ fn run_command(rt: &HostRuntime) -> anyhow::Result<u8> {
             Some(log) => run_file_with_log(rt, &asked, log),
             None => run_file(rt, &asked),
         };
-        return Ok(tell(rt, answer)?);
+        return Ok(tell(rt, answer));
     }
     if let Some(check) = matches.subcommand_matches("check") {
         let log = value(check, "LOG");
@@ -41,13 +45,13 @@ fn run_command(rt: &HostRuntime) -> anyhow::Result<u8> {
         } else {
             check_file(rt, log)
         };
-        return Ok(tell(rt, answer)?);
+        return Ok(tell(rt, answer));
     }
     if let Some(migrate) = matches.subcommand_matches("migrate") {
         let answer = migrate_file(rt, value(migrate, "LOG"), value(migrate, "NEW"));
-        return Ok(tell(rt, answer)?);
+        return Ok(tell(rt, answer));
     }
-    eprintln!(rt; "holp: a command is missing; `holp --help` lists them")?;
+    // clap has asked for a command.
     Ok(2)
 }
 

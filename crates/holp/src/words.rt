@@ -1,7 +1,27 @@
 // The words of the command line: commands, their arguments and options.
 
 use clap::{Arg, ArgAction, ArgMatches, Command};
+use hol_model::Fault;
 use std::alloc::Global;
+use std::env;
+use std::io::ErrorKind;
+
+/// The words on the command line.
+pub(crate) fn words(rt: &HostRuntime) -> anyhow::Result<Vec<String>> {
+    let words = match env::args(rt) {
+        Ok(words) => words.collect(rt.alloc()),
+        Err(error) => {
+            if error.kind() == ErrorKind::OutOfMemory {
+                return Err(Fault::Memory.into());
+            }
+            return Err(error.into());
+        }
+    };
+    match words {
+        Ok(words) => Ok(words),
+        Err(_) => Err(Fault::Memory.into()),
+    }
+}
 
 // An argument that names a file.
 fn file_argument<'a>(alloc: Global, name: &'a str, help: &'a str) -> Arg<'a> {
@@ -12,7 +32,7 @@ fn file_argument<'a>(alloc: Global, name: &'a str, help: &'a str) -> Arg<'a> {
 }
 
 /// The commands with their arguments.
-pub(crate) fn command_line<'a>(alloc: Global) -> anyhow::Result<Command<'a>> {
+pub(crate) fn command_line<'a>(alloc: Global) -> Result<Command<'a>, Fault> {
     let run = Command::new(alloc, "run")
         .about("Runs a proof script")
         .arg(file_argument(
@@ -58,6 +78,7 @@ pub(crate) fn command_line<'a>(alloc: Global) -> anyhow::Result<Command<'a>> {
         Command::new(alloc, "holp")
             .version("0.1.0")
             .about("A theorem prover for higher-order logic")
+            .subcommand_required(true)
             .subcommand(run)?
             .subcommand(check)?
             .subcommand(migrate)?,
@@ -76,13 +97,10 @@ pub(crate) fn value<'a>(matches: &'a ArgMatches<'_>, name: &str) -> &'a str {
 mod tests {
     use super::*;
 
-    // What the command line answers to one word.
-    fn answer(alloc: Global, word: &str) -> anyhow::Result<String> {
-        let mut words = Vec::new(alloc);
-        words.push(String::from_str(alloc, "holp")?)?;
-        words.push(String::from_str(alloc, word)?)?;
+    // What the command line answers to words.
+    fn answer(alloc: Global, words: &[&str]) -> anyhow::Result<String> {
         let mut text = String::new(alloc);
-        if let Err(told) = command_line(alloc)?.try_get_matches_from(words.as_slice()) {
+        if let Err(told) = command_line(alloc)?.try_get_matches_from(words) {
             write!(text, "{told}")?;
         }
         Ok(text)
@@ -90,7 +108,7 @@ mod tests {
 
     #[test]
     fn the_version_is_told(rt: HostRuntime) -> anyhow::Result<()> {
-        assert!(rt; answer(rt.alloc(), "--version")?.as_str() == "holp 0.1.0\n");
+        assert!(rt; answer(rt.alloc(), &["holp", "--version"])?.as_str() == "holp 0.1.0\n");
         Ok(())
     }
 
@@ -98,7 +116,7 @@ mod tests {
     fn help_lists_the_commands(rt: HostRuntime) -> anyhow::Result<()> {
         let help = "A theorem prover for higher-order logic
 
-Usage: holp [COMMAND]
+Usage: holp <COMMAND>
 
 Commands:
   run      Runs a proof script
@@ -110,7 +128,20 @@ Options:
   -h, --help     Print help
   -V, --version  Print version
 ";
-        assert!(rt; answer(rt.alloc(), "--help")?.as_str() == help);
+        assert!(rt; answer(rt.alloc(), &["holp", "--help"])?.as_str() == help);
+        Ok(())
+    }
+
+    #[test]
+    fn a_command_that_is_missing_is_asked_for(rt: HostRuntime) -> anyhow::Result<()> {
+        let fault = "error: 'holp' requires a subcommand but one was not provided
+  [subcommands: run, check, migrate, help]
+
+Usage: holp <COMMAND>
+
+For more information, try '--help'.
+";
+        assert!(rt; answer(rt.alloc(), &["holp"])?.as_str() == fault);
         Ok(())
     }
 
@@ -123,7 +154,7 @@ Usage: holp run <SCRIPT>
 
 For more information, try '--help'.
 ";
-        assert!(rt; answer(rt.alloc(), "run")?.as_str() == fault);
+        assert!(rt; answer(rt.alloc(), &["holp", "run"])?.as_str() == fault);
         Ok(())
     }
 }

@@ -5,8 +5,10 @@ mod exit_status;
 mod input;
 mod new_file;
 mod script_file;
+mod standard;
 
 pub use exit_status::status;
 pub use input::Input;
 pub use new_file::NewFile;
 pub use script_file::{Asked, ScriptFile};
+pub use standard::hold_standard_descriptors;
