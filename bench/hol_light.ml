@@ -17,7 +17,7 @@ let joined ty =
   fun l r -> mk_comb (mk_comb (f,l),r);;
 
 let negation_rules () =
-  CONJ (TAUT `~~p <=> p`) (CONJ (TAUT `~(p /\ q) <=> ~p \/ ~q`) (TAUT `~(p \/ q) <=> ~p /\ ~q`));;
+  CONJ (TAUT `~ ~p <=> p`) (CONJ (TAUT `~(p /\ q) <=> ~p \/ ~q`) (TAUT `~(p \/ q) <=> ~p /\ ~q`));;
 
 let alternating depth =
   let atoms = ref 0 in
@@ -50,7 +50,7 @@ let work name sizes =
   | "tautologies" ->
       (fun () -> times (size 0) (fun _ -> begin_goal `p /\ q ==> q /\ p`; step (CONV_TAC TAUT)))
   | "nothing" ->
-      let rule = TAUT `~~p <=> p` and tm = tree (size 0) (proposition "x") (joined bool_ty) in
+      let rule = TAUT `~ ~p <=> p` and tm = tree (size 0) (proposition "x") (joined bool_ty) in
       (fun () -> begin_goal tm; times (size 1) (fun _ -> step (PURE_REWRITE_TAC [rule])))
   | "disch" ->
       let tm = itlist (curry mk_imp) (map (numbered "p") (0--(size 0 - 1))) `T` in

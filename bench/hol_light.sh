@@ -16,7 +16,7 @@ cd "$room"
 sed -n '/^let quotexpander/,/^Quotation.add/p' "$sources/system.ml" > quotations.ml
 ocamlc -I +camlp5 -c quotations.ml
 for file in system lib fusion basics nets printer preterm parser equal bool drule tactics itab simp theorems ind_defs class; do
-    sed -e '/^#/d' -e '/^needs /d' -e '/^Quotation.add/d' "$sources/$file.ml"
+    sed -e '/^#/d' -e '/^needs /d' -e '/^let print_fpf/d' -e '/^Quotation.add/d' "$sources/$file.ml"
 done > all.ml
 cat "$here/hol_light.ml" >> all.ml
 camlp5o -I "$(ocamlc -where)/camlp-streams" -I "$sources" camlp_streams.cma pa_j.cmo ./quotations.cmo -o all.ast all.ml > /dev/null
