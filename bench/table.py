@@ -18,46 +18,48 @@ import tempfile
 BENCH = pathlib.Path(__file__).resolve().parent
 RUNS, ENOUGH, LIMIT, MEMORY = 5, 10.0, 60, 3_000_000_000
 
-# what is said of it; the generator, with {} for its size; sizes; how it is run; the peer's arguments (None: there is none)
+# what is said of it; the generator, with {} for its size; the size, and half of it; how it is run; the peer's arguments
 WORKS = [
-    ("{} formulas assumed, joined, discharged, undischarged", "hypotheses.sh {}", [300, 600], "run", "hypotheses {}"),
-    ("the same, with the log", "hypotheses.sh {}", [300, 600], "log", None),
-    ("INST ten times over 2^{} leaves", "printing.sh INST {}", [15, 16], "run", "printing INST {}"),
-    ("INST_TYPE ten times over 2^{} leaves", "printing.sh INST_TYPE {}", [15, 16], "run", "printing INST_TYPE {}"),
-    ("SPEC through {} `!`, one after another", "works.py spec {}", [100, 200, 300], "run", "spec {}"),
-    ("`check` of its log", "works.py spec {}", [100, 200, 300], "check", None),
-    ("De Morgan by a conversion, a tree of depth {}", "rewriting.sh conv tree {}", [10, 11], "run", "rewriting conv tree {}"),
-    ("De Morgan by REWRITE_TAC, a tree of depth {}", "rewriting.sh tactic tree {}", [10, 11], "run", "rewriting tactic tree {}"),
-    ("{} negations by a conversion", "rewriting.sh conv negations {}", [990, 1980], "run", "rewriting conv negations {}"),
-    ("{} negations by REWRITE_TAC", "rewriting.sh tactic negations {}", [990, 1980], "run", "rewriting tactic negations {}"),
-    ("REWRITE_TAC that finds nothing, 16,381 nodes, {} times", "works.py nothing 12 {}", [5], "run", "nothing 12 {}"),
-    ("REWRITE_TAC that finds nothing, 125 nodes, {} times", "works.py nothing 5 {}", [500, 1000], "run", "nothing 5 {}"),
-    ("{} trivial goals, stored", "works.py goals {}", [10000, 20000], "run", "goals {}"),
-    ("the same, with the log", "works.py goals {}", [10000, 20000], "log", None),
-    ("{} goals of one TAUT_TAC each", "works.py tautologies {}", [1000, 2000], "run", "tautologies {}"),
-    ("{} times DISCH_TAC in one `e`", "works.py disch {}", [400, 800], "run", "disch {}"),
-    ("{} times the host's `peel` in one `e`", "works.py peel {}", [200, 400], "run", "peel {}"),
-    ("{} conjuncts, closed in one `e`", "works.py conjuncts {}", [400, 800], "run", "conjuncts {}"),
-    ("the same, with the log", "works.py conjuncts {}", [400, 800], "log", None),
-    ("{} steps of one goal", "works.py steps {}", [1000, 1900], "run", "steps {}"),
-    ("the same, with the log", "works.py steps {}", [1000, 1900], "log", None),
-    ("TAUT: an adder of {} bits (13 atoms at 4)", "works.py adder {}", [2, 4], "run", "taut"),
-    ("TAUT: the parity of {} atoms", "works.py parity {}", [8, 14], "run", "taut"),
-    ("TAUT: a formula of {} places implies itself", "works.py itself imp {}", [500, 1000, 2000, 4000], "run", "taut"),
-    ("TAUT: a formula of {} places equals itself", "works.py itself iff {}", [500, 1000, 2000, 4000], "run", "taut"),
-    ("TAUT: a conjunction of {} atoms implies its last", "taut.sh conjunction {}", [14], "run", "taut"),
-    ("TAUT: {} atoms, each implies the next", "taut.sh implications {}", [14], "run", "taut"),
-    ("TAUT: a chain of {} `<=>` and its mirror", "taut.sh mirror {}", [10, 14], "run", "taut"),
-    ("REPEAT without end: ASSUME_TAC", "works.py runaway assume", [None], "run", "runaway assume"),
-    ("REPEAT without end: DISJ_CASES_TAC", "works.py runaway cases", [None], "run", "runaway cases"),
-    ("REPEAT without end: MP_TAC THEN DISCH_TAC", "works.py runaway mp", [None], "run", "runaway mp"),
-    ("REPEAT without end: CHOOSE_TAC", "works.py runaway choose", [None], "run", "runaway choose"),
-    ("REPEAT ALL_TAC, {} commands", "works.py loops {}", [500, 1000], "run", None),
-    ("one term of {} nodes under 900 binders, printed twice", "terms.sh 900 {}", [50000, 100000], "run", None),
-    ("ten rules, {} rounds", "run.sh {}", [2000, 4000], "run", None),
-    ("the same, with the log", "run.sh {}", [2000, 4000], "log", None),
-    ("`check` of a log of {} rounds of six rules", "log.sh {} 20", [40000, 80000], "check log", None),
-    ("`check` of a log of {} abstractions over one open term", "open.sh {} 18", [500, 1000], "check log", None),
+    ("{} formulas assumed, joined, discharged, undischarged", "hypotheses.sh {}", 600, 300, "run", "hypotheses {}"),
+    ("the same, with the log", "hypotheses.sh {}", 600, 300, "log", None),
+    ("INST ten times over 2^{} leaves", "printing.sh INST {}", 16, 15, "run", "printing INST {}"),
+    ("INST_TYPE ten times over 2^{} leaves", "printing.sh INST_TYPE {}", 16, 15, "run", "printing INST_TYPE {}"),
+    ("SPEC through {} `!`, one by one", "works.py spec {}", 200, 100, "run", "spec {}"),
+    ("`check` of its log, {} `!`", "works.py spec {}", 100, 50, "check", "spec {}"),
+    ("`check` of its log, {} `!`", "works.py spec {}", 200, 100, "check", "spec {}"),
+    ("`check` of its log, {} `!`", "works.py spec {}", 300, 150, "check", "spec {}"),
+    ("De Morgan by a conversion, tree of depth {}", "rewriting.sh conv tree {}", 11, 10, "run", "rewriting conv tree {}"),
+    ("De Morgan by REWRITE_TAC, tree of depth {}", "rewriting.sh tactic tree {}", 11, 10, "run", "rewriting tactic tree {}"),
+    ("{} negations by a conversion", "rewriting.sh conv negations {}", 1980, 990, "run", "rewriting conv negations {}"),
+    ("{} negations by REWRITE_TAC", "rewriting.sh tactic negations {}", 1980, 990, "run", "rewriting tactic negations {}"),
+    ("REWRITE_TAC finds nothing in 16,381 nodes, {} times", "works.py nothing 12 {}", 5, None, "run", "nothing 12 {}"),
+    ("REWRITE_TAC finds nothing in 125 nodes, {} times", "works.py nothing 5 {}", 1000, 500, "run", "nothing 5 {}"),
+    ("{} trivial goals, stored", "works.py goals {}", 20000, 10000, "run", "goals {}"),
+    ("the same, with the log", "works.py goals {}", 20000, 10000, "log", None),
+    ("{} goals of one TAUT_TAC each", "works.py tautologies {}", 2000, 1000, "run", "tautologies {}"),
+    ("{} times DISCH_TAC in one `e`", "works.py disch {}", 800, 400, "run", "disch {}"),
+    ("{} times `HOST peel` in one `e`", "works.py peel {}", 400, 200, "run", "peel {}"),
+    ("{} conjuncts closed in one `e`", "works.py conjuncts {}", 800, 400, "run", "conjuncts {}"),
+    ("the same, with the log", "works.py conjuncts {}", 800, 400, "log", None),
+    ("{} steps of one goal", "works.py steps {}", 1900, 950, "run", "steps {}"),
+    ("the same, with the log", "works.py steps {}", 1900, 950, "log", None),
+    ("TAUT: an adder of {} bits, 13 atoms", "works.py adder {}", 4, None, "run", "taut"),
+    ("TAUT: the parity of {} atoms", "works.py parity {}", 14, None, "run", "taut"),
+    ("TAUT: `t ==> t`, t of {} places, 7 kB", "works.py itself imp {}", 1000, 500, "run", "taut"),
+    ("TAUT: `t ==> t`, t of {} places, 30 kB", "works.py itself imp {}", 4000, 2000, "run", "taut"),
+    ("TAUT: `t <=> t`, t of {} places, 7 kB", "works.py itself iff {}", 1000, 500, "run", "taut"),
+    ("TAUT: `t <=> t`, t of {} places, 30 kB", "works.py itself iff {}", 4000, 2000, "run", "taut"),
+    ("TAUT: {} atoms, each implies the next", "taut.sh implications {}", 14, 7, "run", "taut"),
+    ("TAUT: a chain of {} `<=>` and its mirror", "taut.sh mirror {}", 14, 7, "run", "taut"),
+    ("REPEAT (ASSUME_TAC ..), refused", "works.py runaway assume", None, None, "run", "runaway assume"),
+    ("REPEAT (DISJ_CASES_TAC ..), refused", "works.py runaway cases", None, None, "run", "runaway cases"),
+    ("REPEAT (MP_TAC .. THEN DISCH_TAC), refused", "works.py runaway mp", None, None, "run", "runaway mp"),
+    ("REPEAT (CHOOSE_TAC ..), refused", "works.py runaway choose", None, None, "run", "runaway choose"),
+    ("{} times REPEAT ALL_TAC, refused", "works.py loops {}", 1000, 500, "run", None),
+    ("ten rules, {} rounds", "run.sh {}", 4000, 2000, "run", None),
+    ("the same, with the log", "run.sh {}", 4000, 2000, "log", None),
+    ("`check` of {} rounds of six rules", "log.sh {} 20", 80000, 40000, "check log", None),
+    ("`check` of {} abstractions over one open term", "open.sh {} 18", 1000, 500, "check log", None),
 ]
 
 
@@ -139,9 +141,9 @@ def told(seconds):
     return f"{seconds:.2f}" if seconds >= 0.1 else f"{seconds:.3f}"
 
 
-def row(work, size, options, room, start):
+def row(work, size, options, room, start, is_compared):
     """One row's cells, and its figure."""
-    title, generator, _, how, peer = work
+    _, generator, _, _, how, peer = work
     script = room / "script"
     written(generator.format(size), script)
     try:
@@ -150,7 +152,7 @@ def row(work, size, options, room, start):
     except Failed as failed:
         seconds, cells = None, [str(failed), ""]
     for extra in [[], ["--print"]]:
-        if peer is None or options.hol_light is None:
+        if peer is None or options.hol_light is None or not is_compared:
             cells += ["", ""]
             continue
         try:
@@ -171,9 +173,8 @@ def tables(options):
     commit = subprocess.run(["git", "-C", str(BENCH), "rev-parse", "--short", "HEAD"], capture_output=True, text=True, check=False).stdout.strip()
     yield f"{datetime.date.today()}, {machine()}, sources at {commit}."
     yield ""
-    yield "| work | `holp`, s | peak, MB | HOL Light, s | ratio | HOL Light with its printer, s | ratio |"
-    yield "|---|---|---|---|---|---|---|"
-    growth = []
+    yield "| work | `holp`, s | half the size: times | peak, MB | HOL Light, s | ratio | it prints too, s | ratio |"
+    yield "|---|---|---|---|---|---|---|---|"
     with tempfile.TemporaryDirectory() as folder:
         room = pathlib.Path(folder)
         empty = room / "empty"
@@ -182,25 +183,19 @@ def tables(options):
         other = ""
         if options.hol_light is not None:
             other = told(least([options.hol_light, "empty"], empty, room, lambda seconds, _status, _errors: seconds)[0])
-        yield f"| the start, which no other row counts | {told(start)} | {peak:.0f} | {other} | | | |"
+        yield f"| the start, which no other row counts | {told(start)} | | {peak:.0f} | {other} | | | |"
         for work in WORKS:
-            title, _, sizes, _, _ = work
-            if options.only is not None and options.only not in title + work[1]:
+            title, generator, size, half, _, _ = work
+            if options.only is not None and options.only not in title + generator:
                 continue
-            before = None
-            for size in sizes:
-                cells, seconds = row(work, size, options, room, start)
-                said = title.format("" if size is None else f"{size:,}")
-                if "{}" not in title and size is not None:
-                    said += f" ({size:,})"
-                yield f"| {said} | " + " | ".join(cells) + " |"
-                if before is not None and seconds is not None and before[1] > 0.005:
-                    growth.append(f"| {title.format('N').replace('2^N', '2^N')} | {before[0]:,} to {size:,} | {seconds / before[1]:.1f} |")
-                before = (size, seconds) if seconds is not None else None
-    yield ""
-    yield "| work | N | times as long |"
-    yield "|---|---|---|"
-    yield from growth
+            cells, seconds = row(work, size, options, room, start, True)
+            times = ""
+            if half is not None:
+                _, before = row(work, half, options, room, start, False)
+                if seconds is not None and before is not None and before > 0.002:
+                    times = f"{seconds / before:.1f}"
+            said = title.format("" if size is None else f"{size:,}")
+            yield f"| {said} | " + " | ".join(cells[:1] + [times] + cells[1:]) + " |"
 
 
 def main():
