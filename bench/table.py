@@ -173,7 +173,7 @@ def tables(options):
     commit = subprocess.run(["git", "-C", str(BENCH), "rev-parse", "--short", "HEAD"], capture_output=True, text=True, check=False).stdout.strip()
     yield f"{datetime.date.today()}, {machine()}, sources at {commit}."
     yield ""
-    yield "| work | `holp`, s | half the size: times | peak, MB | HOL Light, s | ratio | it prints too, s | ratio |"
+    yield "| work | `holp`, s | half | peak, MB | HOL Light, s | ratio | it prints, s | ratio |"
     yield "|---|---|---|---|---|---|---|---|"
     with tempfile.TemporaryDirectory() as folder:
         room = pathlib.Path(folder)
