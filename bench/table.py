@@ -3,7 +3,7 @@
 
 PROGRAM is a built `holp`, PEER what `hol_light.sh` builds. Each figure is the least of five runs (of fewer, where these take
 ten seconds), in seconds of the processor, without the start, which is a row of its own; a peak of memory is the most of the
-runs. A run may take 60 seconds and 3 GB. With --write the tables go into FILE, between its lines `<!-- table -->` and
+runs. A run may take 60 seconds of the processor and 3 GB. With --write the tables go into FILE, between its lines `<!-- table -->` and
 `<!-- end -->`. It wants /usr/bin/time."""
 import argparse
 import datetime
@@ -11,6 +11,7 @@ import os
 import pathlib
 import platform
 import resource
+import signal
 import subprocess
 import sys
 import tempfile
@@ -66,6 +67,7 @@ class Failed(Exception):
 
 def confine():
     resource.setrlimit(resource.RLIMIT_AS, (MEMORY, MEMORY))
+    resource.setrlimit(resource.RLIMIT_CPU, (LIMIT, LIMIT + 5))
     resource.setrlimit(resource.RLIMIT_CORE, (0, 0))
     try:
         resource.setrlimit(resource.RLIMIT_STACK, (resource.RLIM_INFINITY, resource.RLIM_INFINITY))
@@ -77,11 +79,11 @@ def once(command, script, room):
     """Runs a command: its seconds of the processor, its peak of memory in MB, its status, and what it said on standard error."""
     peak = room / "peak"
     with open(script) as source, open(room / "output", "w") as output, open(room / "errors", "w") as errors:
-        timed = ["/usr/bin/time", "-q", "-f", "%M", "-o", str(peak), "timeout", str(LIMIT)] + command
+        timed = ["/usr/bin/time", "-q", "-f", "%M", "-o", str(peak)] + command
         before = resource.getrusage(resource.RUSAGE_CHILDREN)
         status = subprocess.run(timed, stdin=source, stdout=output, stderr=errors, preexec_fn=confine, check=False).returncode
         after = resource.getrusage(resource.RUSAGE_CHILDREN)
-    if status == 124:
+    if status == 128 + signal.SIGXCPU:
         raise Failed(f"no end in {LIMIT} s")
     seconds = after.ru_utime + after.ru_stime - before.ru_utime - before.ru_stime
     return seconds, int(peak.read_text().split()[-1]) / 1024, status, (room / "errors").read_text()
@@ -148,14 +150,16 @@ def row(work, size, options, room, start, is_compared):
         cells = [told(seconds), f"{peak:.0f}"]
     except Failed as failed:
         seconds, cells = None, [str(failed), ""]
+    has_failed = False
     for extra in [[], ["--print"]]:
-        if peer is None or options.hol_light is None or not is_compared:
+        if peer is None or options.hol_light is None or not is_compared or has_failed:
             cells += ["", ""]
             continue
         try:
             other = peers(options.hol_light, peer.format(size).split() + extra, script, room)
             cells += [told(other), f"{seconds / other:.2f}" if seconds is not None and other > 0.0005 else ""]
         except Failed as failed:
+            has_failed = True
             cells += [str(failed), ""]
     return cells, seconds
 
