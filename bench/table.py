@@ -1,5 +1,6 @@
 #!/usr/bin/env python3
-"""Measures the works of this folder and writes one table: `table.py PROGRAM [--hol-light PEER] [--only WORD] [--write FILE]`.
+"""Measures the works of this folder and writes one table: `table.py PROGRAM [--hol-light PEER] [--only WORD] [--runs 5]
+[--write FILE]`.
 
 PROGRAM is a built `holp`, PEER what `hol_light.sh` builds. Each figure is the least of five runs (of fewer, where these take
 ten seconds), in seconds of the processor, without the start, which is a row of its own; a peak of memory is the most of the
@@ -17,7 +18,7 @@ import sys
 import tempfile
 
 BENCH = pathlib.Path(__file__).resolve().parent
-RUNS, ENOUGH, LIMIT, MEMORY = 5, 10.0, 60, 3_000_000_000
+ENOUGH, LIMIT, MEMORY = 10.0, 60, 3_000_000_000
 
 # what is said of it; the generator, with {} for its size; the size, and half of it; how it is run; the peer's arguments
 WORKS = [
@@ -89,10 +90,10 @@ def once(command, script, room):
     return seconds, int(peak.read_text().split()[-1]) / 1024, status, (room / "errors").read_text()
 
 
-def least(command, script, room, figure):
+def least(command, script, room, figure, runs):
     """The least figure of some runs, and the most memory."""
     figures, peaks, spent = [], [], 0.0
-    while len(figures) < RUNS and spent < ENOUGH:
+    while len(figures) < runs and spent < ENOUGH:
         seconds, peak, status, errors = once(command, script, room)
         figures.append(figure(seconds, status, errors))
         peaks.append(peak)
@@ -107,7 +108,7 @@ def written(generator, to):
         subprocess.run((["python3"] if name.endswith(".py") else ["sh"]) + [str(BENCH / name)] + arguments, stdout=script, check=True)
 
 
-def own(program, how, script, room, start):
+def own(program, how, script, room, start, runs):
     """The figure of `holp`."""
 
     def figure(seconds, status, errors):
@@ -117,15 +118,15 @@ def own(program, how, script, room, start):
 
     log = room / "log"
     if how == "check log":
-        return least([program, "check", str(script)], script, room, figure)
+        return least([program, "check", str(script)], script, room, figure, runs)
     if how == "check":
         once([program, "run", str(script), "--log", str(log)], script, room)
-        return least([program, "check", str(log)], script, room, figure)
+        return least([program, "check", str(log)], script, room, figure, runs)
     command = [program, "run", str(script)] + (["--log", str(log)] if how == "log" else [])
-    return least(command, script, room, figure)
+    return least(command, script, room, figure, runs)
 
 
-def peers(peer, arguments, script, room):
+def peers(peer, arguments, script, room, runs):
     """The figure of HOL Light."""
 
     def figure(_seconds, status, errors):
@@ -133,7 +134,7 @@ def peers(peer, arguments, script, room):
             raise Failed(errors.strip().splitlines()[-1][:60] if errors.strip() else f"status {status}")
         return float(errors.split()[-1])
 
-    return least([peer] + arguments, script, room, figure)[0]
+    return least([peer] + arguments, script, room, figure, runs)[0]
 
 
 def told(seconds):
@@ -146,7 +147,7 @@ def row(work, size, options, room, start, is_compared):
     script = room / "script"
     written(generator.format(size), script)
     try:
-        seconds, peak = own(options.program, how, script, room, start)
+        seconds, peak = own(options.program, how, script, room, start, options.runs)
         cells = [told(seconds), f"{peak:.0f}"]
     except Failed as failed:
         seconds, cells = None, [str(failed), ""]
@@ -156,7 +157,7 @@ def row(work, size, options, room, start, is_compared):
             cells += ["", ""]
             continue
         try:
-            other = peers(options.hol_light, peer.format(size).split() + extra, script, room)
+            other = peers(options.hol_light, peer.format(size).split() + extra, script, room, options.runs)
             cells += [told(other), f"{seconds / other:.2f}" if seconds is not None and other > 0.0005 else ""]
         except Failed as failed:
             has_failed = True
@@ -180,10 +181,10 @@ def tables(options):
         room = pathlib.Path(folder)
         empty = room / "empty"
         empty.write_text("")
-        start, peak = own(options.program, "run", empty, room, 0.0)
+        start, peak = own(options.program, "run", empty, room, 0.0, options.runs)
         other = ""
         if options.hol_light is not None:
-            other = told(least([options.hol_light, "empty"], empty, room, lambda seconds, _status, _errors: seconds)[0])
+            other = told(least([options.hol_light, "empty"], empty, room, lambda seconds, _status, _errors: seconds, options.runs)[0])
         yield f"| the start, which no other row counts | {told(start)} | | {peak:.0f} | {other} | | | |"
         for work in WORKS:
             title, generator, size, half, _, _ = work
@@ -204,6 +205,7 @@ def main():
     parser.add_argument("program", type=os.path.realpath)
     parser.add_argument("--hol-light", type=os.path.realpath)
     parser.add_argument("--only", help="rows whose title or generator has this word")
+    parser.add_argument("--runs", type=int, default=5)
     parser.add_argument("--write", type=pathlib.Path, help="the page that gets the tables")
     options = parser.parse_args()
     os.nice(10)

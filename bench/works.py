@@ -15,7 +15,7 @@ def runaway(kind):
         "mp": "MP_TAC TRUTH THEN DISCH_TAC",
         "choose": "CHOOSE_TAC some",
     }
-    yield "thm either = EXCLUDED_MIDDLE `(p:bool)` ;;"
+    yield "thm either = TAUT `(p:bool) \\/ ~(p:bool)` ;;"
     yield "thm here = REFL `(x:A)` ;;"
     yield "thm some = EXISTS `?y:A. y = (x:A)` `(x:A)` here ;;"
     yield "goal `(q:bool)` ;;"
@@ -105,14 +105,23 @@ def atom(name):
 
 
 def adder(bits):
-    """TAUT: the carries of an adder of so many bits, rippled, give its last carry, looked ahead: 3 * bits + 1 atoms."""
+    """TAUT: an adder of so many bits whose carries ripple has the sums and the carry of one that looks ahead: 3 * bits + 1 atoms."""
     bits = int(bits)
     a, b, c = ([atom(f"{name}{bit}") for bit in range(bits + 1)] for name in "abc")
-    ripple = [f"({c[bit + 1]} <=> ({a[bit]} /\\ {b[bit]} \\/ {c[bit]} /\\ ({a[bit]} \\/ {b[bit]})))" for bit in range(bits)]
-    ahead = [" /\\ ".join([f"({a[bit]} \\/ {b[bit]})" for bit in range(start + 1, bits)] + [f"({a[start]} /\\ {b[start]})"]) for start in range(bits)]
-    ahead.append(" /\\ ".join([f"({a[bit]} \\/ {b[bit]})" for bit in range(bits)] + [c[0]]))
-    rippled, looked = " /\\ ".join(ripple), " \\/ ".join(f"({part})" for part in ahead)
-    yield f"thm adder = TAUT `{rippled} ==> ({c[bits]} <=> {looked})` ;;"
+    one = [f"({a[bit]} \\/ {b[bit]})" for bit in range(bits)]
+    both = [f"({a[bit]} /\\ {b[bit]})" for bit in range(bits)]
+    ripple = [f"({c[bit + 1]} <=> {both[bit]} \\/ {c[bit]} /\\ {one[bit]})" for bit in range(bits)]
+
+    def ahead(bit):
+        ways = [[both[start]] + one[start + 1 : bit] for start in range(bit)] + [[c[0]] + one[:bit]]
+        return "(" + " \\/ ".join("(" + " /\\ ".join(way) + ")" for way in ways) + ")"
+
+    def total(bit, carry):
+        return f"({a[bit]} <=> {b[bit]} <=> {carry})"
+
+    sums = [f"({total(bit, c[bit])} <=> {total(bit, ahead(bit))})" for bit in range(1, bits)]
+    rippled, looked = " /\\ ".join(ripple), " /\\ ".join(sums + [f"({c[bits]} <=> {ahead(bits)})"])
+    yield f"thm adder = TAUT `{rippled} ==> {looked}` ;;"
 
 
 def parity(atoms):
