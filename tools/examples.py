@@ -14,6 +14,7 @@ The lines of a block stand there in one piece, but where a line `..` says that s
 refusal, as `| E5 UnknownConst |`, ends with commands that stand in reference/refusals.hol and of which the last meets that refusal.
 Blocks of shell, and rows whose commands are for a shell (`$ ..`), are run where PROGRAM is given. With --write, PROGRAM makes
 crates/holp_examples/stdout anew, and what blocks of commands print. Each difference is told, and the status is then 1.
+Each number of crates/hol_model/src/limits.rt stands in the table of limits.
 """
 import os
 import re
@@ -179,5 +180,9 @@ for page in pages:
     for code, refusal, cell in re.findall(r"(?m)^\| (E\d+) (\w+) \|.*\| `+ ?(.*?) ?`+ \|$", here):
         judge_row(page, code, refusal, cell.replace("\\|", "|"))
     judge_links(page, here)
+table = re.search(r"(?ms)^## 10\. Limits\n.*?^## ", text(f"{ROOT}/docs/REFERENCE.md"))[0]
+for name, number in re.findall(r"pub const (\w+_LIMIT): \w+ = ([\d_]+);", text(f"{ROOT}/crates/hol_model/src/limits.rt")):
+    if name != "NUMBER_LIMIT" and f"| {int(number):,} " not in table:
+        wrong.append(f"docs/REFERENCE.md: {name} is not in the table of limits")
 print("\n".join(wrong) if wrong else f"{len(pages)} pages: all as they are run" + ("" if PROGRAM else "; the shell's commands were not run"))
 sys.exit(1 if wrong else 0)
