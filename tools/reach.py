@@ -9,15 +9,16 @@ HEAD = re.compile(r"^(?:abbrev |pub |data |record )+")
 
 
 def flat(text):
-    """the lines of a module, those of mutual blocks moved to the margin"""
-    inside = False
+    """the lines of a module, those of mutual blocks and of unnamed modules moved to the margin, also where one is inside the other"""
+    margin = 0
     for line in text.split("\n"):
-        if line.strip() in ("mutual", "abbrev mutual"):
-            inside = True
+        if line.strip() and len(line) - len(line.lstrip(" ")) < margin:
+            margin = 2 if margin == 4 and line.startswith("  ") else 0
+        line = line.removeprefix(" " * margin)
+        if line in ("mutual", "abbrev mutual") or line.startswith("module _"):
+            margin += 2
             continue
-        if inside and line.strip() and not line.startswith("  "):
-            inside = False
-        yield line[2:] if inside and line.startswith("  ") else line
+        yield line
 
 
 class Module:

@@ -1,8 +1,8 @@
-//! Runs the scripts of the README and of the tutorial (docs/TUTORIAL.md), one after another, and prints the name of each before
-//! its output; then checks the log of the first, and prints its claims.
+//! Runs the scripts of the README and of docs/ one after another, each in a session of its own, and prints the name of each before
+//! its output. Then it prints the logs of some of them, and what the checker says of these.
 #![tactic(auto)]
 
-use hol_check::{check, write_claims};
+use hol_check::{check_log, write_claims, write_entries};
 use hol_device_adapters::{FromCall, FromRead, IntoCall, IntoWrite};
 use hol_host::NoHost;
 use hol_model::Fault;
@@ -13,8 +13,9 @@ use std::fs::{self, File};
 use std::io::{Read, Write};
 use std::process::ExitCode;
 
-const SCRIPTS: [&str; 11] = [
-    "derived.hol",
+const SCRIPTS: [&str; 22] = [
+    "readme/first.hol",
+    "readme/wrong.hol",
     "first.hol",
     "rules.hol",
     "goals.hol",
@@ -25,10 +26,20 @@ const SCRIPTS: [&str; 11] = [
     "tautologies.hol",
     "declared.hol",
     "habits.hol",
+    "reference/commands.hol",
+    "reference/rules.hol",
+    "reference/derived.hol",
+    "reference/refiners.hol",
+    "reference/conversions.hol",
+    "reference/stored.hol",
+    "reference/refusals.hol",
+    "logs/refl.hol",
+    "logs/declared.hol",
+    "logs/logic.hol",
 ];
 
-// The script whose log is checked.
-const LOGGED: &str = "first.hol";
+// The scripts whose logs are printed and checked.
+const LOGGED: [&str; 3] = ["logs/refl.hol", "logs/declared.hol", "logs/logic.hol"];
 
 // The file of a script.
 fn open(rt: &HostRuntime, name: &str) -> Result<File, Fault> {
@@ -54,6 +65,22 @@ fn run_script(rt: &HostRuntime, name: &str) -> Result<(), Fault> {
     Ok(())
 }
 
+// Prints the log of a script.
+fn print_log(rt: &HostRuntime, name: &str) -> Result<(), Fault> {
+    let alloc = rt.alloc();
+    let title = format!(in alloc; "== {name}, its log")?;
+    print(rt, title.as_str())?;
+    let mut script = open(rt, name)?;
+    let reads = Box::new(alloc, move |buf: &mut [u8]| script.read(buf))?;
+    let mut reader = FromCall::new(reads);
+    let mut writer = IntoWrite::new(Vec::new(alloc));
+    let mut output = rt.stdout();
+    let writes = Box::new(alloc, move |piece: &[u8]| output.write(piece))?;
+    let mut log = IntoCall::new(writes);
+    run(alloc, &mut reader, &mut writer, &mut log, true, &NoHost)?;
+    Ok(())
+}
+
 // The log of a script.
 fn log_of(rt: &HostRuntime, name: &str) -> Result<Vec<u8>, Fault> {
     let alloc = rt.alloc();
@@ -66,16 +93,20 @@ fn log_of(rt: &HostRuntime, name: &str) -> Result<Vec<u8>, Fault> {
     Ok(log.bytes)
 }
 
-// Checks a log, and prints its claims and their number.
-fn check_log(rt: &HostRuntime, log: &[u8]) -> Result<(), Fault> {
+// Checks the log of a script, and prints the entries of its theory, its claims and their number.
+fn print_check(rt: &HostRuntime, name: &str) -> Result<(), Fault> {
     let alloc = rt.alloc();
-    let mut reader = FromRead::new(log);
-    let claims = check(alloc, &mut reader)?;
+    let title = format!(in alloc; "== {name}, its log checked")?;
+    print(rt, title.as_str())?;
+    let bytes = log_of(rt, name)?;
+    let mut reader = FromRead::new(bytes.as_slice());
+    let log = check_log(alloc, &mut reader)?;
     let mut output = rt.stdout();
     let writes = Box::new(alloc, move |piece: &[u8]| output.write(piece))?;
     let mut writer = IntoCall::new(writes);
-    write_claims(alloc, &claims, &mut writer)?;
-    let count = format!(in alloc; "claims: {}", claims.len())?;
+    write_entries(alloc, &log.entries, &mut writer)?;
+    write_claims(alloc, &log.claims, &mut writer)?;
+    let count = format!(in alloc; "claims: {}", log.claims.len())?;
     print(rt, count.as_str())
 }
 
@@ -83,9 +114,11 @@ fn run_all(rt: &HostRuntime) -> Result<(), Fault> {
     for at in 0..SCRIPTS.len() {
         run_script(rt, SCRIPTS[at])?;
     }
-    let log = log_of(rt, LOGGED)?;
-    print(rt, "== the log of first.hol, checked")?;
-    check_log(rt, &log)
+    for at in 0..LOGGED.len() {
+        print_log(rt, LOGGED[at])?;
+        print_check(rt, LOGGED[at])?;
+    }
+    Ok(())
 }
 
 fn main(rt: HostRuntime) -> ExitCode {
