@@ -1,6 +1,6 @@
 -- The steps of the writer.
 use Rattle.std.proofs.Common.{◌≡◌, ℕ, zero, suc, ◌+◌, ◌||◌, List, [], ◌∷◌, ◌++◌, Bool, true, false, cond, not, if◌then◌else◌, map, refl, sym, ◌∙◌, ap, subst}
-use Rattle.std.proofs.Common.{eqb, Option, Result, Ok, Err, IfOk, Some, None, length, arith}
+use Rattle.std.proofs.Common.{eqb, Result, Ok, Err, IfOk, Some, None, length, arith}
 use Rattle.std.specs.Prelude.{position, nat_lt, slice_get}
 use Rattle.std.proofs.lemmas.List.Sums.{prefix_len-le-length}
 use Rattle.std.proofs.lemmas.Bool.Decides.{nat_tests}
