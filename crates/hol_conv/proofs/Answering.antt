@@ -68,14 +68,9 @@ module _ (theory : Theory) (store : Store) (hosts : HostConversions) where
       → IsSome (dest_equation theorem.conclusion)
   is-equation {depth} {steps} {left} {c} {t} {theorem} r = some-sides (conversions-answer-equations hosts theory store depth steps left c t theorem r).is_equation
 
-  pub are-equations : {depth steps left : ℕ} {c : Conversion} {t : NamedTerm} (answer : Result Theorem Fault) → Converts theory store hosts depth steps c t answer left
-      → IfOk answer (λ theorem. IsSome (dest_equation theorem.conclusion))
-  are-equations (Ok theorem) r = is-equation r
-  are-equations (Err fault) r = tt
-
   -- ---- want of memory
 
-  unless-memory : {depth steps left : ℕ} {c : Conversion} {t : NamedTerm} {outcome answer : Result Theorem Fault} → Joins outcome answer → left ≤ steps
+  pub unless-memory : {depth steps left : ℕ} {c : Conversion} {t : NamedTerm} {outcome answer : Result Theorem Fault} → Joins outcome answer → left ≤ steps
       → Converts theory store hosts depth steps c t outcome left → Converts theory store hosts depth steps c t answer left
   unless-memory {depth} {steps} {left} {c} {t} (inl is) le r = subst (λ (a : Result Theorem Fault). Converts theory store hosts depth steps c t a left) (sym is) r
   unless-memory {depth} {steps} {left} {c} {t} (inr is) le r = subst (λ (a : Result Theorem Fault). Converts theory store hosts depth steps c t a left) (sym is) (conv.finds_no_memory le)

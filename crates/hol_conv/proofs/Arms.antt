@@ -15,174 +15,214 @@ use Rattle.hol_model.specs.Refining.Conversions.{Conversion, Conversions, more, 
 use Rattle.hol_model.specs.Refining.Conversions.{Converts, is_caught, of_argument, of_function, of_body, of_parts, if_changed, lacks_part}
 use Rattle.hol_laws_refiners.proofs.Repeating.{IsFinal, onto, JoinedSoFar, joined_defined}
 use Rattle.hol_laws_refiners.proofs.Chains.{ThencSoFar}
-use Rattle.hol_journal.specs.Journal.{Recorded, IsMade, theorem_in}
+use Rattle.hol_laws_refiners.proofs.Spending.{converts-spends}
+use Rattle.hol_journal.specs.Journal.{Recorded, theorem_in}
 use Rattle.hol_theorem_library.specs.Library.{IsContinued, store_in}
 use Rattle.hol_theorem_library.specs.declared.library.Library.{Library}
-use Rattle.hol_conv_rules.specs.Makes.{Makes, Joins, IsRightSide}
-use Rattle.hol_conv.specs.Answers.{ConvertsOver}
+use Rattle.hol_conv_rules.specs.Makes.{Joins, IsRightSide}
+use Rattle.hol_conv_rules.specs.declared.converted.Converted.{Converted}
+use Rattle.hol_conv_rules.specs.Converted.{theorem_of, answered, IsAnswerOf, MakesAnswer}
+use Rattle.hol_conv.specs.Answers.{ConvertsOver, AnswersOver}
 use Rattle.hol_conv.specs.Parts.{AreParts, AreBoundParts}
-use Rattle.hol_conv.specs.Chains.{Tries, Links, theorems}
+use Rattle.hol_conv.specs.Chains.{Tries, Links, proved_by}
 use Rattle.hol_conv.specs.declared.chain.Chain.{Chain}
 use Rattle.hol_conv.specs.declared.chain.Linked.TheVariants.{GoesOn, Ends}
 use Rattle.hol_conv.specs.declared.chain.Linked.{Linked}
-use Rattle.hol_conv.proofs.Answering.{argument-answers, function-answers, body-answers, parts-answer, tries, then-answers, thenc-goes, thenc-stops, are-equations}
+use Rattle.hol_conv.proofs.Answering.{argument-answers, function-answers, body-answers, parts-answer, tries, then-answers, thenc-goes, thenc-stops, is-equation, onto-equation, unless-memory}
 use Rattle.hol_conv.proofs.Linking.{links-on, links-end, links-stop, costs}
-use Rattle.hol_conv.proofs.Asking.{carried, continued-twice}
+use Rattle.hol_conv.proofs.Asking.{carried, carried-answer, side-before, continued-twice}
 
 -- the same for what a call answers
-abbrev pub Over : Theory → Store → HostConversions → ℕ → ℕ → Conversion → NamedTerm → Result Recorded Fault → ℕ → Type 0
-Over theory store hosts depth steps c t result left = Converts theory store hosts depth steps c t (theorem_in result) left
+abbrev pub AnswersAt : Theory → Store → HostConversions → ℕ → ℕ → Conversion → NamedTerm → Result Converted Fault → ℕ → Type 0
+AnswersAt theory store hosts depth steps c t result left = Converts theory store hosts depth steps c t (answered theory t result) left
 
-joins-later : {old new : Library} (outcome : Theory → Result Theorem Fault) {answer : Result Theorem Fault} → IsContinued old new → Joins (outcome new.recorder.theory) answer
-    → Joins (outcome old.recorder.theory) answer
-joins-later outcome {answer} continued joins = subst (λ (theory : Theory). Joins (outcome theory) answer) continued.theory joins
+joins-later : {old new : Library} (outcome answer : Theory → Result Theorem Fault) → IsContinued old new → Joins (outcome new.recorder.theory) (answer new.recorder.theory)
+    → Joins (outcome old.recorder.theory) (answer old.recorder.theory)
+joins-later outcome answer continued joins = subst (λ (theory : Theory). Joins (outcome theory) (answer theory)) continued.theory joins
+
+-- the theorem of an answer
+pub theorem-answers : {old new : Library} {hosts : HostConversions} {depth steps left : ℕ} {c : Conversion} {t : NamedTerm} (answer : Result Converted Fault) (result : Result Recorded Fault)
+    → AnswersOver old hosts depth steps c t answer left → IsContinued old new → Joins (answered new.recorder.theory t answer) (theorem_in result) → ConvertsOver old hosts depth steps c t result left
+theorem-answers {old} {new} {hosts} {t} answer result r continued joins =
+    unless-memory _ _ _ (joins-later (λ theory. answered theory t answer) (λ theory. theorem_in result) continued joins) (converts-spends _ _ _ r) r
 
 -- ---- parts
 
-pub argument-arm : {old new : Library} {hosts : HostConversions} {depth steps left : ℕ} {c : Conversion} {t f x : NamedTerm} {part : Result Recorded Fault} (result : Result Recorded Fault) → AreParts t depth f x
-    → ConvertsOver old hosts (depth + 1) steps c x part left → Makes old new part → Joins (of_argument new.recorder.theory f (theorem_in part)) (theorem_in result)
-    → ConvertsOver old hosts depth steps (rand_conv c) t result left
-argument-arm {f} {part} result parts r makes joins =
-    argument-answers _ _ _ parts r (joins-later (λ theory. of_argument theory f (theorem_in part)) makes.continued joins)
+pub argument-arm : {old new : Library} {hosts : HostConversions} {depth steps left : ℕ} {c : Conversion} {t f x : NamedTerm} {part : Result Converted Fault} (result : Result Converted Fault) → AreParts t depth f x
+    → AnswersOver old hosts (depth + 1) steps c x part left → MakesAnswer old new x part → Joins (of_argument new.recorder.theory f (answered new.recorder.theory x part)) (answered new.recorder.theory t result)
+    → AnswersOver old hosts depth steps (rand_conv c) t result left
+argument-arm {t} {f} {x} {part} result parts r makes joins =
+    argument-answers _ _ _ parts r (joins-later (λ theory. of_argument theory f (answered theory x part)) (λ theory. answered theory t result) makes.continued joins)
 
-pub function-arm : {old new : Library} {hosts : HostConversions} {depth steps left : ℕ} {c : Conversion} {t f x : NamedTerm} {part : Result Recorded Fault} (result : Result Recorded Fault) → AreParts t depth f x
-    → ConvertsOver old hosts (depth + 1) steps c f part left → Makes old new part → Joins (of_function new.recorder.theory x (theorem_in part)) (theorem_in result)
-    → ConvertsOver old hosts depth steps (rator_conv c) t result left
-function-arm {x} {part} result parts r makes joins =
-    function-answers _ _ _ parts r (joins-later (λ theory. of_function theory x (theorem_in part)) makes.continued joins)
+pub function-arm : {old new : Library} {hosts : HostConversions} {depth steps left : ℕ} {c : Conversion} {t f x : NamedTerm} {part : Result Converted Fault} (result : Result Converted Fault) → AreParts t depth f x
+    → AnswersOver old hosts (depth + 1) steps c f part left → MakesAnswer old new f part → Joins (of_function new.recorder.theory x (answered new.recorder.theory f part)) (answered new.recorder.theory t result)
+    → AnswersOver old hosts depth steps (rator_conv c) t result left
+function-arm {t} {f} {x} {part} result parts r makes joins =
+    function-answers _ _ _ parts r (joins-later (λ theory. of_function theory x (answered theory f part)) (λ theory. answered theory t result) makes.continued joins)
 
-pub body-arm : {old new : Library} {hosts : HostConversions} {depth steps left : ℕ} {c : Conversion} {t binder body : NamedTerm} {part : Result Recorded Fault} (result : Result Recorded Fault)
-    (parts : AreBoundParts t depth binder body) → ConvertsOver old hosts (depth + 1) steps c body part left → Makes old new part
-    → Joins (of_body new.recorder.theory parts.name parts.ty (theorem_in part)) (theorem_in result) → ConvertsOver old hosts depth steps (abs_conv c) t result left
-body-arm {part} result parts r makes joins =
-    body-answers _ _ _ parts r (joins-later (λ theory. of_body theory parts.name parts.ty (theorem_in part)) makes.continued joins)
+pub body-arm : {old new : Library} {hosts : HostConversions} {depth steps left : ℕ} {c : Conversion} {t binder body : NamedTerm} {part : Result Converted Fault} (result : Result Converted Fault)
+    (parts : AreBoundParts t depth binder body) → AnswersOver old hosts (depth + 1) steps c body part left → MakesAnswer old new body part
+    → Joins (of_body new.recorder.theory parts.name parts.ty (answered new.recorder.theory body part)) (answered new.recorder.theory t result) → AnswersOver old hosts depth steps (abs_conv c) t result left
+body-arm {t} {body} {part} result parts r makes joins =
+    body-answers _ _ _ parts r (joins-later (λ theory. of_body theory parts.name parts.ty (answered theory body part)) (λ theory. answered theory t result) makes.continued joins)
 
-pub parts-arm : {old mid new : Library} {hosts : HostConversions} {depth steps left after : ℕ} {c : Conversion} {t f x : NamedTerm} {first : Recorded} {second : Result Recorded Fault} (result : Result Recorded Fault)
-    → combination f x ≡ t → depth < DESCENTS_LIMIT → ConvertsOver old hosts (depth + 1) steps c f (Ok first) left → Makes old mid (Ok first)
-    → ConvertsOver mid hosts (depth + 1) left c x second after → Makes mid new second → Joins (of_parts new.recorder.theory (Ok first.theorem) (theorem_in second)) (theorem_in result)
-    → ConvertsOver old hosts depth steps (sub_conv c) t result after
-parts-arm {first} {second} result is room r one s two joins =
-    parts-answer _ _ _ is room r (carried one.continued s)
-    (joins-later (λ theory. of_parts theory (Ok first.theorem) (theorem_in second)) (continued-twice one.continued two.continued) joins)
+pub parts-arm : {old mid new : Library} {hosts : HostConversions} {depth steps left after : ℕ} {c : Conversion} {t f x : NamedTerm} {first : Converted} {second : Result Converted Fault} (result : Result Converted Fault)
+    → combination f x ≡ t → depth < DESCENTS_LIMIT → AnswersOver old hosts (depth + 1) steps c f (Ok first) left → MakesAnswer old mid f (Ok first)
+    → AnswersOver mid hosts (depth + 1) left c x second after → MakesAnswer mid new x second
+    → Joins (of_parts new.recorder.theory (Ok (theorem_of new.recorder.theory f first)) (answered new.recorder.theory x second)) (answered new.recorder.theory t result)
+    → AnswersOver old hosts depth steps (sub_conv c) t result after
+parts-arm {t} {f} {x} {first} {second} result is room r one s two joins =
+    parts-answer _ _ _ is room r (carried-answer second one.continued s)
+    (joins-later (λ theory. of_parts theory (Ok (theorem_of theory f first)) (answered theory x second)) (λ theory. answered theory t result) (continued-twice one.continued two.continued) joins)
 
 -- ---- ALL_CONV behind a refusal
 
-tried : {old new : Library} {hosts : HostConversions} {depth steps mid left : ℕ} {c : Conversion} {t : NamedTerm} (made result : Result Recorded Fault) → ConvertsOver old hosts depth steps c t made mid
-    → IsContinued old new → Tries new.recorder.theory t (theorem_in made) mid (theorem_in result) left → ConvertsOver old hosts depth steps (orelsec c (one_more all_conv)) t result left
-tried {mid} {left} {t} made result r continued is =
-    tries _ _ _ (theorem_in made) r (subst (λ (theory : Theory). Tries theory t (theorem_in made) mid (theorem_in result) left) continued.theory is)
+tried : {old new : Library} {hosts : HostConversions} {depth steps mid left : ℕ} {c : Conversion} {t : NamedTerm} (made result : Result Converted Fault) → AnswersOver old hosts depth steps c t made mid
+    → IsContinued old new → Tries new.recorder.theory t (answered new.recorder.theory t made) mid (answered new.recorder.theory t result) left
+    → AnswersOver old hosts depth steps (orelsec c (one_more all_conv)) t result left
+tried {old} {mid} {left} {t} made result r continued is =
+    tries _ _ _ (answered old.recorder.theory t made) r (subst (λ (theory : Theory). Tries theory t (answered theory t made) mid (answered theory t result) left) continued.theory is)
 
-pub try-arm : {old new : Library} {hosts : HostConversions} {depth steps mid left : ℕ} {c : Conversion} {t : NamedTerm} {made : Result Recorded Fault} (result : Result Recorded Fault)
-    → ConvertsOver old hosts depth steps c t made mid → Makes old new made → Tries new.recorder.theory t (theorem_in made) mid (theorem_in result) left
-    → ConvertsOver old hosts depth steps (try_conv c) t result left
+pub try-arm : {old new : Library} {hosts : HostConversions} {depth steps mid left : ℕ} {c : Conversion} {t : NamedTerm} {made : Result Converted Fault} (result : Result Converted Fault)
+    → AnswersOver old hosts depth steps c t made mid → MakesAnswer old new t made → Tries new.recorder.theory t (answered new.recorder.theory t made) mid (answered new.recorder.theory t result) left
+    → AnswersOver old hosts depth steps (try_conv c) t result left
 try-arm {made} result r makes is = conv.converts_as_defined refl (tried made result r makes.continued is)
 
-pub once-arm : {old mid new : Library} {hosts : HostConversions} {depth steps first second left : ℕ} {whole c : Conversion} {t : NamedTerm} {fault : Fault} {made : Result Recorded Fault}
-    (result : Result Recorded Fault) → whole ≡ once_depth_conv c → ConvertsOver old hosts depth steps c t (Err fault) first → is_caught fault ≡ true → Makes old mid (Err fault)
-    → ConvertsOver mid hosts depth first (sub_conv whole) t made second → Makes mid new made → Tries new.recorder.theory t (theorem_in made) second (theorem_in result) left
-    → ConvertsOver old hosts depth steps whole t result left
+pub once-arm : {old mid new : Library} {hosts : HostConversions} {depth steps first second left : ℕ} {whole c : Conversion} {t : NamedTerm} {fault : Fault} {made : Result Converted Fault}
+    (result : Result Converted Fault) → whole ≡ once_depth_conv c → AnswersOver old hosts depth steps c t (Err fault) first → is_caught fault ≡ true → MakesAnswer old mid t (Err fault)
+    → AnswersOver mid hosts depth first (sub_conv whole) t made second → MakesAnswer mid new t made
+    → Tries new.recorder.theory t (answered new.recorder.theory t made) second (answered new.recorder.theory t result) left
+    → AnswersOver old hosts depth steps whole t result left
 once-arm {old} {hosts} {depth} {steps} {first} {second} {left} {c} {t} {made} result whole_is r caught one s two is =
-    let s = subst (λ (w : Conversion). ConvertsOver old hosts depth first (sub_conv w) t made second) whole_is (carried one.continued s) in
-    subst (λ (w : Conversion). ConvertsOver old hosts depth steps w t result left) (sym whole_is)
+    let s = subst (λ (w : Conversion). AnswersOver old hosts depth first (sub_conv w) t made second) whole_is (carried-answer made one.continued s) in
+    subst (λ (w : Conversion). AnswersOver old hosts depth steps w t result left) (sym whole_is)
     (conv.converts_as_defined refl (conv.first_is_caught r caught (tried made result s (continued-twice one.continued two.continued) is)))
 
-pub once-answers : {theory : Theory} {store : Store} {hosts : HostConversions} {depth steps left : ℕ} {whole c : Conversion} {t : NamedTerm} (made : Recorded) → whole ≡ once_depth_conv c
-    → Over theory store hosts depth steps c t (Ok made) left → Over theory store hosts depth steps whole t (Ok made) left
+pub once-answers : {theory : Theory} {store : Store} {hosts : HostConversions} {depth steps left : ℕ} {whole c : Conversion} {t : NamedTerm} (made : Converted) → whole ≡ once_depth_conv c
+    → AnswersAt theory store hosts depth steps c t (Ok made) left → AnswersAt theory store hosts depth steps whole t (Ok made) left
 once-answers {theory} {store} {hosts} {depth} {steps} {left} {t} made whole_is r =
-    subst (λ (w : Conversion). Over theory store hosts depth steps w t (Ok made) left) (sym whole_is) (conv.converts_as_defined refl (conv.first_answers r))
+    subst (λ (w : Conversion). AnswersAt theory store hosts depth steps w t (Ok made) left) (sym whole_is) (conv.converts_as_defined refl (conv.first_answers r))
 
 pub once-stops : {theory : Theory} {store : Store} {hosts : HostConversions} {depth steps left : ℕ} {whole c : Conversion} {t : NamedTerm} {fault : Fault} → whole ≡ once_depth_conv c
-    → Over theory store hosts depth steps c t (Err fault) left → is_caught fault ≡ false → Over theory store hosts depth steps whole t (Err fault) left
+    → Converts theory store hosts depth steps c t (Err fault) left → is_caught fault ≡ false → Converts theory store hosts depth steps whole t (Err fault) left
 once-stops {theory} {store} {hosts} {depth} {steps} {left} {t} {fault} whole_is r passes =
-    subst (λ (w : Conversion). Over theory store hosts depth steps w t (Err fault) left) (sym whole_is) (conv.converts_as_defined refl (conv.first_is_not_caught r passes))
+    subst (λ (w : Conversion). Converts theory store hosts depth steps w t (Err fault) left) (sym whole_is) (conv.converts_as_defined refl (conv.first_is_not_caught r passes))
 
 -- ---- DEPTH_CONV
 
-pub depth-arm : {old mid new : Library} {hosts : HostConversions} {depth steps first left : ℕ} {whole c : Conversion} {t right : NamedTerm} {below : Recorded} {here : Result Recorded Fault}
-    (result : Result Recorded Fault) → whole ≡ depth_conv c → ConvertsOver old hosts depth steps (sub_conv whole) t (Ok below) first → Makes old mid (Ok below)
-    → IsRightSide below.theorem right → ConvertsOver mid hosts depth first (repeatc c) right here left → Makes mid new here
-    → Joins (onto new.recorder.theory below.theorem (theorem_in here)) (theorem_in result) → ConvertsOver old hosts depth steps whole t result left
-depth-arm {old} {hosts} {depth} {steps} {first} {left} {c} {t} {below} {here} result whole_is r one side s two joins =
-    let r = subst (λ (w : Conversion). ConvertsOver old hosts depth steps (sub_conv w) t (Ok below) first) whole_is r in
-    let joins = joins-later (λ theory. onto theory below.theorem (theorem_in here)) (continued-twice one.continued two.continued) joins in
-    subst (λ (w : Conversion). ConvertsOver old hosts depth steps w t result left) (sym whole_is)
-    (conv.converts_as_defined refl (then-answers _ _ _ (theorem_in here) r side.is (carried one.continued s) joins))
+pub depth-arm : {old mid new : Library} {hosts : HostConversions} {depth steps first left : ℕ} {whole c : Conversion} {t right : NamedTerm} {below : Converted} {here : Result Converted Fault}
+    (result : Result Converted Fault) → whole ≡ depth_conv c → AnswersOver old hosts depth steps (sub_conv whole) t (Ok below) first → MakesAnswer old mid t (Ok below)
+    → IsRightSide (theorem_of mid.recorder.theory t below) right → AnswersOver mid hosts depth first (repeatc c) right here left → MakesAnswer mid new right here
+    → Joins (onto new.recorder.theory (theorem_of new.recorder.theory t below) (answered new.recorder.theory right here)) (answered new.recorder.theory t result)
+    → AnswersOver old hosts depth steps whole t result left
+depth-arm {old} {hosts} {depth} {steps} {first} {left} {c} {t} {right} {below} {here} result whole_is r one side s two joins =
+    let r = subst (λ (w : Conversion). AnswersOver old hosts depth steps (sub_conv w) t (Ok below) first) whole_is r in
+    let joins = joins-later (λ theory. onto theory (theorem_of theory t below) (answered theory right here)) (λ theory. answered theory t result) (continued-twice one.continued two.continued) joins in
+    subst (λ (w : Conversion). AnswersOver old hosts depth steps w t result left) (sym whole_is)
+    (conv.converts_as_defined refl (then-answers _ _ _ (answered old.recorder.theory right here) r (side-before t below one.continued side).is (carried-answer here one.continued s) joins))
 
 pub depth-stops : {theory : Theory} {store : Store} {hosts : HostConversions} {depth steps left : ℕ} {whole c : Conversion} {t : NamedTerm} {fault : Fault} → whole ≡ depth_conv c
-    → Over theory store hosts depth steps (sub_conv whole) t (Err fault) left → Over theory store hosts depth steps whole t (Err fault) left
+    → Converts theory store hosts depth steps (sub_conv whole) t (Err fault) left → Converts theory store hosts depth steps whole t (Err fault) left
 depth-stops {theory} {store} {hosts} {depth} {steps} {left} {t} {fault} whole_is r =
-    let r = subst (λ (w : Conversion). Over theory store hosts depth steps (sub_conv w) t (Err fault) left) whole_is r in
-    subst (λ (w : Conversion). Over theory store hosts depth steps w t (Err fault) left) (sym whole_is) (conv.converts_as_defined refl (conv.first_is_refused r))
+    let r = subst (λ (w : Conversion). Converts theory store hosts depth steps (sub_conv w) t (Err fault) left) whole_is r in
+    subst (λ (w : Conversion). Converts theory store hosts depth steps w t (Err fault) left) (sym whole_is) (conv.converts_as_defined refl (conv.first_is_refused r))
 
 -- ---- chains
 
--- THENC, from a theorem so far
-pub thenc-on : {old now mid : Library} {hosts : HostConversions} {depth first steps left : ℕ} {whole c : Conversion} {cs : Conversions} {t right : NamedTerm} {next : Result Recorded Fault}
-    (made joined : Recorded) → ThencSoFar old.recorder.theory (store_in old) hosts depth first whole t steps made.theorem (more c cs) → IsContinued old now → IsRightSide made.theorem right
-    → ConvertsOver now hosts depth steps c right next left → Makes now mid next → Joins (onto mid.recorder.theory made.theorem (theorem_in next)) (Ok joined.theorem)
-    → ThencSoFar old.recorder.theory (store_in old) hosts depth first whole t left joined.theorem cs
-thenc-on {next} made joined so_far before side r makes joins =
-    thenc-goes _ _ _ (theorem_in next) so_far side.is (carried before r)
-    (joins-later (λ theory. onto theory made.theorem (theorem_in next)) (continued-twice before makes.continued) joins)
+-- THENC, from an answer so far
+pub thenc-on : {old now mid : Library} {hosts : HostConversions} {depth first steps left : ℕ} {whole c : Conversion} {cs : Conversions} {t right : NamedTerm} {next : Result Converted Fault}
+    (made joined : Converted) → ThencSoFar old.recorder.theory (store_in old) hosts depth first whole t steps (theorem_of old.recorder.theory t made) (more c cs) → IsContinued old now
+    → IsRightSide (theorem_of now.recorder.theory t made) right → AnswersOver now hosts depth steps c right next left → MakesAnswer now mid right next
+    → Joins (onto mid.recorder.theory (theorem_of mid.recorder.theory t made) (answered mid.recorder.theory right next)) (Ok (theorem_of mid.recorder.theory t joined))
+    → ThencSoFar old.recorder.theory (store_in old) hosts depth first whole t left (theorem_of old.recorder.theory t joined) cs
+thenc-on {old} {t} {right} {next} made joined so_far before side r makes joins =
+    thenc-goes _ _ _ (answered old.recorder.theory right next) so_far (side-before t made before side).is (carried-answer next before r)
+    (joins-later (λ theory. onto theory (theorem_of theory t made) (answered theory right next)) (λ theory. Ok (theorem_of theory t joined)) (continued-twice before makes.continued) joins)
 
-pub thenc-off : {old now mid : Library} {hosts : HostConversions} {depth first steps left : ℕ} {whole c : Conversion} {cs : Conversions} {t right : NamedTerm} {fault : Fault} {next : Result Recorded Fault}
-    (made : Recorded) → ThencSoFar old.recorder.theory (store_in old) hosts depth first whole t steps made.theorem (more c cs) → IsContinued old now → IsRightSide made.theorem right
-    → ConvertsOver now hosts depth steps c right next left → Makes now mid next → Joins (onto mid.recorder.theory made.theorem (theorem_in next)) (Err fault)
-    → ConvertsOver old hosts depth first whole t (Err fault) left
-thenc-off {next} made so_far before side r makes joins =
-    thenc-stops _ _ _ (theorem_in next) so_far side.is (carried before r)
-    (joins-later (λ theory. onto theory made.theorem (theorem_in next)) (continued-twice before makes.continued) joins)
+pub thenc-off : {old now mid : Library} {hosts : HostConversions} {depth first steps left : ℕ} {whole c : Conversion} {cs : Conversions} {t right : NamedTerm} {fault : Fault} {next : Result Converted Fault}
+    (made : Converted) → ThencSoFar old.recorder.theory (store_in old) hosts depth first whole t steps (theorem_of old.recorder.theory t made) (more c cs) → IsContinued old now
+    → IsRightSide (theorem_of now.recorder.theory t made) right → AnswersOver now hosts depth steps c right next left → MakesAnswer now mid right next
+    → Joins (onto mid.recorder.theory (theorem_of mid.recorder.theory t made) (answered mid.recorder.theory right next)) (Err fault)
+    → Converts old.recorder.theory (store_in old) hosts depth first whole t (Err fault) left
+thenc-off {old} {t} {right} {fault} {next} made so_far before side r makes joins =
+    thenc-stops _ _ _ (answered old.recorder.theory right next) so_far (side-before t made before side).is (carried-answer next before r)
+    (joins-later (λ theory. onto theory (theorem_of theory t made) (answered theory right next)) (λ theory. Err fault) (continued-twice before makes.continued) joins)
 
-links-later : {old new : Library} (proved : List Theorem) (t : NamedTerm) (made : Result Theorem Fault) (steps left : ℕ) (linked : Linked) → IsContinued old new
-    → Links new.recorder.theory proved t made steps linked left → Links old.recorder.theory proved t made steps linked left
-links-later proved t made steps left linked continued links = subst (λ (theory : Theory). Links theory proved t made steps linked left) continued.theory links
+-- what is answered behind it is an equation
+pub thenc-equation : {old now mid : Library} {right : NamedTerm} {next : Result Converted Fault} (t : NamedTerm) (made joined : Converted) → IsContinued old now → MakesAnswer now mid right next
+    → Joins (onto mid.recorder.theory (theorem_of mid.recorder.theory t made) (answered mid.recorder.theory right next)) (Ok (theorem_of mid.recorder.theory t joined))
+    → IsSome (dest_equation (theorem_of old.recorder.theory t joined).conclusion)
+thenc-equation {old} {right} {next} t made joined before makes joins =
+    onto-equation old.recorder.theory (theorem_of old.recorder.theory t made) (answered old.recorder.theory right next) (theorem_of old.recorder.theory t joined)
+    (joins-later (λ theory. onto theory (theorem_of theory t made) (answered theory right next)) (λ theory. Ok (theorem_of theory t joined)) (continued-twice before makes.continued) joins)
+
+links-later : {old new : Library} (from : Chain) (t : NamedTerm) (made : Result Converted Fault) (steps left : ℕ) (linked : Linked) → IsContinued old new
+    → Links new.recorder.theory (proved_by new.recorder.theory from) t from.current (answered new.recorder.theory from.current made) steps linked left
+    → Links old.recorder.theory (proved_by old.recorder.theory from) t from.current (answered old.recorder.theory from.current made) steps linked left
+links-later from t made steps left linked continued links =
+    subst (λ (theory : Theory). Links theory (proved_by theory from) t from.current (answered theory from.current made) steps linked left) continued.theory links
 
 -- REPEATC and TOP_DEPTH_CONV, from a chain
-pub link-on : {old now mid : Library} {hosts : HostConversions} {depth first steps left : ℕ} {whole c d : Conversion} {t current : NamedTerm}
-    {made : Result Recorded Fault} (proved : List Theorem) (after : ℕ) (chain : Chain) → JoinedSoFar old.recorder.theory (store_in old) hosts depth first whole t steps (thenc c (one_more d)) proved current → IsContinued old now
-    → ConvertsOver now hosts depth steps c current made left → Makes now mid made → Links mid.recorder.theory proved current (theorem_in made) left (GoesOn chain) after
-    → JoinedSoFar old.recorder.theory (store_in old) hosts depth first whole t after d (theorems chain.theorems.items) chain.current
-link-on {left} {current} {made} proved after chain so_far before r makes links =
-    links-on _ _ _ _ (theorem_in made) chain so_far (carried before r) (links-later proved current (theorem_in made) left after (GoesOn chain) (continued-twice before makes.continued) links)
+pub link-on : {old now mid : Library} {hosts : HostConversions} {depth first steps left : ℕ} {whole c d : Conversion} {t : NamedTerm}
+    {made : Result Converted Fault} (from : Chain) (after : ℕ) (chain : Chain)
+    → JoinedSoFar old.recorder.theory (store_in old) hosts depth first whole t steps (thenc c (one_more d)) (proved_by old.recorder.theory from) from.current → IsContinued old now
+    → AnswersOver now hosts depth steps c from.current made left → MakesAnswer now mid from.current made
+    → Links mid.recorder.theory (proved_by mid.recorder.theory from) t from.current (answered mid.recorder.theory from.current made) left (GoesOn chain) after
+    → JoinedSoFar old.recorder.theory (store_in old) hosts depth first whole t after d (proved_by old.recorder.theory chain) chain.current
+link-on {old} {left} {t} {made} from after chain so_far before r makes links =
+    links-on _ _ _ _ (answered old.recorder.theory from.current made) chain so_far (carried-answer made before r)
+    (links-later from t made left after (GoesOn chain) (continued-twice before makes.continued) links)
 
-pub link-off : {old now mid : Library} {hosts : HostConversions} {depth first steps left : ℕ} {whole c d : Conversion} {t current : NamedTerm}
-    {made : Result Recorded Fault} (proved : List Theorem) (after : ℕ) (result : Result Recorded Fault) → JoinedSoFar old.recorder.theory (store_in old) hosts depth first whole t steps (orelsec (thenc c (one_more d)) (one_more all_conv)) proved current
-    → IsContinued old now → is_known now.recorder.theory current ≡ true → ConvertsOver now hosts depth steps c current made left → Makes now mid made
-    → Links mid.recorder.theory proved current (theorem_in made) left (Ends result) after
-    → ConvertsOver old hosts depth first whole t result after × IsFinal (theorem_in result)
-link-off {left} {current} {made} proved after result so_far before known r makes links =
-    let known = subst (λ (theory : Theory). is_known theory current ≡ true) before.theory known in
-    links-end _ _ _ _ (theorem_in made) result known so_far (carried before r) (links-later proved current (theorem_in made) left after (Ends result) (continued-twice before makes.continued) links)
+pub link-off : {old now mid : Library} {hosts : HostConversions} {depth first steps left : ℕ} {whole c d : Conversion} {t : NamedTerm}
+    {made : Result Converted Fault} (from : Chain) (after : ℕ) (result : Result Converted Fault)
+    → JoinedSoFar old.recorder.theory (store_in old) hosts depth first whole t steps (orelsec (thenc c (one_more d)) (one_more all_conv)) (proved_by old.recorder.theory from) from.current
+    → IsContinued old now → is_known now.recorder.theory from.current ≡ true → AnswersOver now hosts depth steps c from.current made left → MakesAnswer now mid from.current made
+    → Links mid.recorder.theory (proved_by mid.recorder.theory from) t from.current (answered mid.recorder.theory from.current made) left (Ends result) after
+    → AnswersOver old hosts depth first whole t result after × IsFinal (answered old.recorder.theory t result)
+link-off {old} {left} {t} {made} from after result so_far before known r makes links =
+    let known = subst (λ (theory : Theory). is_known theory from.current ≡ true) before.theory known in
+    links-end _ _ _ _ (answered old.recorder.theory from.current made) result known so_far (carried-answer made before r)
+    (links-later from t made left after (Ends result) (continued-twice before makes.continued) links)
 
-pub link-stop : {old now mid : Library} {hosts : HostConversions} {depth first steps left : ℕ} {whole c d : Conversion} {t current : NamedTerm}
-    {made : Result Recorded Fault} (proved : List Theorem) (after : ℕ) (result : Result Recorded Fault) → JoinedSoFar old.recorder.theory (store_in old) hosts depth first whole t steps (thenc c (one_more d)) proved current
-    → IsContinued old now → ConvertsOver now hosts depth steps c current made left → Makes now mid made → IsFinal (theorem_in made)
-    → Links mid.recorder.theory proved current (theorem_in made) left (Ends result) after
-    → ConvertsOver old hosts depth first whole t result after × IsFinal (theorem_in result)
-link-stop {left} {current} {made} proved after result so_far before r makes final links =
-    links-stop _ _ _ _ (theorem_in made) result so_far (carried before r) final (links-later proved current (theorem_in made) left after (Ends result) (continued-twice before makes.continued) links)
+pub link-stop : {old now mid : Library} {hosts : HostConversions} {depth first steps left : ℕ} {whole c d : Conversion} {t : NamedTerm}
+    {made : Result Converted Fault} (from : Chain) (after : ℕ) (result : Result Converted Fault)
+    → JoinedSoFar old.recorder.theory (store_in old) hosts depth first whole t steps (thenc c (one_more d)) (proved_by old.recorder.theory from) from.current
+    → IsContinued old now → AnswersOver now hosts depth steps c from.current made left → MakesAnswer now mid from.current made → IsFinal (answered now.recorder.theory from.current made)
+    → Links mid.recorder.theory (proved_by mid.recorder.theory from) t from.current (answered mid.recorder.theory from.current made) left (Ends result) after
+    → AnswersOver old hosts depth first whole t result after × IsFinal (answered old.recorder.theory t result)
+link-stop {old} {left} {t} {made} from after result so_far before r makes final links =
+    let final = subst (λ (theory : Theory). IsFinal (answered theory from.current made)) before.theory final in
+    links-stop _ _ _ _ (answered old.recorder.theory from.current made) result so_far (carried-answer made before r) final
+    (links-later from t made left after (Ends result) (continued-twice before makes.continued) links)
 
 -- what is linked has cost a step
-pub link-costs : {theory : Theory} {store : Store} {hosts : HostConversions} {depth steps left : ℕ} {c : Conversion} {current : NamedTerm} (other : Theory) (proved : List Theorem) (after : ℕ)
-    (made : Result Recorded Fault) (chain : Chain) → Over theory store hosts depth steps c current made left → Links other proved current (theorem_in made) left (GoesOn chain) after → after < steps
-link-costs {steps} other proved after (Ok made) chain r links = subst (λ (n : ℕ). n < steps) (sym links.1) (costs r)
-link-costs other proved after (Err fault) chain r links = absurd links
+pub link-costs : {theory : Theory} {store : Store} {hosts : HostConversions} {depth steps left : ℕ} {c : Conversion} {current : NamedTerm} (other : Theory) (proved : List Theorem) (t : NamedTerm) (after : ℕ)
+    (made : Result Converted Fault) (chain : Chain) → AnswersAt theory store hosts depth steps c current made left → Links other proved t current (answered other current made) left (GoesOn chain) after
+    → after < steps
+link-costs {steps} other proved t after (Ok made) chain r links = subst (λ (n : ℕ). n < steps) (sym links.1) (costs r)
+link-costs other proved t after (Err fault) chain r links = absurd links
 
-pub link-equations : {theory : Theory} {store : Store} {hosts : HostConversions} {depth steps left : ℕ} {c : Conversion} {t : NamedTerm} (made : Result Recorded Fault) → Over theory store hosts depth steps c t made left
-    → IfOk made (λ made. IsSome (dest_equation made.theorem.conclusion))
-link-equations {theory} {store} {hosts} (Ok made) r = are-equations theory store hosts (Ok made.theorem) r
-link-equations (Err fault) r = tt
+-- what is answered is an equation
+answer-equation : {theory : Theory} {store : Store} {hosts : HostConversions} {depth steps left : ℕ} {c : Conversion} {t : NamedTerm} (made : Result Converted Fault)
+    → AnswersAt theory store hosts depth steps c t made left → IfOk made (λ made. IsSome (dest_equation (theorem_of theory t made).conclusion))
+answer-equation {theory} {store} {hosts} (Ok made) r = is-equation theory store hosts r
+answer-equation (Err fault) r = tt
+
+pub link-equations : {old new : Library} {hosts : HostConversions} {depth steps left : ℕ} {c : Conversion} {t : NamedTerm} (made : Result Converted Fault) → IsContinued old new
+    → AnswersOver old hosts depth steps c t made left → IfOk made (λ made. IsSome (dest_equation (theorem_of new.recorder.theory t made).conclusion))
+link-equations {t} made continued r =
+    subst (λ (theory : Theory). IfOk made (λ made. IsSome (dest_equation (theorem_of theory t made).conclusion))) (sym continued.theory) (answer-equation made r)
 
 -- CHANGED_CONV
-pub changed-arm : {theory : Theory} {store : Store} {hosts : HostConversions} {depth steps left : ℕ} {c : Conversion} {t : NamedTerm} (made result : Result Recorded Fault) → Over theory store hosts depth steps c t made left
-    → theorem_in result ≡ if_changed t (theorem_in made) → Over theory store hosts depth steps (changed_conv c) t result left
+pub changed-arm : {theory : Theory} {store : Store} {hosts : HostConversions} {depth steps left : ℕ} {c : Conversion} {t : NamedTerm} (made result : Result Converted Fault)
+    → AnswersAt theory store hosts depth steps c t made left → answered theory t result ≡ if_changed t (answered theory t made) → AnswersAt theory store hosts depth steps (changed_conv c) t result left
 changed-arm made result r is = conv.converts_if_changed r is
 
-pub changed-makes : {old new : Library} (made result : Result Recorded Fault) → Makes old new made → IfOk result (λ same. made ≡ Ok same) → Makes old new result
-changed-makes {old} {new} made result makes is = record { library = makes.library; continued = makes.continued; made = go result is }
+pub changed-makes : {old new : Library} {t : NamedTerm} (made result : Result Converted Fault) → MakesAnswer old new t made → IfOk result (λ same. made ≡ Ok same) → MakesAnswer old new t result
+changed-makes {old} {new} {t} made result makes is = record { library = makes.library; continued = makes.continued; made = go result is }
   where
-    go : (result : Result Recorded Fault) → IfOk result (λ same. made ≡ Ok same) → IfOk result (IsMade new.recorder)
-    go (Ok same) is = subst (λ (made : Result Recorded Fault). IfOk made (IsMade new.recorder)) is makes.made
+    go : (result : Result Converted Fault) → IfOk result (λ same. made ≡ Ok same) → IfOk result (IsAnswerOf new t)
+    go (Ok found) is = subst (λ (made : Result Converted Fault). IfOk made (IsAnswerOf new t)) is makes.made
     go (Err fault) is = tt
 
 -- TOP_DEPTH_CONV, as it is defined
@@ -199,16 +239,16 @@ pub top-again : {theory : Theory} {store : Store} {hosts : HostConversions} {dep
 top-again {theory} {store} {hosts} {depth} {first} {steps} {whole} {t} {current} {proved} is so_far =
     subst (λ (w : Conversion). JoinedSoFar theory store hosts depth first whole t steps w proved current) (sym is) so_far
 
-pub top-below : {theory : Theory} {store : Store} {hosts : HostConversions} {depth steps left : ℕ} {whole c : Conversion} {t : NamedTerm} (made : Result Recorded Fault) → whole ≡ top_depth_conv c
-    → Over theory store hosts depth steps (sub_conv whole) t made left → Over theory store hosts depth steps (sub_conv (top_depth_conv c)) t made left
-top-below {theory} {store} {hosts} {depth} {steps} {left} {t} made is r = subst (λ (w : Conversion). Over theory store hosts depth steps (sub_conv w) t made left) is r
+pub top-below : {theory : Theory} {store : Store} {hosts : HostConversions} {depth steps left : ℕ} {whole c : Conversion} {t : NamedTerm} (made : Result Converted Fault) → whole ≡ top_depth_conv c
+    → AnswersAt theory store hosts depth steps (sub_conv whole) t made left → AnswersAt theory store hosts depth steps (sub_conv (top_depth_conv c)) t made left
+top-below {theory} {store} {hosts} {depth} {steps} {left} {t} made is r = subst (λ (w : Conversion). AnswersAt theory store hosts depth steps (sub_conv w) t made left) is r
 
-pub as-conv : {theory : Theory} {store : Store} {hosts : HostConversions} {depth steps left : ℕ} {c d : Conversion} {t : NamedTerm} (made : Result Recorded Fault) → c ≡ d
-    → Over theory store hosts depth steps d t made left → Over theory store hosts depth steps c t made left
-as-conv {theory} {store} {hosts} {depth} {steps} {left} {t} made is r = subst (λ (c : Conversion). Over theory store hosts depth steps c t made left) (sym is) r
+pub as-conv : {theory : Theory} {store : Store} {hosts : HostConversions} {depth steps left : ℕ} {c d : Conversion} {t : NamedTerm} {answer : Result Theorem Fault} → c ≡ d
+    → Converts theory store hosts depth steps d t answer left → Converts theory store hosts depth steps c t answer left
+as-conv {theory} {store} {hosts} {depth} {steps} {left} {t} {answer} is r = subst (λ (c : Conversion). Converts theory store hosts depth steps c t answer left) (sym is) r
 
-pub sub-as-abs : {theory : Theory} {store : Store} {hosts : HostConversions} {depth steps left : ℕ} {c : Conversion} (t : NamedTerm) (made : Result Recorded Fault) → lacks_part (abs_conv c) t ≡ false
-    → Over theory store hosts depth steps (abs_conv c) t made left → Over theory store hosts depth steps (sub_conv c) t made left
+pub sub-as-abs : {theory : Theory} {store : Store} {hosts : HostConversions} {depth steps left : ℕ} {c : Conversion} (t : NamedTerm) (made : Result Converted Fault) → lacks_part (abs_conv c) t ≡ false
+    → AnswersAt theory store hosts depth steps (abs_conv c) t made left → AnswersAt theory store hosts depth steps (sub_conv c) t made left
 sub-as-abs (abstraction name ty body) made has r = conv.only_part_converts r
 sub-as-abs (variable name ty) made has r = cc
 sub-as-abs (constant name ty) made has r = cc

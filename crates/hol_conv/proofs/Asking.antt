@@ -1,10 +1,11 @@
 -- What is asked before a conversion is tried, after calls and of parts.
-use Rattle.std.proofs.Common.{◌≡◌, ℕ, Bool, true, false, ◌&&◌, refl, sym, ◌∙◌, subst, Result}
+use Rattle.std.proofs.Common.{◌≡◌, ℕ, Bool, true, false, ◌&&◌, refl, sym, ◌∙◌, subst, Result, Ok, Err, IfOk, IsSome}
 use Rattle.hol_model.specs.declared.fault.Fault.{Fault}
 use Rattle.hol_model.specs.Terms.NamedTerm.{NamedTerm, combination}
 use Rattle.hol_model.specs.Logic.Theory.{Theory}
 use Rattle.hol_model.specs.Logic.KnownTerm.{knows_types, knows_constants, has_instances, is_known}
 use Rattle.hol_model.specs.Kernel.Theorem.{Theorem}
+use Rattle.hol_model.specs.Kernel.Rules.{dest_equation}
 use Rattle.hol_model.specs.Refining.HostFunctions.{HostConversions}
 use Rattle.hol_model.specs.Refining.Conversions.{Conversion, Converts}
 use Rattle.hol_journal.specs.Journal.{Recorded}
@@ -14,8 +15,11 @@ use Rattle.hol_theorem_store.specs.Store.{stored_of}
 use Rattle.hol_theorem_store.specs.declared.store.Store.{Store}
 use Rattle.hol_theorem_library.specs.Library.{IsLibrary, IsContinued, store_in}
 use Rattle.hol_theorem_library.specs.declared.library.Library.{Library}
-use Rattle.hol_conv_rules.specs.Makes.{Makes}
-use Rattle.hol_conv.specs.Answers.{IsAsked}
+use Rattle.hol_conv_rules.specs.Makes.{Makes, IsRightSide}
+use Rattle.hol_conv_rules.specs.declared.converted.Converted.{Converted}
+use Rattle.hol_conv_rules.specs.declared.converted.Converted.TheVariants.{Same, Changed}
+use Rattle.hol_conv_rules.specs.Converted.{theorem_of, answered, IsAnswerOf, IsHeldIn, MakesAnswer}
+use Rattle.hol_conv.specs.Answers.{IsAsked, AnswersOver}
 
 -- ---- known parts
 
@@ -40,8 +44,14 @@ with-term asked known = record { is_library = asked.is_library; ready = asked.re
 known-as : {ready : Library → Type 0} {library : Library} {t u : NamedTerm} → IsAsked ready library t → t ≡ u → is_known library.recorder.theory u ≡ true
 known-as {library} asked is = subst (λ (u : NamedTerm). is_known library.recorder.theory u ≡ true) is asked.known
 
+pub known-function : {ready : Library → Type 0} {library : Library} {t f x : NamedTerm} → IsAsked ready library t → t ≡ combination f x → is_known library.recorder.theory f ≡ true
+known-function {library} {f} {x} asked is = (known-halves library.recorder.theory f x (known-as asked is)).0
+
+pub known-argument : {ready : Library → Type 0} {library : Library} {t f x : NamedTerm} → IsAsked ready library t → t ≡ combination f x → is_known library.recorder.theory x ≡ true
+known-argument {library} {f} {x} asked is = (known-halves library.recorder.theory f x (known-as asked is)).1
+
 pub of-argument : {ready : Library → Type 0} {library : Library} {t f x : NamedTerm} → IsAsked ready library t → t ≡ combination f x → IsAsked ready library x
-of-argument {library} {f} {x} asked is = with-term asked (known-halves library.recorder.theory f x (known-as asked is)).1
+of-argument asked is = with-term asked (known-argument asked is)
 
 -- ---- after calls
 
@@ -60,6 +70,31 @@ continued-twice {first} {second} {third} before after = record {
 pub makes-after : {first second third : Library} {result : Result Recorded Fault} → IsContinued first second → Makes second third result → Makes first third result
 makes-after before makes = record { library = makes.library; continued = continued-twice before makes.continued; made = makes.made }
 
+pub answers-after : {first second third : Library} {t : NamedTerm} {result : Result Converted Fault} → IsContinued first second → MakesAnswer second third t result → MakesAnswer first third t result
+answers-after before makes = record { library = makes.library; continued = continued-twice before makes.continued; made = makes.made }
+
+-- what was answered stays an answer
+pub still-answers : {old new : Library} (t : NamedTerm) (answer : Converted) → IsContinued old new → IsAnswerOf old t answer → IsAnswerOf new t answer
+still-answers t Same continued is = is
+still-answers {old} {new} t (Changed made) continued is = journals-grow.stays old.recorder new.recorder made continued.grown is
+
+pub held-answer : (library : Library) (t : NamedTerm) (result : Result Converted Fault) → IfOk result (IsAnswerOf library t) → IfOk result (IsHeldIn library)
+held-answer library t (Ok Same) is = tt
+held-answer library t (Ok (Changed made)) is = is
+held-answer library t (Err fault) is = tt
+
+pub side-later : {old new : Library} {right : NamedTerm} (t : NamedTerm) (answer : Converted) → IsContinued old new → IsRightSide (theorem_of old.recorder.theory t answer) right
+    → IsRightSide (theorem_of new.recorder.theory t answer) right
+side-later {right} t answer continued side = subst (λ (theory : Theory). IsRightSide (theorem_of theory t answer) right) (sym continued.theory) side
+
+pub side-before : {old new : Library} {right : NamedTerm} (t : NamedTerm) (answer : Converted) → IsContinued old new → IsRightSide (theorem_of new.recorder.theory t answer) right
+    → IsRightSide (theorem_of old.recorder.theory t answer) right
+side-before {right} t answer continued side = subst (λ (theory : Theory). IsRightSide (theorem_of theory t answer) right) continued.theory side
+
+pub equation-later : {old new : Library} (t : NamedTerm) (answer : Converted) → IsContinued old new → IsSome (dest_equation (theorem_of old.recorder.theory t answer).conclusion)
+    → IsSome (dest_equation (theorem_of new.recorder.theory t answer).conclusion)
+equation-later t answer continued is = subst (λ (theory : Theory). IsSome (dest_equation (theorem_of theory t answer).conclusion)) (sym continued.theory) is
+
 -- of a term that is known now
 pub asks-now : {ready : Library → Type 0} {old new : Library} {t : NamedTerm} (u : NamedTerm) → ((before after : Library) → IsContinued before after → ready before → ready after) → IsAsked ready old t
     → IsContinued old new → IsLibrary new → is_known new.recorder.theory u ≡ true → IsAsked ready new u
@@ -76,3 +111,9 @@ pub carried : {old new : Library} {hosts : HostConversions} {depth steps left : 
 carried {old} {new} {hosts} {depth} {steps} {left} {c} {t} {answer} continued r =
     subst (λ (theory : Theory). Converts theory (store_in old) hosts depth steps c t answer left) continued.theory
     (subst (λ (store : Store). Converts new.recorder.theory (theorems_in (stored_of store)) hosts depth steps c t answer left) continued.stored r)
+
+pub carried-answer : {old new : Library} {hosts : HostConversions} {depth steps left : ℕ} {c : Conversion} {t : NamedTerm} (result : Result Converted Fault) → IsContinued old new
+    → AnswersOver new hosts depth steps c t result left → AnswersOver old hosts depth steps c t result left
+carried-answer {old} {new} {hosts} {depth} {steps} {left} {c} {t} result continued r =
+    subst (λ (theory : Theory). Converts theory (store_in old) hosts depth steps c t (answered theory t result) left) continued.theory
+    (subst (λ (store : Store). Converts new.recorder.theory (theorems_in (stored_of store)) hosts depth steps c t (answered new.recorder.theory t result) left) continued.stored r)

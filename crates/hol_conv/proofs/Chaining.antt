@@ -1,23 +1,27 @@
 -- Theorems joined from the right, and ALL_CONV.
-use Rattle.std.proofs.Common.{◌≡◌, ℕ, suc, ◌<◌, List, [], ◌∷◌, ◌++◌, length, inl, inr, sym, ap, ◌∙◌, subst, arith, Bool, true, Result, Ok, Err}
+use Rattle.std.proofs.Common.{◌≡◌, ℕ, suc, List, [], ◌∷◌, ◌++◌, length, append-nil, inl, inr, refl, sym, ap, ◌∙◌, subst, if◌then◌else◌, Bool, true, false, Result, Ok, Err, IfOk}
 use Rattle.std.specs.List.{All}
-use Rattle.std.proofs.lemmas.List.{map-append, length-append}
+use Rattle.std.proofs.lemmas.List.{map-append}
 use Rattle.std.proofs.lemmas.List.Elements.{All-weaker, All-push}
 use Rattle.hol_model.specs.declared.fault.Fault.{Fault}
-use Rattle.hol_model.specs.declared.fault.Fault.TheVariants.{StepLimit}
-use Rattle.hol_model.specs.Terms.NamedTerm.{NamedTerm}
+use Rattle.hol_model.specs.declared.fault.Fault.TheVariants.{Memory, StepLimit}
+use Rattle.hol_model.specs.Terms.NamedTerm.{NamedTerm, equation, is_within_limits}
 use Rattle.hol_model.specs.Logic.Theory.{Theory}
 use Rattle.hol_model.specs.Logic.KnownTerm.{is_known}
 use Rattle.hol_model.specs.Kernel.Theorem.{Theorem}
 use Rattle.hol_model.specs.Kernel.Rules.{refl_outcome, trans_outcome}
 use Rattle.hol_model.specs.Refining.Conversions.{is_caught}
 use Rattle.hol_laws_refiners.proofs.Repeating.{onto, joined_from, joined-last, joined-err}
-use Rattle.hol_journal.specs.Journal.{Recorded, IsMade}
+use Rattle.hol_journal.specs.Journal.{Recorded, IsMade, theorem_in}
 use Rattle.hol_journal.proofs.GrowthLemmas.{journals-grow}
 use Rattle.hol_theorem_library.specs.Library.{IsContinued}
 use Rattle.hol_theorem_library.specs.declared.library.Library.{Library}
 use Rattle.hol_conv_rules.specs.Makes.{Joins, IsRightSide}
-use Rattle.hol_conv.specs.Chains.{theorems, Reflects, without_step, by_refl, Finishes, FinishesBy, IsExtended, IsChain}
+use Rattle.hol_conv_rules.specs.declared.converted.Converted.{Converted}
+use Rattle.hol_conv_rules.specs.declared.converted.Converted.TheVariants.{Changed}
+use Rattle.hol_conv_rules.specs.Converted.{same_theorem, theorem_of, answered, changed_by}
+use Rattle.hol_conv_rules.proofs.Same.{roomy-refl, roomless-refl, same-joined, same-side}
+use Rattle.hol_conv.specs.Chains.{theorems, proved_by, Reflects, without_step, by_refl, Finishes, FinishesBy, IsExtended, IsChain, IsChainFrom, BeginsAt, Settles}
 use Rattle.hol_conv.specs.declared.chain.Chain.{Chain}
 
 -- ---- ALL_CONV
@@ -74,8 +78,177 @@ pub made-later : {old new : Library} (all : List Recorded) → IsContinued old n
 made-later {old} {new} all continued made =
     All-weaker (IsMade old.recorder) (IsMade new.recorder) (λ (one : Recorded) (is : IsMade old.recorder one). journals-grow.stays old.recorder new.recorder one continued.grown is) all made
 
-pub chain-later : {old new : Library} {chain : Chain} → IsContinued old new → IsChain old chain → IsChain new chain
-chain-later {chain} continued is = record {
+chain-still : {old new : Library} {chain : Chain} → IsContinued old new → IsChain old chain → IsChain new chain
+chain-still {chain} continued is = record {
   made = made-later chain.theorems.items continued is.made;
   known = subst (λ (theory : Theory). is_known theory chain.current ≡ true) (sym continued.theory) is.known;
+  roomy = is.roomy;
 }
+
+pub chain-later : {old new : Library} {t : NamedTerm} {chain : Chain} → IsContinued old new → IsChainFrom old t chain → IsChainFrom new t chain
+chain-later continued is = record { held = chain-still continued is.held; begun = is.begun }
+
+-- one more theorem
+pub chain-behind : {old new : Library} (chain after : Chain) (made : Recorded) → IsContinued old new → IsChain old chain → IsMade new.recorder made → after.theorems.items ≡ chain.theorems.items ++ made ∷ []
+    → is_known new.recorder.theory after.current ≡ true → after.is_same ≡ false → IsChain new after
+chain-behind {old} {new} chain after made continued is one items known settled = record {
+  made = subst (λ (all : List Recorded). All (IsMade new.recorder) all) (sym items) (All-push (IsMade new.recorder) chain.theorems.items made (made-later chain.theorems.items continued is.made) one);
+  known = known;
+  roomy = λ same. absurd-test after.is_same settled same;
+}
+  where
+    absurd-test : {A : Type 0} (test : Bool) → test ≡ false → test ≡ true → A
+    absurd-test true a b = cc
+    absurd-test false a b = cc
+
+pub known-there : {old new : Library} (t : NamedTerm) → IsContinued old new → is_known old.recorder.theory t ≡ true → is_known new.recorder.theory t ≡ true
+known-there t continued known = subst (λ (theory : Theory). is_known theory t ≡ true) (sym continued.theory) known
+
+-- what is joined, as an answer
+as-made : (theory : Theory) (t : NamedTerm) (made : Result Recorded Fault) → answered theory t (changed_by made) ≡ theorem_in made
+as-made theory t (Ok made) = refl
+as-made theory t (Err fault) = refl
+
+pub joined-answer : {old new : Library} (t : NamedTerm) (items : List Recorded) (last : Theorem) (made : Result Recorded Fault) (result : Result Converted Fault) → IsContinued old new
+    → Joins (joined_from new.recorder.theory (theorems items) (Ok last)) (theorem_in made) → result ≡ changed_by made
+    → Joins (joined_from old.recorder.theory (theorems items) (Ok last)) (answered old.recorder.theory t result)
+joined-answer {old} t items last made result continued joins is =
+    let joins = subst (λ (theory : Theory). Joins (joined_from theory (theorems items) (Ok last)) (theorem_in made)) continued.theory joins in
+    subst (λ (answer : Result Theorem Fault). Joins (joined_from old.recorder.theory (theorems items) (Ok last)) answer)
+    (sym (ap (answered old.recorder.theory t) is ∙ as-made old.recorder.theory t made)) joins
+
+-- ---- that the current term equals itself
+
+-- ALL_CONV behind it adds nothing
+collapses : (theory : Theory) {steps left : ℕ} (t : NamedTerm) (answer : Result Theorem Fault) → is_known theory t ≡ true → Reflects theory t steps answer left
+    → onto theory (same_theorem theory t) answer ≡ answer
+collapses theory t answer known without_step = refl
+collapses theory t answer known (by_refl (inl is)) = subst (λ (a : Result Theorem Fault). onto theory (same_theorem theory t) a ≡ a) (sym is) (go (is_within_limits (equation t t)) refl)
+  where
+    go : (fits : Bool) → is_within_limits (equation t t) ≡ fits → onto theory (same_theorem theory t) (refl_outcome theory t) ≡ refl_outcome theory t
+    go true fits = subst (λ (a : Result Theorem Fault). onto theory (same_theorem theory t) a ≡ a) (sym (roomy-refl theory t known fits)) (same-joined theory t fits)
+    go false fits = subst (λ (a : Result Theorem Fault). onto theory (same_theorem theory t) a ≡ a) (sym (roomless-refl theory t known fits)) refl
+collapses theory t answer known (by_refl (inr is)) = subst (λ (a : Result Theorem Fault). onto theory (same_theorem theory t) a ≡ a) (sym is) refl
+
+proved-joins : (theory : Theory) {steps left : ℕ} (chain : Chain) (answer : Result Theorem Fault) → is_known theory chain.current ≡ true → Reflects theory chain.current steps answer left
+    → joined_from theory (proved_by theory chain) answer ≡ joined_from theory (theorems chain.theorems.items) answer
+proved-joins theory chain answer known reflects = go chain.is_same
+  where
+    go : (is_same : Bool) → joined_from theory (theorems chain.theorems.items ++ (if is_same then same_theorem theory chain.current ∷ [] else [])) answer
+        ≡ joined_from theory (theorems chain.theorems.items) answer
+    go true =
+        joined-last theory (theorems chain.theorems.items) (same_theorem theory chain.current) answer
+        ∙ ap (joined_from theory (theorems chain.theorems.items)) (collapses theory chain.current answer known reflects)
+    go false = ap (λ (all : List Theorem). joined_from theory all answer) (append-nil (theorems chain.theorems.items))
+
+pub no-theorems : (items : List Recorded) → length items ≡ 0 → items ≡ []
+no-theorems [] is = refl
+no-theorems (made ∷ items) is = cc
+
+-- a chain without theorems ends so
+pub ends-empty : {theory : Theory} (chain : Chain) {t : NamedTerm} (fault : Fault) {steps left : ℕ} (answer : Result Theorem Fault) → is_caught fault ≡ true → chain.theorems.items ≡ []
+    → chain.current ≡ t → is_known theory chain.current ≡ true → Reflects theory t steps answer left → Finishes theory (proved_by theory chain) chain.current fault steps answer left
+ends-empty {theory} chain {t} fault {steps} {left} answer caught empty begun known reflects =
+    let here : Reflects theory chain.current steps answer left = subst (λ (u : NamedTerm). Reflects theory u steps answer left) (sym begun) reflects in
+    ends-caught (proved_by theory chain) fault answer caught here
+    (inl (sym (proved-joins theory chain answer known here ∙ ap (λ (items : List Recorded). joined_from theory (theorems items) answer) empty)))
+
+-- and one with theorems by REFL
+pub ends-joined : {theory : Theory} (chain : Chain) (fault : Fault) {steps left : ℕ} (same : Result Theorem Fault) (last : Theorem) {answer : Result Theorem Fault} → is_caught fault ≡ true
+    → is_known theory chain.current ≡ true → Reflects theory chain.current steps same left → Joins same (Ok last)
+    → Joins (joined_from theory (theorems chain.theorems.items) (Ok last)) answer → Finishes theory (proved_by theory chain) chain.current fault steps answer left
+ends-joined {theory} chain fault same last caught known reflects (inl is) joins =
+    ends-caught (proved_by theory chain) fault same caught reflects
+    (joins-as (proved-joins theory chain same known reflects ∙ ap (joined_from theory (theorems chain.theorems.items)) (sym is)) joins)
+ends-joined chain fault same last caught known reflects (inr is) joins = no-theorem (sym is)
+
+pub ends-unmade : {theory : Theory} (chain : Chain) (fault : Fault) {steps left : ℕ} (same : Result Theorem Fault) (next : Fault) → is_caught fault ≡ true
+    → Reflects theory chain.current steps same left → Joins same (Err next) → Finishes theory (proved_by theory chain) chain.current fault steps (Err next) left
+ends-unmade {theory} chain fault same next caught reflects (inl is) =
+    ends-caught (proved_by theory chain) fault same caught reflects
+    (inl (sym (ap (joined_from theory (proved_by theory chain)) (sym is) ∙ joined-err theory (proved_by theory chain) next)))
+ends-unmade {theory} chain fault same next caught reflects (inr is) = ends-caught (proved_by theory chain) fault same caught reflects (inr is)
+
+same-fault : {a b : Fault} → ◌≡◌ {A = Result Theorem Fault} (Err a) (Err b) → a ≡ b
+same-fault is = cc
+
+-- REFL of a known term that has room finds no memory, or answers
+pub refl-starves : (theory : Theory) (t : NamedTerm) {fault : Fault} → is_known theory t ≡ true → is_within_limits (equation t t) ≡ true → Joins (refl_outcome theory t) (Err fault) → fault ≡ Memory
+refl-starves theory t known fits (inl is) = no-theorem (is ∙ roomy-refl theory t known fits)
+refl-starves theory t known fits (inr is) = same-fault is
+
+-- ---- chains that are extended
+
+no-items : {A : Type 0} (items : List Recorded) (made : Recorded) → items ++ made ∷ [] ≡ [] → A
+no-items [] made is = cc
+no-items (first ∷ items) made is = cc
+
+pub begins-behind : (chain : Chain) (items : List Recorded) (made : Recorded) (t : NamedTerm) → chain.theorems.items ≡ items ++ made ∷ [] → BeginsAt t chain
+begins-behind chain items made t is empty = no-items items made (sym is ∙ empty)
+
+one-more : (items : List Recorded) (made : Recorded) → theorems (items ++ made ∷ []) ≡ theorems items ++ made.theorem ∷ []
+one-more items made = map-append (λ (made : Recorded). made.theorem) items (made ∷ [])
+
+as-proved : (theory : Theory) (chain : Chain) → chain.is_same ≡ false → proved_by theory chain ≡ theorems chain.theorems.items
+as-proved theory chain is =
+    ap (λ (is_same : Bool). theorems chain.theorems.items ++ (if is_same then same_theorem theory chain.current ∷ [] else [])) is ∙ append-nil (theorems chain.theorems.items)
+
+as-marked : (theory : Theory) (chain : Chain) → chain.is_same ≡ true → proved_by theory chain ≡ theorems chain.theorems.items ++ same_theorem theory chain.current ∷ []
+as-marked theory chain is = ap (λ (is_same : Bool). theorems chain.theorems.items ++ (if is_same then same_theorem theory chain.current ∷ [] else [])) is
+
+pub settles-itself : (theory : Theory) (chain : Chain) → chain.is_same ≡ false → Settles theory chain chain
+settles-itself theory chain is = record { proved = sym (as-proved theory chain is); current = refl; is_same = is; begun = λ t begun. begun }
+
+the-theorem : {a b : Theorem} → ◌≡◌ {A = Result Theorem Fault} (Ok a) (Ok b) → a ≡ b
+the-theorem is = cc
+
+pub settles-made : (theory : Theory) (old new : Chain) (made : Recorded) → old.is_same ≡ true → is_known theory old.current ≡ true → is_within_limits (equation old.current old.current) ≡ true
+    → Joins (refl_outcome theory old.current) (Ok made.theorem) → new.theorems.items ≡ old.theorems.items ++ made ∷ [] → new.current ≡ old.current → new.is_same ≡ false → Settles theory old new
+settles-made theory old new made same known fits (inl is) items current settled = record {
+  proved =
+      ap theorems items ∙ one-more old.theorems.items made
+      ∙ ap (λ (theorem : Theorem). theorems old.theorems.items ++ theorem ∷ []) (the-theorem (is ∙ roomy-refl theory old.current known fits)) ∙ sym (as-marked theory old same);
+  current = current;
+  is_same = settled;
+  begun = λ t begun. begins-behind new old.theorems.items made t items;
+}
+settles-made theory old new made same known fits (inr is) items current settled = no-theorem (sym is)
+
+pub extends-made : (theory : Theory) (old new : Chain) (made : Recorded) → old.is_same ≡ false → new.is_same ≡ false → new.theorems.items ≡ old.theorems.items ++ made ∷ []
+    → IsRightSide made.theorem new.current → IsExtended theory (proved_by theory old) made.theorem new
+extends-made theory old new made settled after items side = record {
+  proved =
+      as-proved theory new after ∙ ap theorems items ∙ one-more old.theorems.items made
+      ∙ ap (λ (all : List Theorem). all ++ made.theorem ∷ []) (sym (as-proved theory old settled));
+  right = side;
+}
+
+pub extends-same : (theory : Theory) (old mid new : Chain) → Settles theory old mid → new.theorems.items ≡ mid.theorems.items → new.current ≡ mid.current → new.is_same ≡ true
+    → IsExtended theory (proved_by theory old) (same_theorem theory old.current) new
+extends-same theory old mid new settles items current marked = record {
+  proved =
+      as-marked theory new marked ∙ ap (λ (items : List Recorded). theorems items ++ same_theorem theory new.current ∷ []) items
+      ∙ ap (λ (all : List Theorem). all ++ same_theorem theory new.current ∷ []) settles.proved
+      ∙ ap (λ (u : NamedTerm). proved_by theory old ++ same_theorem theory u ∷ []) (current ∙ settles.current);
+  right = subst (λ (u : NamedTerm). IsRightSide (same_theorem theory old.current) u) (sym (current ∙ settles.current)) (same-side theory old.current);
+}
+
+-- behind a chain that was settled
+pub extends-settled : (theory : Theory) (old mid new : Chain) (made : Theorem) → Settles theory old mid → IsExtended theory (proved_by theory mid) made new
+    → IsExtended theory (proved_by theory old) made new
+extends-settled theory old mid new made settles extends = record {
+  proved = extends.proved ∙ ap (λ (all : List Theorem). all ++ made ∷ []) (as-proved theory mid settles.is_same ∙ settles.proved);
+  right = extends.right;
+}
+
+-- the same over what a call answers
+pub extends-by : (theory : Theory) (old mid : Chain) (made : Recorded) (answer : Converted) (result : Result Chain Fault) → Settles theory old mid → answer ≡ Changed made
+    → IfOk result (IsExtended theory (proved_by theory mid) made.theorem) → IfOk result (IsExtended theory (proved_by theory old) (theorem_of theory old.current answer))
+extends-by theory old mid made answer (Ok new) settles is extends =
+    subst (λ (answer : Converted). IsExtended theory (proved_by theory old) (theorem_of theory old.current answer) new) (sym is)
+    (extends-settled theory old mid new made.theorem settles extends)
+extends-by theory old mid made answer (Err fault) settles is extends = tt
+
+pub begins-by : (old : Chain) (result : Result Chain Fault) → IfOk result (λ new. (t : NamedTerm) → BeginsAt t new) → IfOk result (λ new. (t : NamedTerm) → BeginsAt t old → BeginsAt t new)
+begins-by old (Ok new) begins = λ t begun. begins t
+begins-by old (Err fault) begins = tt

@@ -14,9 +14,10 @@ use Rattle.hol_model.specs.Refining.Conversions.{Conversion, one_more, all_conv,
 use Rattle.hol_laws_refiners.proofs.Costs.{converts-costs}
 use Rattle.hol_laws_refiners.proofs.Spending.{converts-spends}
 use Rattle.hol_laws_refiners.proofs.Repeating.{IsFinal, JoinedSoFar, joined_tried, joined_next, joined_end, joined_stop, joined_starves}
-use Rattle.hol_journal.specs.Journal.{Recorded, theorem_in}
 use Rattle.hol_conv_rules.specs.Makes.{Joins}
-use Rattle.hol_conv.specs.Chains.{Reflects, without_step, by_refl, FinishesBy, Links, theorems}
+use Rattle.hol_conv_rules.specs.declared.converted.Converted.{Converted}
+use Rattle.hol_conv_rules.specs.Converted.{answered}
+use Rattle.hol_conv.specs.Chains.{Reflects, without_step, by_refl, FinishesBy, Links, proved_by}
 use Rattle.hol_conv.specs.declared.chain.Chain.{Chain}
 use Rattle.hol_conv.specs.declared.chain.Linked.TheVariants.{GoesOn, Ends}
 use Rattle.hol_conv.proofs.Answering.{reflects-all}
@@ -51,12 +52,12 @@ module _ (theory : Theory) (store : Store) (hosts : HostConversions) (depth : �
   -- one more theorem
   pub links-on : {first steps mid left : ℕ} {whole c d : Conversion} {t current : NamedTerm} {proved : List Theorem} (made : Result Theorem Fault) (chain : Chain)
       → JoinedSoFar theory store hosts depth first whole t steps (thenc c (one_more d)) proved current → Converts theory store hosts depth steps c current made mid
-      → Links theory proved current made mid (GoesOn chain) left
-      → JoinedSoFar theory store hosts depth first whole t left d (theorems chain.theorems.items) chain.current
+      → Links theory proved t current made mid (GoesOn chain) left
+      → JoinedSoFar theory store hosts depth first whole t left d (proved_by theory chain) chain.current
   links-on {first} {mid} {whole} {d} {t} (Ok theorem) chain so_far r is =
       let next = joined_next theory store hosts depth so_far r is.0.right.is in
-      subst (λ (n : ℕ). JoinedSoFar theory store hosts depth first whole t n d (theorems chain.theorems.items) chain.current) (sym is.1)
-      (subst (λ (all : List Theorem). JoinedSoFar theory store hosts depth first whole t mid d all chain.current) (sym is.0.theorems) next)
+      subst (λ (n : ℕ). JoinedSoFar theory store hosts depth first whole t n d (proved_by theory chain) chain.current) (sym is.1)
+      (subst (λ (all : List Theorem). JoinedSoFar theory store hosts depth first whole t mid d all chain.current) (sym is.0.proved) next)
   links-on (Err fault) chain so_far r is = absurd is
 
   unless-starved : {first left : ℕ} {whole : Conversion} {t : NamedTerm} {outcome answer : Result Theorem Fault} → Joins outcome answer → AnswersLast first whole t outcome left
@@ -79,29 +80,29 @@ module _ (theory : Theory) (store : Store) (hosts : HostConversions) (depth : �
       unless-starved is.joins (joined_end theory store hosts depth is.same so_far r caught s (reflects-final known is.reflects))
       (joined_starves theory store hosts depth so_far (no-more (converts-spends theory store hosts s) (converts-spends theory store hosts r)))
 
-  starved : {first steps mid left : ℕ} {whole c d : Conversion} {t current : NamedTerm} {proved : List Theorem} {answer : Result Theorem Fault} (result : Result Recorded Fault)
+  starved : {first steps mid left : ℕ} {whole c d : Conversion} {t current : NamedTerm} {proved : List Theorem} {answer : Result Theorem Fault} (result : Result Converted Fault)
       → JoinedSoFar theory store hosts depth first whole t steps c proved current → Converts theory store hosts depth steps d current answer mid
-      → (result ≡ Err Memory) × (left ≡ mid) → AnswersLast first whole t (theorem_in result) left
+      → (result ≡ Err Memory) × (left ≡ mid) → AnswersLast first whole t (answered theory t result) left
   starved {first} {steps} {mid} {whole} {t} result so_far r is =
       let le : mid ≤ steps = converts-spends theory store hosts r in
       let ends = joined_starves theory store hosts depth so_far le in
-      answers-as (ap theorem_in is.0) (subst (λ (n : ℕ). Converts theory store hosts depth first whole t (Err Memory) n) (sym is.1) ends, refl)
+      answers-as (ap (answered theory t) is.0) (subst (λ (n : ℕ). Converts theory store hosts depth first whole t (Err Memory) n) (sym is.1) ends, refl)
 
   -- what is tried ends the chain
-  pub links-end : {first steps mid left : ℕ} {whole c d : Conversion} {t current : NamedTerm} {proved : List Theorem} (made : Result Theorem Fault) (result : Result Recorded Fault)
+  pub links-end : {first steps mid left : ℕ} {whole c d : Conversion} {t current : NamedTerm} {proved : List Theorem} (made : Result Theorem Fault) (result : Result Converted Fault)
       → is_known theory current ≡ true → JoinedSoFar theory store hosts depth first whole t steps (orelsec (thenc c (one_more d)) (one_more all_conv)) proved current
-      → Converts theory store hosts depth steps c current made mid → Links theory proved current made mid (Ends result) left
-      → Converts theory store hosts depth first whole t (theorem_in result) left × IsFinal (theorem_in result)
+      → Converts theory store hosts depth steps c current made mid → Links theory proved t current made mid (Ends result) left
+      → Converts theory store hosts depth first whole t (answered theory t result) left × IsFinal (answered theory t result)
   links-end (Ok theorem) result known so_far r is = starved result so_far r is
   links-end (Err fault) result known so_far r is = finished (is_caught fault) refl known so_far (first_is_refused r) is
 
   -- what is not tried, and is refused only so that it is not caught
-  pub links-stop : {first steps mid left : ℕ} {whole c d : Conversion} {t current : NamedTerm} {proved : List Theorem} (made : Result Theorem Fault) (result : Result Recorded Fault)
+  pub links-stop : {first steps mid left : ℕ} {whole c d : Conversion} {t current : NamedTerm} {proved : List Theorem} (made : Result Theorem Fault) (result : Result Converted Fault)
       → JoinedSoFar theory store hosts depth first whole t steps (thenc c (one_more d)) proved current → Converts theory store hosts depth steps c current made mid → IsFinal made
-      → Links theory proved current made mid (Ends result) left → Converts theory store hosts depth first whole t (theorem_in result) left × IsFinal (theorem_in result)
+      → Links theory proved t current made mid (Ends result) left → Converts theory store hosts depth first whole t (answered theory t result) left × IsFinal (answered theory t result)
   links-stop (Ok theorem) result so_far r final is = starved result so_far r is
   links-stop {first} {mid} {left} {whole} {t} {current} {proved} (Err fault) result so_far r final is =
-      let stays = subst (λ (caught : Bool). FinishesBy caught theory proved current fault mid (theorem_in result) left) final is in
+      let stays = subst (λ (caught : Bool). FinishesBy caught theory proved current fault mid (answered theory t result) left) final is in
       let stopped = joined_stop theory store hosts depth so_far (first_is_refused r) final in
       answers-as stays.0 (subst (λ (n : ℕ). Converts theory store hosts depth first whole t (Err fault) n) (sym stays.1) stopped, final)
 

@@ -8,6 +8,8 @@ use Rattle.hol_model.specs.Refining.Conversions.{Conversion, Converts}
 use Rattle.hol_journal.specs.Journal.{Recorded, theorem_in}
 use Rattle.hol_theorem_library.specs.Library.{IsLibrary, store_in}
 use Rattle.hol_theorem_library.specs.declared.library.Library.{Library}
+use Rattle.hol_conv_rules.specs.declared.converted.Converted.{Converted}
+use Rattle.hol_conv_rules.specs.Converted.{answered}
 
 -- a term that the library's theory knows, and leaves that are ready for the library
 pub record IsAsked (IsReady : Library → Type 0) (library : Library) (t : NamedTerm) : Type 0 where
@@ -19,3 +21,8 @@ pub record IsAsked (IsReady : Library → Type 0) (library : Library) (t : Named
 abbrev pub ConvertsOver : Library → HostConversions → ℕ → ℕ → Conversion → NamedTerm → Result Recorded Fault → ℕ → Type 0
 ConvertsOver library hosts depth steps conversion t result left =
     Converts library.recorder.theory (store_in library) hosts depth steps conversion t (theorem_in result) left
+
+-- the same of an answer that may be that nothing changes
+abbrev pub AnswersOver : Library → HostConversions → ℕ → ℕ → Conversion → NamedTerm → Result Converted Fault → ℕ → Type 0
+AnswersOver library hosts depth steps conversion t result left =
+    Converts library.recorder.theory (store_in library) hosts depth steps conversion t (answered library.recorder.theory t result) left

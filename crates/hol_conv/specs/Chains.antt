@@ -1,18 +1,19 @@
 -- Theorems that are joined by TRANS: each of the right side of the one before.
-use Rattle.std.specs.Prelude.{◌≡◌, ℕ, suc, List, [], ◌∷◌, ◌++◌, map, Bool, true, false, Result, Ok, Err, IfOk}
+use Rattle.std.specs.Prelude.{◌≡◌, ℕ, suc, List, [], ◌∷◌, ◌++◌, map, if◌then◌else◌, Bool, true, false, Result, Ok, Err, IfOk}
 use Rattle.std.specs.List.{All}
 use Rattle.hol_model.specs.declared.fault.Fault.{Fault}
 use Rattle.hol_model.specs.declared.fault.Fault.TheVariants.{Memory, StepLimit}
-use Rattle.hol_model.specs.Terms.NamedTerm.{NamedTerm}
+use Rattle.hol_model.specs.Terms.NamedTerm.{NamedTerm, equation, is_within_limits}
 use Rattle.hol_model.specs.Logic.Theory.{Theory}
 use Rattle.hol_model.specs.Logic.KnownTerm.{is_known}
 use Rattle.hol_model.specs.Kernel.Theorem.{Theorem}
 use Rattle.hol_model.specs.Kernel.Rules.{refl_outcome}
 use Rattle.hol_model.specs.Refining.Conversions.{is_caught}
 use Rattle.hol_laws_refiners.proofs.Repeating.{joined_from}
-use Rattle.hol_journal.specs.Journal.{Recorded, IsMade, theorem_in}
+use Rattle.hol_journal.specs.Journal.{Recorded, IsMade}
 use Rattle.hol_theorem_library.specs.declared.library.Library.{Library}
 use Rattle.hol_conv_rules.specs.Makes.{Joins, IsRightSide}
+use Rattle.hol_conv_rules.specs.Converted.{same_theorem, answered, IsAnswerOf}
 use Rattle.hol_conv.specs.declared.chain.Chain.{Chain}
 use Rattle.hol_conv.specs.declared.chain.Linked.{Linked}
 use Rattle.hol_conv.specs.declared.chain.Linked.TheVariants.{GoesOn, Ends}
@@ -20,10 +21,30 @@ use Rattle.hol_conv.specs.declared.chain.Linked.TheVariants.{GoesOn, Ends}
 abbrev pub theorems : List Recorded → List Theorem
 theorems all = map (λ made. made.theorem) all
 
--- the recorder made the theorems, and its theory knows the term
+-- the theorems, and that the current term equals itself where that stands behind them
+abbrev pub proved_by : Theory → Chain → List Theorem
+proved_by theory chain = theorems chain.theorems.items ++ (if chain.is_same then same_theorem theory chain.current ∷ [] else [])
+
+-- the recorder made the theorems, its theory knows the current term, and there is room for that it equals itself
 pub record IsChain (library : Library) (chain : Chain) : Type 0 where
   pub made : All (IsMade library.recorder) chain.theorems.items
   pub known : is_known library.recorder.theory chain.current ≡ true
+  pub roomy : chain.is_same ≡ true → is_within_limits (equation chain.current chain.current) ≡ true
+
+-- where there are no theorems yet, the current term is the first
+abbrev pub BeginsAt : NamedTerm → Chain → Type 0
+BeginsAt t chain = chain.theorems.items ≡ [] → chain.current ≡ t
+
+pub record IsChainFrom (library : Library) (t : NamedTerm) (chain : Chain) : Type 0 where
+  pub held : IsChain library chain
+  pub begun : BeginsAt t chain
+
+-- the same theorems, and each of them is made
+pub record Settles (theory : Theory) (old new : Chain) : Type 0 where
+  pub proved : theorems new.theorems.items ≡ proved_by theory old
+  pub current : new.current ≡ old.current
+  pub is_same : new.is_same ≡ false
+  pub begun : (t : NamedTerm) → BeginsAt t old → BeginsAt t new
 
 -- ALL_CONV: a step, and REFL
 pub data Reflects (theory : Theory) (t : NamedTerm) : ℕ → Result Theorem Fault → ℕ → Type 0 where
@@ -50,18 +71,18 @@ Tries theory t (Ok theorem) steps answer left = (answer ≡ Ok theorem) × (left
 Tries theory t (Err fault) steps answer left = Finishes theory [] t fault steps answer left
 
 -- one more theorem, and its right side
-pub record IsExtended (proved : List Theorem) (made : Theorem) (chain : Chain) : Type 0 where
-  pub theorems : theorems chain.theorems.items ≡ proved ++ made ∷ []
+pub record IsExtended (theory : Theory) (before : List Theorem) (made : Theorem) (chain : Chain) : Type 0 where
+  pub proved : proved_by theory chain ≡ before ++ made ∷ []
   pub right : IsRightSide made chain.current
 
--- an answer on the current term is put behind the theorems, or is a refusal that ends the chain
-abbrev pub Links : Theory → List Theorem → NamedTerm → Result Theorem Fault → ℕ → Linked → ℕ → Type 0
-Links theory proved t (Ok made) steps (GoesOn chain) left = IsExtended proved made chain × (left ≡ steps)
-Links theory proved t (Ok made) steps (Ends result) left = (result ≡ Err Memory) × (left ≡ steps)
-Links theory proved t (Err fault) steps (GoesOn chain) left = ⊥
-Links theory proved t (Err fault) steps (Ends result) left = Finishes theory proved t fault steps (theorem_in result) left
+-- an answer on the current term is put behind the theorems, or is a refusal that ends the chain from a term
+abbrev pub Links : Theory → List Theorem → NamedTerm → NamedTerm → Result Theorem Fault → ℕ → Linked → ℕ → Type 0
+Links theory proved t current (Ok made) steps (GoesOn chain) left = IsExtended theory proved made chain × (left ≡ steps)
+Links theory proved t current (Ok made) steps (Ends result) left = (result ≡ Err Memory) × (left ≡ steps)
+Links theory proved t current (Err fault) steps (GoesOn chain) left = ⊥
+Links theory proved t current (Err fault) steps (Ends result) left = Finishes theory proved current fault steps (answered theory t result) left
 
 -- what is left of a library
-abbrev pub LinksMade : Library → Linked → Type 0
-LinksMade library (GoesOn chain) = IsChain library chain
-LinksMade library (Ends result) = IfOk result (IsMade library.recorder)
+abbrev pub LinksMade : Library → NamedTerm → Linked → Type 0
+LinksMade library t (GoesOn chain) = IsChainFrom library t chain
+LinksMade library t (Ends result) = IfOk result (IsAnswerOf library t)

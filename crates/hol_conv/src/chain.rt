@@ -1,16 +1,25 @@
-// Theorems that are joined by TRANS: each of the right side of the one before.
-ghost use Rattle.std.specs.Prelude.{◌≡◌, [], Ok, IfOk, IfErr, IsSome};
+// Theorems that are joined by TRANS: each of the right side of the one before. That a term equals itself is not made where it
+// changes no answer.
+ghost use Rattle.std.specs.Prelude.{◌≡◌, [], true, false, Ok, IfOk, IfErr, IsSome};
+ghost use Rattle.std.specs.List.{All};
 ghost use Rattle.hol_model.specs.declared.fault.Fault.TheVariants.{Memory};
+ghost use Rattle.hol_model.specs.Terms.NamedTerm.{NamedTerm};
+ghost use Rattle.hol_model.specs.Logic.Theory.{Theory};
+ghost use Rattle.hol_model.specs.Logic.KnownTerm.{is_known};
 ghost use Rattle.hol_model.specs.Kernel.Rules.{dest_equation};
+ghost use Rattle.hol_model.specs.Refining.Conversions as conversions;
 ghost use Rattle.hol_laws_refiners.proofs.Repeating.{joined_from};
 ghost use Rattle.hol_journal.specs.Journal.{IsMade, theorem_in};
-ghost use Rattle.std.specs.List.{All};
-ghost use Rattle.hol_conv.specs.Chains as chains;
 ghost use Rattle.hol_theorem_library.specs.Library.{IsLibrary, IsContinued};
+ghost use Rattle.hol_theorem_library.specs.declared.library.Library as library;
 ghost use Rattle.hol_conv_rules.specs.Makes.{Makes, Joins};
-ghost use Rattle.hol_conv.specs.Chains.{IsChain, Reflects, Finishes, Tries, Links, LinksMade};
+ghost use Rattle.hol_conv_rules.specs.Converted.{theorem_of, answered, IsAnswerOf, MakesAnswer};
+ghost use Rattle.hol_conv.specs.Chains as chains;
+ghost use Rattle.hol_conv.specs.Chains.{proved_by, IsChain, BeginsAt, IsChainFrom, Settles, Reflects, Finishes, Tries, IsExtended, Links, LinksMade};
 
-use hol_conv_rules::{refl, right_side, trans};
+use hol_conv_rules::{
+    Converted, as_answer, only_changed, refl, right_side, theorem, trans, unchanged,
+};
 use hol_journal::Rec;
 use hol_model::Fault;
 use hol_tactic_exprs::{Fuel, is_caught};
@@ -23,36 +32,36 @@ use std::alloc::Global;
 pub(crate) struct Chain {
     pub(crate) theorems: Vec<Rec>,
     pub(crate) current: Term,
+    /// Whether that the current term equals itself stands behind them, which is not made yet.
+    pub(crate) is_same: bool,
 }
 
 /// The chain without theorems.
 pub(crate) fn begin(alloc: Global, t: &Term) -> Result<Chain, Fault>
-    ensures theorems { IfOk result (λ chain. chain.theorems.items ≡ []) }
+    ensures theorems { IfOk result (λ chain. (theory : Theory) → proved_by theory chain ≡ []) }
     ensures current { IfOk result (λ chain. chain.current ≡ t.now) }
+    ensures begins { (library : library.Library) → is_known library.recorder.theory t.now ≡ true → IfOk result (IsChainFrom library t.now) }
     ensures err { IfErr result (λ fault. fault ≡ Memory) }
 {
     let current = t.copy(alloc)?;
     Ok(Chain {
         theorems: Vec::new(alloc),
         current,
+        is_same: false,
     })
 }
 
-/// ALL_CONV.
-pub(crate) fn same(
-    library: &mut Library,
-    alloc: Global,
-    t: &Term,
-    fuel: &mut Fuel,
-) -> Result<Rec, Fault>
-    requires library { IsLibrary library.old }
-    ensures reflects { Reflects library.old.recorder.theory t.now fuel.old.left (theorem_in result) fuel.new.left }
-    ensures makes { Makes library.old library.new result }
+/// ALL_CONV of a known term: nothing is made.
+pub(crate) fn same(library: &Library, t: &Term, fuel: &mut Fuel) -> Result<Converted, Fault>
+    requires library { IsLibrary library.now }
+    requires known { is_known library.now.recorder.theory t.now ≡ true }
+    ensures reflects { Reflects library.now.recorder.theory t.now fuel.old.left (answered library.now.recorder.theory t.now result) fuel.new.left }
+    ensures makes { MakesAnswer library.now library.now t.now result }
 {
     if !fuel.spend() {
         return Err(Fault::StepLimit);
     }
-    refl(library, alloc, t)
+    unchanged(t)
 }
 
 // The theorems, joined from the right to the last.
@@ -74,50 +83,161 @@ fn joined(library: &mut Library, alloc: Global, theorems: Vec<Rec>, last: Rec) -
     Ok(last)
 }
 
-/// Ends a chain behind a refusal: by ALL_CONV where it is caught.
+/// Ends a chain from a term behind a refusal: by ALL_CONV where it is caught.
 pub(crate) fn finish(
     library: &mut Library,
     alloc: Global,
+    t: &Term,
     chain: Chain,
     fault: Fault,
     fuel: &mut Fuel,
-) -> Result<Rec, Fault>
+) -> Result<Converted, Fault>
     requires library { IsLibrary library.old }
-    requires chain { IsChain library.old chain }
-    ensures finishes { Finishes library.old.recorder.theory (chains.theorems chain.theorems.items) chain.current fault fuel.old.left (theorem_in result) fuel.new.left }
-    ensures makes { Makes library.old library.new result }
+    requires chain { IsChainFrom library.old t.now chain }
+    ensures finishes { Finishes library.old.recorder.theory (proved_by library.old.recorder.theory chain) chain.current fault fuel.old.left
+        (answered library.old.recorder.theory t.now result) fuel.new.left }
+    ensures makes { MakesAnswer library.old library.new t.now result }
 {
     if !is_caught(&fault) {
         return Err(fault);
     }
-    let Chain { theorems, current } = chain;
-    match same(library, alloc, &current, fuel) {
-        Ok(last) => joined(library, alloc, theorems, last),
+    if chain.theorems.is_empty() {
+        return same(library, t, fuel);
+    }
+    let Chain {
+        theorems,
+        current,
+        ..
+    } = chain;
+    let last = same(library, &current, fuel);
+    match theorem(library, alloc, &current, last) {
+        Ok(last) => as_answer(joined(library, alloc, theorems, last)),
         Err(fault) => Err(fault),
     }
 }
 
 /// What was answered on the term, or ALL_CONV where it is a refusal that is caught.
 pub(crate) fn or_same(
-    library: &mut Library,
-    alloc: Global,
+    library: &Library,
     t: &Term,
-    made: Result<Rec, Fault>,
+    answer: Result<Converted, Fault>,
     fuel: &mut Fuel,
-) -> Result<Rec, Fault>
-    requires library { IsLibrary library.old }
-    requires made { IfOk made (IsMade library.old.recorder) }
-    ensures tries { Tries library.old.recorder.theory t.now (theorem_in made) fuel.old.left (theorem_in result) fuel.new.left }
-    ensures makes { Makes library.old library.new result }
+) -> Result<Converted, Fault>
+    requires library { IsLibrary library.now }
+    requires known { is_known library.now.recorder.theory t.now ≡ true }
+    requires answer { IfOk answer (IsAnswerOf library.now t.now) }
+    ensures tries { Tries library.now.recorder.theory t.now (answered library.now.recorder.theory t.now answer) fuel.old.left (answered library.now.recorder.theory t.now result) fuel.new.left }
+    ensures makes { MakesAnswer library.now library.now t.now result }
 {
-    match made {
-        Ok(made) => Ok(made),
+    match answer {
+        Ok(answer) => Ok(answer),
         Err(fault) => {
             if !is_caught(&fault) {
                 return Err(fault);
             }
-            same(library, alloc, t, fuel)
+            same(library, t, fuel)
         }
+    }
+}
+
+/// What was answered on the term, where it is not that it equals itself: CHANGED_CONV.
+pub(crate) fn changed(t: &Term, answer: Result<Converted, Fault>) -> Result<Converted, Fault>
+    ensures same { IfOk result (λ same. answer ≡ Ok same) }
+    ensures changed { (theory : Theory) → answered theory t.now result ≡ conversions.if_changed t.now (answered theory t.now answer) }
+{
+    match answer {
+        Ok(answer) => only_changed(t, answer),
+        Err(fault) => Err(fault),
+    }
+}
+
+// Makes that the current term equals itself, where that stands behind the theorems.
+fn settled(library: &mut Library, alloc: Global, chain: Chain) -> Result<Chain, Fault>
+    requires library { IsLibrary library.old }
+    requires chain { IsChain library.old chain }
+    ensures library { IsLibrary library.new }
+    ensures continued { IsContinued library.old library.new }
+    ensures chain { IfOk result (IsChain library.new) }
+    ensures settles { IfOk result (Settles library.old.recorder.theory chain) }
+    ensures err { IfErr result (λ fault. fault ≡ Memory) }
+{
+    if !chain.is_same {
+        return Ok(chain);
+    }
+    let Chain {
+        mut theorems,
+        current,
+        ..
+    } = chain;
+    let same = match refl(library, alloc, &current) {
+        Ok(same) => same,
+        Err(fault) => return Err(fault),
+    };
+    match theorems.push(same) {
+        Ok(()) => Ok(Chain {
+            theorems,
+            current,
+            is_same: false,
+        }),
+        Err(_) => Err(Fault::Memory),
+    }
+}
+
+// Puts an equation of the current term behind theorems that are made.
+fn pushed(library: &Library, alloc: Global, chain: Chain, made: Rec) -> Result<Chain, Fault>
+    requires chain { IsChain library.now chain }
+    requires settled { chain.is_same ≡ false }
+    requires made { IsMade library.now.recorder made }
+    requires equation { IsSome (dest_equation made.theorem.conclusion) }
+    ensures chain { IfOk result (IsChain library.now) }
+    ensures extends { (theory : Theory) → IfOk result (IsExtended theory (proved_by theory chain) made.theorem) }
+    ensures begun { IfOk result (λ new. (t : NamedTerm) → BeginsAt t new) }
+    ensures err { IfErr result (λ fault. fault ≡ Memory) }
+{
+    let current = match right_side(library, &made).copy(alloc) {
+        Ok(current) => current,
+        Err(fault) => return Err(fault),
+    };
+    let Chain { mut theorems, .. } = chain;
+    match theorems.push(made) {
+        Ok(()) => Ok(Chain {
+            theorems,
+            current,
+            is_same: false,
+        }),
+        Err(_) => Err(Fault::Memory),
+    }
+}
+
+// Puts an answer on the current term behind the theorems.
+fn extended(
+    library: &mut Library,
+    alloc: Global,
+    chain: Chain,
+    answer: Converted,
+) -> Result<Chain, Fault>
+    requires library { IsLibrary library.old }
+    requires chain { IsChain library.old chain }
+    requires answer { IsAnswerOf library.old chain.current answer }
+    requires equation { IsSome (dest_equation (theorem_of library.old.recorder.theory chain.current answer).conclusion) }
+    ensures library { IsLibrary library.new }
+    ensures continued { IsContinued library.old library.new }
+    ensures chain { IfOk result (IsChain library.new) }
+    ensures extends { IfOk result (IsExtended library.old.recorder.theory (proved_by library.old.recorder.theory chain) (theorem_of library.old.recorder.theory chain.current answer)) }
+    ensures begun { IfOk result (λ new. (t : NamedTerm) → BeginsAt t chain → BeginsAt t new) }
+    ensures err { IfErr result (λ fault. fault ≡ Memory) }
+{
+    let chain = match settled(library, alloc, chain) {
+        Ok(chain) => chain,
+        Err(fault) => return Err(fault),
+    };
+    match answer {
+        Converted::Same => Ok(Chain {
+            theorems: chain.theorems,
+            current: chain.current,
+            is_same: true,
+        }),
+        Converted::Changed(made) => pushed(library, alloc, chain, made),
     }
 }
 
@@ -125,37 +245,34 @@ pub(crate) fn or_same(
 #[derive(Drop)]
 pub(crate) enum Linked {
     GoesOn(Chain),
-    Ends(Result<Rec, Fault>),
+    Ends(Result<Converted, Fault>),
 }
 
-/// Puts what was answered on the current term behind the theorems of a chain, or ends it.
+/// Puts what was answered on the current term behind the theorems of a chain from a term, or ends it.
 pub(crate) fn link(
     library: &mut Library,
     alloc: Global,
+    t: &Term,
     chain: Chain,
-    made: Result<Rec, Fault>,
+    answer: Result<Converted, Fault>,
     fuel: &mut Fuel,
 ) -> Linked
     requires library { IsLibrary library.old }
-    requires chain { IsChain library.old chain }
-    requires made { IfOk made (IsMade library.old.recorder) }
-    requires equation { IfOk made (λ made. IsSome (dest_equation made.theorem.conclusion)) }
-    ensures links { Links library.old.recorder.theory (chains.theorems chain.theorems.items) chain.current (theorem_in made) fuel.old.left result fuel.new.left }
+    requires chain { IsChainFrom library.old t.now chain }
+    requires answer { IfOk answer (IsAnswerOf library.old chain.current) }
+    requires equation { IfOk answer (λ answer. IsSome (dest_equation (theorem_of library.old.recorder.theory chain.current answer).conclusion)) }
+    ensures links { Links library.old.recorder.theory (proved_by library.old.recorder.theory chain) t.now chain.current
+        (answered library.old.recorder.theory chain.current answer) fuel.old.left result fuel.new.left }
     ensures library { IsLibrary library.new }
     ensures continued { IsContinued library.old library.new }
-    ensures made { LinksMade library.new result }
+    ensures made { LinksMade library.new t.now result }
 {
-    let made = match made {
-        Ok(made) => made,
-        Err(fault) => return Linked::Ends(finish(library, alloc, chain, fault, fuel)),
+    let answer = match answer {
+        Ok(answer) => answer,
+        Err(fault) => return Linked::Ends(finish(library, alloc, t, chain, fault, fuel)),
     };
-    let current = match right_side(library, &made).copy(alloc) {
-        Ok(current) => current,
-        Err(fault) => return Linked::Ends(Err(fault)),
-    };
-    let Chain { mut theorems, .. } = chain;
-    match theorems.push(made) {
-        Ok(()) => Linked::GoesOn(Chain { theorems, current }),
-        Err(_) => Linked::Ends(Err(Fault::Memory)),
+    match extended(library, alloc, chain, answer) {
+        Ok(chain) => Linked::GoesOn(chain),
+        Err(fault) => Linked::Ends(Err(fault)),
     }
 }

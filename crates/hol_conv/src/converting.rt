@@ -1,18 +1,19 @@
 // Tries conversions.
-ghost use Rattle.std.specs.Prelude.{◌≡◌};
+ghost use Rattle.std.specs.Prelude.{◌≡◌, ℕ};
 ghost use Rattle.hol_model.specs.Refining.Conversions as conversions;
 ghost use Rattle.hol_laws_refiners.proofs.Repeating.{IsFinal};
 ghost use Rattle.hol_tactic_exprs.specs.Expressions.{conversion_of};
-ghost use Rattle.hol_journal.specs.Journal.{theorem_in};
 ghost use Rattle.hol_conv_rules.specs.Makes.{Makes};
-ghost use Rattle.hol_conv.specs.Leaves.{stands_for, thenc_of, orelsec_of};
-ghost use Rattle.hol_conv.specs.Answers.{IsAsked, ConvertsOver};
+ghost use Rattle.hol_conv_rules.specs.Converted.{answered, MakesAnswer};
+ghost use Rattle.hol_conv.specs.Leaves.{IsLeaf, stands_for, thenc_of, orelsec_of};
+ghost use Rattle.hol_conv.specs.Answers.{IsAsked, ConvertsOver, AnswersOver};
 
-use crate::chain::{Linked, begin, link, or_same, same};
-use crate::joining::{changed, of_argument, of_body, of_function, of_parts, then};
+use crate::chain::{Linked, begin, changed, link, or_same, same};
 use crate::leaves::Leaves;
 use crate::parts::{abstraction, combination};
-use hol_conv_rules::right_side;
+use hol_conv_rules::{
+    Converted, as_answer, of_argument, of_body, of_function, of_parts, right_of, then, theorem,
+};
 use hol_journal::Rec;
 use hol_model::{DESCENTS_LIMIT, Fault};
 use hol_tactic_exprs::{Conv, Fuel, Prefix, is_caught};
@@ -25,7 +26,6 @@ use std::alloc::Global;
 /// ConvFails where the term has no such part, or ABS_CONV's variable is free in a hypothesis; TooLarge where so many descents
 /// are open as the limit allows, or an equation on the way is; Memory. ORELSEC, TRY_CONV and REPEATC catch all but StepLimit,
 /// TooLarge and Memory.
-#[cycle(convert)]
 pub fn convert<L: Leaves>(
     library: &mut Library,
     alloc: Global,
@@ -39,12 +39,48 @@ pub fn convert<L: Leaves>(
     ensures converts { ConvertsOver library.old (L.hosts leaves.now) depth fuel.old.left (stands_for (L.means leaves.now) conv.now) t.now result fuel.new.left }
     ensures makes { Makes library.old library.new result }
 {
+    let answer = converted(library, alloc, leaves, conv, t, depth, fuel);
+    theorem(library, alloc, t, answer)
+}
+
+// A conversion without parts: what it answers is a theorem.
+fn leaf<L: Leaves>(
+    library: &mut Library,
+    alloc: Global,
+    leaves: &L,
+    conv: &Conv,
+    t: &Term,
+    fuel: &mut Fuel,
+) -> Result<Converted, Fault>
+    requires leaf { IsLeaf conv.now }
+    requires asked { IsAsked (L.is_ready leaves.now) library.old t.now }
+    ensures converts { (depth : ℕ) → AnswersOver library.old (L.hosts leaves.now) depth fuel.old.left (stands_for (L.means leaves.now) conv.now) t.now result fuel.new.left }
+    ensures makes { MakesAnswer library.old library.new t.now result }
+{
+    as_answer(leaves.try_leaf(library, alloc, conv, t, fuel))
+}
+
+// The same, where no theorem is made of what does not change.
+#[cycle(converted)]
+fn converted<L: Leaves>(
+    library: &mut Library,
+    alloc: Global,
+    leaves: &L,
+    conv: &Conv,
+    t: &Term,
+    depth: u32,
+    fuel: &mut Fuel,
+) -> Result<Converted, Fault>
+    requires asked { IsAsked (L.is_ready leaves.now) library.old t.now }
+    ensures converts { AnswersOver library.old (L.hosts leaves.now) depth fuel.old.left (stands_for (L.means leaves.now) conv.now) t.now result fuel.new.left }
+    ensures makes { MakesAnswer library.old library.new t.now result }
+{
     match conv {
-        Conv::All => leaves.try_leaf(library, alloc, conv, t, fuel),
-        Conv::No => leaves.try_leaf(library, alloc, conv, t, fuel),
-        Conv::Beta => leaves.try_leaf(library, alloc, conv, t, fuel),
-        Conv::Rewr(_) => leaves.try_leaf(library, alloc, conv, t, fuel),
-        Conv::Host(_) => leaves.try_leaf(library, alloc, conv, t, fuel),
+        Conv::All => leaf(library, alloc, leaves, conv, t, fuel),
+        Conv::No => leaf(library, alloc, leaves, conv, t, fuel),
+        Conv::Beta => leaf(library, alloc, leaves, conv, t, fuel),
+        Conv::Rewr(_) => leaf(library, alloc, leaves, conv, t, fuel),
+        Conv::Host(_) => leaf(library, alloc, leaves, conv, t, fuel),
         Conv::Then(first, others) => {
             thenc(library, alloc, leaves, first, others, t, depth, fuel)
         }
@@ -54,8 +90,8 @@ pub fn convert<L: Leaves>(
         Conv::Prefixed(prefix, part) => match *prefix {
             Prefix::Repeat => repeatc(library, alloc, leaves, part, t, depth, fuel),
             Prefix::Try => {
-                let made = convert(library, alloc, leaves, part, t, depth, fuel);
-                or_same(library, alloc, t, made, fuel)
+                let made = converted(library, alloc, leaves, part, t, depth, fuel);
+                or_same(library, t, made, fuel)
             }
             Prefix::Rand => rand_conv(library, alloc, leaves, part, t, depth, fuel),
             Prefix::Rator => rator_conv(library, alloc, leaves, part, t, depth, fuel),
@@ -73,7 +109,7 @@ pub fn convert<L: Leaves>(
 }
 
 // THENC, joined by TRANS from the left.
-#[cycle(convert)]
+#[cycle(converted)]
 fn thenc<L: Leaves>(
     library: &mut Library,
     alloc: Global,
@@ -83,19 +119,19 @@ fn thenc<L: Leaves>(
     t: &Term,
     depth: u32,
     fuel: &mut Fuel,
-) -> Result<Rec, Fault>
+) -> Result<Converted, Fault>
     requires asked { IsAsked (L.is_ready leaves.now) library.old t.now }
-    ensures converts { ConvertsOver library.old (L.hosts leaves.now) depth fuel.old.left (thenc_of (L.means leaves.now) first.now others.now) t.now result fuel.new.left }
-    ensures makes { Makes library.old library.new result }
+    ensures converts { AnswersOver library.old (L.hosts leaves.now) depth fuel.old.left (thenc_of (L.means leaves.now) first.now others.now) t.now result fuel.new.left }
+    ensures makes { MakesAnswer library.old library.new t.now result }
 {
-    let mut made = match convert(library, alloc, leaves, first, t, depth, fuel) {
+    let mut made = match converted(library, alloc, leaves, first, t, depth, fuel) {
         Ok(made) => made,
         Err(fault) => return Err(fault),
     };
     for other in others {
-        let right = right_side(library, &made);
-        let next = convert(library, alloc, leaves, other, right, depth, fuel);
-        made = match then(library, alloc, made, next) {
+        let right = right_of(library, t, &made);
+        let next = converted(library, alloc, leaves, other, right, depth, fuel);
+        made = match then(library, alloc, t, &made, right, next) {
             Ok(made) => made,
             Err(fault) => return Err(fault),
         };
@@ -104,7 +140,7 @@ fn thenc<L: Leaves>(
 }
 
 // ORELSEC.
-#[cycle(convert)]
+#[cycle(converted)]
 fn orelsec<L: Leaves>(
     library: &mut Library,
     alloc: Global,
@@ -114,12 +150,12 @@ fn orelsec<L: Leaves>(
     t: &Term,
     depth: u32,
     fuel: &mut Fuel,
-) -> Result<Rec, Fault>
+) -> Result<Converted, Fault>
     requires asked { IsAsked (L.is_ready leaves.now) library.old t.now }
-    ensures converts { ConvertsOver library.old (L.hosts leaves.now) depth fuel.old.left (orelsec_of (L.means leaves.now) first.now others.now) t.now result fuel.new.left }
-    ensures makes { Makes library.old library.new result }
+    ensures converts { AnswersOver library.old (L.hosts leaves.now) depth fuel.old.left (orelsec_of (L.means leaves.now) first.now others.now) t.now result fuel.new.left }
+    ensures makes { MakesAnswer library.old library.new t.now result }
 {
-    let mut fault = match convert(library, alloc, leaves, first, t, depth, fuel) {
+    let mut fault = match converted(library, alloc, leaves, first, t, depth, fuel) {
         Ok(made) => return Ok(made),
         Err(fault) => fault,
     };
@@ -127,7 +163,7 @@ fn orelsec<L: Leaves>(
         if !is_caught(&fault) {
             return Err(fault);
         }
-        match convert(library, alloc, leaves, other, t, depth, fuel) {
+        match converted(library, alloc, leaves, other, t, depth, fuel) {
             Ok(made) => return Ok(made),
             Err(next) => fault = next,
         }
@@ -136,7 +172,7 @@ fn orelsec<L: Leaves>(
 }
 
 // REPEATC, joined by TRANS from the right. What refuses it is not caught.
-#[cycle(convert)]
+#[cycle(converted)]
 fn repeatc<L: Leaves>(
     library: &mut Library,
     alloc: Global,
@@ -145,19 +181,19 @@ fn repeatc<L: Leaves>(
     t: &Term,
     depth: u32,
     fuel: &mut Fuel,
-) -> Result<Rec, Fault>
+) -> Result<Converted, Fault>
     requires asked { IsAsked (L.is_ready leaves.now) library.old t.now }
-    ensures converts { ConvertsOver library.old (L.hosts leaves.now) depth fuel.old.left (conversions.repeatc (stands_for (L.means leaves.now) conv.now)) t.now result fuel.new.left }
-    ensures last { IsFinal (theorem_in result) }
-    ensures makes { Makes library.old library.new result }
+    ensures converts { AnswersOver library.old (L.hosts leaves.now) depth fuel.old.left (conversions.repeatc (stands_for (L.means leaves.now) conv.now)) t.now result fuel.new.left }
+    ensures last { IsFinal (answered library.old.recorder.theory t.now result) }
+    ensures makes { MakesAnswer library.old library.new t.now result }
 {
     let mut chain = match begin(alloc, t) {
         Ok(chain) => chain,
         Err(fault) => return Err(fault),
     };
     loop {
-        let made = convert(library, alloc, leaves, conv, &chain.current, depth, fuel);
-        chain = match link(library, alloc, chain, made, fuel) {
+        let made = converted(library, alloc, leaves, conv, &chain.current, depth, fuel);
+        chain = match link(library, alloc, t, chain, made, fuel) {
             Linked::GoesOn(chain) => chain,
             Linked::Ends(result) => return result,
         };
@@ -165,7 +201,7 @@ fn repeatc<L: Leaves>(
 }
 
 // RAND_CONV.
-#[cycle(convert)]
+#[cycle(converted)]
 fn rand_conv<L: Leaves>(
     library: &mut Library,
     alloc: Global,
@@ -174,22 +210,22 @@ fn rand_conv<L: Leaves>(
     t: &Term,
     depth: u32,
     fuel: &mut Fuel,
-) -> Result<Rec, Fault>
+) -> Result<Converted, Fault>
     requires asked { IsAsked (L.is_ready leaves.now) library.old t.now }
-    ensures converts { ConvertsOver library.old (L.hosts leaves.now) depth fuel.old.left (conversions.rand_conv (stands_for (L.means leaves.now) conv.now)) t.now result fuel.new.left }
-    ensures makes { Makes library.old library.new result }
+    ensures converts { AnswersOver library.old (L.hosts leaves.now) depth fuel.old.left (conversions.rand_conv (stands_for (L.means leaves.now) conv.now)) t.now result fuel.new.left }
+    ensures makes { MakesAnswer library.old library.new t.now result }
 {
     match combination(t, depth) {
         Ok((function, argument)) => {
-            let part = convert(library, alloc, leaves, conv, argument, depth + 1, fuel);
-            of_argument(library, alloc, function, part)
+            let part = converted(library, alloc, leaves, conv, argument, depth + 1, fuel);
+            of_argument(library, alloc, t, function, argument, part)
         }
         Err(fault) => Err(fault),
     }
 }
 
 // RATOR_CONV.
-#[cycle(convert)]
+#[cycle(converted)]
 fn rator_conv<L: Leaves>(
     library: &mut Library,
     alloc: Global,
@@ -198,22 +234,22 @@ fn rator_conv<L: Leaves>(
     t: &Term,
     depth: u32,
     fuel: &mut Fuel,
-) -> Result<Rec, Fault>
+) -> Result<Converted, Fault>
     requires asked { IsAsked (L.is_ready leaves.now) library.old t.now }
-    ensures converts { ConvertsOver library.old (L.hosts leaves.now) depth fuel.old.left (conversions.rator_conv (stands_for (L.means leaves.now) conv.now)) t.now result fuel.new.left }
-    ensures makes { Makes library.old library.new result }
+    ensures converts { AnswersOver library.old (L.hosts leaves.now) depth fuel.old.left (conversions.rator_conv (stands_for (L.means leaves.now) conv.now)) t.now result fuel.new.left }
+    ensures makes { MakesAnswer library.old library.new t.now result }
 {
     match combination(t, depth) {
         Ok((function, argument)) => {
-            let part = convert(library, alloc, leaves, conv, function, depth + 1, fuel);
-            of_function(library, alloc, argument, part)
+            let part = converted(library, alloc, leaves, conv, function, depth + 1, fuel);
+            of_function(library, alloc, t, function, argument, part)
         }
         Err(fault) => Err(fault),
     }
 }
 
 // ABS_CONV.
-#[cycle(convert)]
+#[cycle(converted)]
 fn abs_conv<L: Leaves>(
     library: &mut Library,
     alloc: Global,
@@ -222,22 +258,22 @@ fn abs_conv<L: Leaves>(
     t: &Term,
     depth: u32,
     fuel: &mut Fuel,
-) -> Result<Rec, Fault>
+) -> Result<Converted, Fault>
     requires asked { IsAsked (L.is_ready leaves.now) library.old t.now }
-    ensures converts { ConvertsOver library.old (L.hosts leaves.now) depth fuel.old.left (conversions.abs_conv (stands_for (L.means leaves.now) conv.now)) t.now result fuel.new.left }
-    ensures makes { Makes library.old library.new result }
+    ensures converts { AnswersOver library.old (L.hosts leaves.now) depth fuel.old.left (conversions.abs_conv (stands_for (L.means leaves.now) conv.now)) t.now result fuel.new.left }
+    ensures makes { MakesAnswer library.old library.new t.now result }
 {
     match abstraction(t, depth) {
         Ok((binder, body)) => {
-            let part = convert(library, alloc, leaves, conv, body, depth + 1, fuel);
-            of_body(library, alloc, binder, part)
+            let part = converted(library, alloc, leaves, conv, body, depth + 1, fuel);
+            of_body(library, alloc, t, binder, part)
         }
         Err(fault) => Err(fault),
     }
 }
 
 // SUB_CONV.
-#[cycle(convert)]
+#[cycle(converted)]
 fn sub_conv<L: Leaves>(
     library: &mut Library,
     alloc: Global,
@@ -246,32 +282,32 @@ fn sub_conv<L: Leaves>(
     t: &Term,
     depth: u32,
     fuel: &mut Fuel,
-) -> Result<Rec, Fault>
+) -> Result<Converted, Fault>
     requires asked { IsAsked (L.is_ready leaves.now) library.old t.now }
-    ensures converts { ConvertsOver library.old (L.hosts leaves.now) depth fuel.old.left (conversions.sub_conv (stands_for (L.means leaves.now) conv.now)) t.now result fuel.new.left }
-    ensures makes { Makes library.old library.new result }
+    ensures converts { AnswersOver library.old (L.hosts leaves.now) depth fuel.old.left (conversions.sub_conv (stands_for (L.means leaves.now) conv.now)) t.now result fuel.new.left }
+    ensures makes { MakesAnswer library.old library.new t.now result }
 {
     match t.parts() {
         Parts::Combination(function, argument) => {
             if DESCENTS_LIMIT <= depth {
                 return Err(Fault::TooLarge);
             }
-            match convert(library, alloc, leaves, conv, function, depth + 1, fuel) {
+            match converted(library, alloc, leaves, conv, function, depth + 1, fuel) {
                 Ok(first) => {
-                    let second = convert(library, alloc, leaves, conv, argument, depth + 1, fuel);
-                    of_parts(library, alloc, first, second)
+                    let second = converted(library, alloc, leaves, conv, argument, depth + 1, fuel);
+                    of_parts(library, alloc, t, function, argument, first, second)
                 }
                 Err(fault) => Err(fault),
             }
         }
         Parts::Abstraction(_, _, _) => abs_conv(library, alloc, leaves, conv, t, depth, fuel),
-        Parts::Variable(_, _) => same(library, alloc, t, fuel),
-        Parts::Constant(_, _) => same(library, alloc, t, fuel),
+        Parts::Variable(_, _) => same(library, t, fuel),
+        Parts::Constant(_, _) => same(library, t, fuel),
     }
 }
 
 // DEPTH_CONV, the whole of a part.
-#[cycle(convert)]
+#[cycle(converted)]
 fn depth_conv<L: Leaves>(
     library: &mut Library,
     alloc: Global,
@@ -281,24 +317,24 @@ fn depth_conv<L: Leaves>(
     t: &Term,
     depth: u32,
     fuel: &mut Fuel,
-) -> Result<Rec, Fault>
+) -> Result<Converted, Fault>
     requires whole { conversion_of whole.now ≡ conversions.depth_conv (conversion_of part.now) }
     requires asked { IsAsked (L.is_ready leaves.now) library.old t.now }
-    ensures converts { ConvertsOver library.old (L.hosts leaves.now) depth fuel.old.left (stands_for (L.means leaves.now) whole.now) t.now result fuel.new.left }
-    ensures makes { Makes library.old library.new result }
+    ensures converts { AnswersOver library.old (L.hosts leaves.now) depth fuel.old.left (stands_for (L.means leaves.now) whole.now) t.now result fuel.new.left }
+    ensures makes { MakesAnswer library.old library.new t.now result }
 {
     match sub_conv(library, alloc, leaves, whole, t, depth, fuel) {
         Ok(below) => {
-            let right = right_side(library, &below);
+            let right = right_of(library, t, &below);
             let here = repeatc(library, alloc, leaves, part, right, depth, fuel);
-            then(library, alloc, below, here)
+            then(library, alloc, t, &below, right, here)
         }
         Err(fault) => Err(fault),
     }
 }
 
 // ONCE_DEPTH_CONV, the whole of a part.
-#[cycle(convert)]
+#[cycle(converted)]
 fn once_depth_conv<L: Leaves>(
     library: &mut Library,
     alloc: Global,
@@ -308,26 +344,26 @@ fn once_depth_conv<L: Leaves>(
     t: &Term,
     depth: u32,
     fuel: &mut Fuel,
-) -> Result<Rec, Fault>
+) -> Result<Converted, Fault>
     requires whole { conversion_of whole.now ≡ conversions.once_depth_conv (conversion_of part.now) }
     requires asked { IsAsked (L.is_ready leaves.now) library.old t.now }
-    ensures converts { ConvertsOver library.old (L.hosts leaves.now) depth fuel.old.left (stands_for (L.means leaves.now) whole.now) t.now result fuel.new.left }
-    ensures makes { Makes library.old library.new result }
+    ensures converts { AnswersOver library.old (L.hosts leaves.now) depth fuel.old.left (stands_for (L.means leaves.now) whole.now) t.now result fuel.new.left }
+    ensures makes { MakesAnswer library.old library.new t.now result }
 {
-    match convert(library, alloc, leaves, part, t, depth, fuel) {
+    match converted(library, alloc, leaves, part, t, depth, fuel) {
         Ok(made) => Ok(made),
         Err(fault) => {
             if !is_caught(&fault) {
                 return Err(fault);
             }
             let made = sub_conv(library, alloc, leaves, whole, t, depth, fuel);
-            or_same(library, alloc, t, made, fuel)
+            or_same(library, t, made, fuel)
         }
     }
 }
 
 // TOP_DEPTH_CONV, the whole of a part, joined by TRANS from the right.
-#[cycle(convert)]
+#[cycle(converted)]
 fn top_depth_conv<L: Leaves>(
     library: &mut Library,
     alloc: Global,
@@ -337,11 +373,11 @@ fn top_depth_conv<L: Leaves>(
     t: &Term,
     depth: u32,
     fuel: &mut Fuel,
-) -> Result<Rec, Fault>
+) -> Result<Converted, Fault>
     requires whole { conversion_of whole.now ≡ conversions.top_depth_conv (conversion_of part.now) }
     requires asked { IsAsked (L.is_ready leaves.now) library.old t.now }
-    ensures converts { ConvertsOver library.old (L.hosts leaves.now) depth fuel.old.left (stands_for (L.means leaves.now) whole.now) t.now result fuel.new.left }
-    ensures makes { Makes library.old library.new result }
+    ensures converts { AnswersOver library.old (L.hosts leaves.now) depth fuel.old.left (stands_for (L.means leaves.now) whole.now) t.now result fuel.new.left }
+    ensures makes { MakesAnswer library.old library.new t.now result }
 {
     let mut chain = match begin(alloc, t) {
         Ok(chain) => chain,
@@ -349,18 +385,18 @@ fn top_depth_conv<L: Leaves>(
     };
     loop {
         let here = repeatc(library, alloc, leaves, part, &chain.current, depth, fuel);
-        chain = match link(library, alloc, chain, here, fuel) {
+        chain = match link(library, alloc, t, chain, here, fuel) {
             Linked::GoesOn(chain) => chain,
             Linked::Ends(result) => return result,
         };
         let below = sub_conv(library, alloc, leaves, whole, &chain.current, depth, fuel);
         let below = changed(&chain.current, below);
-        chain = match link(library, alloc, chain, below, fuel) {
+        chain = match link(library, alloc, t, chain, below, fuel) {
             Linked::GoesOn(chain) => chain,
             Linked::Ends(result) => return result,
         };
-        let again = convert(library, alloc, leaves, part, &chain.current, depth, fuel);
-        chain = match link(library, alloc, chain, again, fuel) {
+        let again = converted(library, alloc, leaves, part, &chain.current, depth, fuel);
+        chain = match link(library, alloc, t, chain, again, fuel) {
             Linked::GoesOn(chain) => chain,
             Linked::Ends(result) => return result,
         };

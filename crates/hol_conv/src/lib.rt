@@ -6,7 +6,6 @@ mod applying;
 mod by_rules;
 mod chain;
 mod converting;
-mod joining;
 mod leaves;
 mod over_host;
 mod parts;

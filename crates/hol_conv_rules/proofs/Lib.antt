@@ -4,3 +4,4 @@ pub mod RightSides
 pub mod Converting
 pub mod Preparing
 pub mod HostEquations
+pub mod Same

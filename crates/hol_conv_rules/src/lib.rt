@@ -3,11 +3,16 @@
 #![tactic(auto)]
 
 mod conversions;
+mod converted;
 mod hosts;
 mod joins;
 mod prepared;
 
 pub use conversions::{beta_conv, rules_conv};
+pub use converted::{
+    Converted, as_answer, of_argument, of_body, of_function, of_parts, only_changed, right_of,
+    then, theorem, unchanged,
+};
 pub use hosts::host_conv;
-pub use joins::{abs, ap_term, ap_thm, if_changed, mk_comb, refl, right_side, trans};
+pub use joins::{refl, right_side, trans};
 pub use prepared::{NamedRules, prepared_rewr_conv, rewr_conv, rules_named};

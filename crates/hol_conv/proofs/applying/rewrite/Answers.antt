@@ -14,4 +14,4 @@ returns-in-Err-prefixed-clause-outcome g c = starved-at c.args.fuel.now.left c.i
 pub returns-clause-outcome : goal.returns-clause-outcome
 returns-clause-outcome g c =
     let rules = theorems c.args.rules.now in
-    as-conv c.convert.result (ap (with_leaves (λ (leaf : Conversion). rules_conv rules)) (sym c.in-Ok-prefixed.ensures.ok)) c.convert.ensures.converts
+    as-conv (ap (with_leaves (λ (leaf : Conversion). rules_conv rules)) (sym c.in-Ok-prefixed.ensures.ok)) c.convert.ensures.converts

@@ -1,7 +1,42 @@
-use Rattle.std.proofs.Common.{rules}
-use Rattle.hol_conv.specs.Chains.{theorems}
-use Rattle.hol_conv.proofs.Chaining.{ends-refused}
+use Rattle.std.proofs.Common.{rules, ◌≡◌, length, true, subst}
+use Rattle.hol_model.specs.Terms.NamedTerm.{NamedTerm}
+use Rattle.hol_model.specs.Logic.KnownTerm.{is_known}
+use Rattle.hol_model.specs.Refining.Conversions.{is_caught}
+use Rattle.hol_conv_rules.specs.Converted.{answered}
+use Rattle.hol_conv_rules.proofs.Making.{makes_then}
+use Rattle.hol_conv.proofs.Chaining.{made-later, no-theorems, ends-empty, ends-joined, ends-unmade, joined-answer}
 use Rattle.hol_conv.proofs.chain.finish.Goals as goal
 
+pub same-requires-clause-known : goal.same-requires-clause-known
+same-requires-clause-known c =
+    let none : length c.args.chain.theorems.items ≡ 0 = search rules in
+    let empty = no-theorems c.args.chain.theorems.items none in
+    subst (λ (u : NamedTerm). is_known c.args.library.now.recorder.theory u ≡ true) (c.requires.chain.begun empty) c.requires.chain.held.known
+
+pub returns-then-is_empty-clause-finishes : goal.returns-then-is_empty-clause-finishes
+returns-then-is_empty-clause-finishes c =
+    let none : length c.args.chain.theorems.items ≡ 0 = search rules in
+    let empty = no-theorems c.args.chain.theorems.items none in
+    let caught : is_caught c.args.fault ≡ true = search rules in
+    ends-empty c.args.chain c.args.fault (answered c.args.library.now.recorder.theory c.args.t.now c.same.result) caught empty (c.requires.chain.begun empty) c.requires.chain.held.known
+    c.same.ensures.reflects
+
+pub returns-in-Ok-clause-finishes : goal.returns-in-Ok-clause-finishes
+returns-in-Ok-clause-finishes c =
+    let caught : is_caught c.args.fault ≡ true = search rules in
+    ends-joined c.args.chain c.args.fault (answered c.args.library.now.recorder.theory c.args.chain.current c.same-last.result) c.in-Ok.last.theorem caught c.requires.chain.held.known
+    c.same-last.ensures.reflects c.in-Ok.ensures.joins
+    (joined-answer c.args.t.now c.args.chain.theorems.items c.in-Ok.last.theorem c.joined.result c.as_answer.result c.in-Ok.ensures.makes.continued c.joined.ensures.joins c.as_answer.ensures.same)
+
+pub returns-in-Ok-clause-makes : goal.returns-in-Ok-clause-makes
+returns-in-Ok-clause-makes c =
+    c.as_answer.ensures.made c.args.library.now c.joined.new.library c.args.t.now
+    (makes_then c.args.library.now c.theorem.new.library c.joined.new.library c.theorem.result c.joined.result c.theorem.ensures.makes c.joined.ensures.makes)
+
 pub returns-in-Err-clause-finishes : goal.returns-in-Err-clause-finishes
-returns-in-Err-clause-finishes c = ends-refused (theorems c.args.chain.theorems.items) c.args.fault (search rules) c.in-Err.ensures.reflects
+returns-in-Err-clause-finishes c =
+    let caught : is_caught c.args.fault ≡ true = search rules in
+    ends-unmade c.args.chain c.args.fault (answered c.args.library.now.recorder.theory c.args.chain.current c.same-last.result) _ caught c.same-last.ensures.reflects c.in-Err.ensures.joins
+
+pub joined-requires-clause-theorems : goal.joined-requires-clause-theorems
+joined-requires-clause-theorems c = made-later c.args.chain.theorems.items c.in-Ok.ensures.makes.continued c.requires.chain.held.made

@@ -4,18 +4,18 @@ use Rattle.hol_model.specs.Kernel.Rules.{dest_equation}
 use Rattle.hol_model.specs.Refining.Conversions.{repeatc}
 use Rattle.hol_laws_refiners.proofs.Chains.{ThencSoFar}
 use Rattle.hol_laws_refiners.proofs.Repeating.{JoinedSoFar}
-use Rattle.hol_journal.specs.Journal.{IsMade}
 use Rattle.hol_theorem_library.specs.Library.{IsLibrary, IsContinued, store_in}
+use Rattle.hol_conv_rules.specs.Converted.{theorem_of, IsAnswerOf}
 use Rattle.hol_conv.specs.Leaves.{stands_for, all_stand_for, thenc_of, orelsec_of}
-use Rattle.hol_conv.specs.Chains.{IsChain, theorems}
+use Rattle.hol_conv.specs.Chains.{IsChainFrom, proved_by}
 use Rattle.hol_conv.proofs.Sizes.{size_of, sizes_of}
 use Rattle.hol_conv.proofs.Choosing.{ChoosesSoFar}
-use Rattle.hol_conv.proofs.converting.«+convert».Given as goal
+use Rattle.hol_conv.proofs.converting.«+converted».Given as goal
 
 -- ---- the expression's size first, then the descents that are left
 
-abbrev pub decreases-convert : goal.decreases-convert
-decreases-convert g l = 10 * size_of l.conv.now + 4 * (DESCENTS_LIMIT - l.depth) + 3
+abbrev pub decreases-converted : goal.decreases-converted
+decreases-converted g l = 10 * size_of l.conv.now + 4 * (DESCENTS_LIMIT - l.depth) + 3
 
 abbrev pub decreases-thenc : goal.decreases-thenc
 decreases-thenc g l = 10 * (size_of l.first.now + sizes_of l.others.now) + 4 * (DESCENTS_LIMIT - l.depth) + 4
@@ -52,11 +52,11 @@ decreases-top_depth_conv g l = 10 * size_of l.whole.now + 4 * (DESCENTS_LIMIT - 
 abbrev pub invariant-thenc-loop-other : goal.invariant-thenc-loop-other
 invariant-thenc-loop-other g l =
     ThencSoFar l.fn.library.recorder.theory (store_in l.fn.library) (g.L.Leaves.hosts l.leaves) l.depth
-    l.fn.fuel.left (thenc_of (g.L.Leaves.means l.leaves) l.first l.others) l.t l.fuel.left l.made.theorem (all_stand_for (g.L.Leaves.means l.leaves) (drop l.other-index l.others))
+    l.fn.fuel.left (thenc_of (g.L.Leaves.means l.leaves) l.first l.others) l.t l.fuel.left (theorem_of l.fn.library.recorder.theory l.t l.made) (all_stand_for (g.L.Leaves.means l.leaves) (drop l.other-index l.others))
     × IsContinued l.fn.library l.library
     × IsLibrary l.library
-    × IsMade l.library.recorder l.made
-    × IsSome (dest_equation l.made.theorem.conclusion)
+    × IsAnswerOf l.library l.t l.made
+    × IsSome (dest_equation (theorem_of l.fn.library.recorder.theory l.t l.made).conclusion)
 
 abbrev pub invariant-orelsec-loop-other : goal.invariant-orelsec-loop-other
 invariant-orelsec-loop-other g l =
@@ -69,10 +69,10 @@ abbrev pub invariant-repeatc-loop-chain : goal.invariant-repeatc-loop-chain
 invariant-repeatc-loop-chain g l =
     JoinedSoFar l.fn.library.recorder.theory (store_in l.fn.library) (g.L.Leaves.hosts l.leaves) l.depth
     l.fn.fuel.left (repeatc (stands_for (g.L.Leaves.means l.leaves) l.conv)) l.t l.fuel.left (repeatc (stands_for (g.L.Leaves.means l.leaves) l.conv))
-    (theorems l.chain.theorems.items) l.chain.current
+    (proved_by l.fn.library.recorder.theory l.chain) l.chain.current
     × IsContinued l.fn.library l.library
     × IsLibrary l.library
-    × IsChain l.library l.chain
+    × IsChainFrom l.library l.t l.chain
 
 abbrev pub decreases-repeatc-loop-chain : goal.decreases-repeatc-loop-chain
 decreases-repeatc-loop-chain g l = l.fuel.left
@@ -81,10 +81,10 @@ abbrev pub invariant-top_depth_conv-loop-chain : goal.invariant-top_depth_conv-l
 invariant-top_depth_conv-loop-chain g l =
     JoinedSoFar l.fn.library.recorder.theory (store_in l.fn.library) (g.L.Leaves.hosts l.leaves) l.depth
     l.fn.fuel.left (stands_for (g.L.Leaves.means l.leaves) l.whole) l.t l.fuel.left (stands_for (g.L.Leaves.means l.leaves) l.whole)
-    (theorems l.chain.theorems.items) l.chain.current
+    (proved_by l.fn.library.recorder.theory l.chain) l.chain.current
     × IsContinued l.fn.library l.library
     × IsLibrary l.library
-    × IsChain l.library l.chain
+    × IsChainFrom l.library l.t l.chain
 
 abbrev pub decreases-top_depth_conv-loop-chain : goal.decreases-top_depth_conv-loop-chain
 decreases-top_depth_conv-loop-chain g l = l.fuel.left

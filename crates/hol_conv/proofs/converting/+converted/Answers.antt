@@ -1,57 +1,55 @@
-use Rattle.std.proofs.Common.{rules, refl, sym, ap, arith, ◌∙◌, ◌<◌, ◌≡◌, List}
+use Rattle.std.proofs.Common.{rules, refl, sym, ap, arith, ◌∙◌, ◌<◌, ◌≡◌, List, Ok}
 use Rattle.std.proofs.lemmas.List.{drop_all}
 use Rattle.hol_model.specs.declared.limits.TheConstants.{DESCENTS_LIMIT}
 use Rattle.hol_model.specs.Terms.NamedTerm.{combination}
 use Rattle.hol_model.specs.Refining.Conversions.{first_is_refused, first_answers}
 use Rattle.hol_laws_refiners.proofs.Chains.{thenc_start, thenc_end}
 use Rattle.hol_laws_refiners.proofs.Repeating.{joined_defined, joined_tried}
-use Rattle.hol_journal.specs.Journal.{theorem_in}
 use Rattle.hol_tactic_exprs.specs.declared.conv.Conv.{Conv}
-use Rattle.hol_conv_rules.proofs.Making.{still_made}
 use Rattle.hol_conv.specs.Leaves.{with_leaves, stands_for, thenc_of, orelsec_of}
-use Rattle.hol_conv.specs.Chains.{theorems}
+use Rattle.hol_conv.specs.Chains.{proved_by}
 use Rattle.hol_conv.proofs.Sizes.{size, size_of, sizes_of, size_in}
 use Rattle.hol_conv.proofs.Expressions.{then_stands, or_else_stands, then_size, or_else_size, rest-drop}
 use Rattle.hol_conv.proofs.Choosing.{chooses_next, chooses_answer, chooses_stop, chooses_end}
 use Rattle.hol_conv.proofs.Chaining.{chain-later}
-use Rattle.hol_conv.proofs.Asking.{of-argument, asks-now, asks-later, carried, continued-twice}
-use Rattle.hol_conv.proofs.Answering.{is-equation, onto-equation, reflects-leaf, first-part-refused, parts-too-deep, rand-refused, rator-refused, abs-refused}
-use Rattle.hol_conv.proofs.Arms.{argument-arm, function-arm, body-arm, parts-arm, try-arm, once-arm, once-answers, once-stops, depth-arm, depth-stops, thenc-on, thenc-off}
+use Rattle.hol_conv.proofs.Asking.{known-function, known-argument, of-argument, known-later, asks-now, asks-later, still-answers, held-answer, side-later, equation-later, carried, carried-answer, continued-twice}
+use Rattle.hol_conv.proofs.Answering.{is-equation, reflects-leaf, first-part-refused, parts-too-deep, rand-refused, rator-refused, abs-refused}
+use Rattle.hol_conv.proofs.Arms.{argument-arm, function-arm, body-arm, parts-arm, try-arm, once-arm, once-answers, once-stops, depth-arm, depth-stops, thenc-on, thenc-off, thenc-equation}
 use Rattle.hol_conv.proofs.Arms.{link-on, link-off, link-stop, link-costs, link-equations, changed-arm, changed-makes, top-start, top-again, top-below, as-conv, sub-as-abs, starved-at}
-use Rattle.hol_conv.proofs.converting.«+convert».Goals as goal
+use Rattle.hol_conv.proofs.converting.«+converted».Goals as goal
 
-pub convert-thenc-requires : goal.convert-thenc-requires
-convert-thenc-requires g t c =
+pub converted-thenc-requires : goal.converted-thenc-requires
+converted-thenc-requires g t c =
     let sized = ap size_of c.in-Then.is ∙ then_size c.in-Then.first c.in-Then.others in
     let first = ap size_of c.deref.ensures in
     let others = ap sizes_of c.deref-in-Then.ensures.value in
     search rules
 
-pub convert-orelsec-requires : goal.convert-orelsec-requires
-convert-orelsec-requires g t c =
+pub converted-orelsec-requires : goal.converted-orelsec-requires
+converted-orelsec-requires g t c =
     let sized = ap size_of c.in-OrElse.is ∙ or_else_size c.in-OrElse.first c.in-OrElse.others in
     let first = ap size_of c.deref-in-OrElse.ensures in
     let others = ap sizes_of c.deref-in-OrElse-2.ensures.value in
     search rules
 
-pub convert-returns-in-Then-clause-converts : goal.convert-returns-in-Then-clause-converts
-convert-returns-in-Then-clause-converts g t c =
+pub converted-returns-in-Then-clause-converts : goal.converted-returns-in-Then-clause-converts
+converted-returns-in-Then-clause-converts g t c =
     let whole = ap (stands_for (g.L.Leaves.means c.args.leaves.now)) c.in-Then.is ∙ then_stands (g.L.Leaves.means c.args.leaves.now) c.in-Then.first c.in-Then.others in
     let first = ap (λ (first : Conv). thenc_of (g.L.Leaves.means c.args.leaves.now) first c.deref-in-Then.result.now) c.deref.ensures in
     let others = ap (λ (others : List Conv). thenc_of (g.L.Leaves.means c.args.leaves.now) c.in-Then.first.value others) c.deref-in-Then.ensures.value in
-    as-conv c.thenc.result (whole ∙ sym (first ∙ others)) c.thenc.ensures.converts
+    as-conv (whole ∙ sym (first ∙ others)) c.thenc.ensures.converts
 
-pub convert-returns-in-OrElse-clause-converts : goal.convert-returns-in-OrElse-clause-converts
-convert-returns-in-OrElse-clause-converts g t c =
+pub converted-returns-in-OrElse-clause-converts : goal.converted-returns-in-OrElse-clause-converts
+converted-returns-in-OrElse-clause-converts g t c =
     let whole = ap (stands_for (g.L.Leaves.means c.args.leaves.now)) c.in-OrElse.is ∙ or_else_stands (g.L.Leaves.means c.args.leaves.now) c.in-OrElse.first c.in-OrElse.others in
     let first = ap (λ (first : Conv). orelsec_of (g.L.Leaves.means c.args.leaves.now) first c.deref-in-OrElse-2.result.now) c.deref-in-OrElse.ensures in
     let others = ap (λ (others : List Conv). orelsec_of (g.L.Leaves.means c.args.leaves.now) c.in-OrElse.first.value others) c.deref-in-OrElse-2.ensures.value in
-    as-conv c.orelsec.result (whole ∙ sym (first ∙ others)) c.orelsec.ensures.converts
+    as-conv (whole ∙ sym (first ∙ others)) c.orelsec.ensures.converts
 
-pub convert-returns-in-Try-clause-converts : goal.convert-returns-in-Try-clause-converts
-convert-returns-in-Try-clause-converts g t c =
-    let made = rw c.deref-in-Try.ensures at c.convert-made.ensures.converts in
-    rw (c.in-Prefixed.is, c.in-Try.is) (try-arm c.or_same.result made c.convert-made.ensures.makes c.or_same.ensures.tries)
+pub converted-returns-in-Try-clause-converts : goal.converted-returns-in-Try-clause-converts
+converted-returns-in-Try-clause-converts g t c =
+    let made = rw c.deref-in-Try.ensures at c.converted-made.ensures.converts in
+    rw (c.in-Prefixed.is, c.in-Try.is) (try-arm c.or_same.result made c.converted-made.ensures.makes c.or_same.ensures.tries)
 
 pub thenc-returns-in-Err-clause-converts : goal.thenc-returns-in-Err-clause-converts
 thenc-returns-in-Err-clause-converts g t c =
@@ -67,32 +65,47 @@ thenc-loop-other-init g t c =
       is-equation _ _ _ c.in-Ok.ensures.converts,
     )
 
-pub thenc-convert-next-requires : goal.thenc-convert-next-requires
-thenc-convert-next-requires g t c =
-    let asked = asks-now c.right_side-right.result.now (g.met.L.Leaves.stays_ready c.args.leaves.now) c.requires.asked c.loop-other.invariant.1 c.loop-other.invariant.2 c.right_side-right.ensures.known in
+pub thenc-converted-next-requires : goal.thenc-converted-next-requires
+thenc-converted-next-requires g t c =
+    let asked = asks-now c.right_of-right.result.now (g.met.L.Leaves.stays_ready c.args.leaves.now) c.requires.asked c.loop-other.invariant.1 c.loop-other.invariant.2 c.right_of-right.ensures.known in
     let le = size_in c.args.others.now c.loop-other.other-index c.other-item.result (omega arith) c.other-item.is in
     search rules
 
-pub thenc-then-requires-clause-first : goal.thenc-then-requires-clause-first
-thenc-then-requires-clause-first g t c =
-    still_made _ _ _ _ c.convert-next.ensures.makes c.loop-other.invariant.3
+pub thenc-right_of-right-requires : goal.thenc-right_of-right-requires
+thenc-right_of-right-requires g t c = record {
+  known = known-later c.args.t.now c.loop-other.invariant.1 c.requires.asked.known;
+  answer = c.loop-other.invariant.3;
+  equation = equation-later c.args.t.now c.loop-other.made c.loop-other.invariant.1 c.loop-other.invariant.4;
+}
+
+pub thenc-then-requires : goal.thenc-then-requires
+thenc-then-requires g t c =
+    let next = c.converted-next.ensures.makes in
+    record {
+      library = next.library;
+      known = known-later c.args.t.now (continued-twice c.loop-other.invariant.1 next.continued) c.requires.asked.known;
+      right = known-later c.right_of-right.result.now next.continued c.right_of-right.ensures.known;
+      side = side-later c.args.t.now c.loop-other.made next.continued c.right_of-right.ensures.right;
+      first = still-answers c.args.t.now c.loop-other.made next.continued c.loop-other.invariant.3;
+      next = next.made;
+    }
 
 pub thenc-returns-in-Err-then-clause-converts : goal.thenc-returns-in-Err-then-clause-converts
 thenc-returns-in-Err-then-clause-converts g t c =
     let so_far = rw (rest-drop (g.L.Leaves.means c.args.leaves.now) c.args.others.now c.loop-other.other-index c.other-item.result (omega arith) c.other-item.is) at c.loop-other.invariant.0 in
-    thenc-off c.loop-other.made so_far c.loop-other.invariant.1 c.right_side-right.ensures.right c.convert-next.ensures.converts c.convert-next.ensures.makes c.in-Err-then.ensures.joins
+    thenc-off c.loop-other.made so_far c.loop-other.invariant.1 c.right_of-right.ensures.right c.converted-next.ensures.converts c.converted-next.ensures.makes c.in-Err-then.ensures.joins
 
 pub thenc-loop-other-preserved : goal.thenc-loop-other-preserved
 thenc-loop-other-preserved g t c =
     let so_far = rw (rest-drop (g.L.Leaves.means c.args.leaves.now) c.args.others.now c.loop-other.other-index c.other-item.result (omega arith) c.other-item.is) at c.loop-other.invariant.0 in
-    let next = c.convert-next.ensures.makes in
+    let next = c.converted-next.ensures.makes in
     let makes = c.in-Ok-then.ensures.makes in
     let joins = c.in-Ok-then.ensures.joins in (
-      thenc-on c.loop-other.made c.in-Ok-then.made so_far c.loop-other.invariant.1 c.right_side-right.ensures.right c.convert-next.ensures.converts next joins,
+      thenc-on c.loop-other.made c.in-Ok-then.made so_far c.loop-other.invariant.1 c.right_of-right.ensures.right c.converted-next.ensures.converts next joins,
       continued-twice c.loop-other.invariant.1 (continued-twice next.continued makes.continued),
       makes.library,
       makes.made,
-      onto-equation c.convert-next.new.library.recorder.theory c.loop-other.made.theorem (theorem_in c.convert-next.result) c.in-Ok-then.made.theorem joins,
+      thenc-equation c.args.t.now c.loop-other.made c.in-Ok-then.made c.loop-other.invariant.1 next joins,
     )
 
 pub thenc-returns-clause-converts : goal.thenc-returns-clause-converts
@@ -108,22 +121,22 @@ pub orelsec-returns-then-not-is_caught-clause-converts : goal.orelsec-returns-th
 orelsec-returns-then-not-is_caught-clause-converts g t c =
     chooses_stop _ _ _ _ c.loop-other.invariant.0 (search rules)
 
-pub orelsec-convert-requires-in-loop-other : goal.orelsec-convert-requires-in-loop-other
-orelsec-convert-requires-in-loop-other g t c =
+pub orelsec-converted-requires-in-loop-other : goal.orelsec-converted-requires-in-loop-other
+orelsec-converted-requires-in-loop-other g t c =
     let asked = asks-later (g.met.L.Leaves.stays_ready c.args.leaves.now) c.requires.asked c.loop-other.invariant.1 c.loop-other.invariant.2 in
     let le = size_in c.args.others.now c.loop-other.other-index c.other-item.result (omega arith) c.other-item.is in
     search rules
 
-pub orelsec-returns-in-Ok-convert-clause-converts : goal.orelsec-returns-in-Ok-convert-clause-converts
-orelsec-returns-in-Ok-convert-clause-converts g t c =
+pub orelsec-returns-in-Ok-converted-clause-converts : goal.orelsec-returns-in-Ok-converted-clause-converts
+orelsec-returns-in-Ok-converted-clause-converts g t c =
     let so_far = rw (rest-drop (g.L.Leaves.means c.args.leaves.now) c.args.others.now c.loop-other.other-index c.other-item.result (omega arith) c.other-item.is) at c.loop-other.invariant.0 in
-    chooses_answer _ _ _ _ so_far (search rules) (carried c.loop-other.invariant.1 c.in-Ok-convert.ensures.converts)
+    chooses_answer _ _ _ _ so_far (search rules) (carried-answer (Ok c.in-Ok-converted.made) c.loop-other.invariant.1 c.in-Ok-converted.ensures.converts)
 
 pub orelsec-loop-other-preserved : goal.orelsec-loop-other-preserved
 orelsec-loop-other-preserved g t c =
     let so_far = rw (rest-drop (g.L.Leaves.means c.args.leaves.now) c.args.others.now c.loop-other.other-index c.other-item.result (omega arith) c.other-item.is) at c.loop-other.invariant.0 in
-    let makes = c.in-Err-convert.ensures.makes in (
-      chooses_next _ _ _ _ so_far (search rules) (carried c.loop-other.invariant.1 c.in-Err-convert.ensures.converts),
+    let makes = c.in-Err-converted.ensures.makes in (
+      chooses_next _ _ _ _ so_far (search rules) (carried c.loop-other.invariant.1 c.in-Err-converted.ensures.converts),
       continued-twice c.loop-other.invariant.1 makes.continued,
       makes.library,
     )
@@ -133,26 +146,61 @@ orelsec-returns-clause-converts g t c =
     let so_far = rw (drop_all c.loop-other.other-index c.args.others.now (omega arith)) at c.loop-other.invariant.0 in
     chooses_end _ _ _ _ so_far
 
+pub rand_conv-of_argument-requires : goal.rand_conv-of_argument-requires
+rand_conv-of_argument-requires g t c =
+    let parts = c.in-Ok.ensures.ok in
+    let makes = c.converted-part.ensures.makes in
+    record {
+      library = makes.library;
+      whole = parts.is;
+      known = known-later c.args.t.now makes.continued c.requires.asked.known;
+      function = known-later c.in-Ok.function.now makes.continued (known-function c.requires.asked parts.is);
+      argument = known-later c.in-Ok.argument.now makes.continued (known-argument c.requires.asked parts.is);
+      part = makes.made;
+    }
+
 pub rand_conv-returns-in-Ok-clause-converts : goal.rand_conv-returns-in-Ok-clause-converts
 rand_conv-returns-in-Ok-clause-converts g t c =
-    argument-arm c.of_argument.result c.in-Ok.ensures.ok c.convert-part.ensures.converts c.convert-part.ensures.makes c.of_argument.ensures.joins
+    argument-arm c.of_argument.result c.in-Ok.ensures.ok c.converted-part.ensures.converts c.converted-part.ensures.makes c.of_argument.ensures.joins
 
 pub rand_conv-returns-in-Err-clause-converts : goal.rand_conv-returns-in-Err-clause-converts
 rand_conv-returns-in-Err-clause-converts g t c =
     rand-refused _ _ _ c.in-Err.ensures.err
 
+pub rator_conv-of_function-requires : goal.rator_conv-of_function-requires
+rator_conv-of_function-requires g t c =
+    let parts = c.in-Ok.ensures.ok in
+    let makes = c.converted-part.ensures.makes in
+    record {
+      library = makes.library;
+      whole = parts.is;
+      known = known-later c.args.t.now makes.continued c.requires.asked.known;
+      function = known-later c.in-Ok.function.now makes.continued (known-function c.requires.asked parts.is);
+      argument = known-later c.in-Ok.argument.now makes.continued (known-argument c.requires.asked parts.is);
+      part = makes.made;
+    }
+
 pub rator_conv-returns-in-Ok-clause-converts : goal.rator_conv-returns-in-Ok-clause-converts
 rator_conv-returns-in-Ok-clause-converts g t c =
-    function-arm c.of_function.result c.in-Ok.ensures.ok c.convert-part.ensures.converts c.convert-part.ensures.makes c.of_function.ensures.joins
+    function-arm c.of_function.result c.in-Ok.ensures.ok c.converted-part.ensures.converts c.converted-part.ensures.makes c.of_function.ensures.joins
 
 pub rator_conv-returns-in-Err-clause-converts : goal.rator_conv-returns-in-Err-clause-converts
 rator_conv-returns-in-Err-clause-converts g t c =
     rator-refused _ _ _ c.in-Err.ensures.err
 
+pub abs_conv-of_body-requires : goal.abs_conv-of_body-requires
+abs_conv-of_body-requires g t c =
+    let makes = c.converted-part.ensures.makes in
+    record {
+      library = makes.library;
+      known = known-later c.args.t.now makes.continued c.requires.asked.known;
+      part = held-answer c.converted-part.new.library c.in-Ok.body.now c.converted-part.result makes.made;
+    }
+
 pub abs_conv-returns-in-Ok-clause-converts : goal.abs_conv-returns-in-Ok-clause-converts
 abs_conv-returns-in-Ok-clause-converts g t c =
     let parts = c.in-Ok.ensures.ok in
-    body-arm c.of_body.result parts c.convert-part.ensures.converts c.convert-part.ensures.makes (c.of_body.ensures.joins parts.name parts.ty parts.bound)
+    body-arm c.of_body.result parts c.converted-part.ensures.converts c.converted-part.ensures.makes (c.of_body.ensures.joins parts.name parts.ty _ parts.bound parts.is)
 
 pub abs_conv-returns-in-Err-clause-converts : goal.abs_conv-returns-in-Err-clause-converts
 abs_conv-returns-in-Err-clause-converts g t c =
@@ -163,21 +211,32 @@ sub_conv-returns-then-depth-ge-DESCENTS_LIMIT-clause-converts g t c =
     let is : combination c.in-Combination.function.now c.in-Combination.argument.now ≡ c.args.t.now = search rules in
     parts-too-deep _ _ _ is (search rules)
 
-pub sub_conv-convert-second-requires : goal.sub_conv-convert-second-requires
-sub_conv-convert-second-requires g t c =
+pub sub_conv-converted-second-requires : goal.sub_conv-converted-second-requires
+sub_conv-converted-second-requires g t c =
     let is : combination c.in-Combination.function.now c.in-Combination.argument.now ≡ c.args.t.now = search rules in
     let asked = asks-later (g.met.L.Leaves.stays_ready c.args.leaves.now) (of-argument c.requires.asked (sym is)) c.in-Ok.ensures.makes.continued c.in-Ok.ensures.makes.library in
     search rules
 
-pub sub_conv-of_parts-requires-clause-first : goal.sub_conv-of_parts-requires-clause-first
-sub_conv-of_parts-requires-clause-first g t c =
-    still_made _ _ _ _ c.convert-second.ensures.makes c.in-Ok.ensures.makes.made
+pub sub_conv-of_parts-requires : goal.sub_conv-of_parts-requires
+sub_conv-of_parts-requires g t c =
+    let is : combination c.in-Combination.function.now c.in-Combination.argument.now ≡ c.args.t.now = search rules in
+    let second = c.converted-second.ensures.makes in
+    let continued = continued-twice c.in-Ok.ensures.makes.continued second.continued in
+    record {
+      library = second.library;
+      whole = sym is;
+      known = known-later c.args.t.now continued c.requires.asked.known;
+      function = known-later c.in-Combination.function.now continued (known-function c.requires.asked (sym is));
+      argument = known-later c.in-Combination.argument.now continued (known-argument c.requires.asked (sym is));
+      first = still-answers c.in-Combination.function.now c.in-Ok.first second.continued c.in-Ok.ensures.makes.made;
+      second = second.made;
+    }
 
 pub sub_conv-returns-in-Ok-clause-converts : goal.sub_conv-returns-in-Ok-clause-converts
 sub_conv-returns-in-Ok-clause-converts g t c =
     let is : combination c.in-Combination.function.now c.in-Combination.argument.now ≡ c.args.t.now = search rules in
     let room : c.args.depth < DESCENTS_LIMIT = search rules in
-    parts-arm c.of_parts.result is room c.in-Ok.ensures.converts c.in-Ok.ensures.makes c.convert-second.ensures.converts c.convert-second.ensures.makes c.of_parts.ensures.joins
+    parts-arm c.of_parts.result is room c.in-Ok.ensures.converts c.in-Ok.ensures.makes c.converted-second.ensures.converts c.converted-second.ensures.makes c.of_parts.ensures.joins
 
 pub sub_conv-returns-in-Err-clause-converts : goal.sub_conv-returns-in-Err-clause-converts
 sub_conv-returns-in-Err-clause-converts g t c =
@@ -197,23 +256,37 @@ pub sub_conv-returns-in-Constant-clause-converts : goal.sub_conv-returns-in-Cons
 sub_conv-returns-in-Constant-clause-converts g t c =
     reflects-leaf _ _ _ (search rules) c.same-in-Constant.ensures.reflects
 
-pub depth_conv-right_side-right-requires-clause-equation : goal.depth_conv-right_side-right-requires-clause-equation
-depth_conv-right_side-right-requires-clause-equation g t c =
-    is-equation _ _ _ c.in-Ok.ensures.converts
+pub depth_conv-right_of-right-requires : goal.depth_conv-right_of-right-requires
+depth_conv-right_of-right-requires g t c =
+    let below = c.in-Ok.ensures.makes in
+    record {
+      known = known-later c.args.t.now below.continued c.requires.asked.known;
+      answer = below.made;
+      equation = equation-later c.args.t.now c.in-Ok.below below.continued (is-equation _ _ _ c.in-Ok.ensures.converts);
+    }
 
 pub depth_conv-repeatc-here-requires : goal.depth_conv-repeatc-here-requires
 depth_conv-repeatc-here-requires g t c =
-    let asked = asks-now c.right_side-right.result.now (g.met.L.Leaves.stays_ready c.args.leaves.now) c.requires.asked c.in-Ok.ensures.makes.continued c.in-Ok.ensures.makes.library c.right_side-right.ensures.known in
+    let asked = asks-now c.right_of-right.result.now (g.met.L.Leaves.stays_ready c.args.leaves.now) c.requires.asked c.in-Ok.ensures.makes.continued c.in-Ok.ensures.makes.library c.right_of-right.ensures.known in
     let sized = ap size c.requires.whole in
     search rules
 
-pub depth_conv-then-requires-clause-first : goal.depth_conv-then-requires-clause-first
-depth_conv-then-requires-clause-first g t c =
-    still_made _ _ _ _ c.repeatc-here.ensures.makes c.in-Ok.ensures.makes.made
+pub depth_conv-then-requires : goal.depth_conv-then-requires
+depth_conv-then-requires g t c =
+    let below = c.in-Ok.ensures.makes in
+    let here = c.repeatc-here.ensures.makes in
+    record {
+      library = here.library;
+      known = known-later c.args.t.now (continued-twice below.continued here.continued) c.requires.asked.known;
+      right = known-later c.right_of-right.result.now here.continued c.right_of-right.ensures.known;
+      side = side-later c.args.t.now c.in-Ok.below here.continued c.right_of-right.ensures.right;
+      first = still-answers c.args.t.now c.in-Ok.below here.continued below.made;
+      next = here.made;
+    }
 
 pub depth_conv-returns-in-Ok-clause-converts : goal.depth_conv-returns-in-Ok-clause-converts
 depth_conv-returns-in-Ok-clause-converts g t c =
-    depth-arm c.then.result (ap (with_leaves (g.L.Leaves.means c.args.leaves.now)) c.requires.whole) c.in-Ok.ensures.converts c.in-Ok.ensures.makes c.right_side-right.ensures.right c.repeatc-here.ensures.converts
+    depth-arm c.then.result (ap (with_leaves (g.L.Leaves.means c.args.leaves.now)) c.requires.whole) c.in-Ok.ensures.converts c.in-Ok.ensures.makes c.right_of-right.ensures.right c.repeatc-here.ensures.converts
     c.repeatc-here.ensures.makes c.then.ensures.joins
 
 pub depth_conv-returns-in-Err-clause-converts : goal.depth_conv-returns-in-Err-clause-converts
@@ -236,39 +309,39 @@ once_depth_conv-returns-else-not-is_caught-clause-converts g t c =
 pub repeatc-returns-in-Err-clause-converts : goal.repeatc-returns-in-Err-clause-converts
 repeatc-returns-in-Err-clause-converts g t c = starved-at c.args.fuel.now.left c.in-Err.ensures.err
 
-pub repeatc-convert-made-requires : goal.repeatc-convert-made-requires
-repeatc-convert-made-requires g t c =
-    let asked = asks-now c.loop-chain.chain.current (g.met.L.Leaves.stays_ready c.args.leaves.now) c.requires.asked c.loop-chain.invariant.1 c.loop-chain.invariant.2 c.loop-chain.invariant.3.known in
+pub repeatc-converted-made-requires : goal.repeatc-converted-made-requires
+repeatc-converted-made-requires g t c =
+    let asked = asks-now c.loop-chain.chain.current (g.met.L.Leaves.stays_ready c.args.leaves.now) c.requires.asked c.loop-chain.invariant.1 c.loop-chain.invariant.2 c.loop-chain.invariant.3.held.known in
     search rules
 
 pub repeatc-link-requires-clause-chain : goal.repeatc-link-requires-clause-chain
 repeatc-link-requires-clause-chain g t c =
-    chain-later c.convert-made.ensures.makes.continued c.loop-chain.invariant.3
+    chain-later c.converted-made.ensures.makes.continued c.loop-chain.invariant.3
 
 pub repeatc-link-requires-clause-equation : goal.repeatc-link-requires-clause-equation
 repeatc-link-requires-clause-equation g t c =
-    link-equations c.convert-made.result c.convert-made.ensures.converts
+    link-equations c.converted-made.result c.converted-made.ensures.makes.continued c.converted-made.ensures.converts
 
 pub repeatc-returns-in-Ends-clause-converts : goal.repeatc-returns-in-Ends-clause-converts
 repeatc-returns-in-Ends-clause-converts g t c =
     let so_far = joined_defined _ _ _ _ refl c.loop-chain.invariant.0 in
-    (link-off (theorems c.loop-chain.chain.theorems.items) _ c.in-Ends.result so_far c.loop-chain.invariant.1 c.loop-chain.invariant.3.known c.convert-made.ensures.converts c.convert-made.ensures.makes c.in-Ends.ensures.links).0
+    (link-off c.loop-chain.chain _ c.in-Ends.result so_far c.loop-chain.invariant.1 c.loop-chain.invariant.3.held.known c.converted-made.ensures.converts c.converted-made.ensures.makes c.in-Ends.ensures.links).0
 
 pub repeatc-returns-in-Ends-clause-last : goal.repeatc-returns-in-Ends-clause-last
 repeatc-returns-in-Ends-clause-last g t c =
     let so_far = joined_defined _ _ _ _ refl c.loop-chain.invariant.0 in
-    (link-off (theorems c.loop-chain.chain.theorems.items) _ c.in-Ends.result so_far c.loop-chain.invariant.1 c.loop-chain.invariant.3.known c.convert-made.ensures.converts c.convert-made.ensures.makes c.in-Ends.ensures.links).1
+    (link-off c.loop-chain.chain _ c.in-Ends.result so_far c.loop-chain.invariant.1 c.loop-chain.invariant.3.held.known c.converted-made.ensures.converts c.converted-made.ensures.makes c.in-Ends.ensures.links).1
 
 pub repeatc-loop-chain-smaller : goal.repeatc-loop-chain-smaller
 repeatc-loop-chain-smaller g t c =
-    link-costs c.convert-made.new.library.recorder.theory (theorems c.loop-chain.chain.theorems.items) _ c.convert-made.result c.in-GoesOn.chain c.convert-made.ensures.converts c.in-GoesOn.ensures.links
+    link-costs c.converted-made.new.library.recorder.theory (proved_by c.converted-made.new.library.recorder.theory c.loop-chain.chain) c.args.t.now _ c.converted-made.result c.in-GoesOn.chain c.converted-made.ensures.converts c.in-GoesOn.ensures.links
 
 pub repeatc-loop-chain-preserved : goal.repeatc-loop-chain-preserved
 repeatc-loop-chain-preserved g t c =
     let so_far = joined_tried _ _ _ _ (joined_defined _ _ _ _ refl c.loop-chain.invariant.0) in
-    let makes = c.convert-made.ensures.makes in
+    let makes = c.converted-made.ensures.makes in
     let goes = c.in-GoesOn.ensures in (
-      link-on (theorems c.loop-chain.chain.theorems.items) _ c.in-GoesOn.chain so_far c.loop-chain.invariant.1 c.convert-made.ensures.converts makes goes.links,
+      link-on c.loop-chain.chain _ c.in-GoesOn.chain so_far c.loop-chain.invariant.1 c.converted-made.ensures.converts makes goes.links,
       continued-twice c.loop-chain.invariant.1 (continued-twice makes.continued goes.continued),
       goes.library,
       goes.made,
@@ -279,7 +352,7 @@ top_depth_conv-returns-in-Err-clause-converts g t c = starved-at c.args.fuel.now
 
 pub top_depth_conv-repeatc-here-requires : goal.top_depth_conv-repeatc-here-requires
 top_depth_conv-repeatc-here-requires g t c =
-    let asked = asks-now c.loop-chain.chain.current (g.met.L.Leaves.stays_ready c.args.leaves.now) c.requires.asked c.loop-chain.invariant.1 c.loop-chain.invariant.2 c.loop-chain.invariant.3.known in
+    let asked = asks-now c.loop-chain.chain.current (g.met.L.Leaves.stays_ready c.args.leaves.now) c.requires.asked c.loop-chain.invariant.1 c.loop-chain.invariant.2 c.loop-chain.invariant.3.held.known in
     let sized = ap size c.requires.whole in
     search rules
 
@@ -289,17 +362,17 @@ top_depth_conv-link-requires-clause-chain g t c =
 
 pub top_depth_conv-link-requires-clause-equation : goal.top_depth_conv-link-requires-clause-equation
 top_depth_conv-link-requires-clause-equation g t c =
-    link-equations c.repeatc-here.result c.repeatc-here.ensures.converts
+    link-equations c.repeatc-here.result c.repeatc-here.ensures.makes.continued c.repeatc-here.ensures.converts
 
 pub top_depth_conv-returns-in-Ends-clause-converts : goal.top_depth_conv-returns-in-Ends-clause-converts
 top_depth_conv-returns-in-Ends-clause-converts g t c =
     let so_far = top-start (ap (with_leaves (g.L.Leaves.means c.args.leaves.now)) c.requires.whole) c.loop-chain.invariant.0 in
-    (link-stop (theorems c.loop-chain.chain.theorems.items) _ c.in-Ends.result so_far c.loop-chain.invariant.1 c.repeatc-here.ensures.converts c.repeatc-here.ensures.makes c.repeatc-here.ensures.last c.in-Ends.ensures.links).0
+    (link-stop c.loop-chain.chain _ c.in-Ends.result so_far c.loop-chain.invariant.1 c.repeatc-here.ensures.converts c.repeatc-here.ensures.makes c.repeatc-here.ensures.last c.in-Ends.ensures.links).0
 
 pub top_depth_conv-sub_conv-below-requires : goal.top_depth_conv-sub_conv-below-requires
 top_depth_conv-sub_conv-below-requires g t c =
     let before = continued-twice c.loop-chain.invariant.1 (continued-twice c.repeatc-here.ensures.makes.continued c.in-GoesOn.ensures.continued) in
-    let asked = asks-now c.in-GoesOn.chain.current (g.met.L.Leaves.stays_ready c.args.leaves.now) c.requires.asked before c.in-GoesOn.ensures.library c.in-GoesOn.ensures.made.known in
+    let asked = asks-now c.in-GoesOn.chain.current (g.met.L.Leaves.stays_ready c.args.leaves.now) c.requires.asked before c.in-GoesOn.ensures.library c.in-GoesOn.ensures.made.held.known in
     search rules
 
 pub top_depth_conv-link-requires-in-loop-chain-clause-chain : goal.top_depth_conv-link-requires-in-loop-chain-clause-chain
@@ -310,65 +383,65 @@ pub top_depth_conv-returns-in-Ends-link-clause-converts : goal.top_depth_conv-re
 top_depth_conv-returns-in-Ends-link-clause-converts g t c =
     let so_far = top-start (ap (with_leaves (g.L.Leaves.means c.args.leaves.now)) c.requires.whole) c.loop-chain.invariant.0 in
     let before = continued-twice c.loop-chain.invariant.1 (continued-twice c.repeatc-here.ensures.makes.continued c.in-GoesOn.ensures.continued) in
-    let so_far = joined_defined _ _ _ _ refl (link-on (theorems c.loop-chain.chain.theorems.items) _ c.in-GoesOn.chain so_far c.loop-chain.invariant.1 c.repeatc-here.ensures.converts c.repeatc-here.ensures.makes c.in-GoesOn.ensures.links) in
-    let below = changed-arm c.sub_conv-below.result c.changed-below.result (top-below c.sub_conv-below.result (ap (with_leaves (g.L.Leaves.means c.args.leaves.now)) c.requires.whole) c.sub_conv-below.ensures.converts) c.changed-below.ensures.changed in
+    let so_far = joined_defined _ _ _ _ refl (link-on c.loop-chain.chain _ c.in-GoesOn.chain so_far c.loop-chain.invariant.1 c.repeatc-here.ensures.converts c.repeatc-here.ensures.makes c.in-GoesOn.ensures.links) in
+    let below = changed-arm c.sub_conv-below.result c.changed-below.result (top-below c.sub_conv-below.result (ap (with_leaves (g.L.Leaves.means c.args.leaves.now)) c.requires.whole) c.sub_conv-below.ensures.converts) (c.changed-below.ensures.changed _) in
     let makes = changed-makes c.sub_conv-below.result c.changed-below.result c.sub_conv-below.ensures.makes c.changed-below.ensures.same in
-    (link-off (theorems c.in-GoesOn.chain.theorems.items) _ c.in-Ends-link.result so_far before c.in-GoesOn.ensures.made.known below makes c.in-Ends-link.ensures.links).0
+    (link-off c.in-GoesOn.chain _ c.in-Ends-link.result so_far before c.in-GoesOn.ensures.made.held.known below makes c.in-Ends-link.ensures.links).0
 
-pub top_depth_conv-convert-again-requires : goal.top_depth_conv-convert-again-requires
-top_depth_conv-convert-again-requires g t c =
+pub top_depth_conv-converted-again-requires : goal.top_depth_conv-converted-again-requires
+top_depth_conv-converted-again-requires g t c =
     let before = continued-twice c.loop-chain.invariant.1 (continued-twice c.repeatc-here.ensures.makes.continued c.in-GoesOn.ensures.continued) in
     let before = continued-twice before (continued-twice c.sub_conv-below.ensures.makes.continued c.in-GoesOn-link.ensures.continued) in
-    let asked = asks-now c.in-GoesOn-link.chain.current (g.met.L.Leaves.stays_ready c.args.leaves.now) c.requires.asked before c.in-GoesOn-link.ensures.library c.in-GoesOn-link.ensures.made.known in
+    let asked = asks-now c.in-GoesOn-link.chain.current (g.met.L.Leaves.stays_ready c.args.leaves.now) c.requires.asked before c.in-GoesOn-link.ensures.library c.in-GoesOn-link.ensures.made.held.known in
     let sized = ap size c.requires.whole in
     search rules
 
 pub top_depth_conv-link-requires-in-loop-chain-2-clause-chain : goal.top_depth_conv-link-requires-in-loop-chain-2-clause-chain
 top_depth_conv-link-requires-in-loop-chain-2-clause-chain g t c =
-    chain-later c.convert-again.ensures.makes.continued c.in-GoesOn-link.ensures.made
+    chain-later c.converted-again.ensures.makes.continued c.in-GoesOn-link.ensures.made
 
 pub top_depth_conv-link-requires-in-loop-chain-2-clause-equation : goal.top_depth_conv-link-requires-in-loop-chain-2-clause-equation
 top_depth_conv-link-requires-in-loop-chain-2-clause-equation g t c =
-    link-equations c.convert-again.result c.convert-again.ensures.converts
+    link-equations c.converted-again.result c.converted-again.ensures.makes.continued c.converted-again.ensures.converts
 
 pub top_depth_conv-returns-in-Ends-link-2-clause-converts : goal.top_depth_conv-returns-in-Ends-link-2-clause-converts
 top_depth_conv-returns-in-Ends-link-2-clause-converts g t c =
     let so_far = top-start (ap (with_leaves (g.L.Leaves.means c.args.leaves.now)) c.requires.whole) c.loop-chain.invariant.0 in
     let before = continued-twice c.loop-chain.invariant.1 (continued-twice c.repeatc-here.ensures.makes.continued c.in-GoesOn.ensures.continued) in
-    let so_far = joined_defined _ _ _ _ refl (link-on (theorems c.loop-chain.chain.theorems.items) _ c.in-GoesOn.chain so_far c.loop-chain.invariant.1 c.repeatc-here.ensures.converts c.repeatc-here.ensures.makes c.in-GoesOn.ensures.links) in
-    let below = changed-arm c.sub_conv-below.result c.changed-below.result (top-below c.sub_conv-below.result (ap (with_leaves (g.L.Leaves.means c.args.leaves.now)) c.requires.whole) c.sub_conv-below.ensures.converts) c.changed-below.ensures.changed in
+    let so_far = joined_defined _ _ _ _ refl (link-on c.loop-chain.chain _ c.in-GoesOn.chain so_far c.loop-chain.invariant.1 c.repeatc-here.ensures.converts c.repeatc-here.ensures.makes c.in-GoesOn.ensures.links) in
+    let below = changed-arm c.sub_conv-below.result c.changed-below.result (top-below c.sub_conv-below.result (ap (with_leaves (g.L.Leaves.means c.args.leaves.now)) c.requires.whole) c.sub_conv-below.ensures.converts) (c.changed-below.ensures.changed _) in
     let makes = changed-makes c.sub_conv-below.result c.changed-below.result c.sub_conv-below.ensures.makes c.changed-below.ensures.same in
-    let so_far = joined_defined _ _ _ _ refl (link-on (theorems c.in-GoesOn.chain.theorems.items) _ c.in-GoesOn-link.chain (joined_tried _ _ _ _ so_far) before below makes c.in-GoesOn-link.ensures.links) in
+    let so_far = joined_defined _ _ _ _ refl (link-on c.in-GoesOn.chain _ c.in-GoesOn-link.chain (joined_tried _ _ _ _ so_far) before below makes c.in-GoesOn-link.ensures.links) in
     let before = continued-twice before (continued-twice makes.continued c.in-GoesOn-link.ensures.continued) in
-    (link-off (theorems c.in-GoesOn-link.chain.theorems.items) _ c.in-Ends-link-2.result so_far before c.in-GoesOn-link.ensures.made.known c.convert-again.ensures.converts c.convert-again.ensures.makes c.in-Ends-link-2.ensures.links).0
+    (link-off c.in-GoesOn-link.chain _ c.in-Ends-link-2.result so_far before c.in-GoesOn-link.ensures.made.held.known c.converted-again.ensures.converts c.converted-again.ensures.makes c.in-Ends-link-2.ensures.links).0
 
 pub top_depth_conv-returns-in-Ends-link-2-clause-makes : goal.top_depth_conv-returns-in-Ends-link-2-clause-makes
 top_depth_conv-returns-in-Ends-link-2-clause-makes g t c =
     let before = continued-twice c.loop-chain.invariant.1 (continued-twice c.repeatc-here.ensures.makes.continued c.in-GoesOn.ensures.continued) in
     let before = continued-twice before (continued-twice c.sub_conv-below.ensures.makes.continued c.in-GoesOn-link.ensures.continued) in
     let ends = c.in-Ends-link-2.ensures in
-    record { library = ends.library; continued = continued-twice before (continued-twice c.convert-again.ensures.makes.continued ends.continued); made = ends.made }
+    record { library = ends.library; continued = continued-twice before (continued-twice c.converted-again.ensures.makes.continued ends.continued); made = ends.made }
 
 pub top_depth_conv-loop-chain-smaller : goal.top_depth_conv-loop-chain-smaller
 top_depth_conv-loop-chain-smaller g t c =
-    let first = link-costs c.repeatc-here.new.library.recorder.theory (theorems c.loop-chain.chain.theorems.items) _ c.repeatc-here.result c.in-GoesOn.chain c.repeatc-here.ensures.converts c.in-GoesOn.ensures.links in
-    let below = changed-arm c.sub_conv-below.result c.changed-below.result c.sub_conv-below.ensures.converts c.changed-below.ensures.changed in
-    let second = link-costs c.sub_conv-below.new.library.recorder.theory (theorems c.in-GoesOn.chain.theorems.items) _ c.changed-below.result c.in-GoesOn-link.chain below c.in-GoesOn-link.ensures.links in
-    let third = link-costs c.convert-again.new.library.recorder.theory (theorems c.in-GoesOn-link.chain.theorems.items) _ c.convert-again.result c.in-GoesOn-link-2.chain c.convert-again.ensures.converts c.in-GoesOn-link-2.ensures.links in
+    let first = link-costs c.repeatc-here.new.library.recorder.theory (proved_by c.repeatc-here.new.library.recorder.theory c.loop-chain.chain) c.args.t.now _ c.repeatc-here.result c.in-GoesOn.chain c.repeatc-here.ensures.converts c.in-GoesOn.ensures.links in
+    let below = changed-arm c.sub_conv-below.result c.changed-below.result c.sub_conv-below.ensures.converts (c.changed-below.ensures.changed _) in
+    let second = link-costs c.sub_conv-below.new.library.recorder.theory (proved_by c.sub_conv-below.new.library.recorder.theory c.in-GoesOn.chain) c.args.t.now _ c.changed-below.result c.in-GoesOn-link.chain below c.in-GoesOn-link.ensures.links in
+    let third = link-costs c.converted-again.new.library.recorder.theory (proved_by c.converted-again.new.library.recorder.theory c.in-GoesOn-link.chain) c.args.t.now _ c.converted-again.result c.in-GoesOn-link-2.chain c.converted-again.ensures.converts c.in-GoesOn-link-2.ensures.links in
     omega (arith, first, second, third)
 
 pub top_depth_conv-loop-chain-preserved : goal.top_depth_conv-loop-chain-preserved
 top_depth_conv-loop-chain-preserved g t c =
     let so_far = top-start (ap (with_leaves (g.L.Leaves.means c.args.leaves.now)) c.requires.whole) c.loop-chain.invariant.0 in
     let before = continued-twice c.loop-chain.invariant.1 (continued-twice c.repeatc-here.ensures.makes.continued c.in-GoesOn.ensures.continued) in
-    let so_far = joined_defined _ _ _ _ refl (link-on (theorems c.loop-chain.chain.theorems.items) _ c.in-GoesOn.chain so_far c.loop-chain.invariant.1 c.repeatc-here.ensures.converts c.repeatc-here.ensures.makes c.in-GoesOn.ensures.links) in
-    let below = changed-arm c.sub_conv-below.result c.changed-below.result (top-below c.sub_conv-below.result (ap (with_leaves (g.L.Leaves.means c.args.leaves.now)) c.requires.whole) c.sub_conv-below.ensures.converts) c.changed-below.ensures.changed in
+    let so_far = joined_defined _ _ _ _ refl (link-on c.loop-chain.chain _ c.in-GoesOn.chain so_far c.loop-chain.invariant.1 c.repeatc-here.ensures.converts c.repeatc-here.ensures.makes c.in-GoesOn.ensures.links) in
+    let below = changed-arm c.sub_conv-below.result c.changed-below.result (top-below c.sub_conv-below.result (ap (with_leaves (g.L.Leaves.means c.args.leaves.now)) c.requires.whole) c.sub_conv-below.ensures.converts) (c.changed-below.ensures.changed _) in
     let makes = changed-makes c.sub_conv-below.result c.changed-below.result c.sub_conv-below.ensures.makes c.changed-below.ensures.same in
-    let so_far = joined_defined _ _ _ _ refl (link-on (theorems c.in-GoesOn.chain.theorems.items) _ c.in-GoesOn-link.chain (joined_tried _ _ _ _ so_far) before below makes c.in-GoesOn-link.ensures.links) in
+    let so_far = joined_defined _ _ _ _ refl (link-on c.in-GoesOn.chain _ c.in-GoesOn-link.chain (joined_tried _ _ _ _ so_far) before below makes c.in-GoesOn-link.ensures.links) in
     let before = continued-twice before (continued-twice makes.continued c.in-GoesOn-link.ensures.continued) in
-    let again = c.convert-again.ensures.makes in
+    let again = c.converted-again.ensures.makes in
     let goes = c.in-GoesOn-link-2.ensures in (
-      top-again (ap (with_leaves (g.L.Leaves.means c.args.leaves.now)) c.requires.whole) (link-on (theorems c.in-GoesOn-link.chain.theorems.items) _ c.in-GoesOn-link-2.chain (joined_tried _ _ _ _ so_far) before c.convert-again.ensures.converts again goes.links),
+      top-again (ap (with_leaves (g.L.Leaves.means c.args.leaves.now)) c.requires.whole) (link-on c.in-GoesOn-link.chain _ c.in-GoesOn-link-2.chain (joined_tried _ _ _ _ so_far) before c.converted-again.ensures.converts again goes.links),
       continued-twice before (continued-twice again.continued goes.continued),
       goes.library,
       goes.made,

@@ -1,0 +1,10 @@
+use Rattle.hol_conv.proofs.Chaining.{extends-by, begins-by}
+use Rattle.hol_conv.proofs.chain.extended.Goals as goal
+
+pub returns-in-Changed-clause-extends : goal.returns-in-Changed-clause-extends
+returns-in-Changed-clause-extends c =
+    let theory = c.args.library.now.recorder.theory in
+    extends-by theory c.args.chain c.in-Ok.chain c.in-Changed.made c.args.answer c.pushed.result c.in-Ok.ensures.settles c.in-Changed.is (c.pushed.ensures.extends theory)
+
+pub returns-in-Changed-clause-begun : goal.returns-in-Changed-clause-begun
+returns-in-Changed-clause-begun c = begins-by c.args.chain c.pushed.result c.pushed.ensures.begun

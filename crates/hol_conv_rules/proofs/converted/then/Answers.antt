@@ -1,0 +1,20 @@
+use Rattle.std.proofs.Common.{◌≡◌, ap, ◌∙◌, subst, true, Ok}
+use Rattle.hol_model.specs.Terms.NamedTerm.{equation, is_within_limits}
+use Rattle.hol_conv_rules.specs.declared.converted.Converted.{Converted}
+use Rattle.hol_conv_rules.specs.Converted.{IsAnswerOf}
+use Rattle.hol_conv_rules.proofs.Same.{then-unchanged}
+use Rattle.hol_conv_rules.proofs.converted.then.Goals as goal
+
+pub returns-in-Same-next-clause-joins : goal.returns-in-Same-next-clause-joins
+returns-in-Same-next-clause-joins c =
+    let fits : is_within_limits (equation c.args.t.now c.args.t.now) ≡ true = subst (λ (first : Converted). IsAnswerOf c.args.library.now c.args.t.now first) c.in-Same.is c.requires.first in
+    then-unchanged c.args.library.now.recorder.theory c.args.t.now c.args.right.now c.args.first.now c.args.next c.in-Same.is (c.in-Ok.is ∙ ap Ok c.in-Same-next.is) c.requires.side fits
+
+pub returns-in-Changed-next-clause-makes : goal.returns-in-Changed-next-clause-makes
+returns-in-Changed-next-clause-makes c = c.as_answer.ensures.made c.args.library.now c.from_same.new.library c.args.t.now c.from_same.ensures.makes
+
+pub returns-in-Same-next-2-clause-makes : goal.returns-in-Same-next-2-clause-makes
+returns-in-Same-next-2-clause-makes c = c.as_answer-in-Same-next-2.ensures.made c.args.library.now c.to_same.new.library c.args.t.now c.to_same.ensures.makes
+
+pub returns-in-Changed-next-2-clause-makes : goal.returns-in-Changed-next-2-clause-makes
+returns-in-Changed-next-2-clause-makes c = c.as_answer-in-Changed-next-2.ensures.made c.args.library.now c.trans.new.library c.args.t.now c.trans.ensures.makes

@@ -1,0 +1,289 @@
+// Answers of conversions, which may be that nothing changes: then no theorem is made.
+ghost use Rattle.std.specs.Prelude.{◌≡◌, ℕ, List, true, Ok, IfOk, IsSome};
+ghost use Rattle.hol_model.specs.Terms.HolType.{HolType};
+ghost use Rattle.hol_model.specs.Terms.NamedTerm.{NamedTerm, variable, combination, abstraction, equation, is_within_limits};
+ghost use Rattle.hol_model.specs.Logic.Theory.{Theory};
+ghost use Rattle.hol_model.specs.Logic.KnownTerm.{is_known};
+ghost use Rattle.hol_model.specs.Kernel.Rules.{dest_equation, refl_outcome};
+ghost use Rattle.hol_model.specs.Refining.Conversions as conversions;
+ghost use Rattle.hol_laws_refiners.proofs.Repeating.{onto};
+ghost use Rattle.hol_journal.specs.Journal.{IsMade, theorem_in};
+ghost use Rattle.hol_theorem_library.specs.Library.{IsLibrary};
+ghost use Rattle.hol_theorem_library.specs.declared.library.Library as library;
+ghost use Rattle.hol_conv_rules.specs.Makes.{Makes, Joins, IsRightSide};
+ghost use Rattle.hol_conv_rules.specs.Converted.{same_theorem, theorem_of, answered, changed_by, IsAnswerOf, IsHeldIn, MakesAnswer, from_refl, to_refl};
+
+use crate::joins::{abs, ap_term, ap_thm, if_changed, mk_comb, refl, right_side, trans};
+use hol_journal::Rec;
+use hol_model::{Fault, TERM_HEIGHT_LIMIT, TERM_NODES_LIMIT, TYPE_NODES_LIMIT};
+use hol_terms::Term;
+use hol_theorem_library::Library;
+use std::alloc::Global;
+
+/// What a conversion answers on a term.
+#[derive(Drop)]
+pub enum Converted {
+    /// `|- t = t`, which is not made.
+    Same,
+    Changed(Rec),
+}
+
+// Whether `t = t` is within the limits.
+fn equation_fits(t: &Term) -> bool
+    ensures { result ≡ is_within_limits (equation t.now t.now) }
+{
+    t.well_formed();
+    t.height() + 2 <= TERM_HEIGHT_LIMIT
+        && 2 * t.nodes() + 3 <= TERM_NODES_LIMIT
+        && 2 * t.ty().nodes() + 3 <= TYPE_NODES_LIMIT
+}
+
+/// That the term equals itself. Refused as REFL of a known term: TooLarge.
+pub fn unchanged(t: &Term) -> Result<Converted, Fault>
+    ensures outcome { (theory : Theory) → is_known theory t.now ≡ true → answered theory t.now result ≡ refl_outcome theory t.now }
+    ensures answer { (library : library.Library) → IfOk result (IsAnswerOf library t.now) }
+{
+    if equation_fits(t) {
+        Ok(Converted::Same)
+    } else {
+        Err(Fault::TooLarge)
+    }
+}
+
+/// A theorem that was made, as an answer.
+pub fn as_answer(made: Result<Rec, Fault>) -> Result<Converted, Fault>
+    ensures same { result ≡ changed_by made }
+    ensures answered { (theory : Theory) (t : NamedTerm) → answered theory t result ≡ theorem_in made }
+    ensures made { (old new : library.Library) (t : NamedTerm) → Makes old new made → MakesAnswer old new t result }
+{
+    match made {
+        Ok(made) => Ok(Converted::Changed(made)),
+        Err(fault) => Err(fault),
+    }
+}
+
+/// The theorem of an answer on a known term.
+pub fn theorem(
+    library: &mut Library,
+    alloc: Global,
+    t: &Term,
+    answer: Result<Converted, Fault>,
+) -> Result<Rec, Fault>
+    requires library { IsLibrary library.old }
+    requires known { is_known library.old.recorder.theory t.now ≡ true }
+    requires answer { IfOk answer (IsAnswerOf library.old t.now) }
+    ensures joins { Joins (answered library.old.recorder.theory t.now answer) (theorem_in result) }
+    ensures makes { Makes library.old library.new result }
+{
+    match answer {
+        Ok(Converted::Same) => refl(library, alloc, t),
+        Ok(Converted::Changed(made)) => Ok(made),
+        Err(fault) => Err(fault),
+    }
+}
+
+/// The right side of an answer on a known term.
+pub fn right_of<'a>(library: &Library, t: &'a Term, answer: &'a Converted) -> &'a Term
+    requires known { is_known library.now.recorder.theory t.now ≡ true }
+    requires answer { IsAnswerOf library.now t.now answer.now }
+    requires equation { IsSome (dest_equation (theorem_of library.now.recorder.theory t.now answer.now).conclusion) }
+    ensures right { IsRightSide (theorem_of library.now.recorder.theory t.now answer.now) result.now }
+    ensures known { is_known library.now.recorder.theory result.now ≡ true }
+{
+    match answer {
+        Converted::Same => t,
+        Converted::Changed(made) => right_side(library, made),
+    }
+}
+
+/// MK_COMB of answers on the parts of a known term.
+pub fn of_parts(
+    library: &mut Library,
+    alloc: Global,
+    t: &Term,
+    function: &Term,
+    argument: &Term,
+    first: Converted,
+    second: Result<Converted, Fault>,
+) -> Result<Converted, Fault>
+    requires library { IsLibrary library.old }
+    requires whole { t.now ≡ combination function.now argument.now }
+    requires known { is_known library.old.recorder.theory t.now ≡ true }
+    requires function { is_known library.old.recorder.theory function.now ≡ true }
+    requires argument { is_known library.old.recorder.theory argument.now ≡ true }
+    requires first { IsAnswerOf library.old function.now first }
+    requires second { IfOk second (IsAnswerOf library.old argument.now) }
+    ensures joins { Joins
+        (conversions.of_parts library.old.recorder.theory (Ok (theorem_of library.old.recorder.theory function.now first)) (answered library.old.recorder.theory argument.now second))
+        (answered library.old.recorder.theory t.now result) }
+    ensures makes { MakesAnswer library.old library.new t.now result }
+{
+    let second = match second {
+        Ok(second) => second,
+        Err(fault) => return Err(fault),
+    };
+    t.well_formed();
+    match first {
+        Converted::Same => match second {
+            Converted::Same => unchanged(t),
+            Converted::Changed(second) => as_answer(ap_term(library, alloc, function, &second)),
+        },
+        Converted::Changed(first) => match second {
+            Converted::Same => as_answer(ap_thm(library, alloc, &first, argument)),
+            Converted::Changed(second) => as_answer(mk_comb(library, alloc, &first, &second)),
+        },
+    }
+}
+
+/// AP_TERM of an answer on the argument of a known term. Refused as REFL of the function, which may have the larger type.
+pub fn of_argument(
+    library: &mut Library,
+    alloc: Global,
+    t: &Term,
+    function: &Term,
+    argument: &Term,
+    part: Result<Converted, Fault>,
+) -> Result<Converted, Fault>
+    requires library { IsLibrary library.old }
+    requires whole { t.now ≡ combination function.now argument.now }
+    requires known { is_known library.old.recorder.theory t.now ≡ true }
+    requires function { is_known library.old.recorder.theory function.now ≡ true }
+    requires argument { is_known library.old.recorder.theory argument.now ≡ true }
+    requires part { IfOk part (IsAnswerOf library.old argument.now) }
+    ensures joins { Joins (conversions.of_argument library.old.recorder.theory function.now (answered library.old.recorder.theory argument.now part))
+        (answered library.old.recorder.theory t.now result) }
+    ensures makes { MakesAnswer library.old library.new t.now result }
+{
+    let part = match part {
+        Ok(part) => part,
+        Err(fault) => return Err(fault),
+    };
+    match unchanged(function) {
+        Ok(same) => of_parts(library, alloc, t, function, argument, same, Ok(part)),
+        Err(fault) => Err(fault),
+    }
+}
+
+/// AP_THM of an answer on the function of a known term. Refused as REFL of the argument, which may have the larger type.
+pub fn of_function(
+    library: &mut Library,
+    alloc: Global,
+    t: &Term,
+    function: &Term,
+    argument: &Term,
+    part: Result<Converted, Fault>,
+) -> Result<Converted, Fault>
+    requires library { IsLibrary library.old }
+    requires whole { t.now ≡ combination function.now argument.now }
+    requires known { is_known library.old.recorder.theory t.now ≡ true }
+    requires function { is_known library.old.recorder.theory function.now ≡ true }
+    requires argument { is_known library.old.recorder.theory argument.now ≡ true }
+    requires part { IfOk part (IsAnswerOf library.old function.now) }
+    ensures joins { Joins (conversions.of_function library.old.recorder.theory argument.now (answered library.old.recorder.theory function.now part))
+        (answered library.old.recorder.theory t.now result) }
+    ensures makes { MakesAnswer library.old library.new t.now result }
+{
+    let part = match part {
+        Ok(part) => part,
+        Err(fault) => return Err(fault),
+    };
+    match unchanged(argument) {
+        Ok(same) => of_parts(library, alloc, t, function, argument, part, Ok(same)),
+        Err(fault) => Err(fault),
+    }
+}
+
+/// ABS of an answer on the body of a known term, an abstraction over this variable. Refused as `abs`.
+pub fn of_body(
+    library: &mut Library,
+    alloc: Global,
+    t: &Term,
+    binder: &Term,
+    part: Result<Converted, Fault>,
+) -> Result<Converted, Fault>
+    requires library { IsLibrary library.old }
+    requires known { is_known library.old.recorder.theory t.now ≡ true }
+    requires part { IfOk part (IsHeldIn library.old) }
+    ensures joins { (name : List ℕ) (ty : HolType) (body : NamedTerm) → binder.now ≡ variable name ty → t.now ≡ abstraction name ty body
+        → Joins (conversions.of_body library.old.recorder.theory name ty (answered library.old.recorder.theory body part)) (answered library.old.recorder.theory t.now result) }
+    ensures makes { MakesAnswer library.old library.new t.now result }
+{
+    match part {
+        Ok(Converted::Same) => unchanged(t),
+        Ok(Converted::Changed(part)) => as_answer(abs(library, alloc, binder, &part)),
+        Err(fault) => Err(fault),
+    }
+}
+
+// TRANS of what REFL proves and a theorem.
+fn from_same(library: &mut Library, alloc: Global, t: &Term, next: &Rec) -> Result<Rec, Fault>
+    requires library { IsLibrary library.old }
+    requires next { IsMade library.old.recorder next.now }
+    ensures makes { Makes library.old library.new result }
+    ensures joins { Joins (from_refl library.old.recorder.theory t.now next.now.theorem) (theorem_in result) }
+{
+    match refl(library, alloc, t) {
+        Ok(same) => trans(library, alloc, &same, next),
+        Err(fault) => Err(fault),
+    }
+}
+
+// TRANS of a theorem and what REFL proves.
+fn to_same(library: &mut Library, alloc: Global, first: &Rec, right: &Term) -> Result<Rec, Fault>
+    requires library { IsLibrary library.old }
+    requires first { IsMade library.old.recorder first.now }
+    ensures makes { Makes library.old library.new result }
+    ensures joins { Joins (to_refl library.old.recorder.theory first.now.theorem right.now) (theorem_in result) }
+{
+    match refl(library, alloc, right) {
+        Ok(same) => trans(library, alloc, first, &same),
+        Err(fault) => Err(fault),
+    }
+}
+
+/// TRANS of an answer on a known term and one on its right side. A theorem is not joined for nothing: the next may have other
+/// bound names on its left side, and the first stands on an earlier theory, it may be.
+pub fn then(
+    library: &mut Library,
+    alloc: Global,
+    t: &Term,
+    first: &Converted,
+    right: &Term,
+    next: Result<Converted, Fault>,
+) -> Result<Converted, Fault>
+    requires library { IsLibrary library.old }
+    requires known { is_known library.old.recorder.theory t.now ≡ true }
+    requires right { is_known library.old.recorder.theory right.now ≡ true }
+    requires side { IsRightSide (theorem_of library.old.recorder.theory t.now first.now) right.now }
+    requires first { IsAnswerOf library.old t.now first.now }
+    requires next { IfOk next (IsAnswerOf library.old right.now) }
+    ensures joins { Joins (onto library.old.recorder.theory (theorem_of library.old.recorder.theory t.now first.now) (answered library.old.recorder.theory right.now next))
+        (answered library.old.recorder.theory t.now result) }
+    ensures makes { MakesAnswer library.old library.new t.now result }
+{
+    let next = match next {
+        Ok(next) => next,
+        Err(fault) => return Err(fault),
+    };
+    match first {
+        Converted::Same => match next {
+            Converted::Same => Ok(Converted::Same),
+            Converted::Changed(next) => as_answer(from_same(library, alloc, t, &next)),
+        },
+        Converted::Changed(first) => match next {
+            Converted::Same => as_answer(to_same(library, alloc, first, right)),
+            Converted::Changed(next) => as_answer(trans(library, alloc, first, &next)),
+        },
+    }
+}
+
+/// The answer, where it is not that the term equals itself. Refused: ConvFails.
+pub fn only_changed(t: &Term, answer: Converted) -> Result<Converted, Fault>
+    ensures same { IfOk result (λ same. same ≡ answer) }
+    ensures changed { (theory : Theory) → answered theory t.now result ≡ conversions.if_changed t.now (Ok (theorem_of theory t.now answer)) }
+{
+    match answer {
+        Converted::Same => Err(Fault::ConvFails),
+        Converted::Changed(made) => as_answer(if_changed(t, made)),
+    }
+}
