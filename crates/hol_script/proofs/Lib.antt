@@ -3,3 +3,4 @@ pub mod RunLemmas
 pub mod RunLogLemmas
 pub mod HeadlineLemmas
 pub mod EndLemmas
+pub mod DeviceLemmas

@@ -91,6 +91,15 @@ impl Progress {
         }
     }
 
+    /// Lets go of what a log is written from, where none is wanted. No contract sees a change.
+    pub fn keep_journal_if(&mut self, wants_log: bool)
+        ensures { self.new ≡ self.old }
+    {
+        if !wants_log {
+            self.manager.forget_journal();
+        }
+    }
+
     /// Answers a command, which may call a host's functions. Where the name of a theorem would find no room, the command is
     /// refused.
     pub fn answer<H: Refiners>(

@@ -93,11 +93,13 @@ fn write_answer<W: Sink>(
     }
 }
 
-// Answers the requests of a script's pieces, one after another, and writes the text of each answer.
+// Answers the requests of a script's pieces, one after another, and writes the text of each answer. Where no log is wanted, what
+// it is written from is not kept.
 fn run_script<W: Sink, H: Refiners>(
     alloc: Global,
     script: &[u8],
     writer: &mut W,
+    wants_log: bool,
     host: &H,
 ) -> Result<Progress, Fault>
     requires unfailed { W.has_failed writer.old ≡ false }
@@ -108,6 +110,7 @@ fn run_script<W: Sink, H: Refiners>(
     ensures err { OnErr result (Breaks (session_tools (H.refiners host.now) (H.conversions host.now)) script.now (W.contents writer.old) (W.contents writer.new)) }
     ensures unfailed { OnOk result (W.has_failed writer.new ≡ false) }
     ensures failed { IsErrOf result WriteFault → W.has_failed writer.new ≡ true }
+    ensures told { W.has_failed writer.new ≡ true → IsErrOf result WriteFault }
     ensures unwritten { IsErrOf result Memory → writer.new ≡ writer.old }
     ensures refusals { IfErr result (Contains (WriteFault ∷ Memory ∷ [])) }
 {
@@ -115,6 +118,7 @@ fn run_script<W: Sink, H: Refiners>(
         Ok(progress) => progress,
         Err(fault) => return Err(fault),
     };
+    progress.keep_journal_if(wants_log);
     let mut rest = script;
     let mut line = 1u64;
     'pieces: while let Some((piece, behind)) = cut(rest) {
@@ -151,6 +155,7 @@ fn write_log<L: Sink>(alloc: Global, progress: &Progress, log: &mut L) -> Result
     requires named { HaveIdentifiers (claims_stored progress.now) }
     ensures ok { OnOk result (WritesLog (theory_of progress.now) (claims_listed progress.now) (L.contents log.old) (L.contents log.new)) }
     ensures unfailed { OnOk result (L.has_failed log.new ≡ false) }
+    ensures told { L.has_failed log.new ≡ true → IsErrOf result WriteFault }
     ensures write_fault { IsErrOf result WriteFault
         → (L.has_failed log.new ≡ true) × WritesFront (theory_of progress.now) (claims_listed progress.now) (L.contents log.old) (L.contents log.new) }
     ensures too_long { IsErrOf result TooLong → IsLongLogOver (theory_of progress.now) (claims_listed progress.now) }
@@ -213,7 +218,7 @@ pub fn run<R: Source, W: Sink, L: Sink, H: Refiners>(
         Ok(script) => script,
         Err(fault) => return Err(fault),
     };
-    let progress = match run_script(alloc, script.as_slice(), writer, host) {
+    let progress = match run_script(alloc, script.as_slice(), writer, wants_log, host) {
         Ok(progress) => progress,
         Err(fault) => return Err(fault),
     };

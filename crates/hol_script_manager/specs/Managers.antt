@@ -17,11 +17,6 @@ use Rattle.hol_script_session.specs.SessionState.{IsSession}
 use Rattle.hol_goals.specs.Made.{KeepsMade}
 use Rattle.hol_goals.specs.Stages.{stack_of}
 use Rattle.hol_laws_sessions.specs.ValidSessions.{IsTold}
-use Rattle.hol_model.specs.Texts.TermGrammar.{TermTree}
-use Rattle.hol_model_sessions.specs.TacticGrammar.{Tactic}
-use Rattle.hol_tactic_exprs.specs.declared.tac.Tac.{Tac}
-use Rattle.hol_tactic_grammar.specs.Expressions.{Kept}
-use Rattle.hol_tactic_grammar.specs.Tactics.{IsExpression}
 use Rattle.hol_script_manager.specs.declared.manager.Manager.{Manager}
 
 -- the state of a session that a manager keeps
@@ -46,11 +41,6 @@ pub record IsManager (manager : Manager) : Type 0 where
   pub stack : IsValidStack manager.prover.session.library.recorder.theory (store_in manager.prover.session.library) (stack_of manager.stack)
   pub made : KeepsMade manager.prover.session.library.recorder manager.stack
   pub told : IsTold (sessions.state_of manager.prover.session)
-
--- the expression is that of a tree of the grammar
-pub record IsOfTree (tac : Tac Kept) : Type 0 where
-  pub tree : Tactic TermTree
-  pub is : IsExpression tac tree
 
 -- the text of the open goals, which are shown as they may be
 pub record ShowsGoals (state : State) (printed : Printed) : Type 0 where

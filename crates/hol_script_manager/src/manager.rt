@@ -15,6 +15,7 @@ ghost use Rattle.hol_script_session.specs.Answers.{no_tools, plainly, Says};
 ghost use Rattle.hol_script_inference.specs.Answers.{session_tools};
 ghost use Rattle.hol_script_commands.specs.Views.{IsAsked};
 ghost use Rattle.hol_tactic_grammar.specs.Tactics.{IsExpression};
+ghost use Rattle.hol_tactic_reading.specs.Reading.{IsOfTree};
 ghost use Rattle.hol_model.specs.Kernel.Theorem.{Theorem};
 ghost use Rattle.hol_model.specs.Goals.GoalStates.{top_outcome};
 ghost use Rattle.hol_model_sessions.specs.ScriptSessions.{IsProved};
@@ -22,7 +23,7 @@ ghost use Rattle.hol_model_sessions.specs.TacticGrammar.{Tactic};
 ghost use Rattle.hol_journal_log.specs.LogAccepted.{log_claim};
 ghost use Rattle.hol_journal_log.specs.Pruning.{HaveIdentifiers};
 ghost use Rattle.hol_script_session.specs.StoredClaims.{IsAcceptedLog, IsLongLog};
-ghost use Rattle.hol_script_manager.specs.Managers.{state_of, journal_of, claims_of, IsManager, IsOfTree, ShowsGoals, IsUndone, Forgets};
+ghost use Rattle.hol_script_manager.specs.Managers.{state_of, journal_of, claims_of, IsManager, ShowsGoals, IsUndone, Forgets};
 
 use crate::goal_texts::{goals_are_well_formed, text_of_goals, text_of_only_goal};
 use crate::prover::Prover;
@@ -61,6 +62,13 @@ impl Manager {
             }),
             Err(fault) => Err(fault),
         }
+    }
+
+    /// Lets go of the entries that a log is written from; `log_text` finds no memory then. No contract sees a change.
+    pub fn forget_journal(&mut self)
+        ensures { self.new ≡ self.old }
+    {
+        self.prover.session.library.recorder.forget();
     }
 
     // A theorem that proves the goal is told by its text. Nothing is computed: the clause is the law.

@@ -22,6 +22,11 @@ use Rattle.hol_tactic_grammar.specs.Tactics.{IsExpression}
 
 -- ---- trees
 
+-- the expression is that of a tree of the grammar
+pub record IsOfTree (tac : Tac Kept) : Type 0 where
+  pub tree : grammar.Tactic TermTree
+  pub is : IsExpression tac tree
+
 -- the tree with its quoted terms read, or the first refusal
 abbrev pub tree_read : Scope → grammar.Tactic TermTree → Result (grammar.Tactic NamedTerm) Fault
 tree_read scope tree = grammar.read_tactic (meaning scope []) tree

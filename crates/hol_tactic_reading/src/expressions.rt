@@ -1,6 +1,6 @@
 // Refiner expressions, their quoted terms read: a recursion where parentheses, lists and prefixes nest, and loops over chains.
 ghost use Rattle.hol_syntax.specs.Scope.{scope_of};
-ghost use Rattle.hol_tactic_reading.specs.Reading.{ReadsTactic, ReadsExpression, ReadsEach, ReadsLink, ReadsLinks};
+ghost use Rattle.hol_tactic_reading.specs.Reading.{IsOfTree, ReadsTactic, ReadsExpression, ReadsEach, ReadsLink, ReadsLinks};
 
 use crate::leaves::read_leaf;
 use hol_model::Fault;
@@ -122,6 +122,7 @@ pub fn read_tactic(
     scope: &Scope,
     tac: &Tac<Vec<TermStep<'_>>>,
 ) -> Result<Tac<Term>, Fault>
+    requires { IsOfTree tac.now }
     ensures { ReadsTactic (scope_of scope.now) tac.now result }
 {
     read_expression(alloc, scope, tac)

@@ -53,6 +53,28 @@ fn lists_the_entries(rt: HostRuntime) {
     assert!(rt; entries(rt.alloc(), DECLARED, ENTRIES) == Ok(true));
 }
 
+// Whether a log could still be written behind a run, by whether the run was to write one.
+fn has_journal(alloc: Global, wants_log: bool) -> Result<bool, Fault> {
+    let mut reader = FromRead::new(SCRIPT);
+    let mut writer = IntoWrite::new(Vec::new(alloc));
+    let mut log = Kept::new(alloc);
+    let ended = run(
+        alloc,
+        &mut reader,
+        &mut writer,
+        &mut log,
+        wants_log,
+        &NoHost,
+    )?;
+    Ok(ended.manager.log_text(alloc, &[]).is_ok())
+}
+
+#[test]
+fn entries_are_kept_for_a_log_alone(rt: HostRuntime) {
+    assert!(rt; has_journal(rt.alloc(), true) == Ok(true));
+    assert!(rt; has_journal(rt.alloc(), false) == Ok(false));
+}
+
 // So many times the first text, a variable, and so many times the second text.
 fn under(alloc: Global, first: &[u8], times: usize, second: &[u8]) -> Result<Vec<u8>, Fault> {
     let mut whole = Vec::new(alloc);

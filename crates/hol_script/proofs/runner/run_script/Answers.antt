@@ -22,7 +22,7 @@ pieces-init g c =
     let accepted : progress.summary.accepted ≡ 0 = ap (λ (s : Summary). s.accepted) c.in-Ok.ensures.summary in
     let refused : progress.summary.refused ≡ 0 = ap (λ (s : Summary). s.refused) c.in-Ok.ensures.summary in
     let printed : progress.summary.printed ≡ 0 = ap (λ (s : Summary). s.printed) c.in-Ok.ensures.summary in
-    record {
+    rw c.keep_journal_if.ensures (record {
       underway = subst (λ (state : State). Underway tools script written written state 1 script (counts_of progress.summary) (names_of progress)) (sym c.in-Ok.ensures.state)
           (subst (λ (s : Summary). Underway tools script written written start 1 script (counts_of s) (names_of progress)) (sym c.in-Ok.ensures.summary)
           (subst (λ (names : List (List ℕ)). Underway tools script written written start 1 script (counts_of (record { accepted = 0; refused = 0; printed = 0 })) names) (sym c.in-Ok.ensures.names)
@@ -33,7 +33,7 @@ pieces-init g c =
       accepted = omega arith;
       refused = omega arith;
       printed = omega arith;
-    }
+    })
 
 pub returns-in-Err-write_answer-clause-err : goal.returns-in-Err-write_answer-clause-err
 returns-in-Err-write_answer-clause-err g c =
