@@ -22,9 +22,10 @@ gathered all grown step items rest whole so_far goes is =
     ∙ ap (λ items. goals_of all ++ goals_of_steps (map step_of items)) (sym goes)
     ∙ so_far
 
-pub refused_splice : (step : Step) (steps : List Step) (fault : Fault) → IsRefused (splice step.justification (map portion_of steps)) fault → AnswersSpliced step steps (Err fault)
-refused_splice step steps fault (inl memory) = inl memory
-refused_splice step steps fault (inr deep) = inr deep
+pub refused_splice : (justification : Justification) (steps : List Step) (fault : Fault) → IsRefused (splice justification (map portion_of steps)) fault
+    → AnswersSpliced justification steps (Err fault)
+refused_splice justification steps fault (inl memory) = inl memory
+refused_splice justification steps fault (inr deep) = inr deep
 
 pub all_gathered : (all : List code_goal.Goal) (items : List code.Step) (whole : List Goal) → goals_of all ++ goals_of_steps (map step_of items) ≡ whole → items ≡ [] → goals_of all ≡ whole
 all_gathered all items whole so_far none = sym (append-nil (goals_of all)) ∙ ap (λ items. goals_of all ++ goals_of_steps (map step_of items)) (sym none) ∙ so_far
@@ -35,12 +36,13 @@ portions : (parts : List code.Step) → map (λ part. portion_of (step_of part))
 portions [] = refl
 portions (first ∷ parts) = ap (λ rest. portion_of (step_of first) ∷ rest) (portions parts)
 
-pub refused_parts : (step : Step) (parts : List code.Step) (fault : Fault) → IsRefused (splice step.justification (map (λ part. portion_of (step_of part)) parts)) fault
-    → AnswersSpliced step (map step_of parts) (Err fault)
-refused_parts step parts fault refused = refused_splice step (map step_of parts) fault (subst (λ all. IsRefused (splice step.justification all) fault) (portions parts) refused)
+pub refused_parts : (justification : Justification) (parts : List code.Step) (fault : Fault) → IsRefused (splice justification (map (λ part. portion_of (step_of part)) parts)) fault
+    → AnswersSpliced justification (map step_of parts) (Err fault)
+refused_parts justification parts fault refused =
+    refused_splice justification (map step_of parts) fault (subst (λ all. IsRefused (splice justification all) fault) (portions parts) refused)
 
-pub made_parts : (step : Step) (parts : List code.Step) (goals : List Goal) (tree : Justification) → tree ≡ splice step.justification (map (λ part. portion_of (step_of part)) parts)
-    → is_within_depth tree ≡ true → goals ≡ goals_of_steps (map step_of parts) → AnswersSpliced step (map step_of parts) (Ok (record { goals = goals; justification = tree }))
-made_parts step parts goals tree is within all =
-    let same : tree ≡ splice step.justification (map portion_of (map step_of parts)) = is ∙ ap (λ all. splice step.justification all) (portions parts) in
+pub made_parts : (justification : Justification) (parts : List code.Step) (goals : List Goal) (tree : Justification) → tree ≡ splice justification (map (λ part. portion_of (step_of part)) parts)
+    → is_within_depth tree ≡ true → goals ≡ goals_of_steps (map step_of parts) → AnswersSpliced justification (map step_of parts) (Ok (record { goals = goals; justification = tree }))
+made_parts justification parts goals tree is within all =
+    let same : tree ≡ splice justification (map portion_of (map step_of parts)) = is ∙ ap (λ all. splice justification all) (portions parts) in
     (ap (λ goals. record { goals = goals; justification = tree }) all ∙ ap (λ tree. record { goals = goals_of_steps (map step_of parts); justification = tree }) same, within)

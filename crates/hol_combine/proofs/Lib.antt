@@ -3,3 +3,4 @@ pub mod Gathering
 pub mod Moves
 pub mod Repeats
 pub mod Posing
+pub mod Accepted

@@ -19,8 +19,7 @@ use Rattle.hol_model.specs.Refining.Refiners.{all_tac}
 use Rattle.hol_just.specs.Steps.{goal_of, goals_of, step_of}
 use Rattle.hol_just.specs.declared.goal.Goal as code_goal
 use Rattle.hol_just.specs.declared.goal.Step as code_step
-use Rattle.hol_combine.specs.declared.frames.Frame as code
-use Rattle.hol_combine.specs.Repeating.{Frame, frame_of, begun, with_done}
+use Rattle.hol_combine.specs.Repeating.{Frame, begun, with_done, with_goal}
 use Rattle.hol_combine.specs.Posed.{IsGrounded, IsPosed, ArePosed}
 use Rattle.hol_combine.specs.Answers.{answer_of, AnswersSpliced, RunsLink, none_assigned, runs_assigned}
 
@@ -139,7 +138,7 @@ module _ (theory : Theory) (host : Host) where
   -- ---- one link after another
 
   pub made-posed : {before after : Stage} {l : Link} {made : Step} {steps : List Step} (ls : Links) (step : Step) → RunsLink theory host before l step.goals (Ok steps) after
-      → ArePosed theory before.store (λ theory. HaveKnownWitnessesInLinks theory (link l ls)) step.goals → AnswersSpliced step steps (Ok made)
+      → ArePosed theory before.store (λ theory. HaveKnownWitnessesInLinks theory (link l ls)) step.goals → AnswersSpliced step.justification steps (Ok made)
       → ArePosed theory after.store (λ theory. HaveKnownWitnessesInLinks theory ls) made.goals
   made-posed ls step r posed is = record {
     grounded = grounded-after-link r posed.grounded;
@@ -159,42 +158,34 @@ module _ (theory : Theory) (host : Host) where
 
   -- ---- the frames of REPEAT
 
-  -- each frame's step has known subgoals
+  -- the subgoals that are left of each frame are known
   abbrev pub AreKnownFrames : List Frame → Type 0
   AreKnownFrames [] = Unit {0}
-  AreKnownFrames (frame ∷ frames) = AreKnownGoals theory frame.step.goals × AreKnownFrames frames
+  AreKnownFrames (frame ∷ frames) = AreKnownGoals theory frame.left × AreKnownFrames frames
 
   pub record FramesPosed (store : Store) (t : Tactic) (frames : List Frame) : Type 0 where
     pub grounded : IsGrounded theory store
     pub witnesses : HasKnownWitnesses theory t
     pub known : AreKnownFrames frames
 
-  known-at : (goals : List code_goal.Goal) (i : ℕ) (goal : code_goal.Goal) → AreKnownGoals theory (goals_of goals) → i < length goals → goal ≡ get_or goals i goal
-      → IsKnownGoal theory (goal_of goal)
-  known-at [] i goal known within is = absurd (omega (arith, within))
-  known-at (first ∷ goals) zero goal known within is = subst (λ goal. IsKnownGoal theory (goal_of goal)) (sym is) known.0
-  known-at (first ∷ goals) (suc i) goal known within is = known-at goals i goal known.1 (omega (arith, within)) is
+  -- the next subgoal of the frame on top, and what it leaves
+  pub next-posed : {store : Store} {t : Tactic} {frame : Frame} {frames : List Frame} {goal : Goal} → FramesPosed store t (with_goal goal frame ∷ frames) → IsPosed theory store t goal
+  next-posed posed = record { grounded = posed.grounded; witnesses = posed.witnesses; known = posed.known.0.0 }
 
-  -- the next subgoal of the frame on top
-  pub next-posed : {store : Store} {t : Tactic} {frames : List Frame} (frame : code.Frame) (goal : code_goal.Goal) → FramesPosed store t (frame_of frame ∷ frames)
-      → length frame.done.items < length frame.step.goals.items → goal ≡ get_or frame.step.goals.items (length frame.done.items) goal → IsPosed theory store t (goal_of goal)
-  next-posed frame goal posed within is = record {
-    grounded = posed.grounded;
-    witnesses = posed.witnesses;
-    known = known-at frame.step.goals.items (length frame.done.items) goal posed.known.0 within is;
-  }
+  pub taken-posed : {store : Store} {t : Tactic} {frame : Frame} {frames : List Frame} {goal : Goal} → FramesPosed store t (with_goal goal frame ∷ frames) → FramesPosed store t (frame ∷ frames)
+  taken-posed posed = record { grounded = posed.grounded; witnesses = posed.witnesses; known = (posed.known.0.1, posed.known.1) }
 
-  pub begun-posed : {before after : Stage} {t : Tactic} {goal : Goal} {step : Step} → Runs theory host before t goal (Ok step) after → IsPosed theory before.store t goal
-      → FramesPosed after.store t (begun step ∷ [])
-  begun-posed r posed = record {
+  pub begun-posed : {before after : Stage} {t : Tactic} {goal : Goal} {step : Step} (above : Option ℕ) → Runs theory host before t goal (Ok step) after → IsPosed theory before.store t goal
+      → FramesPosed after.store t (begun above step ∷ [])
+  begun-posed above r posed = record {
     grounded = grounded-after r posed.grounded;
     witnesses = posed.witnesses;
     known = ((answers-good r posed.grounded posed.witnesses posed.known).known, tt);
   }
 
-  pub descends-posed : {before after : Stage} {t : Tactic} {goal : Goal} {step : Step} {frames : List Frame} → Runs theory host before t goal (Ok step) after → IsPosed theory before.store t goal
-      → FramesPosed before.store t frames → FramesPosed after.store t (begun step ∷ frames)
-  descends-posed r posed frames = record {
+  pub descends-posed : {before after : Stage} {t : Tactic} {goal : Goal} {step : Step} {frames : List Frame} (above : Option ℕ) → Runs theory host before t goal (Ok step) after → IsPosed theory before.store t goal
+      → FramesPosed before.store t frames → FramesPosed after.store t (begun above step ∷ frames)
+  descends-posed above r posed frames = record {
     grounded = grounded-after r posed.grounded;
     witnesses = posed.witnesses;
     known = ((answers-good r posed.grounded posed.witnesses posed.known).known, frames.known);

@@ -1,6 +1,7 @@
 -- Lemmas on runs of refiner expressions.
 use Rattle.std.proofs.Common.{◌≡◌, ℕ, zero, suc, ◌+◌, ◌<◌, List, [], ◌∷◌, ◌++◌, length, drop, get_or, Bool, true, false, Some, None, Result, Ok, Err, Contains, inl, inr, refl, sym}
 use Rattle.std.proofs.Common.{ap, ◌∙◌, arith, append_assoc, append-nil, add-one, ◌==◌, eqb-true}
+use Rattle.std.specs.Prelude.{IfOk, IfErr}
 use Rattle.std.proofs.lemmas.List.{nil_from_length, length-map}
 use Rattle.std.proofs.lemmas.Bool.{eqb-false}
 use Rattle.std.proofs.Math.Seq.{drop-cons}
@@ -16,15 +17,16 @@ use Rattle.hol_model.specs.Refining.Refiners.{all_tac}
 use Rattle.hol_model.specs.Refining.Combinators.{Tactic, Tactics, Link, Links, Stage, at, leaf, host_tac, orelse, try, no_more, more, no_link, link, then_each, one_more, assigned}
 use Rattle.hol_model.specs.Refining.Combinators.{paired, with_step, Runs, RunsOn, RunsEach, no_step_is_left, host_is_unknown, host_fails, host_refines, first_answers}
 use Rattle.hol_model.specs.Refining.Combinators.{first_is_not_caught, last_is_refused, first_is_caught, runs_as_defined, ends, lengths_differ, next_is_refused, splice_is_too_deep}
-use Rattle.hol_model.specs.Refining.Combinators.{next_goes_on, goes_on_without_memory, none_is_left, one_is_refused, one_is_done, each_finds_no_memory}
-use Rattle.hol_laws_refiners.proofs.Later.{later-same, runs_each-later}
+use Rattle.hol_model.specs.Refining.Combinators.{next_goes_on, goes_on_without_memory, none_is_left, one_is_refused, one_is_done, each_finds_no_memory, finds_no_memory}
+use Rattle.hol_laws_refiners.proofs.Later.{later-same, runs-later, runs_each-later}
 use Rattle.hol_tactic_exprs.specs.Expressions.{tactic_of, tactics_of, link_of, links_of}
 use Rattle.hol_model.specs.Terms.NamedTerm.{NamedTerm}
 use Rattle.hol_tactic_exprs.specs.declared.tac.Tac.{Tac}
 use Rattle.hol_tactic_exprs.specs.declared.tac.Link as code
-use Rattle.hol_just.specs.Steps.{goal_of, goals_of}
+use Rattle.hol_just.specs.Steps.{goal_of, goals_of, step_of}
 use Rattle.hol_just.specs.declared.goal.Goal as code_goal
-use Rattle.hol_combine.specs.Answers.{AnswersSpliced, RunsLink, none_assigned, runs_assigned, RunsPaired, GoesOnAfter}
+use Rattle.hol_just.specs.declared.goal.Step as code_step
+use Rattle.hol_combine.specs.Answers.{answer_of, AnswersSpliced, RunsLink, none_assigned, runs_assigned, RunsPaired, GoesOnAfter}
 
 module _ (theory : Theory) (host : Host) where
   -- ---- a host's refiner
@@ -49,6 +51,13 @@ module _ (theory : Theory) (host : Host) where
       → host.refines name goal (Some answered) → AnswersAccept {A = Unit} theory store goal answered (Err fault)
       → Runs theory host (at store steps) (host_tac name) goal (Err fault) (at store left)
   host-rejected name goal answered fault spent there says is = rw spent (host_refines answered there says is)
+
+  -- the step is answered as it was, or there is no memory
+  pub host-bounded : {store : Store} {steps left : ℕ} (name : List ℕ) (goal : Goal) (answered : Step) (result : Result code_step.Step Fault) → steps ≡ suc left → Contains host.refiners name
+      → host.refines name goal (Some answered) → AnswersAccept {A = Unit} theory store goal answered (Ok tt) → IfOk result (λ made. step_of made ≡ answered)
+      → IfErr result (λ fault. fault ≡ Memory) → Runs theory host (at store steps) (host_tac name) goal (answer_of result) (at store left)
+  host-bounded name goal answered (Ok made) spent there says is same memory = rw same (host-refines name goal answered spent there says is)
+  host-bounded name goal answered (Err fault) spent there says is same memory = rw memory (finds_no_memory (runs-later theory host (host-refines name goal answered spent there says is)))
 
   -- ---- t ORELSE ..
 
@@ -118,6 +127,24 @@ module _ (theory : Theory) (host : Host) where
   pub each-end : {first now : Stage} {all : List (Tactic × Goal)} {done : List Step} → EachSoFar first all now [] done → RunsEach theory host first all (Ok done) now
   each-end {done} so_far = let r = so_far.decides (Ok []) _ none_is_left in rw (append-nil done) at r
 
+  pub with-ok : (step : Step) (rest : Result (List Step) Fault) (done : List Step) → with_step step rest ≡ Ok done → (steps : List Step) × (rest ≡ Ok steps) × (done ≡ step ∷ steps)
+  with-ok step (Ok steps) done is = (steps, refl, cc)
+  with-ok step (Err fault) done is = cc
+
+  behind-step : (step : Step) (steps done : List Step) (others : Result (List Step) Fault) → done ≡ step ∷ steps → after_done done others ≡ with_step step (after_done steps others)
+  behind-step step steps done (Ok rest) is = ap (λ all. Ok (all ++ rest)) is
+  behind-step step steps done (Err fault) is = refl
+
+  -- some goals and then others
+  pub then-each : {before mid after : Stage} {firsts lasts : List (Tactic × Goal)} {answer others : Result (List Step) Fault} (done : List Step) → RunsEach theory host before firsts answer mid
+      → answer ≡ Ok done → RunsEach theory host mid lasts others after → RunsEach theory host before (firsts ++ lasts) (after_done done others) after
+  then-each {others} done none_is_left is r = let none : [] ≡ done = cc in rw (← none, done-none others) r
+  then-each done (one_is_refused here) is r = cc
+  then-each {others} done (one_is_done {step} {others = rest} here each made) is r =
+      let found = with-ok step rest done (sym made ∙ is) in
+      one_is_done here (then-each found.0 each found.1 r) (behind-step step found.0 done others found.2)
+  then-each done (each_finds_no_memory later) is r = cc
+
   -- the same for a refiner each: what pairs are left is told by what is left of both lists
   pub record PairedSoFar (first : Stage) (ts : Tactics) (goals : List Goal) (now : Stage) (ts_left : Tactics) (goals_left : List Goal) (done : List Step) : Type 0 where
     pub decides : (others : Result (List Step) Fault) (after : Stage) → RunsPaired theory host now ts_left goals_left others after
@@ -153,14 +180,14 @@ module _ (theory : Theory) (host : Host) where
     pub decides : (answer : Result Step Fault) (after : Stage) → RunsOn theory host now step left answer after → RunsOn theory host first start all answer after
 
   on-linked : {now mid : Stage} {goals : List Goal} {step made : Step} {l : Link} {ls : Links} {steps : List Step} {answer : Result Step Fault} {after : Stage} → goals ≡ step.goals
-      → RunsLink theory host now l goals (Ok steps) mid → AnswersSpliced step steps (Ok made) → RunsOn theory host mid made ls answer after → RunsOn theory host now step (link l ls) answer after
+      → RunsLink theory host now l goals (Ok steps) mid → AnswersSpliced step.justification steps (Ok made) → RunsOn theory host mid made ls answer after → RunsOn theory host now step (link l ls) answer after
   on-linked {ls} {answer} {after} same (runs_assigned is r) made rest =
       let rest = rw made.0 at rest in
       let fits = rw made.0 at made.1 in
       next_goes_on (rw same at is) r fits rest
 
   pub on-next : {first now mid : Stage} {start step made : Step} {all ls : Links} {l : Link} {steps : List Step} → OnSoFar first start all now step (link l ls)
-      → RunsLink theory host now l step.goals (Ok steps) mid → AnswersSpliced step steps (Ok made) → OnSoFar first start all mid made ls
+      → RunsLink theory host now l step.goals (Ok steps) mid → AnswersSpliced step.justification steps (Ok made) → OnSoFar first start all mid made ls
   on-next so_far here made = record { decides = λ answer after r. so_far.decides answer after (on-linked refl here made r) }
 
   pub on-stop : {first now after : Stage} {start step : Step} {all ls : Links} {l : Link} {fault : Fault} → OnSoFar first start all now step (link l ls)
@@ -169,7 +196,7 @@ module _ (theory : Theory) (host : Host) where
   on-stop so_far (runs_assigned is r) = so_far.decides _ _ (next_is_refused is r)
 
   pub on-unspliced : {first now after : Stage} {start step : Step} {all ls : Links} {l : Link} {steps : List Step} {fault : Fault} → OnSoFar first start all now step (link l ls)
-      → RunsLink theory host now l step.goals (Ok steps) after → AnswersSpliced step steps (Err fault) → RunsOn theory host first start all (Err fault) after
+      → RunsLink theory host now l step.goals (Ok steps) after → AnswersSpliced step.justification steps (Err fault) → RunsOn theory host first start all (Err fault) after
   on-unspliced so_far (runs_assigned is r) (inl memory) = rw memory (so_far.decides _ _ (goes_on_without_memory (runs_each-later theory host r)))
   on-unspliced so_far (runs_assigned is r) (inr deep) = rw deep.0 (so_far.decides _ _ (splice_is_too_deep is r deep.1))
 

@@ -7,7 +7,8 @@ use Rattle.hol_model.specs.Terms.NamedTerm.{NamedTerm}
 use Rattle.hol_model.specs.Logic.Theory.{Theory}
 use Rattle.hol_model.specs.Goals.Goals.{Goal}
 use Rattle.hol_model.specs.Goals.ValidSteps.{Step}
-use Rattle.hol_model.specs.Goals.Splicing.{spliced}
+use Rattle.hol_model.specs.Goals.Justifications.{Justification}
+use Rattle.hol_model.specs.Goals.Splicing.{splice, portion_of, goals_of_steps}
 use Rattle.hol_model.specs.Goals.Replays.{Store, is_within_depth}
 use Rattle.hol_model.specs.Refining.HostFunctions.{Host, HostConversions}
 use Rattle.hol_model.specs.Refining.Combinators.{Tactic, Tactics, leaf, host_tac, orelse, repeat, Link, Stage, at, assigned, paired, on_all, Runs, RunsOn, RunsEach}
@@ -28,10 +29,14 @@ abbrev pub answers_of : Result (Vec code.Step Global) Fault → Result (List Ste
 answers_of (Ok steps) = Ok (map step_of steps.items)
 answers_of (Err fault) = Err fault
 
--- the step whose subgoals are refined by the steps, where its justification is not too deep
-abbrev pub AnswersSpliced : Step → List Step → Result Step Fault → Type 0
-AnswersSpliced step steps (Ok made) = (made ≡ spliced step steps) × (is_within_depth made.justification ≡ true)
-AnswersSpliced step steps (Err fault) = (fault ≡ Memory) ⊎ ((fault ≡ TooLarge) × (is_within_depth (spliced step steps).justification ≡ false))
+-- a step with this justification, its subgoals refined by the steps
+abbrev pub put_together : Justification → List Step → Step
+put_together justification steps = record { goals = goals_of_steps steps; justification = splice justification (map portion_of steps) }
+
+-- that step, where its justification is not too deep
+abbrev pub AnswersSpliced : Justification → List Step → Result Step Fault → Type 0
+AnswersSpliced justification steps (Ok made) = (made ≡ put_together justification steps) × (is_within_depth made.justification ≡ true)
+AnswersSpliced justification steps (Err fault) = (fault ≡ Memory) ⊎ ((fault ≡ TooLarge) × (is_within_depth (put_together justification steps).justification ≡ false))
 
 -- ---- what a list of refiners answers
 

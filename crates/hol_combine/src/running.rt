@@ -8,9 +8,9 @@ ghost use Rattle.hol_combine.specs.Posed.{IsPosed, ArePosed};
 ghost use Rattle.hol_combine.specs.Answers.{Refines, HostRefines, Repeats, GoesOn, Chains, LinkRefines, AllRefine, EachRefines};
 ghost use Rattle.hol_combine.specs.Repeating.{OnceRefines};
 
-use crate::frames::{Frame, begin, descend, pop, resume};
+use crate::frames::{Frame, begin, descend, pop, resume, take_goal};
 use crate::leaves::Leaves;
-use crate::splicing::{keep, spliced};
+use crate::splicing::{bounded, keep, spliced};
 use hol_host::Refiners;
 use hol_just::{Goal, Step};
 use hol_model::Fault;
@@ -43,7 +43,7 @@ fn run_host<H: Refiners, L: Leaves>(
         return Err(Fault::RefineFails);
     };
     match leaves.accept(alloc, goal, &step) {
-        Ok(()) => Ok(step),
+        Ok(()) => bounded(alloc, step),
         Err(fault) => Err(fault),
     }
 }
@@ -147,27 +147,27 @@ fn run_repeat<H: Refiners, L: Leaves>(
 {
     let mut stack = Vec::new(alloc);
     match run_once(alloc, again, goal, host, leaves, fuel) {
-        Once::Refined(step) => begin(alloc, &mut stack, step)?,
+        Once::Refined(step) => begin(alloc, &mut stack, Some(0), step)?,
         Once::Stays(step) => return Ok(step),
         Once::Refused(fault) => return Err(fault),
     }
-    while let Some(frame) = pop(&mut stack) {
-        if frame.done.len() < frame.step.goals.len() {
-            match run_once(
-                alloc,
-                again,
-                &frame.step.goals[frame.done.len()],
-                host,
-                leaves,
-                fuel,
-            ) {
+    while let Some(mut frame) = pop(&mut stack) {
+        if let Some(goal) = take_goal(&mut frame) {
+            let once = run_once(alloc, again, &goal, host, leaves, fuel);
+            drop(goal);
+            match once {
                 Once::Refined(next) => descend(alloc, &mut stack, frame, next)?,
                 Once::Stays(next) => resume(&mut stack, frame, next)?,
                 Once::Refused(fault) => return Err(fault),
             }
         } else {
-            let Frame { step, done } = frame;
-            let made = match spliced(alloc, &step, done) {
+            let Frame {
+                just,
+                goals: _,
+                done,
+                above: _,
+            } = frame;
+            let made = match spliced(alloc, &just, done) {
                 Ok(made) => made,
                 Err(fault) => return Err(fault),
             };
@@ -234,7 +234,7 @@ fn run_links<H: Refiners, L: Leaves>(
             Ok(steps) => steps,
             Err(fault) => return Err(fault),
         };
-        step = match spliced(alloc, &step, steps) {
+        step = match spliced(alloc, &step.just, steps) {
             Ok(step) => step,
             Err(fault) => return Err(fault),
         };

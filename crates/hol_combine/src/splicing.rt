@@ -1,11 +1,12 @@
 // A step whose subgoals are refined by further steps.
-ghost use Rattle.std.specs.Prelude.{◌≡◌, map, IfOk, IfErr, OnOk, ◌++◌, ◌∷◌, []};
+ghost use Rattle.std.specs.Prelude.{◌≡◌, true, length, map, IfOk, IfErr, OnOk, ◌++◌, ◌∷◌, []};
 ghost use Rattle.hol_model.specs.declared.fault.Fault.TheVariants.{Memory};
 ghost use Rattle.hol_model.specs.Goals.Splicing.{goals_of_steps};
-ghost use Rattle.hol_just.specs.Steps.{step_of, goals_of};
+ghost use Rattle.hol_just.specs.Steps.{step_of, goals_of, tree_of};
+ghost use Rattle.hol_just.specs.Subgoals.{subgoals_are_below};
 ghost use Rattle.hol_combine.specs.Answers.{answer_of, AnswersSpliced};
 
-use hol_just::{Goal, Step, splice};
+use hol_just::{Goal, Just, Step, splice};
 use hol_model::Fault;
 use std::alloc::Global;
 
@@ -16,6 +17,17 @@ pub(crate) fn keep(steps: &mut Vec<Step>, step: Step) -> Result<(), Fault>
 {
     steps.push(step)?;
     Ok(())
+}
+
+/// The step, in whose justification no line has a number past those of its subgoals, also where the root does not need it.
+pub(crate) fn bounded(alloc: Global, step: Step) -> Result<Step, Fault>
+    requires { subgoals_are_below (length step.goals.items) (tree_of step.just) ≡ true }
+    ensures ok { IfOk result (λ made. step_of made ≡ step_of step) }
+    ensures err { IfErr result (λ fault. fault ≡ Memory) }
+{
+    let Step { goals, just } = step;
+    let just = just.bounded(alloc, goals.len())?;
+    Ok(Step { goals, just })
 }
 
 // The subgoals of all steps.
@@ -31,11 +43,11 @@ fn goals_of_steps(alloc: Global, steps: Vec<Step>) -> Result<Vec<Goal>, Fault>
     Ok(all)
 }
 
-/// The step, with the steps in place of its subgoals.
-pub(crate) fn spliced(alloc: Global, step: &Step, steps: Vec<Step>) -> Result<Step, Fault>
-    ensures { AnswersSpliced (step_of step.now) (map step_of steps.items) (answer_of result) }
+/// The step with a justification, the steps in place of its subgoals.
+pub(crate) fn spliced(alloc: Global, just: &Just, steps: Vec<Step>) -> Result<Step, Fault>
+    ensures { AnswersSpliced (tree_of just.now) (map step_of steps.items) (answer_of result) }
 {
-    let just = match splice(alloc, &step.just, &steps) {
+    let just = match splice(alloc, just, &steps) {
         Ok(just) => just,
         Err(fault) => return Err(fault),
     };

@@ -1,8 +1,9 @@
-use Rattle.std.proofs.Common.{rules, refl, ap, arith, ◌∙◌, ◌+◌, ◌<◌, ◌≤◌, ◌≡◌, length, get_or, drop}
+use Rattle.std.proofs.Common.{rules, refl, ap, arith, ◌∙◌, ◌+◌, ◌<◌, ◌≤◌, ◌≡◌, length, get_or, drop, Some, []}
 use Rattle.std.proofs.lemmas.List.{drop_all, map-append}
 use Rattle.std.proofs.lemmas.Result.{err_from_is_err_and}
 use Rattle.hol_tactic_exprs.specs.Expressions.{tactic_of, tactics_of, link_of, links_of}
 use Rattle.hol_just.specs.Steps.{step_of}
+use Rattle.hol_combine.specs.Repeating.{frame_of, next_above}
 use Rattle.hol_model.specs.Refining.Combinators.{first_is_refused, first_goes_on, first_answers, first_is_not_caught, first_is_caught, none_is_left}
 use Rattle.hol_tactic_exprs.specs.declared.tac.Tac as tac
 use Rattle.hol_tactic_exprs.specs.declared.tac.Link as link
@@ -11,9 +12,9 @@ use Rattle.hol_combine.specs.Answers.{none_assigned, runs_assigned}
 use Rattle.hol_combine.proofs.Runs.{alone, tries, no-goals, some-goals, none-assigned, each-assigned, links-drop, goals-drop, tactics-drop, pairs-left, on-next, on-stop}
 use Rattle.hol_combine.proofs.Runs.{on-unspliced, on-end, each-next, each-stop, each-starved, each-end, paired-next, paired-stop, paired-starved, paired-end, others-next}
 use Rattle.hol_combine.proofs.Runs.{others-answer, others-stop, others-end}
-use Rattle.hol_combine.proofs.Repeats.{repeats-passed, repeats-stays, at_bottom, begins, resumes, refuses, starved, closes, unspliced, next-waits, all-done, spent-on-frame, spent-on-step}
+use Rattle.hol_combine.proofs.Repeats.{repeats-passed, repeats-stays, at_bottom, on_frame, none-left, begins, unbegun, resumes, refuses, starved, closes, unspliced, spent-on-frame, spent-on-step}
 use Rattle.hol_combine.proofs.Moves.{moves, all-passes}
-use Rattle.hol_combine.proofs.Posing.{list-posed, stays-posed, links-posed, others-posed, further-posed, made-posed, goals-posed, pairs-posed, next-posed, begun-posed}
+use Rattle.hol_combine.proofs.Posing.{list-posed, stays-posed, links-posed, others-posed, further-posed, made-posed, goals-posed, pairs-posed, next-posed, taken-posed, begun-posed}
 use Rattle.hol_combine.proofs.Posing.{descends-posed, resumes-posed, closes-posed}
 use Rattle.hol_combine.proofs.running.+run.Goals as goal
 
@@ -44,14 +45,6 @@ run_link-run_on_each-requires g t c =
 
 pub run_once-refine-requires-clause-posed : goal.run_once-refine-requires-clause-posed
 run_once-refine-requires-clause-posed g t c = rw c.in-Err.ensures.theory (stays-posed _ _ c.in-Err.ensures.outcome c.requires.posed)
-
-pub run_repeat-run_once-requires-then-len : goal.run_repeat-run_once-requires-then-len
-run_repeat-run_once-requires-then-len g t c =
-    let frames = rw c.in-Some.ensures at c.loop-frame.invariant.4 in
-    let within : length c.in-Some.frame.done.items < length c.in-Some.frame.step.goals.items = search rules in
-    let is : c.index.result.now ≡ get_or c.in-Some.frame.step.goals.items (length c.in-Some.frame.done.items) c.index.result.now = search rules in
-    let asked = rw (← c.loop-frame.invariant.1) at (next-posed _ _ c.in-Some.frame _ frames within is) in
-    search rules
 
 -- ---- what they answer
 
@@ -238,10 +231,12 @@ run_once-returns-in-Err-refine-clause-outcome g t c =
     let stays = rw c.in-Err.ensures.theory at c.in-Err-refine.ensures.outcome in
     (repeats-stays _ _ _ _ c.in-Err.ensures.outcome (search rules) stays, all-passes _ _ stays)
 
+-- ---- REPEAT
+
 pub run_repeat-returns-in_err-begin-in-Refined-clause-outcome : goal.run_repeat-returns-in_err-begin-in-Refined-clause-outcome
 run_repeat-returns-in_err-begin-in-Refined-clause-outcome g t c =
     let p = err_from_is_err_and c.from_residual.result c.from_residual.ensures.1 in
-    rw (p.1, p.2, c.in_err-begin-in-Refined.ensures.err) (starved _ _ _ _ _ (begins _ _ _ _ _ at_bottom c.in-Refined.ensures.outcome))
+    rw (p.1, p.2) (unbegun _ _ _ _ _ at_bottom c.in-Refined.ensures.outcome c.in_err-begin-in-Refined.ensures.err)
 
 pub run_repeat-loop-frame-init : goal.run_repeat-loop-frame-init
 run_repeat-loop-frame-init g t c = (
@@ -249,105 +244,90 @@ run_repeat-loop-frame-init g t c = (
   c.in-Refined.ensures.theory,
   c.in-Refined.ensures.ready,
   c.in-Refined.ensures.extends,
-  rw (c.in_ok-begin-in-Refined.ensures.ok, c.new-stack.ensures.items) (begun-posed _ _ c.in-Refined.ensures.outcome c.requires.posed),
+  rw (c.in_ok-begin-in-Refined.ensures.ok, c.new-stack.ensures.items) (begun-posed _ _ (Some 0) c.in-Refined.ensures.outcome c.requires.posed),
 )
 
 pub run_repeat-loop-frame-smaller-in-Continue-branch-2 : goal.run_repeat-loop-frame-smaller-in-Continue-branch-2
 run_repeat-loop-frame-smaller-in-Continue-branch-2 g t c =
-    spent-on-frame _ _ c.in-Some.ensures c.in_ok-descend-in-Refined-run_once.ensures.ok (moves _ _ c.in-Refined-run_once.ensures.outcome)
+    spent-on-frame _ _ c.in-Some.ensures c.in_ok-descend-in-Refined-once.ensures.ok (moves _ _ c.in-Refined-once.ensures.outcome)
 
 pub run_repeat-loop-frame-preserved-in-Continue-branch-2 : goal.run_repeat-loop-frame-preserved-in-Continue-branch-2
 run_repeat-loop-frame-preserved-in-Continue-branch-2 g t c =
-    let open_now = rw c.in-Some.ensures at c.loop-frame.invariant.0 in
-    let frames = rw c.in-Some.ensures at c.loop-frame.invariant.4 in
-    let within : length c.in-Some.frame.done.items < length c.in-Some.frame.step.goals.items = search rules in
-    let is : c.index.result.now ≡ get_or c.in-Some.frame.step.goals.items (length c.in-Some.frame.done.items) c.index.result.now = search rules in
-    let waits = next-waits _ _ _ _ _ c.in-Some.frame _ open_now within is in
-    let here = rw c.loop-frame.invariant.1 at c.in-Refined-run_once.ensures.outcome in (
-      rw c.in_ok-descend-in-Refined-run_once.ensures.ok (begins _ _ _ _ _ waits here),
-      c.in-Refined-run_once.ensures.theory ∙ c.loop-frame.invariant.1,
-      c.in-Refined-run_once.ensures.ready,
-      g.met.L.Leaves.extends_twice _ _ _ c.loop-frame.invariant.3 c.in-Refined-run_once.ensures.extends,
-      rw c.in_ok-descend-in-Refined-run_once.ensures.ok (descends-posed _ _ here (next-posed _ _ c.in-Some.frame _ frames within is) frames),
+    let waits = on_frame (rw (c.in-Some.ensures, c.in-Some-take_goal.ensures) at c.loop-frame.invariant.0) in
+    let frames = rw (c.in-Some.ensures, c.in-Some-take_goal.ensures) at c.loop-frame.invariant.4 in
+    let here = rw c.loop-frame.invariant.1 at c.in-Refined-once.ensures.outcome in (
+      rw c.in_ok-descend-in-Refined-once.ensures.ok (begins _ _ _ _ _ waits here),
+      c.in-Refined-once.ensures.theory ∙ c.loop-frame.invariant.1,
+      c.in-Refined-once.ensures.ready,
+      g.met.L.Leaves.extends_twice _ _ _ c.loop-frame.invariant.3 c.in-Refined-once.ensures.extends,
+      rw c.in_ok-descend-in-Refined-once.ensures.ok (descends-posed _ _ (next_above (frame_of c.take_goal.new.frame)) here (next-posed _ _ frames) (taken-posed _ _ frames)),
     )
 
-pub run_repeat-returns-in_err-descend-in-Refined-run_once-clause-outcome : goal.run_repeat-returns-in_err-descend-in-Refined-run_once-clause-outcome
-run_repeat-returns-in_err-descend-in-Refined-run_once-clause-outcome g t c =
-    let open_now = rw c.in-Some.ensures at c.loop-frame.invariant.0 in
-    let within : length c.in-Some.frame.done.items < length c.in-Some.frame.step.goals.items = search rules in
-    let is : c.index.result.now ≡ get_or c.in-Some.frame.step.goals.items (length c.in-Some.frame.done.items) c.index.result.now = search rules in
-    let waits = next-waits _ _ _ _ _ c.in-Some.frame _ open_now within is in
-    let here = rw c.loop-frame.invariant.1 at c.in-Refined-run_once.ensures.outcome in
-    let p = err_from_is_err_and c.from_residual-in_err-descend-in-Refined-run_once.result c.from_residual-in_err-descend-in-Refined-run_once.ensures.1 in
-    rw (p.1, p.2, c.in_err-descend-in-Refined-run_once.ensures.err) (starved _ _ _ _ _ (begins _ _ _ _ _ waits here))
+pub run_repeat-returns-in_err-descend-in-Refined-once-clause-outcome : goal.run_repeat-returns-in_err-descend-in-Refined-once-clause-outcome
+run_repeat-returns-in_err-descend-in-Refined-once-clause-outcome g t c =
+    let waits = on_frame (rw (c.in-Some.ensures, c.in-Some-take_goal.ensures) at c.loop-frame.invariant.0) in
+    let here = rw c.loop-frame.invariant.1 at c.in-Refined-once.ensures.outcome in
+    let p = err_from_is_err_and c.from_residual-in_err-descend-in-Refined-once.result c.from_residual-in_err-descend-in-Refined-once.ensures.1 in
+    rw (p.1, p.2) (unbegun _ _ _ _ _ waits here c.in_err-descend-in-Refined-once.ensures.err)
 
 pub run_repeat-loop-frame-smaller-in-Continue-branch-3 : goal.run_repeat-loop-frame-smaller-in-Continue-branch-3
 run_repeat-loop-frame-smaller-in-Continue-branch-3 g t c =
-    spent-on-step _ _ c.in-Some.ensures c.in_ok-resume-in-Stays-run_once.ensures.ok (moves _ _ c.in-Stays-run_once.ensures.outcome)
+    spent-on-step _ _ c.in-Some.ensures c.in_ok-resume-in-Stays-once.ensures.ok (moves _ _ c.in-Stays-once.ensures.outcome)
 
 pub run_repeat-loop-frame-preserved-in-Continue-branch-3 : goal.run_repeat-loop-frame-preserved-in-Continue-branch-3
 run_repeat-loop-frame-preserved-in-Continue-branch-3 g t c =
-    let open_now = rw c.in-Some.ensures at c.loop-frame.invariant.0 in
-    let frames = rw c.in-Some.ensures at c.loop-frame.invariant.4 in
-    let within : length c.in-Some.frame.done.items < length c.in-Some.frame.step.goals.items = search rules in
-    let is : c.index.result.now ≡ get_or c.in-Some.frame.step.goals.items (length c.in-Some.frame.done.items) c.index.result.now = search rules in
-    let waits = next-waits _ _ _ _ _ c.in-Some.frame _ open_now within is in
-    let here = rw c.loop-frame.invariant.1 at c.in-Stays-run_once.ensures.outcome in (
-      rw c.in_ok-resume-in-Stays-run_once.ensures.ok (resumes _ _ _ _ _ waits here),
-      c.in-Stays-run_once.ensures.theory ∙ c.loop-frame.invariant.1,
-      c.in-Stays-run_once.ensures.ready,
-      g.met.L.Leaves.extends_twice _ _ _ c.loop-frame.invariant.3 c.in-Stays-run_once.ensures.extends,
-      rw c.in_ok-resume-in-Stays-run_once.ensures.ok (resumes-posed _ _ here frames),
+    let waits = on_frame (rw (c.in-Some.ensures, c.in-Some-take_goal.ensures) at c.loop-frame.invariant.0) in
+    let frames = rw (c.in-Some.ensures, c.in-Some-take_goal.ensures) at c.loop-frame.invariant.4 in
+    let here = rw c.loop-frame.invariant.1 at c.in-Stays-once.ensures.outcome in (
+      rw c.in_ok-resume-in-Stays-once.ensures.ok (resumes _ _ _ _ _ waits here),
+      c.in-Stays-once.ensures.theory ∙ c.loop-frame.invariant.1,
+      c.in-Stays-once.ensures.ready,
+      g.met.L.Leaves.extends_twice _ _ _ c.loop-frame.invariant.3 c.in-Stays-once.ensures.extends,
+      rw c.in_ok-resume-in-Stays-once.ensures.ok (resumes-posed _ _ here (taken-posed _ _ frames)),
     )
 
-pub run_repeat-returns-in_err-resume-in-Stays-run_once-clause-outcome : goal.run_repeat-returns-in_err-resume-in-Stays-run_once-clause-outcome
-run_repeat-returns-in_err-resume-in-Stays-run_once-clause-outcome g t c =
-    let open_now = rw c.in-Some.ensures at c.loop-frame.invariant.0 in
-    let within : length c.in-Some.frame.done.items < length c.in-Some.frame.step.goals.items = search rules in
-    let is : c.index.result.now ≡ get_or c.in-Some.frame.step.goals.items (length c.in-Some.frame.done.items) c.index.result.now = search rules in
-    let waits = next-waits _ _ _ _ _ c.in-Some.frame _ open_now within is in
-    let here = rw c.loop-frame.invariant.1 at c.in-Stays-run_once.ensures.outcome in
-    let p = err_from_is_err_and c.from_residual-in_err-resume-in-Stays-run_once.result c.from_residual-in_err-resume-in-Stays-run_once.ensures.1 in
-    rw (p.1, p.2, c.in_err-resume-in-Stays-run_once.ensures.err) (starved _ _ _ _ _ (resumes _ _ _ _ _ waits here))
+pub run_repeat-returns-in_err-resume-in-Stays-once-clause-outcome : goal.run_repeat-returns-in_err-resume-in-Stays-once-clause-outcome
+run_repeat-returns-in_err-resume-in-Stays-once-clause-outcome g t c =
+    let waits = on_frame (rw (c.in-Some.ensures, c.in-Some-take_goal.ensures) at c.loop-frame.invariant.0) in
+    let here = rw c.loop-frame.invariant.1 at c.in-Stays-once.ensures.outcome in
+    let p = err_from_is_err_and c.from_residual-in_err-resume-in-Stays-once.result c.from_residual-in_err-resume-in-Stays-once.ensures.1 in
+    rw (p.1, p.2, c.in_err-resume-in-Stays-once.ensures.err) (starved _ _ _ _ _ (resumes _ _ _ _ _ waits here))
 
-pub run_repeat-returns-in-Refused-run_once-clause-outcome : goal.run_repeat-returns-in-Refused-run_once-clause-outcome
-run_repeat-returns-in-Refused-run_once-clause-outcome g t c =
-    let open_now = rw c.in-Some.ensures at c.loop-frame.invariant.0 in
-    let within : length c.in-Some.frame.done.items < length c.in-Some.frame.step.goals.items = search rules in
-    let is : c.index.result.now ≡ get_or c.in-Some.frame.step.goals.items (length c.in-Some.frame.done.items) c.index.result.now = search rules in
-    let waits = next-waits _ _ _ _ _ c.in-Some.frame _ open_now within is in
-    let here = rw c.loop-frame.invariant.1 at c.in-Refused-run_once.ensures.outcome in
+pub run_repeat-returns-in-Refused-once-clause-outcome : goal.run_repeat-returns-in-Refused-once-clause-outcome
+run_repeat-returns-in-Refused-once-clause-outcome g t c =
+    let waits = on_frame (rw (c.in-Some.ensures, c.in-Some-take_goal.ensures) at c.loop-frame.invariant.0) in
+    let here = rw c.loop-frame.invariant.1 at c.in-Refused-once.ensures.outcome in
     refuses _ _ _ _ _ waits here.0 here.1
 
 pub run_repeat-returns-in-Err-clause-outcome : goal.run_repeat-returns-in-Err-clause-outcome
 run_repeat-returns-in-Err-clause-outcome g t c =
-    let open_now = rw c.in-Some.ensures at c.loop-frame.invariant.0 in
-    let over : length c.in-Some.frame.step.goals.items ≤ length c.in-Some.frame.done.items = search rules in
-    let all = all-done c.in-Some.frame over in
-    unspliced _ _ _ _ _ open_now all c.in-Err.ensures
+    let same : frame_of c.take_goal.new.frame ≡ frame_of c.in-Some.frame = search rules in
+    let none : (frame_of c.in-Some.frame).left ≡ [] = search rules in
+    let open_now = rw (c.in-Some.ensures, ← same) at c.loop-frame.invariant.0 in
+    unspliced _ _ _ _ _ open_now (none-left same none) c.in-Err.ensures
 
 pub run_repeat-returns-in_default-pop-clause-outcome : goal.run_repeat-returns-in_default-pop-clause-outcome
 run_repeat-returns-in_default-pop-clause-outcome g t c =
-    let open_now = rw (c.in-Some.ensures, c.in_default-pop.ensures) at c.loop-frame.invariant.0 in
-    let over : length c.in-Some.frame.step.goals.items ≤ length c.in-Some.frame.done.items = search rules in
-    let all = all-done c.in-Some.frame over in
-    closes _ _ _ _ _ open_now all c.in-Ok.ensures
+    let same : frame_of c.take_goal.new.frame ≡ frame_of c.in-Some.frame = search rules in
+    let none : (frame_of c.in-Some.frame).left ≡ [] = search rules in
+    let open_now = rw (c.in-Some.ensures, c.in_default-pop.ensures, ← same) at c.loop-frame.invariant.0 in
+    closes _ _ _ _ _ open_now (none-left same none) c.in-Ok.ensures
 
 pub run_repeat-returns-in_err-resume-clause-outcome : goal.run_repeat-returns-in_err-resume-clause-outcome
 run_repeat-returns-in_err-resume-clause-outcome g t c =
-    let open_now = rw (c.in-Some.ensures, c.in-Some-pop.ensures) at c.loop-frame.invariant.0 in
-    let over : length c.in-Some.frame.step.goals.items ≤ length c.in-Some.frame.done.items = search rules in
-    let all = all-done c.in-Some.frame over in
+    let same : frame_of c.take_goal.new.frame ≡ frame_of c.in-Some.frame = search rules in
+    let none : (frame_of c.in-Some.frame).left ≡ [] = search rules in
+    let open_now = rw (c.in-Some.ensures, c.in-Some-pop.ensures, ← same) at c.loop-frame.invariant.0 in
     let p = err_from_is_err_and c.from_residual-in_err-resume.result c.from_residual-in_err-resume.ensures.1 in
-    rw (p.1, p.2, c.in_err-resume.ensures.err) (starved _ _ _ _ _ (closes _ _ _ _ _ open_now all c.in-Ok.ensures))
+    rw (p.1, p.2, c.in_err-resume.ensures.err) (starved _ _ _ _ _ (closes _ _ _ _ _ open_now (none-left same none) c.in-Ok.ensures))
 
 pub run_repeat-loop-frame-preserved : goal.run_repeat-loop-frame-preserved
 run_repeat-loop-frame-preserved g t c =
-    let open_now = rw (c.in-Some.ensures, c.in-Some-pop.ensures) at c.loop-frame.invariant.0 in
-    let frames = rw (c.in-Some.ensures, c.in-Some-pop.ensures) at c.loop-frame.invariant.4 in
-    let over : length c.in-Some.frame.step.goals.items ≤ length c.in-Some.frame.done.items = search rules in
-    let all = all-done c.in-Some.frame over in (
-      rw c.in_ok-resume.ensures.ok (closes _ _ _ _ _ open_now all c.in-Ok.ensures),
+    let same : frame_of c.take_goal.new.frame ≡ frame_of c.in-Some.frame = search rules in
+    let none : (frame_of c.in-Some.frame).left ≡ [] = search rules in
+    let open_now = rw (c.in-Some.ensures, c.in-Some-pop.ensures, ← same) at c.loop-frame.invariant.0 in
+    let frames = rw (c.in-Some.ensures, c.in-Some-pop.ensures) at c.loop-frame.invariant.4 in (
+      rw c.in_ok-resume.ensures.ok (closes _ _ _ _ _ open_now (none-left same none) c.in-Ok.ensures),
       c.loop-frame.invariant.1,
       c.loop-frame.invariant.2,
       c.loop-frame.invariant.3,

@@ -1,5 +1,7 @@
 use Rattle.std.proofs.Common.{rules}
-use Rattle.hol_combine.proofs.Runs.{host-starves, host-unknown, host-fails, host-refines, host-rejected}
+use Rattle.std.proofs.lemmas.List.{length-map}
+use Rattle.hol_combine.proofs.Runs.{host-starves, host-unknown, host-fails, host-bounded, host-rejected}
+use Rattle.hol_combine.proofs.Accepted.{accepted-below}
 use Rattle.hol_just.specs.Steps.{goal_of, step_of}
 use Rattle.hol_combine.proofs.running.run_host.Goals as goal
 
@@ -12,10 +14,14 @@ returns-in_default-clause-outcome g c = host-unknown _ _ c.args.name.now (goal_o
 pub returns-in_default-answer-clause-outcome : goal.returns-in_default-answer-clause-outcome
 returns-in_default-answer-clause-outcome g c = host-fails _ _ c.args.name.now (goal_of c.args.goal.now) c.if-not-spend.ensures.spent (search rules) (search rules)
 
+pub bounded-requires : goal.bounded-requires
+bounded-requires g c = let below = accepted-below c.in-Ok-accept.ensures.outcome in rw (length-map c.in-Ok.step.goals.items goal_of) at below
+
 pub returns-in-Ok-accept-clause-outcome : goal.returns-in-Ok-accept-clause-outcome
 returns-in-Ok-accept-clause-outcome g c =
     rw c.in-Ok-accept.ensures.store
-    (host-refines _ _ c.args.name.now (goal_of c.args.goal.now) (step_of c.in-Ok.step) c.if-not-spend.ensures.spent (search rules) (search rules) c.in-Ok-accept.ensures.outcome)
+    (host-bounded _ _ c.args.name.now (goal_of c.args.goal.now) (step_of c.in-Ok.step) c.bounded.result c.if-not-spend.ensures.spent (search rules) (search rules) c.in-Ok-accept.ensures.outcome
+    c.bounded.ensures.ok c.bounded.ensures.err)
 
 pub returns-in-Err-clause-outcome : goal.returns-in-Err-clause-outcome
 returns-in-Err-clause-outcome g c =
