@@ -186,6 +186,24 @@ line 2: E20 StepLimit
 1 subgoal
 ?- T
 
+== justifications that would have no end
+thm h = TAUT `(p:bool) \/ ~(p:bool)` ;;
+goal `(p:bool)` ;;
+e REPEAT (ASSUME_TAC TRUTH) ;;
+e REPEAT (MP_TAC TRUTH THEN DISCH_TAC) ;;
+e REPEAT (DISJ_CASES_TAC h) ;;
+p ;;
+
+--
+h: |- (p:bool) \/ ~(p:bool)
+1 subgoal
+?- (p:bool)
+line 3: E2 TooLarge
+line 4: E2 TooLarge
+line 5: E2 TooLarge
+1 subgoal
+?- (p:bool)
+
 == what is no command of goals
 r 007 ;;
 r ;;

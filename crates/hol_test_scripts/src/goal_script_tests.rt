@@ -6,7 +6,7 @@ use std::alloc::Global;
 
 #[test]
 fn goals(rt: HostRuntime) {
-    assert!(rt; first_wrong(rt.alloc(), GOALS) == Ok(12));
+    assert!(rt; first_wrong(rt.alloc(), GOALS) == Ok(13));
 }
 
 #[test]
