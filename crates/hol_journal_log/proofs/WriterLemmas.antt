@@ -1,7 +1,7 @@
 -- The steps of the writer.
-use Rattle.std.proofs.Common.{◌≡◌, ℕ, ◌+◌, List, [], ◌∷◌, ◌++◌, Bool, true, false, cond, not, if◌then◌else◌, map, refl, sym, ◌∙◌, ap, subst}
+use Rattle.std.proofs.Common.{◌≡◌, ℕ, zero, suc, ◌+◌, ◌||◌, List, [], ◌∷◌, ◌++◌, Bool, true, false, cond, not, if◌then◌else◌, map, refl, sym, ◌∙◌, ap, subst}
 use Rattle.std.proofs.Common.{eqb, Result, Ok, Err, IfOk, Some, None, length, arith}
-use Rattle.std.specs.Prelude.{position, nat_lt}
+use Rattle.std.specs.Prelude.{position, nat_lt, slice_get}
 use Rattle.std.proofs.lemmas.List.Sums.{prefix_len-le-length}
 use Rattle.std.proofs.lemmas.Bool.Decides.{nat_tests}
 use Rattle.hol_model.specs.Terms.HolType.{HolType, function_type}
@@ -12,9 +12,10 @@ use Rattle.hol_logtext.specs.Lines.{line_of}
 use Rattle.hol_model.specs.declared.fault.Fault.{Fault}
 use Rattle.std.specs.Str.{bytes_eq}
 use Rattle.std.proofs.lemmas.Slice.Eq.{bytes_eq-Decides}
-use Rattle.std.proofs.lemmas.Bool.{eq-eqb}
-use Rattle.hol_model.proofs.Tests.{both}
-use Rattle.std.specs.List.{list_any, position_or_len}
+use Rattle.std.proofs.lemmas.Bool.{eq-eqb, eqb-true}
+use Rattle.hol_model.proofs.Tests.{both, same_answer}
+use Rattle.std.specs.List.{list_any, position_or_len, IsDistinct, AllByRecursion}
+use Rattle.std.proofs.lemmas.Map.Keys.{IsDistinct-head, IsDistinct-tail}
 use Rattle.indexmap.specs.IndexSet.{insert_key}
 use Rattle.hol_model.specs.Logs.LogLine.{LogLine}
 use Rattle.hol_journal_log.specs.LogWriting.{Written, same_line, is_among, place_of}
@@ -170,6 +171,76 @@ module _ (key : TermLine) (keys new_keys : List TermLine) (types : List LogLine)
       ap (map line_of_term) (put ∙ new-key term_line.ghosts.eq line_of_term term_lines_agree key keys any) ∙ map-end term_line.ghosts.eq line_of_term term_lines_agree key keys in
       answer_at answer place _ answers (rw (same, longer) (new_term (line_of_term key) (term_is_named key) types theorems lines place (map line_of_term keys) (sym term_any ∙ any) term_place))
 
+-- what stands at a place of a list without repetitions is first found there
+
+at_place : {X : Type 0} (P : X → Type 0) (xs : List X) (i : ℕ) (x : X) → AllByRecursion P xs → slice_get xs i ≡ Some x → P x
+at_place P [] i x all there = cc
+at_place P (y ∷ xs) zero x all there = let same : y ≡ x = cc in subst P same all.0
+at_place P (y ∷ xs) (suc i) x all there = at_place P xs i x all.1 there
+
+any-there : {X : Type 0} (p : X → Bool) (xs : List X) (i : ℕ) (x : X) → slice_get xs i ≡ Some x → p x ≡ true → list_any p xs ≡ true
+any-there p [] i x there passes = cc
+any-there p (y ∷ xs) zero x there passes = let first : y ≡ x = cc in let is : p y ≡ true = subst (λ w. p w ≡ true) (sym first) passes in rw is
+any-there p (y ∷ xs) (suc i) x there passes = go (p y) (any-there p xs i x there passes)
+  where
+    go : (test : Bool) → list_any p xs ≡ true → (test || list_any p xs) ≡ true
+    go true later = refl
+    go false later = later
+
+place-there : {X : Type 0} (e : X → X → Bool) → ((x y : X) → e x y ≡ e y x) → (xs : List X) (i : ℕ) (x : X) → IsDistinct e xs → slice_get xs i ≡ Some x → e x x ≡ true → position_or_len (e x) xs ≡ i
+place-there e flips [] i x distinct there same = cc
+place-there e flips (y ∷ xs) zero x distinct there same = let first : y ≡ x = cc in let is : e x y ≡ true = subst (λ w. e x w ≡ true) (sym first) same in rw is
+place-there e flips (y ∷ xs) (suc i) x distinct there same =
+    let differ : e y x ≡ false = at_place (λ w. e y w ≡ false) xs i x (IsDistinct-head e y xs distinct) there in
+    let is : e x y ≡ false = flips x y ∙ differ in
+    let later : position_or_len (e x) xs ≡ i = place-there e flips xs i x (IsDistinct-tail e y xs distinct) there same in
+    let more : 1 + position_or_len (e x) xs ≡ suc i = omega arith in
+    rw is more
+
+bytes-flip : (a b : List ℕ) → bytes_eq a b ≡ bytes_eq b a
+bytes-flip a b = same_answer (bytes_eq a b) (bytes_eq b a) (turn a b) (turn b a)
+  where
+    turn : (a b : List ℕ) → bytes_eq a b ≡ true → bytes_eq b a ≡ true
+    turn a b same = (bytes_eq-Decides b a).1 (sym ((bytes_eq-Decides a b).0 same))
+
+number-flip : (a b : ℕ) → eqb a b ≡ eqb b a
+number-flip a b = same_answer (eqb a b) (eqb b a) (turn a b) (turn b a)
+  where
+    turn : (a b : ℕ) → eqb a b ≡ true → eqb b a ≡ true
+    turn a b same = eq-eqb b a (sym (eqb-true a b same))
+
+type_flips : (a b : TypeLine) → type_line.ghosts.eq a b ≡ type_line.ghosts.eq b a
+type_flips (types.Variable a) (types.Variable b) = bytes-flip a.now b.now
+type_flips types.Bool types.Bool = refl
+type_flips (types.Function a b) (types.Function c d) = let first = number-flip a c in let second = number-flip b d in cc
+type_flips (types.Declared a) (types.Declared b) = bytes-flip a.now b.now
+type_flips _ _ = refl
+
+term_flips : (a b : TermLine) → term_line.ghosts.eq a b ≡ term_line.ghosts.eq b a
+term_flips (terms.Variable a s) (terms.Variable b t) = let first = bytes-flip a.now b.now in let second = number-flip s t in cc
+term_flips (terms.Constant a s) (terms.Constant b t) = let first = bytes-flip a.now b.now in let second = number-flip s t in cc
+term_flips (terms.Combination f a) (terms.Combination g b) = let first = number-flip f g in let second = number-flip a b in cc
+term_flips (terms.Abstraction v a) (terms.Abstraction w b) = let first = number-flip v w in let second = number-flip a b in cc
+term_flips _ _ = refl
+
+pub type_at : (keys : List TypeLine) (key : TypeLine) (place : ℕ) (terms : List LogLine) (theorems : List ℕ) (lines : List LogLine) → IsDistinct type_line.ghosts.eq keys → Some key ≡ slice_get keys place
+    → IsTypeLineWritten (record { types = map line_of_type keys; terms = terms; theorems = theorems; lines = lines }) (record { types = map line_of_type keys; terms = terms; theorems = theorems; lines = lines }) (line_of_type key) place
+type_at keys key place terms theorems lines distinct there =
+    let same : type_line.ghosts.eq key key ≡ true = type_lines_agree key key ∙ type_is_named key in
+    let any : list_any (type_line.ghosts.eq key) keys ≡ true = any-there (type_line.ghosts.eq key) keys place key (sym there) same in
+    let first : position_or_len (type_line.ghosts.eq key) keys ≡ place = place-there type_line.ghosts.eq type_flips keys place key distinct (sym there) same in
+    was_type (line_of_type key) (type_is_named key) terms theorems lines place (map line_of_type keys) (sym (any-line type_line.ghosts.eq line_of_type type_lines_agree key keys) ∙ any)
+    (sym first ∙ place-line type_line.ghosts.eq line_of_type type_lines_agree key keys)
+
+pub term_at : (keys : List TermLine) (key : TermLine) (place : ℕ) (types : List LogLine) (theorems : List ℕ) (lines : List LogLine) → IsDistinct term_line.ghosts.eq keys → Some key ≡ slice_get keys place
+    → IsTermLineWritten (record { types = types; terms = map line_of_term keys; theorems = theorems; lines = lines }) (record { types = types; terms = map line_of_term keys; theorems = theorems; lines = lines }) (line_of_term key) place
+term_at keys key place types theorems lines distinct there =
+    let same : term_line.ghosts.eq key key ≡ true = term_lines_agree key key ∙ term_is_named key in
+    let any : list_any (term_line.ghosts.eq key) keys ≡ true = any-there (term_line.ghosts.eq key) keys place key (sym there) same in
+    let first : position_or_len (term_line.ghosts.eq key) keys ≡ place = place-there term_line.ghosts.eq term_flips keys place key distinct (sym there) same in
+    was_term (line_of_term key) (term_is_named key) types theorems lines place (map line_of_term keys) (sym (any-line term_line.ghosts.eq line_of_term term_lines_agree key keys) ∙ any)
+    (sym first ∙ place-line term_line.ghosts.eq line_of_term term_lines_agree key keys)
+
 pub lines_end : (old new : List Line) (line : Line) (is : LogLine) → new ≡ old ++ line ∷ [] → line_of line ≡ is → map line_of new ≡ map line_of old ++ is ∷ []
 lines_end old new line is longer same = ap (map line_of) longer ∙ go old
   where
@@ -203,6 +274,24 @@ pub abstraction_answers : (answer : Result ℕ Fault) (term : NamedTerm) (name :
     → IsTermWritten old one (variable name ty) i → IsTermWritten one two body j → IfOk answer (IsTermLineWritten two new (abstraction_line i j)) → IfOk answer (IsTermWritten old new term)
 abstraction_answers (Ok n) term name ty body old one two new i j is first second put = subst (λ s. IsTermWritten old new s n) is (abstraction_written name ty body old one two new i j n first second put)
 abstraction_answers (Err fault) term name ty body old one two new i j is first second put = tt
+
+-- what is written is written under its number already
+
+pub function_at : (ty a b : HolType) (w : Written) (d c n : ℕ) → function_type a b ≡ ty → IsTypeLineWritten w w (function_type_line d c) n → IsTypeWritten w w a d → IsTypeWritten w w b c → IsTypeWritten w w ty n
+function_at ty a b w d c n is put first second = subst (λ t. IsTypeWritten w w t n) is (function_written a b w w w w d c n first second put)
+
+pub variable_at : (name other : List ℕ) (ty : HolType) (w : Written) (t n : ℕ) → bytes_eq other name ≡ true → IsTermLineWritten w w (variable_line other t) n → IsTypeWritten w w ty t → IsTermWritten w w (variable name ty) n
+variable_at name other ty w t n same put first = subst (λ (m : List ℕ). IsTermWritten w w (variable m ty) n) ((bytes_eq-Decides other name).0 same) (variable_written other ty w w w t n first put)
+
+pub constant_at : (name other : List ℕ) (ty : HolType) (w : Written) (t n : ℕ) → bytes_eq other name ≡ true → IsTermLineWritten w w (constant_line other t) n → IsTypeWritten w w ty t → IsTermWritten w w (constant name ty) n
+constant_at name other ty w t n same put first = subst (λ (m : List ℕ). IsTermWritten w w (constant m ty) n) ((bytes_eq-Decides other name).0 same) (constant_written other ty w w w t n first put)
+
+pub combination_at : (term f a : NamedTerm) (w : Written) (i j n : ℕ) → combination f a ≡ term → IsTermLineWritten w w (combination_line i j) n → IsTermWritten w w f i → IsTermWritten w w a j → IsTermWritten w w term n
+combination_at term f a w i j n is put first second = subst (λ s. IsTermWritten w w s n) is (combination_written f a w w w w i j n first second put)
+
+pub abstraction_at : (term : NamedTerm) (name : List ℕ) (ty : HolType) (body : NamedTerm) (w : Written) (i j n : ℕ) → abstraction name ty body ≡ term → IsTermLineWritten w w (abstraction_line i j) n
+    → IsTermWritten w w (variable name ty) i → IsTermWritten w w body j → IsTermWritten w w term n
+abstraction_at term name ty body w i j n is put first second = subst (λ s. IsTermWritten w w s n) is (abstraction_written name ty body w w w w i j n first second put)
 
 -- the number of what is not there
 pub place_none : {X : Type 0} (p : X → Bool) (xs : List X) → None ≡ position p xs → length xs ≡ position_or_len p xs

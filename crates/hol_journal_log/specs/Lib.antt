@@ -2,6 +2,7 @@ pub mod Needed
 pub mod LogWriting
 pub mod Writing
 pub mod Marking
+pub mod Noted
 pub mod Writer
 pub mod LogAccepted
 pub mod Claims

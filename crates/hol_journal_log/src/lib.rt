@@ -5,8 +5,10 @@ mod claim;
 mod fitting;
 mod log;
 mod log_laws;
+mod mark;
 mod needed;
 mod pruning;
+mod same;
 mod writer;
 
 pub use claim::Claim;

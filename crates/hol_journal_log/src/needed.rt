@@ -1,5 +1,5 @@
 // Which entries of a journal the log of some theorems needs.
-ghost use Rattle.std.specs.Prelude.{◌≡◌, ◌<◌, ℕ, List, [], ◌∷◌, ◌++◌, length, slice_get, Some, IfOk, IfErr, OnOk};
+ghost use Rattle.std.specs.Prelude.{◌≡◌, ◌<◌, ℕ, List, [], ◌∷◌, ◌++◌, length, slice_get, Some, IfOk, IfErr, OnOk, IsTrue};
 ghost use Rattle.std.specs.List.{flat_map};
 ghost use Rattle.hol_model.specs.Logic.Derivable.{IsMember};
 ghost use Rattle.hol_model.specs.declared.fault.Fault.TheVariants.{Memory};
@@ -8,14 +8,89 @@ ghost use Rattle.hol_journal.specs.Steps.{terms_of, types_of, both_parts};
 ghost use Rattle.hol_journal.specs.Views.{step_of, entry_of, entries_of};
 ghost use Rattle.hol_journal_log.specs.Needed.{names_in_type, names_in_term, names_in, introduced_by, MarksNeeded, StandOnEarlier};
 ghost use Rattle.hol_journal_log.specs.Marking as marking;
-ghost use Rattle.hol_journal_log.specs.Marking.{Marks, Notes, held_names, IsMarkedFrom};
+ghost use Rattle.hol_journal_log.specs.Marking.{Marks, Notes, IsMarkedFrom};
 
+use crate::mark::mark_of;
+use crate::same::is_same;
 use hol_journal::entry::{Entry, Rule};
 use hol_model::Fault;
 use hol_terms::{Parts, Term};
 use hol_types::{Ty, TypeParts};
-use indexmap::IndexSet;
+use indexmap::{IndexMap, IndexSet};
 use std::alloc::Global;
+use std::marker::Model;
+
+/// The names that are noted.
+#[derive(Drop)]
+struct Names<'a> {
+    names: IndexSet<&'a str>,
+    // Terms whose names are noted, by the marks of these terms.
+    terms: IndexMap<u32, &'a Term>,
+}
+
+impl<'a> Model for Names<'a> {
+    ghost use Rattle.std.specs.Prelude.{ℕ, List};
+    ghost use Rattle.hol_journal_log.specs.Noted.{noted_names, AreNoted};
+
+    ghost Value = { List (List ℕ) };
+
+    ghost view = { noted_names };
+
+    ghost invariant = { λ inside. AreNoted (noted_names inside) inside.terms.entries };
+}
+
+impl<'a> Names<'a> {
+    // No names.
+    fn new(alloc: Global) -> Names<'a>
+        ensures { result ≡ [] }
+    {
+        Names {
+            names: IndexSet::new(alloc),
+            terms: IndexMap::new(alloc),
+        }
+    }
+
+    // Whether a name is noted.
+    fn contains(&self, name: &str) -> bool
+        ensures { result ≡ marking.is_noted self.now (Some name.now) }
+    {
+        self.names.contains(&name)
+    }
+
+    // Notes a name.
+    fn note(&mut self, name: &'a str) -> Result<(), Fault>
+        ensures ok { OnOk result (Notes self.old self.new (name.now ∷ [])) }
+        ensures err { IfErr result (λ fault. fault ≡ Memory) }
+    {
+        self.names.insert(name)?;
+        Ok(())
+    }
+
+    // Whether the names in a term are known to be noted.
+    fn has_names_of(&self, mark: u32, term: &Term) -> bool
+        ensures { IsTrue result → Notes self.now self.now (names_in_term term.now) }
+    {
+        match self.terms.get_full(&mark) {
+            Some((_, _, noted)) => is_same(noted, term),
+            None => false,
+        }
+    }
+
+    // Whether a term with this mark is kept.
+    fn has_mark(&self, mark: u32) -> bool {
+        self.terms.contains_key(&mark)
+    }
+
+    // Keeps a term whose names are noted.
+    fn keep(&mut self, mark: u32, term: &'a Term) -> Result<(), Fault>
+        requires { Notes self.old self.old (names_in_term term.now) }
+        ensures same { self.new ≡ self.old }
+        ensures err { IfErr result (λ fault. fault ≡ Memory) }
+    {
+        self.terms.insert(mark, term)?;
+        Ok(())
+    }
+}
 
 /// Which entries are needed for the theorems of the claimed entries.
 pub(crate) fn needed(
@@ -29,7 +104,7 @@ pub(crate) fn needed(
     ensures err { IfErr result (λ fault. fault ≡ Memory) }
 {
     let mut marks = marks_of(alloc, entries.len(), claimed)?;
-    let mut names = IndexSet::new(alloc);
+    let mut names = Names::new(alloc);
     match mark_all(entries, claimed, &mut marks, &mut names) {
         Ok(()) => Ok(marks),
         Err(fault) => Err(fault),
@@ -55,11 +130,11 @@ fn mark_all<'a>(
     entries: &'a [Entry],
     claimed: &[usize],
     marks: &mut Vec<bool>,
-    names: &mut IndexSet<&'a str>,
+    names: &mut Names<'a>,
 ) -> Result<(), Fault>
     requires earlier { StandOnEarlier (entries_of entries.now) }
-    requires begun { IsMarkedFrom (entries_of entries.now) claimed.now (length entries.now) marks.old.items (held_names names.old.keys) }
-    ensures ok { OnOk result (IsMarkedFrom (entries_of entries.now) claimed.now 0 marks.new.items (held_names names.new.keys)) }
+    requires begun { IsMarkedFrom (entries_of entries.now) claimed.now (length entries.now) marks.old.items names.old }
+    ensures ok { OnOk result (IsMarkedFrom (entries_of entries.now) claimed.now 0 marks.new.items names.new) }
     ensures err { IfErr result (λ fault. fault ≡ Memory) }
 {
     for behind in 0..entries.len() {
@@ -74,11 +149,11 @@ fn mark_entry<'a>(
     entry: &'a Entry,
     place: usize,
     marks: &mut Vec<bool>,
-    names: &mut IndexSet<&'a str>,
+    names: &mut Names<'a>,
 ) -> Result<(), Fault>
     requires place { place < length marks.old.items }
     requires within { marking.CitesWithin (entry_of entry.now) (length marks.old.items) }
-    ensures ok { OnOk result (marking.IsEntryMarked place (entry_of entry.now) marks.old.items (held_names names.old.keys) marks.new.items (held_names names.new.keys)) }
+    ensures ok { OnOk result (marking.IsEntryMarked place (entry_of entry.now) marks.old.items names.old marks.new.items names.new) }
     ensures err { IfErr result (λ fault. fault ≡ Memory) }
 {
     if !is_reached(entry, place, marks, names) {
@@ -92,11 +167,11 @@ fn mark_entry<'a>(
 fn mark_parts<'a>(
     entry: &'a Entry,
     marks: &mut Vec<bool>,
-    names: &mut IndexSet<&'a str>,
+    names: &mut Names<'a>,
 ) -> Result<(), Fault>
     requires { marking.CitesWithin (entry_of entry.now) (length marks.old.items) }
     ensures marked { Marks marks.old.items marks.new.items (marking.cited_by (entry_of entry.now)) }
-    ensures noted { OnOk result (Notes (held_names names.old.keys) (held_names names.new.keys) (names_in (entry_of entry.now))) }
+    ensures noted { OnOk result (Notes names.old names.new (names_in (entry_of entry.now))) }
     ensures err { IfErr result (λ fault. fault ≡ Memory) }
 {
     match entry {
@@ -111,9 +186,9 @@ fn mark_parts<'a>(
 }
 
 // Whether the entry is marked or introduces a noted name.
-fn is_reached(entry: &Entry, place: usize, marks: &[bool], names: &IndexSet<&str>) -> bool
+fn is_reached(entry: &Entry, place: usize, marks: &[bool], names: &Names<'_>) -> bool
     requires { place < length marks.now }
-    ensures { result ≡ marking.is_reached place (entry_of entry.now) marks.now (held_names names.now.keys) }
+    ensures { result ≡ marking.is_reached place (entry_of entry.now) marks.now names.now }
 {
     if marks[place] {
         return true;
@@ -122,14 +197,14 @@ fn is_reached(entry: &Entry, place: usize, marks: &[bool], names: &IndexSet<&str
 }
 
 // Whether the entry introduces a noted name.
-fn is_noted(names: &IndexSet<&str>, entry: &Entry) -> bool
-    ensures { result ≡ marking.is_noted (held_names names.now.keys) (introduced_by (entry_of entry.now)) }
+fn is_noted(names: &Names<'_>, entry: &Entry) -> bool
+    ensures { result ≡ marking.is_noted names.now (introduced_by (entry_of entry.now)) }
 {
     match entry {
         Entry::Derived(_, _) => false,
-        Entry::Defined(name, _) => names.contains(&name.as_str()),
-        Entry::DeclaredType(name) => names.contains(&name.as_str()),
-        Entry::DeclaredConstant(name, _) => names.contains(&name.as_str()),
+        Entry::Defined(name, _) => names.contains(name.as_str()),
+        Entry::DeclaredType(name) => names.contains(name.as_str()),
+        Entry::DeclaredConstant(name, _) => names.contains(name.as_str()),
     }
 }
 
@@ -166,16 +241,8 @@ fn mark_both(first: usize, second: usize, marks: &mut Vec<bool>)
     mark(second, marks);
 }
 
-fn note<'a>(name: &'a str, names: &mut IndexSet<&'a str>) -> Result<(), Fault>
-    ensures ok { OnOk result (Notes (held_names names.old.keys) (held_names names.new.keys) (name.now ∷ [])) }
-    ensures err { IfErr result (λ fault. fault ≡ Memory) }
-{
-    names.insert(name)?;
-    Ok(())
-}
-
-fn note_type<'a>(ty: &'a Ty, names: &mut IndexSet<&'a str>) -> Result<(), Fault>
-    ensures ok { OnOk result (Notes (held_names names.old.keys) (held_names names.new.keys) (names_in_type ty.now)) }
+fn note_type<'a>(ty: &'a Ty, names: &mut Names<'a>) -> Result<(), Fault>
+    ensures ok { OnOk result (Notes names.old names.new (names_in_type ty.now)) }
     ensures err { IfErr result (λ fault. fault ≡ Memory) }
 {
     match ty.parts() {
@@ -184,36 +251,74 @@ fn note_type<'a>(ty: &'a Ty, names: &mut IndexSet<&'a str>) -> Result<(), Fault>
             note_type(domain, names)?;
             note_type(codomain, names)
         }
-        TypeParts::Declared(name) => note(name, names),
+        TypeParts::Declared(name) => names.note(name),
     }
 }
 
-fn note_term<'a>(term: &'a Term, names: &mut IndexSet<&'a str>) -> Result<(), Fault>
-    ensures ok { OnOk result (Notes (held_names names.old.keys) (held_names names.new.keys) (names_in_term term.now)) }
+fn note_term<'a>(term: &'a Term, names: &mut Names<'a>) -> Result<(), Fault>
+    ensures ok { OnOk result (Notes names.old names.new (names_in_term term.now)) }
+    ensures err { IfErr result (λ fault. fault ≡ Memory) }
+{
+    let mark = mark_of(term);
+    if names.has_names_of(mark, term) {
+        return Ok(());
+    }
+    if names.has_mark(mark) {
+        return note_whole(mark, term, names);
+    }
+    match term.parts() {
+        Parts::Variable(_, ty) => note_type(ty, names),
+        Parts::Constant(name, ty) => {
+            names.note(name)?;
+            note_type(ty, names)
+        }
+        Parts::Combination(function, argument) => {
+            note_term(function, names)?;
+            note_term(argument, names)?;
+            names.keep(mark, term)
+        }
+        Parts::Abstraction(_, ty, body) => {
+            note_type(ty, names)?;
+            note_term(body, names)?;
+            names.keep(mark, term)
+        }
+    }
+}
+
+// Notes the names in a term whose mark is another term's too: its parts are not looked up whole, since each may be another's
+// but for what stands deep in it.
+fn note_whole<'a>(mark: u32, term: &'a Term, names: &mut Names<'a>) -> Result<(), Fault>
+    ensures ok { OnOk result (Notes names.old names.new (names_in_term term.now)) }
+    ensures err { IfErr result (λ fault. fault ≡ Memory) }
+{
+    note_walked(term, names)?;
+    names.keep(mark, term)
+}
+
+// Notes the names in a term, part by part.
+fn note_walked<'a>(term: &'a Term, names: &mut Names<'a>) -> Result<(), Fault>
+    ensures ok { OnOk result (Notes names.old names.new (names_in_term term.now)) }
     ensures err { IfErr result (λ fault. fault ≡ Memory) }
 {
     match term.parts() {
         Parts::Variable(_, ty) => note_type(ty, names),
         Parts::Constant(name, ty) => {
-            note(name, names)?;
+            names.note(name)?;
             note_type(ty, names)
         }
         Parts::Combination(function, argument) => {
-            note_term(function, names)?;
-            note_term(argument, names)
+            note_walked(function, names)?;
+            note_walked(argument, names)
         }
         Parts::Abstraction(_, ty, body) => {
             note_type(ty, names)?;
-            note_term(body, names)
+            note_walked(body, names)
         }
     }
 }
 
-fn note_term_pairs<'a>(
-    pairs: &'a [(Term, Term)],
-    names: &mut IndexSet<&'a str>,
-) -> Result<(), Fault>
-    ensures ok { OnOk result (Notes (held_names names.old.keys) (held_names names.new.keys) (flat_map names_in_term (both_parts pairs.now))) }
+fn note_term_pairs<'a>(pairs: &'a [(Term, Term)], names: &mut Names<'a>) -> Result<(), Fault>
+    ensures ok { OnOk result (Notes names.old names.new (flat_map names_in_term (both_parts pairs.now))) }
     ensures err { IfErr result (λ fault. fault ≡ Memory) }
 {
     for pair in pairs {
@@ -223,8 +328,8 @@ fn note_term_pairs<'a>(
     Ok(())
 }
 
-fn note_type_pairs<'a>(pairs: &'a [(Ty, Ty)], names: &mut IndexSet<&'a str>) -> Result<(), Fault>
-    ensures ok { OnOk result (Notes (held_names names.old.keys) (held_names names.new.keys) (flat_map names_in_type (both_parts pairs.now))) }
+fn note_type_pairs<'a>(pairs: &'a [(Ty, Ty)], names: &mut Names<'a>) -> Result<(), Fault>
+    ensures ok { OnOk result (Notes names.old names.new (flat_map names_in_type (both_parts pairs.now))) }
     ensures err { IfErr result (λ fault. fault ≡ Memory) }
 {
     for pair in pairs {
@@ -235,8 +340,8 @@ fn note_type_pairs<'a>(pairs: &'a [(Ty, Ty)], names: &mut IndexSet<&'a str>) -> 
 }
 
 // Notes the names in the terms and types of a rule.
-fn note_rule<'a>(rule: &'a Rule, names: &mut IndexSet<&'a str>) -> Result<(), Fault>
-    ensures ok { OnOk result (Notes (held_names names.old.keys) (held_names names.new.keys)
+fn note_rule<'a>(rule: &'a Rule, names: &mut Names<'a>) -> Result<(), Fault>
+    ensures ok { OnOk result (Notes names.old names.new
         (flat_map names_in_term (terms_of (step_of rule.now)) ++ flat_map names_in_type (types_of (step_of rule.now)))) }
     ensures err { IfErr result (λ fault. fault ≡ Memory) }
 {

@@ -1,5 +1,5 @@
 // The lines of a log, as they are written.
-ghost use Rattle.std.specs.Prelude.{◌≡◌, ◌+◌, length, List, [], ◌∷◌, ◌++◌, nat_eq, map, IfOk, IfErr, OnOk, IsTrue, IsFalse};
+ghost use Rattle.std.specs.Prelude.{◌≡◌, ◌+◌, length, List, [], ◌∷◌, ◌++◌, nat_eq, map, IfOk, IfErr, IfSome, OnOk, IsTrue, IsFalse};
 ghost use Rattle.std.specs.List.{list_any};
 ghost use Rattle.hol_model.specs.Terms.NamedTerm.{NamedTerm};
 ghost use Rattle.hol_model.specs.Logs.LogLine.LogLine.{header_line, theorem_line, end_line};
@@ -10,7 +10,7 @@ ghost use Rattle.hol_journal.specs.Steps.{both_parts};
 ghost use Rattle.hol_journal.specs.Views.{step_of, entry_of, entries_of};
 ghost use Rattle.hol_journal_log.specs.LogWriting as log;
 ghost use Rattle.hol_journal_log.specs.LogWriting.{Written, Claimed, nothing_written, number_of_entry, with_line};
-ghost use Rattle.hol_model.specs.Terms.NamedTerm.{variable};
+ghost use Rattle.hol_model.specs.Terms.NamedTerm.{variable, constant};
 ghost use Rattle.hol_model.specs.Terms.Name.{is_identifier};
 ghost use Rattle.hol_journal_log.specs.LogAccepted.{has_name};
 ghost use Rattle.hol_journal_log.specs.Writing.{KeepsNames, StandBelow, write_marked, AreTypesWritten, AreTermsWritten, IsStepWritten, IsTypeLineWritten, IsTermLineWritten, IsTypeWritten, IsTermWritten};
@@ -18,13 +18,14 @@ ghost use Rattle.hol_journal_log.specs.Claims.{claims_of};
 ghost use Rattle.hol_journal_log.specs.Writer.{line_of_type, line_of_term, written};
 
 use crate::claim::Claim;
+use crate::mark::mark_of;
 use hol_journal::entry::{Entry, Rule};
 use hol_kernel::Thm;
 use hol_logtext::{Line, Rule as LogRule, Version};
 use hol_model::Fault;
 use hol_terms::{Parts, Term};
 use hol_types::{Ty, TypeParts};
-use indexmap::IndexSet;
+use indexmap::{IndexMap, IndexSet};
 use std::alloc::Global;
 
 /// The line of a type, whose parts are named by the numbers of their lines.
@@ -76,6 +77,8 @@ impl<'a> TermLine<'a> {
 pub(crate) struct Writer<'a> {
     types: IndexSet<TypeLine<'a>>,
     terms: IndexSet<TermLine<'a>>,
+    // Numbers of terms, by the marks of these terms. Nothing is said of them: each is tested where it is used.
+    hints: IndexMap<u32, u32>,
     // The entries whose theorems have lines.
     theorems: IndexSet<usize>,
     lines: Vec<Line<'a>>,
@@ -100,6 +103,7 @@ impl<'a> Writer<'a> {
         Writer {
             types: IndexSet::new(alloc),
             terms: IndexSet::new(alloc),
+            hints: IndexMap::new(alloc),
             theorems: IndexSet::new(alloc),
             lines: Vec::new(alloc),
         }
@@ -135,6 +139,18 @@ impl<'a> Writer<'a> {
         number(place)
     }
 
+    // Puts the line of a term, unless it is there, and keeps its number for the mark.
+    fn put_marked(&mut self, mark: u32, line: TermLine<'a>) -> Result<u32, Fault>
+        requires { IsTrue (has_name (line_of_term line)) }
+        ensures ok { IfOk result (IsTermLineWritten (written self.old) (written self.new) (line_of_term line.entry)) }
+        ensures named { OnOk result (KeepsNames (written self.old) (written self.new)) }
+        ensures err { IfErr result (λ fault. fault ≡ Memory) }
+    {
+        let number = self.put_term(line)?;
+        self.hints.insert(mark, number)?;
+        Ok(number)
+    }
+
     // Writes a type.
     fn type_number(&mut self, ty: &'a Ty) -> Result<u32, Fault>
         ensures ok { IfOk result (IsTypeWritten (written self.old) (written self.new) ty.now) }
@@ -153,8 +169,146 @@ impl<'a> Writer<'a> {
         }
     }
 
-    // Writes a term.
+    // The line of a type that has a number.
+    fn type_line(&self, number: u32) -> Option<TypeLine<'a>>
+        ensures { IfSome result (λ line. IsTypeLineWritten (written self.now) (written self.now) (line_of_type line) number) }
+    {
+        let _distinct = self.types.len();
+        match self.types.get_index(number as usize) {
+            Some(line) => Some(*line),
+            None => None,
+        }
+    }
+
+    // The line of a term that has a number.
+    fn term_line(&self, number: u32) -> Option<TermLine<'a>>
+        ensures { IfSome result (λ line. IsTermLineWritten (written self.now) (written self.now) (line_of_term line) number) }
+    {
+        let _distinct = self.terms.len();
+        match self.terms.get_index(number as usize) {
+            Some(line) => Some(*line),
+            None => None,
+        }
+    }
+
+    // Whether a type is written under a number.
+    fn is_type_at(&self, number: u32, ty: &Ty) -> bool
+        ensures { IsTrue result → IsTypeWritten (written self.now) (written self.now) ty.now number }
+    {
+        let Some(line) = self.type_line(number) else {
+            return false;
+        };
+        match (line, ty.parts()) {
+            (TypeLine::Variable(written), TypeParts::Variable(name)) => written == name,
+            (TypeLine::Bool, TypeParts::Bool) => true,
+            (TypeLine::Function(first, second), TypeParts::Function(domain, codomain)) => {
+                self.is_type_at(first, domain) && self.is_type_at(second, codomain)
+            }
+            (TypeLine::Declared(written), TypeParts::Declared(name)) => written == name,
+            _ => false,
+        }
+    }
+
+    // Whether a variable is written under a number.
+    fn is_variable_at(&self, number: u32, name: &str, ty: &Ty) -> bool
+        ensures { IsTrue result → IsTermWritten (written self.now) (written self.now) (variable name.now ty.now) number }
+    {
+        match self.term_line(number) {
+            Some(TermLine::Variable(written, of)) => written == name && self.is_type_at(of, ty),
+            _ => false,
+        }
+    }
+
+    // Whether a constant is written under a number.
+    fn is_constant_at(&self, number: u32, name: &str, ty: &Ty) -> bool
+        ensures { IsTrue result → IsTermWritten (written self.now) (written self.now) (constant name.now ty.now) number }
+    {
+        match self.term_line(number) {
+            Some(TermLine::Constant(written, of)) => written == name && self.is_type_at(of, ty),
+            _ => false,
+        }
+    }
+
+    // Whether a term is written under a number.
+    fn is_term_at(&self, number: u32, term: &Term) -> bool
+        ensures { IsTrue result → IsTermWritten (written self.now) (written self.now) term.now number }
+    {
+        match term.parts() {
+            Parts::Variable(name, ty) => self.is_variable_at(number, name, ty),
+            Parts::Constant(name, ty) => self.is_constant_at(number, name, ty),
+            Parts::Combination(function, argument) => match self.term_line(number) {
+                Some(TermLine::Combination(first, second)) => {
+                    self.is_term_at(first, function) && self.is_term_at(second, argument)
+                }
+                _ => false,
+            },
+            Parts::Abstraction(name, ty, body) => match self.term_line(number) {
+                Some(TermLine::Abstraction(first, second)) => {
+                    self.is_variable_at(first, name, ty) && self.is_term_at(second, body)
+                }
+                _ => false,
+            },
+        }
+    }
+
+    // The number of a term that is known to be written.
+    fn known_number(&self, mark: u32, term: &Term) -> Option<u32>
+        ensures { IfSome result (IsTermWritten (written self.now) (written self.now) term.now) }
+    {
+        let (_, _, hint) = self.hints.get_full(&mark)?;
+        if self.is_term_at(*hint, term) {
+            Some(*hint)
+        } else {
+            None
+        }
+    }
+
+    // Writes a term, unless it is known to be written.
     fn term_number(&mut self, term: &'a Term) -> Result<u32, Fault>
+        ensures ok { IfOk result (IsTermWritten (written self.old) (written self.new) term.now) }
+        ensures named { OnOk result (KeepsNames (written self.old) (written self.new)) }
+        ensures err { IfErr result (λ fault. fault ≡ Memory) }
+    {
+        let mark = mark_of(term);
+        if let Some(number) = self.known_number(mark, term) {
+            return Ok(number);
+        }
+        if self.hints.contains_key(&mark) {
+            return self.whole_number(mark, term);
+        }
+        match term.parts() {
+            Parts::Variable(name, ty) => self.variable_number(name, ty),
+            Parts::Constant(name, ty) => {
+                let ty = self.type_number(ty)?;
+                self.put_marked(mark, TermLine::Constant(name, ty))
+            }
+            Parts::Combination(function, argument) => {
+                let function = self.term_number(function)?;
+                let argument = self.term_number(argument)?;
+                self.put_marked(mark, TermLine::Combination(function, argument))
+            }
+            Parts::Abstraction(name, ty, body) => {
+                let binder = self.variable_number(name, ty)?;
+                let body = self.term_number(body)?;
+                self.put_marked(mark, TermLine::Abstraction(binder, body))
+            }
+        }
+    }
+
+    // Writes a term whose mark is another term's too: its parts are not looked up whole, since each may be another's but for
+    // what stands deep in it.
+    fn whole_number(&mut self, mark: u32, term: &'a Term) -> Result<u32, Fault>
+        ensures ok { IfOk result (IsTermWritten (written self.old) (written self.new) term.now) }
+        ensures named { OnOk result (KeepsNames (written self.old) (written self.new)) }
+        ensures err { IfErr result (λ fault. fault ≡ Memory) }
+    {
+        let number = self.walked_number(term)?;
+        self.hints.insert(mark, number)?;
+        Ok(number)
+    }
+
+    // Writes a term, part by part.
+    fn walked_number(&mut self, term: &'a Term) -> Result<u32, Fault>
         ensures ok { IfOk result (IsTermWritten (written self.old) (written self.new) term.now) }
         ensures named { OnOk result (KeepsNames (written self.old) (written self.new)) }
         ensures err { IfErr result (λ fault. fault ≡ Memory) }
@@ -166,13 +320,13 @@ impl<'a> Writer<'a> {
                 self.put_term(TermLine::Constant(name, ty))
             }
             Parts::Combination(function, argument) => {
-                let function = self.term_number(function)?;
-                let argument = self.term_number(argument)?;
+                let function = self.walked_number(function)?;
+                let argument = self.walked_number(argument)?;
                 self.put_term(TermLine::Combination(function, argument))
             }
             Parts::Abstraction(name, ty, body) => {
                 let binder = self.variable_number(name, ty)?;
-                let body = self.term_number(body)?;
+                let body = self.walked_number(body)?;
                 self.put_term(TermLine::Abstraction(binder, body))
             }
         }
@@ -446,6 +600,7 @@ impl<'a> Writer<'a> {
         let Writer {
             types: _,
             terms: _,
+            hints: _,
             theorems: _,
             mut lines,
         } = self;

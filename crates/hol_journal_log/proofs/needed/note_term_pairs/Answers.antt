@@ -1,11 +1,10 @@
 use Rattle.std.proofs.Common.{arith}
 use Rattle.hol_journal_log.specs.Needed.{names_in_term}
-use Rattle.hol_journal_log.specs.Marking.{held_names}
 use Rattle.hol_journal_log.proofs.StepLineLemmas.{next_item}
 use Rattle.hol_journal_log.proofs.MarkingLemmas.{notes_pair_turn}
 use Rattle.hol_journal_log.proofs.needed.note_term_pairs.Goals as goal
 
 pub loop-pair-preserved : goal.loop-pair-preserved
 loop-pair-preserved c =
-    notes_pair_turn names_in_term (held_names c.args.names.now.keys) (held_names c.loop-pair.names.keys) (held_names c.note_term.new.names.keys) (held_names c.note_term-in-loop-pair.new.names.keys) _ _ c.pair-item.result
+    notes_pair_turn names_in_term c.args.names.now c.loop-pair.names c.note_term.new.names c.note_term-in-loop-pair.new.names _ _ c.pair-item.result
     c.loop-pair.invariant c.in_ok-note_term.ensures.ok c.in_ok-note_term-2.ensures.ok (next_item c.args.pairs.now c.loop-pair.pair-index c.pair-item.result (omega arith) c.pair-item.is)
