@@ -76,6 +76,11 @@ impl<'a> Names<'a> {
         }
     }
 
+    // Whether a term with this mark is kept.
+    fn has_mark(&self, mark: u32) -> bool {
+        self.terms.contains_key(&mark)
+    }
+
     // Keeps a term whose names are noted.
     fn keep(&mut self, mark: u32, term: &'a Term) -> Result<(), Fault>
         requires { Notes self.old self.old (names_in_term term.now) }
@@ -258,6 +263,9 @@ fn note_term<'a>(term: &'a Term, names: &mut Names<'a>) -> Result<(), Fault>
     if names.has_names_of(mark, term) {
         return Ok(());
     }
+    if names.has_mark(mark) {
+        return note_whole(mark, term, names);
+    }
     match term.parts() {
         Parts::Variable(_, ty) => note_type(ty, names),
         Parts::Constant(name, ty) => {
@@ -273,6 +281,38 @@ fn note_term<'a>(term: &'a Term, names: &mut Names<'a>) -> Result<(), Fault>
             note_type(ty, names)?;
             note_term(body, names)?;
             names.keep(mark, term)
+        }
+    }
+}
+
+// Notes the names in a term whose mark is another term's too: its parts are not looked up whole, since each may be another's
+// but for what stands deep in it.
+fn note_whole<'a>(mark: u32, term: &'a Term, names: &mut Names<'a>) -> Result<(), Fault>
+    ensures ok { OnOk result (Notes names.old names.new (names_in_term term.now)) }
+    ensures err { IfErr result (λ fault. fault ≡ Memory) }
+{
+    note_walked(term, names)?;
+    names.keep(mark, term)
+}
+
+// Notes the names in a term, part by part.
+fn note_walked<'a>(term: &'a Term, names: &mut Names<'a>) -> Result<(), Fault>
+    ensures ok { OnOk result (Notes names.old names.new (names_in_term term.now)) }
+    ensures err { IfErr result (λ fault. fault ≡ Memory) }
+{
+    match term.parts() {
+        Parts::Variable(_, ty) => note_type(ty, names),
+        Parts::Constant(name, ty) => {
+            names.note(name)?;
+            note_type(ty, names)
+        }
+        Parts::Combination(function, argument) => {
+            note_walked(function, names)?;
+            note_walked(argument, names)
+        }
+        Parts::Abstraction(_, ty, body) => {
+            note_type(ty, names)?;
+            note_walked(body, names)
         }
     }
 }

@@ -273,6 +273,9 @@ impl<'a> Writer<'a> {
         if let Some(number) = self.known_number(mark, term) {
             return Ok(number);
         }
+        if self.hints.contains_key(&mark) {
+            return self.whole_number(mark, term);
+        }
         match term.parts() {
             Parts::Variable(name, ty) => self.variable_number(name, ty),
             Parts::Constant(name, ty) => {
@@ -288,6 +291,43 @@ impl<'a> Writer<'a> {
                 let binder = self.variable_number(name, ty)?;
                 let body = self.term_number(body)?;
                 self.put_marked(mark, TermLine::Abstraction(binder, body))
+            }
+        }
+    }
+
+    // Writes a term whose mark is another term's too: its parts are not looked up whole, since each may be another's but for
+    // what stands deep in it.
+    fn whole_number(&mut self, mark: u32, term: &'a Term) -> Result<u32, Fault>
+        ensures ok { IfOk result (IsTermWritten (written self.old) (written self.new) term.now) }
+        ensures named { OnOk result (KeepsNames (written self.old) (written self.new)) }
+        ensures err { IfErr result (λ fault. fault ≡ Memory) }
+    {
+        let number = self.walked_number(term)?;
+        self.hints.insert(mark, number)?;
+        Ok(number)
+    }
+
+    // Writes a term, part by part.
+    fn walked_number(&mut self, term: &'a Term) -> Result<u32, Fault>
+        ensures ok { IfOk result (IsTermWritten (written self.old) (written self.new) term.now) }
+        ensures named { OnOk result (KeepsNames (written self.old) (written self.new)) }
+        ensures err { IfErr result (λ fault. fault ≡ Memory) }
+    {
+        match term.parts() {
+            Parts::Variable(name, ty) => self.variable_number(name, ty),
+            Parts::Constant(name, ty) => {
+                let ty = self.type_number(ty)?;
+                self.put_term(TermLine::Constant(name, ty))
+            }
+            Parts::Combination(function, argument) => {
+                let function = self.walked_number(function)?;
+                let argument = self.walked_number(argument)?;
+                self.put_term(TermLine::Combination(function, argument))
+            }
+            Parts::Abstraction(name, ty, body) => {
+                let binder = self.variable_number(name, ty)?;
+                let body = self.walked_number(body)?;
+                self.put_term(TermLine::Abstraction(binder, body))
             }
         }
     }
