@@ -15,6 +15,7 @@ use std::io::{Read, Write};
 use std::process::ExitCode;
 
 // A script, and those that it needs before it.
+#[derive(Clone, Copy)]
 struct Run {
     needed: &'static str,
     name: &'static str,
