@@ -30,6 +30,7 @@ impl Model for Names {
 }
 
 impl Names {
+    /// A table without names.
     pub fn new(alloc: Global) -> Names
         ensures { result ≡ [] }
     {

@@ -79,6 +79,7 @@ impl Model for Terms {
 }
 
 impl Terms {
+    /// A table without names, types and terms.
     pub fn new(alloc: Global) -> Terms
         ensures names { result.names ≡ [] }
         ensures types { result.types ≡ [] }

@@ -64,6 +64,7 @@ impl Model for Types {
 }
 
 impl Types {
+    /// A table without names and types.
     pub fn new(alloc: Global) -> Types
         ensures names { result.names ≡ [] }
         ensures types { result.types ≡ [] }
@@ -122,6 +123,7 @@ impl Types {
         first == second
     }
 
+    /// The number of the type of formulas, which is put at the end if it is new. Refused `Memory` alone.
     pub fn boolean(&mut self) -> Result<usize, Fault>
         ensures number { IfOk result (λ number. slice_get self.new.types number ≡ Some bool_type) }
         ensures refused { IfErr result (λ fault. fault ≡ Memory) }

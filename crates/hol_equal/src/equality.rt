@@ -24,7 +24,7 @@ use hol_model::Fault;
 use hol_terms::{Parts, Term};
 use std::alloc::Global;
 
-// The parts of an equation, `=` among them.
+/// The parts of an equation, `=` among them.
 #[derive(Clone, Copy)]
 pub struct Equation<'a> {
     pub(crate) relation: &'a Term,
@@ -32,7 +32,7 @@ pub struct Equation<'a> {
     pub right: &'a Term,
 }
 
-// The parts of the term, where it is an equation.
+/// The parts of the term, where it is an equation.
 pub fn equation_parts(term: &Term) -> Option<Equation<'_>>
     ensures sides { option_map (λ parts. (parts.left.now, parts.right.now)) result ≡ dest_equation term.now }
     ensures whole { IfSome result (λ parts. term.now ≡ combination (combination parts.relation.now parts.left.now) parts.right.now) }

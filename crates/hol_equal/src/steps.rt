@@ -154,7 +154,7 @@ pub(crate) fn mk_comb(
     recorder.mk_comb(alloc, first, second)
 }
 
-// DEDUCT_ANTISYM_RULE.
+/// DEDUCT_ANTISYM_RULE of theorems that show sequents: each hypothesis that is equal to the other conclusion goes.
 pub fn deduct_antisym(
     recorder: &mut Recorder,
     alloc: Global,

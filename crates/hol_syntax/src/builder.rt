@@ -80,7 +80,7 @@ fn variable(alloc: Global, name: &[u8], ty: &Ty) -> Result<Term, Fault>
     }
 }
 
-// Whether no type variable stands in the type.
+/// Whether no type variable stands in the type.
 pub fn is_closed(ty: &Ty) -> bool
     ensures { result ≡ is_closed_type ty.now }
 {

@@ -22,7 +22,7 @@ fn name_copies(alloc: Global, names: &[String]) -> Result<Vec<String>, Fault>
     Ok(copies)
 }
 
-// The refiner with its quoted term read.
+/// The refiner with its quoted term read, over the names that are known; refused as that term is.
 pub fn read_leaf(
     alloc: Global,
     scope: &Scope,

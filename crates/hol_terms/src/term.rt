@@ -110,6 +110,7 @@ impl Term {
         self.node.nodes
     }
 
+    /// The height of the term: 1 for a variable or constant, else one more than its highest part.
     pub fn height(&self) -> u32
         ensures value { result ≡ height self.now }
         ensures limit { result ≤ TERM_HEIGHT_LIMIT }
