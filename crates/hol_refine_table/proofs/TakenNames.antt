@@ -1,16 +1,19 @@
 -- Names that are taken are not longer than the longest.
 use Rattle.std.proofs.Common.{◌≡◌, ℕ, ◌≤◌, max, List, [], ◌∷◌, Bool, true, false, ◌||◌, refl, sym, ◌∙◌, ap, length, arith, Option, Some, None, if◌then◌else◌}
+use Rattle.std.specs.Prelude.{bit_and}
 use Rattle.std.specs.List.{list_any}
 use Rattle.std.specs.Option.{is_some, option_map_or}
 use Rattle.std.specs.Str.{bytes_eq}
 use Rattle.std.proofs.lemmas.Slice.Eq.{bytes_eq-Decides}
 use Rattle.hol_model.specs.Terms.HolType.{HolType}
-use Rattle.hol_model.specs.Terms.NamedTerm.{NamedTerm, Binder, is_free}
-use Rattle.hol_model.specs.Terms.Nameless.{Nameless, free, const, bound, app, lam, image, binder_index, variable_image}
+use Rattle.hol_model.specs.Terms.NamedTerm.{NamedTerm, variable, constant, combination, abstraction, Binder, is_free}
+use Rattle.hol_model.specs.Terms.Nameless.{Nameless, free, const, bound, app, lam, image, image_under, binder_index, variable_image}
 use Rattle.hol_model.specs.Logic.Theory.{Theory, definition, declaration_of_type, declaration_of_constant, generic_type, equality_name, choice_name, equality_type, choice_type, type_a}
 use Rattle.hol_model.specs.Terms.Substitution.{occurs_free}
 use Rattle.hol_model.proofs.Terms.Images.{occurs_free-image}
 use Rattle.hol_model.specs.Goals.Goals.{Goal}
+use Rattle.hol_terms.specs.Classes.{class_of_name, have_common_class, classes_of_names}
+use Rattle.hol_terms.proofs.FreeNames.{nothing_common, apart_from_first, apart_from_second, has_class}
 use Rattle.hol_refine_table.proofs.Primes.{longest_free, longest_of, free_is_bounded}
 use Rattle.hol_model.specs.Refining.Refiners.{has_free_name, is_taken, is_taken_beside}
 
@@ -28,6 +31,34 @@ free_compares binders name other ty is = go (binder_index binders other ty) is
     go : (found : Option ℕ) → is_some found ≡ false → has_free_name name (option_map_or bound found (free other ty)) ≡ bytes_eq name other
     go None is = refl
     go (Some index) is = cc
+
+-- a name whose class a term lacks is no free variable's there
+apart_passes : (binders : List Binder) (name : List ℕ) (term : NamedTerm) → bit_and (class_of_name name) (classes_of_names term) ≡ 0
+    → has_free_name name (image_under binders term) ≡ false
+apart_passes binders name (variable other ty) apart = go (binder_index binders other ty)
+  where
+    differs : (test : Bool) → bytes_eq name other ≡ test → test ≡ false
+    differs true is = absurd (has_class name (ap (λ n. bit_and (class_of_name name) (class_of_name n)) ((bytes_eq-Decides name other).0 is) ∙ apart))
+    differs false is = refl
+
+    go : (found : Option ℕ) → has_free_name name (option_map_or bound found (free other ty)) ≡ false
+    go None = differs (bytes_eq name other) refl
+    go (Some index) = refl
+apart_passes binders name (constant other ty) apart = refl
+apart_passes binders name (combination f x) apart =
+    neither (has_free_name name (image_under binders f)) (has_free_name name (image_under binders x))
+    (apart_passes binders name f (apart_from_first (class_of_name name) (classes_of_names f) (classes_of_names x) apart))
+    (apart_passes binders name x (apart_from_second (class_of_name name) (classes_of_names f) (classes_of_names x) apart))
+  where
+    neither : (p q : Bool) → p ≡ false → q ≡ false → (p || q) ≡ false
+    neither p q first second = cc
+apart_passes binders name (abstraction other ty body) apart = apart_passes ((other, ty) ∷ binders) name body apart
+
+-- the same, from the test of classes
+pub lacks_class : (binders : List Binder) (name : List ℕ) (term : NamedTerm) (class : ℕ) → class ≡ class_of_name name
+    → have_common_class class (classes_of_names term) ≡ false → has_free_name name (image_under binders term) ≡ false
+lacks_class binders name term class is apart =
+    apart_passes binders name term (ap (λ c. bit_and c (classes_of_names term)) (sym is) ∙ nothing_common class (classes_of_names term) apart)
 
 either_bound : (p q : Bool) (n a b : ℕ) → (p ≡ true → n ≤ a) → (q ≡ true → n ≤ b) → (p || q) ≡ true → n ≤ max a b
 either_bound true q n a b left right some = let below : n ≤ a = left refl in omega arith

@@ -8,13 +8,14 @@ ghost use Rattle.hol_model.specs.Terms.Name.{is_identifier};
 ghost use Rattle.hol_model.specs.Terms.Nameless.{binder_index, image, image_under};
 ghost use Rattle.hol_model.specs.Terms.Substitution.{IsFirstFree, occurs_free};
 ghost use Rattle.hol_model.specs.Refining.Refiners as refiners;
+ghost use Rattle.hol_terms.specs.Classes.{class_of_name};
 ghost use Rattle.hol_just.specs.Steps.{goal_of};
 ghost use Rattle.hol_refine_table.specs.Scope.{binders_of};
 
 use hol_just::Goal;
 use hol_kernel::Theory;
 use hol_model::Fault;
-use hol_terms::{Parts, Term, is_free, same_variable};
+use hol_terms::{NameClasses, Parts, Term, is_free, same_variable};
 use hol_types::Ty;
 use std::alloc::Global;
 
@@ -37,11 +38,16 @@ fn is_bound(scope: &Scope<'_>, name: &str, ty: &Ty) -> bool
     }
 }
 
-// Whether a variable of this name is free in a term that stands under these binders.
-#[tactic(auto, using(crate::proofs::TakenNames::bound_passes, crate::proofs::TakenNames::free_compares))]
-fn has_free_name(name: &str, term: &Term, scope: &Scope<'_>) -> bool
+// Whether a variable of this name, whose class is given, is free in a term that stands under these binders: what lacks the
+// class is passed over.
+#[tactic(auto, using(crate::proofs::TakenNames::bound_passes, crate::proofs::TakenNames::free_compares, crate::proofs::TakenNames::lacks_class))]
+fn has_free_name(name: &str, class: NameClasses, term: &Term, scope: &Scope<'_>) -> bool
+    requires { class.bits ≡ class_of_name name.now }
     ensures { result ≡ refiners.has_free_name name.now (image_under (binders_of scope.now) term.now) }
 {
+    if !class.meets(term.names()) {
+        return false;
+    }
     match term.parts() {
         Parts::Variable(other, ty) => {
             if is_bound(&*scope, other, ty) {
@@ -50,32 +56,35 @@ fn has_free_name(name: &str, term: &Term, scope: &Scope<'_>) -> bool
             name == other
         }
         Parts::Constant(_, _) => false,
-        Parts::Combination(function, argument) => has_free_name(name, function, &*scope)
-            || has_free_name(name, argument, &*scope),
+        Parts::Combination(function, argument) => has_free_name(name, class, function, &*scope)
+            || has_free_name(name, class, argument, &*scope),
         Parts::Abstraction(other, ty, body) => has_free_name(
             name,
+            class,
             body,
             &Scope::Under(other, ty, &*scope),
         ),
     }
 }
 
-// Whether a variable of this name is free in one of the terms.
-fn is_free_name_in_some(name: &str, terms: &[Term]) -> bool
+// Whether a variable of this name, whose class is given, is free in one of the terms.
+fn is_free_name_in_some(name: &str, class: NameClasses, terms: &[Term]) -> bool
+    requires { class.bits ≡ class_of_name name.now }
     ensures { result ≡ list_any (λ term. refiners.has_free_name name.now (image term)) terms.now }
 {
     terms
         .iter()
-        .any(|term| has_free_name(name, term, &Scope::Outermost))
+        .any(|term| has_free_name(name, class, term, &Scope::Outermost))
 }
 
 // Whether a free variable of the goal or a constant has the name.
 fn is_taken(theory: &Theory, goal: &Goal, name: &str) -> bool
     ensures { result ≡ refiners.is_taken theory.now (goal_of goal.now) name.now }
 {
+    let class = NameClasses::of_name(name);
     theory.const_type(name).is_some()
-        || has_free_name(name, &goal.concl, &Scope::Outermost)
-        || is_free_name_in_some(name, &goal.asms)
+        || has_free_name(name, class, &goal.concl, &Scope::Outermost)
+        || is_free_name_in_some(name, class, &goal.asms)
 }
 
 /// The name with so many primes that it is not taken.
