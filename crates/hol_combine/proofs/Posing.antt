@@ -183,7 +183,8 @@ module _ (theory : Theory) (host : Host) where
     known = ((answers-good r posed.grounded posed.witnesses posed.known).known, tt);
   }
 
-  pub descends-posed : {before after : Stage} {t : Tactic} {goal : Goal} {step : Step} {frames : List Frame} (above : Option ℕ) → Runs theory host before t goal (Ok step) after → IsPosed theory before.store t goal
+  pub descends-posed : {before after : Stage} {t : Tactic} {goal : Goal} {step : Step} {frames : List Frame} (above : Option ℕ)
+      → Runs theory host before t goal (Ok step) after → IsPosed theory before.store t goal
       → FramesPosed before.store t frames → FramesPosed after.store t (begun above step ∷ frames)
   descends-posed above r posed frames = record {
     grounded = grounded-after r posed.grounded;

@@ -93,12 +93,14 @@ module _ (theory : Theory) (host : Host) (t : Tactic) where
   on-both : (goals firsts lasts : List Goal) → goals ≡ firsts ++ lasts → on_all (repeat t) firsts ++ on_all (repeat t) lasts ≡ on_all (repeat t) goals
   on-both goals firsts lasts is = sym (map-append (λ goal. (repeat t, goal)) firsts lasts) ∙ ap (on_all (repeat t)) (sym is)
 
-  each-refused : {mid now after : Stage} {goals : List Goal} {done : List Step} {fault : Fault} (firsts lasts : List Goal) → goals ≡ firsts ++ lasts → RunsEach theory host mid (on_all (repeat t) firsts) (Ok done) now
+  each-refused : {mid now after : Stage} {goals : List Goal} {done : List Step} {fault : Fault} (firsts lasts : List Goal) → goals ≡ firsts ++ lasts
+      → RunsEach theory host mid (on_all (repeat t) firsts) (Ok done) now
       → RunsEach theory host now (on_all (repeat t) lasts) (Err fault) after → RunsEach theory host mid (on_all (repeat t) goals) (Err fault) after
   each-refused {mid} {after} {goals} {done} {fault} firsts lasts is each r =
       subst (λ tasks. RunsEach theory host mid tasks (Err fault) after) (on-both goals firsts lasts is) (then-each theory host done each refl r)
 
-  each-closed : {mid now : Stage} {goals lasts : List Goal} {done : List Step} (firsts : List Goal) → goals ≡ firsts ++ lasts → lasts ≡ [] → RunsEach theory host mid (on_all (repeat t) firsts) (Ok done) now
+  each-closed : {mid now : Stage} {goals lasts : List Goal} {done : List Step} (firsts : List Goal) → goals ≡ firsts ++ lasts → lasts ≡ []
+      → RunsEach theory host mid (on_all (repeat t) firsts) (Ok done) now
       → RunsEach theory host mid (on_all (repeat t) goals) (Ok done) now
   each-closed {mid} {now} {goals} {done} firsts is none each =
       let same : firsts ≡ goals = sym (append-nil firsts) ∙ ap (λ rest. firsts ++ rest) (sym none) ∙ sym is in

@@ -12,7 +12,9 @@ use Rattle.hol_model.specs.Kernel.Rules.{dest_equation, trans_outcome}
 use Rattle.hol_model.specs.Goals.Replays.{Store}
 use Rattle.hol_model.specs.Refining.HostFunctions.{HostConversions}
 use Rattle.hol_model.specs.Refining.Conversions as conv
-use Rattle.hol_model.specs.Refining.Conversions.{Conversion, Conversions, no_more, more, one_more, all_conv, thenc, orelsec, repeatc, rand_conv, rator_conv, abs_conv, sub_conv, depth_conv, Converts, ConvertsOn, is_caught, of_argument, of_function, of_body, of_parts, lacks_part, spends_step}
+use Rattle.hol_model.specs.Refining.Conversions.{Conversion, Conversions, no_more, more, one_more, all_conv, thenc, orelsec, repeatc, rand_conv}
+use Rattle.hol_model.specs.Refining.Conversions.{rator_conv, abs_conv, sub_conv, depth_conv, Converts, ConvertsOn, is_caught, of_argument}
+use Rattle.hol_model.specs.Refining.Conversions.{of_function, of_body, of_parts, lacks_part, spends_step}
 use Rattle.hol_laws_refiners.proofs.Spending.{converts-spends}
 use Rattle.hol_laws_refiners.proofs.Equations.{conversions-answer-equations, equation-sides}
 use Rattle.hol_laws_refiners.proofs.Repeating.{onto}
@@ -45,7 +47,10 @@ joined-sides theory a b joined is = left_of (dest_equation a.conclusion) is
     right_of left None e = cc
 
     left_of : (dest : Option (NamedTerm × NamedTerm))
-        → given dest NotEquation (λ left. given (dest_equation b.conclusion) NotEquation (λ right. unless (are_alpha_equivalent left.1 right.0) NotAlpha (unless (is_within_limits (equation left.0 right.1)) TooLarge (Ok (made left right))))) ≡ Ok joined
+        → given dest NotEquation (λ left.
+            given (dest_equation b.conclusion) NotEquation
+            (λ right. unless (are_alpha_equivalent left.1 right.0) NotAlpha
+            (unless (is_within_limits (equation left.0 right.1)) TooLarge (Ok (made left right))))) ≡ Ok joined
         → (sides : NamedTerm × NamedTerm) × (dest_equation joined.conclusion ≡ Some sides)
     left_of (Some left) e = right_of left (dest_equation b.conclusion) e
     left_of None e = cc

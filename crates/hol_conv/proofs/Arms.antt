@@ -11,7 +11,8 @@ use Rattle.hol_model.specs.Kernel.Rules.{dest_equation}
 use Rattle.hol_model.specs.Goals.Replays.{Store}
 use Rattle.hol_model.specs.Refining.HostFunctions.{HostConversions}
 use Rattle.hol_model.specs.Refining.Conversions as conv
-use Rattle.hol_model.specs.Refining.Conversions.{Conversion, Conversions, more, one_more, all_conv, thenc, orelsec, repeatc, try_conv, changed_conv, rand_conv, rator_conv, abs_conv, sub_conv, depth_conv, once_depth_conv, top_depth_conv}
+use Rattle.hol_model.specs.Refining.Conversions.{Conversion, Conversions, more, one_more, all_conv, thenc, orelsec, repeatc, try_conv, changed_conv}
+use Rattle.hol_model.specs.Refining.Conversions.{rand_conv, rator_conv, abs_conv, sub_conv, depth_conv, once_depth_conv, top_depth_conv}
 use Rattle.hol_model.specs.Refining.Conversions.{Converts, is_caught, of_argument, of_function, of_body, of_parts, if_changed, lacks_part}
 use Rattle.hol_laws_refiners.proofs.Repeating.{IsFinal, onto, JoinedSoFar, joined_defined}
 use Rattle.hol_laws_refiners.proofs.Chains.{ThencSoFar}
@@ -48,25 +49,31 @@ theorem-answers {old} {new} {hosts} {t} answer result r continued joins =
 
 -- ---- parts
 
-pub argument-arm : {old new : Library} {hosts : HostConversions} {depth steps left : ℕ} {c : Conversion} {t f x : NamedTerm} {part : Result Converted Fault} (result : Result Converted Fault) → AreParts t depth f x
-    → AnswersOver old hosts (depth + 1) steps c x part left → MakesAnswer old new x part → Joins (of_argument new.recorder.theory f (answered new.recorder.theory x part)) (answered new.recorder.theory t result)
+pub argument-arm : {old new : Library} {hosts : HostConversions} {depth steps left : ℕ} {c : Conversion} {t f x : NamedTerm}
+    {part : Result Converted Fault} (result : Result Converted Fault) → AreParts t depth f x
+    → AnswersOver old hosts (depth + 1) steps c x part left → MakesAnswer old new x part
+        → Joins (of_argument new.recorder.theory f (answered new.recorder.theory x part)) (answered new.recorder.theory t result)
     → AnswersOver old hosts depth steps (rand_conv c) t result left
 argument-arm {t} {f} {x} {part} result parts r makes joins =
     argument-answers _ _ _ parts r (joins-later (λ theory. of_argument theory f (answered theory x part)) (λ theory. answered theory t result) makes.continued joins)
 
-pub function-arm : {old new : Library} {hosts : HostConversions} {depth steps left : ℕ} {c : Conversion} {t f x : NamedTerm} {part : Result Converted Fault} (result : Result Converted Fault) → AreParts t depth f x
-    → AnswersOver old hosts (depth + 1) steps c f part left → MakesAnswer old new f part → Joins (of_function new.recorder.theory x (answered new.recorder.theory f part)) (answered new.recorder.theory t result)
+pub function-arm : {old new : Library} {hosts : HostConversions} {depth steps left : ℕ} {c : Conversion} {t f x : NamedTerm}
+    {part : Result Converted Fault} (result : Result Converted Fault) → AreParts t depth f x
+    → AnswersOver old hosts (depth + 1) steps c f part left → MakesAnswer old new f part
+        → Joins (of_function new.recorder.theory x (answered new.recorder.theory f part)) (answered new.recorder.theory t result)
     → AnswersOver old hosts depth steps (rator_conv c) t result left
 function-arm {t} {f} {x} {part} result parts r makes joins =
     function-answers _ _ _ parts r (joins-later (λ theory. of_function theory x (answered theory f part)) (λ theory. answered theory t result) makes.continued joins)
 
 pub body-arm : {old new : Library} {hosts : HostConversions} {depth steps left : ℕ} {c : Conversion} {t binder body : NamedTerm} {part : Result Converted Fault} (result : Result Converted Fault)
     (parts : AreBoundParts t depth binder body) → AnswersOver old hosts (depth + 1) steps c body part left → MakesAnswer old new body part
-    → Joins (of_body new.recorder.theory parts.name parts.ty (answered new.recorder.theory body part)) (answered new.recorder.theory t result) → AnswersOver old hosts depth steps (abs_conv c) t result left
+    → Joins (of_body new.recorder.theory parts.name parts.ty (answered new.recorder.theory body part)) (answered new.recorder.theory t result)
+        → AnswersOver old hosts depth steps (abs_conv c) t result left
 body-arm {t} {body} {part} result parts r makes joins =
     body-answers _ _ _ parts r (joins-later (λ theory. of_body theory parts.name parts.ty (answered theory body part)) (λ theory. answered theory t result) makes.continued joins)
 
-pub parts-arm : {old mid new : Library} {hosts : HostConversions} {depth steps left after : ℕ} {c : Conversion} {t f x : NamedTerm} {first : Converted} {second : Result Converted Fault} (result : Result Converted Fault)
+pub parts-arm : {old mid new : Library} {hosts : HostConversions} {depth steps left after : ℕ} {c : Conversion} {t f x : NamedTerm}
+    {first : Converted} {second : Result Converted Fault} (result : Result Converted Fault)
     → combination f x ≡ t → depth < DESCENTS_LIMIT → AnswersOver old hosts (depth + 1) steps c f (Ok first) left → MakesAnswer old mid f (Ok first)
     → AnswersOver mid hosts (depth + 1) left c x second after → MakesAnswer mid new x second
     → Joins (of_parts new.recorder.theory (Ok (theorem_of new.recorder.theory f first)) (answered new.recorder.theory x second)) (answered new.recorder.theory t result)
@@ -77,7 +84,8 @@ parts-arm {t} {f} {x} {first} {second} result is room r one s two joins =
 
 -- ---- ALL_CONV behind a refusal
 
-tried : {old new : Library} {hosts : HostConversions} {depth steps mid left : ℕ} {c : Conversion} {t : NamedTerm} (made result : Result Converted Fault) → AnswersOver old hosts depth steps c t made mid
+tried : {old new : Library} {hosts : HostConversions} {depth steps mid left : ℕ} {c : Conversion} {t : NamedTerm}
+    (made result : Result Converted Fault) → AnswersOver old hosts depth steps c t made mid
     → IsContinued old new → Tries new.recorder.theory t (answered new.recorder.theory t made) mid (answered new.recorder.theory t result) left
     → AnswersOver old hosts depth steps (orelsec c (one_more all_conv)) t result left
 tried {old} {mid} {left} {t} made result r continued is =
@@ -139,7 +147,8 @@ thenc-on {old} {t} {right} {next} made joined so_far before side r makes joins =
     thenc-goes _ _ _ (answered old.recorder.theory right next) so_far (side-before t made before side).is (carried-answer next before r)
     (joins-later (λ theory. onto theory (theorem_of theory t made) (answered theory right next)) (λ theory. Ok (theorem_of theory t joined)) (continued-twice before makes.continued) joins)
 
-pub thenc-off : {old now mid : Library} {hosts : HostConversions} {depth first steps left : ℕ} {whole c : Conversion} {cs : Conversions} {t right : NamedTerm} {fault : Fault} {next : Result Converted Fault}
+pub thenc-off : {old now mid : Library} {hosts : HostConversions} {depth first steps left : ℕ} {whole c : Conversion} {cs : Conversions}
+    {t right : NamedTerm} {fault : Fault} {next : Result Converted Fault}
     (made : Converted) → ThencSoFar old.recorder.theory (store_in old) hosts depth first whole t steps (theorem_of old.recorder.theory t made) (more c cs) → IsContinued old now
     → IsRightSide (theorem_of now.recorder.theory t made) right → AnswersOver now hosts depth steps c right next left → MakesAnswer now mid right next
     → Joins (onto mid.recorder.theory (theorem_of mid.recorder.theory t made) (answered mid.recorder.theory right next)) (Err fault)
@@ -196,8 +205,10 @@ link-stop {old} {left} {t} {made} from after result so_far before r makes final 
     (links-later from t made left after (Ends result) (continued-twice before makes.continued) links)
 
 -- what is linked has cost a step
-pub link-costs : {theory : Theory} {store : Store} {hosts : HostConversions} {depth steps left : ℕ} {c : Conversion} {current : NamedTerm} (other : Theory) (proved : List Theorem) (t : NamedTerm) (after : ℕ)
-    (made : Result Converted Fault) (chain : Chain) → AnswersAt theory store hosts depth steps c current made left → Links other proved t current (answered other current made) left (GoesOn chain) after
+pub link-costs : {theory : Theory} {store : Store} {hosts : HostConversions} {depth steps left : ℕ} {c : Conversion} {current : NamedTerm}
+    (other : Theory) (proved : List Theorem) (t : NamedTerm) (after : ℕ)
+    (made : Result Converted Fault) (chain : Chain) → AnswersAt theory store hosts depth steps c current made left
+        → Links other proved t current (answered other current made) left (GoesOn chain) after
     → after < steps
 link-costs {steps} other proved t after (Ok made) chain r links = subst (λ (n : ℕ). n < steps) (sym links.1) (costs r)
 link-costs other proved t after (Err fault) chain r links = absurd links
@@ -215,7 +226,8 @@ link-equations {t} made continued r =
 
 -- CHANGED_CONV
 pub changed-arm : {theory : Theory} {store : Store} {hosts : HostConversions} {depth steps left : ℕ} {c : Conversion} {t : NamedTerm} (made result : Result Converted Fault)
-    → AnswersAt theory store hosts depth steps c t made left → answered theory t result ≡ if_changed t (answered theory t made) → AnswersAt theory store hosts depth steps (changed_conv c) t result left
+    → AnswersAt theory store hosts depth steps c t made left → answered theory t result ≡ if_changed t (answered theory t made)
+        → AnswersAt theory store hosts depth steps (changed_conv c) t result left
 changed-arm made result r is = conv.converts_if_changed r is
 
 pub changed-makes : {old new : Library} {t : NamedTerm} (made result : Result Converted Fault) → MakesAnswer old new t made → IfOk result (λ same. made ≡ Ok same) → MakesAnswer old new t result
@@ -230,7 +242,8 @@ abbrev pub top-rest : Conversion → Conversion
 top-rest c = conv.try_conv (thenc (changed_conv (sub_conv (top_depth_conv c))) (one_more (conv.try_conv (thenc c (one_more (top_depth_conv c))))))
 
 pub top-start : {theory : Theory} {store : Store} {hosts : HostConversions} {depth first steps : ℕ} {whole c : Conversion} {t current : NamedTerm} {proved : List Theorem} → whole ≡ top_depth_conv c
-    → JoinedSoFar theory store hosts depth first whole t steps whole proved current → JoinedSoFar theory store hosts depth first whole t steps (thenc (repeatc c) (one_more (top-rest c))) proved current
+    → JoinedSoFar theory store hosts depth first whole t steps whole proved current
+        → JoinedSoFar theory store hosts depth first whole t steps (thenc (repeatc c) (one_more (top-rest c))) proved current
 top-start {theory} {store} {hosts} {depth} {first} {steps} {whole} {c} {t} {current} {proved} is so_far =
     joined_defined theory store hosts depth refl (subst (λ (w : Conversion). JoinedSoFar theory store hosts depth first whole t steps w proved current) is so_far)
 

@@ -54,7 +54,8 @@ joined-on theory before after theorem last joined is (inr made) = no-theorem (sy
 pub joined-off : (theory : Theory) (before after : List Recorded) (theorem : Recorded) (last : Theorem) (fault : Fault) → before ≡ after ++ theorem ∷ []
     → Joins (trans_outcome theory theorem.theorem last) (Err fault) → Joins (joined_from theory (theorems before) (Ok last)) (Err fault)
 joined-off theory before after theorem last fault is (inl made) =
-    inl (sym (front theory before after theorem (Ok last) is ∙ ap (λ (answer : Result Theorem Fault). joined_from theory (theorems after) answer) (sym made) ∙ joined-err theory (theorems after) fault))
+    inl (sym (front theory before after theorem (Ok last) is
+        ∙ ap (λ (answer : Result Theorem Fault). joined_from theory (theorems after) answer) (sym made) ∙ joined-err theory (theorems after) fault))
 joined-off theory before after theorem last fault is (inr made) = inr made
 
 pub joins-as : {a b answer : Result Theorem Fault} → a ≡ b → Joins b answer → Joins a answer
@@ -89,7 +90,8 @@ pub chain-later : {old new : Library} {t : NamedTerm} {chain : Chain} → IsCont
 chain-later continued is = record { held = chain-still continued is.held; begun = is.begun }
 
 -- one more theorem
-pub chain-behind : {old new : Library} (chain after : Chain) (made : Recorded) → IsContinued old new → IsChain old chain → IsMade new.recorder made → after.theorems.items ≡ chain.theorems.items ++ made ∷ []
+pub chain-behind : {old new : Library} (chain after : Chain) (made : Recorded) → IsContinued old new → IsChain old chain → IsMade new.recorder made
+    → after.theorems.items ≡ chain.theorems.items ++ made ∷ []
     → is_known new.recorder.theory after.current ≡ true → after.is_same ≡ false → IsChain new after
 chain-behind {old} {new} chain after made continued is one items known settled = record {
   made = subst (λ (all : List Recorded). All (IsMade new.recorder) all) (sym items) (All-push (IsMade new.recorder) chain.theorems.items made (made-later chain.theorems.items continued is.made) one);

@@ -65,7 +65,9 @@ pub says_equal-Decides : (left right : NamedTerm) (theorem : Theorem) → ((a b 
 says_equal-Decides left right theorem shown justification = (
   λ passed. record {
     hypotheses = no-members theorem.hypotheses (first_of_both (nat_eq (length theorem.hypotheses) 0) (option_map_or (are_sides left right) (dest_equation theorem.conclusion) false) passed);
-    conclusion = is-promised left right theorem.conclusion shown (second_of_both (nat_eq (length theorem.hypotheses) 0) (option_map_or (are_sides left right) (dest_equation theorem.conclusion) false) passed);
+    conclusion = is-promised left right theorem.conclusion shown
+        (second_of_both (nat_eq (length theorem.hypotheses) 0)
+        (option_map_or (are_sides left right) (dest_equation theorem.conclusion) false) passed);
   },
   λ has. both (nat_eq (length theorem.hypotheses) 0) (option_map_or (are_sides left right) (dest_equation theorem.conclusion) false)
       (none theorem.hypotheses has.hypotheses) (are-sides left right theorem.conclusion shown (nameless_type [] (image left)) has.conclusion),

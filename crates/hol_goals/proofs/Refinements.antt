@@ -22,7 +22,8 @@ justification-is : (step refinement : Step) (others : List Goal) (parts : List c
     → splice step.justification (map (λ part. portion_of (step_of part)) parts) ≡ (spliced step (refinement ∷ map untouched others)).justification
 justification-is step refinement others parts are = ap (splice step.justification) (portions-of parts ∙ ap (map portion_of) are)
 
-pub spliced_is : (step refinement : Step) (others : List code_goal.Goal) (all : List code_goal.Goal) (begun : List code_goal.Goal) (parts : List code_step.Step) (tree : Justification) (left : List Goal)
+pub spliced_is : (step refinement : Step) (others : List code_goal.Goal) (all : List code_goal.Goal) (begun : List code_goal.Goal)
+    (parts : List code_step.Step) (tree : Justification) (left : List Goal)
     → goals_of others ≡ left → goals_of begun ≡ refinement.goals → goals_of all ≡ goals_of begun ++ goals_of others → map step_of parts ≡ refinement ∷ map untouched (goals_of others)
     → tree ≡ splice step.justification (map (λ part. portion_of (step_of part)) parts)
     → record { goals = goals_of all; justification = tree } ≡ spliced step (refinement ∷ map untouched left)
@@ -37,4 +38,6 @@ pub refused_is : (step refinement : Step) (others : List code_goal.Goal) (parts 
     → goals_of others ≡ left → map step_of parts ≡ refinement ∷ map untouched (goals_of others)
     → IsRefused (splice step.justification (map (λ part. portion_of (step_of part)) parts)) fault → IsRefused (spliced step (refinement ∷ map untouched left)).justification fault
 refused_is step refinement others parts left fault places are refused =
-    subst (λ (tree : Justification). IsRefused tree fault) (justification-is step refinement (goals_of others) parts are ∙ ap (λ l. (spliced step (refinement ∷ map untouched l)).justification) places) refused
+    subst (λ (tree : Justification). IsRefused tree fault)
+        (justification-is step refinement (goals_of others) parts are
+        ∙ ap (λ l. (spliced step (refinement ∷ map untouched l)).justification) places) refused

@@ -214,7 +214,8 @@ closes-at refiners conversions theory before after steps left tac step old new (
 closes-at refiners conversions theory before after steps left tac step old new (Err fault) valid good runs by is =
     closes theory (host_of refiners conversions) (at before steps) (tactic_of tac) (at after left) (step_of step) old fault valid.proof good runs by.0 cc
 
-pub closes-if-valid : (refiners : HostRefiners) (conversions : HostConversions) (theory now : Theory) (before after last : Store) (steps left : ℕ) (tac : Tac NamedTerm) (step : code.Step) (old new : Stack)
+pub closes-if-valid : (refiners : HostRefiners) (conversions : HostConversions) (theory now : Theory) (before after last : Store) (steps left : ℕ)
+    (tac : Tac NamedTerm) (step : code.Step) (old new : Stack)
     (result : Result Expansion Fault) → now ≡ theory → IsLegal theory → IsLater theory (at before steps) (at after left) → IsValidStack theory before old → IsGoodFirst theory after old step
     → RefinesFirst refiners conversions theory before steps tac old (Ok step) after left → IsExpandedBy now after (step_of step) old new result
     → ClosesIfValid refiners conversions theory before steps tac old result last left

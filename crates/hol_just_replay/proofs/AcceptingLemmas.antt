@@ -28,7 +28,8 @@ use Rattle.hol_equal.specs.Inferred.{IsDrawn}
 use Rattle.hol_theorem_store.specs.Stored.{Stored}
 use Rattle.hol_just_replay.specs.Named.{named_sequents, sequents_of}
 use Rattle.hol_just_replay.specs.Lines.{Meets, expected_in, IsReplayRefusal}
-use Rattle.hol_just_replay.specs.Accepting.{are_known_formulas, is_known_goal, are_known_goals, falsity_from, supposed_from, AreSupposed, IsUnsupposed, HasRoomUnder, IsReplayedUnder, AnswersUnder, PassesUnder, sequent_under, goal_under}
+use Rattle.hol_just_replay.specs.Accepting.{are_known_formulas, is_known_goal, are_known_goals, falsity_from, supposed_from, AreSupposed}
+use Rattle.hol_just_replay.specs.Accepting.{IsUnsupposed, HasRoomUnder, IsReplayedUnder, AnswersUnder, PassesUnder, sequent_under, goal_under}
 use Rattle.hol_model.specs.Goals.Replays.{Store, sequents_in, IsKnownGoal, AreKnownGoals, terms_of_rule, terms_of_sequent, terms_of_goals, has_room_over, have_room_over, has_room, has_room_for_step}
 use Rattle.hol_model.specs.Derived.DerivedRules.{is_among, is_roomy, terms_of_theorem}
 use Rattle.hol_just_replay.specs.Room.{are_roomy}
@@ -41,13 +42,16 @@ use Rattle.hol_just_replay.proofs.Replaying.{alike-drawn, stronger, weaker, room
 formulas-known : (theory : Theory) (terms : List NamedTerm) → are_known_formulas theory terms ≡ true → (term : NamedTerm) → IsMember term terms → IsKnown theory (image term) bool_type
 formulas-known theory [] passed term member = absurd member
 formulas-known theory (t ∷ terms) passed term (inl same) =
-    subst (λ (u : NamedTerm). IsKnown theory (image u) bool_type) (sym same) ((knows_nameless-Decides theory (image t) bool_type).0 (first_of_both (is_known_formula theory (image t)) (are_known_formulas theory terms) passed))
+    subst (λ (u : NamedTerm). IsKnown theory (image u) bool_type) (sym same)
+        ((knows_nameless-Decides theory (image t) bool_type).0
+        (first_of_both (is_known_formula theory (image t)) (are_known_formulas theory terms) passed))
 formulas-known theory (t ∷ terms) passed term (inr member) = formulas-known theory terms (second_of_both (is_known_formula theory (image t)) (are_known_formulas theory terms) passed) term member
 
 known-formulas : (theory : Theory) (terms : List NamedTerm) → ((term : NamedTerm) → IsMember term terms → IsKnown theory (image term) bool_type) → are_known_formulas theory terms ≡ true
 known-formulas theory [] each = refl
 known-formulas theory (t ∷ terms) each =
-    both (is_known_formula theory (image t)) (are_known_formulas theory terms) ((knows_nameless-Decides theory (image t) bool_type).1 (each t (inl refl))) (known-formulas theory terms (λ u m. each u (inr m)))
+    both (is_known_formula theory (image t)) (are_known_formulas theory terms)
+        ((knows_nameless-Decides theory (image t) bool_type).1 (each t (inl refl))) (known-formulas theory terms (λ u m. each u (inr m)))
 
 goal-known : (theory : Theory) (goal : Goal) → is_known_goal theory goal ≡ true → IsKnownGoal theory goal
 goal-known theory goal passed = record {
@@ -57,12 +61,14 @@ goal-known theory goal passed = record {
 
 known-goal : (theory : Theory) (goal : Goal) → IsKnownGoal theory goal → is_known_goal theory goal ≡ true
 known-goal theory goal known =
-    both (is_known_formula theory (image goal.target)) (are_known_formulas theory goal.assumptions) ((knows_nameless-Decides theory (image goal.target) bool_type).1 known.target) (known-formulas theory goal.assumptions known.assumptions)
+    both (is_known_formula theory (image goal.target)) (are_known_formulas theory goal.assumptions)
+        ((knows_nameless-Decides theory (image goal.target) bool_type).1 known.target) (known-formulas theory goal.assumptions known.assumptions)
 
 goals-known : (theory : Theory) (goals : List Goal) → are_known_goals theory goals ≡ true → AreKnownGoals theory goals
 goals-known theory [] passed = tt
 goals-known theory (g ∷ goals) passed =
-    (goal-known theory g (first_of_both (is_known_goal theory g) (are_known_goals theory goals) passed), goals-known theory goals (second_of_both (is_known_goal theory g) (are_known_goals theory goals) passed))
+    (goal-known theory g (first_of_both (is_known_goal theory g) (are_known_goals theory goals) passed),
+        goals-known theory goals (second_of_both (is_known_goal theory g) (are_known_goals theory goals) passed))
 
 known-goals : (theory : Theory) (goals : List Goal) → AreKnownGoals theory goals → are_known_goals theory goals ≡ true
 known-goals theory [] known = refl
@@ -86,7 +92,8 @@ pub supposed-second : (extra : List NamedTerm) (goal : Goal) (term : NamedTerm) 
 supposed-second extra goal term result is_not is = is ∙ sym (among-either (image term) extra goal.assumptions ∙ ap (λ (b : Bool). b || is_assumed term goal) is_not)
 
 -- what is assumed under hypotheses that are the one formula
-pub test-decides : (falsity : Theorem) (extra : Nameless) (goal : Goal) (theorem : Theorem) (result : Bool) → result ≡ achieves (goal_under falsity.hypotheses goal) theorem → IsDrawn (Some (falsity_from extra)) (Ok falsity)
+pub test-decides : (falsity : Theorem) (extra : Nameless) (goal : Goal) (theorem : Theorem) (result : Bool)
+    → result ≡ achieves (goal_under falsity.hypotheses goal) theorem → IsDrawn (Some (falsity_from extra)) (Ok falsity)
     → Decides result (AchievesUnder extra goal (sequent_of_theorem theorem))
 test-decides falsity extra goal theorem result is shows = (
   λ passed. let a = decides.0 passed in record { same_conclusion = a.same_conclusion; assumed = λ t m. there t (a.assumed t m) },
@@ -166,24 +173,32 @@ under-extra falsity extra goal made shows drawn = record {
     one t (inl same) = inl same
     one t (inr none) = absurd none
 
-all-strong : (theory : Theory) (falsity : Theorem) (extra : Nameless) → IsDrawn (Some (falsity_from extra)) (Ok falsity) → (goals : List Goal) (all : List Recorded) → AreSupposed theory (map image falsity.hypotheses) goals all
+all-strong : (theory : Theory) (falsity : Theorem) (extra : Nameless) → IsDrawn (Some (falsity_from extra)) (Ok falsity)
+    → (goals : List Goal) (all : List Recorded) → AreSupposed theory (map image falsity.hypotheses) goals all
     → AreAsStrong (map (supposed extra) goals) (sequents_of all)
 all-strong theory falsity extra shows [] [] are = tt
 all-strong theory falsity extra shows [] (x ∷ xs) are = absurd are
 all-strong theory falsity extra shows (g ∷ goals) [] are = absurd are
 all-strong theory falsity extra shows (g ∷ goals) (x ∷ xs) are =
-    (stronger (supposed extra g) x.theorem (under-extra falsity extra g x.theorem shows (goal-drawn theory (map image falsity.hypotheses) g x.theorem are.0).1), all-strong theory falsity extra shows goals xs are.1)
+    (stronger (supposed extra g) x.theorem
+        (under-extra falsity extra g x.theorem shows (goal-drawn theory (map image falsity.hypotheses) g x.theorem are.0).1),
+        all-strong theory falsity extra shows goals xs are.1)
 
-all-weak : (theory : Theory) (falsity : Theorem) (extra : Nameless) → IsDrawn (Some (falsity_from extra)) (Ok falsity) → (goals : List Goal) (all : List Recorded) → AreSupposed theory (map image falsity.hypotheses) goals all
+all-weak : (theory : Theory) (falsity : Theorem) (extra : Nameless) → IsDrawn (Some (falsity_from extra)) (Ok falsity)
+    → (goals : List Goal) (all : List Recorded) → AreSupposed theory (map image falsity.hypotheses) goals all
     → AreAsStrong (sequents_of all) (map (supposed extra) goals)
 all-weak theory falsity extra shows [] [] are = tt
 all-weak theory falsity extra shows [] (x ∷ xs) are = absurd are
 all-weak theory falsity extra shows (g ∷ goals) [] are = absurd are
 all-weak theory falsity extra shows (g ∷ goals) (x ∷ xs) are =
-    (weaker (supposed extra g) x.theorem (under-extra falsity extra g x.theorem shows (goal-drawn theory (map image falsity.hypotheses) g x.theorem are.0).1), all-weak theory falsity extra shows goals xs are.1)
+    (weaker (supposed extra g) x.theorem
+        (under-extra falsity extra g x.theorem shows (goal-drawn theory (map image falsity.hypotheses) g x.theorem are.0).1),
+        all-weak theory falsity extra shows goals xs are.1)
 
-pub replay-under : (theory : Theory) (store : NamedSequents) (falsity : Theorem) (extra : Nameless) (step : Step) (all : List Recorded) (result : Result Theorem Fault) → IsDrawn (Some (falsity_from extra)) (Ok falsity)
-    → AreSupposed theory (map image falsity.hypotheses) step.goals all → IsDrawn (sequent_of theory store (sequents_of all) step.justification) result → IsDrawn (sequent_under theory store extra step) result
+pub replay-under : (theory : Theory) (store : NamedSequents) (falsity : Theorem) (extra : Nameless) (step : Step) (all : List Recorded)
+    (result : Result Theorem Fault) → IsDrawn (Some (falsity_from extra)) (Ok falsity)
+    → AreSupposed theory (map image falsity.hypotheses) step.goals all
+        → IsDrawn (sequent_of theory store (sequents_of all) step.justification) result → IsDrawn (sequent_under theory store extra step) result
 replay-under theory store falsity extra step all result shows are drawn =
     let goals = map (supposed extra) step.goals in
     let made = sequents_of all in
@@ -212,7 +227,8 @@ module _ (theory : Theory) (store : NamedSequents) (first second : Subgoals) (on
         let found = sequent_over theory store first (by_rule rule parts) in
         let other = sequent_over theory store second (by_rule rule parts) in
         let terms : (are_roomy (terms_of_rule rule) && are_roomy (terms_of_sequent found)) ≡ true =
-        sym (list_all-append is_roomy (terms_of_rule rule) (terms_of_sequent found)) ∙ first_of_both (are_roomy (terms_of_rule rule ++ terms_of_sequent found)) (have_room_over theory store first parts) room in
+        sym (list_all-append is_roomy (terms_of_rule rule) (terms_of_sequent found))
+            ∙ first_of_both (are_roomy (terms_of_rule rule ++ terms_of_sequent found)) (have_room_over theory store first parts) room in
         both (are_roomy (terms_of_rule rule ++ terms_of_sequent other)) (have_room_over theory store second parts)
         (list_all-append is_roomy (terms_of_rule rule) (terms_of_sequent other)
         ∙ both (are_roomy (terms_of_rule rule)) (are_roomy (terms_of_sequent other)) (first_of_both (are_roomy (terms_of_rule rule)) (are_roomy (terms_of_sequent found)) terms)
@@ -228,7 +244,9 @@ module _ (theory : Theory) (store : NamedSequents) (first second : Subgoals) (on
         (rooms-alike rest (second_of_both (has_room_over theory store first tree) (have_room_over theory store first rest) room))
 
 pub room-under : (theory : Theory) (store : NamedSequents) (falsity : Theorem) (extra : Nameless) (step : Step) (all : List Recorded) → IsDrawn (Some (falsity_from extra)) (Ok falsity)
-    → AreSupposed theory (map image falsity.hypotheses) step.goals all → has_room theory store (map (supposed extra) step.goals) step.justification ≡ true → has_room theory store (sequents_of all) step.justification ≡ true
+    → AreSupposed theory (map image falsity.hypotheses) step.goals all
+        → has_room theory store (map (supposed extra) step.goals) step.justification ≡ true
+        → has_room theory store (sequents_of all) step.justification ≡ true
 room-under theory store falsity extra step all shows are room =
     room-alike theory store (slice_get (map (supposed extra) step.goals)) (slice_get (sequents_of all))
     (stronger-at (map (supposed extra) step.goals) (sequents_of all) (all-strong theory falsity extra shows step.goals all are))
@@ -246,16 +264,19 @@ pub passes-under : (theory : Theory) (store : NamedSequents) (extra : Nameless) 
 passes-under theory store extra goal step theorem drawn achieved =
     go (are_known_goals theory step.goals) refl (sequent_of theory store (map (supposed extra) step.goals) step.justification) refl drawn
   where
-    go : (known : Bool) → are_known_goals theory step.goals ≡ known → (found : Option Sequent) → sequent_of theory store (map (supposed extra) step.goals) step.justification ≡ found → IsDrawn (require known found) (Ok theorem)
+    go : (known : Bool) → are_known_goals theory step.goals ≡ known → (found : Option Sequent)
+        → sequent_of theory store (map (supposed extra) step.goals) step.justification ≡ found → IsDrawn (require known found) (Ok theorem)
         → PassesUnder theory store extra goal step
     go false known found is drawn = absurd drawn
     go true known None is drawn = absurd drawn
     go true known (Some s) is drawn = record {
       known = goals-known theory step.goals known;
-      passes = record { sequent = s; is_made = is; achieves = record { same_conclusion = sym drawn.concludes ∙ achieved.same_conclusion; assumed = λ t m. achieved.assumed t (drawn.same_set.to t m) } };
+      passes = record { sequent = s; is_made = is; achieves =
+          record { same_conclusion = sym drawn.concludes ∙ achieved.same_conclusion; assumed = λ t m. achieved.assumed t (drawn.same_set.to t m) } };
     }
 
-under-is : (theory : Theory) (store : NamedSequents) (extra : Nameless) (goal : Goal) (step : Step) (passes : PassesUnder theory store extra goal step) → sequent_under theory store extra step ≡ Some passes.passes.sequent
+under-is : (theory : Theory) (store : NamedSequents) (extra : Nameless) (goal : Goal) (step : Step)
+    (passes : PassesUnder theory store extra goal step) → sequent_under theory store extra step ≡ Some passes.passes.sequent
 under-is theory store extra goal step passes =
     ap (λ (known : Bool). require known (sequent_of theory store (map (supposed extra) step.goals) step.justification)) (known-goals theory step.goals passes.known) ∙ passes.passes.is_made
 
@@ -273,12 +294,14 @@ pub invalid-never : (found : Sequent) (fault : Fault) → IsDrawn (Some found) (
 invalid-never found fault (inl is) invalid = cc
 invalid-never found fault (inr is) invalid = cc
 
-pub refused-under : (theory : Theory) (store : NamedSequents) (extra : Nameless) (goal : Goal) (step : Step) (fault : Fault) → IsDrawn (sequent_under theory store extra step) (Err fault) → fault ≡ InvalidStep
+pub refused-under : (theory : Theory) (store : NamedSequents) (extra : Nameless) (goal : Goal) (step : Step) (fault : Fault)
+    → IsDrawn (sequent_under theory store extra step) (Err fault) → fault ≡ InvalidStep
     → PassesUnder theory store extra goal step → ⊥
 refused-under theory store extra goal step fault drawn invalid passes =
     invalid-never passes.passes.sequent fault (subst (λ (o : Option Sequent). IsDrawn o (Err fault)) (under-is theory store extra goal step passes) drawn) invalid
 
-pub failed-under : (theory : Theory) (store : NamedSequents) (extra : Nameless) (goal : Goal) (step : Step) (theorem : Theorem) (result : Bool) → IsDrawn (sequent_under theory store extra step) (Ok theorem)
+pub failed-under : (theory : Theory) (store : NamedSequents) (extra : Nameless) (goal : Goal) (step : Step) (theorem : Theorem) (result : Bool)
+    → IsDrawn (sequent_under theory store extra step) (Ok theorem)
     → Decides result (AchievesUnder extra goal (sequent_of_theorem theorem)) → result ≡ false → PassesUnder theory store extra goal step → ⊥
 failed-under theory store extra goal step theorem result drawn decides fails passes =
     let passed : result ≡ true = decides.1 (passed-under theory store extra goal step theorem drawn passes) in cc
@@ -288,15 +311,18 @@ want-refusal found fault want = inr want
 
 -- what comes of a replay under the formula
 
-pub supposes-not : (theory : Theory) (store : NamedSequents) (falsity : Theorem) (extra : Nameless) (step : Step) (fault : Fault) → IsDrawn (Some (falsity_from extra)) (Ok falsity) → IsUnsupposed (are_known_goals theory step.goals) fault
+pub supposes-not : (theory : Theory) (store : NamedSequents) (falsity : Theorem) (extra : Nameless) (step : Step) (fault : Fault)
+    → IsDrawn (Some (falsity_from extra)) (Ok falsity) → IsUnsupposed (are_known_goals theory step.goals) fault
     → (are_roomy (terms_of_theorem falsity) ≡ true → are_roomy (terms_of_goals step.goals) ≡ true → fault ≡ TooLarge → ⊥) → IsReplayedUnder theory store step (Err fault) extra
 supposes-not theory store falsity extra step fault shows refused fits = record {
   drawn = unsupposed-drawn (are_known_goals theory step.goals) (sequent_of theory store (map (supposed extra) step.goals) step.justification) fault refused;
   fits = λ room. fits (falsity-roomy falsity extra shows room.extra_roomy) room.goals_roomy;
 }
 
-pub replays-under : (theory : Theory) (stored : Stored) (falsity : Theorem) (extra : Nameless) (step : Step) (all : List Recorded) (result : Result Theorem Fault) → IsDrawn (Some (falsity_from extra)) (Ok falsity)
-    → AreSupposed theory (map image falsity.hypotheses) step.goals all → Meets (expected_in theory stored all step.justification) result → IsReplayedUnder theory (named_sequents stored) step result extra
+pub replays-under : (theory : Theory) (stored : Stored) (falsity : Theorem) (extra : Nameless) (step : Step) (all : List Recorded)
+    (result : Result Theorem Fault) → IsDrawn (Some (falsity_from extra)) (Ok falsity)
+    → AreSupposed theory (map image falsity.hypotheses) step.goals all → Meets (expected_in theory stored all step.justification) result
+        → IsReplayedUnder theory (named_sequents stored) step result extra
 replays-under theory stored falsity extra step all result shows are met = record {
   drawn = replay-under theory (named_sequents stored) falsity extra step all result shows are met.drawn;
   fits = λ room. met.fits (room-under theory (named_sequents stored) falsity extra step all shows are room.replay_roomy);
@@ -309,7 +335,8 @@ unreplayed theory store extra goal step fault replayed (inr (inl memory)) = inr 
 unreplayed theory store extra goal step fault replayed (inr (inr large)) = inr (inr (large, λ room. replayed.fits room large))
 
 -- what the formula's theorem lacks is memory
-pub unassumed : (theory : Theory) (store : NamedSequents) (sequent : Sequent) (extra : Nameless) (goal : Goal) (step : Step) (fault : Fault) → IsDrawn (Some sequent) (Err fault) → (fault ≡ TooLarge → ⊥)
+pub unassumed : (theory : Theory) (store : NamedSequents) (sequent : Sequent) (extra : Nameless) (goal : Goal) (step : Step) (fault : Fault)
+    → IsDrawn (Some sequent) (Err fault) → (fault ≡ TooLarge → ⊥)
     → AnswersUnder {A = Unit {0}} theory store goal step (Err fault) extra
 unassumed theory store sequent extra goal step fault (inl memory) fits = inr (inl memory)
 unassumed theory store sequent extra goal step fault (inr large) fits = absurd (fits large)
@@ -338,7 +365,8 @@ room-twice theory store step room =
     let twice = has_room theory (sequents_in store) (map (supposed false_twice) step.goals) step.justification in
     record { extra_roomy = refl; goals_roomy = first_of_both goals (once && twice) room; replay_roomy = second_of_both once twice (second_of_both goals (once && twice) room) }
 
-pub acceptable : (theory : Theory) (store : Store) (goal : Goal) (step : Step) → PassesUnder theory (sequents_in store) false_term goal step → PassesUnder theory (sequents_in store) false_twice goal step → IsAcceptable theory store goal step
+pub acceptable : (theory : Theory) (store : Store) (goal : Goal) (step : Step) → PassesUnder theory (sequents_in store) false_term goal step
+    → PassesUnder theory (sequents_in store) false_twice goal step → IsAcceptable theory store goal step
 acceptable theory store goal step once twice = record { known = once.known; passes = record { once = once.passes; twice = twice.passes } }
 
 pub acceptable-once : (theory : Theory) (store : Store) (goal : Goal) (step : Step) → IsAcceptable theory store goal step → PassesUnder theory (sequents_in store) false_term goal step

@@ -15,7 +15,10 @@ pub answers : (result : Result Recorded Fault) (theorem : Theorem) → IfOk resu
 answers (Ok made) theorem is failed = ap (λ (t : Theorem). Ok t) (sym is)
 answers (Err fault) theorem is failed = inl failed
 
-pub axiom-continues : (result : Result Recorded Fault) (old new : Journal) (step : Step) (theorem : Theorem) → theorem.theory ≡ old.theory → IfOk result (λ made. made.theorem ≡ theorem) → IfErr result (λ fault. fault ≡ Memory)
+pub axiom-continues : (result : Result Recorded Fault) (old new : Journal) (step : Step) (theorem : Theorem) → theorem.theory ≡ old.theory
+    → IfOk result (λ made. made.theorem ≡ theorem) → IfErr result (λ fault. fault ≡ Memory)
     → IfOk result (IsRecorded old new step) → OnErr result (new ≡ old) → Continues old new result
 axiom-continues result old new step theorem stands is failed recorded kept =
-    continues result old new step (Ok theorem) (record { stands = λ answer same. ap (λ (t : Theorem). t.theory) (sym (ok_is theorem answer same)) ∙ stands }) (answers result theorem is failed) recorded kept
+    continues result old new step (Ok theorem)
+        (record { stands = λ answer same. ap (λ (t : Theorem). t.theory) (sym (ok_is theorem answer same)) ∙ stands })
+        (answers result theorem is failed) recorded kept

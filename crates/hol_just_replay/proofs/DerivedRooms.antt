@@ -12,15 +12,22 @@ use Rattle.hol_model.specs.Logic.NamedLogic.{implication, disjunction, negation,
 use Rattle.hol_model.specs.Kernel.Outcome.{unless, refused}
 use Rattle.hol_model.specs.Kernel.Rules.{first_unknown, dest_equation, is_formula}
 use Rattle.hol_model.specs.Kernel.Theorem.{Theorem, are_alpha_equivalent}
-use Rattle.hol_model.specs.Derived.DerivedRules.{Stated, is_roomy, images, stated, stated_with_left, body_with, AnswersStated, terms_of_theorem, sym_outcome, add_assum_outcome, prove_hyp_outcome, beta_conv_outcome, eqt_intro_outcome, conj_outcome, eqt_elim_outcome, conjunct1_outcome, conjunct2_outcome, disch_outcome, undisch_outcome, mp_outcome, disj1_outcome, disj2_outcome, disj_cases_outcome, contr_outcome, not_intro_outcome, not_elim_outcome}
-use Rattle.hol_model.specs.Derived.InferenceRules.{InferenceRule, rule_sym, rule_add_assum, rule_prove_hyp, rule_beta_conv, rule_eqt_intro, rule_conj, rule_eqt_elim, rule_conjunct1, rule_conjunct2, rule_disch, rule_undisch, rule_mp, rule_disj1, rule_disj2, rule_disj_cases, rule_contr, rule_not_intro, rule_not_elim}
+use Rattle.hol_model.specs.Derived.DerivedRules.{Stated, is_roomy, images, stated, stated_with_left, body_with, AnswersStated, terms_of_theorem}
+use Rattle.hol_model.specs.Derived.DerivedRules.{sym_outcome, add_assum_outcome, prove_hyp_outcome, beta_conv_outcome, eqt_intro_outcome}
+use Rattle.hol_model.specs.Derived.DerivedRules.{conj_outcome, eqt_elim_outcome, conjunct1_outcome, conjunct2_outcome, disch_outcome, undisch_outcome}
+use Rattle.hol_model.specs.Derived.DerivedRules.{mp_outcome, disj1_outcome, disj2_outcome, disj_cases_outcome, contr_outcome, not_intro_outcome}
+use Rattle.hol_model.specs.Derived.DerivedRules.{not_elim_outcome}
+use Rattle.hol_model.specs.Derived.InferenceRules.{InferenceRule, rule_sym, rule_add_assum, rule_prove_hyp, rule_beta_conv, rule_eqt_intro, rule_conj}
+use Rattle.hol_model.specs.Derived.InferenceRules.{rule_eqt_elim, rule_conjunct1, rule_conjunct2, rule_disch, rule_undisch, rule_mp, rule_disj1}
+use Rattle.hol_model.specs.Derived.InferenceRules.{rule_disj2, rule_disj_cases, rule_contr, rule_not_intro, rule_not_elim}
 use Rattle.hol_model.proofs.Tests.{first_of_both, both}
 use Rattle.hol_journal.specs.Journal.{Journal}
 use Rattle.hol_prelude.specs.HasLogic.{HasLogic}
 use Rattle.hol_prelude.specs.declared.stored.Bool.{Bool as Logic}
 use Rattle.hol_equal.proofs.DrawnTerms.{IsPremise}
 use Rattle.hol_equal.proofs.DrawnEquality.{drawn-sym, drawn-add_assum, drawn-prove_hyp, drawn-beta_conv, drawn-eqt_intro, drawn-conj}
-use Rattle.hol_bool.proofs.DrawnConnectives.{drawn-eqt_elim, drawn-conjunct1, drawn-conjunct2, drawn-disch, drawn-undisch, drawn-mp, drawn-disj1, drawn-disj2, drawn-disj_cases, drawn-contr, drawn-not_intro, drawn-not_elim}
+use Rattle.hol_bool.proofs.DrawnConnectives.{drawn-eqt_elim, drawn-conjunct1, drawn-conjunct2, drawn-disch, drawn-undisch, drawn-mp, drawn-disj1}
+use Rattle.hol_bool.proofs.DrawnConnectives.{drawn-disj2, drawn-disj_cases, drawn-contr, drawn-not_intro, drawn-not_elim}
 use Rattle.hol_just_replay.specs.Room.{IsNotLarge, are_roomy, HasRoom, FindsRoom}
 use Rattle.hol_just_replay.proofs.KernelRooms.{room-refused}
 use Rattle.hol_just_replay.proofs.RoomLemmas.{fits-unless, fits-given, fits-refused, stated-room}
@@ -43,50 +50,61 @@ walked-fits theory p next fits = fits-unless (is_formula p) NotBool (refused (fi
 
 -- ---- equality
 
-pub room-sym : {theory : Theory} {a : Theorem} {result : Result Theorem Fault} → IsLegal theory → IsPremise theory a → AnswersStated result (terms_of_theorem a) (sym_outcome a) → FindsRoom theory rule_sym (a ∷ []) result
+pub room-sym : {theory : Theory} {a : Theorem} {result : Result Theorem Fault} → IsLegal theory → IsPremise theory a
+    → AnswersStated result (terms_of_theorem a) (sym_outcome a) → FindsRoom theory rule_sym (a ∷ []) result
 room-sym {theory} {a} {result} legal premise answers =
     stated-room theory rule_sym (a ∷ []) (terms_of_theorem a) (sym_outcome a) result (drawn-sym theory legal a premise)
     (fits-given (dest_equation a.conclusion) NotEquation (λ sides. stated (images a) (equation sides.1 sides.0)) (λ is. cc) (λ sides. tt)) (λ room. one-roomy room) answers
 
-pub room-add_assum : {theory : Theory} {p : NamedTerm} {ty : HolType} {a : Theorem} {result : Result Theorem Fault} → type_of p ≡ Some ty → AnswersStated result (image p ∷ terms_of_theorem a) (add_assum_outcome theory p a)
+pub room-add_assum : {theory : Theory} {p : NamedTerm} {ty : HolType} {a : Theorem} {result : Result Theorem Fault} → type_of p ≡ Some ty
+    → AnswersStated result (image p ∷ terms_of_theorem a) (add_assum_outcome theory p a)
     → FindsRoom theory (rule_add_assum p) (a ∷ []) result
 room-add_assum {theory} {p} {ty} {a} {result} typed answers =
     stated-room theory (rule_add_assum p) (a ∷ []) (image p ∷ terms_of_theorem a) (add_assum_outcome theory p a) result (drawn-add_assum theory p ty a typed)
     (walked-fits theory p (stated (image p ∷ images a) a.conclusion) tt) (λ room. taken-roomy p (terms_of_theorem a) room.taken (one-roomy room)) answers
 
-pub room-prove_hyp : {theory : Theory} {a b : Theorem} {result : Result Theorem Fault} → AnswersStated result (terms_of_theorem a ++ terms_of_theorem b) (prove_hyp_outcome a b) → FindsRoom theory rule_prove_hyp (a ∷ b ∷ []) result
+pub room-prove_hyp : {theory : Theory} {a b : Theorem} {result : Result Theorem Fault}
+    → AnswersStated result (terms_of_theorem a ++ terms_of_theorem b) (prove_hyp_outcome a b) → FindsRoom theory rule_prove_hyp (a ∷ b ∷ []) result
 room-prove_hyp {theory} {a} {b} {result} answers =
     stated-room theory rule_prove_hyp (a ∷ b ∷ []) (terms_of_theorem a ++ terms_of_theorem b) (prove_hyp_outcome a b) result (drawn-prove_hyp theory a b) tt (λ room. two-roomy room) answers
 
-pub room-beta_conv : {theory : Theory} {t : NamedTerm} {ty : HolType} {result : Result Theorem Fault} → type_of t ≡ Some ty → AnswersStated result (image t ∷ []) (beta_conv_outcome theory t) → FindsRoom theory (rule_beta_conv t) [] result
+pub room-beta_conv : {theory : Theory} {t : NamedTerm} {ty : HolType} {result : Result Theorem Fault} → type_of t ≡ Some ty
+    → AnswersStated result (image t ∷ []) (beta_conv_outcome theory t) → FindsRoom theory (rule_beta_conv t) [] result
 room-beta_conv {theory} {t} {ty} {result} typed answers =
     stated-room theory (rule_beta_conv t) [] (image t ∷ []) (beta_conv_outcome theory t) result (drawn-beta_conv theory t ty typed)
-    (fits-given (dest_redex t) BadShape (λ redex. refused (first_unknown theory t) (stated_with_left [] t (nameless_equation (nameless_type [] (image t)) (image t) (body_with redex.0 redex.1)))) (λ is. cc)
+    (fits-given (dest_redex t) BadShape
+        (λ redex. refused (first_unknown theory t)
+        (stated_with_left [] t (nameless_equation (nameless_type [] (image t)) (image t) (body_with redex.0 redex.1)))) (λ is. cc)
     (λ redex. fits-refused theory t (stated_with_left [] t (nameless_equation (nameless_type [] (image t)) (image t) (body_with redex.0 redex.1))) tt)) (λ room. room.taken) answers
 
 -- ---- connectives
 
-pub room-eqt_intro : {theory : Theory} {a : Theorem} {result : Result Theorem Fault} → IsPremise theory a → AnswersStated result (terms_of_theorem a) (eqt_intro_outcome a) → FindsRoom theory rule_eqt_intro (a ∷ []) result
+pub room-eqt_intro : {theory : Theory} {a : Theorem} {result : Result Theorem Fault} → IsPremise theory a
+    → AnswersStated result (terms_of_theorem a) (eqt_intro_outcome a) → FindsRoom theory rule_eqt_intro (a ∷ []) result
 room-eqt_intro {theory} {a} {result} premise answers =
     stated-room theory rule_eqt_intro (a ∷ []) (terms_of_theorem a) (eqt_intro_outcome a) result (drawn-eqt_intro theory a premise) tt (λ room. one-roomy room) answers
 
-pub room-conj : {theory : Theory} {a b : Theorem} {result : Result Theorem Fault} → AnswersStated result (terms_of_theorem a ++ terms_of_theorem b) (conj_outcome a b) → FindsRoom theory rule_conj (a ∷ b ∷ []) result
+pub room-conj : {theory : Theory} {a b : Theorem} {result : Result Theorem Fault}
+    → AnswersStated result (terms_of_theorem a ++ terms_of_theorem b) (conj_outcome a b) → FindsRoom theory rule_conj (a ∷ b ∷ []) result
 room-conj {theory} {a} {b} {result} answers =
     stated-room theory rule_conj (a ∷ b ∷ []) (terms_of_theorem a ++ terms_of_theorem b) (conj_outcome a b) result (drawn-conj theory a b) tt (λ room. two-roomy room) answers
 
-pub room-disch : {theory : Theory} {p : NamedTerm} {ty : HolType} {a : Theorem} {result : Result Theorem Fault} → type_of p ≡ Some ty → AnswersStated result (image p ∷ terms_of_theorem a) (disch_outcome theory p a)
+pub room-disch : {theory : Theory} {p : NamedTerm} {ty : HolType} {a : Theorem} {result : Result Theorem Fault} → type_of p ≡ Some ty
+    → AnswersStated result (image p ∷ terms_of_theorem a) (disch_outcome theory p a)
     → FindsRoom theory (rule_disch p) (a ∷ []) result
 room-disch {theory} {p} {ty} {a} {result} typed answers =
     stated-room theory (rule_disch p) (a ∷ []) (image p ∷ terms_of_theorem a) (disch_outcome theory p a) result (drawn-disch theory p ty a typed)
     (walked-fits theory p (stated (without (image p) (images a)) (implication p a.conclusion)) tt) (λ room. taken-roomy p (terms_of_theorem a) room.taken (one-roomy room)) answers
 
-pub room-disj1 : {theory : Theory} {q : NamedTerm} {ty : HolType} {a : Theorem} {result : Result Theorem Fault} → type_of q ≡ Some ty → AnswersStated result (image q ∷ terms_of_theorem a) (disj1_outcome theory q a)
+pub room-disj1 : {theory : Theory} {q : NamedTerm} {ty : HolType} {a : Theorem} {result : Result Theorem Fault} → type_of q ≡ Some ty
+    → AnswersStated result (image q ∷ terms_of_theorem a) (disj1_outcome theory q a)
     → FindsRoom theory (rule_disj1 q) (a ∷ []) result
 room-disj1 {theory} {q} {ty} {a} {result} typed answers =
     stated-room theory (rule_disj1 q) (a ∷ []) (image q ∷ terms_of_theorem a) (disj1_outcome theory q a) result (drawn-disj1 theory q ty a typed)
     (walked-fits theory q (stated (images a) (disjunction a.conclusion q)) tt) (λ room. taken-roomy q (terms_of_theorem a) room.taken (one-roomy room)) answers
 
-pub room-disj2 : {theory : Theory} {p : NamedTerm} {ty : HolType} {a : Theorem} {result : Result Theorem Fault} → type_of p ≡ Some ty → AnswersStated result (image p ∷ terms_of_theorem a) (disj2_outcome theory p a)
+pub room-disj2 : {theory : Theory} {p : NamedTerm} {ty : HolType} {a : Theorem} {result : Result Theorem Fault} → type_of p ≡ Some ty
+    → AnswersStated result (image p ∷ terms_of_theorem a) (disj2_outcome theory p a)
     → FindsRoom theory (rule_disj2 p) (a ∷ []) result
 room-disj2 {theory} {p} {ty} {a} {result} typed answers =
     stated-room theory (rule_disj2 p) (a ∷ []) (image p ∷ terms_of_theorem a) (disj2_outcome theory p a) result (drawn-disj2 theory p ty a typed)
@@ -131,7 +149,8 @@ by_cases a b c sides = stated (images a ++ without (image sides.0) (images b) ++
 pub room-disj_cases : {journal : Journal} {logic : Logic} {a b c : Theorem} {result : Result Theorem Fault} → HasLogic journal logic → IsLegal journal.theory → IsPremise journal.theory a
     → AnswersStated result (terms_of_theorem a ++ (terms_of_theorem b ++ terms_of_theorem c)) (disj_cases_outcome a b c) → FindsRoom journal.theory rule_disj_cases (a ∷ b ∷ c ∷ []) result
 room-disj_cases {journal} {logic} {a} {b} {c} {result} has legal premise answers =
-    stated-room journal.theory rule_disj_cases (a ∷ b ∷ c ∷ []) (terms_of_theorem a ++ (terms_of_theorem b ++ terms_of_theorem c)) (disj_cases_outcome a b c) result (drawn-disj_cases journal logic has legal a b c premise)
+    stated-room journal.theory rule_disj_cases (a ∷ b ∷ c ∷ []) (terms_of_theorem a ++ (terms_of_theorem b ++ terms_of_theorem c))
+        (disj_cases_outcome a b c) result (drawn-disj_cases journal logic has legal a b c premise)
     (fits-given (dest_disjunction a.conclusion) BadShape (λ sides. unless (are_alpha_equivalent b.conclusion c.conclusion) NotAlpha (by_cases a b c sides)) (λ is. cc)
     (λ sides. fits-unless (are_alpha_equivalent b.conclusion c.conclusion) NotAlpha (by_cases a b c sides) (λ is. cc) tt)) (λ room. all_roomy room) answers
   where
@@ -141,11 +160,13 @@ room-disj_cases {journal} {logic} {a} {b} {c} {result} has legal premise answers
         ∙ both (are_roomy (terms_of_theorem a)) (are_roomy (terms_of_theorem b ++ terms_of_theorem c)) room.premises_roomy.0
         (list_all-append is_roomy (terms_of_theorem b) (terms_of_theorem c) ∙ both (are_roomy (terms_of_theorem b)) (are_roomy (terms_of_theorem c)) room.premises_roomy.1.0 room.premises_roomy.1.1.0)
 
-pub room-contr : {journal : Journal} {logic : Logic} {p : NamedTerm} {ty : HolType} {a : Theorem} {result : Result Theorem Fault} → HasLogic journal logic → IsLegal journal.theory → type_of p ≡ Some ty → IsPremise journal.theory a
+pub room-contr : {journal : Journal} {logic : Logic} {p : NamedTerm} {ty : HolType} {a : Theorem} {result : Result Theorem Fault}
+    → HasLogic journal logic → IsLegal journal.theory → type_of p ≡ Some ty → IsPremise journal.theory a
     → AnswersStated result (image p ∷ terms_of_theorem a) (contr_outcome journal.theory p a) → FindsRoom journal.theory (rule_contr p) (a ∷ []) result
 room-contr {journal} {logic} {p} {ty} {a} {result} has legal typed premise answers =
     stated-room journal.theory (rule_contr p) (a ∷ []) (image p ∷ terms_of_theorem a) (contr_outcome journal.theory p a) result (drawn-contr journal logic has legal p ty a typed premise)
-    (fits-unless (is_false a.conclusion) BadShape (unless (is_formula p) NotBool (refused (first_unknown journal.theory p) (stated (images a) p))) (λ is. cc) (walked-fits journal.theory p (stated (images a) p) tt))
+    (fits-unless (is_false a.conclusion) BadShape (unless (is_formula p) NotBool (refused (first_unknown journal.theory p) (stated (images a) p)))
+        (λ is. cc) (walked-fits journal.theory p (stated (images a) p) tt))
     (λ room. taken-roomy p (terms_of_theorem a) room.taken (one-roomy room)) answers
 
 pub room-not_intro : {journal : Journal} {logic : Logic} {a : Theorem} {result : Result Theorem Fault} → HasLogic journal logic → IsLegal journal.theory → IsPremise journal.theory a
@@ -163,4 +184,6 @@ room-not_elim {journal} {logic} {a} {result} has legal premise answers =
 
 pub ruleset equality_rooms = (room-beta_conv, room-refused)
 
-pub ruleset connective_rooms = (room-sym, room-add_assum, room-prove_hyp, room-eqt_intro, room-conj, room-disch, room-disj1, room-disj2, room-eqt_elim, room-conjunct1, room-conjunct2, room-undisch, room-mp, room-disj_cases, room-contr, room-not_intro, room-not_elim, room-refused)
+pub ruleset connective_rooms =
+    (room-sym, room-add_assum, room-prove_hyp, room-eqt_intro, room-conj, room-disch, room-disj1, room-disj2, room-eqt_elim, room-conjunct1,
+    room-conjunct2, room-undisch, room-mp, room-disj_cases, room-contr, room-not_intro, room-not_elim, room-refused)

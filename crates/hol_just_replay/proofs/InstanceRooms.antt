@@ -14,7 +14,8 @@ use Rattle.hol_model.specs.Logic.KnownTerm.{knows_type, knows_types, knows_const
 use Rattle.hol_model.specs.Logic.NamedLogic.{true_term}
 use Rattle.hol_model.specs.Kernel.Outcome.{AnswersSuch}
 use Rattle.hol_model.specs.Kernel.Theorem.{Theorem}
-use Rattle.hol_model.specs.Kernel.Instantiation.{IsChanged, or_too_large, all_fit, replacements_refusal, inst_refusal, IsInst, instantiate_all, type_replacements_refusal, inst_type_refusal, IsInstType}
+use Rattle.hol_model.specs.Kernel.Instantiation.{IsChanged, or_too_large, all_fit, replacements_refusal, inst_refusal, IsInst, instantiate_all}
+use Rattle.hol_model.specs.Kernel.Instantiation.{type_replacements_refusal, inst_type_refusal, IsInstType}
 use Rattle.hol_model.specs.Goals.Replays.{terms_of_sequent}
 use Rattle.hol_model.specs.Derived.DerivedRules.{is_roomy, images}
 use Rattle.hol_model.specs.Derived.InferenceRules.{rule_inst, rule_inst_type}
@@ -32,7 +33,8 @@ plain theory = record { theory = theory; hypotheses = []; conclusion = true_term
 plain-changed : (theory : Theory) (change : Nameless → Nameless) → image true_term ≡ change (image true_term) → IsChanged theory change (plain theory) (plain theory)
 plain-changed theory change same = record { stands_on = refl; instances = []; images = refl; hypotheses = refl; conclusion = same }
 
-required : (theory : Theory) (change : Nameless → Nameless) (c : Nameless) (may : Bool) → IsDrawn (given (require may (conclude (all_changed change ∷ []) c)) (λ inference. drawn inference ([] ∷ []))) (Ok (plain theory)) → may ≡ true
+required : (theory : Theory) (change : Nameless → Nameless) (c : Nameless) (may : Bool)
+    → IsDrawn (given (require may (conclude (all_changed change ∷ []) c)) (λ inference. drawn inference ([] ∷ []))) (Ok (plain theory)) → may ≡ true
 required theory change c true is = refl
 required theory change c false is = absurd is
 
@@ -44,7 +46,8 @@ all-within change (t ∷ terms) roomy =
     (all-within change terms (second_of_both (is_roomy (change (image t))) (are_roomy (map change (map image terms))) roomy))
 
 -- a rule that changes each part of a theorem
-changed-room : (theory : Theory) (change : Nameless → Nameless) (a : Theorem) (may : Bool) (refusal : Option Fault) → (refusal ≡ Some TooLarge → ⊥) → (refusal ≡ None → may ≡ true) → (result : Result Theorem Fault)
+changed-room : (theory : Theory) (change : Nameless → Nameless) (a : Theorem) (may : Bool) (refusal : Option Fault) → (refusal ≡ Some TooLarge → ⊥)
+    → (refusal ≡ None → may ≡ true) → (result : Result Theorem Fault)
     → AnswersSuch result (or_too_large refusal (all_fit change (a.conclusion ∷ a.hypotheses))) (IsChanged theory change a)
     → are_roomy (terms_of_sequent (given (require may (conclude (all_changed change ∷ []) (change (image a.conclusion)))) (λ inference. drawn inference (images a ∷ [])))) ≡ true → IsNotLarge result
 changed-room theory change a may refusal other passes (Ok answer) answers roomy = tt
@@ -58,7 +61,9 @@ changed-room theory change a may None other passes (Err fault) (inr is) roomy = 
     all_roomy : are_roomy (change (image a.conclusion) ∷ changed) ≡ true
     all_roomy =
         subst (λ (h : List Nameless). are_roomy (change (image a.conclusion) ∷ h) ≡ true) (append-nil changed)
-        (subst (λ (b : Bool). are_roomy (terms_of_sequent (given (require b (conclude (all_changed change ∷ []) (change (image a.conclusion)))) (λ inference. drawn inference (images a ∷ [])))) ≡ true) (passes refl) roomy)
+        (subst (λ (b : Bool). are_roomy
+            (terms_of_sequent (given (require b (conclude (all_changed change ∷ []) (change (image a.conclusion))))
+            (λ inference. drawn inference (images a ∷ [])))) ≡ true) (passes refl) roomy)
 
     inside : all_fit change (a.conclusion ∷ a.hypotheses) ≡ true
     inside = all-within change (a.conclusion ∷ a.hypotheses) all_roomy
@@ -69,10 +74,14 @@ changed-room theory change a may None other passes (Err fault) (inr is) roomy = 
 
 replacements-other : (theory : Theory) (theta : List (NamedTerm × NamedTerm)) → replacements_refusal theory theta ≡ Some TooLarge → ⊥
 replacements-other theory theta =
-    go (replaces_variables theta) (keeps_types theta) (list_all (λ pair. knows_types theory pair.0) theta) (list_all (λ pair. knows_constants theory pair.0) theta) (list_all (λ pair. has_instances theory pair.0) theta)
+    go (replaces_variables theta) (keeps_types theta) (list_all (λ pair. knows_types theory pair.0) theta)
+        (list_all (λ pair. knows_constants theory pair.0) theta) (list_all (λ pair. has_instances theory pair.0) theta)
   where
     go : (variables keep types constants instances : Bool)
-        → (if not variables then Some NotVariable else (if not keep then Some TypeMismatch else (if not types then Some UnknownType else (if not constants then Some UnknownConst else (if not instances then Some NotInstance else None))))) ≡ Some TooLarge
+        → (if not variables then Some NotVariable else
+            (if not keep then Some TypeMismatch else
+            (if not types then Some UnknownType else
+            (if not constants then Some UnknownConst else (if not instances then Some NotInstance else None))))) ≡ Some TooLarge
         → ⊥
     go true true true true true is = cc
     go true true true true false is = cc
@@ -89,7 +98,8 @@ type-replacements-other theory theta = go (replaces_type_variables theta) (list_
     go true false is = cc
     go false types is = cc
 
-pub room-inst : {theory : Theory} {theta : List (NamedTerm × NamedTerm)} {a : Theorem} {result : Result Theorem Fault} → AnswersSuch result (inst_refusal theory theta a) (IsInst theory theta a) → FindsRoom theory (rule_inst theta) (a ∷ []) result
+pub room-inst : {theory : Theory} {theta : List (NamedTerm × NamedTerm)} {a : Theorem} {result : Result Theorem Fault}
+    → AnswersSuch result (inst_refusal theory theta a) (IsInst theory theta a) → FindsRoom theory (rule_inst theta) (a ∷ []) result
 room-inst {theory} {theta} {a} {result} answers =
     record { finds = λ room. changed-room theory (put_all theta) a (may_replace theory theta) (replacements_refusal theory theta) (replacements-other theory theta) passes result answers room.drawn }
   where
@@ -98,10 +108,12 @@ room-inst {theory} {theta} {a} {result} answers =
         required theory (put_all theta) (put_all theta (image true_term)) (may_replace theory theta)
         (inst-drawn theory theta (plain theory) (Ok (plain theory)) (ap (λ (o : Option Fault). or_too_large o true) none, plain-changed theory (put_all theta) refl)).drawn
 
-pub room-inst_type : {theory : Theory} {theta : List (HolType × HolType)} {a : Theorem} {result : Result Theorem Fault} → AnswersSuch result (inst_type_refusal theory theta a) (IsInstType theory theta a)
+pub room-inst_type : {theory : Theory} {theta : List (HolType × HolType)} {a : Theorem} {result : Result Theorem Fault}
+    → AnswersSuch result (inst_type_refusal theory theta a) (IsInstType theory theta a)
     → FindsRoom theory (rule_inst_type theta) (a ∷ []) result
 room-inst_type {theory} {theta} {a} {result} answers =
-    record { finds = λ room. changed-room theory (instantiate_all theta) a (may_replace_types theory theta) (type_replacements_refusal theory theta) (type-replacements-other theory theta) passes result answers room.drawn }
+    record { finds = λ room. changed-room theory (instantiate_all theta) a (may_replace_types theory theta) (type_replacements_refusal theory theta)
+        (type-replacements-other theory theta) passes result answers room.drawn }
   where
     passes : type_replacements_refusal theory theta ≡ None → may_replace_types theory theta ≡ true
     passes none =

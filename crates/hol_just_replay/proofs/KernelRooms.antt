@@ -15,7 +15,9 @@ use Rattle.hol_model.specs.Logic.KnownTerm.{knows_type}
 use Rattle.hol_model.specs.Logic.Derivable.{nameless_equation}
 use Rattle.hol_model.specs.Kernel.Theorem.{Theorem, with_hypotheses, without_hypothesis, are_alpha_equivalent}
 use Rattle.hol_model.specs.Kernel.Outcome.{Answers, unless, given as outcome_given, refused}
-use Rattle.hol_model.specs.Kernel.Rules.{first_unknown, is_formula, dest_equation, dest_trivial_redex, concluded, is_free_in_hypotheses, refl_outcome, assume_outcome, beta_outcome, trans_outcome, eq_mp_outcome, mk_comb_outcome, abs_outcome, deduct_antisym_outcome}
+use Rattle.hol_model.specs.Kernel.Rules.{first_unknown, is_formula, dest_equation, dest_trivial_redex, concluded, is_free_in_hypotheses, refl_outcome}
+use Rattle.hol_model.specs.Kernel.Rules.{assume_outcome, beta_outcome, trans_outcome, eq_mp_outcome, mk_comb_outcome, abs_outcome}
+use Rattle.hol_model.specs.Kernel.Rules.{deduct_antisym_outcome}
 use Rattle.hol_model.specs.Goals.Replays.{terms_of_sequent}
 use Rattle.hol_model.specs.Derived.DerivedRules.{is_roomy, terms_of_theorem}
 use Rattle.hol_model.specs.Derived.InferenceRules.{InferenceRule, rule_refl, rule_trans, rule_mk_comb, rule_abs, rule_beta, rule_assume, rule_eq_mp, rule_deduct_antisym}
@@ -42,7 +44,8 @@ concluded-fits theory hypotheses conclusion within = go (is_within_limits conclu
     go true is = tt
     go false is = λ large. within is
 
-equation-fits : (tall many : ℕ) (l r : NamedTerm) (ty : HolType) → type_of l ≡ Some ty → type_of r ≡ Some ty → tall ≤ 2000 → many ≤ 4000000 → IsSized tall many (nameless_equation ty (image l) (image r))
+equation-fits : (tall many : ℕ) (l r : NamedTerm) (ty : HolType) → type_of l ≡ Some ty → type_of r ≡ Some ty → tall ≤ 2000 → many ≤ 4000000
+    → IsSized tall many (nameless_equation ty (image l) (image r))
     → is_within_limits (equation l r) ≡ false → ⊥
 equation-fits tall many l r ty left right low few sized past =
     let outside : nameless_within_limits (image (equation l r)) ≡ false = past_limits-image (equation l r) bool_type (equation-typed l r ty left right) past in
@@ -58,7 +61,9 @@ first-roomy term rest roomy = first_of_both (is_roomy term) (are_roomy rest) roo
 
 -- a term that is walked, and an equation of it that is drawn
 walked-fits : (theory : Theory) (t body : NamedTerm) (ty : HolType) → type_of t ≡ Some ty → type_of body ≡ Some ty
-    → are_roomy (terms_of_sequent (given (require (is_known_term theory (image t)) (conclude [] (nameless_equation (nameless_type [] (image t)) (image t) (image body)))) (λ inference. drawn inference []))) ≡ true
+    → are_roomy (terms_of_sequent (given
+        (require (is_known_term theory (image t)) (conclude [] (nameless_equation (nameless_type [] (image t)) (image t) (image body))))
+        (λ inference. drawn inference []))) ≡ true
     → IsNotLarge (refused (first_unknown theory t) (concluded theory [] (equation t body)))
 walked-fits theory t body ty typed body_typed roomy = go (first_unknown theory t) refl
   where
@@ -68,14 +73,20 @@ walked-fits theory t body ty typed body_typed roomy = go (first_unknown theory t
     c : Nameless
     c = nameless_equation (nameless_type [] (image t)) (image t) (image body)
 
-    unknown : (found : Option Fault) → first_unknown theory t ≡ found → IsNotLarge (refused found (concluded theory [] (equation t body))) → IsNotLarge (refused (first_unknown theory t) (concluded theory [] (equation t body)))
+    unknown : (found : Option Fault) → first_unknown theory t ≡ found → IsNotLarge (refused found (concluded theory [] (equation t body)))
+        → IsNotLarge (refused (first_unknown theory t) (concluded theory [] (equation t body)))
     unknown found same fits = subst (λ (o : Option Fault). IsNotLarge (refused o (concluded theory [] (equation t body)))) (sym same) fits
 
     fits : first_unknown theory t ≡ None → is_within_limits (equation t body) ≡ false → ⊥
     fits none =
-        let known : is_known_term theory (image t) ≡ true = subst (λ (s : HolType). knows_nameless theory (image t) s ≡ true) (sym is) ((knows_nameless-Decides theory (image t) ty).1 (known_term theory t ty none typed)) in
-        let leaves : is_roomy c ≡ true = first-roomy c [] (subst (λ (b : Bool). are_roomy (terms_of_sequent (given (require b (conclude [] c)) (λ inference. drawn inference []))) ≡ true) known roomy) in
-        let sized : IsSized 1000 5000 (nameless_equation ty (image t) (image body)) = subst (λ (s : HolType). IsSized 1000 5000 (nameless_equation s (image t) (image body))) is (leaves_room c leaves).sized in
+        let known : is_known_term theory (image t) ≡ true =
+            subst (λ (s : HolType). knows_nameless theory (image t) s ≡ true) (sym is)
+            ((knows_nameless-Decides theory (image t) ty).1 (known_term theory t ty none typed)) in
+        let leaves : is_roomy c ≡ true =
+            first-roomy c [] (subst (λ (b : Bool).
+            are_roomy (terms_of_sequent (given (require b (conclude [] c)) (λ inference. drawn inference []))) ≡ true) known roomy) in
+        let sized : IsSized 1000 5000 (nameless_equation ty (image t) (image body)) =
+            subst (λ (s : HolType). IsSized 1000 5000 (nameless_equation s (image t) (image body))) is (leaves_room c leaves).sized in
         equation-fits 1000 5000 t body ty typed body_typed (omega arith) (omega arith) sized
 
     go : (found : Option Fault) → first_unknown theory t ≡ found → IsNotLarge (refused found (concluded theory [] (equation t body)))
@@ -85,7 +96,8 @@ walked-fits theory t body ty typed body_typed roomy = go (first_unknown theory t
         other : (fault : Fault) → first_unknown theory t ≡ Some fault → fault ≡ TooLarge → ⊥
         other fault found large = (subst (λ (o : Option Fault). IsNotLarge (refused {A = Theorem} o (Err Memory))) found (fits-refused {A = Theorem} theory t (Err Memory) (λ memory. cc))) large
 
-pub room-refl : {theory : Theory} {t : NamedTerm} {ty : HolType} {result : Result Theorem Fault} → type_of t ≡ Some ty → Answers result (refl_outcome theory t) → FindsRoom theory (rule_refl t) [] result
+pub room-refl : {theory : Theory} {t : NamedTerm} {ty : HolType} {result : Result Theorem Fault} → type_of t ≡ Some ty
+    → Answers result (refl_outcome theory t) → FindsRoom theory (rule_refl t) [] result
 room-refl {theory} {t} {ty} {result} typed answers = kernel-room theory (rule_refl t) [] (refl_outcome theory t) result (λ room. walked-fits theory t t ty typed typed room.drawn) answers
 
 pub assume-fits : (theory : Theory) (p : NamedTerm) → IsNotLarge (assume_outcome theory p)
@@ -96,11 +108,14 @@ assume-fits theory p =
 pub room-assume : {theory : Theory} {p : NamedTerm} {result : Result Theorem Fault} → Answers result (assume_outcome theory p) → FindsRoom theory (rule_assume p) [] result
 room-assume {theory} {p} {result} answers = kernel-room theory (rule_assume p) [] (assume_outcome theory p) result (λ room. assume-fits theory p) answers
 
-pub room-beta : {theory : Theory} {t : NamedTerm} {ty : HolType} {result : Result Theorem Fault} → IsLegal theory → type_of t ≡ Some ty → Answers result (beta_outcome theory t) → FindsRoom theory (rule_beta t) [] result
+pub room-beta : {theory : Theory} {t : NamedTerm} {ty : HolType} {result : Result Theorem Fault} → IsLegal theory → type_of t ≡ Some ty
+    → Answers result (beta_outcome theory t) → FindsRoom theory (rule_beta t) [] result
 room-beta {theory} {t} {ty} {result} legal typed answers = kernel-room theory (rule_beta t) [] (beta_outcome theory t) result (λ room. go (dest_trivial_redex t) refl room.drawn) answers
   where
     go : (found : Option NamedTerm) → dest_trivial_redex t ≡ found
-        → are_roomy (terms_of_sequent (given (given found (λ body. require (is_known_term theory (image t)) (conclude [] (nameless_equation (nameless_type [] (image t)) (image t) (image body))))) (λ inference. drawn inference []))) ≡ true
+        → are_roomy (terms_of_sequent (given
+            (given found (λ body. require (is_known_term theory (image t))
+            (conclude [] (nameless_equation (nameless_type [] (image t)) (image t) (image body))))) (λ inference. drawn inference []))) ≡ true
         → IsNotLarge (outcome_given found NotTrivialBeta (λ body. refused (first_unknown theory t) (concluded theory [] (equation t body))))
     go None is roomy = λ large. cc
     go (Some body) is roomy = walked-fits theory t body ty typed (beta-types theory legal t body is ty typed) roomy
@@ -108,7 +123,8 @@ room-beta {theory} {t} {ty} {result} legal typed answers = kernel-room theory (r
 -- ---- rules of two premises
 
 -- the sides of a conclusion that leaves room
-sides-room : (conclusion : NamedTerm) (ty : HolType) (l r : NamedTerm) (rest : List Nameless) → image conclusion ≡ nameless_equation ty (image l) (image r) → are_roomy (image conclusion ∷ rest) ≡ true → EquationRoom ty (image l) (image r)
+sides-room : (conclusion : NamedTerm) (ty : HolType) (l r : NamedTerm) (rest : List Nameless)
+    → image conclusion ≡ nameless_equation ty (image l) (image r) → are_roomy (image conclusion ∷ rest) ≡ true → EquationRoom ty (image l) (image r)
 sides-room conclusion ty l r rest is roomy = equation-room ty (image l) (image r) (subst (λ (c : Nameless). is_roomy c ≡ true) is (first-roomy (image conclusion) rest roomy))
 
 -- two terms of one image have one type
@@ -118,7 +134,8 @@ alike-typed m n s t left right same =
     let one : Some s ≡ Some t = sym (image-type n s typed) ∙ right in
     cc
 
-pub room-trans : {theory : Theory} {a b : Theorem} {result : Result Theorem Fault} → IsLegal theory → IsPremise theory a → IsPremise theory b → Answers result (trans_outcome theory a b) → FindsRoom theory rule_trans (a ∷ b ∷ []) result
+pub room-trans : {theory : Theory} {a b : Theorem} {result : Result Theorem Fault} → IsLegal theory → IsPremise theory a → IsPremise theory b
+    → Answers result (trans_outcome theory a b) → FindsRoom theory rule_trans (a ∷ b ∷ []) result
 room-trans {theory} {a} {b} {result} legal first second answers =
     kernel-room theory rule_trans (a ∷ b ∷ []) (trans_outcome theory a b) result
     (λ room. go (dest_equation a.conclusion) refl (dest_equation b.conclusion) refl room.premises_roomy.0 room.premises_roomy.1.0) answers
@@ -142,12 +159,15 @@ room-trans {theory} {a} {b} {result} legal first second answers =
 
     go : (one : Option (NamedTerm × NamedTerm)) → dest_equation a.conclusion ≡ one → (two : Option (NamedTerm × NamedTerm)) → dest_equation b.conclusion ≡ two
         → are_roomy (terms_of_theorem a) ≡ true → are_roomy (terms_of_theorem b) ≡ true
-        → IsNotLarge (outcome_given one NotEquation (λ left. outcome_given two NotEquation (λ right. unless (are_alpha_equivalent left.1 right.0) NotAlpha (concluded theory h (equation left.0 right.1)))))
+        → IsNotLarge (outcome_given one NotEquation
+            (λ left. outcome_given two NotEquation
+            (λ right. unless (are_alpha_equivalent left.1 right.0) NotAlpha (concluded theory h (equation left.0 right.1)))))
     go None one other two left right = λ large. cc
     go (Some (l, m)) one None two left right = λ large. cc
     go (Some (l, m)) one (Some (n, r)) two left right = meet l m n r one two left right (are_alpha_equivalent m n) refl
 
-pub room-mk_comb : {theory : Theory} {a b : Theorem} {result : Result Theorem Fault} → IsLegal theory → IsPremise theory a → IsPremise theory b → Answers result (mk_comb_outcome theory a b) → FindsRoom theory rule_mk_comb (a ∷ b ∷ []) result
+pub room-mk_comb : {theory : Theory} {a b : Theorem} {result : Result Theorem Fault} → IsLegal theory → IsPremise theory a → IsPremise theory b
+    → Answers result (mk_comb_outcome theory a b) → FindsRoom theory rule_mk_comb (a ∷ b ∷ []) result
 room-mk_comb {theory} {a} {b} {result} legal first second answers =
     kernel-room theory rule_mk_comb (a ∷ b ∷ []) (mk_comb_outcome theory a b) result
     (λ room. go (dest_equation a.conclusion) refl (dest_equation b.conclusion) refl room.premises_roomy.0 room.premises_roomy.1.0) answers
@@ -190,7 +210,9 @@ room-eq_mp {theory} {a} {b} {result} answers = kernel-room theory rule_eq_mp (a 
     meet r false = λ large. cc
 
     go : (one : Option (NamedTerm × NamedTerm))
-        → IsNotLarge {A = Theorem} (outcome_given one NotEquation (λ sides. unless (are_alpha_equivalent sides.0 b.conclusion) NotAlpha (Ok (record { theory = theory; hypotheses = with_hypotheses a.hypotheses b.hypotheses; conclusion = sides.1 }))))
+        → IsNotLarge {A = Theorem} (outcome_given one NotEquation
+            (λ sides. unless (are_alpha_equivalent sides.0 b.conclusion) NotAlpha
+            (Ok (record { theory = theory; hypotheses = with_hypotheses a.hypotheses b.hypotheses; conclusion = sides.1 }))))
     go None = λ large. cc
     go (Some (l, r)) = meet r (are_alpha_equivalent l b.conclusion)
 
@@ -209,7 +231,8 @@ room-deduct_antisym {theory} {a} {b} {result} first second answers = kernel-room
 -- ---- ABS
 
 -- the abstraction of a term
-closed-sized : (name : List ℕ) (ty c : HolType) (body : NamedTerm) → type_of body ≡ Some c → type_nodes ty ≤ 250 → type_nodes c ≤ 250 → IsSized 1000 5000 (image body) → IsSized 1001 5001 (image (abstraction name ty body))
+closed-sized : (name : List ℕ) (ty c : HolType) (body : NamedTerm) → type_of body ≡ Some c → type_nodes ty ≤ 250 → type_nodes c ≤ 250
+    → IsSized 1000 5000 (image body) → IsSized 1001 5001 (image (abstraction name ty body))
 closed-sized name ty c body typed few less sized =
     let whole = abstraction name ty body in
     let height_is : nameless_height (image whole) ≡ height body + 1 = height-image [] whole in
@@ -219,13 +242,16 @@ closed-sized name ty c body typed few less sized =
     let low_body = sized.height in
     let few_nodes = sized.nodes in
     let fits : types_fit whole ≡ true =
-    both (types_fit body) (some_type_fits (option_map (function_type ty) (type_of body))) (second_of_both (nat_le (height body) TERM_HEIGHT_LIMIT && nat_le (nodes body) TERM_NODES_LIMIT) (types_fit body) (within (is_within_limits body) refl))
+    both (types_fit body) (some_type_fits (option_map (function_type ty) (type_of body)))
+        (second_of_both (nat_le (height body) TERM_HEIGHT_LIMIT && nat_le (nodes body) TERM_NODES_LIMIT) (types_fit body)
+        (within (is_within_limits body) refl))
     (ap (λ (o : Option HolType). some_type_fits (option_map (function_type ty) o)) typed ∙ le-leb (type_nodes (function_type ty c)) TYPE_NODES_LIMIT (omega arith)) in
     let low_whole : height whole ≤ TERM_HEIGHT_LIMIT = omega arith in
     let few_whole : nodes whole ≤ TERM_NODES_LIMIT = omega arith in
     let inside : is_within_limits whole ≡ true =
     both (nat_le (height whole) TERM_HEIGHT_LIMIT && nat_le (nodes whole) TERM_NODES_LIMIT) (types_fit whole)
-    (both (nat_le (height whole) TERM_HEIGHT_LIMIT) (nat_le (nodes whole) TERM_NODES_LIMIT) (le-leb (height whole) TERM_HEIGHT_LIMIT low_whole) (le-leb (nodes whole) TERM_NODES_LIMIT few_whole)) fits in
+    (both (nat_le (height whole) TERM_HEIGHT_LIMIT) (nat_le (nodes whole) TERM_NODES_LIMIT) (le-leb (height whole) TERM_HEIGHT_LIMIT low_whole)
+        (le-leb (nodes whole) TERM_NODES_LIMIT few_whole)) fits in
     let whole_typed : type_of whole ≡ Some (function_type ty c) = ap (option_map (function_type ty)) typed in
     let image_inside : nameless_within_limits (image whole) ≡ true = within_limits-image whole (function_type ty c) whole_typed inside in
     record {
@@ -245,7 +271,8 @@ closed-sized name ty c body typed few less sized =
 variable-few : (name : List ℕ) (ty : HolType) → are_roomy (image (variable name ty) ∷ []) ≡ true → type_nodes ty ≤ 250
 variable-few name ty roomy = leb-true (type_nodes ty) 250 (leaves_room (image (variable name ty)) (first-roomy (image (variable name ty)) [] roomy)).types
 
-pub room-abs : {theory : Theory} {x : NamedTerm} {a : Theorem} {result : Result Theorem Fault} → IsLegal theory → IsPremise theory a → Answers result (abs_outcome theory x a) → FindsRoom theory (rule_abs x) (a ∷ []) result
+pub room-abs : {theory : Theory} {x : NamedTerm} {a : Theorem} {result : Result Theorem Fault} → IsLegal theory → IsPremise theory a
+    → Answers result (abs_outcome theory x a) → FindsRoom theory (rule_abs x) (a ∷ []) result
 room-abs {theory} {x} {a} {result} legal premise answers =
     kernel-room theory (rule_abs x) (a ∷ []) (abs_outcome theory x a) result (λ room. over x room.taken room.premises_roomy.0) answers
   where
@@ -260,7 +287,8 @@ room-abs {theory} {x} {a} {result} legal premise answers =
         let left = closed-sized name ty e.ty l e.left_typed few (omega arith) from_premise.left in
         let right = closed-sized name ty e.ty r e.right_typed few (omega arith) from_premise.right in
         concluded-fits theory a.hypotheses (equation (abstraction name ty l) (abstraction name ty r))
-        (equation-fits 1003 10005 (abstraction name ty l) (abstraction name ty r) (function_type ty e.ty) (ap (option_map (function_type ty)) e.left_typed) (ap (option_map (function_type ty)) e.right_typed) (omega arith) (omega arith)
+        (equation-fits 1003 10005 (abstraction name ty l) (abstraction name ty r) (function_type ty e.ty)
+            (ap (option_map (function_type ty)) e.left_typed) (ap (option_map (function_type ty)) e.right_typed) (omega arith) (omega arith)
         (sized-equation 1001 5001 5001 (function_type ty e.ty) (image (abstraction name ty l)) (image (abstraction name ty r)) (omega arith) (omega arith) left right))
 
     go : (name : List ℕ) (ty : HolType) → type_nodes ty ≤ 250 → are_roomy (terms_of_theorem a) ≡ true → (one : Option (NamedTerm × NamedTerm)) → dest_equation a.conclusion ≡ one

@@ -7,7 +7,11 @@ use Rattle.hol_model.specs.Terms.Nameless.{Nameless}
 use Rattle.hol_model.specs.Logic.Theory.{Theory}
 use Rattle.hol_model.specs.Kernel.Theorem.{Theorem}
 use Rattle.hol_model.specs.Derived.Inference.{infer}
-use Rattle.hol_model.specs.Derived.InferenceRules.{InferenceRule, rule_refl, rule_trans, rule_mk_comb, rule_abs, rule_beta, rule_assume, rule_eq_mp, rule_deduct_antisym, rule_inst, rule_inst_type, rule_eta_axiom, rule_select_axiom, rule_sym, rule_add_assum, rule_prove_hyp, rule_eqt_intro, rule_eqt_elim, rule_beta_conv, rule_conj, rule_conjunct1, rule_conjunct2, rule_disch, rule_undisch, rule_mp, rule_spec, rule_gen, rule_disj1, rule_disj2, rule_disj_cases, rule_contr, rule_not_intro, rule_not_elim, rule_exists, rule_choose}
+use Rattle.hol_model.specs.Derived.InferenceRules.{InferenceRule, rule_refl, rule_trans, rule_mk_comb, rule_abs, rule_beta, rule_assume, rule_eq_mp}
+use Rattle.hol_model.specs.Derived.InferenceRules.{rule_deduct_antisym, rule_inst, rule_inst_type, rule_eta_axiom, rule_select_axiom, rule_sym}
+use Rattle.hol_model.specs.Derived.InferenceRules.{rule_add_assum, rule_prove_hyp, rule_eqt_intro, rule_eqt_elim, rule_beta_conv, rule_conj}
+use Rattle.hol_model.specs.Derived.InferenceRules.{rule_conjunct1, rule_conjunct2, rule_disch, rule_undisch, rule_mp, rule_spec, rule_gen, rule_disj1}
+use Rattle.hol_model.specs.Derived.InferenceRules.{rule_disj2, rule_disj_cases, rule_contr, rule_not_intro, rule_not_elim, rule_exists, rule_choose}
 use Rattle.hol_journal.specs.Steps.{sequent_of_theorem}
 use Rattle.hol_journal.specs.Journal.{Recorded, theorem_in}
 use Rattle.hol_equal.specs.Inferred.{Infers}
@@ -56,7 +60,8 @@ too_many theory rule (p ∷ []) fault many = absurd (omega arith)
 too_many theory rule (p ∷ q ∷ []) fault many = absurd (omega arith)
 too_many theory rule (p ∷ q ∷ r ∷ []) fault many = absurd (omega arith)
 too_many theory rule (p ∷ q ∷ r ∷ s ∷ rest) fault many =
-    record { drawn = rw (none_of_four theory rule (sequent_of_theorem p).conclusion (sequent_of_theorem q).conclusion (sequent_of_theorem r).conclusion (sequent_of_theorem s).conclusion (map (λ sequent. sequent.conclusion) (map sequent_of_theorem rest))) tt }
+    record { drawn = rw (none_of_four theory rule (sequent_of_theorem p).conclusion (sequent_of_theorem q).conclusion
+        (sequent_of_theorem r).conclusion (sequent_of_theorem s).conclusion (map (λ sequent. sequent.conclusion) (map sequent_of_theorem rest))) tt }
 
 -- what is lent
 

@@ -12,7 +12,8 @@ use Rattle.hol_model.specs.Logic.NamedLogic.{Abstracted, forall_term, dest_foral
 use Rattle.hol_model.specs.Kernel.Outcome.{unless, given, refused}
 use Rattle.hol_model.specs.Kernel.Rules.{first_unknown}
 use Rattle.hol_model.specs.Kernel.Theorem.{Theorem}
-use Rattle.hol_model.specs.Derived.DerivedRules.{Stated, is_roomy, images, stated, stated_up_to_names, body_with, is_of_type, is_free_in_some, AnswersStated, terms_of_theorem, spec_outcome, gen_outcome, exists_outcome, choose_outcome}
+use Rattle.hol_model.specs.Derived.DerivedRules.{Stated, is_roomy, images, stated, stated_up_to_names, body_with, is_of_type, is_free_in_some}
+use Rattle.hol_model.specs.Derived.DerivedRules.{AnswersStated, terms_of_theorem, spec_outcome, gen_outcome, exists_outcome, choose_outcome}
 use Rattle.hol_model.specs.Derived.InferenceRules.{rule_spec, rule_gen, rule_exists, rule_choose}
 use Rattle.hol_model.proofs.Tests.{first_of_both, second_of_both, both}
 use Rattle.hol_journal.specs.Journal.{Journal}
@@ -24,20 +25,25 @@ use Rattle.hol_just_replay.specs.Room.{IsNotLarge, are_roomy, HasRoom, FindsRoom
 use Rattle.hol_just_replay.proofs.RoomLemmas.{fits-unless, fits-refused, stated-room}
 use Rattle.hol_just_replay.proofs.DerivedRooms.{one-roomy, two-roomy, taken-roomy}
 
-pub room-spec : {journal : Journal} {logic : Logic} {t : NamedTerm} {ty : HolType} {a : Theorem} {result : Result Theorem Fault} → HasLogic journal logic → IsLegal journal.theory → type_of t ≡ Some ty → IsPremise journal.theory a
+pub room-spec : {journal : Journal} {logic : Logic} {t : NamedTerm} {ty : HolType} {a : Theorem} {result : Result Theorem Fault}
+    → HasLogic journal logic → IsLegal journal.theory → type_of t ≡ Some ty → IsPremise journal.theory a
     → AnswersStated result (image t ∷ terms_of_theorem a) (spec_outcome journal.theory t a) → FindsRoom journal.theory (rule_spec t) (a ∷ []) result
 room-spec {journal} {logic} {t} {ty} {a} {result} has legal typed premise answers =
-    stated-room journal.theory (rule_spec t) (a ∷ []) (image t ∷ terms_of_theorem a) (spec_outcome journal.theory t a) result (drawn-spec journal logic has legal t ty a typed premise) (go (dest_forall a.conclusion))
+    stated-room journal.theory (rule_spec t) (a ∷ []) (image t ∷ terms_of_theorem a) (spec_outcome journal.theory t a) result
+        (drawn-spec journal logic has legal t ty a typed premise) (go (dest_forall a.conclusion))
     (λ room. taken-roomy t (terms_of_theorem a) room.taken (one-roomy room)) answers
   where
     go : (found : Option Abstracted)
-        → IsNotLarge (given found BadShape (λ quantified. unless (is_of_type quantified.ty t) TypeMismatch (refused (first_unknown journal.theory t) (stated_up_to_names (images a) (body_with quantified t)))))
+        → IsNotLarge (given found BadShape
+            (λ quantified. unless (is_of_type quantified.ty t) TypeMismatch
+            (refused (first_unknown journal.theory t) (stated_up_to_names (images a) (body_with quantified t)))))
     go None = λ is. cc
     go (Some quantified) =
         fits-unless (is_of_type quantified.ty t) TypeMismatch (refused (first_unknown journal.theory t) (stated_up_to_names (images a) (body_with quantified t))) (λ is. cc)
         (fits-refused journal.theory t (stated_up_to_names (images a) (body_with quantified t)) tt)
 
-pub room-gen : {theory : Theory} {x : NamedTerm} {a : Theorem} {result : Result Theorem Fault} → AnswersStated result (terms_of_theorem a) (gen_outcome theory x a) → FindsRoom theory (rule_gen x) (a ∷ []) result
+pub room-gen : {theory : Theory} {x : NamedTerm} {a : Theorem} {result : Result Theorem Fault}
+    → AnswersStated result (terms_of_theorem a) (gen_outcome theory x a) → FindsRoom theory (rule_gen x) (a ∷ []) result
 room-gen {theory} {x} {a} {result} answers =
     stated-room theory (rule_gen x) (a ∷ []) (terms_of_theorem a) (gen_outcome theory x a) result (drawn-gen theory x a) (go (dest_variable x)) (λ room. one-roomy room) answers
   where
@@ -52,10 +58,12 @@ room-gen {theory} {x} {a} {result} answers =
     go None = λ is. cc
     go (Some (name, ty)) = meet (knows_type theory ty) (not (is_free_in_some name ty (images a))) (stated (images a) (forall_term name ty a.conclusion)) tt
 
-pub room-exists : {journal : Journal} {logic : Logic} {e w : NamedTerm} {ty s : HolType} {a : Theorem} {result : Result Theorem Fault} → HasLogic journal logic → IsLegal journal.theory → type_of e ≡ Some ty → type_of w ≡ Some s
+pub room-exists : {journal : Journal} {logic : Logic} {e w : NamedTerm} {ty s : HolType} {a : Theorem} {result : Result Theorem Fault}
+    → HasLogic journal logic → IsLegal journal.theory → type_of e ≡ Some ty → type_of w ≡ Some s
     → AnswersStated result (image e ∷ image w ∷ terms_of_theorem a) (exists_outcome journal.theory e w a) → FindsRoom journal.theory (rule_exists e w) (a ∷ []) result
 room-exists {journal} {logic} {e} {w} {ty} {s} {a} {result} has legal typed witness_typed answers =
-    stated-room journal.theory (rule_exists e w) (a ∷ []) (image e ∷ image w ∷ terms_of_theorem a) (exists_outcome journal.theory e w a) result (drawn-exists journal logic has legal e w ty s a typed witness_typed) (go (dest_exists e))
+    stated-room journal.theory (rule_exists e w) (a ∷ []) (image e ∷ image w ∷ terms_of_theorem a) (exists_outcome journal.theory e w a) result
+        (drawn-exists journal logic has legal e w ty s a typed witness_typed) (go (dest_exists e))
     (λ room. both-taken room) answers
   where
     both-taken : HasRoom journal.theory (rule_exists e w) (a ∷ []) → are_roomy (image e ∷ image w ∷ terms_of_theorem a) ≡ true
@@ -83,7 +91,8 @@ others v b quantified = without (body_with quantified v) (images b)
 pub room-choose : {journal : Journal} {logic : Logic} {v : NamedTerm} {a b : Theorem} {result : Result Theorem Fault} → HasLogic journal logic → IsLegal journal.theory → IsPremise journal.theory a
     → AnswersStated result (image v ∷ terms_of_theorem a ++ terms_of_theorem b) (choose_outcome journal.theory v a b) → FindsRoom journal.theory (rule_choose v) (a ∷ b ∷ []) result
 room-choose {journal} {logic} {v} {a} {b} {result} has legal premise answers =
-    stated-room journal.theory (rule_choose v) (a ∷ b ∷ []) (image v ∷ terms_of_theorem a ++ terms_of_theorem b) (choose_outcome journal.theory v a b) result (drawn-choose journal logic has legal v a b premise)
+    stated-room journal.theory (rule_choose v) (a ∷ b ∷ []) (image v ∷ terms_of_theorem a ++ terms_of_theorem b)
+        (choose_outcome journal.theory v a b) result (drawn-choose journal logic has legal v a b premise)
     (go (dest_variable v)) (λ room. taken-roomy v (terms_of_theorem a ++ terms_of_theorem b) room.taken (two-roomy room)) answers
   where
     tests : (same known fresh : Bool) (next : Result Stated Fault) → IsNotLarge next → IsNotLarge (unless same TypeMismatch (unless known UnknownType (unless fresh FreeInHypothesis next)))
@@ -97,11 +106,16 @@ room-choose {journal} {logic} {v} {a} {b} {result} has legal premise answers =
         (unless (not (is_free_in_some name ty (image a.conclusion ∷ image b.conclusion ∷ others v b quantified))) FreeInHypothesis (stated (images a ++ others v b quantified) b.conclusion)))))
     meet name ty None = λ is. cc
     meet name ty (Some quantified) =
-        tests (type_eq quantified.ty ty) (knows_type journal.theory ty) (not (is_free_in_some name ty (image a.conclusion ∷ image b.conclusion ∷ others v b quantified))) (stated (images a ++ others v b quantified) b.conclusion) tt
+        tests (type_eq quantified.ty ty) (knows_type journal.theory ty)
+            (not (is_free_in_some name ty (image a.conclusion ∷ image b.conclusion ∷ others v b quantified)))
+            (stated (images a ++ others v b quantified) b.conclusion) tt
 
     go : (found : Option (List ℕ × HolType))
-        → IsNotLarge (given found NotVariable (λ binder. given (dest_exists a.conclusion) BadShape (λ quantified. unless (type_eq quantified.ty binder.1) TypeMismatch (unless (knows_type journal.theory binder.1) UnknownType
-        (unless (not (is_free_in_some binder.0 binder.1 (image a.conclusion ∷ image b.conclusion ∷ others v b quantified))) FreeInHypothesis (stated (images a ++ others v b quantified) b.conclusion))))))
+        → IsNotLarge (given found NotVariable
+            (λ binder. given (dest_exists a.conclusion) BadShape
+            (λ quantified. unless (type_eq quantified.ty binder.1) TypeMismatch (unless (knows_type journal.theory binder.1) UnknownType
+        (unless (not (is_free_in_some binder.0 binder.1 (image a.conclusion ∷ image b.conclusion ∷ others v b quantified))) FreeInHypothesis
+            (stated (images a ++ others v b quantified) b.conclusion))))))
     go None = λ is. cc
     go (Some (name, ty)) = meet name ty (dest_exists a.conclusion)
 

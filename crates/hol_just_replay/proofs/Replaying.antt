@@ -1,5 +1,6 @@
 -- Replaying a justification line by line.
-use Rattle.std.proofs.Common.{◌≡◌, ℕ, zero, suc, ◌+◌, ◌<◌, List, [], ◌∷◌, ◌++◌, map, length, get_or, Bool, true, false, ◌&&◌, refl, sym, ap, ◌∙◌, subst, inl, inr, arith, Option, Some, None, Result, Ok, Err, length-append, drop, drop-cons, Bor}
+use Rattle.std.proofs.Common.{◌≡◌, ℕ, zero, suc, ◌+◌, ◌<◌, List, [], ◌∷◌, ◌++◌, map, length, get_or, Bool, true, false, ◌&&◌, refl, sym, ap, ◌∙◌}
+use Rattle.std.proofs.Common.{subst, inl, inr, arith, Option, Some, None, Result, Ok, Err, length-append, drop, drop-cons, Bor}
 use Rattle.std.specs.Prelude.{slice_get, IfOk, IfErr, IfSome, nat_le, ◌⊎◌}
 use Rattle.std.proofs.lemmas.List.Folds.{list_all-append}
 use Rattle.std.specs.Option.{option_map}
@@ -38,7 +39,9 @@ use Rattle.hol_just_replay.proofs.Premises.{none_of_four}
 use Rattle.hol_theorem_store.specs.Stored.{Stored, IsStoreOf}
 use Rattle.hol_just_replay.specs.Named.{named_sequents, sequents_of}
 use Rattle.hol_just_replay.specs.Room.{IsNotLarge, are_roomy, AreRoomy, FindsRoom}
-use Rattle.hol_just_replay.specs.Lines.{result_of, Expected, Meets, expected_in, AreMet, IsHeldLine, AreHeldLines, ContinuesLine, IsReplaying, expected_at, premises_of, have_room, drawn_from, expected_by, AllMeet, Applies, sequent_found, IsNamed, IsBroken, IsPremise, IsMetFrom, IsReplayRefusal}
+use Rattle.hol_just_replay.specs.Lines.{result_of, Expected, Meets, expected_in, AreMet, IsHeldLine, AreHeldLines, ContinuesLine, IsReplaying}
+use Rattle.hol_just_replay.specs.Lines.{expected_at, premises_of, have_room, drawn_from, expected_by, AllMeet, Applies, sequent_found, IsNamed}
+use Rattle.hol_just_replay.specs.Lines.{IsBroken, IsPremise, IsMetFrom, IsReplayRefusal}
 use Rattle.hol_just_replay.specs.declared.replays.LineAnswer.{LineAnswer}
 use Rattle.hol_just_replay.specs.declared.replays.LineAnswer.TheVariants.{Made, Invalid, Large}
 
@@ -58,7 +61,8 @@ pub applies-large : (theory : Theory) (rule : InferenceRule) (premises : List Th
 applies-large theory rule premises finds = record { drawn = too-large (rule_sequent theory rule (map sequent_of_theorem premises)); finds = finds }
 
 -- a fault that is neither of the two comes where nothing is drawn
-pub applies-other : (theory : Theory) (rule : InferenceRule) (premises : List Theorem) (fault : Fault) → (fault ≡ Memory → ⊥) → (fault ≡ TooLarge → ⊥) → Infers theory rule premises (Err fault) → Applies theory rule premises Invalid
+pub applies-other : (theory : Theory) (rule : InferenceRule) (premises : List Theorem) (fault : Fault) → (fault ≡ Memory → ⊥)
+    → (fault ≡ TooLarge → ⊥) → Infers theory rule premises (Err fault) → Applies theory rule premises Invalid
 applies-other theory rule premises fault memory large infers =
     record { drawn = go (rule_sequent theory rule (map sequent_of_theorem premises)) infers.drawn; finds = record { finds = λ room. never-large } }
   where
@@ -87,7 +91,8 @@ alike-drawn None (Some t) result one two drawn = absurd one
 alike-drawn (Some s) None result one two drawn = absurd two
 alike-drawn (Some s) (Some t) (Err fault) one two drawn = drawn
 alike-drawn (Some s) (Some t) (Ok theorem) one two drawn =
-    record { same_set = record { to = λ x m. drawn.same_set.to x (two.no_more_hypotheses x m); back = λ x m. one.no_more_hypotheses x (drawn.same_set.back x m) }; concludes = drawn.concludes ∙ one.same_conclusion }
+    record { same_set = record { to = λ x m. drawn.same_set.to x (two.no_more_hypotheses x m); back = λ x m.
+        one.no_more_hypotheses x (drawn.same_set.back x m) }; concludes = drawn.concludes ∙ one.same_conclusion }
 
 pub stronger : (s : Sequent) (theorem : Theorem) → Shows theorem s.hypotheses s.conclusion → IsAsStrong s (sequent_of_theorem theorem)
 stronger s theorem shows = record { same_conclusion = sym shows.concludes; no_more_hypotheses = shows.same_set.to }
@@ -101,7 +106,8 @@ roomy-alike None None one two roomy = roomy
 roomy-alike None (Some t) one two roomy = absurd one
 roomy-alike (Some s) None one two roomy = absurd two
 roomy-alike (Some s) (Some t) one two roomy =
-    list_all-fewer is_roomy (terms_of_sequent (Some t)) (terms_of_sequent (Some s)) (λ x m. elim m [ inl same ↦ inl (same ∙ two.same_conclusion) | inr member ↦ inr (two.no_more_hypotheses x member) ]) roomy
+    list_all-fewer is_roomy (terms_of_sequent (Some t)) (terms_of_sequent (Some s))
+        (λ x m. elim m [ inl same ↦ inl (same ∙ two.same_conclusion) | inr member ↦ inr (two.no_more_hypotheses x member) ]) roomy
 
 -- parts that have theorems
 
@@ -112,7 +118,8 @@ record ArePremises (parts : List Expected) (all : List Theorem) : Type 0 where
   weaker_all : AreAsStrong (map sequent_of_theorem all) premises
   stronger_all : AreAsStrong premises (map sequent_of_theorem all)
 
-one_part : (found : Option Sequent) (rest : Option (List Sequent)) (t : Theorem) (all : List Theorem) (ss : List Sequent) → IsDrawn found (Ok t) → rest ≡ Some ss → AreAsStrong (map sequent_of_theorem all) ss
+one_part : (found : Option Sequent) (rest : Option (List Sequent)) (t : Theorem) (all : List Theorem) (ss : List Sequent) → IsDrawn found (Ok t)
+    → rest ≡ Some ss → AreAsStrong (map sequent_of_theorem all) ss
     → AreAsStrong ss (map sequent_of_theorem all)
     → (premises : List Sequent) × (joined found rest ≡ Some premises) × AreAsStrong (map sequent_of_theorem (t ∷ all)) premises × AreAsStrong premises (map sequent_of_theorem (t ∷ all))
 one_part None rest t all ss drawn is weak strong = absurd drawn
@@ -163,7 +170,8 @@ rule-met theory rule parts all result met drawn finds =
     let strong = rules-monotone theory rule there.premises (map sequent_of_theorem all) there.stronger_all in
     let is : drawn_from theory rule parts ≡ rule_sequent theory rule there.premises = ap (λ (found : Option (List Sequent)). given found (rule_sequent theory rule)) there.are in
     record {
-      drawn = subst (λ (found : Option Sequent). IsDrawn found result) (sym is) (alike-drawn (rule_sequent theory rule (map sequent_of_theorem all)) (rule_sequent theory rule there.premises) result weak strong drawn);
+      drawn = subst (λ (found : Option Sequent). IsDrawn found result) (sym is)
+          (alike-drawn (rule_sequent theory rule (map sequent_of_theorem all)) (rule_sequent theory rule there.premises) result weak strong drawn);
       fits = λ room. finds.finds (record {
         taken = first_of_both (are_roomy (terms_of_rule rule)) (are_roomy (terms_of_sequent (drawn_from theory rule parts))) (taken-roomy theory rule parts room);
         premises_roomy = theorems-roomy parts all met (parts-roomy theory rule parts room);
@@ -188,11 +196,13 @@ held-at journal [] place answer held there = cc
 held-at journal (x ∷ answers) zero answer held there = let same : x ≡ answer = cc in subst (λ (a : LineAnswer). IsHeldLine journal a) same held.0
 held-at journal (x ∷ answers) (suc place) answer held there = held-at journal answers place answer held.1 there
 
-pub premise-met : (expects : Justification → Expected) (trees : List Justification) (answers : List LineAnswer) (place : ℕ) (answer : LineAnswer) → place < length answers → answer ≡ get_or answers place answer
+pub premise-met : (expects : Justification → Expected) (trees : List Justification) (answers : List LineAnswer) (place : ℕ) (answer : LineAnswer)
+    → place < length answers → answer ≡ get_or answers place answer
     → AreMet expects trees answers → IsPremise expects trees place answer
 premise-met expects trees answers place answer within is met = record { met = met-at expects trees answers place answer met (slice_get_read answers (length answers) place answer refl within is) }
 
-pub premise-held : (journal : Journal) (answers : List LineAnswer) (place : ℕ) (answer : LineAnswer) → place < length answers → answer ≡ get_or answers place answer → AreHeldLines journal answers → IsHeldLine journal answer
+pub premise-held : (journal : Journal) (answers : List LineAnswer) (place : ℕ) (answer : LineAnswer) → place < length answers
+    → answer ≡ get_or answers place answer → AreHeldLines journal answers → IsHeldLine journal answer
 premise-held journal answers place answer within is held = held-at journal answers place answer held (slice_get_read answers (length answers) place answer refl within is)
 
 -- what a rule comes to with the parts at places
@@ -235,7 +245,8 @@ three-meet expects trees (p ∷ q ∷ r ∷ []) a b c many first second third = 
 
 -- a part without a theorem
 
-premises-lost : (expects : Justification → Expected) (trees : List Justification) (places : List ℕ) (at : ℕ) → at < length places → (expects (cited trees (get_or places at 0))).sequent ≡ None → premises_of (expected_at expects trees places) ≡ None
+premises-lost : (expects : Justification → Expected) (trees : List Justification) (places : List ℕ) (at : ℕ) → at < length places
+    → (expects (cited trees (get_or places at 0))).sequent ≡ None → premises_of (expected_at expects trees places) ≡ None
 premises-lost expects trees [] at within none = absurd (omega arith)
 premises-lost expects trees (p ∷ places) zero within none = rw none refl
 premises-lost expects trees (p ∷ places) (suc at) within none = rw (premises-lost expects trees places at (omega arith) none) (lost (expects (cited trees p)).sequent)
@@ -244,10 +255,13 @@ premises-lost expects trees (p ∷ places) (suc at) within none = rw (premises-l
     lost None = refl
     lost (Some s) = refl
 
-part-room : (expects : Justification → Expected) (trees : List Justification) (places : List ℕ) (at : ℕ) → at < length places → have_room (expected_at expects trees places) ≡ true → (expects (cited trees (get_or places at 0))).has_room ≡ true
+part-room : (expects : Justification → Expected) (trees : List Justification) (places : List ℕ) (at : ℕ) → at < length places
+    → have_room (expected_at expects trees places) ≡ true → (expects (cited trees (get_or places at 0))).has_room ≡ true
 part-room expects trees [] at within room = absurd (omega arith)
 part-room expects trees (p ∷ places) zero within room = first_of_both (expects (cited trees p)).has_room (have_room (expected_at expects trees places)) room
-part-room expects trees (p ∷ places) (suc at) within room = part-room expects trees places at (omega arith) (second_of_both (expects (cited trees p)).has_room (have_room (expected_at expects trees places)) room)
+part-room expects trees (p ∷ places) (suc at) within room =
+    part-room expects trees places at (omega arith)
+    (second_of_both (expects (cited trees p)).has_room (have_room (expected_at expects trees places)) room)
 
 broken-drawn : (a whole : Option Sequent) (answer : LineAnswer) → IsBroken answer → IsDrawn a (result_of answer) → (a ≡ None → whole ≡ None) → IsDrawn whole (result_of answer)
 broken-drawn a whole (Made made) broken drawn lost = absurd broken
@@ -271,15 +285,19 @@ from-broken theory rule expects trees places at answer within broken first =
 
 -- too many parts
 
-joined-many : (first : Option Sequent) (rest : Option (List Sequent)) (n : ℕ) → ((ss : List Sequent) → rest ≡ Some ss → length ss ≡ n) → (ss : List Sequent) → joined first rest ≡ Some ss → length ss ≡ suc n
+joined-many : (first : Option Sequent) (rest : Option (List Sequent)) (n : ℕ) → ((ss : List Sequent) → rest ≡ Some ss → length ss ≡ n)
+    → (ss : List Sequent) → joined first rest ≡ Some ss → length ss ≡ suc n
 joined-many None rest n each ss is = cc
 joined-many (Some s) None n each ss is = cc
 joined-many (Some s) (Some ts) n each ss is =
     let same : s ∷ ts ≡ ss = cc in let many = each ts refl in subst (λ (l : List Sequent). length l ≡ suc n) same (omega (arith, many))
 
-premises-many : (expects : Justification → Expected) (trees : List Justification) (places : List ℕ) (ss : List Sequent) → premises_of (expected_at expects trees places) ≡ Some ss → length ss ≡ length places
+premises-many : (expects : Justification → Expected) (trees : List Justification) (places : List ℕ) (ss : List Sequent)
+    → premises_of (expected_at expects trees places) ≡ Some ss → length ss ≡ length places
 premises-many expects trees [] ss is = let same : [] ≡ ss = cc in subst (λ (l : List Sequent). length l ≡ 0) same refl
-premises-many expects trees (p ∷ places) ss is = joined-many (expects (cited trees p)).sequent (premises_of (expected_at expects trees places)) (length places) (premises-many expects trees places) ss is
+premises-many expects trees (p ∷ places) ss is =
+    joined-many (expects (cited trees p)).sequent (premises_of (expected_at expects trees places)) (length places)
+    (premises-many expects trees places) ss is
 
 too-many-sequents : (theory : Theory) (rule : InferenceRule) (ss : List Sequent) → 3 < length ss → rule_sequent theory rule ss ≡ None
 too-many-sequents theory rule [] many = absurd (omega arith)
@@ -288,9 +306,11 @@ too-many-sequents theory rule (a ∷ b ∷ []) many = absurd (omega arith)
 too-many-sequents theory rule (a ∷ b ∷ c ∷ []) many = absurd (omega arith)
 too-many-sequents theory rule (a ∷ b ∷ c ∷ d ∷ rest) many = rw (none_of_four theory rule a.conclusion b.conclusion c.conclusion d.conclusion (map (λ s. s.conclusion) rest)) refl
 
-pub from-many : (theory : Theory) (rule : InferenceRule) (expects : Justification → Expected) (trees : List Justification) (places : List ℕ) → 3 < length places → IsMetFrom theory rule expects trees places Invalid
+pub from-many : (theory : Theory) (rule : InferenceRule) (expects : Justification → Expected) (trees : List Justification) (places : List ℕ)
+    → 3 < length places → IsMetFrom theory rule expects trees places Invalid
 from-many theory rule expects trees places many = record {
-  met = record { drawn = rw (go (premises_of (expected_at expects trees places)) refl) tt; fits = λ room. never-large; roomy = λ room. drawn-roomy theory rule (expected_at expects trees places) room };
+  met = record { drawn = rw (go (premises_of (expected_at expects trees places)) refl) tt; fits = λ room. never-large; roomy = λ room.
+      drawn-roomy theory rule (expected_at expects trees places) room };
 }
   where
     go : (found : Option (List Sequent)) → premises_of (expected_at expects trees places) ≡ found → given found (rule_sequent theory rule) ≡ None
@@ -315,7 +335,8 @@ named-none = record { drawn = tt; fits = never-large }
 
 pub ruleset naming = (named-made, named-none, same-grown)
 
-leaf-met : (expected : Expected) (found : Option Recorded) (result : Result LineAnswer Fault) → sequent_found found ≡ expected.sequent → (expected.has_room ≡ true → are_roomy (terms_of_sequent expected.sequent) ≡ true)
+leaf-met : (expected : Expected) (found : Option Recorded) (result : Result LineAnswer Fault) → sequent_found found ≡ expected.sequent
+    → (expected.has_room ≡ true → are_roomy (terms_of_sequent expected.sequent) ≡ true)
     → IfOk result (IsNamed found) → IfOk result (λ answer. Meets expected (result_of answer))
 leaf-met expected found (Err fault) is roomy comes = tt
 leaf-met expected found (Ok answer) is roomy comes = record {
@@ -326,17 +347,21 @@ leaf-met expected found (Ok answer) is roomy comes = record {
 
 listed : (all : List Recorded) (at : ℕ) (found : Option Recorded) → found ≡ slice_get all at → sequent_found found ≡ slice_get (sequents_of all) at
 listed all at found is =
-    ap sequent_found is ∙ ap (option_map sequent_of_theorem) (sym (slice_get-map (λ (made : Recorded). made.theorem) all at)) ∙ sym (slice_get-map sequent_of_theorem (map (λ (made : Recorded). made.theorem) all) at)
+    ap sequent_found is ∙ ap (option_map sequent_of_theorem) (sym (slice_get-map (λ (made : Recorded). made.theorem) all at))
+        ∙ sym (slice_get-map sequent_of_theorem (map (λ (made : Recorded). made.theorem) all) at)
 
-pub sub-met : (theory : Theory) (stored : Stored) (subgoals : List Recorded) (at : ℕ) (found : Option Recorded) (result : Result LineAnswer Fault) → found ≡ slice_get subgoals at → IfOk result (IsNamed found)
+pub sub-met : (theory : Theory) (stored : Stored) (subgoals : List Recorded) (at : ℕ) (found : Option Recorded) (result : Result LineAnswer Fault)
+    → found ≡ slice_get subgoals at → IfOk result (IsNamed found)
     → IfOk result (λ answer. Meets (expected_in theory stored subgoals (sub at)) (result_of answer))
 sub-met theory stored subgoals at found result is comes = leaf-met (expected_in theory stored subgoals (sub at)) found result (listed subgoals at found is) (λ room. room) comes
 
-pub lemma-met : (theory : Theory) (stored : Stored) (subgoals : List Recorded) (at : ℕ) (found : Option Recorded) (result : Result LineAnswer Fault) → found ≡ slice_get stored.lemmas at → IfOk result (IsNamed found)
+pub lemma-met : (theory : Theory) (stored : Stored) (subgoals : List Recorded) (at : ℕ) (found : Option Recorded) (result : Result LineAnswer Fault)
+    → found ≡ slice_get stored.lemmas at → IfOk result (IsNamed found)
     → IfOk result (λ answer. Meets (expected_in theory stored subgoals (lemma at)) (result_of answer))
 lemma-met theory stored subgoals at found result is comes = leaf-met (expected_in theory stored subgoals (lemma at)) found result (listed stored.lemmas at found is) (λ room. room) comes
 
-pub stored-met : (theory : Theory) (stored : Stored) (subgoals : List Recorded) (name asked : List ℕ) (found : Option Recorded) (result : Result LineAnswer Fault) → found ≡ stored.theorems asked → asked ≡ name → IfOk result (IsNamed found)
+pub stored-met : (theory : Theory) (stored : Stored) (subgoals : List Recorded) (name asked : List ℕ) (found : Option Recorded)
+    (result : Result LineAnswer Fault) → found ≡ stored.theorems asked → asked ≡ name → IfOk result (IsNamed found)
     → IfOk result (λ answer. Meets (expected_in theory stored subgoals (named name)) (result_of answer))
 stored-met theory stored subgoals name asked found result is same comes =
     leaf-met (expected_in theory stored subgoals (named name)) found result (ap sequent_found is ∙ ap (λ (n : List ℕ). sequent_found (stored.theorems n)) same) (λ room. room) comes
@@ -359,7 +384,9 @@ expected-is : (theory : Theory) (stored : Stored) (subgoals : List Recorded) (ru
     → expected_by theory rule (expected_at (expected_in theory stored subgoals) trees places) ≡ expected_in theory stored subgoals (by_rule rule (cited_parts trees places))
 expected-is theory stored subgoals rule trees places = λ i. record {
   sequent = given (premises-are theory stored subgoals trees places i) (rule_sequent theory rule);
-  has_room = are_roomy (terms_of_rule rule ++ terms_of_sequent (given (premises-are theory stored subgoals trees places i) (rule_sequent theory rule))) && rooms-are theory stored subgoals trees places i;
+  has_room = are_roomy (terms_of_rule rule
+      ++ terms_of_sequent (given (premises-are theory stored subgoals trees places i) (rule_sequent theory rule)))
+      && rooms-are theory stored subgoals trees places i;
 }
 
 pub rule-line-met : (theory : Theory) (stored : Stored) (subgoals : List Recorded) (rule : InferenceRule) (trees : List Justification) (places : List ℕ) (result : Result LineAnswer Fault)
@@ -371,7 +398,9 @@ rule-line-met theory stored subgoals rule trees places (Ok answer) from = subst 
 -- what stays as the journal grows
 
 pub store-stays : (old new : Journal) (stored : Stored) → IsGrown old new → IsStoreOf old stored → IsStoreOf new stored
-store-stays old new stored grown is = record { theorems = λ name r there. journals-grow.stays old new r grown (is.theorems name r there); lemmas = λ number r there. journals-grow.stays old new r grown (is.lemmas number r there) }
+store-stays old new stored grown is =
+    record { theorems = λ name r there. journals-grow.stays old new r grown (is.theorems name r there); lemmas = λ number r there.
+    journals-grow.stays old new r grown (is.lemmas number r there) }
 
 lines-stay : (old new : Journal) (answers : List LineAnswer) → IsGrown old new → AreHeldLines old answers → AreHeldLines new answers
 lines-stay old new [] grown held = tt
@@ -383,7 +412,8 @@ one-more-held : (journal : Journal) (answers : List LineAnswer) (answer : LineAn
 one-more-held journal [] answer held one = (one, tt)
 one-more-held journal (x ∷ answers) answer held one = (held.0, one-more-held journal answers answer held.1 one)
 
-one-more-met : (expects : Justification → Expected) (trees : List Justification) (answers : List LineAnswer) (tree : Justification) (answer : LineAnswer) → AreMet expects trees answers → Meets (expects tree) (result_of answer)
+one-more-met : (expects : Justification → Expected) (trees : List Justification) (answers : List LineAnswer) (tree : Justification)
+    (answer : LineAnswer) → AreMet expects trees answers → Meets (expects tree) (result_of answer)
     → AreMet expects (trees ++ tree ∷ []) (answers ++ answer ∷ [])
 one-more-met expects [] [] tree answer drawn one = (one, tt)
 one-more-met expects [] (x ∷ answers) tree answer drawn one = absurd drawn
@@ -414,7 +444,8 @@ here lines at line within is =
     let next : suc at ≡ at + 1 = omega arith in drop-cons lines at line within ∙ (λ i. sym is i ∷ drop (next i) lines)
 
 -- one line more, at a place of the lines
-pub line-at : (old now new : Journal) (expects : Justification → Expected) (lines : List Line) (at : ℕ) (line : Line) (answers : List LineAnswer) (answer : LineAnswer) → at < length lines → line ≡ get_or lines at line
+pub line-at : (old now new : Journal) (expects : Justification → Expected) (lines : List Line) (at : ℕ) (line : Line) (answers : List LineAnswer)
+    (answer : LineAnswer) → at < length lines → line ≡ get_or lines at line
     → IsReplaying old now expects (flat_lines (drop at lines)) (flat_lines lines) answers → ContinuesLine now new (Ok answer)
     → ((trees : List Justification) → AreMet expects trees answers → Meets (expects (tree_of_line trees (flat_line line))) (result_of answer))
     → IsReplaying old new expects (flat_lines (drop (at + 1) lines)) (flat_lines lines) (answers ++ answer ∷ [])
@@ -445,7 +476,9 @@ root-there old now expects just lines answers are replaying =
     let each = met-length expects replaying.replayed.trees answers replaying.replayed.met in
     omega (arith, root, many, same, each)
 
-tree-roomy : (theory : Theory) (stored : Stored) (subgoals : List Recorded) (tree : Justification) → (expected_in theory stored subgoals tree).has_room ≡ true → are_roomy (terms_of_sequent (expected_in theory stored subgoals tree).sequent) ≡ true
+tree-roomy : (theory : Theory) (stored : Stored) (subgoals : List Recorded) (tree : Justification)
+    → (expected_in theory stored subgoals tree).has_room ≡ true
+    → are_roomy (terms_of_sequent (expected_in theory stored subgoals tree).sequent) ≡ true
 tree-roomy theory stored subgoals (sub i) room = room
 tree-roomy theory stored subgoals (named name) room = room
 tree-roomy theory stored subgoals (lemma k) room = room
@@ -465,7 +498,8 @@ unmade-met theory stored subgoals tree fault memory =
     lost (Some sequent) = inl memory
 
 -- what a replay answers
-pub replay-answers : (expected : Expected) (result : Result Recorded Fault) → Meets expected (theorem_in result) → IfErr result IsReplayRefusal → AnswersReplay expected.has_room expected.sequent (theorem_in result)
+pub replay-answers : (expected : Expected) (result : Result Recorded Fault) → Meets expected (theorem_in result) → IfErr result IsReplayRefusal
+    → AnswersReplay expected.has_room expected.sequent (theorem_in result)
 replay-answers expected result met refusals = go expected.has_room expected.sequent (theorem_in result) met.drawn met.fits (moved result refusals)
   where
     moved : (result : Result Recorded Fault) → IfErr result IsReplayRefusal → IfErr (theorem_in result) IsReplayRefusal
@@ -477,7 +511,8 @@ replay-answers expected result met refusals = go expected.has_room expected.sequ
     want true fault fits (inr large) = absurd (fits refl large)
     want false fault fits (inr large) = inr (large, refl)
 
-    go : (room : Bool) (found : Option Sequent) (result : Result Theorem Fault) → IsDrawn found result → (room ≡ true → IsNotLarge result) → IfErr result IsReplayRefusal → AnswersReplay room found result
+    go : (room : Bool) (found : Option Sequent) (result : Result Theorem Fault) → IsDrawn found result → (room ≡ true → IsNotLarge result)
+        → IfErr result IsReplayRefusal → AnswersReplay room found result
     go room (Some s) (Ok theorem) drawn fits refusal = record { hypotheses = record { to = drawn.same_set.back; back = drawn.same_set.to }; conclusion = drawn.concludes }
     go room (Some s) (Err fault) drawn fits refusal = want room fault fits drawn
     go room None (Ok theorem) drawn fits refusal = absurd drawn
@@ -485,10 +520,13 @@ replay-answers expected result met refusals = go expected.has_room expected.sequ
     go room None (Err fault) drawn fits (inr is) = inr (want room fault fits is)
 
 -- the next line
-pub line-next : (old now new : Journal) (stored : Stored) (subgoals : List Recorded) (lines : List Line) (at : ℕ) (line : Line) (answers more : List LineAnswer) (answer : LineAnswer) → at < length lines → line ≡ get_or lines at line
+pub line-next : (old now new : Journal) (stored : Stored) (subgoals : List Recorded) (lines : List Line) (at : ℕ) (line : Line)
+    (answers more : List LineAnswer) (answer : LineAnswer) → at < length lines → line ≡ get_or lines at line
     → IsReplaying old now (expected_in old.theory stored subgoals) (flat_lines (drop at lines)) (flat_lines lines) answers → ContinuesLine now new (Ok answer)
-    → ((trees : List Justification) → AreMet (expected_in now.theory stored subgoals) trees answers → Meets (expected_in now.theory stored subgoals (tree_of_line trees (flat_line line))) (result_of answer))
+    → ((trees : List Justification) → AreMet (expected_in now.theory stored subgoals) trees answers
+        → Meets (expected_in now.theory stored subgoals (tree_of_line trees (flat_line line))) (result_of answer))
     → more ≡ answers ++ answer ∷ [] → IsReplaying old new (expected_in old.theory stored subgoals) (flat_lines (drop (at + 1) lines)) (flat_lines lines) more
 line-next old now new stored subgoals lines at line answers more answer within is replaying continues drawn more_is =
     rw more_is (line-at old now new (expected_in old.theory stored subgoals) lines at line answers answer within is replaying continues
-    (subst (λ (theory : Theory). (trees : List Justification) → AreMet (expected_in theory stored subgoals) trees answers → Meets (expected_in theory stored subgoals (tree_of_line trees (flat_line line))) (result_of answer)) replaying.theory drawn))
+    (subst (λ (theory : Theory). (trees : List Justification) → AreMet (expected_in theory stored subgoals) trees answers
+        → Meets (expected_in theory stored subgoals (tree_of_line trees (flat_line line))) (result_of answer)) replaying.theory drawn))

@@ -34,7 +34,9 @@ fits-given (Some x) fault next other fits = fits x
 pub fits-refused : {A : Type 0} (theory : Theory) (term : NamedTerm) (next : Result A Fault) → IsNotLarge next → IsNotLarge (refused (first_unknown theory term) next)
 fits-refused theory term next fits = go (knows_types theory term) (knows_constants theory term) (has_instances theory term)
   where
-    go : (types constants instances : Bool) → IsNotLarge (refused (if not types then Some UnknownType else (if not constants then Some UnknownConst else (if not instances then Some NotInstance else None))) next)
+    go : (types constants instances : Bool)
+        → IsNotLarge (refused (if not types then Some UnknownType else
+        (if not constants then Some UnknownConst else (if not instances then Some NotInstance else None))) next)
     go true true true = fits
     go true true false = λ is. cc
     go true false instances = λ is. cc
@@ -47,7 +49,8 @@ answers-fit outcome (Ok theorem) is fits = tt
 answers-fit outcome (Err fault) (inl memory) fits = λ large. cc
 answers-fit outcome (Err fault) (inr is) fits = subst (λ (o : Result Theorem Fault). IsNotLarge o) is fits
 
-pub kernel-room : (theory : Theory) (rule : InferenceRule) (premises : List Theorem) (outcome result : Result Theorem Fault) → (HasRoom theory rule premises → IsNotLarge outcome) → Answers result outcome
+pub kernel-room : (theory : Theory) (rule : InferenceRule) (premises : List Theorem) (outcome result : Result Theorem Fault)
+    → (HasRoom theory rule premises → IsNotLarge outcome) → Answers result outcome
     → FindsRoom theory rule premises result
 kernel-room theory rule premises outcome result fits answers = record { finds = λ room. answers-fit outcome result answers (fits room) }
 
@@ -58,7 +61,8 @@ fails-fit (Ok theorem) arguments refusal other answers = tt
 fails-fit (Err fault) arguments refusal other (inl memory) = λ large. cc
 fails-fit (Err fault) arguments refusal other (inr is) = λ large. other (sym is ∙ large)
 
-pub states-fit : (result : Result Theorem Fault) (arguments : List Nameless) (stated : Stated) → list_all is_roomy (arguments ++ terms_of_stated stated) ≡ true → AnswersStated result arguments (Ok stated) → IsNotLarge result
+pub states-fit : (result : Result Theorem Fault) (arguments : List Nameless) (stated : Stated)
+    → list_all is_roomy (arguments ++ terms_of_stated stated) ≡ true → AnswersStated result arguments (Ok stated) → IsNotLarge result
 states-fit (Ok theorem) arguments stated roomy answers = tt
 states-fit (Err fault) arguments stated roomy (inl memory) = λ large. cc
 states-fit (Err fault) arguments stated roomy (inr past) = λ large. let some : list_all is_roomy (arguments ++ terms_of_stated stated) ≡ false = past.1 in cc
@@ -69,7 +73,9 @@ pub walked-states : (theory : Theory) (p : NamedTerm) (result : Result Theorem F
 walked-states theory p result arguments stated roomy = go (is_formula p) (knows_types theory p) (knows_constants theory p) (has_instances theory p)
   where
     go : (one types constants instances : Bool)
-        → AnswersStated result arguments (unless one NotBool (refused (if not types then Some UnknownType else (if not constants then Some UnknownConst else (if not instances then Some NotInstance else None))) (Ok stated)))
+        → AnswersStated result arguments
+            (unless one NotBool (refused (if not types then Some UnknownType else
+            (if not constants then Some UnknownConst else (if not instances then Some NotInstance else None))) (Ok stated)))
         → IsNotLarge result
     go true true true true = states-fit result arguments stated roomy
     go true true true false = fails-fit result arguments NotInstance (λ is. cc)
@@ -77,7 +83,8 @@ walked-states theory p result arguments stated roomy = go (is_formula p) (knows_
     go true false constants instances = fails-fit result arguments UnknownType (λ is. cc)
     go false types constants instances = fails-fit result arguments NotBool (λ is. cc)
 
-both-roomy : (arguments : List Nameless) (stated : Stated) (sequent : Sequent) → StatesDrawn (Ok stated) (Some sequent) → are_roomy arguments ≡ true → are_roomy (terms_of_sequent (Some sequent)) ≡ true
+both-roomy : (arguments : List Nameless) (stated : Stated) (sequent : Sequent) → StatesDrawn (Ok stated) (Some sequent) → are_roomy arguments ≡ true
+    → are_roomy (terms_of_sequent (Some sequent)) ≡ true
     → list_all is_roomy (arguments ++ terms_of_stated stated) ≡ true
 both-roomy arguments stated sequent is first second =
     list_all-append is_roomy arguments (terms_of_stated stated)
@@ -86,12 +93,14 @@ both-roomy arguments stated sequent is first second =
     (λ x m. elim m [ inl same ↦ inl (same ∙ is.conclusion) | inr member ↦ inr (is.hypotheses.to x member) ]) second)
 
 pub stated-room : (theory : Theory) (rule : InferenceRule) (premises : List Theorem) (arguments : List Nameless) (outcome : Result Stated Fault) (result : Result Theorem Fault)
-    → Draws theory rule premises outcome → IsNotLarge outcome → (HasRoom theory rule premises → are_roomy arguments ≡ true) → AnswersStated result arguments outcome → FindsRoom theory rule premises result
+    → Draws theory rule premises outcome → IsNotLarge outcome → (HasRoom theory rule premises → are_roomy arguments ≡ true)
+        → AnswersStated result arguments outcome → FindsRoom theory rule premises result
 stated-room theory rule premises arguments outcome result draws fits roomy answers = record {
   finds = λ room. go outcome (rule_sequent theory rule (map sequent_of_theorem premises)) result draws fits (roomy room) room.drawn answers;
 }
   where
-    go : (outcome : Result Stated Fault) (found : Option Sequent) (result : Result Theorem Fault) → StatesDrawn outcome found → IsNotLarge outcome → are_roomy arguments ≡ true → are_roomy (terms_of_sequent found) ≡ true
+    go : (outcome : Result Stated Fault) (found : Option Sequent) (result : Result Theorem Fault) → StatesDrawn outcome found → IsNotLarge outcome
+        → are_roomy arguments ≡ true → are_roomy (terms_of_sequent found) ≡ true
         → AnswersStated result arguments outcome → IsNotLarge result
     go outcome found (Ok theorem) is fit first second states = tt
     go (Ok stated) None (Err fault) is fit first second past = absurd is

@@ -1,5 +1,6 @@
 -- Subgoals supposed under one more hypothesis.
-use Rattle.std.proofs.Common.{◌≡◌, ℕ, ◌+◌, ◌<◌, List, [], ◌∷◌, ◌++◌, map, length, get_or, Bool, true, false, ◌&&◌, refl, sym, ap, ◌∙◌, subst, inl, inr, arith, Option, Some, Result, Ok, Err, append-nil, append_assoc, drop, drop-cons, drop_of_length-le, ◌≤◌, zero, suc}
+use Rattle.std.proofs.Common.{◌≡◌, ℕ, ◌+◌, ◌<◌, List, [], ◌∷◌, ◌++◌, map, length, get_or, Bool, true, false, ◌&&◌, refl, sym, ap, ◌∙◌, subst, inl}
+use Rattle.std.proofs.Common.{inr, arith, Option, Some, Result, Ok, Err, append-nil, append_assoc, drop, drop-cons, drop_of_length-le, ◌≤◌, zero, suc}
 use Rattle.std.specs.Prelude.{slice_get}
 use Rattle.hol_model.specs.declared.fault.Fault.{Fault}
 use Rattle.hol_model.specs.declared.fault.Fault.TheVariants.{Memory, TooLarge, InvalidStep, BadShape, NotBool}
@@ -34,7 +35,8 @@ use Rattle.hol_equal.specs.Sequents.{Continues, Gives}
 use Rattle.hol_equal.specs.Inferred.{IsDrawn, Infers}
 use Rattle.hol_bool.proofs.LogicLemmas.{logical-type}
 use Rattle.hol_equal.proofs.DrawnTerms.{one_premise, two_premises}
-use Rattle.hol_just_replay.specs.Accepting.{falsity_from, with_assumptions, supposed_from, are_known_formulas, is_known_goal, are_known_goals, AreSupposed, IsUnsupposed, HasGoalRoom, IsAssuming, IsSupposing}
+use Rattle.hol_just_replay.specs.Accepting.{falsity_from, with_assumptions, supposed_from, are_known_formulas, is_known_goal, are_known_goals}
+use Rattle.hol_just_replay.specs.Accepting.{AreSupposed, IsUnsupposed, HasGoalRoom, IsAssuming, IsSupposing}
 use Rattle.hol_just.specs.Steps.{goal_of, goals_of}
 use Rattle.hol_just.specs.declared.goal.Goal as code_goal
 use Rattle.hol_just_replay.specs.Room.{IsNotLarge, are_roomy, FindsRoom}
@@ -54,7 +56,8 @@ false-known journal logic has legal = record {
   parts = (tt, record { generic = bool_type; is_generic = logical-type journal logic has legal false_name bool_type refl; is_instance = record { instance = type_variable; is_instance = refl } });
 }
 
-pub gives-drawn : (result : Result Recorded Fault) (hypotheses : List Nameless) (conclusion : Nameless) → Gives result hypotheses conclusion → IsDrawn (Some (record { hypotheses = hypotheses; conclusion = conclusion })) (theorem_in result)
+pub gives-drawn : (result : Result Recorded Fault) (hypotheses : List Nameless) (conclusion : Nameless) → Gives result hypotheses conclusion
+    → IsDrawn (Some (record { hypotheses = hypotheses; conclusion = conclusion })) (theorem_in result)
 gives-drawn (Ok made) hypotheses conclusion shows = shows
 gives-drawn (Err fault) hypotheses conclusion memory = inl memory
 
@@ -67,7 +70,8 @@ once-drawn journal logic has legal term is result gives =
     subst (λ (t : Nameless). IsDrawn (Some (record { hypotheses = t ∷ []; conclusion = t })) (theorem_in result)) image_is (gives-drawn result (image term ∷ []) (image term) (gives known))
 
 -- the sequents are the same as sets
-module _ (s t : Sequent) (to : (x : Nameless) → IsMember x s.hypotheses → IsMember x t.hypotheses) (back : (x : Nameless) → IsMember x t.hypotheses → IsMember x s.hypotheses) (is : s.conclusion ≡ t.conclusion) where
+module _ (s t : Sequent) (to : (x : Nameless) → IsMember x s.hypotheses → IsMember x t.hypotheses)
+    (back : (x : Nameless) → IsMember x t.hypotheses → IsMember x s.hypotheses) (is : s.conclusion ≡ t.conclusion) where
   pub moved : (result : Result Theorem Fault) → IsDrawn (Some s) result → IsDrawn (Some t) result
   moved (Ok theorem) shows = record { same_set = record { to = λ x m. shows.same_set.to x (back x m); back = λ x m. to x (shows.same_set.back x m) }; concludes = shows.concludes ∙ is }
   moved (Err fault) drawn = drawn
@@ -86,12 +90,16 @@ conjoined-drawn theory once result shows infers =
     (λ i. Rattle.hol_model.specs.Logic.Logic.conjunction (shows.concludes i) (shows.concludes i)) result drawn
 
 -- from `F /\ F`, `F`
-pub conjunct-drawn : (theory : Theory) (assumed : Theorem) (result : Result Theorem Fault) → IsDrawn (Some (record { hypotheses = false_twice ∷ []; conclusion = false_twice })) (Ok assumed) → Infers theory rule_conjunct1 (assumed ∷ []) result
+pub conjunct-drawn : (theory : Theory) (assumed : Theorem) (result : Result Theorem Fault)
+    → IsDrawn (Some (record { hypotheses = false_twice ∷ []; conclusion = false_twice })) (Ok assumed)
+    → Infers theory rule_conjunct1 (assumed ∷ []) result
     → IsDrawn (Some (falsity_from false_twice)) result
 conjunct-drawn theory assumed result shows infers =
     let h = map image assumed.hypotheses in
     let at : IsDrawn (given (given (Rattle.hol_model.specs.Logic.NamelessLogic.dest_conjunction false_twice) (λ sides. conclude (all ∷ []) sides.0)) (λ inference. drawn inference (h ∷ []))) result =
-    subst (λ (c : Nameless). IsDrawn (given (given (Rattle.hol_model.specs.Logic.NamelessLogic.dest_conjunction c) (λ sides. conclude (all ∷ []) sides.0)) (λ inference. drawn inference (h ∷ []))) result) shows.concludes infers.drawn in
+    subst (λ (c : Nameless). IsDrawn
+        (given (given (Rattle.hol_model.specs.Logic.NamelessLogic.dest_conjunction c) (λ sides. conclude (all ∷ []) sides.0))
+        (λ inference. drawn inference (h ∷ []))) result) shows.concludes infers.drawn in
     let drawn_is : IsDrawn (Some (record { hypotheses = h; conclusion = false_term })) result =
     subst (λ (k : List Nameless). IsDrawn (Some (record { hypotheses = k; conclusion = false_term })) result) (one_premise h) at in
     moved (record { hypotheses = h; conclusion = false_term }) (falsity_from false_twice) (λ x m. shows.same_set.back x m) (λ x m. shows.same_set.to x m) refl result drawn_is
@@ -102,7 +110,8 @@ conjunct-drawn theory assumed result shows infers =
 sequent-roomy : (sequent : Sequent) (theorem : Theorem) → IsDrawn (Some sequent) (Ok theorem) → are_roomy (terms_of_sequent (Some sequent)) ≡ true → are_roomy (terms_of_theorem theorem) ≡ true
 sequent-roomy sequent theorem shows roomy = theorem-roomy (Some sequent) theorem shows roomy
 
-pub conjoined-fits : (theory : Theory) (once : Theorem) (result : Result Theorem Fault) → IsDrawn (Some (falsity_from false_term)) (Ok once) → FindsRoom theory rule_conj (once ∷ once ∷ []) result → IsNotLarge result
+pub conjoined-fits : (theory : Theory) (once : Theorem) (result : Result Theorem Fault) → IsDrawn (Some (falsity_from false_term)) (Ok once)
+    → FindsRoom theory rule_conj (once ∷ once ∷ []) result → IsNotLarge result
 conjoined-fits theory once result shows finds =
     let h = map image once.hypotheses in
     let roomy : are_roomy (terms_of_theorem once) ≡ true = sequent-roomy (falsity_from false_term) once shows refl in
@@ -114,7 +123,8 @@ conjoined-fits theory once result shows finds =
     finds.finds (record {
       taken = refl;
       premises_roomy = (roomy, (roomy, tt));
-      drawn = both (is_roomy (Rattle.hol_model.specs.Logic.Logic.conjunction (image once.conclusion) (image once.conclusion))) (are_roomy (map unchanged h ++ (map unchanged h ++ []))) conclusion_roomy all_roomy;
+      drawn = both (is_roomy (Rattle.hol_model.specs.Logic.Logic.conjunction (image once.conclusion) (image once.conclusion)))
+          (are_roomy (map unchanged h ++ (map unchanged h ++ []))) conclusion_roomy all_roomy;
     })
 
 pub conjunct-fits : (theory : Theory) (assumed : Theorem) (result : Result Theorem Fault) → IsDrawn (Some (record { hypotheses = false_twice ∷ []; conclusion = false_twice })) (Ok assumed)
@@ -123,12 +133,17 @@ conjunct-fits theory assumed result shows finds =
     let h = map image assumed.hypotheses in
     let roomy : are_roomy (terms_of_theorem assumed) ≡ true = sequent-roomy (record { hypotheses = false_twice ∷ []; conclusion = false_twice }) assumed shows refl in
     let h_roomy : are_roomy h ≡ true = second_of_both (is_roomy (image assumed.conclusion)) (are_roomy h) roomy in
-    let at : are_roomy (terms_of_sequent (given (given (Rattle.hol_model.specs.Logic.NamelessLogic.dest_conjunction false_twice) (λ sides. conclude (all ∷ []) sides.0)) (λ inference. drawn inference (h ∷ [])))) ≡ true =
+    let at : are_roomy (terms_of_sequent
+        (given (given (Rattle.hol_model.specs.Logic.NamelessLogic.dest_conjunction false_twice) (λ sides. conclude (all ∷ []) sides.0))
+        (λ inference. drawn inference (h ∷ [])))) ≡ true =
     both (is_roomy false_term) (are_roomy (map unchanged h ++ [])) refl (ap are_roomy (one_premise h) ∙ h_roomy) in
     finds.finds (record {
       taken = refl;
       premises_roomy = (roomy, tt);
-      drawn = subst (λ (c : Nameless). are_roomy (terms_of_sequent (given (given (Rattle.hol_model.specs.Logic.NamelessLogic.dest_conjunction c) (λ sides. conclude (all ∷ []) sides.0)) (λ inference. drawn inference (h ∷ [])))) ≡ true) (sym shows.concludes) at;
+      drawn = subst (λ (c : Nameless).
+          are_roomy (terms_of_sequent (given
+          (given (Rattle.hol_model.specs.Logic.NamelessLogic.dest_conjunction c) (λ sides. conclude (all ∷ []) sides.0))
+          (λ inference. drawn inference (h ∷ [])))) ≡ true) (sym shows.concludes) at;
     })
 
 -- ---- assumptions
@@ -139,7 +154,8 @@ added_assumption theory p h c = given (require (is_known_formula theory p) (conc
 
 -- a theorem with one assumption more
 one-more : (theory : Theory) (p : NamedTerm) (rest : List NamedTerm) (made next : Theorem) (result : Result Theorem Fault) → Infers theory (rule_add_assum p) (made ∷ []) (Ok next)
-    → IsDrawn (with_assumptions theory (map image next.hypotheses) (image next.conclusion) rest) result → IsDrawn (with_assumptions theory (map image made.hypotheses) (image made.conclusion) (p ∷ rest)) result
+    → IsDrawn (with_assumptions theory (map image next.hypotheses) (image next.conclusion) rest) result
+        → IsDrawn (with_assumptions theory (map image made.hypotheses) (image made.conclusion) (p ∷ rest)) result
 one-more theory p rest made next result infers drawn_rest = go (is_known_formula theory (image p)) infers.drawn (are_known_formulas theory rest) drawn_rest
   where
     h : List Nameless
@@ -172,7 +188,8 @@ here items at item within is = let next : suc at ≡ at + 1 = omega arith in dro
 
 -- what ADD_ASSUM and CONTR draw leaves room
 
-added-roomy : (theory : Theory) (p : NamedTerm) (made next : Theorem) → Infers theory (rule_add_assum p) (made ∷ []) (Ok next) → are_roomy (terms_of_theorem made) ≡ true → is_roomy (image p) ≡ true → are_roomy (terms_of_theorem next) ≡ true
+added-roomy : (theory : Theory) (p : NamedTerm) (made next : Theorem) → Infers theory (rule_add_assum p) (made ∷ []) (Ok next)
+    → are_roomy (terms_of_theorem made) ≡ true → is_roomy (image p) ≡ true → are_roomy (terms_of_theorem next) ≡ true
 added-roomy theory p made next infers roomy p_roomy = theorem-roomy (added_assumption theory (image p) h (image made.conclusion)) next infers.drawn (go (is_known_formula theory (image p)))
   where
     h : List Nameless
@@ -190,14 +207,18 @@ add_assum-fits theory p made result answers roomy p_roomy =
     let c = image made.conclusion in
     let h = map image made.hypotheses in
     let with_p : are_roomy (image p ∷ terms_of_theorem made) ≡ true = both (is_roomy (image p)) (are_roomy (terms_of_theorem made)) p_roomy roomy in
-    let drawn_roomy : are_roomy (c ∷ image p ∷ h) ≡ true = both (is_roomy c) (are_roomy (image p ∷ h)) (first_of_both (is_roomy c) (are_roomy h) roomy) (both (is_roomy (image p)) (are_roomy h) p_roomy (second_of_both (is_roomy c) (are_roomy h) roomy)) in
+    let drawn_roomy : are_roomy (c ∷ image p ∷ h) ≡ true =
+        both (is_roomy c) (are_roomy (image p ∷ h)) (first_of_both (is_roomy c) (are_roomy h) roomy)
+        (both (is_roomy (image p)) (are_roomy h) p_roomy (second_of_both (is_roomy c) (are_roomy h) roomy)) in
     let all_roomy : list_all is_roomy ((image p ∷ terms_of_theorem made) ++ (c ∷ image p ∷ h)) ≡ true =
     list_all-append is_roomy (image p ∷ terms_of_theorem made) (c ∷ image p ∷ h) ∙ both (are_roomy (image p ∷ terms_of_theorem made)) (are_roomy (c ∷ image p ∷ h)) with_p drawn_roomy in
     walked-states theory p result (image p ∷ terms_of_theorem made) (record { hypotheses = image p ∷ h; conclusion = named made.conclusion }) all_roomy answers
 
-contr-roomy : (theory : Theory) (p : NamedTerm) (falsity made : Theorem) → Infers theory (rule_contr p) (falsity ∷ []) (Ok made) → are_roomy (terms_of_theorem falsity) ≡ true → is_roomy (image p) ≡ true → are_roomy (terms_of_theorem made) ≡ true
+contr-roomy : (theory : Theory) (p : NamedTerm) (falsity made : Theorem) → Infers theory (rule_contr p) (falsity ∷ []) (Ok made)
+    → are_roomy (terms_of_theorem falsity) ≡ true → is_roomy (image p) ≡ true → are_roomy (terms_of_theorem made) ≡ true
 contr-roomy theory p falsity made infers roomy p_roomy =
-    theorem-roomy (given (require (same_term (image falsity.conclusion) false_term && is_known_formula theory (image p)) (conclude (all ∷ []) (image p))) (λ inference. drawn inference (h ∷ []))) made infers.drawn
+    theorem-roomy (given (require (same_term (image falsity.conclusion) false_term && is_known_formula theory (image p))
+        (conclude (all ∷ []) (image p))) (λ inference. drawn inference (h ∷ []))) made infers.drawn
     (go (same_term (image falsity.conclusion) false_term && is_known_formula theory (image p)))
   where
     h : List Nameless
@@ -207,7 +228,9 @@ contr-roomy theory p falsity made infers roomy p_roomy =
     go false = refl
     go true = both (is_roomy (image p)) (are_roomy (map unchanged h ++ [])) p_roomy (ap are_roomy (one_premise h) ∙ second_of_both (is_roomy (image falsity.conclusion)) (are_roomy h) roomy)
 
-pub contr-fits : (theory : Theory) (falsity : Theorem) (goal : Goal) (result : Result Theorem Fault) → AnswersStated result (image goal.target ∷ terms_of_theorem falsity) (contr_outcome theory goal.target falsity) → HasGoalRoom falsity goal → IsNotLarge result
+pub contr-fits : (theory : Theory) (falsity : Theorem) (goal : Goal) (result : Result Theorem Fault)
+    → AnswersStated result (image goal.target ∷ terms_of_theorem falsity) (contr_outcome theory goal.target falsity) → HasGoalRoom falsity goal
+    → IsNotLarge result
 contr-fits theory falsity goal result answers room = go (is_false falsity.conclusion) answers
   where
     p : NamedTerm
@@ -224,15 +247,19 @@ contr-fits theory falsity goal result answers room = go (is_false falsity.conclu
         list_all-append is_roomy (image goal.target ∷ terms_of_theorem falsity) (image goal.target ∷ map image falsity.hypotheses)
         ∙ both (are_roomy (image goal.target ∷ terms_of_theorem falsity)) (are_roomy (image goal.target ∷ map image falsity.hypotheses))
         (both (is_roomy (image goal.target)) (are_roomy (terms_of_theorem falsity)) p_roomy room.falsity_roomy)
-        (both (is_roomy (image goal.target)) (are_roomy (map image falsity.hypotheses)) p_roomy (second_of_both (is_roomy (image falsity.conclusion)) (are_roomy (map image falsity.hypotheses)) room.falsity_roomy))
+        (both (is_roomy (image goal.target)) (are_roomy (map image falsity.hypotheses)) p_roomy
+            (second_of_both (is_roomy (image falsity.conclusion)) (are_roomy (map image falsity.hypotheses)) room.falsity_roomy))
 
-    go : (test : Bool) → AnswersStated result (image goal.target ∷ terms_of_theorem falsity) (unless test BadShape (unless (is_formula goal.target) NotBool (refused (first_unknown theory goal.target) (stated (images falsity) goal.target))))
+    go : (test : Bool) → AnswersStated result (image goal.target ∷ terms_of_theorem falsity)
+        (unless test BadShape (unless (is_formula goal.target) NotBool
+        (refused (first_unknown theory goal.target) (stated (images falsity) goal.target))))
         → IsNotLarge result
     go false = fails-fit result (image goal.target ∷ terms_of_theorem falsity) BadShape (λ is. cc)
     go true = walked-states theory goal.target result (image goal.target ∷ terms_of_theorem falsity) (record { hypotheses = images falsity; conclusion = named goal.target }) all_roomy
 
 -- the theorem of CONTR, and the goal's assumptions
-pub supposing-roomy : (theory : Theory) (falsity made : Theorem) (goal : Goal) → Infers theory (rule_contr goal.target) (falsity ∷ []) (Ok made) → HasGoalRoom falsity goal → (are_roomy (terms_of_theorem made) ≡ true) × (are_roomy (map image goal.assumptions) ≡ true)
+pub supposing-roomy : (theory : Theory) (falsity made : Theorem) (goal : Goal) → Infers theory (rule_contr goal.target) (falsity ∷ []) (Ok made)
+    → HasGoalRoom falsity goal → (are_roomy (terms_of_theorem made) ≡ true) × (are_roomy (map image goal.assumptions) ≡ true)
 supposing-roomy theory falsity made goal infers room = (
   contr-roomy theory goal.target falsity made infers room.falsity_roomy (first_of_both (is_roomy (image goal.target)) (are_roomy (map image goal.assumptions)) room.goal_roomy),
   second_of_both (is_roomy (image goal.target)) (are_roomy (map image goal.assumptions)) room.goal_roomy,
@@ -244,7 +271,8 @@ at-roomy items at item within is roomy =
     let here_roomy : are_roomy (map image (item ∷ drop (at + 1) items)) ≡ true = subst (λ (left : List NamedTerm). are_roomy (map image left) ≡ true) (here items at item within is) roomy in
     (first_of_both (is_roomy (image item)) (are_roomy (map image (drop (at + 1) items))) here_roomy, second_of_both (is_roomy (image item)) (are_roomy (map image (drop (at + 1) items))) here_roomy)
 
-pub assumes-next : (old now new : Journal) (hypotheses : List Nameless) (conclusion : Nameless) (whole items : List NamedTerm) (at : ℕ) (item : NamedTerm) (made next : Recorded) → at < length items → item ≡ get_or items at item
+pub assumes-next : (old now new : Journal) (hypotheses : List Nameless) (conclusion : Nameless) (whole items : List NamedTerm) (at : ℕ)
+    (item : NamedTerm) (made next : Recorded) → at < length items → item ≡ get_or items at item
     → IsAssuming old now hypotheses conclusion whole (drop at items) made → Continues now new (Ok next) → Infers now.theory (rule_add_assum item) (made.theorem ∷ []) (Ok next.theorem)
     → IsAssuming old new hypotheses conclusion whole (drop (at + 1) items) next
 assumes-next old now new hypotheses conclusion whole items at item made next within is assuming continues infers = record {
@@ -253,7 +281,9 @@ assumes-next old now new hypotheses conclusion whole items at item made next wit
   held = continues.held;
   leads = λ result drawn_rest. assuming.leads result
       (subst (λ (left : List NamedTerm). IsDrawn (with_assumptions old.theory (map image made.theorem.hypotheses) (image made.theorem.conclusion) left) result) (sym (here items at item within is))
-      (one-more old.theory item (drop (at + 1) items) made.theorem next.theorem result (subst (λ (theory : Theory). Infers theory (rule_add_assum item) (made.theorem ∷ []) (Ok next.theorem)) assuming.theory infers) drawn_rest));
+      (one-more old.theory item (drop (at + 1) items) made.theorem next.theorem result
+          (subst (λ (theory : Theory). Infers theory (rule_add_assum item) (made.theorem ∷ []) (Ok next.theorem)) assuming.theory infers)
+          drawn_rest));
   room = λ made_roomy all_roomy.
       let so_far = assuming.room made_roomy all_roomy in
       let left = at-roomy items at item within is so_far.1 in
@@ -261,7 +291,8 @@ assumes-next old now new hypotheses conclusion whole items at item made next wit
 }
 
 -- an assumption that is refused
-pub assumes-fits : (old now : Journal) (hypotheses : List Nameless) (conclusion : Nameless) (whole items : List NamedTerm) (at : ℕ) (item : NamedTerm) (made : Recorded) (result : Result Theorem Fault) → at < length items → item ≡ get_or items at item
+pub assumes-fits : (old now : Journal) (hypotheses : List Nameless) (conclusion : Nameless) (whole items : List NamedTerm) (at : ℕ)
+    (item : NamedTerm) (made : Recorded) (result : Result Theorem Fault) → at < length items → item ≡ get_or items at item
     → IsAssuming old now hypotheses conclusion whole (drop at items) made → AnswersStated result (image item ∷ terms_of_theorem made.theorem) (add_assum_outcome now.theory item made.theorem)
     → are_roomy (conclusion ∷ hypotheses) ≡ true → are_roomy (map image whole) ≡ true → IsNotLarge result
 assumes-fits old now hypotheses conclusion whole items at item made result within is assuming answers made_roomy all_roomy =
@@ -271,10 +302,14 @@ assumes-fits old now hypotheses conclusion whole items at item made result withi
 -- ---- a goal's sequent
 
 -- what CONTR draws, then the assumptions
-pub contr-supposes : (theory : Theory) (falsity : Theorem) (goal : Goal) (made : Theorem) (result : Result Theorem Fault) → image falsity.conclusion ≡ false_term → Infers theory (rule_contr goal.target) (falsity ∷ []) (Ok made)
+pub contr-supposes : (theory : Theory) (falsity : Theorem) (goal : Goal) (made : Theorem) (result : Result Theorem Fault)
+    → image falsity.conclusion ≡ false_term → Infers theory (rule_contr goal.target) (falsity ∷ []) (Ok made)
     → IsDrawn (with_assumptions theory (map image made.hypotheses) (image made.conclusion) goal.assumptions) result → IsDrawn (supposed_from theory (map image falsity.hypotheses) goal) result
 contr-supposes theory falsity goal made result is_false infers drawn_rest =
-    go (is_known_formula theory (image goal.target)) (subst (λ (c : Nameless). IsDrawn (given (require (same_term c false_term && is_known_formula theory (image goal.target)) (conclude (all ∷ []) (image goal.target))) (λ inference. drawn inference (h ∷ []))) (Ok made)) is_false infers.drawn)
+    go (is_known_formula theory (image goal.target))
+        (subst (λ (c : Nameless). IsDrawn
+        (given (require (same_term c false_term && is_known_formula theory (image goal.target)) (conclude (all ∷ []) (image goal.target)))
+        (λ inference. drawn inference (h ∷ []))) (Ok made)) is_false infers.drawn)
     (are_known_formulas theory goal.assumptions) drawn_rest
   where
     h : List Nameless
@@ -287,15 +322,22 @@ contr-supposes theory falsity goal made result is_false infers drawn_rest =
     go true step false later = later
     go true step true later =
         let shows = subst (λ (l : List Nameless). IsDrawn (Some (record { hypotheses = l; conclusion = image goal.target })) (Ok made)) (one_premise h) step in
-        moved (record { hypotheses = map image made.hypotheses ++ map image goal.assumptions; conclusion = image made.conclusion }) (record { hypotheses = h ++ map image goal.assumptions; conclusion = image goal.target })
-        (λ x m. elim (of_append x (map image made.hypotheses) (map image goal.assumptions) m) [ inl a ↦ IsMember-append_left x h (map image goal.assumptions) (shows.same_set.back x a) | inr b ↦ IsMember-append_right x h (map image goal.assumptions) b ])
-        (λ x m. elim (of_append x h (map image goal.assumptions) m) [ inl a ↦ IsMember-append_left x (map image made.hypotheses) (map image goal.assumptions) (shows.same_set.to x a) | inr b ↦ IsMember-append_right x (map image made.hypotheses) (map image goal.assumptions) b ])
+        moved (record { hypotheses = map image made.hypotheses ++ map image goal.assumptions; conclusion = image made.conclusion })
+            (record { hypotheses = h ++ map image goal.assumptions; conclusion = image goal.target })
+        (λ x m. elim (of_append x (map image made.hypotheses) (map image goal.assumptions) m) [ inl a ↦ IsMember-append_left x h
+            (map image goal.assumptions) (shows.same_set.back x a) | inr b ↦ IsMember-append_right x h (map image goal.assumptions) b ])
+        (λ x m. elim (of_append x h (map image goal.assumptions) m) [ inl a ↦ IsMember-append_left x (map image made.hypotheses)
+            (map image goal.assumptions) (shows.same_set.to x a) | inr b ↦ IsMember-append_right x (map image made.hypotheses)
+            (map image goal.assumptions) b ])
         shows.concludes result later
 
 pub contr-fails : (theory : Theory) (falsity : Theorem) (goal : Goal) (fault : Fault) → image falsity.conclusion ≡ false_term → Infers theory (rule_contr goal.target) (falsity ∷ []) (Err fault)
     → IsDrawn (supposed_from theory (map image falsity.hypotheses) goal) (Err fault)
 contr-fails theory falsity goal fault is_false infers =
-    go (is_known_formula theory (image goal.target)) (subst (λ (c : Nameless). IsDrawn (given (require (same_term c false_term && is_known_formula theory (image goal.target)) (conclude (all ∷ []) (image goal.target))) (λ inference. drawn inference (h ∷ []))) (Err fault)) is_false infers.drawn)
+    go (is_known_formula theory (image goal.target))
+        (subst (λ (c : Nameless). IsDrawn
+        (given (require (same_term c false_term && is_known_formula theory (image goal.target)) (conclude (all ∷ []) (image goal.target)))
+        (λ inference. drawn inference (h ∷ []))) (Err fault)) is_false infers.drawn)
     (are_known_formulas theory goal.assumptions)
   where
     h : List Nameless
@@ -315,7 +357,8 @@ want-of-memory known = inr (inl refl)
 pub want-of-room : (known : Bool) → IsUnsupposed known TooLarge
 want-of-room known = inr (inr refl)
 
-pub other-refusal : (fault : Fault) (known : Bool) (sequent : Sequent) → (fault ≡ Memory → ⊥) → (fault ≡ TooLarge → ⊥) → IsDrawn (require known (Some sequent)) (Err fault) → IsUnsupposed known InvalidStep
+pub other-refusal : (fault : Fault) (known : Bool) (sequent : Sequent) → (fault ≡ Memory → ⊥) → (fault ≡ TooLarge → ⊥)
+    → IsDrawn (require known (Some sequent)) (Err fault) → IsUnsupposed known InvalidStep
 other-refusal fault false sequent memory large is = inl (refl, refl)
 other-refusal fault true sequent memory large (inl is) = absurd (memory is)
 other-refusal fault true sequent memory large (inr is) = absurd (large is)
@@ -338,14 +381,16 @@ drawn-known theory hypotheses goal made = go (is_known_goal theory goal)
 one-more-made : (journal : Journal) (all : List Recorded) (made : Recorded) → AreMade journal all → IsMade journal made → AreMade journal (all ++ made ∷ [])
 one-more-made journal all made are is = record { each = λ number found there. go all number found (λ n f t. are.each n f t) there }
   where
-    go : (all : List Recorded) (number : ℕ) (found : Recorded) → ((n : ℕ) (f : Recorded) → slice_get all n ≡ Some f → IsMade journal f) → slice_get (all ++ made ∷ []) number ≡ Some found → IsMade journal found
+    go : (all : List Recorded) (number : ℕ) (found : Recorded) → ((n : ℕ) (f : Recorded) → slice_get all n ≡ Some f → IsMade journal f)
+        → slice_get (all ++ made ∷ []) number ≡ Some found → IsMade journal found
     go [] zero found each there = let same : made ≡ found = cc in subst (λ (m : Recorded). IsMade journal m) same is
     go [] (suc n) found each there = cc
     go (x ∷ xs) zero found each there = each zero found there
     go (x ∷ xs) (suc n) found each there = go xs n found (λ m f t. each (suc m) f t) there
 
 -- a goal of the code, and those behind it
-pub goals-here : (items : List code_goal.Goal) (at : ℕ) (item : code_goal.Goal) → at < length items → item ≡ get_or items at item → goals_of (drop at items) ≡ goal_of item ∷ goals_of (drop (at + 1) items)
+pub goals-here : (items : List code_goal.Goal) (at : ℕ) (item : code_goal.Goal) → at < length items → item ≡ get_or items at item
+    → goals_of (drop at items) ≡ goal_of item ∷ goals_of (drop (at + 1) items)
 goals-here items at item within is = let next : suc at ≡ at + 1 = omega arith in ap goals_of (drop-cons items at item within ∙ (λ i. sym is i ∷ drop (next i) items))
 
 goal-roomy : (items : List code_goal.Goal) (at : ℕ) (item : code_goal.Goal) → at < length items → item ≡ get_or items at item → are_roomy (terms_of_goals (goals_of (drop at items))) ≡ true
@@ -358,14 +403,17 @@ goal-roomy items at item within is roomy =
     (first_of_both (are_roomy one) (are_roomy rest) each, second_of_both (are_roomy one) (are_roomy rest) each)
 
 -- a goal that is refused
-pub supposes-fits : (old now : Journal) (hypotheses : List Nameless) (whole : List Goal) (items : List code_goal.Goal) (at : ℕ) (item : code_goal.Goal) (made : List Recorded) (falsity : Theorem) (result : Result Recorded Fault)
+pub supposes-fits : (old now : Journal) (hypotheses : List Nameless) (whole : List Goal) (items : List code_goal.Goal) (at : ℕ)
+    (item : code_goal.Goal) (made : List Recorded) (falsity : Theorem) (result : Result Recorded Fault)
     → at < length items → item ≡ get_or items at item → IsSupposing old now hypotheses whole (goals_of (drop at items)) made → (HasGoalRoom falsity (goal_of item) → IsNotLarge result)
     → are_roomy (terms_of_theorem falsity) ≡ true → are_roomy (terms_of_goals whole) ≡ true → IsNotLarge result
 supposes-fits old now hypotheses whole items at item made falsity result within is supposing fits falsity_roomy all_roomy =
     fits (record { falsity_roomy = falsity_roomy; goal_roomy = (goal-roomy items at item within is (supposing.room all_roomy)).0 })
 
-pub supposes-next : (old now new : Journal) (hypotheses : List Nameless) (whole : List Goal) (items : List code_goal.Goal) (at : ℕ) (item : code_goal.Goal) (made more : List Recorded) (next : Recorded) → at < length items → item ≡ get_or items at item
-    → IsSupposing old now hypotheses whole (goals_of (drop at items)) made → IsGrown now new → new.theory ≡ now.theory → IsMade new next → IsDrawn (supposed_from now.theory hypotheses (goal_of item)) (Ok next.theorem)
+pub supposes-next : (old now new : Journal) (hypotheses : List Nameless) (whole : List Goal) (items : List code_goal.Goal) (at : ℕ)
+    (item : code_goal.Goal) (made more : List Recorded) (next : Recorded) → at < length items → item ≡ get_or items at item
+    → IsSupposing old now hypotheses whole (goals_of (drop at items)) made → IsGrown now new → new.theory ≡ now.theory → IsMade new next
+        → IsDrawn (supposed_from now.theory hypotheses (goal_of item)) (Ok next.theorem)
     → more ≡ made ++ next ∷ [] → IsSupposing old new hypotheses whole (goals_of (drop (at + 1) items)) more
 supposes-next old now new hypotheses whole items at item made more next within is supposing grown theory is_made drawn_now more_is =
     let left_is = goals-here items at item within is in
@@ -374,7 +422,9 @@ supposes-next old now new hypotheses whole items at item made more next within i
       are_made = one-more-made new made next (made-stay now new made grown supposing.are_made) is_made;
       grown = journals-grow.twice old now new supposing.grown grown;
       theory = theory ∙ supposing.theory;
-      known = supposing.known ∙ ap (λ (left : List Goal). are_known_goals old.theory left) left_is ∙ both-known (is_known_goal old.theory (goal_of item)) (are_known_goals old.theory (goals_of (drop (at + 1) items))) (drawn-known old.theory hypotheses (goal_of item) next.theorem drawn_old);
+      known = supposing.known ∙ ap (λ (left : List Goal). are_known_goals old.theory left) left_is
+          ∙ both-known (is_known_goal old.theory (goal_of item)) (are_known_goals old.theory (goals_of (drop (at + 1) items)))
+          (drawn-known old.theory hypotheses (goal_of item) next.theorem drawn_old);
       room = λ roomy. (goal-roomy items at item within is (supposing.room roomy)).1;
       leads = λ others are. subst (λ (l : List Recorded). AreSupposed old.theory hypotheses whole l) (sym (append_assoc made (next ∷ []) others))
           (supposing.leads (next ∷ others) (subst (λ (left : List Goal). AreSupposed old.theory hypotheses left (next ∷ others)) (sym left_is) (drawn_old, are)));

@@ -11,8 +11,16 @@ use Rattle.hol_model.specs.Kernel.Theorem.{Theorem}
 use Rattle.hol_model.specs.Kernel.Rules.{refl_outcome, trans_outcome, mk_comb_outcome, abs_outcome, beta_outcome, assume_outcome, eq_mp_outcome, deduct_antisym_outcome}
 use Rattle.hol_model.specs.Kernel.Instantiation.{inst_refusal, IsInst, inst_type_refusal, IsInstType}
 use Rattle.hol_model.specs.Kernel.RuleOutcomes.{axiom_theorem}
-use Rattle.hol_model.specs.Derived.DerivedRules.{AnswersStated, terms_of_theorem, sym_outcome, add_assum_outcome, prove_hyp_outcome, beta_conv_outcome, eqt_intro_outcome, eqt_elim_outcome, conj_outcome, conjunct1_outcome, conjunct2_outcome, disch_outcome, undisch_outcome, mp_outcome, spec_outcome, gen_outcome, exists_outcome, choose_outcome, disj1_outcome, disj2_outcome, disj_cases_outcome, contr_outcome, not_intro_outcome, not_elim_outcome}
-use Rattle.hol_model.specs.Derived.InferenceRules.{InferenceRule, rule_refl, rule_trans, rule_mk_comb, rule_abs, rule_beta, rule_assume, rule_eq_mp, rule_deduct_antisym, rule_inst, rule_inst_type, rule_eta_axiom, rule_select_axiom, rule_sym, rule_add_assum, rule_prove_hyp, rule_eqt_intro, rule_eqt_elim, rule_beta_conv, rule_conj, rule_conjunct1, rule_conjunct2, rule_disch, rule_undisch, rule_mp, rule_spec, rule_gen, rule_disj1, rule_disj2, rule_disj_cases, rule_contr, rule_not_intro, rule_not_elim, rule_exists, rule_choose}
+use Rattle.hol_model.specs.Derived.DerivedRules.{AnswersStated, terms_of_theorem, sym_outcome, add_assum_outcome, prove_hyp_outcome}
+use Rattle.hol_model.specs.Derived.DerivedRules.{beta_conv_outcome, eqt_intro_outcome, eqt_elim_outcome, conj_outcome, conjunct1_outcome}
+use Rattle.hol_model.specs.Derived.DerivedRules.{conjunct2_outcome, disch_outcome, undisch_outcome, mp_outcome, spec_outcome, gen_outcome}
+use Rattle.hol_model.specs.Derived.DerivedRules.{exists_outcome, choose_outcome, disj1_outcome, disj2_outcome, disj_cases_outcome, contr_outcome}
+use Rattle.hol_model.specs.Derived.DerivedRules.{not_intro_outcome, not_elim_outcome}
+use Rattle.hol_model.specs.Derived.InferenceRules.{InferenceRule, rule_refl, rule_trans, rule_mk_comb, rule_abs, rule_beta, rule_assume, rule_eq_mp}
+use Rattle.hol_model.specs.Derived.InferenceRules.{rule_deduct_antisym, rule_inst, rule_inst_type, rule_eta_axiom, rule_select_axiom, rule_sym}
+use Rattle.hol_model.specs.Derived.InferenceRules.{rule_add_assum, rule_prove_hyp, rule_eqt_intro, rule_eqt_elim, rule_beta_conv, rule_conj}
+use Rattle.hol_model.specs.Derived.InferenceRules.{rule_conjunct1, rule_conjunct2, rule_disch, rule_undisch, rule_mp, rule_spec, rule_gen, rule_disj1}
+use Rattle.hol_model.specs.Derived.InferenceRules.{rule_disj2, rule_disj_cases, rule_contr, rule_not_intro, rule_not_elim, rule_exists, rule_choose}
 use Rattle.hol_journal.specs.Journal.{Journal, Recorded, IsMade}
 
 -- the theorems that are lent to a rule

@@ -6,7 +6,9 @@ use Rattle.hol_model.specs.Logic.Theory.{type_a}
 use Rattle.hol_model.specs.Kernel.Theorem.{Theorem}
 use Rattle.hol_model.specs.Logic.Logic.{logical_definitions, true_name, and_name, implies_name, forall_name, exists_name, or_name, false_name, not_name, unary, binary, quantifier}
 use Rattle.hol_model.specs.Logic.NamedLogic.{true_term, false_term, conjunction, disjunction, implication, negation, forall_term}
-pub use Rattle.hol_model.specs.Derived.Prelude.{p, q, r, f, P, x, t, P_x, formula_abstraction, tested, tests, tests_agree, always, forall_P, exists_P, true_body, and_body, implies_body, forall_body, witness_cases, exists_body, cases, or_body, false_body, not_body, defined, shown, eta_axiom, select_axiom, excluded_middle}
+pub use Rattle.hol_model.specs.Derived.Prelude.{p, q, r, f, P, x, t, P_x, formula_abstraction, tested, tests, tests_agree, always, forall_P, exists_P}
+pub use Rattle.hol_model.specs.Derived.Prelude.{true_body, and_body, implies_body, forall_body, witness_cases, exists_body, cases, or_body}
+pub use Rattle.hol_model.specs.Derived.Prelude.{false_body, not_body, defined, shown, eta_axiom, select_axiom, excluded_middle}
 
 -- the definitions; TRUTH; then the pieces of EQT_INTRO, EQT_ELIM, CONJ, CONJUNCT1, CONJUNCT2, DISCH, MP, GEN, SPEC,
 -- NOT_INTRO, NOT_ELIM and CONTR, those of each connective after its definition at variables; CONJ and MP as equations

@@ -1,5 +1,6 @@
 -- Derivations that stand as data: the journal after each step, and what an instance of a theorem is.
-use Rattle.std.proofs.Common.{◌≡◌, ◌≤◌, ◌⊎◌, ℕ, zero, suc, length, nat_eq, List, [], ◌∷◌, ◌++◌, map, Bool, true, refl, sym, ◌∙◌, ap, subst, inl, inr, Option, Some, None, Result, Ok, Err, IfOk, OnErr, append-nil}
+use Rattle.std.proofs.Common.{◌≡◌, ◌≤◌, ◌⊎◌, ℕ, zero, suc, length, nat_eq, List, [], ◌∷◌, ◌++◌, map, Bool, true, refl, sym, ◌∙◌, ap, subst, inl, inr}
+use Rattle.std.proofs.Common.{Option, Some, None, Result, Ok, Err, IfOk, OnErr, append-nil}
 use Rattle.hol_model.specs.declared.fault.Fault.{Fault}
 use Rattle.hol_model.specs.declared.fault.Fault.TheVariants.{BadShape, NotBool, NotEquation, NotAlpha, TypeMismatch, NotVariable, UnknownType, FreeInHypothesis, NotTrivialBeta}
 use Rattle.hol_model.specs.Terms.HolType.{HolType}
@@ -7,7 +8,8 @@ use Rattle.hol_model.specs.Terms.NamedTerm.{NamedTerm, dest_variable, combinatio
 use Rattle.hol_model.specs.Logic.Theory.{Theory}
 use Rattle.hol_model.specs.Kernel.Theorem.{Theorem, are_alpha_equivalent, with_hypotheses, without_hypothesis}
 use Rattle.hol_model.specs.Kernel.Outcome.{Answers, AnswersSuch, unless, given, refused}
-use Rattle.hol_model.specs.Kernel.Rules.{first_unknown, is_formula, dest_equation, dest_trivial_redex, concluded, refl_outcome, assume_outcome, trans_outcome, eq_mp_outcome, mk_comb_outcome, abs_outcome, deduct_antisym_outcome, beta_outcome}
+use Rattle.hol_model.specs.Kernel.Rules.{first_unknown, is_formula, dest_equation, dest_trivial_redex, concluded, refl_outcome, assume_outcome}
+use Rattle.hol_model.specs.Kernel.Rules.{trans_outcome, eq_mp_outcome, mk_comb_outcome, abs_outcome, deduct_antisym_outcome, beta_outcome}
 use Rattle.hol_model.specs.Kernel.Instantiation.{IsChanged, inst_refusal, inst_type_refusal, instantiate_all, IsInst, IsInstType}
 use Rattle.hol_model.proofs.Logic.Earlier.{earlier-same}
 use Rattle.hol_journal.specs.Steps.{Step}

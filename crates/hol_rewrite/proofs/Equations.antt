@@ -9,7 +9,8 @@ use Rattle.hol_model.specs.Logic.Theory.{equality_name}
 use Rattle.hol_model.specs.Kernel.Rules.{dest_equation}
 
 -- a term of such an image is an equation
-pub equation-there : (conclusion : NamedTerm) (ty : HolType) (a b : Nameless) → image conclusion ≡ app (app (const equality_name ty) a) b → (sides : NamedTerm × NamedTerm) × (dest_equation conclusion ≡ Some sides)
+pub equation-there : (conclusion : NamedTerm) (ty : HolType) (a b : Nameless) → image conclusion ≡ app (app (const equality_name ty) a) b
+    → (sides : NamedTerm × NamedTerm) × (dest_equation conclusion ≡ Some sides)
 equation-there (combination (combination (constant name s) left) right) ty a b is =
     let named : name ≡ equality_name = cc in
     ((left, right), rw ((bytes_eq-Decides name equality_name).1 named) refl)

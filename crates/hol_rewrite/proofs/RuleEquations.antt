@@ -9,7 +9,8 @@ use Rattle.hol_model.specs.Logic.Theory.{equality_name}
 use Rattle.hol_model.specs.Logic.NamedLogic.{Abstracted, false_term, true_term, dest_conjunction, dest_forall, dest_negation}
 use Rattle.hol_model.specs.Kernel.Rules.{dest_equation}
 use Rattle.hol_model.specs.Kernel.Theorem.{Theorem}
-use Rattle.hol_model.specs.Rewrites.RewriteRules.{RuleForm, both, every, equal, denied, stated, both_or, every_or, equal_or, denied_or_stated, rule_form, RulesOf, RulesOfForm, rules_of_form, of_both, of_every, of_equal, of_denied, of_stated}
+use Rattle.hol_model.specs.Rewrites.RewriteRules.{RuleForm, both, every, equal, denied, stated, both_or, every_or, equal_or, denied_or_stated}
+use Rattle.hol_model.specs.Rewrites.RewriteRules.{rule_form, RulesOf, RulesOfForm, rules_of_form, of_both, of_every, of_equal, of_denied, of_stated}
 use Rattle.hol_model.specs.Rewrites.Rewriting.{IsRule, AreRules, AnswersRules}
 use Rattle.hol_rewrite.specs.RuleSides.{IsEquation, AreEquations}
 use Rattle.hol_rewrite.proofs.Equations.{equation-there}
@@ -69,7 +70,8 @@ mutual
   images-of : (hypotheses : List NamedTerm) (conclusion : NamedTerm) (equations : List Nameless) → RulesOf hypotheses conclusion equations → AreEqualityImages equations
   images-of hypotheses conclusion equations (rules_of_form c rules of) = images-of-form hypotheses conclusion (rule_form conclusion) equations refl of
 
-  images-of-form : (hypotheses : List NamedTerm) (whole : NamedTerm) (form : RuleForm) (equations : List Nameless) → rule_form whole ≡ form → RulesOfForm hypotheses whole form equations → AreEqualityImages equations
+  images-of-form : (hypotheses : List NamedTerm) (whole : NamedTerm) (form : RuleForm) (equations : List Nameless) → rule_form whole ≡ form
+      → RulesOfForm hypotheses whole form equations → AreEqualityImages equations
   images-of-form hypotheses whole form equations is (of_both w p q first second one two) = are-append first second (images-of hypotheses p first one) (images-of hypotheses q second two)
   images-of-form hypotheses whole form equations is (of_every w bound fresh instance rules first put keeps_names of) = images-of hypotheses instance equations of
   images-of-form hypotheses whole form equations is (of_equal w a b) =

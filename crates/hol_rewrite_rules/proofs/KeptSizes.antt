@@ -4,7 +4,8 @@ use Rattle.std.specs.Prelude.{nat_le, is_some}
 use Rattle.std.specs.Option.{option_map}
 use Rattle.hol_model.specs.declared.limits.TheConstants.{TERM_NODES_LIMIT, TERM_HEIGHT_LIMIT}
 use Rattle.hol_model.specs.Terms.HolType.{HolType, function_type}
-use Rattle.hol_model.specs.Terms.NamedTerm.{NamedTerm, variable, constant, combination, abstraction, same_variable, is_free, height, nodes, dest_variable, type_of, application_type, types_fit, some_type_fits, is_within_limits}
+use Rattle.hol_model.specs.Terms.NamedTerm.{NamedTerm, variable, constant, combination, abstraction, same_variable, is_free, height, nodes}
+use Rattle.hol_model.specs.Terms.NamedTerm.{dest_variable, type_of, application_type, types_fit, some_type_fits, is_within_limits}
 use Rattle.hol_model.specs.Terms.Substitution.{with_new_name}
 use Rattle.hol_rewrite_rules.specs.Rules.{IsRenamed}
 use Rattle.hol_model.proofs.Tests.{same_name}

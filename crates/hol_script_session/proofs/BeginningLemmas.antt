@@ -43,7 +43,8 @@ storing-further old now new stored left all storing stores = go storing.later st
     }
 
 -- the number of a theorem that is stored next is one of the prelude
-pub storing-within : (old now : State) (stored : StoredTheorem) (left : List StoredTheorem) (all : List (List ℕ × Theorem)) → IsStoringTo old now (stored ∷ left) all → stored.number < length prelude_theorems
+pub storing-within : (old now : State) (stored : StoredTheorem) (left : List StoredTheorem) (all : List (List ℕ × Theorem))
+    → IsStoringTo old now (stored ∷ left) all → stored.number < length prelude_theorems
 storing-within old now stored left all storing = go storing.later storing.matched
   where
     go : (later : List (List ℕ × Theorem)) → AreStoredTheorems (stored ∷ left) later → stored.number < length prelude_theorems
@@ -51,7 +52,8 @@ storing-within old now stored left all storing = go storing.later storing.matche
     go (named ∷ later) matched = within prelude_theorems stored.number named.1 matched.0.1
 
 -- the theorem of a number is stored
-pub numbered-stored : {A : Type 0} → (result : Result A Fault) (old new : State) (name : List ℕ) (number : ℕ) (made answer : Recorded) → made ≡ answer → slice_get prelude_theorems number ≡ Some answer.theorem
+pub numbered-stored : {A : Type 0} → (result : Result A Fault) (old new : State) (name : List ℕ) (number : ℕ) (made answer : Recorded)
+    → made ≡ answer → slice_get prelude_theorems number ≡ Some answer.theorem
     → OnOk result (new ≡ with_theorem old name made.theorem) → OnOk result (StoresNumbered old new name number)
 numbered-stored (Ok done) old new name number made answer same there stored = record {
   stores = λ theorem found. (let is : answer.theorem ≡ theorem = cc in stored ∙ ap (λ (t : Theorem). with_theorem old name t) (ap (λ (m : Recorded). m.theorem) same ∙ is));

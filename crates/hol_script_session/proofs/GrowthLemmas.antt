@@ -188,7 +188,8 @@ definition-theorem theory name term theorem same =
     sym is
 
 -- its line
-pub definition-line : (theory : Theory) (scope : Scope) (name stored : List ℕ) (term : NamedTerm) (theorem : Theorem) (line : TheoremLine) → define_outcome theory name term ≡ Ok theorem → stored ≡ definition_name name
+pub definition-line : (theory : Theory) (scope : Scope) (name stored : List ℕ) (term : NamedTerm) (theorem : Theorem) (line : TheoremLine)
+    → define_outcome theory name term ≡ Ok theorem → stored ≡ definition_name name
     → IsLineOf line scope stored (record { theory = []; hypotheses = []; conclusion = equation (constant name (own_type term)) term }) → IsLineOf line scope (definition_name name) theorem
 definition-line theory scope name stored term theorem line same named made = record {
   named = made.named ∙ named;
@@ -318,7 +319,8 @@ const_removed old mid new name ty added removed none = record {
 
 -- the same where a definition was refused in between
 pub removed_after : (old : Session) (mid : ScopeHere) (after : Session) (new : ScopeHere) (name : List ℕ) (ty : HolType) → SetsConstant (scope_of old.scope) (scope_of mid) name (Some ty)
-    → KeepsSession (made old old.library.recorder mid) after → SetsConstant (scope_of after.scope) (scope_of new) name None → (scope_of old.scope).generic_type name ≡ None → KeepsScope (scope_of old.scope) (scope_of new)
+    → KeepsSession (made old old.library.recorder mid) after → SetsConstant (scope_of after.scope) (scope_of new) name None
+        → (scope_of old.scope).generic_type name ≡ None → KeepsScope (scope_of old.scope) (scope_of new)
 removed_after old mid after new name ty added keeps removed none =
     const_removed (scope_of old.scope) (scope_of mid) (scope_of new) name ty added
     (subst (λ (s : ScopeHere). SetsConstant (scope_of s) (scope_of new) name None) keeps.scope removed) none
@@ -350,7 +352,9 @@ not_some (Some x) none = absurd (none refl)
 
 pub var_state : (old : Session) (scope : ScopeHere) (name : List ℕ) (ty : HolType) → SetsVariable (scope_of old.scope) (scope_of scope) name ty
     → state_of (made old old.library.recorder scope) ≡ with_variable (state_of old) name ty
-var_state old scope name ty sets = λ i. record { theory = old.library.recorder.theory; variables = λ other. sets.variables other i; theorems = λ other. theorem_of ((stored_of old.library.store).theorems other) }
+var_state old scope name ty sets = λ i.
+    record { theory = old.library.recorder.theory; variables = λ other. sets.variables other i; theorems = λ other.
+    theorem_of ((stored_of old.library.store).theorems other) }
 
 pub var_session : (old : Session) (scope : ScopeHere) (name : List ℕ) (ty : HolType) → IsSession old → knows_type old.library.recorder.theory ty ≡ true
     → SetsVariable (scope_of old.scope) (scope_of scope) name ty → IsSession (made old old.library.recorder scope)
@@ -405,7 +409,8 @@ type_session old grown scope name stay known sets outcome is_grown =
 
 -- ---- declared constants
 
-pub const_session : (old : Session) (grown : Journal) (scope : ScopeHere) (name : List ℕ) (ty : HolType) → LibrariesGrow → IsSession old → SetsConstant (scope_of old.scope) (scope_of scope) name (Some ty)
+pub const_session : (old : Session) (grown : Journal) (scope : ScopeHere) (name : List ℕ) (ty : HolType) → LibrariesGrow → IsSession old
+    → SetsConstant (scope_of old.scope) (scope_of scope) name (Some ty)
     → new_const_outcome old.library.recorder.theory name ty ≡ Ok grown.theory → IsGrown old.library.recorder grown → IsSession (made old grown scope)
 const_session old grown scope name ty stay known sets outcome is_grown =
     let theory = old.library.recorder.theory in
@@ -442,7 +447,8 @@ def-argument_refused state name tree fault meant = ap (λ (r : Result NamedTerm 
 
 -- the session of a definition: the old one, the scope with the constant, and what `define` made of them
 module _ (old new : Session) (scope : ScopeHere) (name : List ℕ) (term : NamedTerm) (ty : HolType) (line : TheoremLine) where
-  pub def_session : LibrariesGrow → IsSession old → type_of term ≡ Some ty → SetsConstant (scope_of old.scope) (scope_of scope) name (Some ty) → Defines (made old old.library.recorder scope) new name term line → IsSession new
+  pub def_session : LibrariesGrow → IsSession old → type_of term ≡ Some ty → SetsConstant (scope_of old.scope) (scope_of scope) name (Some ty)
+      → Defines (made old old.library.recorder scope) new name term line → IsSession new
   def_session stay known typed sets d =
       let theory = old.library.recorder.theory in
       let grown : d.answer.theorem.theory ≡ definition name (own_type term) (image term) ∷ theory = definition-accepted theory name term d.answer.theorem d.outcome in

@@ -43,7 +43,8 @@ later_grown old new theory entry grown same = subst (IsLaterLibrary old) (sym sa
     (later_by old (over_theory old theory) (earlier-more entry old.theory theory grown) (grown-keeps old theory entry grown))
 
 -- a definition, whose theorem is stored
-pub later_defined : (old new : State) (name : List ℕ) (term : NamedTerm) (theorem : Theorem) → define_outcome old.theory name term ≡ Ok theorem → new ≡ with_definition old name theorem → IsLaterLibrary old new
+pub later_defined : (old new : State) (name : List ℕ) (term : NamedTerm) (theorem : Theorem) → define_outcome old.theory name term ≡ Ok theorem
+    → new ≡ with_definition old name theorem → IsLaterLibrary old new
 later_defined old new name term theorem outcome same = subst (IsLaterLibrary old) (sym same)
     (later_by old (with_definition old name theorem) (earlier-more (definition name (own_type term) (image term)) old.theory theorem.theory (definition-accepted old.theory name term theorem outcome))
     (defined-keeps old name term theorem outcome))

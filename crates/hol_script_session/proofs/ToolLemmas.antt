@@ -10,7 +10,9 @@ use Rattle.hol_model.specs.Goals.GoalStates.{Expansion}
 use Rattle.hol_model.specs.Texts.Reading.{Scope}
 use Rattle.hol_model.specs.Texts.TermGrammar.{TermTree}
 use Rattle.hol_model_sessions.specs.TacticGrammar.{Tactic}
-use Rattle.hol_model_sessions.specs.CommandGrammar.{TheoremTree, by_rule, by_tautology, by_conversion, CommandTree, var_command, newtype_command, newconst_command, def_command, thm_command, show_command, goal_command, e_command, b_command, p_command, r_command, save_command}
+use Rattle.hol_model_sessions.specs.CommandGrammar.{TheoremTree, by_rule, by_tautology, by_conversion, CommandTree, var_command, newtype_command}
+use Rattle.hol_model_sessions.specs.CommandGrammar.{newconst_command, def_command, thm_command, show_command, goal_command, e_command, b_command}
+use Rattle.hol_model_sessions.specs.CommandGrammar.{p_command, r_command, save_command}
 use Rattle.hol_model_sessions.specs.Sessions.{is_theorem_name}
 use Rattle.hol_model_sessions.specs.Replies.{Reply, Refusal, refusal_of}
 use Rattle.hol_model_sessions.specs.ScriptSessions.{State, Tools, Accepted, Outcome, Plainly, WithRow, stores, IsTheoremAnswer, IsExpansion, IsRefined, May}

@@ -10,7 +10,9 @@ pub passes_twice-requires-clause-store : goal.passes_twice-requires-clause-store
 passes_twice-requires-clause-store c = store-stays c.args.recorder.now c.passes_once.new.recorder (stored_of c.args.store.now) c.passes_once.ensures.grown c.requires.store
 
 pub returns-in-Err-clause-answer : goal.returns-in-Err-clause-answer
-returns-in-Err-clause-answer c = fails-once c.args.recorder.now.theory (theorems_in (stored_of c.args.store.now)) (goal_of c.args.goal.now) (step_of c.args.step.now) c.in-Err.fault c.in-Err.ensures.answer
+returns-in-Err-clause-answer c =
+    fails-once c.args.recorder.now.theory (theorems_in (stored_of c.args.store.now)) (goal_of c.args.goal.now)
+    (step_of c.args.step.now) c.in-Err.fault c.in-Err.ensures.answer
 
 pub returns-in-Err-passes_twice-clause-answer : goal.returns-in-Err-passes_twice-clause-answer
 returns-in-Err-passes_twice-clause-answer c =
@@ -19,7 +21,8 @@ returns-in-Err-passes_twice-clause-answer c =
 
 pub returns-clause-answer : goal.returns-clause-answer
 returns-clause-answer c =
-    acceptable c.args.recorder.now.theory (theorems_in (stored_of c.args.store.now)) (goal_of c.args.goal.now) (step_of c.args.step.now) c.in-Ok.ensures.answer (rw c.in-Ok.ensures.theory at c.in-Ok-passes_twice.ensures.answer)
+    acceptable c.args.recorder.now.theory (theorems_in (stored_of c.args.store.now)) (goal_of c.args.goal.now)
+        (step_of c.args.step.now) c.in-Ok.ensures.answer (rw c.in-Ok.ensures.theory at c.in-Ok-passes_twice.ensures.answer)
 
 pub returns-clause-valid : goal.returns-clause-valid
 returns-clause-valid c =

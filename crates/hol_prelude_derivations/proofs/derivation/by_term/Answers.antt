@@ -12,4 +12,5 @@ pub returns-clause-goes_on : goal.returns-clause-goes_on
 returns-clause-goes_on c =
     let theory = c.args.recorder.now.theory in
     let term = c.in_ok-term.term in
-    outcome-goes_on c.assume.result c.args.recorder.now c.assume.new.self _ (assume_outcome theory term) (assume-stands theory term) c.assume.ensures.outcome c.assume.ensures.recorded c.assume.ensures.kept
+    outcome-goes_on c.assume.result c.args.recorder.now c.assume.new.self _ (assume_outcome theory term)
+        (assume-stands theory term) c.assume.ensures.outcome c.assume.ensures.recorded c.assume.ensures.kept

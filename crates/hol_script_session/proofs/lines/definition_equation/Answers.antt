@@ -9,4 +9,5 @@ returns-in-Ok-mk_eq c =
     equation_answered c.args.name.now c.ty.result.now c.args.term.now c.in-Ok.constant c.in-Ok-mk_eq.equation c.ty.ensures c.in-Ok.ensures.outcome c.in-Ok-mk_eq.ensures.outcome
 
 pub returns : goal.returns
-returns c = large_equation c.no_equation-in-Err-mk_eq.result c.in-Err-mk_eq.fault c.args.name.now c.ty.result.now c.args.term.now c.in-Ok.constant c.ty.ensures c.in-Ok.ensures.outcome c.no_equation-in-Err-mk_eq.ensures c.in-Err-mk_eq.ensures.outcome
+returns c = large_equation c.no_equation-in-Err-mk_eq.result c.in-Err-mk_eq.fault c.args.name.now c.ty.result.now c.args.term.now c.in-Ok.constant
+    c.ty.ensures c.in-Ok.ensures.outcome c.no_equation-in-Err-mk_eq.ensures c.in-Err-mk_eq.ensures.outcome

@@ -11,8 +11,14 @@ pub loop-name-preserved : goal.loop-name-preserved
 loop-name-preserved c =
     let stored = (stored_of c.args.store.now).theorems in
     elim c.match-get.branch [
-      | in-Some+in_ok-push w ↦ rw w.claims-is (further_claims stored c.args.names.now c.loop-name.name-index c.name-item.result c.as_str-name.result.now (Some w.in-Some.theorem.now) (claims_of c.loop-name.claims.items) _ c.loop-name-test.true c.name-item.is
+      | in-Some+in_ok-push w ↦ rw w.claims-is
+          (further_claims stored c.args.names.now c.loop-name.name-index c.name-item.result c.as_str-name.result.now (Some w.in-Some.theorem.now)
+          (claims_of c.loop-name.claims.items) _ c.loop-name-test.true c.name-item.is
           c.as_str-name.ensures.value (sym w.in-Some.ensures.found) c.loop-name.invariant (pushed_claim c.loop-name.claims.items w.push.new.self.items _ w.in_ok-push.ensures.items))
-      | in_default w ↦ rw w.claims-is (further_claims stored c.args.names.now c.loop-name.name-index c.name-item.result c.as_str-name.result.now None (claims_of c.loop-name.claims.items) _ c.loop-name-test.true c.name-item.is
-          c.as_str-name.ensures.value (sym c.get.ensures.found ∙ ap (option_map (λ (made : Bor Recorded). made.now)) w.in_default.is) c.loop-name.invariant (sym (append-nil (claims_of c.loop-name.claims.items))))
+      | in_default w ↦ rw w.claims-is
+          (further_claims stored c.args.names.now c.loop-name.name-index c.name-item.result c.as_str-name.result.now None
+          (claims_of c.loop-name.claims.items) _ c.loop-name-test.true c.name-item.is
+          c.as_str-name.ensures.value (sym c.get.ensures.found
+              ∙ ap (option_map (λ (made : Bor Recorded). made.now)) w.in_default.is) c.loop-name.invariant
+              (sym (append-nil (claims_of c.loop-name.claims.items))))
     ]

@@ -40,4 +40,6 @@ returns-clause-ok c =
     }
 
 pub returns-clause-lemmas : goal.returns-clause-lemmas
-returns-clause-lemmas c = same_lemmas c.args.self.now (record c.args.self.now { library = record c.args.self.now.library { store = c.put_made.new.self } }) (c.put_made.ensures.stored.lemmas ∙ c.room.ensures.kept.lemmas)
+returns-clause-lemmas c = same_lemmas c.args.self.now
+    (record c.args.self.now { library = record c.args.self.now.library { store = c.put_made.new.self } })
+    (c.put_made.ensures.stored.lemmas ∙ c.room.ensures.kept.lemmas)

@@ -40,7 +40,8 @@ returns-in-Err-clause-later c = later_as (state_of c.args.self.now) (state_of c.
 pub returns-in-Ok-set_var-clause-later : goal.returns-in-Ok-set_var-clause-later
 returns-in-Ok-set_var-clause-later c =
     let old = c.args.self.now in
-    later_var (state_of old) (state_of (made old old.library.recorder c.set_var.new.self)) c.args.name.now c.in-Ok.ty (var_state old c.set_var.new.self c.args.name.now c.in-Ok.ty c.in-Ok-set_var.ensures.ok)
+    later_var (state_of old) (state_of (made old old.library.recorder c.set_var.new.self)) c.args.name.now c.in-Ok.ty
+        (var_state old c.set_var.new.self c.args.name.now c.in-Ok.ty c.in-Ok-set_var.ensures.ok)
 
 pub returns-clause-later : goal.returns-clause-later
 returns-clause-later c =
