@@ -9,8 +9,6 @@ use Rattle.hol_journal.specs.Steps.{Step, JournalEntry, derived_sequent, sequent
 use Rattle.hol_journal.specs.Steps as steps
 use Rattle.hol_journal.specs.Lines.{Gives}
 use Rattle.hol_journal.specs.Journal.{Journal, Recorded, added_by, grown_by, HasTheorem, KnowsParts, Follows, IsEntryAfter, IsJournal, IsMade}
-use Rattle.hol_journal.specs.Views.{entry_of, entries_of}
-use Rattle.hol_journal.specs.declared.entry.Entry.{Entry}
 use Rattle.hol_journal.proofs.Showing.{IsCited}
 
 not_empty : {A : Type 0} (before : List A) (x : A) (after : List A) → [] ≡ before ++ x ∷ after → ⊥
@@ -34,10 +32,6 @@ split_last (a ∷ xs) x (b ∷ before) y after is =
 pub grown_by-last : (theory : Theory) (entries : List JournalEntry) (entry : JournalEntry) → grown_by theory (entries ++ entry ∷ []) ≡ added_by entry ++ grown_by theory entries
 grown_by-last theory [] entry = refl
 grown_by-last theory (first ∷ entries) entry = grown_by-last (added_by first ++ theory) entries entry
-
-pub entries_of-last : (entries : List Entry) (entry : Entry) → entries_of (entries ++ entry ∷ []) ≡ entries_of entries ++ entry_of entry ∷ []
-entries_of-last [] entry = refl
-entries_of-last (first ∷ entries) entry = ap (λ l. entry_of first ∷ l) (entries_of-last entries entry)
 
 pub journal-start : IsJournal (record { theory = []; entries = [] })
 journal-start = record {

@@ -10,3 +10,4 @@ pub mod StoredLemmas
 pub mod GrowthLemmas
 pub mod Places
 pub mod KeptLemmas
+pub mod NumberedLemmas

@@ -27,7 +27,7 @@ use Rattle.hol_journal.proofs.JournalLemmas.{IsNextEntry, journal-stored}
 use Rattle.hol_journal.proofs.FollowLemmas.{define-follows}
 
 -- a rule adds nothing to the theory
-rule_adds_nothing : (rule : Rule) (sequent : Sequent) → added_by (derived (step_of rule) sequent) ≡ []
+pub rule_adds_nothing : (rule : Rule) (sequent : Sequent) → added_by (derived (step_of rule) sequent) ≡ []
 rule_adds_nothing (Refl term) sequent = refl
 rule_adds_nothing (Trans first second) sequent = refl
 rule_adds_nothing (MkComb first second) sequent = refl

@@ -8,4 +8,5 @@ pub mod JournalCode
 pub mod Growth
 pub mod Kept
 pub mod KeptCode
+pub mod Stored
 pub mod KeptViews

@@ -1,5 +1,5 @@
 -- What the entries that a recorder stores stand for.
-use Rattle.std.specs.Prelude.{List, [], map}
+use Rattle.std.specs.Prelude.{[]}
 use Rattle.std.specs.String.{string_bytes}
 use Rattle.hol_model.specs.Terms.NamedTerm.{constant, equation}
 use Rattle.hol_model.specs.Terms.Nameless.{image}
@@ -31,6 +31,3 @@ entry_of (Derived rule theorem) = derived (step_of rule) (sequent_of_theorem the
 entry_of (Defined name term) = derived (steps.by_definition (string_bytes name) term) (record { hypotheses = []; conclusion = image (equation (constant (string_bytes name) (own_type term)) term) })
 entry_of (DeclaredType name) = declared_type (string_bytes name)
 entry_of (DeclaredConstant name ty) = declared_constant (string_bytes name) ty
-
-abbrev pub entries_of : List Entry → List JournalEntry
-entries_of entries = map entry_of entries

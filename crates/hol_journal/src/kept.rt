@@ -1,8 +1,10 @@
 // The entries of a recorder: all of them for proofs, and those that are kept.
-ghost use Rattle.std.specs.Prelude.{◌≡◌, [], ◌∷◌, ◌++◌, true, length, IfErr, IfSome, OnOk, OnErr};
+ghost use Rattle.std.specs.Prelude.{◌≡◌, List, [], ◌∷◌, ◌++◌, true, length, IfOk, IfErr, OnOk, OnErr, IsTrue};
 ghost use Rattle.hol_model.specs.declared.fault.Fault.TheVariants.{Memory};
-ghost use Rattle.hol_journal.specs.Steps.{derived, sequent_of_theorem};
-ghost use Rattle.hol_journal.specs.Views.{step_of, entry_of, entries_of};
+ghost use Rattle.hol_journal.specs.Steps.{JournalEntry, derived, sequent_of_theorem};
+ghost use Rattle.hol_journal.specs.Journal.{added_by};
+ghost use Rattle.hol_journal.specs.Views.{step_of, entry_of};
+ghost use Rattle.hol_journal.specs.Stored.{AreKept, IsStored};
 
 use crate::entry::{Entry, Rule};
 use crate::trail::Trail;
@@ -11,11 +13,80 @@ use hol_model::Fault;
 use std::alloc::Global;
 use std::marker::Model;
 
-/// How many entries there are, the entries where they are kept, and the entries as proofs see them.
+/// An entry, and its number.
+#[derive(Drop)]
+pub(crate) struct Numbered {
+    number: usize,
+    entry: Entry,
+}
+
+// The entry of a number, where it is among these.
+fn found(kept: &[Numbered], number: usize) -> Option<&Entry>
+    ensures { (entries : List JournalEntry) → AreKept 0 entries kept.now → IsStored entries number result }
+{
+    let place = kept.partition_point(|one| one.number < number);
+    let Some(one) = kept.get(place) else {
+        return None;
+    };
+    if one.number != number {
+        return None;
+    }
+    Some(&one.entry)
+}
+
+// Drops the last ones from this number on, with the room that they took.
+fn give_back(kept: &mut Vec<Numbered>, mark: usize)
+    ensures { (entries : List JournalEntry) → AreKept 0 entries kept.old.items → AreKept 0 entries kept.new.items }
+{
+    drop_rules(kept, mark);
+    shrink(kept);
+}
+
+// Frees room of which less than a quarter is taken.
+fn shrink(kept: &mut Vec<Numbered>)
+    ensures { kept.new.items ≡ kept.old.items }
+{
+    if kept.len() < kept.capacity() / 4 {
+        kept.shrink_to_fit();
+    }
+}
+
+// Drops the last ones from this number on, back to one that is no rule's.
+fn drop_rules(kept: &mut Vec<Numbered>, mark: usize)
+    ensures { (entries : List JournalEntry) → AreKept 0 entries kept.old.items → AreKept 0 entries kept.new.items }
+{
+    for _ in 0..kept.len() {
+        if !ends_with_rule(kept, mark) {
+            return;
+        }
+        kept.pop();
+    }
+}
+
+// Whether the last one is a rule's, and has this number or a later one.
+fn ends_with_rule(kept: &[Numbered], mark: usize) -> bool
+    ensures { IsTrue result → (front : List Numbered) (one : Numbered) → kept.now ≡ front ++ one ∷ [] → added_by (entry_of one.entry) ≡ [] }
+{
+    match kept.last() {
+        Some(last) => mark <= last.number && is_of_rule(&last.entry),
+        None => false,
+    }
+}
+
+// Whether the entry is a rule's.
+#[tactic(auto, using(crate::proofs::StoredLemmas::rule_adds_nothing))]
+fn is_of_rule(entry: &Entry) -> bool
+    ensures { IsTrue result → added_by (entry_of entry.now) ≡ [] }
+{
+    matches!(entry, Entry::Derived(_, _))
+}
+
+/// How many entries there are, those that are kept, where any are, and the entries as proofs see them.
 #[derive(Drop)]
 pub(crate) struct KeptEntries {
     count: usize,
-    kept: Option<Vec<Entry>>,
+    // In the order of their numbers.
+    kept: Option<Vec<Numbered>>,
     trail: Trail,
 }
 
@@ -52,13 +123,14 @@ impl KeptEntries {
         self.count
     }
 
-    /// The entries, where they are kept.
-    pub(crate) fn stored(&self) -> Option<&[Entry]>
-        ensures { IfSome result (λ stored. entries_of stored.now ≡ self.now.entries) }
+    /// The entry of this number, if it is kept. Refusal: Memory, where none is to be.
+    pub(crate) fn stored(&self, number: usize) -> Result<Option<&Entry>, Fault>
+        ensures ok { IfOk result (IsStored self.now.entries number) }
+        ensures err { IfErr result (λ fault. fault ≡ Memory) }
     {
         match &self.kept {
-            Some(kept) => Some(kept),
-            None => None,
+            Some(kept) => Ok(found(kept, number)),
+            None => Err(Fault::Memory),
         }
     }
 
@@ -67,6 +139,15 @@ impl KeptEntries {
         ensures { self.new.entries ≡ self.old.entries }
     {
         self.kept = None;
+    }
+
+    /// Lets go of the last entries from this number on, back to one that is no rule's.
+    pub(crate) fn give_back(&mut self, mark: usize)
+        ensures { self.new.entries ≡ self.old.entries }
+    {
+        if let Some(kept) = &mut self.kept {
+            give_back(kept, mark);
+        }
     }
 
     /// Room for one entry more.
@@ -92,9 +173,11 @@ impl KeptEntries {
         ensures { self.new.entries ≡ self.old.entries ++ entry_of entry ∷ [] }
     {
         self.trail = self.trail.with(&entry);
+        let number = self.count;
         self.count += 1;
-        if let Some(kept) = &mut self.kept {
-            kept.push_reserved(entry);
+        match &mut self.kept {
+            Some(kept) => kept.push_reserved(Numbered { number, entry }),
+            None => drop(entry),
         }
     }
 
@@ -112,13 +195,17 @@ impl KeptEntries {
         if self.count == usize::MAX {
             return Err(Fault::Memory);
         }
+        let number = self.count;
         let trail = self.trail.with_step(&rule, theorem);
         if let Some(kept) = &mut self.kept {
             let copy = theorem.copy(alloc)?;
             if kept.reserve(1).is_err() {
                 return Err(Fault::Memory);
             }
-            kept.push_reserved(Entry::Derived(rule, copy));
+            kept.push_reserved(Numbered {
+                number,
+                entry: Entry::Derived(rule, copy),
+            });
         }
         self.trail = trail;
         self.count += 1;

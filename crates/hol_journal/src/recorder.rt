@@ -1,5 +1,5 @@
 // The recorder.
-ghost use Rattle.std.specs.Prelude.{◌≡◌, [], ◌∷◌, ◌++◌, true, None, length, IfOk, IfErr, IfSome, OnErr, OnOk};
+ghost use Rattle.std.specs.Prelude.{◌≡◌, [], ◌∷◌, ◌++◌, true, None, length, IfOk, IfErr, OnErr, OnOk};
 ghost use Rattle.hol_model.specs.Kernel.Instantiation as instance;
 ghost use Rattle.hol_model.specs.Kernel.NamedAxioms as axioms;
 ghost use Rattle.hol_model.specs.Kernel.Outcome.{Answers, AnswersSuch};
@@ -13,7 +13,8 @@ ghost use Rattle.hol_journal.specs.Steps as steps;
 ghost use Rattle.hol_journal.specs.Steps.{sequent_of_theorem};
 ghost use Rattle.hol_journal.specs.Journal.{IsJournal, IsMade, IsRecorded, Follows, theorem_in};
 ghost use Rattle.hol_journal.specs.Growth.{IsGrown};
-ghost use Rattle.hol_journal.specs.Views.{step_of, entries_of};
+ghost use Rattle.hol_journal.specs.Views.{step_of};
+ghost use Rattle.hol_journal.specs.Stored.{IsStored};
 
 use crate::entry::{Entry, Rule};
 use crate::kept::KeptEntries;
@@ -113,12 +114,21 @@ impl Recorder {
         self.entries.len()
     }
 
-    /// The entries, where they are kept.
-    pub fn stored(&self) -> Option<&[Entry]>
-        ensures value { IfSome result (λ stored. entries_of stored.now ≡ self.now.entries) }
+    /// The entry of this number, if it is kept; one that is not adds nothing to the theory. Refusal: Memory, after `forget`.
+    pub fn stored(&self, number: usize) -> Result<Option<&Entry>, Fault>
+        ensures ok { IfOk result (IsStored self.now.entries number) }
+        ensures err { IfErr result (λ fault. fault ≡ Memory) }
         ensures journal { IsJournal self.now }
     {
-        self.entries.stored()
+        self.entries.stored(number)
+    }
+
+    /// Lets go of the entries from this number on, from the last one back to one that is no rule's. A log that needs one of
+    /// them is refused for want of memory.
+    pub fn give_back(&mut self, mark: usize)
+        ensures { self.new ≡ self.old }
+    {
+        self.entries.give_back(mark);
     }
 
     /// From here on no entry is kept, and none that was.
