@@ -46,7 +46,8 @@ declared_type-legal theory legal name named new =
     let entry : IsLegalType theory name = record { is_name = named; is_new = new_name-IsNewName theory name new } in
     (entry, legal)
 
-pub declared_constant-legal : (theory : Theory) → IsLegal theory → (name : List ℕ) (ty : HolType) → is_constant_name name ≡ true → knows_type theory ty ≡ true → is_fixed ty ≡ true → is_new_name theory name ≡ true
+pub declared_constant-legal : (theory : Theory) → IsLegal theory → (name : List ℕ) (ty : HolType) → is_constant_name name ≡ true
+    → knows_type theory ty ≡ true → is_fixed ty ≡ true → is_new_name theory name ≡ true
     → IsLegal (declaration_of_constant name ty ∷ theory)
 declared_constant-legal theory legal name ty named known fixed new =
     let entry : IsLegalConstant theory name ty = record {

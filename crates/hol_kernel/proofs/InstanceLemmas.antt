@@ -70,7 +70,8 @@ passes_inst theory theta none =
     go (replaces_variables theta) refl (keeps_types theta) refl (list_all (λ pair. knows_types theory pair.0) theta) refl
     (list_all (λ pair. knows_constants theory pair.0) theta) (list_all (λ pair. has_instances theory pair.0) theta) refl none
   where
-    go : (variables : Bool) → replaces_variables theta ≡ variables → (keeps : Bool) → keeps_types theta ≡ keeps → (types : Bool) → list_all (λ pair. knows_types theory pair.0) theta ≡ types → (constants instances : Bool)
+    go : (variables : Bool) → replaces_variables theta ≡ variables → (keeps : Bool) → keeps_types theta ≡ keeps → (types : Bool)
+        → list_all (λ pair. knows_types theory pair.0) theta ≡ types → (constants instances : Bool)
         → list_all (λ pair. has_instances theory pair.0) theta ≡ instances
         → (if not variables then Some Fault.NotVariable else (if not keeps then Some Fault.TypeMismatch else (if not types then Some Fault.UnknownType
         else (if not constants then Some Fault.UnknownConst else (if not instances then Some Fault.NotInstance else None))))) ≡ None → PassesInst theory theta
@@ -84,7 +85,9 @@ passes_inst theory theta none =
 -- the pairs are of types and known
 pub known_types : (theory : Theory) (theta : List (HolType × HolType)) → list_all (λ pair. knows_type theory pair.0) theta ≡ true → (name : List ℕ) → IsKnownType theory (type_instance_of theta name)
 known_types theory [] known name = tt
-known_types theory (pair ∷ rest) known name = go (type_eq pair.1 (type_variable name)) (known_types theory rest (second_of_both (knows_type theory pair.0) (list_all (λ p. knows_type theory p.0) rest) known) name)
+known_types theory (pair ∷ rest) known name =
+    go (type_eq pair.1 (type_variable name))
+    (known_types theory rest (second_of_both (knows_type theory pair.0) (list_all (λ p. knows_type theory p.0) rest) known) name)
   where
     go : (test : Bool) → IsKnownType theory (type_instance_of rest name)
         → IsKnownType theory (option_map_or (λ p. p.0) (if◌then◌else◌ {A = Option (HolType × HolType)} test (Some pair) (find (λ p. type_eq p.1 (type_variable name)) rest)) (type_variable name))

@@ -26,7 +26,8 @@ know-constants theory theta = list_all (λ pair. knows_constants theory pair.0) 
 abbrev have-instances : Theory → List (NamedTerm × NamedTerm) → Bool
 have-instances theory theta = list_all (λ pair. has_instances theory pair.0) theta
 
-all-known : (theory : Theory) (theta : List (NamedTerm × NamedTerm)) → list_all (λ pair. is_known theory pair.0) theta ≡ know-types theory theta && know-constants theory theta && have-instances theory theta
+all-known : (theory : Theory) (theta : List (NamedTerm × NamedTerm)) → list_all (λ pair. is_known theory pair.0) theta ≡ know-types theory theta
+    && know-constants theory theta && have-instances theory theta
 all-known theory [] = refl
 all-known theory (pair ∷ rest) =
     ap (λ b. is_known theory pair.0 && b) (all-known theory rest)

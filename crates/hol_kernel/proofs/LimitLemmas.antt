@@ -82,7 +82,8 @@ abstraction-limited _ body name ty is = cc
 pub concluded-refused : (theory : Theory) (hypotheses : List NamedTerm) (conclusion : NamedTerm) (fault : Fault) → limited conclusion ≡ Err fault → concluded theory hypotheses conclusion ≡ Err fault
 concluded-refused theory hypotheses conclusion fault refused = go (is_within_limits conclusion) refused
   where
-    go : (test : Bool) → unless test TooLarge (Ok conclusion) ≡ Err fault → unless {A = Theorem} test TooLarge (Ok (record { theory = theory; hypotheses = hypotheses; conclusion = conclusion })) ≡ Err fault
+    go : (test : Bool) → unless test TooLarge (Ok conclusion) ≡ Err fault
+        → unless {A = Theorem} test TooLarge (Ok (record { theory = theory; hypotheses = hypotheses; conclusion = conclusion })) ≡ Err fault
     go true refused = cc
     go false refused = let same : TooLarge ≡ fault = cc in ap Err same
 
@@ -91,7 +92,8 @@ pub concluded-made : (theory : Theory) (hypotheses : List NamedTerm) (conclusion
 concluded-made theory hypotheses conclusion made is = go (is_within_limits conclusion) is
   where
     go : (test : Bool) → unless test TooLarge (Ok conclusion) ≡ Ok made
-        → unless {A = Theorem} test TooLarge (Ok (record { theory = theory; hypotheses = hypotheses; conclusion = conclusion })) ≡ Ok (record { theory = theory; hypotheses = hypotheses; conclusion = conclusion })
+        → unless {A = Theorem} test TooLarge (Ok (record { theory = theory; hypotheses = hypotheses; conclusion = conclusion })) ≡ Ok
+            (record { theory = theory; hypotheses = hypotheses; conclusion = conclusion })
     go true is = refl
     go false is = cc
 
@@ -128,7 +130,8 @@ applied function argument made answered = go (type_of (combination function argu
 pub mk_comb-refused : (theory : Theory) (first second : Theorem) (f g x y : NamedTerm) (fault : Fault) → dest_equation first.conclusion ≡ Some (f, g) → dest_equation second.conclusion ≡ Some (x, y)
     → unless (is_some (type_of (combination f x))) TypeMismatch (limited (combination f x)) ≡ Err fault → mk_comb_outcome theory first second ≡ Err fault
 mk_comb-refused theory first second f g x y fault dest_first dest_second refused =
-    rw (dest_first, dest_second) (go (is_some (type_of (combination f x))) (concluded-left theory (with_hypotheses first.hypotheses second.hypotheses) (combination f x) (combination g y) fault) refused)
+    rw (dest_first, dest_second) (go (is_some (type_of (combination f x)))
+        (concluded-left theory (with_hypotheses first.hypotheses second.hypotheses) (combination f x) (combination g y) fault) refused)
   where
     go : (typed : Bool) → (limited (combination f x) ≡ Err fault → concluded theory (with_hypotheses first.hypotheses second.hypotheses) (equation (combination f x) (combination g y)) ≡ Err fault)
         → unless typed TypeMismatch (limited (combination f x)) ≡ Err fault

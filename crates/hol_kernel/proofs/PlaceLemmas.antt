@@ -57,7 +57,8 @@ place-there (x ∷ xs) term (suc index) ordered within there =
     ap (λ o. by_order o (Err 0) (Ok 0) (one_further (place_in xs term))) (reversed (image x) (image term) Less less)
     ∙ ap one_further (place-there xs term index ordered.1 (omega (arith, within)) there)
 
-place-between : (xs : List NamedTerm) (term : NamedTerm) (index : ℕ) → index ≤ length xs → IsPartitionPoint (λ y. compared term y ≡ Less) (λ y. compared term y ≡ Greater) xs index → place_in xs term ≡ Err index
+place-between : (xs : List NamedTerm) (term : NamedTerm) (index : ℕ) → index ≤ length xs
+    → IsPartitionPoint (λ y. compared term y ≡ Less) (λ y. compared term y ≡ Greater) xs index → place_in xs term ≡ Err index
 place-between [] term zero within parted = refl
 place-between [] term (suc index) within parted = absurd (omega (arith, within))
 place-between (x ∷ xs) term zero within parted =
@@ -166,27 +167,32 @@ with_old-place (y ∷ ys) old more ordered = go (nameless_cmp (image old) (image
 
 -- steps of a merge
 
-pub new_put-there : (xs : List NamedTerm) (new : NamedTerm) (index : ℕ) (all : List NamedTerm) → AreOrdered xs → Ok index ≡ place_in xs new → IsNewPut xs new all (all ++ take (index + 1) xs) (drop (index + 1) xs)
+pub new_put-there : (xs : List NamedTerm) (new : NamedTerm) (index : ℕ) (all : List NamedTerm) → AreOrdered xs → Ok index ≡ place_in xs new
+    → IsNewPut xs new all (all ++ take (index + 1) xs) (drop (index + 1) xs)
 new_put-there xs new index all ordered there = rw add-one (record {
   ordered = ordered-drop (suc index) xs ordered;
-  goes = λ more behind. append_assoc all (take (suc index) xs) (with_hypotheses (drop (suc index) xs) more) ∙ ap (λ l. all ++ l) (sym (with_new-place xs new more behind ∙ ap (with_new xs new more) (sym there)));
+  goes = λ more behind. append_assoc all (take (suc index) xs) (with_hypotheses (drop (suc index) xs) more)
+      ∙ ap (λ l. all ++ l) (sym (with_new-place xs new more behind ∙ ap (with_new xs new more) (sym there)));
 })
 
-pub new_put-between : (xs : List NamedTerm) (new : NamedTerm) (index : ℕ) (all : List NamedTerm) → AreOrdered xs → Err index ≡ place_in xs new → IsNewPut xs new all ((all ++ take index xs) ++ new ∷ []) (drop index xs)
+pub new_put-between : (xs : List NamedTerm) (new : NamedTerm) (index : ℕ) (all : List NamedTerm) → AreOrdered xs → Err index ≡ place_in xs new
+    → IsNewPut xs new all ((all ++ take index xs) ++ new ∷ []) (drop index xs)
 new_put-between xs new index all ordered between = record {
   ordered = ordered-drop index xs ordered;
   goes = λ more behind. append_assoc (all ++ take index xs) (new ∷ []) (with_hypotheses (drop index xs) more) ∙ append_assoc all (take index xs) (new ∷ with_hypotheses (drop index xs) more)
       ∙ ap (λ l. all ++ l) (sym (with_new-place xs new more behind ∙ ap (with_new xs new more) (sym between)));
 }
 
-pub old_put-there : (ys : List NamedTerm) (old : NamedTerm) (index : ℕ) (all : List NamedTerm) → AreOrdered ys → Ok index ≡ place_in ys old → IsOldPut ys old all ((all ++ take index ys) ++ old ∷ []) (drop (index + 1) ys)
+pub old_put-there : (ys : List NamedTerm) (old : NamedTerm) (index : ℕ) (all : List NamedTerm) → AreOrdered ys → Ok index ≡ place_in ys old
+    → IsOldPut ys old all ((all ++ take index ys) ++ old ∷ []) (drop (index + 1) ys)
 old_put-there ys old index all ordered there = rw add-one (record {
   ordered = ordered-drop (suc index) ys ordered;
   goes = λ more. append_assoc (all ++ take index ys) (old ∷ []) (with_hypotheses more (drop (suc index) ys)) ∙ append_assoc all (take index ys) (old ∷ with_hypotheses more (drop (suc index) ys))
       ∙ ap (λ l. all ++ l) (sym (with_old-place ys old more ordered ∙ ap (with_old ys old more) (sym there)));
 })
 
-pub old_put-between : (ys : List NamedTerm) (old : NamedTerm) (index : ℕ) (all : List NamedTerm) → AreOrdered ys → Err index ≡ place_in ys old → IsOldPut ys old all ((all ++ take index ys) ++ old ∷ []) (drop index ys)
+pub old_put-between : (ys : List NamedTerm) (old : NamedTerm) (index : ℕ) (all : List NamedTerm) → AreOrdered ys → Err index ≡ place_in ys old
+    → IsOldPut ys old all ((all ++ take index ys) ++ old ∷ []) (drop index ys)
 old_put-between ys old index all ordered between = record {
   ordered = ordered-drop index ys ordered;
   goes = λ more. append_assoc (all ++ take index ys) (old ∷ []) (with_hypotheses more (drop index ys)) ∙ append_assoc all (take index ys) (old ∷ with_hypotheses more (drop index ys))

@@ -1,5 +1,6 @@
 -- What each rule answers is a theorem.
-use Rattle.std.proofs.Common.{◌≡◌, ◌⊎◌, ℕ, List, [], ◌∷◌, ◌++◌, map, Bool, true, false, ◌&&◌, ◌||◌, not, refl, sym, ◌∙◌, ap, subst, inl, inr, Option, Some, None, Result, Ok, Err, IfOk, IfErr, if◌then◌else◌}
+use Rattle.std.proofs.Common.{◌≡◌, ◌⊎◌, ℕ, List, [], ◌∷◌, ◌++◌, map, Bool, true, false, ◌&&◌, ◌||◌, not, refl, sym, ◌∙◌, ap, subst, inl, inr, Option}
+use Rattle.std.proofs.Common.{Some, None, Result, Ok, Err, IfOk, IfErr, if◌then◌else◌}
 use Rattle.std.specs.Option.{option_map, option_map_or}
 use Rattle.std.specs.Str.{bytes_eq}
 use Rattle.std.proofs.lemmas.Slice.Eq.{bytes_eq-Decides}
@@ -23,7 +24,8 @@ use Rattle.hol_model.proofs.Logic.KnownTerms.{image-known, knows_type-IsKnownTyp
 use Rattle.hol_model.specs.Kernel.NamedAxioms.{eta_conclusion, select_hypothesis, select_conclusion}
 use Rattle.hol_model.specs.Kernel.Outcome.{Answers}
 use Rattle.hol_model.specs.Kernel.Theorem.{Theorem, IsTheorem, are_alpha_equivalent, with_hypotheses, without_hypothesis}
-use Rattle.hol_model.specs.Kernel.Rules.{first_unknown, dest_equation, dest_trivial_redex, is_formula, is_free_in_hypotheses, concluded, assume_outcome, mk_comb_outcome, abs_outcome, trans_outcome, eq_mp_outcome}
+use Rattle.hol_model.specs.Kernel.Rules.{first_unknown, dest_equation, dest_trivial_redex, is_formula, is_free_in_hypotheses, concluded}
+use Rattle.hol_model.specs.Kernel.Rules.{assume_outcome, mk_comb_outcome, abs_outcome, trans_outcome, eq_mp_outcome}
 use Rattle.hol_kernel.specs.KnownFormula.{IsKnownFormula}
 use Rattle.hol_kernel.specs.Fits.{TransFits, EqMpFits}
 use Rattle.hol_kernel.proofs.KnownLemmas.{no_unknown, known_where_none}
@@ -102,7 +104,9 @@ pub sides : (theory : Theory) → IsLegal theory → (conclusion left right : Na
 sides theory legal (combination (combination (constant name s) left) right) a b known is =
     go (bytes_eq name equality_name) refl is
   where
-    go : (test : Bool) → bytes_eq name equality_name ≡ test → if◌then◌else◌ {A = Option (NamedTerm × NamedTerm)} test (Some (left, right)) None ≡ Some (a, b) → IsEquation (combination (combination (constant name s) left) right) a b
+    go : (test : Bool) → bytes_eq name equality_name ≡ test
+        → if◌then◌else◌ {A = Option (NamedTerm × NamedTerm)} test (Some (left, right)) None ≡ Some (a, b)
+        → IsEquation (combination (combination (constant name s) left) right) a b
     go true passed is =
         let first : left ≡ a = ap (λ (o : Option (NamedTerm × NamedTerm)). option_map_or (λ (p : NamedTerm × NamedTerm). p.0) o left) is in
         let second : right ≡ b = ap (λ (o : Option (NamedTerm × NamedTerm)). option_map_or (λ (p : NamedTerm × NamedTerm). p.1) o right) is in
@@ -216,7 +220,9 @@ redex_parts (combination (abstraction name s inner) (variable other t)) body is 
           image_is = rw (image-abstraction name s inner, ← same_name name other s t passed, ← same_variable-type name other s t passed) refl;
           body_typed = λ ty typed. redex_typed s t (type_of inner) ty typed;
           known = λ theory passes. record {
-            type = knows_type-IsKnownType theory s (first_of_both (knows_type theory s) (knows_types theory inner) (first_of_both (knows_type theory s && knows_types theory inner) (knows_type theory t) passes.types));
+            type = knows_type-IsKnownType theory s
+                (first_of_both (knows_type theory s) (knows_types theory inner)
+                (first_of_both (knows_type theory s && knows_types theory inner) (knows_type theory t) passes.types));
             types = second_of_both (knows_type theory s) (knows_types theory inner) (first_of_both (knows_type theory s && knows_types theory inner) (knows_type theory t) passes.types);
             instances = first_of_both (has_instances theory inner) true passes.instances;
           };
