@@ -31,7 +31,8 @@ conj-fits-at room a b s t a_is b_is fits = let path : conj_equation s t ≡ conj
 pub conj-both-fits : (room : Bool) (a b : Nameless) → FitsIf room (conj_equation a b) → FitsIf room (nameless.conjunction a b)
 conj-both-fits room a b fits = fits-argument room (app (const equality_name (equality_type bool_type)) b) (nameless.conjunction a b) fits
 
-pub conj-leads : (theory : Theory) (a b : NamedTerm) (terms : List (NamedTerm × NamedTerm)) → IsFormula theory a → IsFormula theory b → terms ≡ at_p_q a b → (room : Bool) → FitsIf room (conj_equation (image a) (image b))
+pub conj-leads : (theory : Theory) (a b : NamedTerm) (terms : List (NamedTerm × NamedTerm)) → IsFormula theory a → IsFormula theory b
+    → terms ≡ at_p_q a b → (room : Bool) → FitsIf room (conj_equation (image a) (image b))
     → LeadsTo theory 25 terms room (image a) (image (equation b (conjunction a b)))
 conj-leads theory a b terms one two terms_are room fits =
     let image_is = image-equation b (conjunction a b) bool_type two.typed in
@@ -44,7 +45,8 @@ conj-leads theory a b terms one two terms_are room fits =
 abbrev pub mp_equation : Nameless → Nameless → Nameless
 mp_equation a b = nameless_equation bool_type (nameless.implication a b) b
 
-pub mp-leads : (theory : Theory) (whole a b : NamedTerm) (terms : List (NamedTerm × NamedTerm)) → IsFormula theory whole → IsFormula theory a → IsFormula theory b → terms ≡ at_p_q a b → image whole ≡ nameless.implication (image a) (image b)
+pub mp-leads : (theory : Theory) (whole a b : NamedTerm) (terms : List (NamedTerm × NamedTerm)) → IsFormula theory whole → IsFormula theory a
+    → IsFormula theory b → terms ≡ at_p_q a b → image whole ≡ nameless.implication (image a) (image b)
     → (room : Bool) → FitsIf room (mp_equation (image a) (image b)) → LeadsTo theory 26 terms room (image a) (image (equation whole b))
 mp-leads theory whole a b terms zero one two terms_are whole_is room fits =
     let image_is : image (equation whole b) ≡ mp_equation (image a) (image b) = image-equation whole b bool_type zero.typed ∙ ap (λ (u : Nameless). nameless_equation bool_type u (image b)) whole_is in
@@ -73,12 +75,16 @@ swapped-set h k = record {
 }
 
 -- the conclusions of two theorems leave room
-pub first-roomy : (room : Bool) (first second : Theorem) (rest : List Nameless) → Roomy room ((terms_of_theorem first ++ terms_of_theorem second) ++ rest) → room ≡ true → IsSized 1000 5000 (image first.conclusion)
+pub first-roomy : (room : Bool) (first second : Theorem) (rest : List Nameless)
+    → Roomy room ((terms_of_theorem first ++ terms_of_theorem second) ++ rest) → room ≡ true → IsSized 1000 5000 (image first.conclusion)
 first-roomy room first second rest roomy = roomy (image first.conclusion) (inl refl)
 
-pub second-roomy : (room : Bool) (first second : Theorem) (rest : List Nameless) → Roomy room ((terms_of_theorem first ++ terms_of_theorem second) ++ rest) → room ≡ true → IsSized 1000 5000 (image second.conclusion)
+pub second-roomy : (room : Bool) (first second : Theorem) (rest : List Nameless)
+    → Roomy room ((terms_of_theorem first ++ terms_of_theorem second) ++ rest) → room ≡ true → IsSized 1000 5000 (image second.conclusion)
 second-roomy room first second rest roomy =
-    roomy (image second.conclusion) (IsMember-append_left (image second.conclusion) (terms_of_theorem first ++ terms_of_theorem second) rest (IsMember-append_right (image second.conclusion) (terms_of_theorem first) (terms_of_theorem second) (inl refl)))
+    roomy (image second.conclusion)
+        (IsMember-append_left (image second.conclusion) (terms_of_theorem first ++ terms_of_theorem second) rest
+        (IsMember-append_right (image second.conclusion) (terms_of_theorem first) (terms_of_theorem second) (inl refl)))
 
 pub stated-roomy : (room : Bool) (arguments wanted : List Nameless) (conclusion : Nameless) → Roomy room (arguments ++ conclusion ∷ wanted) → room ≡ true → IsSized 1000 5000 conclusion
 stated-roomy room arguments wanted conclusion roomy = roomy conclusion (IsMember-append_right conclusion arguments (conclusion ∷ wanted) (inl refl))

@@ -43,14 +43,16 @@ disj-answered result formula theorem conclusion outcome is derives names =
     answered result arguments (images theorem) (images theorem) conclusion outcome is (record { to = λ x m. m; back = λ x m. m })
     (λ room roomy. derives room (roomy (image theorem.conclusion) (inr (inl refl))) (stated-roomy room arguments (images theorem) (image conclusion) roomy)) names
 
-pub disj1-answered : (result : Result Recorded Fault) (theory : Theory) (b : NamedTerm) (theorem : Theorem) → IsPassed theory b → DerivesDisjunction result theorem (image (disjunction theorem.conclusion b))
+pub disj1-answered : (result : Result Recorded Fault) (theory : Theory) (b : NamedTerm) (theorem : Theorem) → IsPassed theory b
+    → DerivesDisjunction result theorem (image (disjunction theorem.conclusion b))
     → IfOk result (λ made. made.theorem.conclusion ≡ disjunction theorem.conclusion b)
     → AnswersStated (theorem_in result) (image b ∷ terms_of_theorem theorem) (disj1_outcome theory b theorem)
 disj1-answered result theory b theorem passed derives names =
     let outcome : disj1_outcome theory b theorem ≡ stated (images theorem) (disjunction theorem.conclusion b) = rw (passed.is_formula, passed.is_known) refl in
     disj-answered result b theorem (disjunction theorem.conclusion b) (disj1_outcome theory b theorem) outcome derives names
 
-pub disj2-answered : (result : Result Recorded Fault) (theory : Theory) (a : NamedTerm) (theorem : Theorem) → IsPassed theory a → DerivesDisjunction result theorem (image (disjunction a theorem.conclusion))
+pub disj2-answered : (result : Result Recorded Fault) (theory : Theory) (a : NamedTerm) (theorem : Theorem) → IsPassed theory a
+    → DerivesDisjunction result theorem (image (disjunction a theorem.conclusion))
     → IfOk result (λ made. made.theorem.conclusion ≡ disjunction a theorem.conclusion)
     → AnswersStated (theorem_in result) (image a ∷ terms_of_theorem theorem) (disj2_outcome theory a theorem)
 disj2-answered result theory a theorem passed derives names =
@@ -85,7 +87,8 @@ other-is made b d b_typed d_typed makes = makes false b_typed d_typed (λ is. cc
 pub other-typed : (b d : NamedTerm) → type_of b ≡ Some bool_type → type_of d ≡ Some bool_type → type_of (other_case b d) ≡ Some bool_type
 other-typed b d b_typed d_typed = connected-typed implies_name (implication b d) d (connected-typed implies_name b d b_typed d_typed) d_typed
 
-pub other-formula : (journal : Journal) (logic : Stored) → HasLogic journal logic → IsLegal journal.theory → (made b d : NamedTerm) → made ≡ other_case b d → IsFormula journal.theory b → IsFormula journal.theory d → IsFormula journal.theory made
+pub other-formula : (journal : Journal) (logic : Stored) → HasLogic journal logic → IsLegal journal.theory → (made b d : NamedTerm)
+    → made ≡ other_case b d → IsFormula journal.theory b → IsFormula journal.theory d → IsFormula journal.theory made
 other-formula journal logic has legal made b d is two three =
     let implies_is = logical-type journal logic has legal implies_name binary refl in
     subst (λ (t : NamedTerm). IsFormula journal.theory t) (sym is)
@@ -119,7 +122,8 @@ sized-other : (s t : Nameless) → IsSized 1000 5000 s → IsSized 1000 5000 t �
 sized-other s t one two =
     sized-connected 1002 10003 5000 implies_name (nameless.implication s t) t (omega arith) (sized-implication s t one two) (sized-more 1000 5000 1002 5000 t two (omega arith) (omega arith))
 
-sized-both : (s t u : Nameless) → IsSized 1000 5000 s → IsSized 1000 5000 t → IsSized 1000 5000 u → IsSized 1006 25012 (nameless.implication (nameless.implication s u) (nameless.implication (nameless.implication t u) u))
+sized-both : (s t u : Nameless) → IsSized 1000 5000 s → IsSized 1000 5000 t → IsSized 1000 5000 u
+    → IsSized 1006 25012 (nameless.implication (nameless.implication s u) (nameless.implication (nameless.implication t u) u))
 sized-both s t u one two three =
     sized-connected 1004 10003 15006 implies_name (nameless.implication s u) (nameless.implication (nameless.implication t u) u) (omega arith)
     (sized-more 1002 10003 1004 10003 (nameless.implication s u) (sized-implication s u one three) (omega arith) (omega arith)) (sized-other t u two three)

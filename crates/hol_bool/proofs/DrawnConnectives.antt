@@ -11,8 +11,11 @@ use Rattle.hol_model.specs.Kernel.Theorem.{Theorem}
 use Rattle.hol_model.specs.Logic.Derivable.{without}
 use Rattle.hol_model.specs.Kernel.Outcome.{unless, given as stated_given, refused}
 use Rattle.hol_model.specs.Kernel.Rules.{dest_equation, first_unknown, is_formula}
-use Rattle.hol_model.specs.Derived.DerivedRules.{images, stated, conjunct1_outcome, conjunct2_outcome, disch_outcome, undisch_outcome, mp_outcome, disj1_outcome, disj2_outcome, disj_cases_outcome, contr_outcome, not_intro_outcome, not_elim_outcome, eqt_elim_outcome}
-use Rattle.hol_model.specs.Derived.InferenceRules.{rule_conjunct1, rule_conjunct2, rule_disch, rule_undisch, rule_mp, rule_disj1, rule_disj2, rule_disj_cases, rule_contr, rule_not_intro, rule_not_elim, rule_eqt_elim}
+use Rattle.hol_model.specs.Derived.DerivedRules.{images, stated, conjunct1_outcome, conjunct2_outcome, disch_outcome, undisch_outcome, mp_outcome}
+use Rattle.hol_model.specs.Derived.DerivedRules.{disj1_outcome, disj2_outcome, disj_cases_outcome, contr_outcome, not_intro_outcome, not_elim_outcome}
+use Rattle.hol_model.specs.Derived.DerivedRules.{eqt_elim_outcome}
+use Rattle.hol_model.specs.Derived.InferenceRules.{rule_conjunct1, rule_conjunct2, rule_disch, rule_undisch, rule_mp, rule_disj1, rule_disj2}
+use Rattle.hol_model.specs.Derived.InferenceRules.{rule_disj_cases, rule_contr, rule_not_intro, rule_not_elim, rule_eqt_elim}
 use Rattle.hol_model.specs.Logic.NamedLogic as named
 use Rattle.hol_model.specs.Logic.NamelessLogic as nameless
 use Rattle.hol_model.specs.Logic.Logic as nameless_formulas
@@ -66,13 +69,15 @@ abbrev pair : Nameless → Nameless → Option (Nameless × Nameless)
 pair left right = Some (left, right)
 
 -- the image of a term with the connective has it
-connected-image : (theory : Theory) (name : List ℕ) (term left right : NamedTerm) → AreSides theory name term left right → nameless.dest_binary name binary (image term) ≡ pair (image left) (image right)
+connected-image : (theory : Theory) (name : List ℕ) (term left right : NamedTerm) → AreSides theory name term left right
+    → nameless.dest_binary name binary (image term) ≡ pair (image left) (image right)
 connected-image theory name term left right sides =
     ap (λ (t : NamedTerm). nameless.dest_binary name binary (image t)) sides.is ∙ rw (same_variable-self name binary) refl
 
 -- a formula under a connective, or without it, as its image shows
 pub data Connected (theory : Theory) (name : List ℕ) (term : NamedTerm) : Type 0 where
-  parted : (left right : NamedTerm) → named.dest_connected name term ≡ Some (left, right) → AreSides theory name term left right → nameless.dest_binary name binary (image term) ≡ Some (image left, image right) → Connected theory name term
+  parted : (left right : NamedTerm) → named.dest_connected name term ≡ Some (left, right) → AreSides theory name term left right
+      → nameless.dest_binary name binary (image term) ≡ Some (image left, image right) → Connected theory name term
   apart : named.dest_connected name term ≡ None → nameless.dest_binary name binary (image term) ≡ None → Connected theory name term
 
 pub connected : (theory : Theory) (name : List ℕ) → generic_type theory name ≡ Some binary → (term : NamedTerm) → IsFormula theory term → Connected theory name term
@@ -143,7 +148,8 @@ module _ (journal : Journal) (logic : Stored) (has : HasLogic journal logic) (le
     | apart dest shown ↦ rw (dest, shown) tt
   ]
     where
-      passes : (p q : Nameless) → (images a ++ without p (images b) ++ without q (images c)) ≡ (map unchanged (images a) ++ (map unchanged (without p (images b)) ++ (map unchanged (without q (images c)) ++ [])))
+      passes : (p q : Nameless) → (images a ++ without p (images b) ++ without q (images c)) ≡
+          (map unchanged (images a) ++ (map unchanged (without p (images b)) ++ (map unchanged (without q (images c)) ++ [])))
       passes p q = append_assoc (images a) (without p (images b)) (without q (images c)) ∙ (λ i. sym (unchanged_all (images a)) i ++ sym (two_premises (without p (images b)) (without q (images c))) i)
 
       go : (left right : NamedTerm) (test : Bool) → StatesDrawn (unless test NotAlpha (stated (images a ++ without (image left) (images b) ++ without (image right) (images c)) b.conclusion))
@@ -156,7 +162,9 @@ module _ (journal : Journal) (logic : Stored) (has : HasLogic journal logic) (le
     where
       go : (found : Option NamedTerm) → named.dest_negation a.conclusion ≡ found
           → StatesDrawn (stated_given found BadShape (λ p. stated (images a) (named.implication p named.false_term)))
-          (given (given (nameless.dest_negation (image a.conclusion)) (λ p. conclude (all ∷ []) (nameless_formulas.implication p nameless_formulas.false_term))) (λ inference. drawn inference (images a ∷ [])))
+          (given (given (nameless.dest_negation (image a.conclusion))
+              (λ p. conclude (all ∷ []) (nameless_formulas.implication p nameless_formulas.false_term)))
+              (λ inference. drawn inference (images a ∷ [])))
       go None is = rw (not-negation a.conclusion is) tt
       go (Some p) is =
           let part = negated-part journal.theory (logical-type journal logic has legal not_name unary refl) a.conclusion p is premise.known in
@@ -197,10 +205,14 @@ module _ (journal : Journal) (logic : Stored) (has : HasLogic journal logic) (le
   pub drawn-eqt_elim : (a : Theorem) → IsPremise journal.theory a → Draws journal.theory rule_eqt_elim (a ∷ []) (eqt_elim_outcome a)
   drawn-eqt_elim a premise = go (dest_equation a.conclusion) refl
     where
-      at_type : (left right : NamedTerm) (s : HolType) (test : Bool) → same_variable equality_name (equality_type bool_type) equality_name (equality_type s) ≡ test → (truth : Bool) → named.is_true right ≡ truth
+      at_type : (left right : NamedTerm) (s : HolType) (test : Bool)
+          → same_variable equality_name (equality_type bool_type) equality_name (equality_type s) ≡ test → (truth : Bool)
+          → named.is_true right ≡ truth
           → same_term (image right) nameless_formulas.true_term ≡ truth → IsKnown journal.theory (image right) s
           → StatesDrawn (unless truth BadShape (stated (images a) left))
-          (given (given (if◌then◌else◌ {A = Option (Nameless × Nameless)} test (Some (image left, image right)) None) (λ sides. require (same_term sides.1 nameless_formulas.true_term) (conclude (all ∷ []) sides.0))) (λ inference. drawn inference (images a ∷ [])))
+          (given (given (if◌then◌else◌ {A = Option (Nameless × Nameless)} test (Some (image left, image right)) None)
+              (λ sides. require (same_term sides.1 nameless_formulas.true_term) (conclude (all ∷ []) sides.0)))
+              (λ inference. drawn inference (images a ∷ [])))
       at_type left right s true tested true is shown known = rw shown (drawn-of_one a left (image left) refl)
       at_type left right s true tested false is shown known = rw shown tt
       at_type left right s false tested false is shown known = tt
@@ -208,12 +220,15 @@ module _ (journal : Journal) (logic : Stored) (has : HasLogic journal logic) (le
           let right_is = constant-is journal.theory true_name right s (logical-type journal logic has legal true_name bool_type refl) is known in
           let typed : Some bool_type ≡ Some s = sym (ap type_of right_is) ∙ image-type right s known.typed in
           let ty_is : bool_type ≡ s = cc in
-          let same : same_variable equality_name (equality_type bool_type) equality_name (equality_type s) ≡ true = ap (λ (t : HolType). same_variable equality_name (equality_type bool_type) equality_name (equality_type t)) (sym ty_is) in
+          let same : same_variable equality_name (equality_type bool_type) equality_name (equality_type s) ≡ true =
+              ap (λ (t : HolType). same_variable equality_name (equality_type bool_type) equality_name (equality_type t)) (sym ty_is) in
           cc
 
       go : (found : Option (NamedTerm × NamedTerm)) → dest_equation a.conclusion ≡ found
           → StatesDrawn (stated_given found BadShape (λ sides. unless (named.is_true sides.1) BadShape (stated (images a) sides.0)))
-          (given (given (nameless.dest_equivalence (image a.conclusion)) (λ sides. require (same_term sides.1 nameless_formulas.true_term) (conclude (all ∷ []) sides.0))) (λ inference. drawn inference (images a ∷ [])))
+          (given (given (nameless.dest_equivalence (image a.conclusion))
+              (λ sides. require (same_term sides.1 nameless_formulas.true_term) (conclude (all ∷ []) sides.0)))
+              (λ inference. drawn inference (images a ∷ [])))
       go None is = rw (not-applied equality_name (equality_type bool_type) a.conclusion (sym (equation-connected a.conclusion) ∙ is)) tt
       go (Some (left, right)) is =
           let e = sides journal.theory legal a.conclusion left right premise.known is in

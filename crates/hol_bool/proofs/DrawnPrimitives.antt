@@ -3,25 +3,31 @@ use Rattle.std.proofs.Common.{◌≡◌, ◌⊎◌, ℕ, List, [], ◌∷◌, �
 use Rattle.std.specs.Option.{option_map, is_some}
 use Rattle.std.specs.List.{list_all}
 use Rattle.hol_model.specs.declared.fault.Fault.{Fault}
-use Rattle.hol_model.specs.declared.fault.Fault.TheVariants.{Memory, TooLarge, NotEquation, NotAlpha, NotBool, NotVariable, NotTrivialBeta, TypeMismatch, UnknownType, UnknownConst, NotInstance, FreeInHypothesis}
+use Rattle.hol_model.specs.declared.fault.Fault.TheVariants.{Memory, TooLarge, NotEquation, NotAlpha, NotBool, NotVariable, NotTrivialBeta}
+use Rattle.hol_model.specs.declared.fault.Fault.TheVariants.{TypeMismatch, UnknownType, UnknownConst, NotInstance, FreeInHypothesis}
 use Rattle.hol_model.specs.Terms.HolType.{HolType, type_variable, bool_type, function_type, declared_type, type_eq, dest_function_type, replaces_type_variables}
 use Rattle.hol_model.specs.Terms.NamedTerm.{NamedTerm, variable, constant, combination, abstraction, type_of, equation, is_within_limits, same_variable, is_free, is_variable}
 use Rattle.hol_model.specs.Terms.Nameless.{Nameless, app, lam, image, same_term, nameless_type, HasType}
 use Rattle.std.proofs.lemmas.List.{append-nil}
 use Rattle.hol_model.specs.Terms.Substitution.{close, put_all, same_type, keeps_types, replaces_variables}
 use Rattle.hol_model.specs.Logic.Checks.{knows_nameless}
-use Rattle.hol_model.specs.Kernel.Instantiation.{IsChanged, or_too_large, all_fit, replacements_refusal, inst_refusal, IsInst, instantiate_all, type_replacements_refusal, inst_type_refusal, IsInstType}
+use Rattle.hol_model.specs.Kernel.Instantiation.{IsChanged, or_too_large, all_fit, replacements_refusal, inst_refusal, IsInst, instantiate_all}
+use Rattle.hol_model.specs.Kernel.Instantiation.{type_replacements_refusal, inst_type_refusal, IsInstType}
 use Rattle.hol_model.specs.Logic.Theory.{Theory, IsLegal, equality_name, equality_type}
 use Rattle.hol_model.specs.Logic.KnownTerm.{knows_type, knows_types, knows_constants, has_instances, is_known}
 use Rattle.hol_model.specs.Kernel.Theorem.{Theorem, with_hypotheses, without_hypothesis, are_alpha_equivalent}
 use Rattle.hol_model.specs.Logic.Derivable.{IsSameSet, nameless_equation, without}
 use Rattle.hol_model.specs.Goals.Goals.{Sequent}
 use Rattle.hol_model.specs.Kernel.Outcome.{Answers, AnswersSuch, unless, given as outcome_given, refused}
-use Rattle.hol_model.specs.Kernel.Rules.{first_unknown, dest_equation, dest_trivial_redex, concluded, is_free_in_hypotheses, refl_outcome, assume_outcome, beta_outcome, trans_outcome, eq_mp_outcome, mk_comb_outcome, abs_outcome, deduct_antisym_outcome}
+use Rattle.hol_model.specs.Kernel.Rules.{first_unknown, dest_equation, dest_trivial_redex, concluded, is_free_in_hypotheses, refl_outcome}
+use Rattle.hol_model.specs.Kernel.Rules.{assume_outcome, beta_outcome, trans_outcome, eq_mp_outcome, mk_comb_outcome, abs_outcome}
+use Rattle.hol_model.specs.Kernel.Rules.{deduct_antisym_outcome}
 use Rattle.hol_model.specs.Derived.DerivedRules.{images}
-use Rattle.hol_model.specs.Derived.InferenceRules.{InferenceRule, rule_refl, rule_trans, rule_mk_comb, rule_abs, rule_beta, rule_assume, rule_eq_mp, rule_deduct_antisym, rule_inst, rule_inst_type, rule_eta_axiom, rule_select_axiom}
+use Rattle.hol_model.specs.Derived.InferenceRules.{InferenceRule, rule_refl, rule_trans, rule_mk_comb, rule_abs, rule_beta, rule_assume, rule_eq_mp}
+use Rattle.hol_model.specs.Derived.InferenceRules.{rule_deduct_antisym, rule_inst, rule_inst_type, rule_eta_axiom, rule_select_axiom}
 use Rattle.hol_model.specs.Logic.NamelessLogic as nameless
-use Rattle.hol_model.specs.Derived.Inference.{given, require, conclude, all, all_changed, may_replace, may_replace_types, all_without_variable, is_free_in_none, unchanged, is_known_term, drawn, rule_sequent}
+use Rattle.hol_model.specs.Derived.Inference.{given, require, conclude, all, all_changed, may_replace, may_replace_types, all_without_variable}
+use Rattle.hol_model.specs.Derived.Inference.{is_free_in_none, unchanged, is_known_term, drawn, rule_sequent}
 use Rattle.hol_model.proofs.Terms.HolTypeEq.{type_eq-Decides}
 use Rattle.hol_model.proofs.Tests.{same_term-Decides}
 use Rattle.hol_model.proofs.Terms.Typing.{nameless_type-is}
@@ -51,7 +57,8 @@ abbrev pub KernelDraws : Theory → InferenceRule → List Theorem → Result Th
 KernelDraws theory rule premises outcome = IsDrawn (rule_sequent theory rule (map sequent_of_theorem premises)) outcome
 
 -- a call that answers a rule's outcome answers what is drawn
-pub answers-infer : (theory : Theory) (rule : InferenceRule) (premises : List Theorem) (outcome result : Result Theorem Fault) → KernelDraws theory rule premises outcome → Answers result outcome → Infers theory rule premises result
+pub answers-infer : (theory : Theory) (rule : InferenceRule) (premises : List Theorem) (outcome result : Result Theorem Fault)
+    → KernelDraws theory rule premises outcome → Answers result outcome → Infers theory rule premises result
 answers-infer theory rule premises outcome result draws answers = record { drawn = go (rule_sequent theory rule (map sequent_of_theorem premises)) result draws answers }
   where
     lost : (found : Option Sequent) (fault : Fault) → fault ≡ Memory → IsDrawn found (Err fault)
@@ -88,14 +95,17 @@ refl-drawn theory t ty typed =
 
 pub assume-drawn : (theory : Theory) (p : NamedTerm) (ty : HolType) → type_of p ≡ Some ty → KernelDraws theory (rule_assume p) [] (assume_outcome theory p)
 assume-drawn theory p ty typed =
-    walked_by Gives none_drawn theory p ty bool_type typed NotBool (Ok (record { theory = theory; hypotheses = p ∷ []; conclusion = p })) (record { passing = []; supposed = image p ∷ []; conclusion = image p }) (λ inference. drawn inference [])
+    walked_by Gives none_drawn theory p ty bool_type typed NotBool (Ok (record { theory = theory; hypotheses = p ∷ []; conclusion = p }))
+        (record { passing = []; supposed = image p ∷ []; conclusion = image p }) (λ inference. drawn inference [])
     (record { same_set = same_set refl; concludes = refl })
 
 pub beta-drawn : (theory : Theory) (t : NamedTerm) (ty : HolType) → type_of t ≡ Some ty → KernelDraws theory (rule_beta t) [] (beta_outcome theory t)
 beta-drawn theory t ty typed = go (dest_trivial_redex t)
   where
     go : (found : Option NamedTerm)
-        → IsDrawn (given (given found (λ body. require (is_known_term theory (image t)) (conclude [] (nameless_equation (nameless_type [] (image t)) (image t) (image body))))) (λ inference. drawn inference []))
+        → IsDrawn (given (given found (λ body.
+            require (is_known_term theory (image t)) (conclude [] (nameless_equation (nameless_type [] (image t)) (image t) (image body)))))
+            (λ inference. drawn inference []))
         (outcome_given found NotTrivialBeta (λ body. refused (first_unknown theory t) (concluded theory [] (equation t body))))
     go None = tt
     go (Some body) =
@@ -112,7 +122,8 @@ abbrev both_passed : Theorem → Theorem → List Nameless
 both_passed a b = map unchanged (images a) ++ (map unchanged (images b) ++ [])
 
 both-set : (a b : Theorem) → IsSameSet (both_passed a b) (map image (with_hypotheses a.hypotheses b.hypotheses))
-both-set a b = subst (λ (h : List Nameless). IsSameSet h (map image (with_hypotheses a.hypotheses b.hypotheses))) (sym (two_premises (images a) (images b))) (with_hypotheses-same_set a.hypotheses b.hypotheses)
+both-set a b = subst (λ (h : List Nameless). IsSameSet h (map image (with_hypotheses a.hypotheses b.hypotheses)))
+    (sym (two_premises (images a) (images b))) (with_hypotheses-same_set a.hypotheses b.hypotheses)
 
 -- the image of no equation is no equivalence
 no-equivalence : (term : NamedTerm) → dest_equation term ≡ None → nameless.dest_equivalence (image term) ≡ None
@@ -131,19 +142,28 @@ merged_theorem theory a b conclusion = record { theory = theory; hypotheses = me
 pub trans-drawn : (theory : Theory) → IsLegal theory → (a b : Theorem) → IsPremise theory a → IsPremise theory b → KernelDraws theory rule_trans (a ∷ b ∷ []) (trans_outcome theory a b)
 trans-drawn theory legal a b first second = go (dest_equation a.conclusion) refl (dest_equation b.conclusion) refl
   where
-    meet : (l m n r : NamedTerm) (s t : HolType) → type_of l ≡ Some s → type_of m ≡ Some s → type_of n ≡ Some t → (test : Bool) → same_term (image m) (image n) ≡ test → (same : Bool) → type_eq s t ≡ same
+    meet : (l m n r : NamedTerm) (s t : HolType) → type_of l ≡ Some s → type_of m ≡ Some s → type_of n ≡ Some t → (test : Bool)
+        → same_term (image m) (image n) ≡ test → (same : Bool) → type_eq s t ≡ same
         → IsDrawn (given (require (test && same) (conclude (all ∷ all ∷ []) (nameless_equation s (image l) (image r)))) (λ inference. drawn inference (images a ∷ images b ∷ [])))
         (unless test NotAlpha (concluded theory (merged a b) (equation l r)))
     meet l m n r s t l_typed m_typed n_typed false is same eq = tt
-    meet l m n r s t l_typed m_typed n_typed true is true eq = concluded-drawn theory (merged a b) (equation l r) (both_passed a b) (nameless_equation s (image l) (image r)) (both-set a b) (image-equation l r s l_typed)
+    meet l m n r s t l_typed m_typed n_typed true is true eq =
+        concluded-drawn theory (merged a b) (equation l r) (both_passed a b) (nameless_equation s (image l) (image r)) (both-set a b)
+        (image-equation l r s l_typed)
     meet l m n r s t l_typed m_typed n_typed true is false eq =
         let types : s ≡ t = alike-typed m n s t m_typed n_typed ((same_term-Decides (image m) (image n)).0 is) in
         let equal : type_eq s t ≡ true = (type_eq-Decides s t).1 types in
         cc
 
     go : (one : Option (NamedTerm × NamedTerm)) → dest_equation a.conclusion ≡ one → (two : Option (NamedTerm × NamedTerm)) → dest_equation b.conclusion ≡ two
-        → IsDrawn (given (given (nameless.dest_equation (image a.conclusion)) (λ left. given (nameless.dest_equation (image b.conclusion)) (λ right. require (same_term left.right right.left && type_eq left.ty right.ty) (conclude (all ∷ all ∷ []) (nameless_equation left.ty left.left right.right))))) (λ inference. drawn inference (images a ∷ images b ∷ [])))
-        (outcome_given one NotEquation (λ left. outcome_given two NotEquation (λ right. unless (are_alpha_equivalent left.1 right.0) NotAlpha (concluded theory (merged a b) (equation left.0 right.1)))))
+        → IsDrawn (given (given (nameless.dest_equation (image a.conclusion))
+            (λ left. given (nameless.dest_equation (image b.conclusion))
+            (λ right. require (same_term left.right right.left && type_eq left.ty right.ty)
+            (conclude (all ∷ all ∷ []) (nameless_equation left.ty left.left right.right)))))
+            (λ inference. drawn inference (images a ∷ images b ∷ [])))
+        (outcome_given one NotEquation
+            (λ left. outcome_given two NotEquation
+            (λ right. unless (are_alpha_equivalent left.1 right.0) NotAlpha (concluded theory (merged a b) (equation left.0 right.1)))))
     go None one other two = rw (no-equation a.conclusion one) tt
     go (Some (l, m)) one None two =
         let e = sides theory legal a.conclusion l m first.known one in
@@ -157,19 +177,26 @@ trans-drawn theory legal a b first second = go (dest_equation a.conclusion) refl
 pub eq_mp-drawn : (theory : Theory) → IsLegal theory → (a b : Theorem) → IsPremise theory a → IsPremise theory b → KernelDraws theory rule_eq_mp (a ∷ b ∷ []) (eq_mp_outcome theory a b)
 eq_mp-drawn theory legal a b first second = go (dest_equation a.conclusion) refl
   where
-    meet : (l r : NamedTerm) (s : HolType) → type_of l ≡ Some s → (is_bool : Bool) → same_variable equality_name (equality_type bool_type) equality_name (equality_type s) ≡ is_bool → (test : Bool) → same_term (image l) (image b.conclusion) ≡ test
-        → IsDrawn (given (given (if◌then◌else◌ {A = Option (Nameless × Nameless)} is_bool (Some (image l, image r)) None) (λ sides. require (same_term sides.0 (image b.conclusion)) (conclude (all ∷ all ∷ []) sides.1))) (λ inference. drawn inference (images a ∷ images b ∷ [])))
+    meet : (l r : NamedTerm) (s : HolType) → type_of l ≡ Some s → (is_bool : Bool)
+        → same_variable equality_name (equality_type bool_type) equality_name (equality_type s) ≡ is_bool → (test : Bool)
+        → same_term (image l) (image b.conclusion) ≡ test
+        → IsDrawn (given (given (if◌then◌else◌ {A = Option (Nameless × Nameless)} is_bool (Some (image l, image r)) None)
+            (λ sides. require (same_term sides.0 (image b.conclusion)) (conclude (all ∷ all ∷ []) sides.1)))
+            (λ inference. drawn inference (images a ∷ images b ∷ [])))
         (unless test NotAlpha (Ok (merged_theorem theory a b r)))
     meet l r s typed true tested true is = rw is (record { same_set = both-set a b; concludes = refl })
     meet l r s typed true tested false is = rw is tt
     meet l r s typed false tested false is = tt
     meet l r s typed false tested true is =
         let types : s ≡ bool_type = alike-typed l b.conclusion s bool_type typed second.typed ((same_term-Decides (image l) (image b.conclusion)).0 is) in
-        let same : same_variable equality_name (equality_type bool_type) equality_name (equality_type s) ≡ true = ap (λ (t : HolType). same_variable equality_name (equality_type bool_type) equality_name (equality_type t)) types in
+        let same : same_variable equality_name (equality_type bool_type) equality_name (equality_type s) ≡ true =
+            ap (λ (t : HolType). same_variable equality_name (equality_type bool_type) equality_name (equality_type t)) types in
         cc
 
     go : (one : Option (NamedTerm × NamedTerm)) → dest_equation a.conclusion ≡ one
-        → IsDrawn (given (given (nameless.dest_equivalence (image a.conclusion)) (λ sides. require (same_term sides.0 (image b.conclusion)) (conclude (all ∷ all ∷ []) sides.1))) (λ inference. drawn inference (images a ∷ images b ∷ [])))
+        → IsDrawn (given (given (nameless.dest_equivalence (image a.conclusion))
+            (λ sides. require (same_term sides.0 (image b.conclusion)) (conclude (all ∷ all ∷ []) sides.1)))
+            (λ inference. drawn inference (images a ∷ images b ∷ [])))
         (outcome_given one NotEquation (λ sides. unless (are_alpha_equivalent sides.0 b.conclusion) NotAlpha (Ok (merged_theorem theory a b sides.1))))
     go None one = rw (no-equivalence a.conclusion one) tt
     go (Some (l, r)) one =
@@ -179,29 +206,47 @@ eq_mp-drawn theory legal a b first second = go (dest_equation a.conclusion) refl
 pub mk_comb-drawn : (theory : Theory) → IsLegal theory → (a b : Theorem) → IsPremise theory a → IsPremise theory b → KernelDraws theory rule_mk_comb (a ∷ b ∷ []) (mk_comb_outcome theory a b)
 mk_comb-drawn theory legal a b first second = go (dest_equation a.conclusion) refl (dest_equation b.conclusion) refl
   where
-    typed_as : (f x : NamedTerm) (s t : HolType) → type_of f ≡ Some s → type_of x ≡ Some t → (domain codomain : HolType) → s ≡ function_type domain codomain → type_eq domain t ≡ true → type_of (combination f x) ≡ Some codomain
+    typed_as : (f x : NamedTerm) (s t : HolType) → type_of f ≡ Some s → type_of x ≡ Some t → (domain codomain : HolType)
+        → s ≡ function_type domain codomain → type_eq domain t ≡ true → type_of (combination f x) ≡ Some codomain
     typed_as f x s t f_typed x_typed domain codomain is eq = rw (f_typed, x_typed, is, eq) refl
 
     applied : (f g x y : NamedTerm) (s t : HolType) → type_of f ≡ Some s → type_of x ≡ Some t
-        → IsDrawn (given (given (dest_function_type s) (λ arrow. require (type_eq arrow.0 t) (conclude (all ∷ all ∷ []) (nameless_equation arrow.1 (app (image f) (image x)) (app (image g) (image y)))))) (λ inference. drawn inference (images a ∷ images b ∷ [])))
+        → IsDrawn (given (given (dest_function_type s)
+            (λ arrow. require (type_eq arrow.0 t)
+            (conclude (all ∷ all ∷ []) (nameless_equation arrow.1 (app (image f) (image x)) (app (image g) (image y))))))
+            (λ inference. drawn inference (images a ∷ images b ∷ [])))
         (unless (is_some (type_of (combination f x))) TypeMismatch (concluded theory (merged a b) (equation (combination f x) (combination g y))))
     applied f g x y (type_variable name) t f_typed x_typed = rw (f_typed, x_typed) tt
     applied f g x y bool_type t f_typed x_typed = rw (f_typed, x_typed) tt
     applied f g x y (function_type domain codomain) t f_typed x_typed = test (type_eq domain t) refl
       where
         test : (eq : Bool) → type_eq domain t ≡ eq
-            → IsDrawn (given (require eq (conclude (all ∷ all ∷ []) (nameless_equation codomain (app (image f) (image x)) (app (image g) (image y))))) (λ inference. drawn inference (images a ∷ images b ∷ [])))
+            → IsDrawn (given (require eq (conclude (all ∷ all ∷ [])
+                (nameless_equation codomain (app (image f) (image x)) (app (image g) (image y)))))
+                (λ inference. drawn inference (images a ∷ images b ∷ [])))
             (unless (is_some (type_of (combination f x))) TypeMismatch (concluded theory (merged a b) (equation (combination f x) (combination g y))))
         test true eq =
             let typed = typed_as f x (function_type domain codomain) t f_typed x_typed domain codomain refl eq in
-            subst (λ (o : Option HolType). IsDrawn (Some (sequent_of (both_passed a b) (nameless_equation codomain (app (image f) (image x)) (app (image g) (image y))))) (unless (is_some o) TypeMismatch (concluded theory (merged a b) (equation (combination f x) (combination g y))))) (sym typed)
-            (concluded-drawn theory (merged a b) (equation (combination f x) (combination g y)) (both_passed a b) (nameless_equation codomain (app (image f) (image x)) (app (image g) (image y))) (both-set a b) (image-equation (combination f x) (combination g y) codomain typed))
+            subst (λ (o : Option HolType).
+                IsDrawn (Some (sequent_of (both_passed a b) (nameless_equation codomain (app (image f) (image x)) (app (image g) (image y)))))
+                (unless (is_some o) TypeMismatch (concluded theory (merged a b) (equation (combination f x) (combination g y))))) (sym typed)
+            (concluded-drawn theory (merged a b) (equation (combination f x) (combination g y)) (both_passed a b)
+                (nameless_equation codomain (app (image f) (image x)) (app (image g) (image y))) (both-set a b)
+                (image-equation (combination f x) (combination g y) codomain typed))
         test false eq = rw (f_typed, x_typed, eq) tt
     applied f g x y (declared_type name) t f_typed x_typed = rw (f_typed, x_typed) tt
 
     go : (one : Option (NamedTerm × NamedTerm)) → dest_equation a.conclusion ≡ one → (two : Option (NamedTerm × NamedTerm)) → dest_equation b.conclusion ≡ two
-        → IsDrawn (given (given (nameless.dest_equation (image a.conclusion)) (λ functions. given (nameless.dest_equation (image b.conclusion)) (λ arguments. given (dest_function_type functions.ty) (λ arrow. require (type_eq arrow.0 arguments.ty) (conclude (all ∷ all ∷ []) (nameless_equation arrow.1 (app functions.left arguments.left) (app functions.right arguments.right))))))) (λ inference. drawn inference (images a ∷ images b ∷ [])))
-        (outcome_given one NotEquation (λ functions. outcome_given two NotEquation (λ arguments. unless (is_some (type_of (combination functions.0 arguments.0))) TypeMismatch (concluded theory (merged a b) (equation (combination functions.0 arguments.0) (combination functions.1 arguments.1))))))
+        → IsDrawn (given (given (nameless.dest_equation (image a.conclusion))
+            (λ functions. given (nameless.dest_equation (image b.conclusion))
+            (λ arguments. given (dest_function_type functions.ty)
+            (λ arrow. require (type_eq arrow.0 arguments.ty)
+            (conclude (all ∷ all ∷ []) (nameless_equation arrow.1 (app functions.left arguments.left) (app functions.right arguments.right)))))))
+            (λ inference. drawn inference (images a ∷ images b ∷ [])))
+        (outcome_given one NotEquation
+            (λ functions. outcome_given two NotEquation
+            (λ arguments. unless (is_some (type_of (combination functions.0 arguments.0))) TypeMismatch
+            (concluded theory (merged a b) (equation (combination functions.0 arguments.0) (combination functions.1 arguments.1))))))
     go None one other two = rw (no-equation a.conclusion one) tt
     go (Some (f, g)) one None two =
         let e = sides theory legal a.conclusion f g first.known one in
@@ -231,22 +276,38 @@ abs-drawn theory legal (variable name ty) a premise = go (dest_equation a.conclu
     typed_over t s typed = rw typed refl
 
     of_known : (l r : NamedTerm) (s : HolType) → type_of l ≡ Some s → (free : Bool)
-        → IsDrawn (option_map (λ others. sequent_of ([] ++ others) (nameless_equation (function_type ty s) (lam ty (close name ty (image l))) (lam ty (close name ty (image r))))) (if not free then Some (map unchanged (images a) ++ []) else None))
+        → IsDrawn (option_map (λ others.
+            sequent_of ([] ++ others) (nameless_equation (function_type ty s) (lam ty (close name ty (image l))) (lam ty (close name ty (image r)))))
+            (if not free then Some (map unchanged (images a) ++ []) else None))
         (unless (not free) FreeInHypothesis (concluded theory a.hypotheses (equation (abstraction name ty l) (abstraction name ty r))))
     of_known l r s typed true = tt
     of_known l r s typed false =
-        concluded-drawn theory a.hypotheses (equation (abstraction name ty l) (abstraction name ty r)) (map unchanged (images a) ++ []) (nameless_equation (function_type ty s) (lam ty (close name ty (image l))) (lam ty (close name ty (image r)))) (same_set (one_premise (images a)))
-        (image-equation (abstraction name ty l) (abstraction name ty r) (function_type ty s) (typed_over l s typed) ∙ (λ i. nameless_equation (function_type ty s) (image-abstraction name ty l i) (image-abstraction name ty r i)))
+        concluded-drawn theory a.hypotheses (equation (abstraction name ty l) (abstraction name ty r)) (map unchanged (images a) ++ [])
+            (nameless_equation (function_type ty s) (lam ty (close name ty (image l))) (lam ty (close name ty (image r))))
+            (same_set (one_premise (images a)))
+        (image-equation (abstraction name ty l) (abstraction name ty r) (function_type ty s) (typed_over l s typed)
+            ∙ (λ i. nameless_equation (function_type ty s) (image-abstraction name ty l i) (image-abstraction name ty r i)))
 
     tests : (l r : NamedTerm) (s : HolType) → type_of l ≡ Some s → (known : Bool)
-        → IsDrawn (given (require known (conclude (all_without_variable name ty ∷ []) (nameless_equation (function_type ty s) (lam ty (close name ty (image l))) (lam ty (close name ty (image r)))))) (λ inference. drawn inference (images a ∷ [])))
-        (unless known UnknownType (unless (not (is_free_in_hypotheses name ty a.hypotheses)) FreeInHypothesis (concluded theory a.hypotheses (equation (abstraction name ty l) (abstraction name ty r)))))
+        → IsDrawn (given (require known
+            (conclude (all_without_variable name ty ∷ [])
+            (nameless_equation (function_type ty s) (lam ty (close name ty (image l))) (lam ty (close name ty (image r))))))
+            (λ inference. drawn inference (images a ∷ [])))
+        (unless known UnknownType (unless (not (is_free_in_hypotheses name ty a.hypotheses)) FreeInHypothesis
+            (concluded theory a.hypotheses (equation (abstraction name ty l) (abstraction name ty r)))))
     tests l r s typed false = tt
     tests l r s typed true = rw (free-in_no_hypothesis name ty a.hypotheses) (of_known l r s typed (is_free_in_hypotheses name ty a.hypotheses))
 
     go : (one : Option (NamedTerm × NamedTerm)) → dest_equation a.conclusion ≡ one
-        → IsDrawn (given (given (nameless.dest_equation (image a.conclusion)) (λ sides. require (knows_type theory ty) (conclude (all_without_variable name ty ∷ []) (nameless_equation (function_type ty sides.ty) (lam ty (close name ty sides.left)) (lam ty (close name ty sides.right)))))) (λ inference. drawn inference (images a ∷ [])))
-        (outcome_given one NotEquation (λ sides. unless (knows_type theory ty) UnknownType (unless (not (is_free_in_hypotheses name ty a.hypotheses)) FreeInHypothesis (concluded theory a.hypotheses (equation (abstraction name ty sides.0) (abstraction name ty sides.1))))))
+        → IsDrawn (given (given (nameless.dest_equation (image a.conclusion))
+            (λ sides. require (knows_type theory ty)
+            (conclude (all_without_variable name ty ∷ [])
+            (nameless_equation (function_type ty sides.ty) (lam ty (close name ty sides.left)) (lam ty (close name ty sides.right))))))
+            (λ inference. drawn inference (images a ∷ [])))
+        (outcome_given one NotEquation
+            (λ sides. unless (knows_type theory ty) UnknownType
+            (unless (not (is_free_in_hypotheses name ty a.hypotheses)) FreeInHypothesis
+            (concluded theory a.hypotheses (equation (abstraction name ty sides.0) (abstraction name ty sides.1))))))
     go None one = rw (no-equation a.conclusion one) tt
     go (Some (l, r)) one =
         let e = sides theory legal a.conclusion l r premise.known one in
@@ -263,10 +324,12 @@ passed_by_both a b = map unchanged (without (image b.conclusion) (images a)) ++ 
 
 pub deduct_antisym-drawn : (theory : Theory) (a b : Theorem) → IsPremise theory a → KernelDraws theory rule_deduct_antisym (a ∷ b ∷ []) (deduct_antisym_outcome theory a b)
 deduct_antisym-drawn theory a b first =
-    concluded-drawn theory (with_hypotheses (left_of a b) (right_of a b)) (equation a.conclusion b.conclusion) (passed_by_both a b) (nameless_equation bool_type (image a.conclusion) (image b.conclusion)) set (image-equation a.conclusion b.conclusion bool_type first.typed)
+    concluded-drawn theory (with_hypotheses (left_of a b) (right_of a b)) (equation a.conclusion b.conclusion) (passed_by_both a b)
+        (nameless_equation bool_type (image a.conclusion) (image b.conclusion)) set (image-equation a.conclusion b.conclusion bool_type first.typed)
   where
     is : (passed_by_both a b) ≡ (map image (left_of a b) ++ map image (right_of a b))
-    is = two_premises (without (image b.conclusion) (images a)) (without (image a.conclusion) (images b)) ∙ (λ i. sym (image-without_hypothesis b.conclusion a.hypotheses) i ++ sym (image-without_hypothesis a.conclusion b.hypotheses) i)
+    is = two_premises (without (image b.conclusion) (images a)) (without (image a.conclusion) (images b))
+        ∙ (λ i. sym (image-without_hypothesis b.conclusion a.hypotheses) i ++ sym (image-without_hypothesis a.conclusion b.hypotheses) i)
 
     set : IsSameSet (passed_by_both a b) (map image (with_hypotheses (left_of a b) (right_of a b)))
     set = subst (λ (h : List Nameless). IsSameSet h (map image (with_hypotheses (left_of a b) (right_of a b)))) (sym is) (with_hypotheses-same_set (left_of a b) (right_of a b))
@@ -301,7 +364,8 @@ changed-drawn theory change a may refusal fits passes refuses (Err fault) answer
     go true is (inr refused) = inr (too_large fits (ap (λ (o : Option Fault). or_too_large o fits) (sym (refuses is)) ∙ refused))
 
 -- a pair of a replacement of a variable
-pair-passes : (theory : Theory) (new old : NamedTerm) → is_variable old ≡ true → knows_nameless theory (image new) (nameless_type [] (image old)) ≡ (same_type (type_of new) (type_of old) && is_known theory new)
+pair-passes : (theory : Theory) (new old : NamedTerm) → is_variable old ≡ true
+    → knows_nameless theory (image new) (nameless_type [] (image old)) ≡ (same_type (type_of new) (type_of old) && is_known theory new)
 pair-passes theory new (variable name ty) is = go (type_of new) refl
   where
     unknown : type_of new ≡ None → (test : Bool) → knows_nameless theory (image new) ty ≡ test → test ≡ false
@@ -327,8 +391,10 @@ know_constants theory theta = list_all (λ pair. knows_constants theory pair.0) 
 abbrev have_instances : Theory → List (NamedTerm × NamedTerm) → Bool
 have_instances theory theta = list_all (λ pair. has_instances theory pair.0) theta
 
-shuffled : (variables same types constants instances rest keep all_types all_constants all_instances : Bool) → (variables && rest) ≡ (variables && (keep && (all_types && (all_constants && all_instances))))
-    → (variables && ((same && ((types && constants) && instances)) && rest)) ≡ (variables && ((same && keep) && ((types && all_types) && ((constants && all_constants) && (instances && all_instances)))))
+shuffled : (variables same types constants instances rest keep all_types all_constants all_instances : Bool)
+    → (variables && rest) ≡ (variables && (keep && (all_types && (all_constants && all_instances))))
+    → (variables && ((same && ((types && constants) && instances)) && rest)) ≡
+        (variables && ((same && keep) && ((types && all_types) && ((constants && all_constants) && (instances && all_instances)))))
 shuffled false same types constants instances rest keep all_types all_constants all_instances deeper = refl
 shuffled true false types constants instances rest keep all_types all_constants all_instances deeper = refl
 shuffled true true false constants instances rest false all_types all_constants all_instances deeper = refl
@@ -342,20 +408,27 @@ shuffled true true true true false rest true true false all_instances deeper = r
 shuffled true true true true false rest true true true all_instances deeper = refl
 shuffled true true true true true rest keep all_types all_constants all_instances deeper = deeper
 
-may-replace : (theory : Theory) (theta : List (NamedTerm × NamedTerm)) → may_replace theory theta ≡ (replaces_variables theta && (keeps_types theta && (know_types theory theta && (know_constants theory theta && have_instances theory theta))))
+may-replace : (theory : Theory) (theta : List (NamedTerm × NamedTerm))
+    → may_replace theory theta ≡ (replaces_variables theta
+    && (keeps_types theta && (know_types theory theta && (know_constants theory theta && have_instances theory theta))))
 may-replace theory [] = refl
 may-replace theory ((new, old) ∷ theta) = go (is_variable old) refl (may-replace theory theta)
   where
     go : (test : Bool) → is_variable old ≡ test
         → may_replace theory theta ≡ (replaces_variables theta && (keeps_types theta && (know_types theory theta && (know_constants theory theta && have_instances theory theta))))
         → may_replace theory ((new, old) ∷ theta)
-        ≡ (replaces_variables ((new, old) ∷ theta) && (keeps_types ((new, old) ∷ theta) && (know_types theory ((new, old) ∷ theta) && (know_constants theory ((new, old) ∷ theta) && have_instances theory ((new, old) ∷ theta)))))
+        ≡ (replaces_variables ((new, old) ∷ theta)
+            && (keeps_types ((new, old) ∷ theta)
+            && (know_types theory ((new, old) ∷ theta)
+            && (know_constants theory ((new, old) ∷ theta) && have_instances theory ((new, old) ∷ theta)))))
     go false is deeper = rw is refl
     go true is deeper = rw (is, pair-passes theory new old is)
         (shuffled (replaces_variables theta) (same_type (type_of new) (type_of old)) (knows_types theory new) (knows_constants theory new) (has_instances theory new)
-        (list_all (λ pair. knows_nameless theory (image pair.0) (nameless_type [] (image pair.1))) theta) (keeps_types theta) (know_types theory theta) (know_constants theory theta) (have_instances theory theta) deeper)
+        (list_all (λ pair. knows_nameless theory (image pair.0) (nameless_type [] (image pair.1))) theta) (keeps_types theta)
+            (know_types theory theta) (know_constants theory theta) (have_instances theory theta) deeper)
 
-pub inst-drawn : (theory : Theory) (theta : List (NamedTerm × NamedTerm)) (a : Theorem) (result : Result Theorem Fault) → AnswersSuch result (inst_refusal theory theta a) (IsInst theory theta a) → Infers theory (rule_inst theta) (a ∷ []) result
+pub inst-drawn : (theory : Theory) (theta : List (NamedTerm × NamedTerm)) (a : Theorem) (result : Result Theorem Fault)
+    → AnswersSuch result (inst_refusal theory theta a) (IsInst theory theta a) → Infers theory (rule_inst theta) (a ∷ []) result
 inst-drawn theory theta a result answers = record {
   drawn = changed-drawn theory (put_all theta) a (may_replace theory theta) (replacements_refusal theory theta) (all_fit (put_all theta) (a.conclusion ∷ a.hypotheses))
       (λ none. may-replace theory theta ∙ passes (replaces_variables theta) (keeps_types theta) (know_types theory theta) (know_constants theory theta) (have_instances theory theta) none)
@@ -364,7 +437,10 @@ inst-drawn theory theta a result answers = record {
 }
   where
     passes : (variables keep types constants instances : Bool)
-        → (if not variables then Some NotVariable else (if not keep then Some TypeMismatch else (if not types then Some UnknownType else (if not constants then Some UnknownConst else (if not instances then Some NotInstance else None))))) ≡ None
+        → (if not variables then Some NotVariable else
+            (if not keep then Some TypeMismatch else
+            (if not types then Some UnknownType else
+            (if not constants then Some UnknownConst else (if not instances then Some NotInstance else None))))) ≡ None
         → (variables && (keep && (types && (constants && instances)))) ≡ true
     passes true true true true true none = refl
     passes true true true true false none = cc
@@ -374,7 +450,10 @@ inst-drawn theory theta a result answers = record {
     passes false keep types constants instances none = cc
 
     refuses : (variables keep types constants instances : Bool) → (variables && (keep && (types && (constants && instances)))) ≡ true
-        → (if not variables then Some NotVariable else (if not keep then Some TypeMismatch else (if not types then Some UnknownType else (if not constants then Some UnknownConst else (if not instances then Some NotInstance else None))))) ≡ None
+        → (if not variables then Some NotVariable else
+            (if not keep then Some TypeMismatch else
+            (if not types then Some UnknownType else
+            (if not constants then Some UnknownConst else (if not instances then Some NotInstance else None))))) ≡ None
     refuses true true true true true may = refl
     refuses true true true true false may = cc
     refuses true true true false instances may = cc
@@ -382,7 +461,8 @@ inst-drawn theory theta a result answers = record {
     refuses true false types constants instances may = cc
     refuses false keep types constants instances may = cc
 
-pub inst_type-drawn : (theory : Theory) (theta : List (HolType × HolType)) (a : Theorem) (result : Result Theorem Fault) → AnswersSuch result (inst_type_refusal theory theta a) (IsInstType theory theta a) → Infers theory (rule_inst_type theta) (a ∷ []) result
+pub inst_type-drawn : (theory : Theory) (theta : List (HolType × HolType)) (a : Theorem) (result : Result Theorem Fault)
+    → AnswersSuch result (inst_type_refusal theory theta a) (IsInstType theory theta a) → Infers theory (rule_inst_type theta) (a ∷ []) result
 inst_type-drawn theory theta a result answers = record {
   drawn = changed-drawn theory (instantiate_all theta) a (may_replace_types theory theta) (type_replacements_refusal theory theta) (all_fit (instantiate_all theta) (a.conclusion ∷ a.hypotheses))
       (passes (replaces_type_variables theta) (list_all (λ pair. knows_type theory pair.0) theta))

@@ -28,14 +28,16 @@ use Rattle.hol_bool.proofs.LogicLemmas.{logical-type, connected-parts, negated-p
 abbrev pub sides_in : {S : Type 0} → (S → NamedTerm) → (S → NamedTerm) → Option S → Option (NamedTerm × NamedTerm)
 sides_in left right found = option_map (λ s. (left s, right s)) found
 
-pub parts-of : {S : Type 0} (left right : S → NamedTerm) (result : Option S) (journal : Journal) (logic : Stored) → HasLogic journal logic → IsLegal journal.theory → (name : List ℕ) → generic_type logical_definitions name ≡ Some binary
+pub parts-of : {S : Type 0} (left right : S → NamedTerm) (result : Option S) (journal : Journal) (logic : Stored) → HasLogic journal logic
+    → IsLegal journal.theory → (name : List ℕ) → generic_type logical_definitions name ≡ Some binary
     → (term : NamedTerm) → IsFormula journal.theory term → sides_in left right result ≡ dest_connected name term → IfSome result (λ s. AreSides journal.theory name term (left s) (right s))
 parts-of left right None journal logic has legal name generic term formula dest = tt
 parts-of left right (Some s) journal logic has legal name generic term formula dest =
     connected-parts journal.theory name (logical-type journal logic has legal name binary generic) term (left s) (right s) (sym dest) formula.known
 
 -- two formulas under a binary connective
-pub connected-formula : (theory : Theory) (name : List ℕ) → generic_type theory name ≡ Some binary → (left right : NamedTerm) → IsFormula theory left → IsFormula theory right → IsFormula theory (connected name left right)
+pub connected-formula : (theory : Theory) (name : List ℕ) → generic_type theory name ≡ Some binary → (left right : NamedTerm) → IsFormula theory left
+    → IsFormula theory right → IsFormula theory (connected name left right)
 connected-formula theory name generic left right one two =
     let connective : IsKnown theory (const name binary) binary = record {
       typed = refl;
@@ -43,14 +45,16 @@ connected-formula theory name generic left right one two =
     } in
     record {
       typed = connected-typed name left right one.typed two.typed;
-      known = app-known theory bool_type bool_type (app (const name binary) (image left)) (image right) (app-known theory bool_type unary (const name binary) (image left) connective one.known) two.known;
+      known = app-known theory bool_type bool_type (app (const name binary) (image left)) (image right)
+          (app-known theory bool_type unary (const name binary) (image left) connective one.known) two.known;
     }
 
 -- an equation of two formulas
 pub equation-formula : (theory : Theory) → IsLegal theory → (left right : NamedTerm) → IsFormula theory left → IsFormula theory right → IsFormula theory (equation left right)
 equation-formula theory legal left right one two = record {
   typed = equation-typed left right bool_type one.typed two.typed;
-  known = subst (λ (t : Nameless). IsKnown theory t bool_type) (sym (image-equation left right bool_type one.typed)) (equation-known theory legal bool_type (image left) (image right) one.known two.known);
+  known = subst (λ (t : Nameless). IsKnown theory t bool_type) (sym (image-equation left right bool_type one.typed))
+      (equation-known theory legal bool_type (image left) (image right) one.known two.known);
 }
 
 -- a negated formula
@@ -106,7 +110,8 @@ pub record IsTruthEquation (theory : Theory) (term left : NamedTerm) : Type 0 wh
   pub formula : IsFormula theory left
   pub image_is : image term ≡ nameless_equation bool_type (image left) (image true_term)
 
-pub truth-equation : (journal : Journal) (logic : Stored) → HasLogic journal logic → IsLegal journal.theory → (theorem : Theorem) → IsTheorem theorem → IsFormula journal.theory theorem.conclusion → (left right : NamedTerm)
+pub truth-equation : (journal : Journal) (logic : Stored) → HasLogic journal logic → IsLegal journal.theory → (theorem : Theorem) → IsTheorem theorem
+    → IsFormula journal.theory theorem.conclusion → (left right : NamedTerm)
     → dest_equation theorem.conclusion ≡ Some (left, right) → is_true right ≡ true → IsTruthEquation journal.theory theorem.conclusion left
 truth-equation journal logic has legal theorem is formula left right dest true_right =
     let theory = journal.theory in

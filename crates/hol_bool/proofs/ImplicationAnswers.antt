@@ -75,13 +75,15 @@ absorbed-set h a b = without-itself (without a (a ∷ h)) b ∙ head
 
 -- the steps by theorems of the prelude
 
-pub conjunct-leads : (theory : Theory) (a b whole : NamedTerm) (terms : List (NamedTerm × NamedTerm)) → IsFormula theory a → IsFormula theory b → terms ≡ at_p_q a b → whole ≡ conjunction a b → (room : Bool) → FitsIf room (image whole)
+pub conjunct-leads : (theory : Theory) (a b whole : NamedTerm) (terms : List (NamedTerm × NamedTerm)) → IsFormula theory a → IsFormula theory b
+    → terms ≡ at_p_q a b → whole ≡ conjunction a b → (room : Bool) → FitsIf room (image whole)
     → LeadsTo theory 13 terms room (image whole) (image a)
 conjunct-leads theory a b whole terms one two terms_are is room fits =
     leads-p_q theory 13 (conjunction p q) p a b terms refl refl one two terms_are room (image whole) (image a) (ap image is) refl fits
     (fits-left room (const and_name binary) (image a) (image b) (subst (λ (t : NamedTerm). FitsIf room (image t)) is fits))
 
-pub disch-leads : (theory : Theory) (a b : NamedTerm) (terms : List (NamedTerm × NamedTerm)) → IsFormula theory a → IsFormula theory b → terms ≡ at_p_q a b → (room : Bool) → FitsIf room (disch_equation (image a) (image b))
+pub disch-leads : (theory : Theory) (a b : NamedTerm) (terms : List (NamedTerm × NamedTerm)) → IsFormula theory a → IsFormula theory b
+    → terms ≡ at_p_q a b → (room : Bool) → FitsIf room (disch_equation (image a) (image b))
     → LeadsTo theory 16 terms room (nameless_equation bool_type (nameless.conjunction (image a) (image b)) (image a)) (image (implication a b))
 disch-leads theory a b terms one two terms_are room fits =
     leads-p_q theory 16 (equation (conjunction p q) p) (implication p q) a b terms refl refl one two terms_are room

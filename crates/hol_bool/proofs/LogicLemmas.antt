@@ -33,7 +33,8 @@ stored-stands : (all : List Recorded) (number : ℕ) (theorem : Theorem) → the
 stored-stands all number theorem are there =
     go (slice_get all number) refl (sym (slice_get-map (λ (m : Recorded). m.theorem) all number) ∙ ap (λ (l : List Theorem). slice_get l number) are ∙ there)
   where
-    go : (found : Option Recorded) → slice_get all number ≡ found → option_map (λ (m : Recorded). m.theorem) found ≡ Some theorem → (made : Recorded) × (slice_get all number ≡ Some made) × (made.theorem ≡ theorem)
+    go : (found : Option Recorded) → slice_get all number ≡ found → option_map (λ (m : Recorded). m.theorem) found ≡ Some theorem → (made : Recorded)
+        × (slice_get all number ≡ Some made) × (made.theorem ≡ theorem)
     go None found is = cc
     go (Some made) found is = let same : made.theorem ≡ theorem = cc in (made, found, same)
 
@@ -66,7 +67,8 @@ pub connected-parts : (theory : Theory) (name : List ℕ) → generic_type theor
     → IsKnown theory (image term) bool_type → AreSides theory name term left right
 connected-parts theory name generic (combination (combination (constant other ty) a) b) left right dest known = go (bytes_eq other name) refl dest
   where
-    go : (test : Bool) → bytes_eq other name ≡ test → if◌then◌else◌ {A = Option (NamedTerm × NamedTerm)} test (Some (a, b)) None ≡ Some (left, right) → AreSides theory name (combination (combination (constant other ty) a) b) left right
+    go : (test : Bool) → bytes_eq other name ≡ test → if◌then◌else◌ {A = Option (NamedTerm × NamedTerm)} test (Some (a, b)) None ≡ Some (left, right)
+        → AreSides theory name (combination (combination (constant other ty) a) b) left right
     go false tested dest = cc
     go true tested dest =
         let named : other ≡ name = (bytes_eq-Decides other name).0 tested in
@@ -77,7 +79,8 @@ connected-parts theory name generic (combination (combination (constant other ty
         let b_is : b ≡ right = ap (λ (s : NamedTerm × NamedTerm). s.1) same in
         let generic_here : generic_type theory other ≡ Some binary = ap (generic_type theory) named ∙ generic in
         let ty_is : ty ≡ binary = fixed-type theory other binary ty generic_here (λ tau. refl) known.parts.0.0.1 in
-        let typed : HasType [] (app (app (const other binary) (image a)) (image b)) bool_type = subst (λ (t : HolType). HasType [] (app (app (const other t) (image a)) (image b)) bool_type) ty_is known.typed in
+        let typed : HasType [] (app (app (const other binary) (image a)) (image b)) bool_type =
+            subst (λ (t : HolType). HasType [] (app (app (const other t) (image a)) (image b)) bool_type) ty_is known.typed in
         let first : typed.1.0 ≡ bool_type = cc in
         let second : typed.0 ≡ bool_type = cc in
         let left_known : IsKnown theory (image a) bool_type = record { typed = subst (λ (t : HolType). HasType [] (image a) t) first typed.1.2; parts = known.parts.0.1 } in
@@ -124,7 +127,8 @@ negated-part theory generic (constant other ty) part dest known = cc
 negated-part theory generic (abstraction other ty x) part dest known = cc
 
 -- T and F, where the theory knows them
-pub constant-is : (theory : Theory) (name : List ℕ) (term : NamedTerm) (found : HolType) → generic_type theory name ≡ Some bool_type → is_constant_named name term ≡ true → IsKnown theory (image term) found
+pub constant-is : (theory : Theory) (name : List ℕ) (term : NamedTerm) (found : HolType) → generic_type theory name ≡ Some bool_type
+    → is_constant_named name term ≡ true → IsKnown theory (image term) found
     → term ≡ constant name bool_type
 constant-is theory name (constant other ty) found generic named known =
     let name_is : other ≡ name = (bytes_eq-Decides other name).0 named in

@@ -34,7 +34,8 @@ pub still_formula : (old new : Journal) (result : Result Recorded Fault) (term :
 still_formula old new result term continues formula = subst (λ (t : Theory). IsFormula t term) (sym continues.theory) formula
 
 -- the theorem of the number says what leads from the premise to the conclusion
-pub leads-shows : (theory : Theory) (number : ℕ) (terms : List (NamedTerm × NamedTerm)) (room : Bool) (premise conclusion : Nameless) (leads : LeadsTo theory number terms room premise conclusion) (theorem : Theorem)
+pub leads-shows : (theory : Theory) (number : ℕ) (terms : List (NamedTerm × NamedTerm)) (room : Bool) (premise conclusion : Nameless)
+    (leads : LeadsTo theory number terms room premise conclusion) (theorem : Theorem)
     → slice_get prelude_theorems number ≡ Some theorem → Shows theorem (image leads.hypothesis ∷ []) (image leads.stated)
 leads-shows theory number terms room premise conclusion leads theorem is =
     let there : Some (shown (leads.hypothesis ∷ []) leads.stated) ≡ Some theorem = sym leads.theorem_is ∙ is in
@@ -47,14 +48,23 @@ pub equation-fits : (room : Bool) (p q : Nameless) → FitsIf room p → FitsIf 
 equation-fits room p q one two is =
     sized-within 1902 1800003 (nameless_equation bool_type p q) (sized-equation 1900 900000 900000 bool_type p q (omega arith) (omega arith) (one is) (two is)) (omega arith) (omega arith)
 
-pub way-fits : (theory : Theory) (number : ℕ) (terms : List (NamedTerm × NamedTerm)) (room : Bool) (premise conclusion : Nameless) (leads : LeadsTo theory number terms room premise conclusion) → room ≡ true
-    → list_all nameless_within_limits (instantiate_all [] (image leads.stated) ∷ instantiate_all [] (image leads.hypothesis) ∷ instance_of [] terms (image leads.stated) ∷ instance_of [] terms (image leads.hypothesis)
+pub way-fits : (theory : Theory) (number : ℕ) (terms : List (NamedTerm × NamedTerm)) (room : Bool) (premise conclusion : Nameless)
+    (leads : LeadsTo theory number terms room premise conclusion) → room ≡ true
+    → list_all nameless_within_limits
+        (instantiate_all [] (image leads.stated) ∷ instantiate_all [] (image leads.hypothesis) ∷ instance_of [] terms
+        (image leads.stated) ∷ instance_of [] terms (image leads.hypothesis)
     ∷ nameless_equation bool_type (instance_of [] terms (image leads.hypothesis)) (instance_of [] terms (image leads.stated)) ∷ []) ≡ true
 way-fits theory number terms room premise conclusion leads is =
     let typed_stated = nameless_within_limits (instantiate_all [] (image leads.stated)) in
     let typed_hypothesis = nameless_within_limits (instantiate_all [] (image leads.hypothesis)) in
-    subst (λ (c : Nameless). (typed_stated && (typed_hypothesis && (nameless_within_limits c && (nameless_within_limits (instance_of [] terms (image leads.hypothesis)) && (nameless_within_limits (nameless_equation bool_type (instance_of [] terms (image leads.hypothesis)) c) && true))))) ≡ true) leads.conclusion_is
-    (subst (λ (p : Nameless). (typed_stated && (typed_hypothesis && (nameless_within_limits conclusion && (nameless_within_limits p && (nameless_within_limits (nameless_equation bool_type p conclusion) && true))))) ≡ true) leads.premise_is
+    subst (λ (c : Nameless). (typed_stated
+        && (typed_hypothesis && (nameless_within_limits c
+        && (nameless_within_limits (instance_of [] terms (image leads.hypothesis))
+        && (nameless_within_limits (nameless_equation bool_type (instance_of [] terms (image leads.hypothesis)) c) && true))))) ≡ true)
+        leads.conclusion_is
+    (subst (λ (p : Nameless). (typed_stated
+        && (typed_hypothesis && (nameless_within_limits conclusion
+        && (nameless_within_limits p && (nameless_within_limits (nameless_equation bool_type p conclusion) && true))))) ≡ true) leads.premise_is
     (joined typed_stated typed_hypothesis (nameless_within_limits conclusion) (nameless_within_limits premise) (nameless_within_limits (nameless_equation bool_type premise conclusion)) leads.is_small
     (fits-within room conclusion leads.conclusion_fits is) (fits-within room premise leads.premise_fits is) (equation-fits room premise conclusion leads.premise_fits leads.conclusion_fits is)))
   where

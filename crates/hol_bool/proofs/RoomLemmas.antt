@@ -30,7 +30,8 @@ fits-function room f x fits is =
       types = first_of_both (nameless_types_fit [] f) (nameless_types_fit [] x) whole.types;
     }
 
-pub made-combination : (result : Result NamedTerm Fault) (f x : NamedTerm) (ty : HolType) (room : Bool) → type_of (combination f x) ≡ Some ty → FitsIf room (image (combination f x)) → Answers result (combination_outcome f x)
+pub made-combination : (result : Result NamedTerm Fault) (f x : NamedTerm) (ty : HolType) (room : Bool) → type_of (combination f x) ≡ Some ty
+    → FitsIf room (image (combination f x)) → Answers result (combination_outcome f x)
     → MakesIf room result (combination f x)
 made-combination (Ok made) f x ty room typed fits answers = (applied f x made answers).is
 made-combination (Err fault) f x ty room typed fits answers =
@@ -67,7 +68,8 @@ equation-past fault l r s t l_typed r_typed s_is t_is makes room fits =
     let moved = subst (λ (u : NamedTerm). MakesEquation (Err fault) u r) s_is (subst (λ (u : NamedTerm). MakesEquation (Err fault) s u) t_is makes) in
     moved room l_typed r_typed (subst (λ (u : Nameless). FitsIf room u) (sym (image-equation l r bool_type l_typed)) fits)
 
-pub connected-is : (made : NamedTerm) (name : List ℕ) (l r s t : NamedTerm) → type_of l ≡ Some bool_type → type_of r ≡ Some bool_type → s ≡ l → t ≡ r → MakesConnected (Ok made) name s t → made ≡ connected name l r
+pub connected-is : (made : NamedTerm) (name : List ℕ) (l r s t : NamedTerm) → type_of l ≡ Some bool_type → type_of r ≡ Some bool_type → s ≡ l → t ≡ r
+    → MakesConnected (Ok made) name s t → made ≡ connected name l r
 connected-is made name l r s t l_typed r_typed s_is t_is makes =
     let moved = subst (λ (u : NamedTerm). MakesConnected (Ok made) name u r) s_is (subst (λ (u : NamedTerm). MakesConnected (Ok made) name s u) t_is makes) in
     moved false l_typed r_typed (no_room (image (connected name l r)))

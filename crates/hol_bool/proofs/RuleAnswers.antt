@@ -66,7 +66,8 @@ answered-one result theorem conclusion outcome is derives names =
 
 -- theorems of the prelude at formulas
 
-pub leads-p : (theory : Theory) (number : ℕ) (hypothesis conclusion a : NamedTerm) (terms : List (NamedTerm × NamedTerm)) → slice_get prelude_theorems number ≡ Some (shown (hypothesis ∷ []) conclusion)
+pub leads-p : (theory : Theory) (number : ℕ) (hypothesis conclusion a : NamedTerm) (terms : List (NamedTerm × NamedTerm))
+    → slice_get prelude_theorems number ≡ Some (shown (hypothesis ∷ []) conclusion)
     → list_all nameless_within_limits (instantiate_all [] (image conclusion) ∷ instantiate_all [] (image hypothesis) ∷ []) ≡ true → IsFormula theory a → terms ≡ at_p a
     → (room : Bool) (from to : Nameless) → from ≡ instance_of [] (at_p a) (image hypothesis) → to ≡ instance_of [] (at_p a) (image conclusion) → FitsIf room from → FitsIf room to
     → LeadsTo theory number terms room from to
@@ -83,7 +84,8 @@ leads-p theory number hypothesis conclusion a terms there small one terms_are ro
       conclusion_fits = to_fits;
     })
 
-pub leads-p_q : (theory : Theory) (number : ℕ) (hypothesis conclusion a b : NamedTerm) (terms : List (NamedTerm × NamedTerm)) → slice_get prelude_theorems number ≡ Some (shown (hypothesis ∷ []) conclusion)
+pub leads-p_q : (theory : Theory) (number : ℕ) (hypothesis conclusion a b : NamedTerm) (terms : List (NamedTerm × NamedTerm))
+    → slice_get prelude_theorems number ≡ Some (shown (hypothesis ∷ []) conclusion)
     → list_all nameless_within_limits (instantiate_all [] (image conclusion) ∷ instantiate_all [] (image hypothesis) ∷ []) ≡ true → IsFormula theory a → IsFormula theory b → terms ≡ at_p_q a b
     → (room : Bool) (from to : Nameless) → from ≡ instance_of [] (at_p_q a b) (image hypothesis) → to ≡ instance_of [] (at_p_q a b) (image conclusion) → FitsIf room from → FitsIf room to
     → LeadsTo theory number terms room from to
@@ -100,8 +102,10 @@ leads-p_q theory number hypothesis conclusion a b terms there small one two term
       conclusion_fits = to_fits;
     })
 
-pub leads-p_q_r : (theory : Theory) (number : ℕ) (hypothesis conclusion a b d : NamedTerm) (terms : List (NamedTerm × NamedTerm)) → slice_get prelude_theorems number ≡ Some (shown (hypothesis ∷ []) conclusion)
-    → list_all nameless_within_limits (instantiate_all [] (image conclusion) ∷ instantiate_all [] (image hypothesis) ∷ []) ≡ true → IsFormula theory a → IsFormula theory b → IsFormula theory d → terms ≡ at_p_q_r a b d
+pub leads-p_q_r : (theory : Theory) (number : ℕ) (hypothesis conclusion a b d : NamedTerm) (terms : List (NamedTerm × NamedTerm))
+    → slice_get prelude_theorems number ≡ Some (shown (hypothesis ∷ []) conclusion)
+    → list_all nameless_within_limits (instantiate_all [] (image conclusion) ∷ instantiate_all [] (image hypothesis) ∷ []) ≡ true
+        → IsFormula theory a → IsFormula theory b → IsFormula theory d → terms ≡ at_p_q_r a b d
     → (room : Bool) (from to : Nameless) → from ≡ instance_of [] (at_p_q_r a b d) (image hypothesis) → to ≡ instance_of [] (at_p_q_r a b d) (image conclusion) → FitsIf room from → FitsIf room to
     → LeadsTo theory number terms room from to
 leads-p_q_r theory number hypothesis conclusion a b d terms there small one two three terms_are room from to from_is to_is from_fits to_fits =
@@ -132,7 +136,8 @@ says-p theory number conclusion a terms there small one terms_are room to to_is 
 
 -- sizes of what connectives make
 
-pub sized-connected : (tall many more : ℕ) (name : List ℕ) (l r : Nameless) → 1 ≤ tall → IsSized tall many l → IsSized tall more r → IsSized (tall + 2) (many + more + 3) (app (app (const name binary) l) r)
+pub sized-connected : (tall many more : ℕ) (name : List ℕ) (l r : Nameless) → 1 ≤ tall → IsSized tall many l → IsSized tall more r
+    → IsSized (tall + 2) (many + more + 3) (app (app (const name binary) l) r)
 sized-connected tall many more name l r low one two =
     let constant : IsSized 1 1 (const name binary) = record { height = omega arith; nodes = omega arith; types = refl } in
     let left = sized-app tall 1 many (const name binary) l (sized-more 1 1 tall 1 (const name binary) constant low (omega arith)) one in

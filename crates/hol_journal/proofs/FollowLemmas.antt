@@ -47,34 +47,44 @@ cites_one : (journal : Journal) (made : Recorded) → IsMade journal made → (n
 cites_one journal made is number (inl e) = made-there journal made is number e
 cites_one journal made is number (inr m) = absurd m
 
-cites_two : (journal : Journal) (first second : Recorded) → IsMade journal first → IsMade journal second → (number : ℕ) → IsMember number (first.entry ∷ second.entry ∷ []) → HasTheorem journal.entries number
+cites_two : (journal : Journal) (first second : Recorded) → IsMade journal first → IsMade journal second → (number : ℕ)
+    → IsMember number (first.entry ∷ second.entry ∷ []) → HasTheorem journal.entries number
 cites_two journal first second one two number (inl e) = made-there journal first one number e
 cites_two journal first second one two number (inr (inl e)) = made-there journal second two number e
 cites_two journal first second one two number (inr (inr m)) = absurd m
 
 module _ (journal : Journal) (is : IsJournal journal) where
-  pub refl-follows : (term copy : NamedTerm) (ty : HolType) (answer : Theorem) → copy ≡ term → type_of term ≡ Some ty → is_within_limits term ≡ true → refl_outcome journal.theory term ≡ Ok answer → FitsLog answer
+  pub refl-follows : (term copy : NamedTerm) (ty : HolType) (answer : Theorem) → copy ≡ term → type_of term ≡ Some ty → is_within_limits term ≡ true
+      → refl_outcome journal.theory term ≡ Ok answer → FitsLog answer
       → Follows journal.entries (by_refl copy) (sequent_of_theorem answer)
   refl-follows term copy ty answer same typed within outcome fits =
       subst (λ (t : NamedTerm). Follows journal.entries (by_refl t) (sequent_of_theorem answer)) (sym same)
       (given-follows journal (by_refl term) (sequent_of_theorem answer) is (cites_none journal)
-      (knows_one journal.theory (by_refl term) term refl refl (record { ty = ty; typed = typed; known = known_of journal.theory term ty typed (refl-known journal.theory term answer outcome); within_limits = within }))
+      (knows_one journal.theory (by_refl term) term refl refl
+          (record { ty = ty; typed = typed; known = known_of journal.theory term ty typed (refl-known journal.theory term answer outcome);
+          within_limits = within }))
       (refl-gives journal.theory journal.entries term ty answer typed outcome fits))
 
-  pub assume-follows : (term copy : NamedTerm) (ty : HolType) (answer : Theorem) → copy ≡ term → type_of term ≡ Some ty → is_within_limits term ≡ true → assume_outcome journal.theory term ≡ Ok answer → FitsLog answer
+  pub assume-follows : (term copy : NamedTerm) (ty : HolType) (answer : Theorem) → copy ≡ term → type_of term ≡ Some ty
+      → is_within_limits term ≡ true → assume_outcome journal.theory term ≡ Ok answer → FitsLog answer
       → Follows journal.entries (by_assume copy) (sequent_of_theorem answer)
   assume-follows term copy ty answer same typed within outcome fits =
       subst (λ (t : NamedTerm). Follows journal.entries (by_assume t) (sequent_of_theorem answer)) (sym same)
       (given-follows journal (by_assume term) (sequent_of_theorem answer) is (cites_none journal)
-      (knows_one journal.theory (by_assume term) term refl refl (record { ty = ty; typed = typed; known = known_of journal.theory term ty typed (assume-known journal.theory term answer outcome); within_limits = within }))
+      (knows_one journal.theory (by_assume term) term refl refl
+          (record { ty = ty; typed = typed; known = known_of journal.theory term ty typed (assume-known journal.theory term answer outcome);
+          within_limits = within }))
       (assume-gives journal.theory journal.entries term ty answer typed outcome fits))
 
-  pub beta-follows : (term copy : NamedTerm) (ty : HolType) (answer : Theorem) → copy ≡ term → type_of term ≡ Some ty → is_within_limits term ≡ true → beta_outcome journal.theory term ≡ Ok answer → FitsLog answer
+  pub beta-follows : (term copy : NamedTerm) (ty : HolType) (answer : Theorem) → copy ≡ term → type_of term ≡ Some ty → is_within_limits term ≡ true
+      → beta_outcome journal.theory term ≡ Ok answer → FitsLog answer
       → Follows journal.entries (by_beta copy) (sequent_of_theorem answer)
   beta-follows term copy ty answer same typed within outcome fits =
       subst (λ (t : NamedTerm). Follows journal.entries (by_beta t) (sequent_of_theorem answer)) (sym same)
       (given-follows journal (by_beta term) (sequent_of_theorem answer) is (cites_none journal)
-      (knows_one journal.theory (by_beta term) term refl refl (record { ty = ty; typed = typed; known = known_of journal.theory term ty typed (beta-known journal.theory term answer outcome); within_limits = within }))
+      (knows_one journal.theory (by_beta term) term refl refl
+          (record { ty = ty; typed = typed; known = known_of journal.theory term ty typed (beta-known journal.theory term answer outcome);
+          within_limits = within }))
       (beta-gives journal.theory journal.entries term ty answer typed outcome fits))
 
   pub trans-follows : (first second : Recorded) (answer : Theorem) → IsMade journal first → IsMade journal second → IsTheorem first.theorem → IsTheorem second.theorem
@@ -82,28 +92,32 @@ module _ (journal : Journal) (is : IsJournal journal) where
   trans-follows first second answer made_first made_second is_first is_second outcome fits =
       given-follows journal (by_trans first.entry second.entry) (sequent_of_theorem answer) is (cites_two journal first second made_first made_second)
       (knows_none journal.theory (by_trans first.entry second.entry) refl refl)
-      (trans-gives journal.theory journal.entries first.entry second.entry first.theorem second.theorem answer (made-cited journal first made_first is_first) (made-cited journal second made_second is_second) outcome fits)
+      (trans-gives journal.theory journal.entries first.entry second.entry first.theorem second.theorem answer
+          (made-cited journal first made_first is_first) (made-cited journal second made_second is_second) outcome fits)
 
   pub eq_mp-follows : (first second : Recorded) (answer : Theorem) → IsMade journal first → IsMade journal second → IsTheorem first.theorem → IsTheorem second.theorem
       → eq_mp_outcome journal.theory first.theorem second.theorem ≡ Ok answer → FitsLog answer → Follows journal.entries (by_eq_mp first.entry second.entry) (sequent_of_theorem answer)
   eq_mp-follows first second answer made_first made_second is_first is_second outcome fits =
       given-follows journal (by_eq_mp first.entry second.entry) (sequent_of_theorem answer) is (cites_two journal first second made_first made_second)
       (knows_none journal.theory (by_eq_mp first.entry second.entry) refl refl)
-      (eq_mp-gives journal.theory journal.entries first.entry second.entry first.theorem second.theorem answer (made-cited journal first made_first is_first) (made-cited journal second made_second is_second) outcome fits)
+      (eq_mp-gives journal.theory journal.entries first.entry second.entry first.theorem second.theorem answer
+          (made-cited journal first made_first is_first) (made-cited journal second made_second is_second) outcome fits)
 
   pub mk_comb-follows : (first second : Recorded) (answer : Theorem) → IsMade journal first → IsMade journal second → IsTheorem first.theorem → IsTheorem second.theorem
       → mk_comb_outcome journal.theory first.theorem second.theorem ≡ Ok answer → FitsLog answer → Follows journal.entries (by_mk_comb first.entry second.entry) (sequent_of_theorem answer)
   mk_comb-follows first second answer made_first made_second is_first is_second outcome fits =
       given-follows journal (by_mk_comb first.entry second.entry) (sequent_of_theorem answer) is (cites_two journal first second made_first made_second)
       (knows_none journal.theory (by_mk_comb first.entry second.entry) refl refl)
-      (mk_comb-gives journal.theory journal.entries first.entry second.entry first.theorem second.theorem answer (made-cited journal first made_first is_first) (made-cited journal second made_second is_second) outcome fits)
+      (mk_comb-gives journal.theory journal.entries first.entry second.entry first.theorem second.theorem answer
+          (made-cited journal first made_first is_first) (made-cited journal second made_second is_second) outcome fits)
 
   pub deduct-follows : (first second : Recorded) (answer : Theorem) → IsMade journal first → IsMade journal second → IsTheorem first.theorem → IsTheorem second.theorem
       → deduct_antisym_outcome journal.theory first.theorem second.theorem ≡ Ok answer → FitsLog answer → Follows journal.entries (by_deduct first.entry second.entry) (sequent_of_theorem answer)
   deduct-follows first second answer made_first made_second is_first is_second outcome fits =
       given-follows journal (by_deduct first.entry second.entry) (sequent_of_theorem answer) is (cites_two journal first second made_first made_second)
       (knows_none journal.theory (by_deduct first.entry second.entry) refl refl)
-      (deduct-gives journal.theory journal.entries first.entry second.entry first.theorem second.theorem answer (made-cited journal first made_first is_first) (made-cited journal second made_second is_second) outcome fits)
+      (deduct-gives journal.theory journal.entries first.entry second.entry first.theorem second.theorem answer
+          (made-cited journal first made_first is_first) (made-cited journal second made_second is_second) outcome fits)
 
   pub abs-follows : (binder copy : NamedTerm) (theorem : Recorded) (answer : Theorem) → copy ≡ binder → is_within_limits binder ≡ true → IsMade journal theorem → IsTheorem theorem.theorem
       → abs_outcome journal.theory binder theorem.theorem ≡ Ok answer → FitsLog answer → Follows journal.entries (by_abs copy theorem.entry) (sequent_of_theorem answer)
@@ -113,25 +127,32 @@ module _ (journal : Journal) (is : IsJournal journal) where
       (knows_one journal.theory (by_abs binder theorem.entry) binder refl refl (binder_known journal.theory binder theorem.theorem answer within outcome))
       (abs-gives journal.theory journal.entries binder theorem.entry theorem.theorem answer (made-cited journal theorem made is_theorem) outcome fits))
 
-  pub inst-follows : (pairs copies : List (NamedTerm × NamedTerm)) (theorem : Recorded) (answer : Theorem) → copies ≡ pairs → list_all pair_fits pairs ≡ true → IsMade journal theorem → IsTheorem theorem.theorem
-      → inst_refusal journal.theory pairs theorem.theorem ≡ None → IsInst journal.theory pairs theorem.theorem answer → FitsLog answer → Follows journal.entries (by_inst theorem.entry copies) (sequent_of_theorem answer)
+  pub inst-follows : (pairs copies : List (NamedTerm × NamedTerm)) (theorem : Recorded) (answer : Theorem) → copies ≡ pairs
+      → list_all pair_fits pairs ≡ true → IsMade journal theorem → IsTheorem theorem.theorem
+      → inst_refusal journal.theory pairs theorem.theorem ≡ None → IsInst journal.theory pairs theorem.theorem answer → FitsLog answer
+          → Follows journal.entries (by_inst theorem.entry copies) (sequent_of_theorem answer)
   inst-follows pairs copies theorem answer same within made is_theorem none instance fits =
       subst (λ (p : List (NamedTerm × NamedTerm)). Follows journal.entries (by_inst theorem.entry p) (sequent_of_theorem answer)) (sym same)
       (given-follows journal (by_inst theorem.entry pairs) (sequent_of_theorem answer) is (cites_one journal theorem made)
       (pairs_known journal.theory theorem.entry pairs theorem.theorem within none)
       (inst-gives journal.theory journal.entries theorem.entry pairs theorem.theorem answer (made-cited journal theorem made is_theorem) none instance fits))
 
-  pub inst_type-follows : (pairs copies : List (HolType × HolType)) (theorem : Recorded) (answer : Theorem) → copies ≡ pairs → list_all type_pair_fits pairs ≡ true → IsMade journal theorem → IsTheorem theorem.theorem
-      → inst_type_refusal journal.theory pairs theorem.theorem ≡ None → IsInstType journal.theory pairs theorem.theorem answer → FitsLog answer → Follows journal.entries (by_inst_type theorem.entry copies) (sequent_of_theorem answer)
+  pub inst_type-follows : (pairs copies : List (HolType × HolType)) (theorem : Recorded) (answer : Theorem) → copies ≡ pairs
+      → list_all type_pair_fits pairs ≡ true → IsMade journal theorem → IsTheorem theorem.theorem
+      → inst_type_refusal journal.theory pairs theorem.theorem ≡ None → IsInstType journal.theory pairs theorem.theorem answer → FitsLog answer
+          → Follows journal.entries (by_inst_type theorem.entry copies) (sequent_of_theorem answer)
   inst_type-follows pairs copies theorem answer same within made is_theorem none instance fits =
       subst (λ (p : List (HolType × HolType)). Follows journal.entries (by_inst_type theorem.entry p) (sequent_of_theorem answer)) (sym same)
       (given-follows journal (by_inst_type theorem.entry pairs) (sequent_of_theorem answer) is (cites_one journal theorem made)
       (type_pairs_known journal.theory theorem.entry pairs theorem.theorem within none)
       (inst_type-gives journal.theory journal.entries theorem.entry pairs theorem.theorem answer (made-cited journal theorem made is_theorem) none instance fits))
 
-  pub define-follows : (name : List ℕ) (term : NamedTerm) (ty : HolType) (answer : Theorem) → type_of term ≡ Some ty → is_within_limits term ≡ true → define_outcome journal.theory name term ≡ Ok answer → FitsLog answer
+  pub define-follows : (name : List ℕ) (term : NamedTerm) (ty : HolType) (answer : Theorem) → type_of term ≡ Some ty → is_within_limits term ≡ true
+      → define_outcome journal.theory name term ≡ Ok answer → FitsLog answer
       → Follows journal.entries (by_definition name term) (sequent_of_theorem answer)
   define-follows name term ty answer typed within outcome fits =
       given-follows journal (by_definition name term) (sequent_of_theorem answer) is (cites_none journal)
-      (knows_one journal.theory (by_definition name term) term refl refl (record { ty = ty; typed = typed; known = known_of journal.theory term ty typed (define-known journal.theory name term answer outcome); within_limits = within }))
+      (knows_one journal.theory (by_definition name term) term refl refl
+          (record { ty = ty; typed = typed; known = known_of journal.theory term ty typed (define-known journal.theory name term answer outcome);
+          within_limits = within }))
       (define-gives journal.theory journal.entries name term ty answer typed outcome fits)

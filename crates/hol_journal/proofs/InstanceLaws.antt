@@ -15,7 +15,8 @@ use Rattle.std.specs.Option.{option_map_or}
 use Rattle.hol_model.specs.Terms.HolType.{HolType, type_eq, type_instance_of, replaces_type_variables}
 use Rattle.hol_model.specs.Terms.NamedTerm.{NamedTerm, variable, constant, combination, abstraction, is_variable, same_variable, type_of}
 use Rattle.hol_model.specs.Terms.Substitution.{put, put_all, replacement, is_variable_named, replaces_variables, keeps_types, same_type, instantiate, TermInstance}
-use Rattle.hol_model.specs.Kernel.Instantiation.{IsChanged, IsInst, IsInstType, inst_refusal, inst_type_refusal, instantiate_all, replacements_refusal, type_replacements_refusal, or_too_large, all_fit}
+use Rattle.hol_model.specs.Kernel.Instantiation.{IsChanged, IsInst, IsInstType, inst_refusal, inst_type_refusal, instantiate_all}
+use Rattle.hol_model.specs.Kernel.Instantiation.{replacements_refusal, type_replacements_refusal, or_too_large, all_fit}
 use Rattle.hol_model.specs.Logs.LogState.{term_pairs_at, type_pairs_at}
 use Rattle.hol_model.specs.Logs.LogSequents.{supposing, term_instance_of, is_free_variable}
 use Rattle.hol_model.specs.Logs.LogFaults.{some_is_no_term, some_is_no_type, is_replacement}

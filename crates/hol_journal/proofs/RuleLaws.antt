@@ -8,7 +8,9 @@ use Rattle.hol_model.specs.Logic.Derivable.{without}
 use Rattle.hol_model.specs.Kernel.Theorem.{Theorem, are_alpha_equivalent, with_hypotheses, without_hypothesis}
 use Rattle.hol_model.specs.declared.fault.Fault.TheVariants.{NotBool, NotEquation, NotAlpha, TypeMismatch, NotVariable, UnknownType, FreeInHypothesis, NotTrivialBeta}
 use Rattle.hol_model.specs.Kernel.Outcome.{unless, given, refused}
-use Rattle.hol_model.specs.Kernel.Rules.{first_unknown, dest_equation, dest_trivial_redex, is_formula, is_free_in_hypotheses, concluded, refl_outcome, assume_outcome, trans_outcome, eq_mp_outcome, mk_comb_outcome, abs_outcome, beta_outcome, deduct_antisym_outcome}
+use Rattle.hol_model.specs.Kernel.Rules.{first_unknown, dest_equation, dest_trivial_redex, is_formula, is_free_in_hypotheses, concluded, refl_outcome}
+use Rattle.hol_model.specs.Kernel.Rules.{assume_outcome, trans_outcome, eq_mp_outcome, mk_comb_outcome, abs_outcome, beta_outcome}
+use Rattle.hol_model.specs.Kernel.Rules.{deduct_antisym_outcome}
 use Rattle.hol_model.specs.Logic.KnownTerm.{knows_type}
 use Rattle.hol_model.specs.Terms.Substitution.{close_at, close, occurs_free, put, only}
 use Rattle.hol_model.proofs.Terms.HolTypeEq.{type_eq-self}
@@ -129,9 +131,11 @@ mk_comb-gives theory entries i j first second answer cited_first cited_second ou
     let made = λ (functions arguments : NamedTerm × NamedTerm).
     concluded theory (with_hypotheses first.hypotheses second.hypotheses) (equation (combination functions.0 arguments.0) (combination functions.1 arguments.1)) in
     let one = given-is (dest_equation first.conclusion) NotEquation
-    (λ functions. given (dest_equation second.conclusion) NotEquation (λ arguments. unless (is_some (type_of (combination functions.0 arguments.0))) TypeMismatch (made functions arguments))) answer outcome in
+    (λ functions. given (dest_equation second.conclusion) NotEquation
+        (λ arguments. unless (is_some (type_of (combination functions.0 arguments.0))) TypeMismatch (made functions arguments))) answer outcome in
     let functions = one.0 in
-    let two = given-is (dest_equation second.conclusion) NotEquation (λ arguments. unless (is_some (type_of (combination functions.0 arguments.0))) TypeMismatch (made functions arguments)) answer one.2 in
+    let two = given-is (dest_equation second.conclusion) NotEquation
+        (λ arguments. unless (is_some (type_of (combination functions.0 arguments.0))) TypeMismatch (made functions arguments)) answer one.2 in
     let arguments = two.0 in
     let three = unless-is (is_some (type_of (combination functions.0 arguments.0))) TypeMismatch (made functions arguments) answer two.2 in
     let left = combination functions.0 arguments.0 in
@@ -179,7 +183,9 @@ abs-gives theory entries binder i theorem answer cited outcome fits =
     let made = λ (bind : List ℕ × HolType) (sides : NamedTerm × NamedTerm). concluded theory theorem.hypotheses (equation (abstraction bind.0 bind.1 sides.0) (abstraction bind.0 bind.1 sides.1)) in
     let tested = λ (bind : List ℕ × HolType) (sides : NamedTerm × NamedTerm).
     unless (not (is_free_in_hypotheses bind.0 bind.1 theorem.hypotheses)) FreeInHypothesis (made bind sides) in
-    let one = given-is (dest_variable binder) NotVariable (λ bind. given (dest_equation theorem.conclusion) NotEquation (λ sides. unless (knows_type theory bind.1) UnknownType (tested bind sides))) answer outcome in
+    let one = given-is (dest_variable binder) NotVariable
+        (λ bind. given (dest_equation theorem.conclusion) NotEquation
+        (λ sides. unless (knows_type theory bind.1) UnknownType (tested bind sides))) answer outcome in
     let bind = one.0 in
     let two = given-is (dest_equation theorem.conclusion) NotEquation (λ sides. unless (knows_type theory bind.1) UnknownType (tested bind sides)) answer one.2 in
     let sides = two.0 in

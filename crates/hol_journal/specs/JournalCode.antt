@@ -13,7 +13,8 @@ use Rattle.hol_model.specs.Goals.Goals.{Sequent}
 use Rattle.hol_model.specs.Kernel.Theorem.{Theorem}
 use Rattle.hol_model.specs.Kernel.TheoremCode.{theorem_code}
 use Rattle.hol_model.specs.Logic.Theory.{Theory}
-use Rattle.hol_journal.specs.Steps.{Step, by_refl, by_trans, by_mk_comb, by_abs, by_beta, by_assume, by_eq_mp, by_deduct, by_inst, by_inst_type, by_eta, by_select, by_definition, JournalEntry, derived, declared_type, declared_constant}
+use Rattle.hol_journal.specs.Steps.{Step, by_refl, by_trans, by_mk_comb, by_abs, by_beta, by_assume, by_eq_mp, by_deduct, by_inst, by_inst_type}
+use Rattle.hol_journal.specs.Steps.{by_eta, by_select, by_definition, JournalEntry, derived, declared_type, declared_constant}
 use Rattle.hol_journal.specs.Journal.{Journal, Recorded}
 
 abbrev two_code : Coded (ℕ × ℕ)

@@ -8,12 +8,14 @@ use Rattle.hol_model.specs.Logic.Theory.{Theory}
 use Rattle.hol_model.specs.Logic.Legality.{is_new_name}
 use Rattle.hol_model.specs.Logic.Derivable.{IsMember}
 use Rattle.hol_model.specs.Goals.Goals.{Sequent}
-use Rattle.hol_model.specs.Logs.LogLine.{LogRule, refl_step, trans_step, mk_comb_step, abs_step, beta_step, assume_step, eq_mp_step, deduct_step, inst_step, inst_type_step, eta_step, select_step, definition_step}
+use Rattle.hol_model.specs.Logs.LogLine.{LogRule, refl_step, trans_step, mk_comb_step, abs_step, beta_step, assume_step, eq_mp_step, deduct_step}
+use Rattle.hol_model.specs.Logs.LogLine.{inst_step, inst_type_step, eta_step, select_step, definition_step}
 use Rattle.hol_model.specs.Logs.LogLine.LogLine.{theorem_line}
 use Rattle.hol_model.specs.Logs.LogState.{LogState, type_at, term_at, theorem_at}
 use Rattle.hol_model.specs.Logs.LogSequents.{sequent_of}
 use Rattle.hol_model.specs.Logs.LogFaults.{first_cause, is_no_type, is_no_term, is_no_theorem}
-use Rattle.hol_journal.specs.Steps.{Step, by_refl, by_trans, by_mk_comb, by_abs, by_beta, by_assume, by_eq_mp, by_deduct, by_inst, by_inst_type, by_eta, by_select, by_definition, JournalEntry, sequent_at, terms_of, types_of, entries_of}
+use Rattle.hol_journal.specs.Steps.{Step, by_refl, by_trans, by_mk_comb, by_abs, by_beta, by_assume, by_eq_mp, by_deduct, by_inst, by_inst_type}
+use Rattle.hol_journal.specs.Steps.{by_eta, by_select, by_definition, JournalEntry, sequent_at, terms_of, types_of, entries_of}
 
 -- the numbers that types, terms and the theorems of entries have in a log
 pub record Numbering : Type 0 where

@@ -59,10 +59,12 @@ left-of applied others t m = go (of_without t applied (applied ∷ others) m) (n
     go (inl e) other = let same : same_term t applied ≡ true = (same_term-Decides t applied).1 e in cc
     go (inr m) other = m
 
-pub left-fresh : (name : List ℕ) (ty : HolType) (applied : Nameless) (others kept : List Nameless) → IsLeft name ty applied others → IsSameSet (without applied (applied ∷ others)) kept → NotFreeInAny name ty kept
+pub left-fresh : (name : List ℕ) (ty : HolType) (applied : Nameless) (others kept : List Nameless) → IsLeft name ty applied others
+    → IsSameSet (without applied (applied ∷ others)) kept → NotFreeInAny name ty kept
 left-fresh name ty applied others kept left same t m = left.fresh t (left-of applied others t (same.back t m))
 
-pub left-set : (name : List ℕ) (ty : HolType) (applied : Nameless) (others kept firsts : List Nameless) → IsLeft name ty applied others → IsSameSet (without applied (applied ∷ others)) kept → IsSameSet (firsts ++ others) (kept ++ firsts)
+pub left-set : (name : List ℕ) (ty : HolType) (applied : Nameless) (others kept firsts : List Nameless) → IsLeft name ty applied others
+    → IsSameSet (without applied (applied ∷ others)) kept → IsSameSet (firsts ++ others) (kept ++ firsts)
 left-set name ty applied others kept firsts left same = record {
   to = λ t m. elim (of_append t firsts others m) [
     | inl a ↦ IsMember-append_right t kept firsts a
@@ -78,7 +80,8 @@ pub derives-set : (fits : Bool) (result : Result Recorded Fault) (h k : List Nam
 derives-set fits (Ok made) h k c same shown = shows-set made.theorem h k c same shown
 derives-set fits (Err fault) h k c same past = past
 
-pub redex-left : (theory : Theory) (function binder argument : NamedTerm) (at : IsAtVariable theory function binder argument) (others : List Nameless) → occurs_free at.other at.ty (existential at.name at.ty at.body) ≡ false → NotFreeInAny at.other at.ty others
+pub redex-left : (theory : Theory) (function binder argument : NamedTerm) (at : IsAtVariable theory function binder argument)
+    (others : List Nameless) → occurs_free at.other at.ty (existential at.name at.ty at.body) ≡ false → NotFreeInAny at.other at.ty others
     → IsLeft at.other at.ty (redex at.name at.ty at.body argument) others
 redex-left theory function binder argument at others fresh none =
     let here : occurs_free at.other at.ty (image argument) ≡ true = ap (λ (t : NamedTerm). occurs_free at.other at.ty (image t)) at.argument_is ∙ same_variable-self at.other at.ty in
@@ -126,7 +129,8 @@ choose-start theory term first second function binder body name ty dest quantifi
       outcome = rw (dest, quantified.dest, same, type_eq-self ty, knows) refl;
     }
 
-module _ (theory : Theory) (term : NamedTerm) (first second : Theorem) (function binder body : NamedTerm) (name : List ℕ) (ty : HolType) (chosen : IsChosen theory term first second function binder body name ty) where
+module _ (theory : Theory) (term : NamedTerm) (first second : Theorem) (function binder body : NamedTerm) (name : List ℕ) (ty : HolType)
+    (chosen : IsChosen theory term first second function binder body name ty) where
   abbrev at : IsAtVariable theory function binder term
   at = chosen.at
 
@@ -157,13 +161,16 @@ module _ (theory : Theory) (term : NamedTerm) (first second : Theorem) (function
       in_none at.other at.ty (existential at.name at.ty at.body ∷ image second.conclusion ∷ others)
       ((λ i. is_free_in_some (chosen.name_is i) (chosen.type_is i) (sym chosen.formula_image i ∷ image second.conclusion ∷ others)) ∙ fresh)
 
-  pub choose-answers : (result : Result Recorded Fault) → is_free_in_some name ty tested ≡ false → DerivesIf (leave_room at.name at.ty at.body second.conclusion) result (images first ++ others) (image second.conclusion)
+  pub choose-answers : (result : Result Recorded Fault) → is_free_in_some name ty tested ≡ false
+      → DerivesIf (leave_room at.name at.ty at.body second.conclusion) result (images first ++ others) (image second.conclusion)
       → IfOk result (λ made. made.theorem.conclusion ≡ second.conclusion) → AnswersStated (theorem_in result) arguments (choose_outcome theory term first second)
   choose-answers result fresh derives names =
       let sequent : Stated = record { hypotheses = images first ++ others; conclusion = named second.conclusion } in
       let outcome : choose_outcome theory term first second ≡ Ok sequent = chosen.outcome ∙ (rw fresh refl) in
       let small : List Nameless = image first.conclusion ∷ image second.conclusion ∷ [] in
-      let here = subst (λ (t : Nameless). DerivesIf (list_all is_roomy (t ∷ image second.conclusion ∷ [])) result (images first ++ others) (image second.conclusion)) (sym chosen.formula_image) derives in
+      let here = subst (λ (t : Nameless).
+          DerivesIf (list_all is_roomy (t ∷ image second.conclusion ∷ [])) result (images first ++ others) (image second.conclusion))
+          (sym chosen.formula_image) derives in
       subst (λ (o : Result Stated Fault). AnswersStated (theorem_in result) arguments o) (sym outcome)
       (answers-stated result arguments small (images first ++ others) (image second.conclusion) sequent here (record { to = λ t m. m; back = λ t m. m }) names there)
     where
@@ -174,7 +181,8 @@ module _ (theory : Theory) (term : NamedTerm) (first second : Theorem) (function
 
 -- `(\x. p) v ==> q`, from hypotheses in which the variable is not free
 
-pub record IsSufficient (theory : Theory) (function binder argument : NamedTerm) (at : IsAtVariable theory function binder argument) (q : NamedTerm) (others : List Nameless) (sufficient : Theorem) : Type 0 where
+pub record IsSufficient (theory : Theory) (function binder argument : NamedTerm) (at : IsAtVariable theory function binder argument) (q : NamedTerm)
+    (others : List Nameless) (sufficient : Theorem) : Type 0 where
   pub typed : type_of sufficient.conclusion ≡ Some bool_type
   pub is : image sufficient.conclusion ≡ nameless.implication (redex at.name at.ty at.body argument) (image q)
   pub may : MayGeneralize theory sufficient argument at.other at.ty
@@ -182,7 +190,8 @@ pub record IsSufficient (theory : Theory) (function binder argument : NamedTerm)
   pub fresh : occurs_free at.other at.ty (existential at.name at.ty at.body) ≡ false
   pub fresh_q : occurs_free at.other at.ty (image q) ≡ false
 
-pub sufficient-at : (theory : Theory) (function binder argument : NamedTerm) (at : IsAtVariable theory function binder argument) (q : NamedTerm) (others : List Nameless) (sufficient : Theorem) → type_of q ≡ Some bool_type
+pub sufficient-at : (theory : Theory) (function binder argument : NamedTerm) (at : IsAtVariable theory function binder argument) (q : NamedTerm)
+    (others : List Nameless) (sufficient : Theorem) → type_of q ≡ Some bool_type
     → NotFreeInAny at.other at.ty (existential at.name at.ty at.body ∷ image q ∷ others)
     → Shows sufficient (without (redex at.name at.ty at.body argument) (redex at.name at.ty at.body argument ∷ others)) (nameless.implication (redex at.name at.ty at.body argument) (image q))
     → IsSufficient theory function binder argument at q others sufficient
@@ -193,7 +202,9 @@ sufficient-at theory function binder argument at q others sufficient typed none 
     let formula = applied-formula theory function binder argument at in
     let applied_typed : HasType [] applied bool_type = subst (λ (t : Nameless). HasType [] t bool_type) (applied_image theory function binder argument at) formula.known.typed in
     record {
-      typed = image-type sufficient.conclusion bool_type (subst (λ (t : Nameless). HasType [] t bool_type) (sym shown.concludes) (bool_type, (bool_type, refl, applied_typed), image-typed q bool_type typed));
+      typed = image-type sufficient.conclusion bool_type
+          (subst (λ (t : Nameless). HasType [] t bool_type) (sym shown.concludes)
+          (bool_type, (bool_type, refl, applied_typed), image-typed q bool_type typed));
       is = shown.concludes;
       may = record { binder_is = at.argument_is; type_known = at.type_known; fresh = left-fresh at.other at.ty applied others (images sufficient) left shown.same_set };
       set = λ firsts. left-set at.other at.ty applied others (images sufficient) firsts left shown.same_set;
@@ -204,14 +215,20 @@ sufficient-at theory function binder argument at q others sufficient typed none 
 same_type : (s t : HolType) → Some s ≡ Some t → s ≡ t
 same_type s t is = cc
 
-pub choose-parts : (theory : Theory) → generic_type theory exists_name ≡ Some (quantifier type_a) → (first : Theorem) → IsFormula theory first.conclusion → (formula constant_term function binder body : NamedTerm) → formula ≡ first.conclusion
-    → formula ≡ combination constant_term function → is_constant_named exists_name constant_term ≡ true → dest_abstraction function ≡ Some (binder, body) → IsQuantified theory exists_name first.conclusion function binder body
+pub choose-parts : (theory : Theory) → generic_type theory exists_name ≡ Some (quantifier type_a) → (first : Theorem)
+    → IsFormula theory first.conclusion → (formula constant_term function binder body : NamedTerm) → formula ≡ first.conclusion
+    → formula ≡ combination constant_term function → is_constant_named exists_name constant_term ≡ true
+        → dest_abstraction function ≡ Some (binder, body) → IsQuantified theory exists_name first.conclusion function binder body
 choose-parts theory generic first is_formula formula constant_term function binder body formula_is whole is_named dest =
     quantified-at theory exists_name generic first.conclusion constant_term function binder body bool_type is_formula.known (sym formula_is ∙ whole) is_named dest
 
-pub quantified-type : (theory : Theory) (formula function binder body : NamedTerm) (quantified : IsQuantified theory exists_name formula function binder body) (found : HolType) → type_of binder ≡ Some found → quantified.ty ≡ found
+pub quantified-type : (theory : Theory) (formula function binder body : NamedTerm)
+    (quantified : IsQuantified theory exists_name formula function binder body) (found : HolType) → type_of binder ≡ Some found
+    → quantified.ty ≡ found
 quantified-type theory formula function binder body quantified found typed = same_type quantified.ty found (sym (ap type_of quantified.binder_is) ∙ typed)
 
-pub choose-mismatch : (theory : Theory) (term : NamedTerm) (first second : Theorem) (function binder body : NamedTerm) (name : List ℕ) (ty : HolType) (arguments : List Nameless) → dest_variable term ≡ Some (name, ty)
-    → (quantified : IsQuantified theory exists_name first.conclusion function binder body) → type_eq quantified.ty ty ≡ false → AnswersStated (Err TypeMismatch) arguments (choose_outcome theory term first second)
+pub choose-mismatch : (theory : Theory) (term : NamedTerm) (first second : Theorem) (function binder body : NamedTerm) (name : List ℕ) (ty : HolType)
+    (arguments : List Nameless) → dest_variable term ≡ Some (name, ty)
+    → (quantified : IsQuantified theory exists_name first.conclusion function binder body) → type_eq quantified.ty ty ≡ false
+        → AnswersStated (Err TypeMismatch) arguments (choose_outcome theory term first second)
 choose-mismatch theory term first second function binder body name ty arguments dest quantified other = rw (dest, quantified.dest, other) (inr refl)

@@ -96,7 +96,8 @@ module _ (theory : Theory) (function binder argument : NamedTerm) (at : IsAtVari
   pub applied-formula : IsFormula theory (combination function argument)
   applied-formula = record {
     typed = application function argument at.ty bool_type function-typed argument-typed;
-    known = subst (λ (t : Nameless). IsKnown theory t bool_type) (sym applied_image) (app-known theory at.ty bool_type (closed at.name at.ty at.body) (image argument) at.function_known argument-known);
+    known = subst (λ (t : Nameless). IsKnown theory t bool_type) (sym applied_image)
+        (app-known theory at.ty bool_type (closed at.name at.ty at.body) (image argument) at.function_known argument-known);
   }
 
   pub none-unknown : first_unknown theory (combination (abstraction at.name at.ty at.body) argument) ≡ None
@@ -184,7 +185,8 @@ module _ (theory : Theory) (function binder argument : NamedTerm) (at : IsAtVari
       few = λ all. (parts-of (first-roomy all)).few;
     }
 
-    suffices-sized : (c : NamedTerm) → type_of c ≡ Some bool_type → image c ≡ nameless.implication applied (image q) → occurs_free at.other at.ty formula ≡ false → occurs_free at.other at.ty (image q) ≡ false
+    suffices-sized : (c : NamedTerm) → type_of c ≡ Some bool_type → image c ≡ nameless.implication applied (image q)
+        → occurs_free at.other at.ty formula ≡ false → occurs_free at.other at.ty (image q) ≡ false
         → room ≡ true → IsSized 1004 10006 (suffices at.ty (closed at.name at.ty at.body) (image q))
     suffices-sized c typed is fresh fresh_q all = subst (λ (t : Nameless). IsSized 1004 10006 t) (for_all-is c is fresh fresh_q) (for_all-sized c typed is all)
 
@@ -192,14 +194,16 @@ module _ (theory : Theory) (function binder argument : NamedTerm) (at : IsAtVari
     eliminates-sized s sized all =
         sized-connected 1004 10006 5000 implies_name s (image q) (omega arith) sized (sized-more 1000 5000 1004 5000 (image q) (second-sized all) (omega arith) (omega arith))
 
-    module _ (c : NamedTerm) (typed : type_of c ≡ Some bool_type) (is : image c ≡ nameless.implication applied (image q)) (fresh : occurs_free at.other at.ty formula ≡ false) (fresh_q : occurs_free at.other at.ty (image q) ≡ false) where
+    module _ (c : NamedTerm) (typed : type_of c ≡ Some bool_type) (is : image c ≡ nameless.implication applied (image q))
+        (fresh : occurs_free at.other at.ty formula ≡ false) (fresh_q : occurs_free at.other at.ty (image q) ≡ false) where
       abbrev sufficient : Nameless
       sufficient = suffices at.ty (closed at.name at.ty at.body) (image q)
 
       pub implied-fits : FitsIf room (nameless_equation bool_type (nameless.implication sufficient (image q)) (image q))
       implied-fits all =
           sized-more 1008 20012 1900 900000 (nameless_equation bool_type (nameless.implication sufficient (image q)) (image q))
-          (sized-equation 1006 15009 5000 bool_type (nameless.implication sufficient (image q)) (image q) (omega arith) (omega arith) (eliminates-sized sufficient (suffices-sized c typed is fresh fresh_q all) all)
+          (sized-equation 1006 15009 5000 bool_type (nameless.implication sufficient (image q)) (image q) (omega arith) (omega arith)
+              (eliminates-sized sufficient (suffices-sized c typed is fresh fresh_q all) all)
           (sized-more 1000 5000 1006 5000 (image q) (second-sized all) (omega arith) (omega arith))) (omega arith) (omega arith)
 
       -- the lemma at the predicate and the formula
@@ -210,11 +214,13 @@ module _ (theory : Theory) (function binder argument : NamedTerm) (at : IsAtVari
           let left = at_formula at.ty function q (over_predicate exists_name) in
           let right = at_formula at.ty function q eliminated in
           let generic_left : IsSized 2 3 (at_type at.ty (over_predicate exists_name)) =
-          sized-app 1 1 1 (const exists_name (quantifier at.ty)) (free (codes "P") (predicate at.ty)) (const-sized exists_name (quantifier at.ty) (omega arith)) (free-sized (codes "P") (predicate at.ty) (omega arith)) in
+          sized-app 1 1 1 (const exists_name (quantifier at.ty)) (free (codes "P") (predicate at.ty))
+              (const-sized exists_name (quantifier at.ty) (omega arith)) (free-sized (codes "P") (predicate at.ty) (omega arith)) in
           instance-within 1100 20000 (at_type at.ty (over_predicate exists_name)) (at_type at.ty eliminated) left right (omega arith) (omega arith) (omega arith)
           (sized-more 2 3 1100 20000 (at_type at.ty (over_predicate exists_name)) generic_left (omega arith) (omega arith))
           (sized-more 8 20 1100 20000 (at_type at.ty eliminated) (generic-sized at.ty few) (omega arith) (omega arith))
           (subst (λ (t : Nameless). IsSized 1100 20000 t) (sym (formula-at q))
           (sized-more 1000 5000 1100 20000 formula (leaves_room formula (first-roomy all)).sized (omega arith) (omega arith)))
           (subst (λ (t : Nameless). IsSized 1100 20000 t) (sym (eliminates-at q))
-          (sized-more 1006 15009 1100 20000 (eliminates at.ty (closed at.name at.ty at.body) (image q)) (eliminates-sized sufficient (suffices-sized c typed is fresh fresh_q all) all) (omega arith) (omega arith)))
+          (sized-more 1006 15009 1100 20000 (eliminates at.ty (closed at.name at.ty at.body) (image q))
+              (eliminates-sized sufficient (suffices-sized c typed is fresh fresh_q all) all) (omega arith) (omega arith)))

@@ -52,7 +52,8 @@ data Quantified (theory : Theory) (quantifier_name : List ℕ) (term : NamedTerm
   apart : named.dest_quantified quantifier_name term ≡ None → nameless.dest_quantified quantifier_name (image term) ≡ None → Quantified theory quantifier_name term whole
 
 -- the quantifier of a known formula is of the type that its abstraction asks for
-known-quantifier : (theory : Theory) (quantifier_name other : List ℕ) → generic_type theory quantifier_name ≡ Some (quantifier type_a) → other ≡ quantifier_name → (s : HolType) (name : List ℕ) (ty : HolType) (body : NamedTerm) (whole : HolType)
+known-quantifier : (theory : Theory) (quantifier_name other : List ℕ) → generic_type theory quantifier_name ≡ Some (quantifier type_a)
+    → other ≡ quantifier_name → (s : HolType) (name : List ℕ) (ty : HolType) (body : NamedTerm) (whole : HolType)
     → IsKnown theory (image (combination (constant other s) (abstraction name ty body))) whole → IsTyped theory s name ty body
 known-quantifier theory quantifier_name other generic same s name ty body whole known =
     typed-at theory quantifier_name generic s name ty body whole
@@ -64,7 +65,8 @@ quantified-image : (quantifier_name other : List ℕ) → other ≡ quantifier_n
 quantified-image quantifier_name other same s name ty body is =
     (λ i. nameless.dest_quantified quantifier_name (app (const (same i) (is i)) (lam ty (body-image name ty body i)))) ∙ rw (same_variable-self quantifier_name (quantifier ty)) refl
 
-quantified : (theory : Theory) (quantifier_name : List ℕ) → generic_type theory quantifier_name ≡ Some (quantifier type_a) → (term : NamedTerm) (whole : HolType) → IsKnown theory (image term) whole → Quantified theory quantifier_name term whole
+quantified : (theory : Theory) (quantifier_name : List ℕ) → generic_type theory quantifier_name ≡ Some (quantifier type_a)
+    → (term : NamedTerm) (whole : HolType) → IsKnown theory (image term) whole → Quantified theory quantifier_name term whole
 quantified theory quantifier_name generic (combination (constant other s) (abstraction name ty body)) whole known = go (bytes_eq other quantifier_name) refl
   where
     go : (test : Bool) → bytes_eq other quantifier_name ≡ test → Quantified theory quantifier_name (combination (constant other s) (abstraction name ty body)) whole
@@ -73,7 +75,8 @@ quantified theory quantifier_name generic (combination (constant other s) (abstr
         let typed = known-quantifier theory quantifier_name other generic same s name ty body whole known in
         let is_type : function_type known.typed.0 whole ≡ quantifier ty = sym known.typed.1 ∙ typed.quantifier_type in
         let whole_is : whole ≡ bool_type = cc in
-        parted (parts_of name ty body) (rw is refl) (quantified-image quantifier_name other same s name ty body typed.quantifier_type) ((knows_type-Decides theory ty).1 typed.function_known.parts.0) whole_is
+        parted (parts_of name ty body) (rw is refl) (quantified-image quantifier_name other same s name ty body typed.quantifier_type)
+            ((knows_type-Decides theory ty).1 typed.function_known.parts.0) whole_is
     go false is = apart (rw is refl) (rw (other-name quantifier_name other (quantifier ty) s is) refl)
 quantified theory quantifier_name generic (combination (constant other s) (variable name ty)) whole known = apart refl refl
 quantified theory quantifier_name generic (combination (constant other s) (constant name ty)) whole known = apart refl refl
@@ -124,7 +127,9 @@ pub drawn-gen : (theory : Theory) (x : NamedTerm) (a : Theorem) → Draws theory
 drawn-gen theory (variable name ty) a = go (knows_type theory ty)
   where
     passed_or_not : (some : Bool) → StatesDrawn (unless (not some) FreeInHypothesis (stated (images a) (named.forall_term name ty a.conclusion)))
-        (option_map (λ hypotheses. record { hypotheses = [] ++ hypotheses; conclusion = nameless_formulas.forall_term ty (close name ty (image a.conclusion)) }) (if not some then Some (map unchanged (images a) ++ []) else None))
+        (option_map (λ hypotheses. record { hypotheses = [] ++ hypotheses; conclusion =
+            nameless_formulas.forall_term ty (close name ty (image a.conclusion)) })
+            (if not some then Some (map unchanged (images a) ++ []) else None))
     passed_or_not false = record { hypotheses = same_set (sym (one_premise (images a))); conclusion = ap (λ (b : Nameless). nameless_formulas.forall_term ty b) (body-image name ty a.conclusion) }
     passed_or_not true = tt
 
@@ -162,8 +167,11 @@ module _ (journal : Journal) (logic : Stored) (has : HasLogic journal logic) (le
       passed_or_not all_others true = tt
 
       tests : (parts : Abstracted) (first second : Bool)
-          → StatesDrawn (unless (not (first || (second || is_free_in_some name ty (without (body_with parts (variable name ty)) (images b))))) FreeInHypothesis (stated (images a ++ without (body_with parts (variable name ty)) (images b)) b.conclusion))
-          (given (require (not (first || second)) (conclude (all ∷ all_but_without_variable (fill (free name ty) (close parts.name parts.ty (image parts.body))) name ty ∷ []) (image b.conclusion))) (λ inference. drawn inference (images a ∷ images b ∷ [])))
+          → StatesDrawn (unless (not (first || (second || is_free_in_some name ty (without (body_with parts (variable name ty)) (images b)))))
+              FreeInHypothesis (stated (images a ++ without (body_with parts (variable name ty)) (images b)) b.conclusion))
+          (given (require (not (first || second))
+              (conclude (all ∷ all_but_without_variable (fill (free name ty) (close parts.name parts.ty (image parts.body))) name ty ∷ [])
+              (image b.conclusion))) (λ inference. drawn inference (images a ∷ images b ∷ [])))
       tests parts true second = tt
       tests parts false true = tt
       tests parts false false =
@@ -175,7 +183,8 @@ module _ (journal : Journal) (logic : Stored) (has : HasLogic journal logic) (le
           (unless (not (is_free_in_some name ty (image a.conclusion ∷ image b.conclusion ∷ without (body_with parts (variable name ty)) (images b)))) FreeInHypothesis
           (stated (images a ++ without (body_with parts (variable name ty)) (images b)) b.conclusion))))
           (given (require (type_eq ty parts.ty && not (occurs_free name ty (image a.conclusion) || occurs_free name ty (image b.conclusion)))
-          (conclude (all ∷ all_but_without_variable (fill (free name ty) (close parts.name parts.ty (image parts.body))) name ty ∷ []) (image b.conclusion))) (λ inference. drawn inference (images a ∷ images b ∷ [])))
+          (conclude (all ∷ all_but_without_variable (fill (free name ty) (close parts.name parts.ty (image parts.body))) name ty ∷ [])
+              (image b.conclusion))) (λ inference. drawn inference (images a ∷ images b ∷ [])))
       go parts known true same =
           let is : parts.ty ≡ ty = (type_eq-Decides parts.ty ty).0 same in
           let back : type_eq ty parts.ty ≡ true = (type_eq-Decides ty parts.ty).1 (sym is) in
@@ -210,7 +219,8 @@ module _ (journal : Journal) (logic : Stored) (has : HasLogic journal logic) (le
       of_witness true (fails fault tests there) alike = rw (tests, there) tt
       of_witness false walked_w alike = tt
 
-      of_known : is_known journal.theory e ≡ true → first_unknown journal.theory e ≡ None → Quantified journal.theory exists_name e ty → Draws journal.theory (rule_exists e w) (a ∷ []) (exists_outcome journal.theory e w a)
+      of_known : is_known journal.theory e ≡ true → first_unknown journal.theory e ≡ None → Quantified journal.theory exists_name e ty
+          → Draws journal.theory (rule_exists e w) (a ∷ []) (exists_outcome journal.theory e w a)
       of_known tests none (parted parts dest is known whole) =
           let passed : is_known_formula journal.theory (image e) ≡ true = formula ∙ rw (whole, tests) refl in
           rw (dest, is, none, passed, knows-image journal.theory w s parts.ty typed_w, typed_w)
@@ -227,10 +237,15 @@ module _ (journal : Journal) (logic : Stored) (has : HasLogic journal logic) (le
       of_unknown : (fault : Fault) → is_known journal.theory e ≡ false → first_unknown journal.theory e ≡ Some fault → (found : Option Abstracted) (image_found : Option (HolType × Nameless))
           → StatesDrawn (stated_given found BadShape (λ parts. unless (is_of_type parts.ty w) TypeMismatch (refused (first_unknown journal.theory e) (refused (first_unknown journal.theory w)
           (unless (same_term (body_with parts w) (image a.conclusion)) NotAlpha (stated (images a) e))))))
-          (given (given image_found (λ parts. require (is_known_formula journal.theory (image e) && knows_nameless journal.theory (image w) parts.0 && same_term (fill (image w) parts.1) (image a.conclusion))
+          (given (given image_found (λ parts.
+              require (is_known_formula journal.theory (image e) && knows_nameless journal.theory (image w) parts.0
+              && same_term (fill (image w) parts.1) (image a.conclusion))
           (conclude (all ∷ []) (image e)))) (λ inference. drawn inference (images a ∷ [])))
       of_unknown fault tests there None None = tt
       of_unknown fault tests there None (Some parts) = rw (unknown tests) tt
-      of_unknown fault tests there (Some parts) None = rw there (refuses (is_of_type parts.ty w) fault (refused (first_unknown journal.theory w) (unless (same_term (body_with parts w) (image a.conclusion)) NotAlpha (stated (images a) e))))
+      of_unknown fault tests there (Some parts) None =
+          rw there (refuses (is_of_type parts.ty w) fault
+          (refused (first_unknown journal.theory w) (unless (same_term (body_with parts w) (image a.conclusion)) NotAlpha (stated (images a) e))))
       of_unknown fault tests there (Some parts) (Some image_parts) =
-          rw (there, unknown tests) (refuses (is_of_type parts.ty w) fault (refused (first_unknown journal.theory w) (unless (same_term (body_with parts w) (image a.conclusion)) NotAlpha (stated (images a) e))))
+          rw (there, unknown tests) (refuses (is_of_type parts.ty w) fault
+              (refused (first_unknown journal.theory w) (unless (same_term (body_with parts w) (image a.conclusion)) NotAlpha (stated (images a) e))))

@@ -53,7 +53,9 @@ roomy-fits p roomy = sized-more 1000 5000 1900 900000 p (leaves_room p roomy).si
 
 -- from p <=> T to p
 pub back-fits : (room : Bool) (p : Nameless) → FitsIf room p → room ≡ true
-    → list_all nameless_within_limits (proposition ∷ nameless_equation bool_type proposition truth ∷ p ∷ nameless_equation bool_type p truth ∷ nameless_equation bool_type (nameless_equation bool_type p truth) p ∷ []) ≡ true
+    → list_all nameless_within_limits
+        (proposition ∷ nameless_equation bool_type proposition truth ∷ p ∷ nameless_equation bool_type p truth ∷ nameless_equation bool_type
+        (nameless_equation bool_type p truth) p ∷ []) ≡ true
 back-fits room p fits is =
     let sized = fits is in
     let equal = sized-equation 1900 900000 1 bool_type p truth (omega arith) (omega arith) sized truth-sized in
@@ -77,18 +79,22 @@ one_pair new old = (new, old) ∷ []
 pub pair-is : (new argument old binder binder_term : NamedTerm) → new ≡ argument → old ≡ binder → binder ≡ binder_term → one_pair new old ≡ one_pair argument binder_term
 pair-is new argument old binder binder_term new_is old_is binder_is = λ i. one_pair (new_is i) ((old_is ∙ binder_is) i)
 
-module _ (argument body other : NamedTerm) (name : List ℕ) (ty codomain : HolType) (argument_typed : type_of argument ≡ Some ty) (body_typed : type_of body ≡ Some codomain) (theta : List (NamedTerm × NamedTerm)) (theta_is : theta ≡ (argument, variable name ty) ∷ []) where
+module _ (argument body other : NamedTerm) (name : List ℕ) (ty codomain : HolType) (argument_typed : type_of argument ≡ Some ty)
+    (body_typed : type_of body ≡ Some codomain) (theta : List (NamedTerm × NamedTerm)) (theta_is : theta ≡ (argument, variable name ty) ∷ []) where
   put-is : put_all theta (image body) ≡ fill (image argument) (close name ty (image body))
   put-is = ap (λ (l : List (NamedTerm × NamedTerm)). put_all l (image body)) theta_is ∙ put-body argument name ty codomain body body_typed
 
-  pub instance-same : (instance : NamedTerm) → image instance ≡ put_all theta (image body) → same_term (image instance) (image other) ≡ same_term (fill (image argument) (close name ty (image body))) (image other)
+  pub instance-same : (instance : NamedTerm) → image instance ≡ put_all theta (image body)
+      → same_term (image instance) (image other) ≡ same_term (fill (image argument) (close name ty (image body))) (image other)
   instance-same instance is = ap (λ (t : Nameless). same_term t (image other)) (is ∙ put-is)
 
   -- what is past the limits is another term than one within them
-  pub past-differs : (TooLarge ≡ Memory) ⊎ (vsubst_refusal theta body ≡ Some TooLarge) → (whole : HolType) → type_of other ≡ Some whole → is_within_limits other ≡ true → false ≡ same_term (fill (image argument) (close name ty (image body))) (image other)
+  pub past-differs : (TooLarge ≡ Memory) ⊎ (vsubst_refusal theta body ≡ Some TooLarge) → (whole : HolType) → type_of other ≡ Some whole
+      → is_within_limits other ≡ true → false ≡ same_term (fill (image argument) (close name ty (image body))) (image other)
   past-differs (inl memory) whole typed within = cc
   past-differs (inr refusal) whole typed within =
-      let past = past_of (nameless_within_limits (put_all theta (image body))) (ap (λ (o : Option Fault). or_too_large o (nameless_within_limits (put_all theta (image body)))) (sym passes) ∙ refusal) in
+      let past = past_of (nameless_within_limits (put_all theta (image body)))
+          (ap (λ (o : Option Fault). or_too_large o (nameless_within_limits (put_all theta (image body)))) (sym passes) ∙ refusal) in
       let fits = within_limits-image other whole typed within in
       sym (differ (fill (image argument) (close name ty (image body))) (image other) (ap nameless_within_limits (sym put-is) ∙ past) fits)
     where
@@ -233,7 +239,8 @@ module _ (theory : Theory) (formula function binder body witness : NamedTerm) (i
 
 -- what a call answers, by its tests in their order
 
-module _ (theory : Theory) (formula witness : NamedTerm) (premise : Theorem) (name : List ℕ) (ty : HolType) (body : NamedTerm) (dest : dest_exists formula ≡ Some (record { name = name; ty = ty; body = body })) (typed : type_of witness ≡ Some ty) where
+module _ (theory : Theory) (formula witness : NamedTerm) (premise : Theorem) (name : List ℕ) (ty : HolType) (body : NamedTerm)
+    (dest : dest_exists formula ≡ Some (record { name = name; ty = ty; body = body })) (typed : type_of witness ≡ Some ty) where
   abbrev arguments : List Nameless
   arguments = image formula ∷ image witness ∷ terms_of_theorem premise
 
@@ -250,11 +257,13 @@ module _ (theory : Theory) (formula witness : NamedTerm) (premise : Theorem) (na
   formula-refused fault (inl memory) = memory-answers fault arguments (exists_outcome theory formula witness premise) memory
   formula-refused fault (inr is) = rw tests (rw is (inr refl))
 
-  pub witness-refused : first_unknown theory formula ≡ None → (fault : Fault) → (fault ≡ Memory) ⊎ (first_unknown theory witness ≡ Some fault) → AnswersStated (Err fault) arguments (exists_outcome theory formula witness premise)
+  pub witness-refused : first_unknown theory formula ≡ None → (fault : Fault) → (fault ≡ Memory) ⊎ (first_unknown theory witness ≡ Some fault)
+      → AnswersStated (Err fault) arguments (exists_outcome theory formula witness premise)
   witness-refused passes fault (inl memory) = memory-answers fault arguments (exists_outcome theory formula witness premise) memory
   witness-refused passes fault (inr is) = rw tests (rw (passes, is) (inr refl))
 
-  pub not_alpha-refused : first_unknown theory formula ≡ None → first_unknown theory witness ≡ None → is_instance ≡ false → AnswersStated (Err NotAlpha) arguments (exists_outcome theory formula witness premise)
+  pub not_alpha-refused : first_unknown theory formula ≡ None → first_unknown theory witness ≡ None → is_instance ≡ false
+      → AnswersStated (Err NotAlpha) arguments (exists_outcome theory formula witness premise)
   not_alpha-refused passes also differs = rw tests (rw (passes, also, differs) (inr refl))
 
   pub exists-answers : first_unknown theory formula ≡ None → first_unknown theory witness ≡ None → is_instance ≡ true → (result : Result Recorded Fault)
@@ -271,16 +280,20 @@ pub record HasCandidate (formula function binder body witness : NamedTerm) : Typ
   pub parts : HasParts exists_name formula function binder body
   pub typed : type_of witness ≡ Some parts.ty
 
-pub candidate : (formula witness constant_term function binder body : NamedTerm) → formula ≡ combination constant_term function → is_constant_named exists_name constant_term ≡ true → dest_abstraction function ≡ Some (binder, body)
+pub candidate : (formula witness constant_term function binder body : NamedTerm) → formula ≡ combination constant_term function
+    → is_constant_named exists_name constant_term ≡ true → dest_abstraction function ≡ Some (binder, body)
     → (a b : HolType) → type_of witness ≡ Some a → type_of binder ≡ Some b → a ≡ b → HasCandidate formula function binder body witness
 candidate formula witness constant_term function binder body whole is_named dest a b witness_typed binder_typed same =
     let parts = has-parts exists_name formula constant_term function binder body whole is_named dest in
     record { parts = parts; typed = witness_typed ∙ ap Some same ∙ sym binder_typed ∙ ap type_of parts.binder_is }
 
 -- the parts of a call whose tests pass
-pub witnessed-at : (theory : Theory) → generic_type theory exists_name ≡ Some (quantifier type_a) → (formula witness : NamedTerm) (whole : HolType) → type_of formula ≡ Some whole → first_unknown theory formula ≡ None → first_unknown theory witness ≡ None
-    → (constant_term function binder body : NamedTerm) → formula ≡ combination constant_term function → is_constant_named exists_name constant_term ≡ true → dest_abstraction function ≡ Some (binder, body)
-    → (at : HasParts exists_name formula function binder body) → type_of witness ≡ Some at.ty → (instance : Nameless) → same_term (fill (image witness) (close at.name at.ty (image body))) instance ≡ true
+pub witnessed-at : (theory : Theory) → generic_type theory exists_name ≡ Some (quantifier type_a) → (formula witness : NamedTerm) (whole : HolType)
+    → type_of formula ≡ Some whole → first_unknown theory formula ≡ None → first_unknown theory witness ≡ None
+    → (constant_term function binder body : NamedTerm) → formula ≡ combination constant_term function
+        → is_constant_named exists_name constant_term ≡ true → dest_abstraction function ≡ Some (binder, body)
+    → (at : HasParts exists_name formula function binder body) → type_of witness ≡ Some at.ty → (instance : Nameless)
+        → same_term (fill (image witness) (close at.name at.ty (image body))) instance ≡ true
     → IsWitnessed theory formula function binder body witness instance
 witnessed-at theory generic formula witness whole formula_typed passes also constant_term function binder body is is_named dest at typed instance same =
     let parts = quantified-at theory exists_name generic formula constant_term function binder body whole (known_term theory formula whole passes formula_typed) is is_named dest in
@@ -290,7 +303,8 @@ witnessed-at theory generic formula witness whole formula_typed passes also cons
       parts = parts;
       witness_typed = witness_typed;
       witness_known = known_term theory witness parts.ty also witness_typed;
-      instance_is = sym ((same_term-Decides (fill (image witness) (close at.name at.ty (image body))) instance).0 same) ∙ (λ i. fill (image witness) (close (same_parts.0 i) (same_parts.1 i) (image body)));
+      instance_is = sym ((same_term-Decides (fill (image witness) (close at.name at.ty (image body))) instance).0 same)
+          ∙ (λ i. fill (image witness) (close (same_parts.0 i) (same_parts.1 i) (image body)));
     }
   where
     same_variable_parts : (a b : List ℕ) (s t : HolType) → variable a s ≡ variable b t → (a ≡ b) × (s ≡ t)

@@ -73,7 +73,8 @@ module _ (name : List ℕ) (ty : HolType) (body : NamedTerm) where
     body-fits typed is = body-sized 1900 900000 name ty body typed (omega arith) (omega arith) (function-fits is)
 
     -- \x. p
-    pub abstraction-past : (binder : NamedTerm) → binder ≡ variable name ty → type_of body ≡ Some bool_type → (fault : Fault) → Answers {A = NamedTerm} (Err fault) (abstraction_outcome binder body) → IsPast fault room
+    pub abstraction-past : (binder : NamedTerm) → binder ≡ variable name ty → type_of body ≡ Some bool_type → (fault : Fault)
+        → Answers {A = NamedTerm} (Err fault) (abstraction_outcome binder body) → IsPast fault room
     abstraction-past binder binder_is typed fault answers =
         past-room fault (nameless_within_limits (image (abstraction name ty body))) room
         (limited-past fault (abstraction name ty body) (predicate ty) (abstraction_typed typed)
@@ -99,7 +100,8 @@ module _ (name : List ℕ) (ty : HolType) (body : NamedTerm) where
         let quantifier_sized = const-sized forall_name (quantifier ty) (omega arith) in
         let truths : IsSized 2 2 (lam ty truth) = record { height = omega arith; nodes = omega arith; types = le-leb _ TYPE_NODES_LIMIT (omega arith) } in
         let generic_left : IsSized 4 6 (nameless_equation (predicate ty) (free (codes "P") (predicate ty)) (lam ty truth)) =
-        sized-equation 2 1 2 (predicate ty) (free (codes "P") (predicate ty)) (lam ty truth) (omega arith) (omega arith) (sized-more 1 1 2 1 (free (codes "P") (predicate ty)) predicate_sized (omega arith) (omega arith)) truths in
+        sized-equation 2 1 2 (predicate ty) (free (codes "P") (predicate ty)) (lam ty truth) (omega arith) (omega arith)
+            (sized-more 1 1 2 1 (free (codes "P") (predicate ty)) predicate_sized (omega arith) (omega arith)) truths in
         let generic_right : IsSized 2 3 (app (const forall_name (quantifier ty)) (free (codes "P") (predicate ty))) =
         sized-app 1 1 1 (const forall_name (quantifier ty)) (free (codes "P") (predicate ty)) quantifier_sized predicate_sized in
         let left = at_predicate ty (abstraction name ty body) binder is_always in

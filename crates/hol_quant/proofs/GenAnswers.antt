@@ -64,13 +64,15 @@ pub record IsGeneral (theory : Theory) (premise : Theorem) (binder : NamedTerm) 
 known-variable : (theory : Theory) (name : List ℕ) (ty : HolType) → is_known theory (variable name ty) ≡ true → knows_type theory ty ≡ true
 known-variable theory name ty known = first_of_both (knows_type theory ty) true (first_of_both (knows_type theory ty && true) true known)
 
-pub gen-free : (theory : Theory) (premise : Theorem) (binder : NamedTerm) (name : List ℕ) (ty : HolType) (arguments : List Nameless) → dest_variable binder ≡ Some (name, ty) → is_known theory binder ≡ true
+pub gen-free : (theory : Theory) (premise : Theorem) (binder : NamedTerm) (name : List ℕ) (ty : HolType) (arguments : List Nameless)
+    → dest_variable binder ≡ Some (name, ty) → is_known theory binder ≡ true
     → is_free_in_hypotheses name ty premise.hypotheses ≡ true → AnswersStated (Err FreeInHypothesis) arguments (gen_outcome theory binder premise)
 gen-free theory premise binder name ty arguments dest known is_free =
     let knows = known-variable theory name ty (ap (is_known theory) (sym (variable_of binder name ty dest)) ∙ known) in
     rw (dest, knows, free-same name ty premise.hypotheses, is_free) (inr refl)
 
-pub gen-start : (journal : Journal) → IsLegal journal.theory → (made : Recorded) → IsMade journal made → IsTheorem made.theorem → (binder : NamedTerm) (name : List ℕ) (ty : HolType) → dest_variable binder ≡ Some (name, ty)
+pub gen-start : (journal : Journal) → IsLegal journal.theory → (made : Recorded) → IsMade journal made → IsTheorem made.theorem
+    → (binder : NamedTerm) (name : List ℕ) (ty : HolType) → dest_variable binder ≡ Some (name, ty)
     → is_known journal.theory binder ≡ true → is_free_in_hypotheses name ty made.theorem.hypotheses ≡ false → IsGeneral journal.theory made.theorem binder name ty
 gen-start journal legal made is_made is binder name ty dest known fresh =
     let theory = journal.theory in
@@ -120,7 +122,8 @@ module _ (theory : Theory) (premise : Theorem) (binder : NamedTerm) (name : List
       (answers-stated result (terms_of_theorem premise) small (images premise) (image formula) sequent derives (record { to = λ x m. m; back = λ x m. m }) names
       (λ t m. elim m [ inl e ↦ inl e | inr k ↦ (elim k [ inl e ↦ IsMember-append_right t (terms_of_theorem premise) (terms_of_stated sequent) (inl e) | inr none ↦ absurd none ]) ]))
 
-  pub gen-past : (fault : Fault) (within : Bool) → IsPast fault within → (list_all is_roomy small ≡ true → within ≡ true) → AnswersStated (Err fault) (terms_of_theorem premise) (gen_outcome theory binder premise)
+  pub gen-past : (fault : Fault) (within : Bool) → IsPast fault within → (list_all is_roomy small ≡ true → within ≡ true)
+      → AnswersStated (Err fault) (terms_of_theorem premise) (gen_outcome theory binder premise)
   gen-past fault within past fits = gen-answers (Err fault) (past-room fault within (list_all is_roomy small) past fits) tt
 
   -- what leaves room
@@ -137,7 +140,9 @@ module _ (theory : Theory) (premise : Theorem) (binder : NamedTerm) (name : List
       }
 
   pub formula-within : list_all is_roomy small ≡ true → nameless_within_limits (app (const forall_name (quantifier ty)) (image function)) ≡ true
-  formula-within all = ap nameless_within_limits formula_image ∙ sized-within 1000 5000 (app (const forall_name (quantifier ty)) (closed name ty premise.conclusion)) (gen-room all).formula_sized (omega arith) (omega arith)
+  formula-within all = ap nameless_within_limits formula_image
+      ∙ sized-within 1000 5000 (app (const forall_name (quantifier ty)) (closed name ty premise.conclusion)) (gen-room all).formula_sized
+      (omega arith) (omega arith)
 
   pub may-generalize : MayGeneralize theory premise binder name ty
   may-generalize = record { binder_is = at.binder_is; type_known = at.knows; fresh = at.fresh }
@@ -150,7 +155,8 @@ module _ (theory : Theory) (premise : Theorem) (binder : NamedTerm) (name : List
 
   -- \x. p
 
-  pub abstraction-past : (fault : Fault) → Answers {A = NamedTerm} (Err fault) (abstraction_outcome binder premise.conclusion) → AnswersStated (Err fault) (terms_of_theorem premise) (gen_outcome theory binder premise)
+  pub abstraction-past : (fault : Fault) → Answers {A = NamedTerm} (Err fault) (abstraction_outcome binder premise.conclusion)
+      → AnswersStated (Err fault) (terms_of_theorem premise) (gen_outcome theory binder premise)
   abstraction-past fault answers =
       gen-past fault (list_all is_roomy small) (abstractions.abstraction-past name ty premise.conclusion (list_all is_roomy small) gen-fits binder at.binder_is at.typed fault answers) (λ all. all)
 

@@ -33,12 +33,14 @@ abbrev pub proposition : Nameless
 proposition = free (codes "p") bool_type
 
 -- a known formula may stand for p
-pub formula-passes : (theory : Theory) (formula : NamedTerm) → type_of formula ≡ Some bool_type → IsKnown theory (image formula) bool_type → replacements_refusal theory ((formula, variable (codes "p") bool_type) ∷ []) ≡ None
+pub formula-passes : (theory : Theory) (formula : NamedTerm) → type_of formula ≡ Some bool_type → IsKnown theory (image formula) bool_type
+    → replacements_refusal theory ((formula, variable (codes "p") bool_type) ∷ []) ≡ None
 formula-passes theory formula typed known =
     rw typed (go (knows_types theory formula) (knows_constants theory formula) (has_instances theory formula) ((is_known-Decides theory formula bool_type typed).1 known))
   where
     go : (types constants instances : Bool) → (types && constants && instances) ≡ true
-        → (if not (types && true) then Some Fault.UnknownType else (if not (constants && true) then Some Fault.UnknownConst else (if not (instances && true) then Some Fault.NotInstance else None))) ≡ None
+        → (if not (types && true) then Some Fault.UnknownType else
+            (if not (constants && true) then Some Fault.UnknownConst else (if not (instances && true) then Some Fault.NotInstance else None))) ≡ None
     go true true true known = refl
     go true true false known = cc
     go true false instances known = cc
@@ -48,11 +50,14 @@ pub truth-sized : IsSized 1900 1 truth
 truth-sized = record { height = omega arith; nodes = omega arith; types = refl }
 
 pub truth-fits : (room : Bool) (p : Nameless) → FitsIf room p → room ≡ true
-    → list_all nameless_within_limits (nameless_equation bool_type proposition truth ∷ proposition ∷ nameless_equation bool_type p truth ∷ p ∷ nameless_equation bool_type p (nameless_equation bool_type p truth) ∷ []) ≡ true
+    → list_all nameless_within_limits
+        (nameless_equation bool_type proposition truth ∷ proposition ∷ nameless_equation bool_type p truth ∷ p ∷ nameless_equation bool_type p
+        (nameless_equation bool_type p truth) ∷ []) ≡ true
 truth-fits room p fits is =
     let sized = fits is in
     let equal = sized-equation 1900 900000 1 bool_type p truth (omega arith) (omega arith) sized truth-sized in
-    let both = sized-equation 1902 900000 900004 bool_type p (nameless_equation bool_type p truth) (omega arith) (omega arith) (sized-more 1900 900000 1902 900000 p sized (omega arith) (omega arith)) equal in
+    let both = sized-equation 1902 900000 900004 bool_type p (nameless_equation bool_type p truth) (omega arith) (omega arith)
+        (sized-more 1900 900000 1902 900000 p sized (omega arith) (omega arith)) equal in
     rw (
       sized-within 1902 900004 (nameless_equation bool_type p truth) equal (omega arith) (omega arith),
       sized-within 1900 900000 p sized (omega arith) (omega arith),
@@ -62,7 +67,8 @@ truth-fits room p fits is =
 -- !x. p
 
 -- the quantifier at the type of the abstraction
-pub quantifier-is : (made_quantifier : NamedTerm) (made_type boolean found : HolType) → Answers (Ok boolean) (Ok bool_type) → function_type_outcome found boolean ≡ Ok made_type → constant_outcome forall_name made_type ≡ Ok made_quantifier
+pub quantifier-is : (made_quantifier : NamedTerm) (made_type boolean found : HolType) → Answers (Ok boolean) (Ok bool_type)
+    → function_type_outcome found boolean ≡ Ok made_type → constant_outcome forall_name made_type ≡ Ok made_quantifier
     → (ty : HolType) → Some found ≡ Some (predicate ty) → made_quantifier ≡ constant forall_name (quantifier ty)
 quantifier-is made_quantifier made_type boolean found boolean_is type_outcome outcome ty found_is =
     let boolean_same : boolean ≡ bool_type = cc in
@@ -71,7 +77,8 @@ quantifier-is made_quantifier made_type boolean found boolean_is type_outcome ou
     let is = passed_value true BadName (constant forall_name made_type) made_quantifier outcome in
     is ∙ ap (constant forall_name) (type_is ∙ (λ i. function_type (found_same i) (boolean_same i)))
 
-pub formula-past : (result : Result NamedTerm Fault) (made_quantifier function : NamedTerm) → ((ty : HolType) → type_of function ≡ Some (predicate ty) → made_quantifier ≡ constant forall_name (quantifier ty))
+pub formula-past : (result : Result NamedTerm Fault) (made_quantifier function : NamedTerm)
+    → ((ty : HolType) → type_of function ≡ Some (predicate ty) → made_quantifier ≡ constant forall_name (quantifier ty))
     → Answers result (combination_outcome made_quantifier function)
     → IfErr result (λ fault. (ty : HolType) → type_of function ≡ Some (predicate ty) → IsPast fault (nameless_within_limits (app (const forall_name (quantifier ty)) (image function))))
 formula-past (Ok made) made_quantifier function is answers = tt

@@ -16,7 +16,8 @@ use Rattle.hol_equal.proofs.DrawnTerms.{IsPremise}
 use Rattle.hol_equal.proofs.InferredEquality.{infers}
 use Rattle.hol_quant.proofs.DrawnQuantifiers.{drawn-spec, drawn-gen, drawn-exists, drawn-choose}
 
-pub infers_spec : {journal : Journal} {logic : Stored} {t : NamedTerm} {ty : HolType} {a : Theorem} {result : Result Theorem Fault} → HasLogic journal logic → IsLegal journal.theory → type_of t ≡ Some ty → IsPremise journal.theory a
+pub infers_spec : {journal : Journal} {logic : Stored} {t : NamedTerm} {ty : HolType} {a : Theorem} {result : Result Theorem Fault}
+    → HasLogic journal logic → IsLegal journal.theory → type_of t ≡ Some ty → IsPremise journal.theory a
     → AnswersStated result (image t ∷ terms_of_theorem a) (spec_outcome journal.theory t a) → Infers journal.theory (rule_spec t) (a ∷ []) result
 infers_spec {journal} {logic} {t} {ty} {a} {result} has legal typed premise answers =
     infers journal.theory (rule_spec t) (a ∷ []) (image t ∷ terms_of_theorem a) (spec_outcome journal.theory t a) result (drawn-spec journal logic has legal t ty a typed premise) answers
@@ -26,12 +27,15 @@ pub infers_gen : {theory : Theory} {x : NamedTerm} {a : Theorem} {result : Resul
 infers_gen {theory} {x} {a} {result} answers =
     infers theory (rule_gen x) (a ∷ []) (terms_of_theorem a) (gen_outcome theory x a) result (drawn-gen theory x a) answers
 
-pub infers_exists : {journal : Journal} {logic : Stored} {e w : NamedTerm} {ty s : HolType} {a : Theorem} {result : Result Theorem Fault} → HasLogic journal logic → IsLegal journal.theory → type_of e ≡ Some ty → type_of w ≡ Some s
+pub infers_exists : {journal : Journal} {logic : Stored} {e w : NamedTerm} {ty s : HolType} {a : Theorem} {result : Result Theorem Fault}
+    → HasLogic journal logic → IsLegal journal.theory → type_of e ≡ Some ty → type_of w ≡ Some s
     → AnswersStated result (image e ∷ image w ∷ terms_of_theorem a) (exists_outcome journal.theory e w a) → Infers journal.theory (rule_exists e w) (a ∷ []) result
 infers_exists {journal} {logic} {e} {w} {ty} {s} {a} {result} has legal typed witness_typed answers =
-    infers journal.theory (rule_exists e w) (a ∷ []) (image e ∷ image w ∷ terms_of_theorem a) (exists_outcome journal.theory e w a) result (drawn-exists journal logic has legal e w ty s a typed witness_typed) answers
+    infers journal.theory (rule_exists e w) (a ∷ []) (image e ∷ image w ∷ terms_of_theorem a) (exists_outcome journal.theory e w a) result
+        (drawn-exists journal logic has legal e w ty s a typed witness_typed) answers
 
 pub infers_choose : {journal : Journal} {logic : Stored} {v : NamedTerm} {a b : Theorem} {result : Result Theorem Fault} → HasLogic journal logic → IsLegal journal.theory → IsPremise journal.theory a
     → AnswersStated result (image v ∷ terms_of_theorem a ++ terms_of_theorem b) (choose_outcome journal.theory v a b) → Infers journal.theory (rule_choose v) (a ∷ b ∷ []) result
 infers_choose {journal} {logic} {v} {a} {b} {result} has legal premise answers =
-    infers journal.theory (rule_choose v) (a ∷ b ∷ []) (image v ∷ terms_of_theorem a ++ terms_of_theorem b) (choose_outcome journal.theory v a b) result (drawn-choose journal logic has legal v a b premise) answers
+    infers journal.theory (rule_choose v) (a ∷ b ∷ []) (image v ∷ terms_of_theorem a ++ terms_of_theorem b)
+        (choose_outcome journal.theory v a b) result (drawn-choose journal logic has legal v a b premise) answers

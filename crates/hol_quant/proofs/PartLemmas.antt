@@ -37,7 +37,8 @@ abstraction_body name ty body typed =
     let same : Some (function_type ty found.0) ≡ Some (predicate ty) = ap (option_map (function_type ty)) (sym found.1) ∙ whole in
     found.1 ∙ ap Some (same_codomain ty found.0 ty bool_type (same_type (function_type ty found.0) (predicate ty) same))
 
-pub typed-at : (theory : Theory) (quantifier_name : List ℕ) → generic_type theory quantifier_name ≡ Some (quantifier type_a) → (s : HolType) (name : List ℕ) (ty : HolType) (body : NamedTerm) (whole : HolType)
+pub typed-at : (theory : Theory) (quantifier_name : List ℕ) → generic_type theory quantifier_name ≡ Some (quantifier type_a)
+    → (s : HolType) (name : List ℕ) (ty : HolType) (body : NamedTerm) (whole : HolType)
     → IsKnown theory (app (const quantifier_name s) (closed name ty body)) whole → IsTyped theory s name ty body
 typed-at theory quantifier_name generic s name ty body whole known =
     let there = known.parts.0.1 in
@@ -84,7 +85,8 @@ parts-of quantifier_name (variable other s) function binder body is_named dest =
 parts-of quantifier_name (combination f x) function binder body is_named dest = cc
 parts-of quantifier_name (abstraction other s inner) function binder body is_named dest = cc
 
-pub has-parts : (quantifier_name : List ℕ) (formula constant_term function binder body : NamedTerm) → formula ≡ combination constant_term function → is_constant_named quantifier_name constant_term ≡ true
+pub has-parts : (quantifier_name : List ℕ) (formula constant_term function binder body : NamedTerm) → formula ≡ combination constant_term function
+    → is_constant_named quantifier_name constant_term ≡ true
     → dest_abstraction function ≡ Some (binder, body) → HasParts quantifier_name formula function binder body
 has-parts quantifier_name formula constant_term function binder body is is_named dest =
     subst (λ (t : NamedTerm). HasParts quantifier_name t function binder body) (sym is) (parts-of quantifier_name constant_term function binder body is_named dest)
@@ -119,7 +121,8 @@ by_parts theory quantifier_name generic (variable other s) function binder body 
 by_parts theory quantifier_name generic (combination f x) function binder body whole known is_named dest = cc
 by_parts theory quantifier_name generic (abstraction other s inner) function binder body whole known is_named dest = cc
 
-pub quantified-at : (theory : Theory) (quantifier_name : List ℕ) → generic_type theory quantifier_name ≡ Some (quantifier type_a) → (formula constant_term function binder body : NamedTerm) (whole : HolType)
+pub quantified-at : (theory : Theory) (quantifier_name : List ℕ) → generic_type theory quantifier_name ≡ Some (quantifier type_a)
+    → (formula constant_term function binder body : NamedTerm) (whole : HolType)
     → IsKnown theory (image formula) whole → formula ≡ combination constant_term function → is_constant_named quantifier_name constant_term ≡ true → dest_abstraction function ≡ Some (binder, body)
     → IsQuantified theory quantifier_name formula function binder body
 quantified-at theory quantifier_name generic formula constant_term function binder body whole known is is_named dest =

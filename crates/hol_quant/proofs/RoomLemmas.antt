@@ -33,7 +33,8 @@ pub record PredicateRoom (name : List ℕ) (ty : HolType) (body : NamedTerm) : T
   pub few : type_nodes ty ≤ 250
 
 -- the body of an abstraction of formulas
-pub body-sized : (tall many : ℕ) (name : List ℕ) (ty : HolType) (body : NamedTerm) → type_of body ≡ Some bool_type → tall ≤ 2000 → many ≤ 4000000 → IsSized tall many (closed name ty body) → IsSized tall many (image body)
+pub body-sized : (tall many : ℕ) (name : List ℕ) (ty : HolType) (body : NamedTerm) → type_of body ≡ Some bool_type → tall ≤ 2000 → many ≤ 4000000
+    → IsSized tall many (closed name ty body) → IsSized tall many (image body)
 body-sized tall many name ty body typed low few function =
     let height_is : nameless_height (closed name ty body) ≡ height body + 1 = ap nameless_height (sym (image-abstraction name ty body)) ∙ height-image [] (abstraction name ty body) in
     let nodes_is : nameless_nodes (closed name ty body) ≡ nodes body + 1 = ap nameless_nodes (sym (image-abstraction name ty body)) ∙ nodes-image [] (abstraction name ty body) in
@@ -44,7 +45,8 @@ body-sized tall many name ty body typed low few function =
     record {
       height = omega arith;
       nodes = omega arith;
-      types = second_of_both (nat_le (nameless_height (image body)) TERM_HEIGHT_LIMIT && nat_le (nameless_nodes (image body)) TERM_NODES_LIMIT) (nameless_types_fit [] (image body)) (within (nameless_within_limits (image body)) refl);
+      types = second_of_both (nat_le (nameless_height (image body)) TERM_HEIGHT_LIMIT && nat_le (nameless_nodes (image body)) TERM_NODES_LIMIT)
+          (nameless_types_fit [] (image body)) (within (nameless_within_limits (image body)) refl);
     }
   where
     within : (test : Bool) → nameless_within_limits (image body) ≡ test → nameless_within_limits (image body) ≡ true
@@ -55,7 +57,8 @@ body-sized tall many name ty body typed low few function =
         cc
 
 -- the abstraction of a formula
-pub closed-sized : (tall many : ℕ) (name : List ℕ) (ty : HolType) (body : NamedTerm) → type_of body ≡ Some bool_type → type_nodes ty ≤ 1900 → tall ≤ 1990 → many ≤ 3000000 → IsSized tall many (image body)
+pub closed-sized : (tall many : ℕ) (name : List ℕ) (ty : HolType) (body : NamedTerm) → type_of body ≡ Some bool_type → type_nodes ty ≤ 1900
+    → tall ≤ 1990 → many ≤ 3000000 → IsSized tall many (image body)
     → IsSized (tall + 1) (many + 1) (closed name ty body)
 closed-sized tall many name ty body typed few low less sized =
     let whole = abstraction name ty body in
@@ -66,13 +69,16 @@ closed-sized tall many name ty body typed few low less sized =
     let low_body = sized.height in
     let few_nodes = sized.nodes in
     let fits : types_fit whole ≡ true =
-    both (types_fit body) (some_type_fits (option_map (function_type ty) (type_of body))) (second_of_both (nat_le (height body) TERM_HEIGHT_LIMIT && nat_le (nodes body) TERM_NODES_LIMIT) (types_fit body) (within (is_within_limits body) refl))
+    both (types_fit body) (some_type_fits (option_map (function_type ty) (type_of body)))
+        (second_of_both (nat_le (height body) TERM_HEIGHT_LIMIT && nat_le (nodes body) TERM_NODES_LIMIT) (types_fit body)
+        (within (is_within_limits body) refl))
     (ap (λ (o : Option HolType). some_type_fits (option_map (function_type ty) o)) typed ∙ le-leb (type_nodes (predicate ty)) TYPE_NODES_LIMIT (omega arith)) in
     let low_whole : height whole ≤ TERM_HEIGHT_LIMIT = omega arith in
     let few_whole : nodes whole ≤ TERM_NODES_LIMIT = omega arith in
     let inside : is_within_limits whole ≡ true =
     both (nat_le (height whole) TERM_HEIGHT_LIMIT && nat_le (nodes whole) TERM_NODES_LIMIT) (types_fit whole)
-    (both (nat_le (height whole) TERM_HEIGHT_LIMIT) (nat_le (nodes whole) TERM_NODES_LIMIT) (le-leb (height whole) TERM_HEIGHT_LIMIT low_whole) (le-leb (nodes whole) TERM_NODES_LIMIT few_whole)) fits in
+    (both (nat_le (height whole) TERM_HEIGHT_LIMIT) (nat_le (nodes whole) TERM_NODES_LIMIT) (le-leb (height whole) TERM_HEIGHT_LIMIT low_whole)
+        (le-leb (nodes whole) TERM_NODES_LIMIT few_whole)) fits in
     let whole_typed : type_of whole ≡ Some (predicate ty) = ap (option_map (function_type ty)) typed in
     let image_inside : nameless_within_limits (image whole) ≡ true = within_limits-image whole (predicate ty) whole_typed inside in
     record {
@@ -89,7 +95,8 @@ closed-sized tall many name ty body typed few low less sized =
         let fits : nameless_within_limits (image body) ≡ true = sized-within tall many (image body) sized (omega arith) (omega arith) in
         cc
 
-pub predicate-room : (quantifier_name name : List ℕ) (ty : HolType) (body : NamedTerm) → type_of body ≡ Some bool_type → is_roomy (app (const quantifier_name (quantifier ty)) (closed name ty body)) ≡ true
+pub predicate-room : (quantifier_name name : List ℕ) (ty : HolType) (body : NamedTerm) → type_of body ≡ Some bool_type
+    → is_roomy (app (const quantifier_name (quantifier ty)) (closed name ty body)) ≡ true
     → PredicateRoom name ty body
 predicate-room quantifier_name name ty body typed roomy =
     let whole = leaves_room (app (const quantifier_name (quantifier ty)) (closed name ty body)) roomy in
@@ -104,16 +111,19 @@ predicate-room quantifier_name name ty body typed roomy =
     record { function = function; body_sized = body-sized 1000 5000 name ty body typed (omega arith) (omega arith) function; few = omega arith }
 
 -- the conversion of a redex
-pub conversion-within : (name : List ℕ) (ty : HolType) (body argument : NamedTerm) → PredicateRoom name ty body → IsSized 1000 5000 (image argument) → IsSized 1000 5000 (fill (image argument) (close name ty (image body)))
+pub conversion-within : (name : List ℕ) (ty : HolType) (body argument : NamedTerm) → PredicateRoom name ty body → IsSized 1000 5000 (image argument)
+    → IsSized 1000 5000 (fill (image argument) (close name ty (image body)))
     → conversion_fits name ty bool_type body argument ≡ true
 conversion-within name ty body argument room argument_sized result_sized =
     let few = room.few in
     let variable_sized = sized-more 1 1 1000 1 (free name ty) (free-sized name ty (omega arith)) (omega arith) (omega arith) in
     let first = sized-app 1000 5000 1 (closed name ty body) (free name ty) room.function variable_sized in
-    let second = sized-equation 1001 5002 5000 bool_type (trivial name ty body) (image body) (omega arith) (omega arith) first (sized-more 1000 5000 1001 5000 (image body) room.body_sized (omega arith) (omega arith)) in
+    let second = sized-equation 1001 5002 5000 bool_type (trivial name ty body) (image body) (omega arith) (omega arith) first
+        (sized-more 1000 5000 1001 5000 (image body) room.body_sized (omega arith) (omega arith)) in
     let redex = sized-app 1000 5000 5000 (closed name ty body) (image argument) room.function argument_sized in
     let result = fill (image argument) (close name ty (image body)) in
-    let third = sized-equation 1001 10001 5000 bool_type (app (closed name ty body) (image argument)) result (omega arith) (omega arith) redex (sized-more 1000 5000 1001 5000 result result_sized (omega arith) (omega arith)) in
+    let third = sized-equation 1001 10001 5000 bool_type (app (closed name ty body) (image argument)) result (omega arith) (omega arith) redex
+        (sized-more 1000 5000 1001 5000 result result_sized (omega arith) (omega arith)) in
     rw (
       sized-within 1001 5002 (trivial name ty body) first (omega arith) (omega arith),
       sized-within 1003 10005 (nameless_equation bool_type (trivial name ty body) (image body)) second (omega arith) (omega arith),
@@ -121,13 +131,15 @@ conversion-within name ty body argument room argument_sized result_sized =
     ) refl
 
 -- an instance of a lemma
-pub instance-within : (tall many : ℕ) (generic_left generic_right left right : Nameless) → 1 ≤ tall → tall ≤ 1950 → many ≤ 950000 → IsSized tall many generic_left → IsSized tall many generic_right → IsSized tall many left → IsSized tall many right
+pub instance-within : (tall many : ℕ) (generic_left generic_right left right : Nameless) → 1 ≤ tall → tall ≤ 1950 → many ≤ 950000
+    → IsSized tall many generic_left → IsSized tall many generic_right → IsSized tall many left → IsSized tall many right
     → list_all nameless_within_limits (generic_right ∷ generic_left ∷ right ∷ left ∷ nameless_equation bool_type left right ∷ []) ≡ true
 instance-within tall many generic_left generic_right left right one low few generic_left_sized generic_right_sized left_sized right_sized =
     let within : (t : Nameless) → IsSized tall many t → nameless_within_limits t ≡ true = λ t sized. sized-within tall many t sized (omega arith) (omega arith) in
     let both = sized-equation tall many many bool_type left right one (omega arith) left_sized right_sized in
     let fits = sized-within (tall + 2) (many + many + 3) (nameless_equation bool_type left right) both (omega arith) (omega arith) in
-    all_five (nameless_within_limits generic_right) (nameless_within_limits generic_left) (nameless_within_limits right) (nameless_within_limits left) (nameless_within_limits (nameless_equation bool_type left right))
+    all_five (nameless_within_limits generic_right) (nameless_within_limits generic_left) (nameless_within_limits right)
+        (nameless_within_limits left) (nameless_within_limits (nameless_equation bool_type left right))
     (within generic_right generic_right_sized) (within generic_left generic_left_sized) (within right right_sized) (within left left_sized) fits
   where
     all_five : (a b c d e : Bool) → a ≡ true → b ≡ true → c ≡ true → d ≡ true → e ≡ true → (a && (b && (c && (d && (e && true))))) ≡ true

@@ -40,7 +40,8 @@ pub memory-answers : (fault : Fault) (arguments : List Nameless) (outcome : Resu
 memory-answers fault arguments (Ok sequent) memory = inl memory
 memory-answers fault arguments (Err refusal) memory = inl memory
 
-module _ (theory : Theory) (term : NamedTerm) (premise : Theorem) (function binder body : NamedTerm) (at : IsQuantified theory forall_name premise.conclusion function binder body) (typed : type_of term ≡ Some at.ty) where
+module _ (theory : Theory) (term : NamedTerm) (premise : Theorem) (function binder body : NamedTerm)
+    (at : IsQuantified theory forall_name premise.conclusion function binder body) (typed : type_of term ≡ Some at.ty) where
   -- p[t/x]
   abbrev pub specialized_body : Nameless
   specialized_body = fill (image term) (close at.name at.ty (image body))
@@ -67,7 +68,8 @@ module _ (theory : Theory) (term : NamedTerm) (premise : Theorem) (function bind
       last t (inl e) = IsMember-append_right t (images premise) (terms_of_stated sequent) (inl e)
       last t (inr none) = absurd none
 
-      concludes : (result : Result Recorded Fault) → DerivesIf (list_all is_roomy small) result (images premise) specialized_body → IfOk result (λ made. image made.theorem.conclusion ≡ specialized_body)
+      concludes : (result : Result Recorded Fault) → DerivesIf (list_all is_roomy small) result (images premise) specialized_body
+          → IfOk result (λ made. image made.theorem.conclusion ≡ specialized_body)
       concludes (Ok made) shown = shown.concludes
       concludes (Err fault) shown = tt
 
@@ -117,7 +119,8 @@ module _ (theory : Theory) (term : NamedTerm) (premise : Theorem) (function bind
       (sized-more 2 3 1100 12000 (at_type at.ty (over_predicate forall_name)) generic_left (omega arith) (omega arith))
       (sized-more 2 3 1100 12000 (at_type at.ty applied) generic_right (omega arith) (omega arith))
       (sized-more 1000 5000 1100 12000 (app (const forall_name (quantifier at.ty)) (closed at.name at.ty body)) room.conclusion_sized (omega arith) (omega arith))
-      (sized-more 1001 10001 1100 12000 (app (closed at.name at.ty body) (image term)) (sized-app 1000 5000 5000 (closed at.name at.ty body) (image term) room.parts.function room.term_sized) (omega arith) (omega arith))
+      (sized-more 1001 10001 1100 12000 (app (closed at.name at.ty body) (image term))
+          (sized-app 1000 5000 5000 (closed at.name at.ty body) (image term) room.parts.function room.term_sized) (omega arith) (omega arith))
 
   pub spec-conversion-within : list_all is_roomy small ≡ true → conversion_fits at.name at.ty bool_type body term ≡ true
   spec-conversion-within all = let room = spec-room all in conversion-within at.name at.ty body term room.parts room.term_sized room.result_sized

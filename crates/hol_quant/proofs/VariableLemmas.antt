@@ -1,5 +1,6 @@
 -- A variable put for a variable of its type keeps the height, the nodes and the types of a term.
-use Rattle.std.proofs.Common.{◌≡◌, ◌⊎◌, ℕ, List, [], ◌∷◌, Bool, true, false, ◌&&◌, refl, sym, ◌∙◌, ap, subst, inl, inr, Option, Some, None, Result, Ok, Err, IfOk, IfErr, IsTrue, if◌then◌else◌, nat_le, arith}
+use Rattle.std.proofs.Common.{◌≡◌, ◌⊎◌, ℕ, List, [], ◌∷◌, Bool, true, false, ◌&&◌, refl, sym, ◌∙◌, ap, subst, inl, inr, Option, Some, None, Result}
+use Rattle.std.proofs.Common.{Ok, Err, IfOk, IfErr, IsTrue, if◌then◌else◌, nat_le, arith}
 use Rattle.hol_model.specs.declared.fault.Fault.{Fault}
 use Rattle.hol_model.specs.declared.fault.Fault.TheVariants.{Memory}
 use Rattle.hol_model.specs.declared.limits.TheConstants.{TERM_NODES_LIMIT, TERM_HEIGHT_LIMIT}
@@ -81,7 +82,8 @@ module _ (name other : List ℕ) (ty : HolType) (body : NamedTerm) (typed : type
   -- so the substitution is not refused
   pub not-refused : nameless_within_limits (image body) ≡ true → vsubst_refusal pairs body ≡ None
   not-refused within =
-      let fits : nameless_within_limits (put_all pairs (image body)) ≡ true = ap nameless_within_limits put-is ∙ within-put (only name ty (free other ty)) (only-renames name other ty) (image body) ∙ within in
+      let fits : nameless_within_limits (put_all pairs (image body)) ≡ true = ap nameless_within_limits put-is
+          ∙ within-put (only name ty (free other ty)) (only-renames name other ty) (image body) ∙ within in
       rw (type_eq-self ty, fits) refl
 
   pub witnessed-sized : (tall many : ℕ) → IsSized tall many (image body) → IsSized tall many (witnessed name ty body (variable other ty))
@@ -104,8 +106,10 @@ module _ (result : Result NamedTerm Fault) (theta : List (NamedTerm × NamedTerm
   at-variables name other ty binder_is argument_is answers =
       subst Substituted (theta_is ∙ (λ i. (argument_is i, binder_is i) ∷ [])) answers
 
-pub substituted-is : (result : Result NamedTerm Fault) (theta : List (NamedTerm × NamedTerm)) (body binder argument : NamedTerm) → theta ≡ (argument, binder) ∷ [] → AnswersSuch result (vsubst_refusal theta body) (λ new. image new ≡ put_all theta (image body))
-    → IfOk result (λ made. (name other : List ℕ) (ty : HolType) → type_of body ≡ Some bool_type → binder ≡ variable name ty → argument ≡ variable other ty → image made ≡ witnessed name ty body argument)
+pub substituted-is : (result : Result NamedTerm Fault) (theta : List (NamedTerm × NamedTerm)) (body binder argument : NamedTerm)
+    → theta ≡ (argument, binder) ∷ [] → AnswersSuch result (vsubst_refusal theta body) (λ new. image new ≡ put_all theta (image body))
+    → IfOk result (λ made. (name other : List ℕ) (ty : HolType) → type_of body ≡ Some bool_type → binder ≡ variable name ty
+        → argument ≡ variable other ty → image made ≡ witnessed name ty body argument)
 substituted-is (Ok made) theta body binder argument theta_is answers = λ name other ty typed binder_is argument_is.
     (at-variables (Ok made) theta body binder argument theta_is name other ty binder_is argument_is answers).1 ∙ put-witnessed name other ty body typed ∙ ap (witnessed name ty body) (sym argument_is)
 substituted-is (Err fault) theta body binder argument theta_is answers = tt

@@ -12,7 +12,8 @@ use Rattle.hol_model.specs.Derived.InferenceRules.{rule_gen}
 use Rattle.hol_just_replay.specs.Outcomes.{AnswersBy}
 
 -- an answer for fewer arguments is one for more
-more-arguments : (result : Result Theorem Fault) (term : Nameless) (arguments : List Nameless) (outcome : Result Stated Fault) → AnswersStated result arguments outcome → AnswersStated result (term ∷ arguments) outcome
+more-arguments : (result : Result Theorem Fault) (term : Nameless) (arguments : List Nameless) (outcome : Result Stated Fault)
+    → AnswersStated result arguments outcome → AnswersStated result (term ∷ arguments) outcome
 more-arguments (Ok theorem) term arguments (Ok sequent) states = states
 more-arguments (Ok theorem) term arguments (Err refusal) never = never
 more-arguments (Err fault) term arguments (Ok sequent) (inl memory) = inl memory

@@ -33,7 +33,9 @@ pub record IsReadTo {A X B : Type 0} (fact : X → A → Type 0) (read : A → R
   pub matched : Match fact left later
   pub same : each read trees ≡ preceded done (each read later)
 
-pub read-further : {A X B : Type 0} → (fact : X → A → Type 0) (read : A → Result B Fault) (item : X) (left : List X) (done : List B) (first : B) (trees : List A) → IsReadTo fact read (item ∷ left) done trees
+pub read-further : {A X B : Type 0}
+    → (fact : X → A → Type 0) (read : A → Result B Fault) (item : X) (left : List X) (done : List B) (first : B) (trees : List A)
+    → IsReadTo fact read (item ∷ left) done trees
     → ((tree : A) → fact item tree → read tree ≡ Ok first) → IsReadTo fact read left (done ++ first ∷ []) trees
 read-further fact read item left done first trees under reads = go under.later under.matched under.same
   where
@@ -58,21 +60,24 @@ rule-answers : {A : Type 0} → (refusal : A → Theorem → Option Fault) (fact
 rule-answers refusal fact read theta state a theorem answer is known settled =
     subst (λ (r : Result (_ × Theorem) Fault). IsAnswerFor refusal fact r (Ok answer)) (sym (stored-is read theta state a (Some theorem) is known)) settled
 
-rule-refused : {A : Type 0} → (refusal : A → Theorem → Option Fault) (fact : A → Theorem → Theorem → Type 0) (read : Result A Fault) (theta : A) (state : State) (a : List ℕ) (theorem : Theorem) (fault : Fault)
+rule-refused : {A : Type 0} → (refusal : A → Theorem → Option Fault) (fact : A → Theorem → Theorem → Type 0) (read : Result A Fault) (theta : A)
+    (state : State) (a : List ℕ) (theorem : Theorem) (fault : Fault)
     → read ≡ Ok theta → state.theorems a ≡ Some theorem → (fault ≡ Memory) ⊎ (refusal theta theorem ≡ Some fault)
     → (fault ≡ Memory) ⊎ IsAnswerFor refusal fact (with_stored read state a) (Err fault)
 rule-refused refusal fact read theta state a theorem fault is known (inl memory) = inl memory
 rule-refused refusal fact read theta state a theorem fault is known (inr because) =
     inr (subst (λ (r : Result (_ × Theorem) Fault). IsAnswerFor refusal fact r (Err fault)) (sym (stored-is read theta state a (Some theorem) is known)) because)
 
-pub inst-answers : (result : Result Theorem Fault) (state : State) (pairs : List (TermTree × TermTree)) (a : List ℕ) (theta : List (NamedTerm × NamedTerm)) (theorem : Theorem) → each (replacement (scope_in state)) pairs ≡ Ok theta
+pub inst-answers : (result : Result Theorem Fault) (state : State) (pairs : List (TermTree × TermTree)) (a : List ℕ)
+    (theta : List (NamedTerm × NamedTerm)) (theorem : Theorem) → each (replacement (scope_in state)) pairs ≡ Ok theta
     → state.theorems a ≡ Some theorem → AnswersSuch result (inst_refusal state.theory theta theorem) (IsInst state.theory theta theorem) → AnswersRule result state (by_inst pairs a)
 inst-answers (Ok answer) state pairs a theta theorem is known settled =
     rule-answers (inst_refusal state.theory) (IsInst state.theory) (each (replacement (scope_in state)) pairs) theta state a theorem answer is known settled
 inst-answers (Err fault) state pairs a theta theorem is known settled =
     rule-refused (inst_refusal state.theory) (IsInst state.theory) (each (replacement (scope_in state)) pairs) theta state a theorem fault is known settled
 
-pub inst_type-answers : (result : Result Theorem Fault) (state : State) (pairs : List (TypeTree × List ℕ)) (a : List ℕ) (theta : List (HolType × HolType)) (theorem : Theorem) → each (type_replacement (scope_in state)) pairs ≡ Ok theta
+pub inst_type-answers : (result : Result Theorem Fault) (state : State) (pairs : List (TypeTree × List ℕ)) (a : List ℕ)
+    (theta : List (HolType × HolType)) (theorem : Theorem) → each (type_replacement (scope_in state)) pairs ≡ Ok theta
     → state.theorems a ≡ Some theorem → AnswersSuch result (inst_type_refusal state.theory theta theorem) (IsInstType state.theory theta theorem) → AnswersRule result state (by_inst_type pairs a)
 inst_type-answers (Ok answer) state pairs a theta theorem is known settled =
     rule-answers (inst_type_refusal state.theory) (IsInstType state.theory) (each (type_replacement (scope_in state)) pairs) theta state a theorem answer is known settled

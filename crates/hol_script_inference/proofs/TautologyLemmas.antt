@@ -52,7 +52,8 @@ use Rattle.hol_script_session.proofs.RuleLemmas.{readable}
 -- ---- what `thm` is asked for
 
 -- a refusal that tells no row
-pub plainly-refused : (tools : Tools) (lemmas : List Theorem) (library : Library) (tree : TheoremTree) (fault : Fault) → (fault ≡ Memory) ⊎ MayGive tools lemmas library tree (Err (refusal_of fault)) → RefusesTheorem tools lemmas library tree (plain fault)
+pub plainly-refused : (tools : Tools) (lemmas : List Theorem) (library : Library) (tree : TheoremTree) (fault : Fault) → (fault ≡ Memory)
+    ⊎ MayGive tools lemmas library tree (Err (refusal_of fault)) → RefusesTheorem tools lemmas library tree (plain fault)
 plainly-refused tools lemmas library tree fault (inl memory) = record {
   refusal = refusal_of fault;
   may = inl (ap refusal_of memory);
@@ -77,7 +78,8 @@ rule-refused tools lemmas library rule (by_tautology t) fault asks answers = abs
 rule-refused tools lemmas library rule (by_conversion conversion t) fault asks answers = absurd asks
 
 -- the same for the refusal that a call answers
-pub rule-refused_as : (tools : Tools) (lemmas : List Theorem) (library : Library) (rule : Rule) (tree : TheoremTree) (fault : Fault) (refused : Refused) → refused ≡ plain fault → IsAsked (AsksRule rule) tree
+pub rule-refused_as : (tools : Tools) (lemmas : List Theorem) (library : Library) (rule : Rule) (tree : TheoremTree) (fault : Fault)
+    (refused : Refused) → refused ≡ plain fault → IsAsked (AsksRule rule) tree
     → ((t : RuleTree) → IsRule rule t → AnswersRule (Err fault) library t) → RefusesTheorem tools lemmas library tree refused
 rule-refused_as tools lemmas library rule tree fault refused is asks answers =
     subst (λ (r : Refused). RefusesTheorem tools lemmas library tree r) (sym is) (rule-refused tools lemmas library rule tree fault asks answers)
@@ -88,7 +90,8 @@ hosted : (refiners : HostRefiners) (conversions : HostConversions) (lemmas : Lis
 hosted refiners conversions lemmas library tree (Ok theorem) given = given
 hosted refiners conversions lemmas library tree (Err refused) given = record { refusal = given.refusal; may = given.may; says = given.says; readable = given.readable }
 
-pub tautology-asked : (refiners : HostRefiners) (conversions : HostConversions) (lemmas : List Theorem) (library : Library) (steps : Vec TermStep Global) (tree : TheoremTree) (answer : Result Theorem Refused)
+pub tautology-asked : (refiners : HostRefiners) (conversions : HostConversions) (lemmas : List Theorem) (library : Library)
+    (steps : Vec TermStep Global) (tree : TheoremTree) (answer : Result Theorem Refused)
     → IsAsked (Tautology steps) tree → ((t : TermTree) → flat_steps_of steps.items ≡ flat_steps (term_steps t) → AnswersTheorem hostless lemmas answer library (by_tautology t))
     → AnswersTheorem (session_tools refiners conversions) lemmas answer library tree
 tautology-asked refiners conversions lemmas library steps (by_tautology t) answer asks answers = hosted refiners conversions lemmas library t answer (answers t asks)
@@ -219,7 +222,8 @@ tautology-refused lemmas library scope tree term fault refused same meant formed
 
     may : (tells.refusal ≡ refusal_of Memory) ⊎ (tells.refusal ≡ refusal_for term fault) → (tells.refusal ≡ refusal_of Memory) ⊎ MayGive hostless lemmas library (by_tautology tree) (Err tells.refusal)
     may (inl memory) = inl memory
-    may (inr is) = inr (subst (λ r. MayGive hostless lemmas library (by_tautology tree) (Err r)) (sym is) (λ beside own. goes_on term (sym meant) (decides (Err fault) library.theory term answered, refl)))
+    may (inr is) = inr (subst (λ r. MayGive hostless lemmas library (by_tautology tree) (Err r)) (sym is)
+        (λ beside own. goes_on term (sym meant) (decides (Err fault) library.theory term answered, refl)))
 
     is_readable : (beside : Beside) → (tells.refusal ≡ refusal_of Memory) ⊎ (tells.refusal ≡ refusal_for term fault) → IsReadableRow (with_beside beside library) tells.refusal.row
     is_readable beside (inl memory) = subst (λ (r : Refusal). IsReadableRow (with_beside beside library) r.row) (sym memory) tt

@@ -65,7 +65,9 @@ returns-in-Err-with_case-clause-derives c h i j s room theorem first second left
     let r_room = subst (λ (t : Nameless). LeavesRoomIf room t) (sym r_is) s_room in
     let cases = c.in-Ok-eliminated.ensures.derives h room theorem (disjunction-fits room p q left_room right_room) (both-fits room p q r left_room right_room r_room) in
     let here = subst (λ (t : Nameless). Shows c.args.first.now.theorem i t) (sym r_is) first in
-    c.in-Err-with_case.ensures.derives h i r room (subst (λ (t : NamedTerm). Shows c.in-Ok-eliminated.cases.theorem h (nameless.implication (nameless.implication p r) (image t))) (sym rest_is) cases) here
+    c.in-Err-with_case.ensures.derives h i r room
+        (subst (λ (t : NamedTerm). Shows c.in-Ok-eliminated.cases.theorem h (nameless.implication (nameless.implication p r) (image t)))
+        (sym rest_is) cases) here
     (disch-fits room p r left_room r_room)
     (subst (λ (t : NamedTerm). FitsIf room (mp_equation (nameless.implication p r) (image t))) (sym rest_is) (first-case-fits room p q r left_room right_room r_room))
 
@@ -97,7 +99,9 @@ returns-clause-derives c h i j s room theorem first second left_room right_room 
     let two = subst (λ (t : Nameless). Shows c.args.second.now.theorem j t) (sym r_is) second in
     let left : List Nameless = without p i ++ h in
     let other =
-    c.in-Ok-with_case.ensures.derives h i r room (subst (λ (t : NamedTerm). Shows c.in-Ok-eliminated.cases.theorem h (nameless.implication (nameless.implication p r) (image t))) (sym rest_is) cases) one
+    c.in-Ok-with_case.ensures.derives h i r room
+        (subst (λ (t : NamedTerm). Shows c.in-Ok-eliminated.cases.theorem h (nameless.implication (nameless.implication p r) (image t)))
+        (sym rest_is) cases) one
     (disch-fits room p r left_room r_room)
     (subst (λ (t : NamedTerm). FitsIf room (mp_equation (nameless.implication p r) (image t))) (sym rest_is) (first-case-fits room p q r left_room right_room r_room)) in
     subst (λ (t : Nameless). DerivesIf room c.with_case-2.result (without q j ++ left) t) r_is

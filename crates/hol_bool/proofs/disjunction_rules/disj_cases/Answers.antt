@@ -35,7 +35,10 @@ returns-clause-outcome c =
     (λ i. same_term (image (sym c.conclusion_of.ensures.value i)) (image (sym c.conclusion_of-2.ensures.value i))) ∙ sym c.aconv.ensures.value ∙ c.if-not-aconv.false in
     let same : image r ≡ image second.conclusion = (same_term-Decides (image r) (image second.conclusion)).0 meet in
     answered c.by_cases.result arguments (of_second ++ (of_first ++ images theorem)) wanted r (disj_cases_outcome theorem first second)
-    (ap (λ (o : Option (NamedTerm × NamedTerm)). given o BadShape (λ sides. unless (are_alpha_equivalent r second.conclusion) NotAlpha (stated (images theorem ++ without (image sides.0) (images first) ++ without (image sides.1) (images second)) r))) (sym c.in-Some.ensures.sides)
+    (ap (λ (o : Option (NamedTerm × NamedTerm)).
+        given o BadShape (λ sides. unless (are_alpha_equivalent r second.conclusion) NotAlpha
+        (stated (images theorem ++ without (image sides.0) (images first) ++ without (image sides.1) (images second)) r)))
+        (sym c.in-Some.ensures.sides)
     ∙ ap (λ test. unless test NotAlpha (stated wanted r)) meet)
     (cases-set (images theorem) of_first of_second)
     (λ room roomy.

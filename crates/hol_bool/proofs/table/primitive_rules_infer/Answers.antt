@@ -3,7 +3,8 @@ use Rattle.hol_model.specs.Kernel.Rules.{refl_outcome, assume_outcome, beta_outc
 use Rattle.hol_model.specs.Derived.InferenceRules.{rule_refl, rule_trans, rule_mk_comb, rule_abs, rule_beta, rule_assume, rule_eq_mp, rule_deduct_antisym, rule_eta_axiom, rule_select_axiom}
 use Rattle.hol_model.specs.Kernel.RuleOutcomes.{axiom_theorem}
 use Rattle.hol_model.specs.declared.rule.Axiom.TheVariants as axioms
-use Rattle.hol_bool.proofs.DrawnPrimitives.{answers-infer, refl-drawn, assume-drawn, beta-drawn, trans-drawn, eq_mp-drawn, mk_comb-drawn, abs-drawn, deduct_antisym-drawn, inst-drawn, inst_type-drawn, eta-drawn, select-drawn}
+use Rattle.hol_bool.proofs.DrawnPrimitives.{answers-infer, refl-drawn, assume-drawn, beta-drawn, trans-drawn, eq_mp-drawn, mk_comb-drawn, abs-drawn}
+use Rattle.hol_bool.proofs.DrawnPrimitives.{deduct_antisym-drawn, inst-drawn, inst_type-drawn, eta-drawn, select-drawn}
 use Rattle.hol_bool.proofs.table.primitive_rules_infer.Goals as goal
 
 pub returns : goal.returns

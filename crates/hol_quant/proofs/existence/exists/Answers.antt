@@ -64,7 +64,9 @@ returns-in-Err-is_body_with-clause-outcome c =
     memory-answers c.in-Err-is_body_with.fault (image formula ∷ image witness ∷ terms_of_theorem premise) (exists_outcome theory formula witness premise) c.in-Err-is_body_with.ensures.err
 
 pub returns-in-Err-is_body_with-clause-inferred : goal.returns-in-Err-is_body_with-clause-inferred
-returns-in-Err-is_body_with-clause-inferred c = infers_exists c.requires.logic c.theory_is_legal.ensures c.ty-formula_type.ensures c.ty-witness_type.ensures (returns-in-Err-is_body_with-clause-outcome c)
+returns-in-Err-is_body_with-clause-inferred c =
+    infers_exists c.requires.logic c.theory_is_legal.ensures c.ty-formula_type.ensures c.ty-witness_type.ensures
+    (returns-in-Err-is_body_with-clause-outcome c)
 
 pub returns-then-not-is_instance-clause-outcome : goal.returns-then-not-is_instance-clause-outcome
 returns-then-not-is_instance-clause-outcome c =
@@ -80,11 +82,14 @@ returns-then-not-is_instance-clause-outcome c =
     c.ty.result.now c.ty-2.result.now c.ty.ensures c.ty-2.ensures (c.eq.ensures.same.0 c.if-not-eq.false) in
     let at = start.parts in
     let conclusion_is : c.concl-conclusion.result.now ≡ premise.conclusion = c.concl-conclusion.ensures.value ∙ ap (λ (t : Theorem). t.conclusion) c.thm.ensures in
-    let tested = ap (λ (t : NamedTerm). same_term (fill (image witness) (close at.name at.ty (image body))) (image t)) (sym conclusion_is) ∙ sym (c.in-Ok-is_body_with.ensures.ok at.name at.ty at.binder_is start.typed) ∙ c.if-not-is_instance.true in
+    let tested = ap (λ (t : NamedTerm). same_term (fill (image witness) (close at.name at.ty (image body))) (image t)) (sym conclusion_is)
+        ∙ sym (c.in-Ok-is_body_with.ensures.ok at.name at.ty at.binder_is start.typed) ∙ c.if-not-is_instance.true in
     not_alpha-refused theory formula witness premise at.name at.ty body at.dest start.typed c.in-Ok.ensures.ok c.in-Ok-pass_known.ensures.ok tested
 
 pub returns-then-not-is_instance-clause-inferred : goal.returns-then-not-is_instance-clause-inferred
-returns-then-not-is_instance-clause-inferred c = infers_exists c.requires.logic c.theory_is_legal.ensures c.ty-formula_type.ensures c.ty-witness_type.ensures (returns-then-not-is_instance-clause-outcome c)
+returns-then-not-is_instance-clause-inferred c =
+    infers_exists c.requires.logic c.theory_is_legal.ensures c.ty-formula_type.ensures c.ty-witness_type.ensures
+    (returns-then-not-is_instance-clause-outcome c)
 
 pub returns-clause-outcome : goal.returns-clause-outcome
 returns-clause-outcome c =
@@ -100,11 +105,14 @@ returns-clause-outcome c =
     c.ty.result.now c.ty-2.result.now c.ty.ensures c.ty-2.ensures (c.eq.ensures.same.0 c.if-not-eq.false) in
     let at = start.parts in
     let conclusion_is : c.concl-conclusion.result.now ≡ premise.conclusion = c.concl-conclusion.ensures.value ∙ ap (λ (t : Theorem). t.conclusion) c.thm.ensures in
-    let tested = ap (λ (t : NamedTerm). same_term (fill (image witness) (close at.name at.ty (image body))) (image t)) (sym conclusion_is) ∙ sym (c.in-Ok-is_body_with.ensures.ok at.name at.ty at.binder_is start.typed) ∙ c.if-not-is_instance.false in
+    let tested = ap (λ (t : NamedTerm). same_term (fill (image witness) (close at.name at.ty (image body))) (image t)) (sym conclusion_is)
+        ∙ sym (c.in-Ok-is_body_with.ensures.ok at.name at.ty at.binder_is start.typed) ∙ c.if-not-is_instance.false in
     let generic = logical-type c.args.recorder.now c.args.logic.now c.requires.logic c.theory_is_legal.ensures exists_name (quantifier type_a) refl in
-    let witnessed = witnessed-at theory generic formula witness c.ty-formula_type.result.now c.ty-formula_type.ensures c.in-Ok.ensures.ok c.in-Ok-pass_known.ensures.ok parts.quantifier.now function binder body
+    let witnessed = witnessed-at theory generic formula witness c.ty-formula_type.result.now c.ty-formula_type.ensures c.in-Ok.ensures.ok
+        c.in-Ok-pass_known.ensures.ok parts.quantifier.now function binder body
     c.in-Some.ensures.whole c.in-Some.ensures.named c.in-Some.ensures.abstraction at start.typed (image premise.conclusion) tested in
-    exists-answers theory formula witness premise at.name at.ty body at.dest start.typed c.in-Ok.ensures.ok c.in-Ok-pass_known.ensures.ok tested c.witnessed.result (c.witnessed.ensures.derives witnessed) c.witnessed.ensures.names
+    exists-answers theory formula witness premise at.name at.ty body at.dest start.typed c.in-Ok.ensures.ok c.in-Ok-pass_known.ensures.ok tested
+        c.witnessed.result (c.witnessed.ensures.derives witnessed) c.witnessed.ensures.names
 
 pub returns-clause-inferred : goal.returns-clause-inferred
 returns-clause-inferred c = infers_exists c.requires.logic c.theory_is_legal.ensures c.ty-formula_type.ensures c.ty-witness_type.ensures (returns-clause-outcome c)

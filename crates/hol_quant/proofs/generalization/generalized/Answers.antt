@@ -14,7 +14,8 @@ use Rattle.hol_model.specs.Kernel.Rules.{is_free_in_hypotheses, abstraction_outc
 use Rattle.hol_model.specs.Derived.DerivedRules.{images, is_roomy, terms_of_theorem}
 use Rattle.hol_equal.specs.Sequents.{Shows, DerivesIf, IsPast}
 use Rattle.hol_equal.proofs.CutLemmas.{derives-where}
-use Rattle.hol_quant.proofs.GenAnswers.{gen-free, gen-start, function, formula, formula_image, small, function_typed, gen-answers, gen-past, gen-fits, may-generalize, abstraction-past, abstraction-made, formula-within, names-within}
+use Rattle.hol_quant.proofs.GenAnswers.{gen-free, gen-start, function, formula, formula_image, small, function_typed, gen-answers, gen-past, gen-fits}
+use Rattle.hol_quant.proofs.GenAnswers.{may-generalize, abstraction-past, abstraction-made, formula-within, names-within}
 use Rattle.hol_quant.proofs.generalization.generalized.Goals as goal
 
 pub returns-then-is_free_in_some-clause-outcome : goal.returns-then-is_free_in_some-clause-outcome
@@ -115,7 +116,10 @@ returns-clause-outcome c =
     let formula_is : c.in-Ok-universal.formula ≡ whole = c.in-Ok-universal.ensures.ok ty made_typed ∙ ap (combination (constant forall_name (quantifier ty))) made_is in
     let stated = c.in-Ok-over_all.ensures.derives name ty room (may-generalize theory premise binder name ty at) made_is (gen-fits theory premise binder name ty at) in
     let shown = subst (λ (t : Nameless). Shows c.in-Ok-over_all.answer.theorem (images premise) t) (sym (formula_image theory premise binder name ty at) ∙ ap image (sym formula_is)) stated in
-    let derives = subst (λ (t : NamedTerm). DerivesIf (nameless_within_limits (nameless_equation bool_type (image t) (image t))) c.named.result (images premise) (image t)) formula_is (c.named.ensures.derives (images premise) shown) in
+    let derives = subst (λ (t : NamedTerm).
+        DerivesIf (nameless_within_limits (nameless_equation bool_type (image t) (image t))) c.named.result (images premise) (image t)) formula_is
+        (c.named.ensures.derives (images premise) shown) in
     gen-answers theory premise binder name ty at c.named.result
-    (derives-where (nameless_within_limits (nameless_equation bool_type (image whole) (image whole))) room c.named.result (images premise) (image whole) (names-within theory premise binder name ty at) derives)
+    (derives-where (nameless_within_limits (nameless_equation bool_type (image whole) (image whole))) room c.named.result (images premise)
+        (image whole) (names-within theory premise binder name ty at) derives)
     (subst (λ (t : NamedTerm). IfOk c.named.result (λ made. made.theorem.conclusion ≡ t)) formula_is c.named.ensures.names)

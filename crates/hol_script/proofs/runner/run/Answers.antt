@@ -17,7 +17,9 @@ returns-in-Err-clause-ends g c =
     c.in-Err.fault c.in-Err.ensures.refusals c.in-Err.ensures.failed c.in-Err.ensures.too_long refl refl
 
 pub returns-in-Err-clause-told_front : goal.returns-in-Err-clause-told_front
-returns-in-Err-clause-told_front g c = unread_told (session_tools (g.H.Refiners.refiners c.args.host.now) (g.H.Converters.conversions c.args.host.now)) (g.R.Source.remaining c.args.reader.now) (g.W.Sink.contents c.args.writer.now)
+returns-in-Err-clause-told_front g c =
+    unread_told (session_tools (g.H.Refiners.refiners c.args.host.now) (g.H.Converters.conversions c.args.host.now))
+    (g.R.Source.remaining c.args.reader.now) (g.W.Sink.contents c.args.writer.now)
 
 pub returns-in-Err-run_script-clause-ends : goal.returns-in-Err-run_script-clause-ends
 returns-in-Err-run_script-clause-ends g c =

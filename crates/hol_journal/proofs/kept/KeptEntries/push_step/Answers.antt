@@ -10,9 +10,12 @@ use Rattle.hol_journal.proofs.kept.KeptEntries.push_step.Goals.{in-Some+in_ok-co
 
 pub invariant_of-self-2 : goal.invariant_of-self-2
 invariant_of-self-2 c = elim c.match-self.branch [
-  | in-Some+in_ok-copy+else-is_err w ↦ subst (λ (inside : kept.Inside). IsKept (record { count = inside.count + 1; kept = inside.kept; trail = c.with_step-trail.result })) (sym w.self-inside-is) (record {
+  | in-Some+in_ok-copy+else-is_err w ↦ subst
+      (λ (inside : kept.Inside). IsKept (record { count = inside.count + 1; kept = inside.kept; trail = c.with_step-trail.result }))
+      (sym w.self-inside-is) (record {
     counted = one_counted _ _ _ _ c.self.invariant.counted c.with_step-trail.ensures;
-    kept = kept_grown _ _ _ _ _ _ _ _ _ w.in-Some.is c.self.invariant.kept c.self.invariant.counted c.with_step-trail.ensures w.reserve.ensures.items w.push_reserved.ensures.items refl (ap (λ (t : Theorem). derived (step_of c.args.rule) (sequent_of_theorem t)) w.in_ok-copy.ensures.ok);
+    kept = kept_grown _ _ _ _ _ _ _ _ _ w.in-Some.is c.self.invariant.kept c.self.invariant.counted c.with_step-trail.ensures w.reserve.ensures.items
+        w.push_reserved.ensures.items refl (ap (λ (t : Theorem). derived (step_of c.args.rule) (sequent_of_theorem t)) w.in_ok-copy.ensures.ok);
   })
   | in_default w ↦ subst (λ (inside : kept.Inside). IsKept (record { count = inside.count + 1; kept = inside.kept; trail = c.with_step-trail.result })) (sym w.self-inside-is) (record {
     counted = one_counted _ _ _ _ c.self.invariant.counted c.with_step-trail.ensures;
