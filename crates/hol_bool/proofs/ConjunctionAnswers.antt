@@ -83,8 +83,8 @@ pub second-roomy : (room : Bool) (first second : Theorem) (rest : List Nameless)
     → Roomy room ((terms_of_theorem first ++ terms_of_theorem second) ++ rest) → room ≡ true → IsSized 1000 5000 (image second.conclusion)
 second-roomy room first second rest roomy =
     roomy (image second.conclusion)
-        (IsMember-append_left (image second.conclusion) (terms_of_theorem first ++ terms_of_theorem second) rest
-        (IsMember-append_right (image second.conclusion) (terms_of_theorem first) (terms_of_theorem second) (inl refl)))
+    (IsMember-append_left (image second.conclusion) (terms_of_theorem first ++ terms_of_theorem second) rest
+    (IsMember-append_right (image second.conclusion) (terms_of_theorem first) (terms_of_theorem second) (inl refl)))
 
 pub stated-roomy : (room : Bool) (arguments wanted : List Nameless) (conclusion : Nameless) → Roomy room (arguments ++ conclusion ∷ wanted) → room ≡ true → IsSized 1000 5000 conclusion
 stated-roomy room arguments wanted conclusion roomy = roomy conclusion (IsMember-append_right conclusion arguments (conclusion ∷ wanted) (inl refl))

@@ -163,8 +163,8 @@ module _ (journal : Journal) (logic : Stored) (has : HasLogic journal logic) (le
       go : (found : Option NamedTerm) → named.dest_negation a.conclusion ≡ found
           → StatesDrawn (stated_given found BadShape (λ p. stated (images a) (named.implication p named.false_term)))
           (given (given (nameless.dest_negation (image a.conclusion))
-              (λ p. conclude (all ∷ []) (nameless_formulas.implication p nameless_formulas.false_term)))
-              (λ inference. drawn inference (images a ∷ [])))
+          (λ p. conclude (all ∷ []) (nameless_formulas.implication p nameless_formulas.false_term)))
+          (λ inference. drawn inference (images a ∷ [])))
       go None is = rw (not-negation a.conclusion is) tt
       go (Some p) is =
           let part = negated-part journal.theory (logical-type journal logic has legal not_name unary refl) a.conclusion p is premise.known in
@@ -211,8 +211,8 @@ module _ (journal : Journal) (logic : Stored) (has : HasLogic journal logic) (le
           → same_term (image right) nameless_formulas.true_term ≡ truth → IsKnown journal.theory (image right) s
           → StatesDrawn (unless truth BadShape (stated (images a) left))
           (given (given (if◌then◌else◌ {A = Option (Nameless × Nameless)} test (Some (image left, image right)) None)
-              (λ sides. require (same_term sides.1 nameless_formulas.true_term) (conclude (all ∷ []) sides.0)))
-              (λ inference. drawn inference (images a ∷ [])))
+          (λ sides. require (same_term sides.1 nameless_formulas.true_term) (conclude (all ∷ []) sides.0)))
+          (λ inference. drawn inference (images a ∷ [])))
       at_type left right s true tested true is shown known = rw shown (drawn-of_one a left (image left) refl)
       at_type left right s true tested false is shown known = rw shown tt
       at_type left right s false tested false is shown known = tt
@@ -221,14 +221,14 @@ module _ (journal : Journal) (logic : Stored) (has : HasLogic journal logic) (le
           let typed : Some bool_type ≡ Some s = sym (ap type_of right_is) ∙ image-type right s known.typed in
           let ty_is : bool_type ≡ s = cc in
           let same : same_variable equality_name (equality_type bool_type) equality_name (equality_type s) ≡ true =
-              ap (λ (t : HolType). same_variable equality_name (equality_type bool_type) equality_name (equality_type t)) (sym ty_is) in
+          ap (λ (t : HolType). same_variable equality_name (equality_type bool_type) equality_name (equality_type t)) (sym ty_is) in
           cc
 
       go : (found : Option (NamedTerm × NamedTerm)) → dest_equation a.conclusion ≡ found
           → StatesDrawn (stated_given found BadShape (λ sides. unless (named.is_true sides.1) BadShape (stated (images a) sides.0)))
           (given (given (nameless.dest_equivalence (image a.conclusion))
-              (λ sides. require (same_term sides.1 nameless_formulas.true_term) (conclude (all ∷ []) sides.0)))
-              (λ inference. drawn inference (images a ∷ [])))
+          (λ sides. require (same_term sides.1 nameless_formulas.true_term) (conclude (all ∷ []) sides.0)))
+          (λ inference. drawn inference (images a ∷ [])))
       go None is = rw (not-applied equality_name (equality_type bool_type) a.conclusion (sym (equation-connected a.conclusion) ∙ is)) tt
       go (Some (left, right)) is =
           let e = sides journal.theory legal a.conclusion left right premise.known is in

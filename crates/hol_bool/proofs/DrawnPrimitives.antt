@@ -96,7 +96,7 @@ refl-drawn theory t ty typed =
 pub assume-drawn : (theory : Theory) (p : NamedTerm) (ty : HolType) → type_of p ≡ Some ty → KernelDraws theory (rule_assume p) [] (assume_outcome theory p)
 assume-drawn theory p ty typed =
     walked_by Gives none_drawn theory p ty bool_type typed NotBool (Ok (record { theory = theory; hypotheses = p ∷ []; conclusion = p }))
-        (record { passing = []; supposed = image p ∷ []; conclusion = image p }) (λ inference. drawn inference [])
+    (record { passing = []; supposed = image p ∷ []; conclusion = image p }) (λ inference. drawn inference [])
     (record { same_set = same_set refl; concludes = refl })
 
 pub beta-drawn : (theory : Theory) (t : NamedTerm) (ty : HolType) → type_of t ≡ Some ty → KernelDraws theory (rule_beta t) [] (beta_outcome theory t)
@@ -104,8 +104,8 @@ beta-drawn theory t ty typed = go (dest_trivial_redex t)
   where
     go : (found : Option NamedTerm)
         → IsDrawn (given (given found (λ body.
-            require (is_known_term theory (image t)) (conclude [] (nameless_equation (nameless_type [] (image t)) (image t) (image body)))))
-            (λ inference. drawn inference []))
+        require (is_known_term theory (image t)) (conclude [] (nameless_equation (nameless_type [] (image t)) (image t) (image body)))))
+        (λ inference. drawn inference []))
         (outcome_given found NotTrivialBeta (λ body. refused (first_unknown theory t) (concluded theory [] (equation t body))))
     go None = tt
     go (Some body) =
@@ -157,13 +157,13 @@ trans-drawn theory legal a b first second = go (dest_equation a.conclusion) refl
 
     go : (one : Option (NamedTerm × NamedTerm)) → dest_equation a.conclusion ≡ one → (two : Option (NamedTerm × NamedTerm)) → dest_equation b.conclusion ≡ two
         → IsDrawn (given (given (nameless.dest_equation (image a.conclusion))
-            (λ left. given (nameless.dest_equation (image b.conclusion))
-            (λ right. require (same_term left.right right.left && type_eq left.ty right.ty)
-            (conclude (all ∷ all ∷ []) (nameless_equation left.ty left.left right.right)))))
-            (λ inference. drawn inference (images a ∷ images b ∷ [])))
+        (λ left. given (nameless.dest_equation (image b.conclusion))
+        (λ right. require (same_term left.right right.left && type_eq left.ty right.ty)
+        (conclude (all ∷ all ∷ []) (nameless_equation left.ty left.left right.right)))))
+        (λ inference. drawn inference (images a ∷ images b ∷ [])))
         (outcome_given one NotEquation
-            (λ left. outcome_given two NotEquation
-            (λ right. unless (are_alpha_equivalent left.1 right.0) NotAlpha (concluded theory (merged a b) (equation left.0 right.1)))))
+        (λ left. outcome_given two NotEquation
+        (λ right. unless (are_alpha_equivalent left.1 right.0) NotAlpha (concluded theory (merged a b) (equation left.0 right.1)))))
     go None one other two = rw (no-equation a.conclusion one) tt
     go (Some (l, m)) one None two =
         let e = sides theory legal a.conclusion l m first.known one in
@@ -181,8 +181,8 @@ eq_mp-drawn theory legal a b first second = go (dest_equation a.conclusion) refl
         → same_variable equality_name (equality_type bool_type) equality_name (equality_type s) ≡ is_bool → (test : Bool)
         → same_term (image l) (image b.conclusion) ≡ test
         → IsDrawn (given (given (if◌then◌else◌ {A = Option (Nameless × Nameless)} is_bool (Some (image l, image r)) None)
-            (λ sides. require (same_term sides.0 (image b.conclusion)) (conclude (all ∷ all ∷ []) sides.1)))
-            (λ inference. drawn inference (images a ∷ images b ∷ [])))
+        (λ sides. require (same_term sides.0 (image b.conclusion)) (conclude (all ∷ all ∷ []) sides.1)))
+        (λ inference. drawn inference (images a ∷ images b ∷ [])))
         (unless test NotAlpha (Ok (merged_theorem theory a b r)))
     meet l r s typed true tested true is = rw is (record { same_set = both-set a b; concludes = refl })
     meet l r s typed true tested false is = rw is tt
@@ -190,13 +190,13 @@ eq_mp-drawn theory legal a b first second = go (dest_equation a.conclusion) refl
     meet l r s typed false tested true is =
         let types : s ≡ bool_type = alike-typed l b.conclusion s bool_type typed second.typed ((same_term-Decides (image l) (image b.conclusion)).0 is) in
         let same : same_variable equality_name (equality_type bool_type) equality_name (equality_type s) ≡ true =
-            ap (λ (t : HolType). same_variable equality_name (equality_type bool_type) equality_name (equality_type t)) types in
+        ap (λ (t : HolType). same_variable equality_name (equality_type bool_type) equality_name (equality_type t)) types in
         cc
 
     go : (one : Option (NamedTerm × NamedTerm)) → dest_equation a.conclusion ≡ one
         → IsDrawn (given (given (nameless.dest_equivalence (image a.conclusion))
-            (λ sides. require (same_term sides.0 (image b.conclusion)) (conclude (all ∷ all ∷ []) sides.1)))
-            (λ inference. drawn inference (images a ∷ images b ∷ [])))
+        (λ sides. require (same_term sides.0 (image b.conclusion)) (conclude (all ∷ all ∷ []) sides.1)))
+        (λ inference. drawn inference (images a ∷ images b ∷ [])))
         (outcome_given one NotEquation (λ sides. unless (are_alpha_equivalent sides.0 b.conclusion) NotAlpha (Ok (merged_theorem theory a b sides.1))))
     go None one = rw (no-equivalence a.conclusion one) tt
     go (Some (l, r)) one =
@@ -212,9 +212,9 @@ mk_comb-drawn theory legal a b first second = go (dest_equation a.conclusion) re
 
     applied : (f g x y : NamedTerm) (s t : HolType) → type_of f ≡ Some s → type_of x ≡ Some t
         → IsDrawn (given (given (dest_function_type s)
-            (λ arrow. require (type_eq arrow.0 t)
-            (conclude (all ∷ all ∷ []) (nameless_equation arrow.1 (app (image f) (image x)) (app (image g) (image y))))))
-            (λ inference. drawn inference (images a ∷ images b ∷ [])))
+        (λ arrow. require (type_eq arrow.0 t)
+        (conclude (all ∷ all ∷ []) (nameless_equation arrow.1 (app (image f) (image x)) (app (image g) (image y))))))
+        (λ inference. drawn inference (images a ∷ images b ∷ [])))
         (unless (is_some (type_of (combination f x))) TypeMismatch (concluded theory (merged a b) (equation (combination f x) (combination g y))))
     applied f g x y (type_variable name) t f_typed x_typed = rw (f_typed, x_typed) tt
     applied f g x y bool_type t f_typed x_typed = rw (f_typed, x_typed) tt
@@ -222,31 +222,31 @@ mk_comb-drawn theory legal a b first second = go (dest_equation a.conclusion) re
       where
         test : (eq : Bool) → type_eq domain t ≡ eq
             → IsDrawn (given (require eq (conclude (all ∷ all ∷ [])
-                (nameless_equation codomain (app (image f) (image x)) (app (image g) (image y)))))
-                (λ inference. drawn inference (images a ∷ images b ∷ [])))
+            (nameless_equation codomain (app (image f) (image x)) (app (image g) (image y)))))
+            (λ inference. drawn inference (images a ∷ images b ∷ [])))
             (unless (is_some (type_of (combination f x))) TypeMismatch (concluded theory (merged a b) (equation (combination f x) (combination g y))))
         test true eq =
             let typed = typed_as f x (function_type domain codomain) t f_typed x_typed domain codomain refl eq in
             subst (λ (o : Option HolType).
-                IsDrawn (Some (sequent_of (both_passed a b) (nameless_equation codomain (app (image f) (image x)) (app (image g) (image y)))))
-                (unless (is_some o) TypeMismatch (concluded theory (merged a b) (equation (combination f x) (combination g y))))) (sym typed)
+            IsDrawn (Some (sequent_of (both_passed a b) (nameless_equation codomain (app (image f) (image x)) (app (image g) (image y)))))
+            (unless (is_some o) TypeMismatch (concluded theory (merged a b) (equation (combination f x) (combination g y))))) (sym typed)
             (concluded-drawn theory (merged a b) (equation (combination f x) (combination g y)) (both_passed a b)
-                (nameless_equation codomain (app (image f) (image x)) (app (image g) (image y))) (both-set a b)
-                (image-equation (combination f x) (combination g y) codomain typed))
+            (nameless_equation codomain (app (image f) (image x)) (app (image g) (image y))) (both-set a b)
+            (image-equation (combination f x) (combination g y) codomain typed))
         test false eq = rw (f_typed, x_typed, eq) tt
     applied f g x y (declared_type name) t f_typed x_typed = rw (f_typed, x_typed) tt
 
     go : (one : Option (NamedTerm × NamedTerm)) → dest_equation a.conclusion ≡ one → (two : Option (NamedTerm × NamedTerm)) → dest_equation b.conclusion ≡ two
         → IsDrawn (given (given (nameless.dest_equation (image a.conclusion))
-            (λ functions. given (nameless.dest_equation (image b.conclusion))
-            (λ arguments. given (dest_function_type functions.ty)
-            (λ arrow. require (type_eq arrow.0 arguments.ty)
-            (conclude (all ∷ all ∷ []) (nameless_equation arrow.1 (app functions.left arguments.left) (app functions.right arguments.right)))))))
-            (λ inference. drawn inference (images a ∷ images b ∷ [])))
+        (λ functions. given (nameless.dest_equation (image b.conclusion))
+        (λ arguments. given (dest_function_type functions.ty)
+        (λ arrow. require (type_eq arrow.0 arguments.ty)
+        (conclude (all ∷ all ∷ []) (nameless_equation arrow.1 (app functions.left arguments.left) (app functions.right arguments.right)))))))
+        (λ inference. drawn inference (images a ∷ images b ∷ [])))
         (outcome_given one NotEquation
-            (λ functions. outcome_given two NotEquation
-            (λ arguments. unless (is_some (type_of (combination functions.0 arguments.0))) TypeMismatch
-            (concluded theory (merged a b) (equation (combination functions.0 arguments.0) (combination functions.1 arguments.1))))))
+        (λ functions. outcome_given two NotEquation
+        (λ arguments. unless (is_some (type_of (combination functions.0 arguments.0))) TypeMismatch
+        (concluded theory (merged a b) (equation (combination functions.0 arguments.0) (combination functions.1 arguments.1))))))
     go None one other two = rw (no-equation a.conclusion one) tt
     go (Some (f, g)) one None two =
         let e = sides theory legal a.conclusion f g first.known one in
@@ -277,37 +277,37 @@ abs-drawn theory legal (variable name ty) a premise = go (dest_equation a.conclu
 
     of_known : (l r : NamedTerm) (s : HolType) → type_of l ≡ Some s → (free : Bool)
         → IsDrawn (option_map (λ others.
-            sequent_of ([] ++ others) (nameless_equation (function_type ty s) (lam ty (close name ty (image l))) (lam ty (close name ty (image r)))))
-            (if not free then Some (map unchanged (images a) ++ []) else None))
+        sequent_of ([] ++ others) (nameless_equation (function_type ty s) (lam ty (close name ty (image l))) (lam ty (close name ty (image r)))))
+        (if not free then Some (map unchanged (images a) ++ []) else None))
         (unless (not free) FreeInHypothesis (concluded theory a.hypotheses (equation (abstraction name ty l) (abstraction name ty r))))
     of_known l r s typed true = tt
     of_known l r s typed false =
         concluded-drawn theory a.hypotheses (equation (abstraction name ty l) (abstraction name ty r)) (map unchanged (images a) ++ [])
-            (nameless_equation (function_type ty s) (lam ty (close name ty (image l))) (lam ty (close name ty (image r))))
-            (same_set (one_premise (images a)))
+        (nameless_equation (function_type ty s) (lam ty (close name ty (image l))) (lam ty (close name ty (image r))))
+        (same_set (one_premise (images a)))
         (image-equation (abstraction name ty l) (abstraction name ty r) (function_type ty s) (typed_over l s typed)
-            ∙ (λ i. nameless_equation (function_type ty s) (image-abstraction name ty l i) (image-abstraction name ty r i)))
+        ∙ (λ i. nameless_equation (function_type ty s) (image-abstraction name ty l i) (image-abstraction name ty r i)))
 
     tests : (l r : NamedTerm) (s : HolType) → type_of l ≡ Some s → (known : Bool)
         → IsDrawn (given (require known
-            (conclude (all_without_variable name ty ∷ [])
-            (nameless_equation (function_type ty s) (lam ty (close name ty (image l))) (lam ty (close name ty (image r))))))
-            (λ inference. drawn inference (images a ∷ [])))
+        (conclude (all_without_variable name ty ∷ [])
+        (nameless_equation (function_type ty s) (lam ty (close name ty (image l))) (lam ty (close name ty (image r))))))
+        (λ inference. drawn inference (images a ∷ [])))
         (unless known UnknownType (unless (not (is_free_in_hypotheses name ty a.hypotheses)) FreeInHypothesis
-            (concluded theory a.hypotheses (equation (abstraction name ty l) (abstraction name ty r)))))
+        (concluded theory a.hypotheses (equation (abstraction name ty l) (abstraction name ty r)))))
     tests l r s typed false = tt
     tests l r s typed true = rw (free-in_no_hypothesis name ty a.hypotheses) (of_known l r s typed (is_free_in_hypotheses name ty a.hypotheses))
 
     go : (one : Option (NamedTerm × NamedTerm)) → dest_equation a.conclusion ≡ one
         → IsDrawn (given (given (nameless.dest_equation (image a.conclusion))
-            (λ sides. require (knows_type theory ty)
-            (conclude (all_without_variable name ty ∷ [])
-            (nameless_equation (function_type ty sides.ty) (lam ty (close name ty sides.left)) (lam ty (close name ty sides.right))))))
-            (λ inference. drawn inference (images a ∷ [])))
+        (λ sides. require (knows_type theory ty)
+        (conclude (all_without_variable name ty ∷ [])
+        (nameless_equation (function_type ty sides.ty) (lam ty (close name ty sides.left)) (lam ty (close name ty sides.right))))))
+        (λ inference. drawn inference (images a ∷ [])))
         (outcome_given one NotEquation
-            (λ sides. unless (knows_type theory ty) UnknownType
-            (unless (not (is_free_in_hypotheses name ty a.hypotheses)) FreeInHypothesis
-            (concluded theory a.hypotheses (equation (abstraction name ty sides.0) (abstraction name ty sides.1))))))
+        (λ sides. unless (knows_type theory ty) UnknownType
+        (unless (not (is_free_in_hypotheses name ty a.hypotheses)) FreeInHypothesis
+        (concluded theory a.hypotheses (equation (abstraction name ty sides.0) (abstraction name ty sides.1))))))
     go None one = rw (no-equation a.conclusion one) tt
     go (Some (l, r)) one =
         let e = sides theory legal a.conclusion l r premise.known one in
@@ -325,7 +325,7 @@ passed_by_both a b = map unchanged (without (image b.conclusion) (images a)) ++ 
 pub deduct_antisym-drawn : (theory : Theory) (a b : Theorem) → IsPremise theory a → KernelDraws theory rule_deduct_antisym (a ∷ b ∷ []) (deduct_antisym_outcome theory a b)
 deduct_antisym-drawn theory a b first =
     concluded-drawn theory (with_hypotheses (left_of a b) (right_of a b)) (equation a.conclusion b.conclusion) (passed_by_both a b)
-        (nameless_equation bool_type (image a.conclusion) (image b.conclusion)) set (image-equation a.conclusion b.conclusion bool_type first.typed)
+    (nameless_equation bool_type (image a.conclusion) (image b.conclusion)) set (image-equation a.conclusion b.conclusion bool_type first.typed)
   where
     is : (passed_by_both a b) ≡ (map image (left_of a b) ++ map image (right_of a b))
     is = two_premises (without (image b.conclusion) (images a)) (without (image a.conclusion) (images b))
@@ -394,7 +394,7 @@ have_instances theory theta = list_all (λ pair. has_instances theory pair.0) th
 shuffled : (variables same types constants instances rest keep all_types all_constants all_instances : Bool)
     → (variables && rest) ≡ (variables && (keep && (all_types && (all_constants && all_instances))))
     → (variables && ((same && ((types && constants) && instances)) && rest)) ≡
-        (variables && ((same && keep) && ((types && all_types) && ((constants && all_constants) && (instances && all_instances)))))
+    (variables && ((same && keep) && ((types && all_types) && ((constants && all_constants) && (instances && all_instances)))))
 shuffled false same types constants instances rest keep all_types all_constants all_instances deeper = refl
 shuffled true false types constants instances rest keep all_types all_constants all_instances deeper = refl
 shuffled true true false constants instances rest false all_types all_constants all_instances deeper = refl
@@ -418,14 +418,14 @@ may-replace theory ((new, old) ∷ theta) = go (is_variable old) refl (may-repla
         → may_replace theory theta ≡ (replaces_variables theta && (keeps_types theta && (know_types theory theta && (know_constants theory theta && have_instances theory theta))))
         → may_replace theory ((new, old) ∷ theta)
         ≡ (replaces_variables ((new, old) ∷ theta)
-            && (keeps_types ((new, old) ∷ theta)
-            && (know_types theory ((new, old) ∷ theta)
-            && (know_constants theory ((new, old) ∷ theta) && have_instances theory ((new, old) ∷ theta)))))
+        && (keeps_types ((new, old) ∷ theta)
+        && (know_types theory ((new, old) ∷ theta)
+        && (know_constants theory ((new, old) ∷ theta) && have_instances theory ((new, old) ∷ theta)))))
     go false is deeper = rw is refl
     go true is deeper = rw (is, pair-passes theory new old is)
         (shuffled (replaces_variables theta) (same_type (type_of new) (type_of old)) (knows_types theory new) (knows_constants theory new) (has_instances theory new)
         (list_all (λ pair. knows_nameless theory (image pair.0) (nameless_type [] (image pair.1))) theta) (keeps_types theta)
-            (know_types theory theta) (know_constants theory theta) (have_instances theory theta) deeper)
+        (know_types theory theta) (know_constants theory theta) (have_instances theory theta) deeper)
 
 pub inst-drawn : (theory : Theory) (theta : List (NamedTerm × NamedTerm)) (a : Theorem) (result : Result Theorem Fault)
     → AnswersSuch result (inst_refusal theory theta a) (IsInst theory theta a) → Infers theory (rule_inst theta) (a ∷ []) result
@@ -438,9 +438,9 @@ inst-drawn theory theta a result answers = record {
   where
     passes : (variables keep types constants instances : Bool)
         → (if not variables then Some NotVariable else
-            (if not keep then Some TypeMismatch else
-            (if not types then Some UnknownType else
-            (if not constants then Some UnknownConst else (if not instances then Some NotInstance else None))))) ≡ None
+        (if not keep then Some TypeMismatch else
+        (if not types then Some UnknownType else
+        (if not constants then Some UnknownConst else (if not instances then Some NotInstance else None))))) ≡ None
         → (variables && (keep && (types && (constants && instances)))) ≡ true
     passes true true true true true none = refl
     passes true true true true false none = cc
@@ -451,9 +451,9 @@ inst-drawn theory theta a result answers = record {
 
     refuses : (variables keep types constants instances : Bool) → (variables && (keep && (types && (constants && instances)))) ≡ true
         → (if not variables then Some NotVariable else
-            (if not keep then Some TypeMismatch else
-            (if not types then Some UnknownType else
-            (if not constants then Some UnknownConst else (if not instances then Some NotInstance else None))))) ≡ None
+        (if not keep then Some TypeMismatch else
+        (if not types then Some UnknownType else
+        (if not constants then Some UnknownConst else (if not instances then Some NotInstance else None))))) ≡ None
     refuses true true true true true may = refl
     refuses true true true true false may = cc
     refuses true true true false instances may = cc

@@ -84,7 +84,7 @@ pub infers_disj_cases : {journal : Journal} {logic : Stored} {a b c : Theorem} {
     → Infers journal.theory rule_disj_cases (a ∷ b ∷ c ∷ []) result
 infers_disj_cases {journal} {logic} {a} {b} {c} {result} has legal premise answers =
     infers journal.theory rule_disj_cases (a ∷ b ∷ c ∷ []) (terms_of_theorem a ++ (terms_of_theorem b ++ terms_of_theorem c))
-        (disj_cases_outcome a b c) result (drawn-disj_cases journal logic has legal a b c premise) answers
+    (disj_cases_outcome a b c) result (drawn-disj_cases journal logic has legal a b c premise) answers
 
 pub infers_contr : {journal : Journal} {logic : Stored} {p : NamedTerm} {ty : HolType} {a : Theorem} {result : Result Theorem Fault}
     → HasLogic journal logic → IsLegal journal.theory → type_of p ≡ Some ty → IsPremise journal.theory a

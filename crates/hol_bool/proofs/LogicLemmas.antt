@@ -80,7 +80,7 @@ connected-parts theory name generic (combination (combination (constant other ty
         let generic_here : generic_type theory other ≡ Some binary = ap (generic_type theory) named ∙ generic in
         let ty_is : ty ≡ binary = fixed-type theory other binary ty generic_here (λ tau. refl) known.parts.0.0.1 in
         let typed : HasType [] (app (app (const other binary) (image a)) (image b)) bool_type =
-            subst (λ (t : HolType). HasType [] (app (app (const other t) (image a)) (image b)) bool_type) ty_is known.typed in
+        subst (λ (t : HolType). HasType [] (app (app (const other t) (image a)) (image b)) bool_type) ty_is known.typed in
         let first : typed.1.0 ≡ bool_type = cc in
         let second : typed.0 ≡ bool_type = cc in
         let left_known : IsKnown theory (image a) bool_type = record { typed = subst (λ (t : HolType). HasType [] (image a) t) first typed.1.2; parts = known.parts.0.1 } in

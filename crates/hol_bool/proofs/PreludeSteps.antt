@@ -51,20 +51,20 @@ equation-fits room p q one two is =
 pub way-fits : (theory : Theory) (number : ℕ) (terms : List (NamedTerm × NamedTerm)) (room : Bool) (premise conclusion : Nameless)
     (leads : LeadsTo theory number terms room premise conclusion) → room ≡ true
     → list_all nameless_within_limits
-        (instantiate_all [] (image leads.stated) ∷ instantiate_all [] (image leads.hypothesis) ∷ instance_of [] terms
-        (image leads.stated) ∷ instance_of [] terms (image leads.hypothesis)
+    (instantiate_all [] (image leads.stated) ∷ instantiate_all [] (image leads.hypothesis) ∷ instance_of [] terms
+    (image leads.stated) ∷ instance_of [] terms (image leads.hypothesis)
     ∷ nameless_equation bool_type (instance_of [] terms (image leads.hypothesis)) (instance_of [] terms (image leads.stated)) ∷ []) ≡ true
 way-fits theory number terms room premise conclusion leads is =
     let typed_stated = nameless_within_limits (instantiate_all [] (image leads.stated)) in
     let typed_hypothesis = nameless_within_limits (instantiate_all [] (image leads.hypothesis)) in
     subst (λ (c : Nameless). (typed_stated
-        && (typed_hypothesis && (nameless_within_limits c
-        && (nameless_within_limits (instance_of [] terms (image leads.hypothesis))
-        && (nameless_within_limits (nameless_equation bool_type (instance_of [] terms (image leads.hypothesis)) c) && true))))) ≡ true)
-        leads.conclusion_is
+    && (typed_hypothesis && (nameless_within_limits c
+    && (nameless_within_limits (instance_of [] terms (image leads.hypothesis))
+    && (nameless_within_limits (nameless_equation bool_type (instance_of [] terms (image leads.hypothesis)) c) && true))))) ≡ true)
+    leads.conclusion_is
     (subst (λ (p : Nameless). (typed_stated
-        && (typed_hypothesis && (nameless_within_limits conclusion
-        && (nameless_within_limits p && (nameless_within_limits (nameless_equation bool_type p conclusion) && true))))) ≡ true) leads.premise_is
+    && (typed_hypothesis && (nameless_within_limits conclusion
+    && (nameless_within_limits p && (nameless_within_limits (nameless_equation bool_type p conclusion) && true))))) ≡ true) leads.premise_is
     (joined typed_stated typed_hypothesis (nameless_within_limits conclusion) (nameless_within_limits premise) (nameless_within_limits (nameless_equation bool_type premise conclusion)) leads.is_small
     (fits-within room conclusion leads.conclusion_fits is) (fits-within room premise leads.premise_fits is) (equation-fits room premise conclusion leads.premise_fits leads.conclusion_fits is)))
   where

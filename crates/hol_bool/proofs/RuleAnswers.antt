@@ -105,7 +105,7 @@ leads-p_q theory number hypothesis conclusion a b terms there small one two term
 pub leads-p_q_r : (theory : Theory) (number : ℕ) (hypothesis conclusion a b d : NamedTerm) (terms : List (NamedTerm × NamedTerm))
     → slice_get prelude_theorems number ≡ Some (shown (hypothesis ∷ []) conclusion)
     → list_all nameless_within_limits (instantiate_all [] (image conclusion) ∷ instantiate_all [] (image hypothesis) ∷ []) ≡ true
-        → IsFormula theory a → IsFormula theory b → IsFormula theory d → terms ≡ at_p_q_r a b d
+    → IsFormula theory a → IsFormula theory b → IsFormula theory d → terms ≡ at_p_q_r a b d
     → (room : Bool) (from to : Nameless) → from ≡ instance_of [] (at_p_q_r a b d) (image hypothesis) → to ≡ instance_of [] (at_p_q_r a b d) (image conclusion) → FitsIf room from → FitsIf room to
     → LeadsTo theory number terms room from to
 leads-p_q_r theory number hypothesis conclusion a b d terms there small one two three terms_are room from to from_is to_is from_fits to_fits =

@@ -181,7 +181,7 @@ module _ (theory : Theory) (host : Host) where
 
   on-linked : {now mid : Stage} {goals : List Goal} {step made : Step} {l : Link} {ls : Links} {steps : List Step} {answer : Result Step Fault} {after : Stage} → goals ≡ step.goals
       → RunsLink theory host now l goals (Ok steps) mid → AnswersSpliced step.justification steps (Ok made)
-          → RunsOn theory host mid made ls answer after → RunsOn theory host now step (link l ls) answer after
+      → RunsOn theory host mid made ls answer after → RunsOn theory host now step (link l ls) answer after
   on-linked {ls} {answer} {after} same (runs_assigned is r) made rest =
       let rest = rw made.0 at rest in
       let fits = rw made.0 at made.1 in

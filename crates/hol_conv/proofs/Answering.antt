@@ -48,9 +48,9 @@ joined-sides theory a b joined is = left_of (dest_equation a.conclusion) is
 
     left_of : (dest : Option (NamedTerm × NamedTerm))
         → given dest NotEquation (λ left.
-            given (dest_equation b.conclusion) NotEquation
-            (λ right. unless (are_alpha_equivalent left.1 right.0) NotAlpha
-            (unless (is_within_limits (equation left.0 right.1)) TooLarge (Ok (made left right))))) ≡ Ok joined
+        given (dest_equation b.conclusion) NotEquation
+        (λ right. unless (are_alpha_equivalent left.1 right.0) NotAlpha
+        (unless (is_within_limits (equation left.0 right.1)) TooLarge (Ok (made left right))))) ≡ Ok joined
         → (sides : NamedTerm × NamedTerm) × (dest_equation joined.conclusion ≡ Some sides)
     left_of (Some left) e = right_of left (dest_equation b.conclusion) e
     left_of None e = cc

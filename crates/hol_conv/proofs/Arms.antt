@@ -52,7 +52,7 @@ theorem-answers {old} {new} {hosts} {t} answer result r continued joins =
 pub argument-arm : {old new : Library} {hosts : HostConversions} {depth steps left : ℕ} {c : Conversion} {t f x : NamedTerm}
     {part : Result Converted Fault} (result : Result Converted Fault) → AreParts t depth f x
     → AnswersOver old hosts (depth + 1) steps c x part left → MakesAnswer old new x part
-        → Joins (of_argument new.recorder.theory f (answered new.recorder.theory x part)) (answered new.recorder.theory t result)
+    → Joins (of_argument new.recorder.theory f (answered new.recorder.theory x part)) (answered new.recorder.theory t result)
     → AnswersOver old hosts depth steps (rand_conv c) t result left
 argument-arm {t} {f} {x} {part} result parts r makes joins =
     argument-answers _ _ _ parts r (joins-later (λ theory. of_argument theory f (answered theory x part)) (λ theory. answered theory t result) makes.continued joins)
@@ -60,7 +60,7 @@ argument-arm {t} {f} {x} {part} result parts r makes joins =
 pub function-arm : {old new : Library} {hosts : HostConversions} {depth steps left : ℕ} {c : Conversion} {t f x : NamedTerm}
     {part : Result Converted Fault} (result : Result Converted Fault) → AreParts t depth f x
     → AnswersOver old hosts (depth + 1) steps c f part left → MakesAnswer old new f part
-        → Joins (of_function new.recorder.theory x (answered new.recorder.theory f part)) (answered new.recorder.theory t result)
+    → Joins (of_function new.recorder.theory x (answered new.recorder.theory f part)) (answered new.recorder.theory t result)
     → AnswersOver old hosts depth steps (rator_conv c) t result left
 function-arm {t} {f} {x} {part} result parts r makes joins =
     function-answers _ _ _ parts r (joins-later (λ theory. of_function theory x (answered theory f part)) (λ theory. answered theory t result) makes.continued joins)
@@ -68,7 +68,7 @@ function-arm {t} {f} {x} {part} result parts r makes joins =
 pub body-arm : {old new : Library} {hosts : HostConversions} {depth steps left : ℕ} {c : Conversion} {t binder body : NamedTerm} {part : Result Converted Fault} (result : Result Converted Fault)
     (parts : AreBoundParts t depth binder body) → AnswersOver old hosts (depth + 1) steps c body part left → MakesAnswer old new body part
     → Joins (of_body new.recorder.theory parts.name parts.ty (answered new.recorder.theory body part)) (answered new.recorder.theory t result)
-        → AnswersOver old hosts depth steps (abs_conv c) t result left
+    → AnswersOver old hosts depth steps (abs_conv c) t result left
 body-arm {t} {body} {part} result parts r makes joins =
     body-answers _ _ _ parts r (joins-later (λ theory. of_body theory parts.name parts.ty (answered theory body part)) (λ theory. answered theory t result) makes.continued joins)
 
@@ -208,7 +208,7 @@ link-stop {old} {left} {t} {made} from after result so_far before r makes final 
 pub link-costs : {theory : Theory} {store : Store} {hosts : HostConversions} {depth steps left : ℕ} {c : Conversion} {current : NamedTerm}
     (other : Theory) (proved : List Theorem) (t : NamedTerm) (after : ℕ)
     (made : Result Converted Fault) (chain : Chain) → AnswersAt theory store hosts depth steps c current made left
-        → Links other proved t current (answered other current made) left (GoesOn chain) after
+    → Links other proved t current (answered other current made) left (GoesOn chain) after
     → after < steps
 link-costs {steps} other proved t after (Ok made) chain r links = subst (λ (n : ℕ). n < steps) (sym links.1) (costs r)
 link-costs other proved t after (Err fault) chain r links = absurd links
@@ -227,7 +227,7 @@ link-equations {t} made continued r =
 -- CHANGED_CONV
 pub changed-arm : {theory : Theory} {store : Store} {hosts : HostConversions} {depth steps left : ℕ} {c : Conversion} {t : NamedTerm} (made result : Result Converted Fault)
     → AnswersAt theory store hosts depth steps c t made left → answered theory t result ≡ if_changed t (answered theory t made)
-        → AnswersAt theory store hosts depth steps (changed_conv c) t result left
+    → AnswersAt theory store hosts depth steps (changed_conv c) t result left
 changed-arm made result r is = conv.converts_if_changed r is
 
 pub changed-makes : {old new : Library} {t : NamedTerm} (made result : Result Converted Fault) → MakesAnswer old new t made → IfOk result (λ same. made ≡ Ok same) → MakesAnswer old new t result
@@ -243,7 +243,7 @@ top-rest c = conv.try_conv (thenc (changed_conv (sub_conv (top_depth_conv c))) (
 
 pub top-start : {theory : Theory} {store : Store} {hosts : HostConversions} {depth first steps : ℕ} {whole c : Conversion} {t current : NamedTerm} {proved : List Theorem} → whole ≡ top_depth_conv c
     → JoinedSoFar theory store hosts depth first whole t steps whole proved current
-        → JoinedSoFar theory store hosts depth first whole t steps (thenc (repeatc c) (one_more (top-rest c))) proved current
+    → JoinedSoFar theory store hosts depth first whole t steps (thenc (repeatc c) (one_more (top-rest c))) proved current
 top-start {theory} {store} {hosts} {depth} {first} {steps} {whole} {c} {t} {current} {proved} is so_far =
     joined_defined theory store hosts depth refl (subst (λ (w : Conversion). JoinedSoFar theory store hosts depth first whole t steps w proved current) is so_far)
 

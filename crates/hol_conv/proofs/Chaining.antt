@@ -55,7 +55,7 @@ pub joined-off : (theory : Theory) (before after : List Recorded) (theorem : Rec
     → Joins (trans_outcome theory theorem.theorem last) (Err fault) → Joins (joined_from theory (theorems before) (Ok last)) (Err fault)
 joined-off theory before after theorem last fault is (inl made) =
     inl (sym (front theory before after theorem (Ok last) is
-        ∙ ap (λ (answer : Result Theorem Fault). joined_from theory (theorems after) answer) (sym made) ∙ joined-err theory (theorems after) fault))
+    ∙ ap (λ (answer : Result Theorem Fault). joined_from theory (theorems after) answer) (sym made) ∙ joined-err theory (theorems after) fault))
 joined-off theory before after theorem last fault is (inr made) = inr made
 
 pub joins-as : {a b answer : Result Theorem Fault} → a ≡ b → Joins b answer → Joins a answer

@@ -27,7 +27,7 @@ known-refl theory t known = go (knows_types theory t) (knows_constants theory t)
   where
     go : (a b c : Bool) → (a && b && c) ≡ true
         → refused (if not a then Some UnknownType else (if not b then Some UnknownConst else (if not c then Some NotInstance else None)))
-            (concluded theory [] (equation t t)) ≡ concluded theory [] (equation t t)
+        (concluded theory [] (equation t t)) ≡ concluded theory [] (equation t t)
     go true true true e = refl
     go true true false e = cc
     go true false c e = cc
@@ -44,14 +44,14 @@ pub both-same : (theory : Theory) (f x : NamedTerm) → is_some (type_of (combin
     → of_parts theory (Ok (same_theorem theory f)) (Ok (same_theorem theory x)) ≡ refl_outcome theory (combination f x)
 both-same theory f x typed known =
     subst (λ (found : Option (NamedTerm × NamedTerm)).
-        given found NotEquation (λ functions.
-        given (dest_equation (equation x x)) NotEquation
-        (λ arguments. unless (is_some (type_of (combination functions.0 arguments.0))) TypeMismatch (made functions arguments))) ≡ refl_outcome
-        theory (combination f x)) (sym (equation-sides f f))
+    given found NotEquation (λ functions.
+    given (dest_equation (equation x x)) NotEquation
+    (λ arguments. unless (is_some (type_of (combination functions.0 arguments.0))) TypeMismatch (made functions arguments))) ≡ refl_outcome
+    theory (combination f x)) (sym (equation-sides f f))
     (subst (λ (found : Option (NamedTerm × NamedTerm)).
-        given found NotEquation (λ arguments.
-        unless (is_some (type_of (combination f arguments.0))) TypeMismatch (made (f, f) arguments)) ≡ refl_outcome theory (combination f x))
-        (sym (equation-sides x x))
+    given found NotEquation (λ arguments.
+    unless (is_some (type_of (combination f arguments.0))) TypeMismatch (made (f, f) arguments)) ≡ refl_outcome theory (combination f x))
+    (sym (equation-sides x x))
     (ap (λ b. unless b TypeMismatch (made (f, f) (x, x))) typed ∙ sym (known-refl theory (combination f x) known)))
   where
     made : NamedTerm × NamedTerm → NamedTerm × NamedTerm → Result Theorem Fault
@@ -94,8 +94,8 @@ side-same theory t right side = some-right side.left right t t (sym side.is ∙ 
 pub same-refused : (theory : Theory) (t : NamedTerm) → if_changed t (Ok (same_theorem theory t)) ≡ Err ConvFails
 same-refused theory t =
     subst (λ (found : Option (NamedTerm × NamedTerm)).
-        given found ConvFails (λ sides. unless (not (are_alpha_equivalent sides.1 t)) ConvFails (Ok (same_theorem theory t))) ≡ Err ConvFails)
-        (sym (equation-sides t t))
+    given found ConvFails (λ sides. unless (not (are_alpha_equivalent sides.1 t)) ConvFails (Ok (same_theorem theory t))) ≡ Err ConvFails)
+    (sym (equation-sides t t))
     (go (are_alpha_equivalent t t) ((same_term-Decides (image t) (image t)).1 refl))
   where
     go : (alike : Bool) → alike ≡ true → unless (not alike) ConvFails (Ok (same_theorem theory t)) ≡ Err ConvFails
@@ -107,8 +107,8 @@ pub same-body : (theory : Theory) (name : List ℕ) (ty : HolType) (body : Named
     → of_body theory name ty (Ok (same_theorem theory body)) ≡ refl_outcome theory (abstraction name ty body)
 same-body theory name ty body known =
     subst (λ (found : Option (NamedTerm × NamedTerm)).
-        binder_answer (given found NotEquation (λ sides. unless (knows_type theory ty) UnknownType (made sides))) ≡ refl_outcome theory
-        (abstraction name ty body)) (sym (equation-sides body body))
+    binder_answer (given found NotEquation (λ sides. unless (knows_type theory ty) UnknownType (made sides))) ≡ refl_outcome theory
+    (abstraction name ty body)) (sym (equation-sides body body))
     (go (knows_type theory ty) (is_within_limits (equation (abstraction name ty body) (abstraction name ty body)))
     (knows (knows_type theory ty) (knows_types theory body) (knows_constants theory body) (has_instances theory body) known) ∙ sym (known-refl theory (abstraction name ty body) known))
   where

@@ -99,8 +99,8 @@ eq_mp-theory theory first second theorem same = go (dest_equation first.conclusi
 
     go : (found : Option (NamedTerm × NamedTerm))
         → given found NotEquation (λ sides.
-            unless (are_alpha_equivalent sides.0 second.conclusion) NotAlpha
-            (Ok (record { theory = theory; hypotheses = with_hypotheses first.hypotheses second.hypotheses; conclusion = sides.1 }))) ≡ Ok theorem
+        unless (are_alpha_equivalent sides.0 second.conclusion) NotAlpha
+        (Ok (record { theory = theory; hypotheses = with_hypotheses first.hypotheses second.hypotheses; conclusion = sides.1 }))) ≡ Ok theorem
         → theorem.theory ≡ theory
     go None same = cc
     go (Some sides) same =

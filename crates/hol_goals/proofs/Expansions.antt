@@ -112,10 +112,16 @@ pub is_refused : (theory : Theory) (store : Store) (refinement : Step) (old : St
 is_refused theory store refinement old fault (inl memory) = (inl memory, refl)
 is_refused theory store refinement old fault (inr (inl none)) = (inr (inl none), refl)
 is_refused theory store refinement old fault (inr (inr deep)) =
-    let fails = too-deep theory store deep.focus.proof.goal (expanded deep.focus refinement) deep.deep in
-    (inr (inr (record { focus = deep.focus; found = deep.is; fails =
-        stops fault (subst (λ (f : Fault). IsStage theory (IsReplay theory store []) deep.focus.proof.goal (expanded deep.focus refinement) (Err f))
-        (sym deep.large) fails) refl })), refl)
+    let fails = too-deep theory store deep.focus.proof.goal (expanded deep.focus refinement) deep.deep in (
+      inr (inr (record {
+        focus = deep.focus;
+        found = deep.is;
+        fails =
+            stops fault (subst (λ (f : Fault). IsStage theory (IsReplay theory store []) deep.focus.proof.goal (expanded deep.focus refinement) (Err f))
+            (sym deep.large) fails) refl;
+      })),
+      refl,
+    )
 
 reached : (theory : Theory) (store : Store) (focus : Focus) (refinement : Step) (stage : Stage) → IsStage theory (IsReplay theory store []) focus.proof.goal (expanded focus refinement) (Ok stage)
     → IsExpanded theory (IsReplay theory store []) focus refinement (Ok (advanced focus.proof stage))

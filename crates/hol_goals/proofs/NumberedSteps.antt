@@ -41,8 +41,8 @@ all-steps turns goals first more all last within are others is put =
     let long : length goals ≡ length (goals_of goals) = sym (length-map goals goal_of) in
     ap (map step_of) put ∙ map-append step_of more (last ∷ [])
     ∙ ap (λ l. l ++ step_of last ∷ [])
-        (others ∙ ap (λ l. l ++ map untouched (goals_of (drop turns goals)))
-        (are ∙ ap (numbered_from (length goals - turns)) count ∙ ap (λ (n : ℕ). numbered_from (n - turns) turns) long))
+    (others ∙ ap (λ l. l ++ map untouched (goals_of (drop turns goals)))
+    (are ∙ ap (numbered_from (length goals - turns)) count ∙ ap (λ (n : ℕ). numbered_from (n - turns) turns) long))
     ∙ ap (λ l. numbered_from (length (goals_of goals) - turns) turns ++ map untouched l ++ step_of last ∷ []) (sym (drop-map goal_of turns goals))
     ∙ ap (λ (s : Step). numbered_from (length (goals_of goals) - turns) turns ++ map untouched (drop turns (goals_of goals)) ++ s ∷ []) is
 

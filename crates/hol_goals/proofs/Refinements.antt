@@ -39,5 +39,5 @@ pub refused_is : (step refinement : Step) (others : List code_goal.Goal) (parts 
     → IsRefused (splice step.justification (map (λ part. portion_of (step_of part)) parts)) fault → IsRefused (spliced step (refinement ∷ map untouched left)).justification fault
 refused_is step refinement others parts left fault places are refused =
     subst (λ (tree : Justification). IsRefused tree fault)
-        (justification-is step refinement (goals_of others) parts are
-        ∙ ap (λ l. (spliced step (refinement ∷ map untouched l)).justification) places) refused
+    (justification-is step refinement (goals_of others) parts are
+    ∙ ap (λ l. (spliced step (refinement ∷ map untouched l)).justification) places) refused

@@ -41,7 +41,7 @@ further goal change stages stage = go (shown change stages) (before_change chang
         let one : proof ≡ old = cc in
         let short : take KEPT_EXPANSIONS_LIMIT (take KEPT_EXPANSIONS_LIMIT kept) ≡ take KEPT_EXPANSIONS_LIMIT kept = take-again KEPT_EXPANSIONS_LIMIT kept in
         subst (λ (p : states.Proof). stack_at Forward goal (take (KEPT_EXPANSIONS_LIMIT + 2) (stage ∷ first ∷ kept)) ≡ states.changed_stack
-            (record { proof = proof_at goal (first ∷ kept); before = before }) (states.advanced p stage))
+        (record { proof = proof_at goal (first ∷ kept); before = before }) (states.advanced p stage))
         (sym one) (ap (λ (k : List states.Stage). record { proof = Some (states.advanced old stage); before = Some (record { goal = goal; stage = first; kept = k }) }) short)
 
 pub goes-on : (goal : Goal) (change : Change) (old new : List Stage) (stage : Stage) → new ≡ take (KEPT_EXPANSIONS_LIMIT + 2) (stage ∷ shown change old)

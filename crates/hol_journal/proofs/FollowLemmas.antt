@@ -10,6 +10,7 @@ use Rattle.hol_model.specs.Kernel.Theorem.{Theorem, IsTheorem}
 use Rattle.hol_model.specs.Kernel.Rules.{refl_outcome, assume_outcome, trans_outcome, eq_mp_outcome, mk_comb_outcome, abs_outcome, beta_outcome, deduct_antisym_outcome, define_outcome}
 use Rattle.hol_model.specs.Kernel.Instantiation.{IsInst, IsInstType, replacements_refusal, inst_refusal, inst_type_refusal}
 use Rattle.hol_kernel.specs.KnownFormula.{IsKnownFormula}
+use Rattle.hol_kernel.specs.Fits.{TransFits, EqMpFits}
 use Rattle.hol_journal.specs.Steps.{Step, by_refl, by_trans, by_mk_comb, by_abs, by_beta, by_assume, by_eq_mp, by_deduct, by_inst, by_inst_type, by_definition, sequent_of_theorem}
 use Rattle.hol_journal.specs.Limits.{FitsLog, pair_fits, type_pair_fits}
 use Rattle.hol_journal.specs.Journal.{Journal, Recorded, HasTheorem, Follows, IsJournal, IsMade}
@@ -38,6 +39,12 @@ formula_in_view shown now term same known = subst (λ (j : Journal). IsKnownForm
 pub pairs_in_view : (shown now : Journal) (theta : List (NamedTerm × NamedTerm)) → shown ≡ now → replacements_refusal now.theory theta ≡ None → replacements_refusal shown.theory theta ≡ None
 pairs_in_view shown now theta same known = subst (λ (j : Journal). replacements_refusal j.theory theta ≡ None) (sym same) known
 
+pub trans_fits_in_view : (first second one two : Recorded) → first ≡ one → second ≡ two → TransFits one.theorem two.theorem → TransFits first.theorem second.theorem
+trans_fits_in_view first second one two same_first same_second fits = rw (same_first, same_second) fits
+
+pub eq_mp_fits_in_view : (first second one two : Recorded) → first ≡ one → second ≡ two → EqMpFits one.theorem two.theorem → EqMpFits first.theorem second.theorem
+eq_mp_fits_in_view first second one two same_first same_second fits = rw (same_first, same_second) fits
+
 -- what a step cites
 
 cites_none : (journal : Journal) (number : ℕ) → IsMember number [] → HasTheorem journal.entries number
@@ -61,8 +68,12 @@ module _ (journal : Journal) (is : IsJournal journal) where
       subst (λ (t : NamedTerm). Follows journal.entries (by_refl t) (sequent_of_theorem answer)) (sym same)
       (given-follows journal (by_refl term) (sequent_of_theorem answer) is (cites_none journal)
       (knows_one journal.theory (by_refl term) term refl refl
-          (record { ty = ty; typed = typed; known = known_of journal.theory term ty typed (refl-known journal.theory term answer outcome);
-          within_limits = within }))
+      (record {
+        ty = ty;
+        typed = typed;
+        known = known_of journal.theory term ty typed (refl-known journal.theory term answer outcome);
+        within_limits = within;
+      }))
       (refl-gives journal.theory journal.entries term ty answer typed outcome fits))
 
   pub assume-follows : (term copy : NamedTerm) (ty : HolType) (answer : Theorem) → copy ≡ term → type_of term ≡ Some ty
@@ -72,8 +83,12 @@ module _ (journal : Journal) (is : IsJournal journal) where
       subst (λ (t : NamedTerm). Follows journal.entries (by_assume t) (sequent_of_theorem answer)) (sym same)
       (given-follows journal (by_assume term) (sequent_of_theorem answer) is (cites_none journal)
       (knows_one journal.theory (by_assume term) term refl refl
-          (record { ty = ty; typed = typed; known = known_of journal.theory term ty typed (assume-known journal.theory term answer outcome);
-          within_limits = within }))
+      (record {
+        ty = ty;
+        typed = typed;
+        known = known_of journal.theory term ty typed (assume-known journal.theory term answer outcome);
+        within_limits = within;
+      }))
       (assume-gives journal.theory journal.entries term ty answer typed outcome fits))
 
   pub beta-follows : (term copy : NamedTerm) (ty : HolType) (answer : Theorem) → copy ≡ term → type_of term ≡ Some ty → is_within_limits term ≡ true
@@ -83,8 +98,12 @@ module _ (journal : Journal) (is : IsJournal journal) where
       subst (λ (t : NamedTerm). Follows journal.entries (by_beta t) (sequent_of_theorem answer)) (sym same)
       (given-follows journal (by_beta term) (sequent_of_theorem answer) is (cites_none journal)
       (knows_one journal.theory (by_beta term) term refl refl
-          (record { ty = ty; typed = typed; known = known_of journal.theory term ty typed (beta-known journal.theory term answer outcome);
-          within_limits = within }))
+      (record {
+        ty = ty;
+        typed = typed;
+        known = known_of journal.theory term ty typed (beta-known journal.theory term answer outcome);
+        within_limits = within;
+      }))
       (beta-gives journal.theory journal.entries term ty answer typed outcome fits))
 
   pub trans-follows : (first second : Recorded) (answer : Theorem) → IsMade journal first → IsMade journal second → IsTheorem first.theorem → IsTheorem second.theorem
@@ -93,7 +112,7 @@ module _ (journal : Journal) (is : IsJournal journal) where
       given-follows journal (by_trans first.entry second.entry) (sequent_of_theorem answer) is (cites_two journal first second made_first made_second)
       (knows_none journal.theory (by_trans first.entry second.entry) refl refl)
       (trans-gives journal.theory journal.entries first.entry second.entry first.theorem second.theorem answer
-          (made-cited journal first made_first is_first) (made-cited journal second made_second is_second) outcome fits)
+      (made-cited journal first made_first is_first) (made-cited journal second made_second is_second) outcome fits)
 
   pub eq_mp-follows : (first second : Recorded) (answer : Theorem) → IsMade journal first → IsMade journal second → IsTheorem first.theorem → IsTheorem second.theorem
       → eq_mp_outcome journal.theory first.theorem second.theorem ≡ Ok answer → FitsLog answer → Follows journal.entries (by_eq_mp first.entry second.entry) (sequent_of_theorem answer)
@@ -101,7 +120,7 @@ module _ (journal : Journal) (is : IsJournal journal) where
       given-follows journal (by_eq_mp first.entry second.entry) (sequent_of_theorem answer) is (cites_two journal first second made_first made_second)
       (knows_none journal.theory (by_eq_mp first.entry second.entry) refl refl)
       (eq_mp-gives journal.theory journal.entries first.entry second.entry first.theorem second.theorem answer
-          (made-cited journal first made_first is_first) (made-cited journal second made_second is_second) outcome fits)
+      (made-cited journal first made_first is_first) (made-cited journal second made_second is_second) outcome fits)
 
   pub mk_comb-follows : (first second : Recorded) (answer : Theorem) → IsMade journal first → IsMade journal second → IsTheorem first.theorem → IsTheorem second.theorem
       → mk_comb_outcome journal.theory first.theorem second.theorem ≡ Ok answer → FitsLog answer → Follows journal.entries (by_mk_comb first.entry second.entry) (sequent_of_theorem answer)
@@ -109,7 +128,7 @@ module _ (journal : Journal) (is : IsJournal journal) where
       given-follows journal (by_mk_comb first.entry second.entry) (sequent_of_theorem answer) is (cites_two journal first second made_first made_second)
       (knows_none journal.theory (by_mk_comb first.entry second.entry) refl refl)
       (mk_comb-gives journal.theory journal.entries first.entry second.entry first.theorem second.theorem answer
-          (made-cited journal first made_first is_first) (made-cited journal second made_second is_second) outcome fits)
+      (made-cited journal first made_first is_first) (made-cited journal second made_second is_second) outcome fits)
 
   pub deduct-follows : (first second : Recorded) (answer : Theorem) → IsMade journal first → IsMade journal second → IsTheorem first.theorem → IsTheorem second.theorem
       → deduct_antisym_outcome journal.theory first.theorem second.theorem ≡ Ok answer → FitsLog answer → Follows journal.entries (by_deduct first.entry second.entry) (sequent_of_theorem answer)
@@ -117,7 +136,7 @@ module _ (journal : Journal) (is : IsJournal journal) where
       given-follows journal (by_deduct first.entry second.entry) (sequent_of_theorem answer) is (cites_two journal first second made_first made_second)
       (knows_none journal.theory (by_deduct first.entry second.entry) refl refl)
       (deduct-gives journal.theory journal.entries first.entry second.entry first.theorem second.theorem answer
-          (made-cited journal first made_first is_first) (made-cited journal second made_second is_second) outcome fits)
+      (made-cited journal first made_first is_first) (made-cited journal second made_second is_second) outcome fits)
 
   pub abs-follows : (binder copy : NamedTerm) (theorem : Recorded) (answer : Theorem) → copy ≡ binder → is_within_limits binder ≡ true → IsMade journal theorem → IsTheorem theorem.theorem
       → abs_outcome journal.theory binder theorem.theorem ≡ Ok answer → FitsLog answer → Follows journal.entries (by_abs copy theorem.entry) (sequent_of_theorem answer)
@@ -130,7 +149,7 @@ module _ (journal : Journal) (is : IsJournal journal) where
   pub inst-follows : (pairs copies : List (NamedTerm × NamedTerm)) (theorem : Recorded) (answer : Theorem) → copies ≡ pairs
       → list_all pair_fits pairs ≡ true → IsMade journal theorem → IsTheorem theorem.theorem
       → inst_refusal journal.theory pairs theorem.theorem ≡ None → IsInst journal.theory pairs theorem.theorem answer → FitsLog answer
-          → Follows journal.entries (by_inst theorem.entry copies) (sequent_of_theorem answer)
+      → Follows journal.entries (by_inst theorem.entry copies) (sequent_of_theorem answer)
   inst-follows pairs copies theorem answer same within made is_theorem none instance fits =
       subst (λ (p : List (NamedTerm × NamedTerm)). Follows journal.entries (by_inst theorem.entry p) (sequent_of_theorem answer)) (sym same)
       (given-follows journal (by_inst theorem.entry pairs) (sequent_of_theorem answer) is (cites_one journal theorem made)
@@ -140,7 +159,7 @@ module _ (journal : Journal) (is : IsJournal journal) where
   pub inst_type-follows : (pairs copies : List (HolType × HolType)) (theorem : Recorded) (answer : Theorem) → copies ≡ pairs
       → list_all type_pair_fits pairs ≡ true → IsMade journal theorem → IsTheorem theorem.theorem
       → inst_type_refusal journal.theory pairs theorem.theorem ≡ None → IsInstType journal.theory pairs theorem.theorem answer → FitsLog answer
-          → Follows journal.entries (by_inst_type theorem.entry copies) (sequent_of_theorem answer)
+      → Follows journal.entries (by_inst_type theorem.entry copies) (sequent_of_theorem answer)
   inst_type-follows pairs copies theorem answer same within made is_theorem none instance fits =
       subst (λ (p : List (HolType × HolType)). Follows journal.entries (by_inst_type theorem.entry p) (sequent_of_theorem answer)) (sym same)
       (given-follows journal (by_inst_type theorem.entry pairs) (sequent_of_theorem answer) is (cites_one journal theorem made)
@@ -153,6 +172,10 @@ module _ (journal : Journal) (is : IsJournal journal) where
   define-follows name term ty answer typed within outcome fits =
       given-follows journal (by_definition name term) (sequent_of_theorem answer) is (cites_none journal)
       (knows_one journal.theory (by_definition name term) term refl refl
-          (record { ty = ty; typed = typed; known = known_of journal.theory term ty typed (define-known journal.theory name term answer outcome);
-          within_limits = within }))
+      (record {
+        ty = ty;
+        typed = typed;
+        known = known_of journal.theory term ty typed (define-known journal.theory name term answer outcome);
+        within_limits = within;
+      }))
       (define-gives journal.theory journal.entries name term ty answer typed outcome fits)

@@ -70,8 +70,8 @@ binder_known theory binder theorem answer within outcome =
     let tested = λ (bind : List ℕ × HolType) (sides : NamedTerm × NamedTerm).
     unless (not (is_free_in_hypotheses bind.0 bind.1 theorem.hypotheses)) FreeInHypothesis (made bind sides) in
     let one = given-is (dest_variable binder) NotVariable
-        (λ bind. given (dest_equation theorem.conclusion) NotEquation
-        (λ sides. unless (knows_type theory bind.1) UnknownType (tested bind sides))) answer outcome in
+    (λ bind. given (dest_equation theorem.conclusion) NotEquation
+    (λ sides. unless (knows_type theory bind.1) UnknownType (tested bind sides))) answer outcome in
     let bind = one.0 in
     let two = given-is (dest_equation theorem.conclusion) NotEquation (λ sides. unless (knows_type theory bind.1) UnknownType (tested bind sides)) answer one.2 in
     let three = unless-is (knows_type theory bind.1) UnknownType (tested bind two.0) answer two.2 in
@@ -112,8 +112,13 @@ pairs-known theory (pair ∷ pairs) within are keep types instances term m = go 
     new =
         let image_known = image-known theory pair.0 kept.0 kept.1 (first_of_both (knows_types theory pair.0) (list_all (λ p. knows_types theory p.0) pairs) types)
         (first_of_both (has_instances theory pair.0) (list_all (λ p. has_instances theory p.0) pairs) instances) in
-        record { ty = kept.0; typed = kept.1; known = (is_known-Decides theory pair.0 kept.0 kept.1).1 image_known; within_limits =
-            first_of_both (is_within_limits pair.0) (is_within_limits pair.1) fits }
+        record {
+          ty = kept.0;
+          typed = kept.1;
+          known = (is_known-Decides theory pair.0 kept.0 kept.1).1 image_known;
+          within_limits =
+              first_of_both (is_within_limits pair.0) (is_within_limits pair.1) fits;
+        }
 
     old : IsKnownWithin theory pair.1
     old =
@@ -159,8 +164,11 @@ type_pairs-known theory (pair ∷ pairs) within are known ty m = go m
     new = record { known = first_of_both (knows_type theory pair.0) (list_all (λ p. knows_type theory p.0) pairs) known; fits = first_of_both (type_fits pair.0) (type_fits pair.1) fits }
 
     old : IsKnownTypeWithin theory pair.1
-    old = record { known = old_type_known theory pair.1 (first_of_both (is_type_variable pair.1) (replaces_type_variables pairs) are); fits =
-        second_of_both (type_fits pair.0) (type_fits pair.1) fits }
+    old = record {
+      known = old_type_known theory pair.1 (first_of_both (is_type_variable pair.1) (replaces_type_variables pairs) are);
+      fits =
+          second_of_both (type_fits pair.0) (type_fits pair.1) fits;
+    }
 
     go : IsMember ty (both_parts (pair ∷ pairs)) → (IsMember ty (both_parts pairs) → IsKnownTypeWithin theory ty) → IsKnownTypeWithin theory ty
     go (inl same) deeper = subst (IsKnownTypeWithin theory) (sym same) new

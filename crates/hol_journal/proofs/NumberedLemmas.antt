@@ -66,7 +66,7 @@ kept_at number [] (first ∷ kept) are place one at there numbered = absurd are
 kept_at number (entry ∷ entries) (first ∷ kept) (inl here) zero one zero there numbered = let same : first ≡ one = cc in ap Some (sym here.0.is ∙ ap (λ (x : Numbered). entry_of x.entry) same)
 kept_at number (entry ∷ entries) (first ∷ kept) (inl here) zero one (suc at) there numbered =
     let same : first ≡ one = cc in let is : first.number ≡ number = here.0.numbered in let other : first.number ≡ one.number =
-        ap (λ (x : Numbered). x.number) same in absurd (omega (arith, is, other, numbered))
+    ap (λ (x : Numbered). x.number) same in absurd (omega (arith, is, other, numbered))
 kept_at number (entry ∷ entries) (first ∷ kept) (inl here) (suc place) one zero there numbered =
     let above = at_above (number + 1) entries kept here.1 place one there in absurd (omega (arith, above, numbered))
 kept_at number (entry ∷ entries) (first ∷ kept) (inl here) (suc place) one (suc at) there numbered = kept_at (number + 1) entries kept here.1 place one at there (omega (arith, numbered))
@@ -120,7 +120,7 @@ kept_less entries kept less (Some one) is adds are = kept_popped 0 entries less 
 -- one more is kept
 pub kept_grown : (old new : List JournalEntry) (entry : JournalEntry) (count : ℕ) (kept : Option (Vec Numbered Global)) (items : Vec Numbered Global) (roomy more : List Numbered) (one : Numbered)
     → kept ≡ Some items → IfSome kept (λ items. AreKept 0 old items.items) → count ≡ length old → new ≡ old ++ entry ∷ [] → roomy ≡ items.items
-        → more ≡ roomy ++ one ∷ [] → one.number ≡ count → entry_of one.entry ≡ entry
+    → more ≡ roomy ++ one ∷ [] → one.number ≡ count → entry_of one.entry ≡ entry
     → AreKept 0 new more
 kept_grown old new entry count kept items roomy more one is are counted longer same_kept longer_kept numbered same =
     let before : AreKept 0 old items.items = subst (λ (k : Option (Vec Numbered Global)). IfSome k (λ items. AreKept 0 old items.items)) is are in

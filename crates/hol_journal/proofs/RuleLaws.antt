@@ -132,10 +132,10 @@ mk_comb-gives theory entries i j first second answer cited_first cited_second ou
     concluded theory (with_hypotheses first.hypotheses second.hypotheses) (equation (combination functions.0 arguments.0) (combination functions.1 arguments.1)) in
     let one = given-is (dest_equation first.conclusion) NotEquation
     (λ functions. given (dest_equation second.conclusion) NotEquation
-        (λ arguments. unless (is_some (type_of (combination functions.0 arguments.0))) TypeMismatch (made functions arguments))) answer outcome in
+    (λ arguments. unless (is_some (type_of (combination functions.0 arguments.0))) TypeMismatch (made functions arguments))) answer outcome in
     let functions = one.0 in
     let two = given-is (dest_equation second.conclusion) NotEquation
-        (λ arguments. unless (is_some (type_of (combination functions.0 arguments.0))) TypeMismatch (made functions arguments)) answer one.2 in
+    (λ arguments. unless (is_some (type_of (combination functions.0 arguments.0))) TypeMismatch (made functions arguments)) answer one.2 in
     let arguments = two.0 in
     let three = unless-is (is_some (type_of (combination functions.0 arguments.0))) TypeMismatch (made functions arguments) answer two.2 in
     let left = combination functions.0 arguments.0 in
@@ -184,8 +184,8 @@ abs-gives theory entries binder i theorem answer cited outcome fits =
     let tested = λ (bind : List ℕ × HolType) (sides : NamedTerm × NamedTerm).
     unless (not (is_free_in_hypotheses bind.0 bind.1 theorem.hypotheses)) FreeInHypothesis (made bind sides) in
     let one = given-is (dest_variable binder) NotVariable
-        (λ bind. given (dest_equation theorem.conclusion) NotEquation
-        (λ sides. unless (knows_type theory bind.1) UnknownType (tested bind sides))) answer outcome in
+    (λ bind. given (dest_equation theorem.conclusion) NotEquation
+    (λ sides. unless (knows_type theory bind.1) UnknownType (tested bind sides))) answer outcome in
     let bind = one.0 in
     let two = given-is (dest_equation theorem.conclusion) NotEquation (λ sides. unless (knows_type theory bind.1) UnknownType (tested bind sides)) answer one.2 in
     let sides = two.0 in

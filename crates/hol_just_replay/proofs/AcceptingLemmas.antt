@@ -43,15 +43,15 @@ formulas-known : (theory : Theory) (terms : List NamedTerm) → are_known_formul
 formulas-known theory [] passed term member = absurd member
 formulas-known theory (t ∷ terms) passed term (inl same) =
     subst (λ (u : NamedTerm). IsKnown theory (image u) bool_type) (sym same)
-        ((knows_nameless-Decides theory (image t) bool_type).0
-        (first_of_both (is_known_formula theory (image t)) (are_known_formulas theory terms) passed))
+    ((knows_nameless-Decides theory (image t) bool_type).0
+    (first_of_both (is_known_formula theory (image t)) (are_known_formulas theory terms) passed))
 formulas-known theory (t ∷ terms) passed term (inr member) = formulas-known theory terms (second_of_both (is_known_formula theory (image t)) (are_known_formulas theory terms) passed) term member
 
 known-formulas : (theory : Theory) (terms : List NamedTerm) → ((term : NamedTerm) → IsMember term terms → IsKnown theory (image term) bool_type) → are_known_formulas theory terms ≡ true
 known-formulas theory [] each = refl
 known-formulas theory (t ∷ terms) each =
     both (is_known_formula theory (image t)) (are_known_formulas theory terms)
-        ((knows_nameless-Decides theory (image t) bool_type).1 (each t (inl refl))) (known-formulas theory terms (λ u m. each u (inr m)))
+    ((knows_nameless-Decides theory (image t) bool_type).1 (each t (inl refl))) (known-formulas theory terms (λ u m. each u (inr m)))
 
 goal-known : (theory : Theory) (goal : Goal) → is_known_goal theory goal ≡ true → IsKnownGoal theory goal
 goal-known theory goal passed = record {
@@ -62,13 +62,14 @@ goal-known theory goal passed = record {
 known-goal : (theory : Theory) (goal : Goal) → IsKnownGoal theory goal → is_known_goal theory goal ≡ true
 known-goal theory goal known =
     both (is_known_formula theory (image goal.target)) (are_known_formulas theory goal.assumptions)
-        ((knows_nameless-Decides theory (image goal.target) bool_type).1 known.target) (known-formulas theory goal.assumptions known.assumptions)
+    ((knows_nameless-Decides theory (image goal.target) bool_type).1 known.target) (known-formulas theory goal.assumptions known.assumptions)
 
 goals-known : (theory : Theory) (goals : List Goal) → are_known_goals theory goals ≡ true → AreKnownGoals theory goals
 goals-known theory [] passed = tt
-goals-known theory (g ∷ goals) passed =
-    (goal-known theory g (first_of_both (is_known_goal theory g) (are_known_goals theory goals) passed),
-        goals-known theory goals (second_of_both (is_known_goal theory g) (are_known_goals theory goals) passed))
+goals-known theory (g ∷ goals) passed = (
+  goal-known theory g (first_of_both (is_known_goal theory g) (are_known_goals theory goals) passed),
+  goals-known theory goals (second_of_both (is_known_goal theory g) (are_known_goals theory goals) passed),
+)
 
 known-goals : (theory : Theory) (goals : List Goal) → AreKnownGoals theory goals → are_known_goals theory goals ≡ true
 known-goals theory [] known = refl
@@ -179,10 +180,11 @@ all-strong : (theory : Theory) (falsity : Theorem) (extra : Nameless) → IsDraw
 all-strong theory falsity extra shows [] [] are = tt
 all-strong theory falsity extra shows [] (x ∷ xs) are = absurd are
 all-strong theory falsity extra shows (g ∷ goals) [] are = absurd are
-all-strong theory falsity extra shows (g ∷ goals) (x ∷ xs) are =
-    (stronger (supposed extra g) x.theorem
-        (under-extra falsity extra g x.theorem shows (goal-drawn theory (map image falsity.hypotheses) g x.theorem are.0).1),
-        all-strong theory falsity extra shows goals xs are.1)
+all-strong theory falsity extra shows (g ∷ goals) (x ∷ xs) are = (
+  stronger (supposed extra g) x.theorem
+      (under-extra falsity extra g x.theorem shows (goal-drawn theory (map image falsity.hypotheses) g x.theorem are.0).1),
+  all-strong theory falsity extra shows goals xs are.1,
+)
 
 all-weak : (theory : Theory) (falsity : Theorem) (extra : Nameless) → IsDrawn (Some (falsity_from extra)) (Ok falsity)
     → (goals : List Goal) (all : List Recorded) → AreSupposed theory (map image falsity.hypotheses) goals all
@@ -190,15 +192,16 @@ all-weak : (theory : Theory) (falsity : Theorem) (extra : Nameless) → IsDrawn 
 all-weak theory falsity extra shows [] [] are = tt
 all-weak theory falsity extra shows [] (x ∷ xs) are = absurd are
 all-weak theory falsity extra shows (g ∷ goals) [] are = absurd are
-all-weak theory falsity extra shows (g ∷ goals) (x ∷ xs) are =
-    (weaker (supposed extra g) x.theorem
-        (under-extra falsity extra g x.theorem shows (goal-drawn theory (map image falsity.hypotheses) g x.theorem are.0).1),
-        all-weak theory falsity extra shows goals xs are.1)
+all-weak theory falsity extra shows (g ∷ goals) (x ∷ xs) are = (
+  weaker (supposed extra g) x.theorem
+      (under-extra falsity extra g x.theorem shows (goal-drawn theory (map image falsity.hypotheses) g x.theorem are.0).1),
+  all-weak theory falsity extra shows goals xs are.1,
+)
 
 pub replay-under : (theory : Theory) (store : NamedSequents) (falsity : Theorem) (extra : Nameless) (step : Step) (all : List Recorded)
     (result : Result Theorem Fault) → IsDrawn (Some (falsity_from extra)) (Ok falsity)
     → AreSupposed theory (map image falsity.hypotheses) step.goals all
-        → IsDrawn (sequent_of theory store (sequents_of all) step.justification) result → IsDrawn (sequent_under theory store extra step) result
+    → IsDrawn (sequent_of theory store (sequents_of all) step.justification) result → IsDrawn (sequent_under theory store extra step) result
 replay-under theory store falsity extra step all result shows are drawn =
     let goals = map (supposed extra) step.goals in
     let made = sequents_of all in
@@ -228,7 +231,7 @@ module _ (theory : Theory) (store : NamedSequents) (first second : Subgoals) (on
         let other = sequent_over theory store second (by_rule rule parts) in
         let terms : (are_roomy (terms_of_rule rule) && are_roomy (terms_of_sequent found)) ≡ true =
         sym (list_all-append is_roomy (terms_of_rule rule) (terms_of_sequent found))
-            ∙ first_of_both (are_roomy (terms_of_rule rule ++ terms_of_sequent found)) (have_room_over theory store first parts) room in
+        ∙ first_of_both (are_roomy (terms_of_rule rule ++ terms_of_sequent found)) (have_room_over theory store first parts) room in
         both (are_roomy (terms_of_rule rule ++ terms_of_sequent other)) (have_room_over theory store second parts)
         (list_all-append is_roomy (terms_of_rule rule) (terms_of_sequent other)
         ∙ both (are_roomy (terms_of_rule rule)) (are_roomy (terms_of_sequent other)) (first_of_both (are_roomy (terms_of_rule rule)) (are_roomy (terms_of_sequent found)) terms)
@@ -245,8 +248,8 @@ module _ (theory : Theory) (store : NamedSequents) (first second : Subgoals) (on
 
 pub room-under : (theory : Theory) (store : NamedSequents) (falsity : Theorem) (extra : Nameless) (step : Step) (all : List Recorded) → IsDrawn (Some (falsity_from extra)) (Ok falsity)
     → AreSupposed theory (map image falsity.hypotheses) step.goals all
-        → has_room theory store (map (supposed extra) step.goals) step.justification ≡ true
-        → has_room theory store (sequents_of all) step.justification ≡ true
+    → has_room theory store (map (supposed extra) step.goals) step.justification ≡ true
+    → has_room theory store (sequents_of all) step.justification ≡ true
 room-under theory store falsity extra step all shows are room =
     room-alike theory store (slice_get (map (supposed extra) step.goals)) (slice_get (sequents_of all))
     (stronger-at (map (supposed extra) step.goals) (sequents_of all) (all-strong theory falsity extra shows step.goals all are))
@@ -271,8 +274,12 @@ passes-under theory store extra goal step theorem drawn achieved =
     go true known None is drawn = absurd drawn
     go true known (Some s) is drawn = record {
       known = goals-known theory step.goals known;
-      passes = record { sequent = s; is_made = is; achieves =
-          record { same_conclusion = sym drawn.concludes ∙ achieved.same_conclusion; assumed = λ t m. achieved.assumed t (drawn.same_set.to t m) } };
+      passes = record {
+        sequent = s;
+        is_made = is;
+        achieves =
+            record { same_conclusion = sym drawn.concludes ∙ achieved.same_conclusion; assumed = λ t m. achieved.assumed t (drawn.same_set.to t m) };
+      };
     }
 
 under-is : (theory : Theory) (store : NamedSequents) (extra : Nameless) (goal : Goal) (step : Step)
@@ -322,7 +329,7 @@ supposes-not theory store falsity extra step fault shows refused fits = record {
 pub replays-under : (theory : Theory) (stored : Stored) (falsity : Theorem) (extra : Nameless) (step : Step) (all : List Recorded)
     (result : Result Theorem Fault) → IsDrawn (Some (falsity_from extra)) (Ok falsity)
     → AreSupposed theory (map image falsity.hypotheses) step.goals all → Meets (expected_in theory stored all step.justification) result
-        → IsReplayedUnder theory (named_sequents stored) step result extra
+    → IsReplayedUnder theory (named_sequents stored) step result extra
 replays-under theory stored falsity extra step all result shows are met = record {
   drawn = replay-under theory (named_sequents stored) falsity extra step all result shows are met.drawn;
   fits = λ room. met.fits (room-under theory (named_sequents stored) falsity extra step all shows are room.replay_roomy);

@@ -20,5 +20,5 @@ pub axiom-continues : (result : Result Recorded Fault) (old new : Journal) (step
     → IfOk result (IsRecorded old new step) → OnErr result (new ≡ old) → Continues old new result
 axiom-continues result old new step theorem stands is failed recorded kept =
     continues result old new step (Ok theorem)
-        (record { stands = λ answer same. ap (λ (t : Theorem). t.theory) (sym (ok_is theorem answer same)) ∙ stands })
-        (answers result theorem is failed) recorded kept
+    (record { stands = λ answer same. ap (λ (t : Theorem). t.theory) (sym (ok_is theorem answer same)) ∙ stands })
+    (answers result theorem is failed) recorded kept

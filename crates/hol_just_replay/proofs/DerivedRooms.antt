@@ -73,8 +73,8 @@ pub room-beta_conv : {theory : Theory} {t : NamedTerm} {ty : HolType} {result : 
 room-beta_conv {theory} {t} {ty} {result} typed answers =
     stated-room theory (rule_beta_conv t) [] (image t ∷ []) (beta_conv_outcome theory t) result (drawn-beta_conv theory t ty typed)
     (fits-given (dest_redex t) BadShape
-        (λ redex. refused (first_unknown theory t)
-        (stated_with_left [] t (nameless_equation (nameless_type [] (image t)) (image t) (body_with redex.0 redex.1)))) (λ is. cc)
+    (λ redex. refused (first_unknown theory t)
+    (stated_with_left [] t (nameless_equation (nameless_type [] (image t)) (image t) (body_with redex.0 redex.1)))) (λ is. cc)
     (λ redex. fits-refused theory t (stated_with_left [] t (nameless_equation (nameless_type [] (image t)) (image t) (body_with redex.0 redex.1))) tt)) (λ room. room.taken) answers
 
 -- ---- connectives
@@ -150,7 +150,7 @@ pub room-disj_cases : {journal : Journal} {logic : Logic} {a b c : Theorem} {res
     → AnswersStated result (terms_of_theorem a ++ (terms_of_theorem b ++ terms_of_theorem c)) (disj_cases_outcome a b c) → FindsRoom journal.theory rule_disj_cases (a ∷ b ∷ c ∷ []) result
 room-disj_cases {journal} {logic} {a} {b} {c} {result} has legal premise answers =
     stated-room journal.theory rule_disj_cases (a ∷ b ∷ c ∷ []) (terms_of_theorem a ++ (terms_of_theorem b ++ terms_of_theorem c))
-        (disj_cases_outcome a b c) result (drawn-disj_cases journal logic has legal a b c premise)
+    (disj_cases_outcome a b c) result (drawn-disj_cases journal logic has legal a b c premise)
     (fits-given (dest_disjunction a.conclusion) BadShape (λ sides. unless (are_alpha_equivalent b.conclusion c.conclusion) NotAlpha (by_cases a b c sides)) (λ is. cc)
     (λ sides. fits-unless (are_alpha_equivalent b.conclusion c.conclusion) NotAlpha (by_cases a b c sides) (λ is. cc) tt)) (λ room. all_roomy room) answers
   where
@@ -166,7 +166,7 @@ pub room-contr : {journal : Journal} {logic : Logic} {p : NamedTerm} {ty : HolTy
 room-contr {journal} {logic} {p} {ty} {a} {result} has legal typed premise answers =
     stated-room journal.theory (rule_contr p) (a ∷ []) (image p ∷ terms_of_theorem a) (contr_outcome journal.theory p a) result (drawn-contr journal logic has legal p ty a typed premise)
     (fits-unless (is_false a.conclusion) BadShape (unless (is_formula p) NotBool (refused (first_unknown journal.theory p) (stated (images a) p)))
-        (λ is. cc) (walked-fits journal.theory p (stated (images a) p) tt))
+    (λ is. cc) (walked-fits journal.theory p (stated (images a) p) tt))
     (λ room. taken-roomy p (terms_of_theorem a) room.taken (one-roomy room)) answers
 
 pub room-not_intro : {journal : Journal} {logic : Logic} {a : Theorem} {result : Result Theorem Fault} → HasLogic journal logic → IsLegal journal.theory → IsPremise journal.theory a
@@ -184,6 +184,23 @@ room-not_elim {journal} {logic} {a} {result} has legal premise answers =
 
 pub ruleset equality_rooms = (room-beta_conv, room-refused)
 
-pub ruleset connective_rooms =
-    (room-sym, room-add_assum, room-prove_hyp, room-eqt_intro, room-conj, room-disch, room-disj1, room-disj2, room-eqt_elim, room-conjunct1,
-    room-conjunct2, room-undisch, room-mp, room-disj_cases, room-contr, room-not_intro, room-not_elim, room-refused)
+pub ruleset connective_rooms = (
+  room-sym,
+  room-add_assum,
+  room-prove_hyp,
+  room-eqt_intro,
+  room-conj,
+  room-disch,
+  room-disj1,
+  room-disj2,
+  room-eqt_elim,
+  room-conjunct1,
+  room-conjunct2,
+  room-undisch,
+  room-mp,
+  room-disj_cases,
+  room-contr,
+  room-not_intro,
+  room-not_elim,
+  room-refused,
+)

@@ -62,8 +62,8 @@ changed-room theory change a may None other passes (Err fault) (inr is) roomy = 
     all_roomy =
         subst (λ (h : List Nameless). are_roomy (change (image a.conclusion) ∷ h) ≡ true) (append-nil changed)
         (subst (λ (b : Bool). are_roomy
-            (terms_of_sequent (given (require b (conclude (all_changed change ∷ []) (change (image a.conclusion))))
-            (λ inference. drawn inference (images a ∷ [])))) ≡ true) (passes refl) roomy)
+        (terms_of_sequent (given (require b (conclude (all_changed change ∷ []) (change (image a.conclusion))))
+        (λ inference. drawn inference (images a ∷ [])))) ≡ true) (passes refl) roomy)
 
     inside : all_fit change (a.conclusion ∷ a.hypotheses) ≡ true
     inside = all-within change (a.conclusion ∷ a.hypotheses) all_roomy
@@ -75,13 +75,13 @@ changed-room theory change a may None other passes (Err fault) (inr is) roomy = 
 replacements-other : (theory : Theory) (theta : List (NamedTerm × NamedTerm)) → replacements_refusal theory theta ≡ Some TooLarge → ⊥
 replacements-other theory theta =
     go (replaces_variables theta) (keeps_types theta) (list_all (λ pair. knows_types theory pair.0) theta)
-        (list_all (λ pair. knows_constants theory pair.0) theta) (list_all (λ pair. has_instances theory pair.0) theta)
+    (list_all (λ pair. knows_constants theory pair.0) theta) (list_all (λ pair. has_instances theory pair.0) theta)
   where
     go : (variables keep types constants instances : Bool)
         → (if not variables then Some NotVariable else
-            (if not keep then Some TypeMismatch else
-            (if not types then Some UnknownType else
-            (if not constants then Some UnknownConst else (if not instances then Some NotInstance else None))))) ≡ Some TooLarge
+        (if not keep then Some TypeMismatch else
+        (if not types then Some UnknownType else
+        (if not constants then Some UnknownConst else (if not instances then Some NotInstance else None))))) ≡ Some TooLarge
         → ⊥
     go true true true true true is = cc
     go true true true true false is = cc
@@ -112,8 +112,10 @@ pub room-inst_type : {theory : Theory} {theta : List (HolType × HolType)} {a : 
     → AnswersSuch result (inst_type_refusal theory theta a) (IsInstType theory theta a)
     → FindsRoom theory (rule_inst_type theta) (a ∷ []) result
 room-inst_type {theory} {theta} {a} {result} answers =
-    record { finds = λ room. changed-room theory (instantiate_all theta) a (may_replace_types theory theta) (type_replacements_refusal theory theta)
-        (type-replacements-other theory theta) passes result answers room.drawn }
+    record {
+      finds = λ room. changed-room theory (instantiate_all theta) a (may_replace_types theory theta) (type_replacements_refusal theory theta)
+          (type-replacements-other theory theta) passes result answers room.drawn;
+    }
   where
     passes : type_replacements_refusal theory theta ≡ None → may_replace_types theory theta ≡ true
     passes none =

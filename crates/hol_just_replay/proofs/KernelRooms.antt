@@ -62,8 +62,8 @@ first-roomy term rest roomy = first_of_both (is_roomy term) (are_roomy rest) roo
 -- a term that is walked, and an equation of it that is drawn
 walked-fits : (theory : Theory) (t body : NamedTerm) (ty : HolType) → type_of t ≡ Some ty → type_of body ≡ Some ty
     → are_roomy (terms_of_sequent (given
-        (require (is_known_term theory (image t)) (conclude [] (nameless_equation (nameless_type [] (image t)) (image t) (image body))))
-        (λ inference. drawn inference []))) ≡ true
+    (require (is_known_term theory (image t)) (conclude [] (nameless_equation (nameless_type [] (image t)) (image t) (image body))))
+    (λ inference. drawn inference []))) ≡ true
     → IsNotLarge (refused (first_unknown theory t) (concluded theory [] (equation t body)))
 walked-fits theory t body ty typed body_typed roomy = go (first_unknown theory t) refl
   where
@@ -80,13 +80,13 @@ walked-fits theory t body ty typed body_typed roomy = go (first_unknown theory t
     fits : first_unknown theory t ≡ None → is_within_limits (equation t body) ≡ false → ⊥
     fits none =
         let known : is_known_term theory (image t) ≡ true =
-            subst (λ (s : HolType). knows_nameless theory (image t) s ≡ true) (sym is)
-            ((knows_nameless-Decides theory (image t) ty).1 (known_term theory t ty none typed)) in
+        subst (λ (s : HolType). knows_nameless theory (image t) s ≡ true) (sym is)
+        ((knows_nameless-Decides theory (image t) ty).1 (known_term theory t ty none typed)) in
         let leaves : is_roomy c ≡ true =
-            first-roomy c [] (subst (λ (b : Bool).
-            are_roomy (terms_of_sequent (given (require b (conclude [] c)) (λ inference. drawn inference []))) ≡ true) known roomy) in
+        first-roomy c [] (subst (λ (b : Bool).
+        are_roomy (terms_of_sequent (given (require b (conclude [] c)) (λ inference. drawn inference []))) ≡ true) known roomy) in
         let sized : IsSized 1000 5000 (nameless_equation ty (image t) (image body)) =
-            subst (λ (s : HolType). IsSized 1000 5000 (nameless_equation s (image t) (image body))) is (leaves_room c leaves).sized in
+        subst (λ (s : HolType). IsSized 1000 5000 (nameless_equation s (image t) (image body))) is (leaves_room c leaves).sized in
         equation-fits 1000 5000 t body ty typed body_typed (omega arith) (omega arith) sized
 
     go : (found : Option Fault) → first_unknown theory t ≡ found → IsNotLarge (refused found (concluded theory [] (equation t body)))
@@ -114,8 +114,8 @@ room-beta {theory} {t} {ty} {result} legal typed answers = kernel-room theory (r
   where
     go : (found : Option NamedTerm) → dest_trivial_redex t ≡ found
         → are_roomy (terms_of_sequent (given
-            (given found (λ body. require (is_known_term theory (image t))
-            (conclude [] (nameless_equation (nameless_type [] (image t)) (image t) (image body))))) (λ inference. drawn inference []))) ≡ true
+        (given found (λ body. require (is_known_term theory (image t))
+        (conclude [] (nameless_equation (nameless_type [] (image t)) (image t) (image body))))) (λ inference. drawn inference []))) ≡ true
         → IsNotLarge (outcome_given found NotTrivialBeta (λ body. refused (first_unknown theory t) (concluded theory [] (equation t body))))
     go None is roomy = λ large. cc
     go (Some body) is roomy = walked-fits theory t body ty typed (beta-types theory legal t body is ty typed) roomy
@@ -160,8 +160,8 @@ room-trans {theory} {a} {b} {result} legal first second answers =
     go : (one : Option (NamedTerm × NamedTerm)) → dest_equation a.conclusion ≡ one → (two : Option (NamedTerm × NamedTerm)) → dest_equation b.conclusion ≡ two
         → are_roomy (terms_of_theorem a) ≡ true → are_roomy (terms_of_theorem b) ≡ true
         → IsNotLarge (outcome_given one NotEquation
-            (λ left. outcome_given two NotEquation
-            (λ right. unless (are_alpha_equivalent left.1 right.0) NotAlpha (concluded theory h (equation left.0 right.1)))))
+        (λ left. outcome_given two NotEquation
+        (λ right. unless (are_alpha_equivalent left.1 right.0) NotAlpha (concluded theory h (equation left.0 right.1)))))
     go None one other two left right = λ large. cc
     go (Some (l, m)) one None two left right = λ large. cc
     go (Some (l, m)) one (Some (n, r)) two left right = meet l m n r one two left right (are_alpha_equivalent m n) refl
@@ -211,8 +211,8 @@ room-eq_mp {theory} {a} {b} {result} answers = kernel-room theory rule_eq_mp (a 
 
     go : (one : Option (NamedTerm × NamedTerm))
         → IsNotLarge {A = Theorem} (outcome_given one NotEquation
-            (λ sides. unless (are_alpha_equivalent sides.0 b.conclusion) NotAlpha
-            (Ok (record { theory = theory; hypotheses = with_hypotheses a.hypotheses b.hypotheses; conclusion = sides.1 }))))
+        (λ sides. unless (are_alpha_equivalent sides.0 b.conclusion) NotAlpha
+        (Ok (record { theory = theory; hypotheses = with_hypotheses a.hypotheses b.hypotheses; conclusion = sides.1 }))))
     go None = λ large. cc
     go (Some (l, r)) = meet r (are_alpha_equivalent l b.conclusion)
 
@@ -243,15 +243,15 @@ closed-sized name ty c body typed few less sized =
     let few_nodes = sized.nodes in
     let fits : types_fit whole ≡ true =
     both (types_fit body) (some_type_fits (option_map (function_type ty) (type_of body)))
-        (second_of_both (nat_le (height body) TERM_HEIGHT_LIMIT && nat_le (nodes body) TERM_NODES_LIMIT) (types_fit body)
-        (within (is_within_limits body) refl))
+    (second_of_both (nat_le (height body) TERM_HEIGHT_LIMIT && nat_le (nodes body) TERM_NODES_LIMIT) (types_fit body)
+    (within (is_within_limits body) refl))
     (ap (λ (o : Option HolType). some_type_fits (option_map (function_type ty) o)) typed ∙ le-leb (type_nodes (function_type ty c)) TYPE_NODES_LIMIT (omega arith)) in
     let low_whole : height whole ≤ TERM_HEIGHT_LIMIT = omega arith in
     let few_whole : nodes whole ≤ TERM_NODES_LIMIT = omega arith in
     let inside : is_within_limits whole ≡ true =
     both (nat_le (height whole) TERM_HEIGHT_LIMIT && nat_le (nodes whole) TERM_NODES_LIMIT) (types_fit whole)
     (both (nat_le (height whole) TERM_HEIGHT_LIMIT) (nat_le (nodes whole) TERM_NODES_LIMIT) (le-leb (height whole) TERM_HEIGHT_LIMIT low_whole)
-        (le-leb (nodes whole) TERM_NODES_LIMIT few_whole)) fits in
+    (le-leb (nodes whole) TERM_NODES_LIMIT few_whole)) fits in
     let whole_typed : type_of whole ≡ Some (function_type ty c) = ap (option_map (function_type ty)) typed in
     let image_inside : nameless_within_limits (image whole) ≡ true = within_limits-image whole (function_type ty c) whole_typed inside in
     record {
@@ -288,7 +288,7 @@ room-abs {theory} {x} {a} {result} legal premise answers =
         let right = closed-sized name ty e.ty r e.right_typed few (omega arith) from_premise.right in
         concluded-fits theory a.hypotheses (equation (abstraction name ty l) (abstraction name ty r))
         (equation-fits 1003 10005 (abstraction name ty l) (abstraction name ty r) (function_type ty e.ty)
-            (ap (option_map (function_type ty)) e.left_typed) (ap (option_map (function_type ty)) e.right_typed) (omega arith) (omega arith)
+        (ap (option_map (function_type ty)) e.left_typed) (ap (option_map (function_type ty)) e.right_typed) (omega arith) (omega arith)
         (sized-equation 1001 5001 5001 (function_type ty e.ty) (image (abstraction name ty l)) (image (abstraction name ty r)) (omega arith) (omega arith) left right))
 
     go : (name : List ℕ) (ty : HolType) → type_nodes ty ≤ 250 → are_roomy (terms_of_theorem a) ≡ true → (one : Option (NamedTerm × NamedTerm)) → dest_equation a.conclusion ≡ one

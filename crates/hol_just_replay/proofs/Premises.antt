@@ -60,8 +60,10 @@ too_many theory rule (p ∷ []) fault many = absurd (omega arith)
 too_many theory rule (p ∷ q ∷ []) fault many = absurd (omega arith)
 too_many theory rule (p ∷ q ∷ r ∷ []) fault many = absurd (omega arith)
 too_many theory rule (p ∷ q ∷ r ∷ s ∷ rest) fault many =
-    record { drawn = rw (none_of_four theory rule (sequent_of_theorem p).conclusion (sequent_of_theorem q).conclusion
-        (sequent_of_theorem r).conclusion (sequent_of_theorem s).conclusion (map (λ sequent. sequent.conclusion) (map sequent_of_theorem rest))) tt }
+    record {
+      drawn = rw (none_of_four theory rule (sequent_of_theorem p).conclusion (sequent_of_theorem q).conclusion
+          (sequent_of_theorem r).conclusion (sequent_of_theorem s).conclusion (map (λ sequent. sequent.conclusion) (map sequent_of_theorem rest))) tt;
+    }
 
 -- what is lent
 

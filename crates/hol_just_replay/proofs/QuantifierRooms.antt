@@ -30,13 +30,13 @@ pub room-spec : {journal : Journal} {logic : Logic} {t : NamedTerm} {ty : HolTyp
     → AnswersStated result (image t ∷ terms_of_theorem a) (spec_outcome journal.theory t a) → FindsRoom journal.theory (rule_spec t) (a ∷ []) result
 room-spec {journal} {logic} {t} {ty} {a} {result} has legal typed premise answers =
     stated-room journal.theory (rule_spec t) (a ∷ []) (image t ∷ terms_of_theorem a) (spec_outcome journal.theory t a) result
-        (drawn-spec journal logic has legal t ty a typed premise) (go (dest_forall a.conclusion))
+    (drawn-spec journal logic has legal t ty a typed premise) (go (dest_forall a.conclusion))
     (λ room. taken-roomy t (terms_of_theorem a) room.taken (one-roomy room)) answers
   where
     go : (found : Option Abstracted)
         → IsNotLarge (given found BadShape
-            (λ quantified. unless (is_of_type quantified.ty t) TypeMismatch
-            (refused (first_unknown journal.theory t) (stated_up_to_names (images a) (body_with quantified t)))))
+        (λ quantified. unless (is_of_type quantified.ty t) TypeMismatch
+        (refused (first_unknown journal.theory t) (stated_up_to_names (images a) (body_with quantified t)))))
     go None = λ is. cc
     go (Some quantified) =
         fits-unless (is_of_type quantified.ty t) TypeMismatch (refused (first_unknown journal.theory t) (stated_up_to_names (images a) (body_with quantified t))) (λ is. cc)
@@ -63,7 +63,7 @@ pub room-exists : {journal : Journal} {logic : Logic} {e w : NamedTerm} {ty s : 
     → AnswersStated result (image e ∷ image w ∷ terms_of_theorem a) (exists_outcome journal.theory e w a) → FindsRoom journal.theory (rule_exists e w) (a ∷ []) result
 room-exists {journal} {logic} {e} {w} {ty} {s} {a} {result} has legal typed witness_typed answers =
     stated-room journal.theory (rule_exists e w) (a ∷ []) (image e ∷ image w ∷ terms_of_theorem a) (exists_outcome journal.theory e w a) result
-        (drawn-exists journal logic has legal e w ty s a typed witness_typed) (go (dest_exists e))
+    (drawn-exists journal logic has legal e w ty s a typed witness_typed) (go (dest_exists e))
     (λ room. both-taken room) answers
   where
     both-taken : HasRoom journal.theory (rule_exists e w) (a ∷ []) → are_roomy (image e ∷ image w ∷ terms_of_theorem a) ≡ true
@@ -92,7 +92,7 @@ pub room-choose : {journal : Journal} {logic : Logic} {v : NamedTerm} {a b : The
     → AnswersStated result (image v ∷ terms_of_theorem a ++ terms_of_theorem b) (choose_outcome journal.theory v a b) → FindsRoom journal.theory (rule_choose v) (a ∷ b ∷ []) result
 room-choose {journal} {logic} {v} {a} {b} {result} has legal premise answers =
     stated-room journal.theory (rule_choose v) (a ∷ b ∷ []) (image v ∷ terms_of_theorem a ++ terms_of_theorem b)
-        (choose_outcome journal.theory v a b) result (drawn-choose journal logic has legal v a b premise)
+    (choose_outcome journal.theory v a b) result (drawn-choose journal logic has legal v a b premise)
     (go (dest_variable v)) (λ room. taken-roomy v (terms_of_theorem a ++ terms_of_theorem b) room.taken (two-roomy room)) answers
   where
     tests : (same known fresh : Bool) (next : Result Stated Fault) → IsNotLarge next → IsNotLarge (unless same TypeMismatch (unless known UnknownType (unless fresh FreeInHypothesis next)))
@@ -107,15 +107,15 @@ room-choose {journal} {logic} {v} {a} {b} {result} has legal premise answers =
     meet name ty None = λ is. cc
     meet name ty (Some quantified) =
         tests (type_eq quantified.ty ty) (knows_type journal.theory ty)
-            (not (is_free_in_some name ty (image a.conclusion ∷ image b.conclusion ∷ others v b quantified)))
-            (stated (images a ++ others v b quantified) b.conclusion) tt
+        (not (is_free_in_some name ty (image a.conclusion ∷ image b.conclusion ∷ others v b quantified)))
+        (stated (images a ++ others v b quantified) b.conclusion) tt
 
     go : (found : Option (List ℕ × HolType))
         → IsNotLarge (given found NotVariable
-            (λ binder. given (dest_exists a.conclusion) BadShape
-            (λ quantified. unless (type_eq quantified.ty binder.1) TypeMismatch (unless (knows_type journal.theory binder.1) UnknownType
+        (λ binder. given (dest_exists a.conclusion) BadShape
+        (λ quantified. unless (type_eq quantified.ty binder.1) TypeMismatch (unless (knows_type journal.theory binder.1) UnknownType
         (unless (not (is_free_in_some binder.0 binder.1 (image a.conclusion ∷ image b.conclusion ∷ others v b quantified))) FreeInHypothesis
-            (stated (images a ++ others v b quantified) b.conclusion))))))
+        (stated (images a ++ others v b quantified) b.conclusion))))))
     go None = λ is. cc
     go (Some (name, ty)) = meet name ty (dest_exists a.conclusion)
 

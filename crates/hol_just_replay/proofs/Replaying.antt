@@ -91,8 +91,14 @@ alike-drawn None (Some t) result one two drawn = absurd one
 alike-drawn (Some s) None result one two drawn = absurd two
 alike-drawn (Some s) (Some t) (Err fault) one two drawn = drawn
 alike-drawn (Some s) (Some t) (Ok theorem) one two drawn =
-    record { same_set = record { to = λ x m. drawn.same_set.to x (two.no_more_hypotheses x m); back = λ x m.
-        one.no_more_hypotheses x (drawn.same_set.back x m) }; concludes = drawn.concludes ∙ one.same_conclusion }
+    record {
+      same_set = record {
+        to = λ x m. drawn.same_set.to x (two.no_more_hypotheses x m);
+        back = λ x m.
+            one.no_more_hypotheses x (drawn.same_set.back x m);
+      };
+      concludes = drawn.concludes ∙ one.same_conclusion;
+    }
 
 pub stronger : (s : Sequent) (theorem : Theorem) → Shows theorem s.hypotheses s.conclusion → IsAsStrong s (sequent_of_theorem theorem)
 stronger s theorem shows = record { same_conclusion = sym shows.concludes; no_more_hypotheses = shows.same_set.to }
@@ -107,7 +113,7 @@ roomy-alike None (Some t) one two roomy = absurd one
 roomy-alike (Some s) None one two roomy = absurd two
 roomy-alike (Some s) (Some t) one two roomy =
     list_all-fewer is_roomy (terms_of_sequent (Some t)) (terms_of_sequent (Some s))
-        (λ x m. elim m [ inl same ↦ inl (same ∙ two.same_conclusion) | inr member ↦ inr (two.no_more_hypotheses x member) ]) roomy
+    (λ x m. elim m [ inl same ↦ inl (same ∙ two.same_conclusion) | inr member ↦ inr (two.no_more_hypotheses x member) ]) roomy
 
 -- parts that have theorems
 
@@ -309,8 +315,12 @@ too-many-sequents theory rule (a ∷ b ∷ c ∷ d ∷ rest) many = rw (none_of_
 pub from-many : (theory : Theory) (rule : InferenceRule) (expects : Justification → Expected) (trees : List Justification) (places : List ℕ)
     → 3 < length places → IsMetFrom theory rule expects trees places Invalid
 from-many theory rule expects trees places many = record {
-  met = record { drawn = rw (go (premises_of (expected_at expects trees places)) refl) tt; fits = λ room. never-large; roomy = λ room.
-      drawn-roomy theory rule (expected_at expects trees places) room };
+  met = record {
+    drawn = rw (go (premises_of (expected_at expects trees places)) refl) tt;
+    fits = λ room. never-large;
+    roomy = λ room.
+        drawn-roomy theory rule (expected_at expects trees places) room;
+  };
 }
   where
     go : (found : Option (List Sequent)) → premises_of (expected_at expects trees places) ≡ found → given found (rule_sequent theory rule) ≡ None
@@ -348,7 +358,7 @@ leaf-met expected found (Ok answer) is roomy comes = record {
 listed : (all : List Recorded) (at : ℕ) (found : Option Recorded) → found ≡ slice_get all at → sequent_found found ≡ slice_get (sequents_of all) at
 listed all at found is =
     ap sequent_found is ∙ ap (option_map sequent_of_theorem) (sym (slice_get-map (λ (made : Recorded). made.theorem) all at))
-        ∙ sym (slice_get-map sequent_of_theorem (map (λ (made : Recorded). made.theorem) all) at)
+    ∙ sym (slice_get-map sequent_of_theorem (map (λ (made : Recorded). made.theorem) all) at)
 
 pub sub-met : (theory : Theory) (stored : Stored) (subgoals : List Recorded) (at : ℕ) (found : Option Recorded) (result : Result LineAnswer Fault)
     → found ≡ slice_get subgoals at → IfOk result (IsNamed found)
@@ -399,8 +409,11 @@ rule-line-met theory stored subgoals rule trees places (Ok answer) from = subst 
 
 pub store-stays : (old new : Journal) (stored : Stored) → IsGrown old new → IsStoreOf old stored → IsStoreOf new stored
 store-stays old new stored grown is =
-    record { theorems = λ name r there. journals-grow.stays old new r grown (is.theorems name r there); lemmas = λ number r there.
-    journals-grow.stays old new r grown (is.lemmas number r there) }
+    record {
+      theorems = λ name r there. journals-grow.stays old new r grown (is.theorems name r there);
+      lemmas = λ number r there.
+          journals-grow.stays old new r grown (is.lemmas number r there);
+    }
 
 lines-stay : (old new : Journal) (answers : List LineAnswer) → IsGrown old new → AreHeldLines old answers → AreHeldLines new answers
 lines-stay old new [] grown held = tt
@@ -524,9 +537,9 @@ pub line-next : (old now new : Journal) (stored : Stored) (subgoals : List Recor
     (answers more : List LineAnswer) (answer : LineAnswer) → at < length lines → line ≡ get_or lines at line
     → IsReplaying old now (expected_in old.theory stored subgoals) (flat_lines (drop at lines)) (flat_lines lines) answers → ContinuesLine now new (Ok answer)
     → ((trees : List Justification) → AreMet (expected_in now.theory stored subgoals) trees answers
-        → Meets (expected_in now.theory stored subgoals (tree_of_line trees (flat_line line))) (result_of answer))
+    → Meets (expected_in now.theory stored subgoals (tree_of_line trees (flat_line line))) (result_of answer))
     → more ≡ answers ++ answer ∷ [] → IsReplaying old new (expected_in old.theory stored subgoals) (flat_lines (drop (at + 1) lines)) (flat_lines lines) more
 line-next old now new stored subgoals lines at line answers more answer within is replaying continues drawn more_is =
     rw more_is (line-at old now new (expected_in old.theory stored subgoals) lines at line answers answer within is replaying continues
     (subst (λ (theory : Theory). (trees : List Justification) → AreMet (expected_in theory stored subgoals) trees answers
-        → Meets (expected_in theory stored subgoals (tree_of_line trees (flat_line line))) (result_of answer)) replaying.theory drawn))
+    → Meets (expected_in theory stored subgoals (tree_of_line trees (flat_line line))) (result_of answer)) replaying.theory drawn))

@@ -74,8 +74,8 @@ walked-states theory p result arguments stated roomy = go (is_formula p) (knows_
   where
     go : (one types constants instances : Bool)
         → AnswersStated result arguments
-            (unless one NotBool (refused (if not types then Some UnknownType else
-            (if not constants then Some UnknownConst else (if not instances then Some NotInstance else None))) (Ok stated)))
+        (unless one NotBool (refused (if not types then Some UnknownType else
+        (if not constants then Some UnknownConst else (if not instances then Some NotInstance else None))) (Ok stated)))
         → IsNotLarge result
     go true true true true = states-fit result arguments stated roomy
     go true true true false = fails-fit result arguments NotInstance (λ is. cc)
@@ -94,7 +94,7 @@ both-roomy arguments stated sequent is first second =
 
 pub stated-room : (theory : Theory) (rule : InferenceRule) (premises : List Theorem) (arguments : List Nameless) (outcome : Result Stated Fault) (result : Result Theorem Fault)
     → Draws theory rule premises outcome → IsNotLarge outcome → (HasRoom theory rule premises → are_roomy arguments ≡ true)
-        → AnswersStated result arguments outcome → FindsRoom theory rule premises result
+    → AnswersStated result arguments outcome → FindsRoom theory rule premises result
 stated-room theory rule premises arguments outcome result draws fits roomy answers = record {
   finds = λ room. go outcome (rule_sequent theory rule (map sequent_of_theorem premises)) result draws fits (roomy room) room.drawn answers;
 }

@@ -98,8 +98,8 @@ conjunct-drawn theory assumed result shows infers =
     let h = map image assumed.hypotheses in
     let at : IsDrawn (given (given (Rattle.hol_model.specs.Logic.NamelessLogic.dest_conjunction false_twice) (λ sides. conclude (all ∷ []) sides.0)) (λ inference. drawn inference (h ∷ []))) result =
     subst (λ (c : Nameless). IsDrawn
-        (given (given (Rattle.hol_model.specs.Logic.NamelessLogic.dest_conjunction c) (λ sides. conclude (all ∷ []) sides.0))
-        (λ inference. drawn inference (h ∷ []))) result) shows.concludes infers.drawn in
+    (given (given (Rattle.hol_model.specs.Logic.NamelessLogic.dest_conjunction c) (λ sides. conclude (all ∷ []) sides.0))
+    (λ inference. drawn inference (h ∷ []))) result) shows.concludes infers.drawn in
     let drawn_is : IsDrawn (Some (record { hypotheses = h; conclusion = false_term })) result =
     subst (λ (k : List Nameless). IsDrawn (Some (record { hypotheses = k; conclusion = false_term })) result) (one_premise h) at in
     moved (record { hypotheses = h; conclusion = false_term }) (falsity_from false_twice) (λ x m. shows.same_set.back x m) (λ x m. shows.same_set.to x m) refl result drawn_is
@@ -134,8 +134,8 @@ conjunct-fits theory assumed result shows finds =
     let roomy : are_roomy (terms_of_theorem assumed) ≡ true = sequent-roomy (record { hypotheses = false_twice ∷ []; conclusion = false_twice }) assumed shows refl in
     let h_roomy : are_roomy h ≡ true = second_of_both (is_roomy (image assumed.conclusion)) (are_roomy h) roomy in
     let at : are_roomy (terms_of_sequent
-        (given (given (Rattle.hol_model.specs.Logic.NamelessLogic.dest_conjunction false_twice) (λ sides. conclude (all ∷ []) sides.0))
-        (λ inference. drawn inference (h ∷ [])))) ≡ true =
+    (given (given (Rattle.hol_model.specs.Logic.NamelessLogic.dest_conjunction false_twice) (λ sides. conclude (all ∷ []) sides.0))
+    (λ inference. drawn inference (h ∷ [])))) ≡ true =
     both (is_roomy false_term) (are_roomy (map unchanged h ++ [])) refl (ap are_roomy (one_premise h) ∙ h_roomy) in
     finds.finds (record {
       taken = refl;
@@ -155,7 +155,7 @@ added_assumption theory p h c = given (require (is_known_formula theory p) (conc
 -- a theorem with one assumption more
 one-more : (theory : Theory) (p : NamedTerm) (rest : List NamedTerm) (made next : Theorem) (result : Result Theorem Fault) → Infers theory (rule_add_assum p) (made ∷ []) (Ok next)
     → IsDrawn (with_assumptions theory (map image next.hypotheses) (image next.conclusion) rest) result
-        → IsDrawn (with_assumptions theory (map image made.hypotheses) (image made.conclusion) (p ∷ rest)) result
+    → IsDrawn (with_assumptions theory (map image made.hypotheses) (image made.conclusion) (p ∷ rest)) result
 one-more theory p rest made next result infers drawn_rest = go (is_known_formula theory (image p)) infers.drawn (are_known_formulas theory rest) drawn_rest
   where
     h : List Nameless
@@ -208,8 +208,8 @@ add_assum-fits theory p made result answers roomy p_roomy =
     let h = map image made.hypotheses in
     let with_p : are_roomy (image p ∷ terms_of_theorem made) ≡ true = both (is_roomy (image p)) (are_roomy (terms_of_theorem made)) p_roomy roomy in
     let drawn_roomy : are_roomy (c ∷ image p ∷ h) ≡ true =
-        both (is_roomy c) (are_roomy (image p ∷ h)) (first_of_both (is_roomy c) (are_roomy h) roomy)
-        (both (is_roomy (image p)) (are_roomy h) p_roomy (second_of_both (is_roomy c) (are_roomy h) roomy)) in
+    both (is_roomy c) (are_roomy (image p ∷ h)) (first_of_both (is_roomy c) (are_roomy h) roomy)
+    (both (is_roomy (image p)) (are_roomy h) p_roomy (second_of_both (is_roomy c) (are_roomy h) roomy)) in
     let all_roomy : list_all is_roomy ((image p ∷ terms_of_theorem made) ++ (c ∷ image p ∷ h)) ≡ true =
     list_all-append is_roomy (image p ∷ terms_of_theorem made) (c ∷ image p ∷ h) ∙ both (are_roomy (image p ∷ terms_of_theorem made)) (are_roomy (c ∷ image p ∷ h)) with_p drawn_roomy in
     walked-states theory p result (image p ∷ terms_of_theorem made) (record { hypotheses = image p ∷ h; conclusion = named made.conclusion }) all_roomy answers
@@ -218,7 +218,7 @@ contr-roomy : (theory : Theory) (p : NamedTerm) (falsity made : Theorem) → Inf
     → are_roomy (terms_of_theorem falsity) ≡ true → is_roomy (image p) ≡ true → are_roomy (terms_of_theorem made) ≡ true
 contr-roomy theory p falsity made infers roomy p_roomy =
     theorem-roomy (given (require (same_term (image falsity.conclusion) false_term && is_known_formula theory (image p))
-        (conclude (all ∷ []) (image p))) (λ inference. drawn inference (h ∷ []))) made infers.drawn
+    (conclude (all ∷ []) (image p))) (λ inference. drawn inference (h ∷ []))) made infers.drawn
     (go (same_term (image falsity.conclusion) false_term && is_known_formula theory (image p)))
   where
     h : List Nameless
@@ -248,7 +248,7 @@ contr-fits theory falsity goal result answers room = go (is_false falsity.conclu
         ∙ both (are_roomy (image goal.target ∷ terms_of_theorem falsity)) (are_roomy (image goal.target ∷ map image falsity.hypotheses))
         (both (is_roomy (image goal.target)) (are_roomy (terms_of_theorem falsity)) p_roomy room.falsity_roomy)
         (both (is_roomy (image goal.target)) (are_roomy (map image falsity.hypotheses)) p_roomy
-            (second_of_both (is_roomy (image falsity.conclusion)) (are_roomy (map image falsity.hypotheses)) room.falsity_roomy))
+        (second_of_both (is_roomy (image falsity.conclusion)) (are_roomy (map image falsity.hypotheses)) room.falsity_roomy))
 
     go : (test : Bool) → AnswersStated result (image goal.target ∷ terms_of_theorem falsity)
         (unless test BadShape (unless (is_formula goal.target) NotBool
@@ -282,8 +282,8 @@ assumes-next old now new hypotheses conclusion whole items at item made next wit
   leads = λ result drawn_rest. assuming.leads result
       (subst (λ (left : List NamedTerm). IsDrawn (with_assumptions old.theory (map image made.theorem.hypotheses) (image made.theorem.conclusion) left) result) (sym (here items at item within is))
       (one-more old.theory item (drop (at + 1) items) made.theorem next.theorem result
-          (subst (λ (theory : Theory). Infers theory (rule_add_assum item) (made.theorem ∷ []) (Ok next.theorem)) assuming.theory infers)
-          drawn_rest));
+      (subst (λ (theory : Theory). Infers theory (rule_add_assum item) (made.theorem ∷ []) (Ok next.theorem)) assuming.theory infers)
+      drawn_rest));
   room = λ made_roomy all_roomy.
       let so_far = assuming.room made_roomy all_roomy in
       let left = at-roomy items at item within is so_far.1 in
@@ -307,9 +307,9 @@ pub contr-supposes : (theory : Theory) (falsity : Theorem) (goal : Goal) (made :
     → IsDrawn (with_assumptions theory (map image made.hypotheses) (image made.conclusion) goal.assumptions) result → IsDrawn (supposed_from theory (map image falsity.hypotheses) goal) result
 contr-supposes theory falsity goal made result is_false infers drawn_rest =
     go (is_known_formula theory (image goal.target))
-        (subst (λ (c : Nameless). IsDrawn
-        (given (require (same_term c false_term && is_known_formula theory (image goal.target)) (conclude (all ∷ []) (image goal.target)))
-        (λ inference. drawn inference (h ∷ []))) (Ok made)) is_false infers.drawn)
+    (subst (λ (c : Nameless). IsDrawn
+    (given (require (same_term c false_term && is_known_formula theory (image goal.target)) (conclude (all ∷ []) (image goal.target)))
+    (λ inference. drawn inference (h ∷ []))) (Ok made)) is_false infers.drawn)
     (are_known_formulas theory goal.assumptions) drawn_rest
   where
     h : List Nameless
@@ -323,21 +323,27 @@ contr-supposes theory falsity goal made result is_false infers drawn_rest =
     go true step true later =
         let shows = subst (λ (l : List Nameless). IsDrawn (Some (record { hypotheses = l; conclusion = image goal.target })) (Ok made)) (one_premise h) step in
         moved (record { hypotheses = map image made.hypotheses ++ map image goal.assumptions; conclusion = image made.conclusion })
-            (record { hypotheses = h ++ map image goal.assumptions; conclusion = image goal.target })
-        (λ x m. elim (of_append x (map image made.hypotheses) (map image goal.assumptions) m) [ inl a ↦ IsMember-append_left x h
-            (map image goal.assumptions) (shows.same_set.back x a) | inr b ↦ IsMember-append_right x h (map image goal.assumptions) b ])
-        (λ x m. elim (of_append x h (map image goal.assumptions) m) [ inl a ↦ IsMember-append_left x (map image made.hypotheses)
-            (map image goal.assumptions) (shows.same_set.to x a) | inr b ↦ IsMember-append_right x (map image made.hypotheses)
-            (map image goal.assumptions) b ])
+        (record { hypotheses = h ++ map image goal.assumptions; conclusion = image goal.target })
+        (λ x m. elim (of_append x (map image made.hypotheses) (map image goal.assumptions) m) [
+          | inl a ↦ IsMember-append_left x h
+              (map image goal.assumptions) (shows.same_set.back x a)
+          | inr b ↦ IsMember-append_right x h (map image goal.assumptions) b
+        ])
+        (λ x m. elim (of_append x h (map image goal.assumptions) m) [
+          | inl a ↦ IsMember-append_left x (map image made.hypotheses)
+              (map image goal.assumptions) (shows.same_set.to x a)
+          | inr b ↦ IsMember-append_right x (map image made.hypotheses)
+              (map image goal.assumptions) b
+        ])
         shows.concludes result later
 
 pub contr-fails : (theory : Theory) (falsity : Theorem) (goal : Goal) (fault : Fault) → image falsity.conclusion ≡ false_term → Infers theory (rule_contr goal.target) (falsity ∷ []) (Err fault)
     → IsDrawn (supposed_from theory (map image falsity.hypotheses) goal) (Err fault)
 contr-fails theory falsity goal fault is_false infers =
     go (is_known_formula theory (image goal.target))
-        (subst (λ (c : Nameless). IsDrawn
-        (given (require (same_term c false_term && is_known_formula theory (image goal.target)) (conclude (all ∷ []) (image goal.target)))
-        (λ inference. drawn inference (h ∷ []))) (Err fault)) is_false infers.drawn)
+    (subst (λ (c : Nameless). IsDrawn
+    (given (require (same_term c false_term && is_known_formula theory (image goal.target)) (conclude (all ∷ []) (image goal.target)))
+    (λ inference. drawn inference (h ∷ []))) (Err fault)) is_false infers.drawn)
     (are_known_formulas theory goal.assumptions)
   where
     h : List Nameless
@@ -413,7 +419,7 @@ supposes-fits old now hypotheses whole items at item made falsity result within 
 pub supposes-next : (old now new : Journal) (hypotheses : List Nameless) (whole : List Goal) (items : List code_goal.Goal) (at : ℕ)
     (item : code_goal.Goal) (made more : List Recorded) (next : Recorded) → at < length items → item ≡ get_or items at item
     → IsSupposing old now hypotheses whole (goals_of (drop at items)) made → IsGrown now new → new.theory ≡ now.theory → IsMade new next
-        → IsDrawn (supposed_from now.theory hypotheses (goal_of item)) (Ok next.theorem)
+    → IsDrawn (supposed_from now.theory hypotheses (goal_of item)) (Ok next.theorem)
     → more ≡ made ++ next ∷ [] → IsSupposing old new hypotheses whole (goals_of (drop (at + 1) items)) more
 supposes-next old now new hypotheses whole items at item made more next within is supposing grown theory is_made drawn_now more_is =
     let left_is = goals-here items at item within is in

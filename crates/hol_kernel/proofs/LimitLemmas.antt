@@ -93,7 +93,7 @@ concluded-made theory hypotheses conclusion made is = go (is_within_limits concl
   where
     go : (test : Bool) → unless test TooLarge (Ok conclusion) ≡ Ok made
         → unless {A = Theorem} test TooLarge (Ok (record { theory = theory; hypotheses = hypotheses; conclusion = conclusion })) ≡ Ok
-            (record { theory = theory; hypotheses = hypotheses; conclusion = conclusion })
+        (record { theory = theory; hypotheses = hypotheses; conclusion = conclusion })
     go true is = refl
     go false is = cc
 
@@ -131,7 +131,7 @@ pub mk_comb-refused : (theory : Theory) (first second : Theorem) (f g x y : Name
     → unless (is_some (type_of (combination f x))) TypeMismatch (limited (combination f x)) ≡ Err fault → mk_comb_outcome theory first second ≡ Err fault
 mk_comb-refused theory first second f g x y fault dest_first dest_second refused =
     rw (dest_first, dest_second) (go (is_some (type_of (combination f x)))
-        (concluded-left theory (with_hypotheses first.hypotheses second.hypotheses) (combination f x) (combination g y) fault) refused)
+    (concluded-left theory (with_hypotheses first.hypotheses second.hypotheses) (combination f x) (combination g y) fault) refused)
   where
     go : (typed : Bool) → (limited (combination f x) ≡ Err fault → concluded theory (with_hypotheses first.hypotheses second.hypotheses) (equation (combination f x) (combination g y)) ≡ Err fault)
         → unless typed TypeMismatch (limited (combination f x)) ≡ Err fault

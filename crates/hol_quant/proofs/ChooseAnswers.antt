@@ -169,8 +169,8 @@ module _ (theory : Theory) (term : NamedTerm) (first second : Theorem) (function
       let outcome : choose_outcome theory term first second ≡ Ok sequent = chosen.outcome ∙ (rw fresh refl) in
       let small : List Nameless = image first.conclusion ∷ image second.conclusion ∷ [] in
       let here = subst (λ (t : Nameless).
-          DerivesIf (list_all is_roomy (t ∷ image second.conclusion ∷ [])) result (images first ++ others) (image second.conclusion))
-          (sym chosen.formula_image) derives in
+      DerivesIf (list_all is_roomy (t ∷ image second.conclusion ∷ [])) result (images first ++ others) (image second.conclusion))
+      (sym chosen.formula_image) derives in
       subst (λ (o : Result Stated Fault). AnswersStated (theorem_in result) arguments o) (sym outcome)
       (answers-stated result arguments small (images first ++ others) (image second.conclusion) sequent here (record { to = λ t m. m; back = λ t m. m }) names there)
     where
@@ -218,7 +218,7 @@ same_type s t is = cc
 pub choose-parts : (theory : Theory) → generic_type theory exists_name ≡ Some (quantifier type_a) → (first : Theorem)
     → IsFormula theory first.conclusion → (formula constant_term function binder body : NamedTerm) → formula ≡ first.conclusion
     → formula ≡ combination constant_term function → is_constant_named exists_name constant_term ≡ true
-        → dest_abstraction function ≡ Some (binder, body) → IsQuantified theory exists_name first.conclusion function binder body
+    → dest_abstraction function ≡ Some (binder, body) → IsQuantified theory exists_name first.conclusion function binder body
 choose-parts theory generic first is_formula formula constant_term function binder body formula_is whole is_named dest =
     quantified-at theory exists_name generic first.conclusion constant_term function binder body bool_type is_formula.known (sym formula_is ∙ whole) is_named dest
 
@@ -230,5 +230,5 @@ quantified-type theory formula function binder body quantified found typed = sam
 pub choose-mismatch : (theory : Theory) (term : NamedTerm) (first second : Theorem) (function binder body : NamedTerm) (name : List ℕ) (ty : HolType)
     (arguments : List Nameless) → dest_variable term ≡ Some (name, ty)
     → (quantified : IsQuantified theory exists_name first.conclusion function binder body) → type_eq quantified.ty ty ≡ false
-        → AnswersStated (Err TypeMismatch) arguments (choose_outcome theory term first second)
+    → AnswersStated (Err TypeMismatch) arguments (choose_outcome theory term first second)
 choose-mismatch theory term first second function binder body name ty arguments dest quantified other = rw (dest, quantified.dest, other) (inr refl)

@@ -203,7 +203,7 @@ module _ (theory : Theory) (function binder argument : NamedTerm) (at : IsAtVari
       implied-fits all =
           sized-more 1008 20012 1900 900000 (nameless_equation bool_type (nameless.implication sufficient (image q)) (image q))
           (sized-equation 1006 15009 5000 bool_type (nameless.implication sufficient (image q)) (image q) (omega arith) (omega arith)
-              (eliminates-sized sufficient (suffices-sized c typed is fresh fresh_q all) all)
+          (eliminates-sized sufficient (suffices-sized c typed is fresh fresh_q all) all)
           (sized-more 1000 5000 1006 5000 (image q) (second-sized all) (omega arith) (omega arith))) (omega arith) (omega arith)
 
       -- the lemma at the predicate and the formula
@@ -215,7 +215,7 @@ module _ (theory : Theory) (function binder argument : NamedTerm) (at : IsAtVari
           let right = at_formula at.ty function q eliminated in
           let generic_left : IsSized 2 3 (at_type at.ty (over_predicate exists_name)) =
           sized-app 1 1 1 (const exists_name (quantifier at.ty)) (free (codes "P") (predicate at.ty))
-              (const-sized exists_name (quantifier at.ty) (omega arith)) (free-sized (codes "P") (predicate at.ty) (omega arith)) in
+          (const-sized exists_name (quantifier at.ty) (omega arith)) (free-sized (codes "P") (predicate at.ty) (omega arith)) in
           instance-within 1100 20000 (at_type at.ty (over_predicate exists_name)) (at_type at.ty eliminated) left right (omega arith) (omega arith) (omega arith)
           (sized-more 2 3 1100 20000 (at_type at.ty (over_predicate exists_name)) generic_left (omega arith) (omega arith))
           (sized-more 8 20 1100 20000 (at_type at.ty eliminated) (generic-sized at.ty few) (omega arith) (omega arith))
@@ -223,4 +223,4 @@ module _ (theory : Theory) (function binder argument : NamedTerm) (at : IsAtVari
           (sized-more 1000 5000 1100 20000 formula (leaves_room formula (first-roomy all)).sized (omega arith) (omega arith)))
           (subst (λ (t : Nameless). IsSized 1100 20000 t) (sym (eliminates-at q))
           (sized-more 1006 15009 1100 20000 (eliminates at.ty (closed at.name at.ty at.body) (image q))
-              (eliminates-sized sufficient (suffices-sized c typed is fresh fresh_q all) all) (omega arith) (omega arith)))
+          (eliminates-sized sufficient (suffices-sized c typed is fresh fresh_q all) all) (omega arith) (omega arith)))

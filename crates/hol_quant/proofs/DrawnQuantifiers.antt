@@ -76,7 +76,7 @@ quantified theory quantifier_name generic (combination (constant other s) (abstr
         let is_type : function_type known.typed.0 whole ≡ quantifier ty = sym known.typed.1 ∙ typed.quantifier_type in
         let whole_is : whole ≡ bool_type = cc in
         parted (parts_of name ty body) (rw is refl) (quantified-image quantifier_name other same s name ty body typed.quantifier_type)
-            ((knows_type-Decides theory ty).1 typed.function_known.parts.0) whole_is
+        ((knows_type-Decides theory ty).1 typed.function_known.parts.0) whole_is
     go false is = apart (rw is refl) (rw (other-name quantifier_name other (quantifier ty) s is) refl)
 quantified theory quantifier_name generic (combination (constant other s) (variable name ty)) whole known = apart refl refl
 quantified theory quantifier_name generic (combination (constant other s) (constant name ty)) whole known = apart refl refl
@@ -127,9 +127,12 @@ pub drawn-gen : (theory : Theory) (x : NamedTerm) (a : Theorem) → Draws theory
 drawn-gen theory (variable name ty) a = go (knows_type theory ty)
   where
     passed_or_not : (some : Bool) → StatesDrawn (unless (not some) FreeInHypothesis (stated (images a) (named.forall_term name ty a.conclusion)))
-        (option_map (λ hypotheses. record { hypotheses = [] ++ hypotheses; conclusion =
-            nameless_formulas.forall_term ty (close name ty (image a.conclusion)) })
-            (if not some then Some (map unchanged (images a) ++ []) else None))
+        (option_map (λ hypotheses. record {
+          hypotheses = [] ++ hypotheses;
+          conclusion =
+              nameless_formulas.forall_term ty (close name ty (image a.conclusion));
+        })
+        (if not some then Some (map unchanged (images a) ++ []) else None))
     passed_or_not false = record { hypotheses = same_set (sym (one_premise (images a))); conclusion = ap (λ (b : Nameless). nameless_formulas.forall_term ty b) (body-image name ty a.conclusion) }
     passed_or_not true = tt
 
@@ -168,10 +171,10 @@ module _ (journal : Journal) (logic : Stored) (has : HasLogic journal logic) (le
 
       tests : (parts : Abstracted) (first second : Bool)
           → StatesDrawn (unless (not (first || (second || is_free_in_some name ty (without (body_with parts (variable name ty)) (images b)))))
-              FreeInHypothesis (stated (images a ++ without (body_with parts (variable name ty)) (images b)) b.conclusion))
+          FreeInHypothesis (stated (images a ++ without (body_with parts (variable name ty)) (images b)) b.conclusion))
           (given (require (not (first || second))
-              (conclude (all ∷ all_but_without_variable (fill (free name ty) (close parts.name parts.ty (image parts.body))) name ty ∷ [])
-              (image b.conclusion))) (λ inference. drawn inference (images a ∷ images b ∷ [])))
+          (conclude (all ∷ all_but_without_variable (fill (free name ty) (close parts.name parts.ty (image parts.body))) name ty ∷ [])
+          (image b.conclusion))) (λ inference. drawn inference (images a ∷ images b ∷ [])))
       tests parts true second = tt
       tests parts false true = tt
       tests parts false false =
@@ -184,7 +187,7 @@ module _ (journal : Journal) (logic : Stored) (has : HasLogic journal logic) (le
           (stated (images a ++ without (body_with parts (variable name ty)) (images b)) b.conclusion))))
           (given (require (type_eq ty parts.ty && not (occurs_free name ty (image a.conclusion) || occurs_free name ty (image b.conclusion)))
           (conclude (all ∷ all_but_without_variable (fill (free name ty) (close parts.name parts.ty (image parts.body))) name ty ∷ [])
-              (image b.conclusion))) (λ inference. drawn inference (images a ∷ images b ∷ [])))
+          (image b.conclusion))) (λ inference. drawn inference (images a ∷ images b ∷ [])))
       go parts known true same =
           let is : parts.ty ≡ ty = (type_eq-Decides parts.ty ty).0 same in
           let back : type_eq ty parts.ty ≡ true = (type_eq-Decides ty parts.ty).1 (sym is) in
@@ -238,8 +241,8 @@ module _ (journal : Journal) (logic : Stored) (has : HasLogic journal logic) (le
           → StatesDrawn (stated_given found BadShape (λ parts. unless (is_of_type parts.ty w) TypeMismatch (refused (first_unknown journal.theory e) (refused (first_unknown journal.theory w)
           (unless (same_term (body_with parts w) (image a.conclusion)) NotAlpha (stated (images a) e))))))
           (given (given image_found (λ parts.
-              require (is_known_formula journal.theory (image e) && knows_nameless journal.theory (image w) parts.0
-              && same_term (fill (image w) parts.1) (image a.conclusion))
+          require (is_known_formula journal.theory (image e) && knows_nameless journal.theory (image w) parts.0
+          && same_term (fill (image w) parts.1) (image a.conclusion))
           (conclude (all ∷ []) (image e)))) (λ inference. drawn inference (images a ∷ [])))
       of_unknown fault tests there None None = tt
       of_unknown fault tests there None (Some parts) = rw (unknown tests) tt
@@ -248,4 +251,4 @@ module _ (journal : Journal) (logic : Stored) (has : HasLogic journal logic) (le
           (refused (first_unknown journal.theory w) (unless (same_term (body_with parts w) (image a.conclusion)) NotAlpha (stated (images a) e))))
       of_unknown fault tests there (Some parts) (Some image_parts) =
           rw (there, unknown tests) (refuses (is_of_type parts.ty w) fault
-              (refused (first_unknown journal.theory w) (unless (same_term (body_with parts w) (image a.conclusion)) NotAlpha (stated (images a) e))))
+          (refused (first_unknown journal.theory w) (unless (same_term (body_with parts w) (image a.conclusion)) NotAlpha (stated (images a) e))))

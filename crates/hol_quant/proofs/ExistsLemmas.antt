@@ -54,8 +54,8 @@ roomy-fits p roomy = sized-more 1000 5000 1900 900000 p (leaves_room p roomy).si
 -- from p <=> T to p
 pub back-fits : (room : Bool) (p : Nameless) → FitsIf room p → room ≡ true
     → list_all nameless_within_limits
-        (proposition ∷ nameless_equation bool_type proposition truth ∷ p ∷ nameless_equation bool_type p truth ∷ nameless_equation bool_type
-        (nameless_equation bool_type p truth) p ∷ []) ≡ true
+    (proposition ∷ nameless_equation bool_type proposition truth ∷ p ∷ nameless_equation bool_type p truth ∷ nameless_equation bool_type
+    (nameless_equation bool_type p truth) p ∷ []) ≡ true
 back-fits room p fits is =
     let sized = fits is in
     let equal = sized-equation 1900 900000 1 bool_type p truth (omega arith) (omega arith) sized truth-sized in
@@ -94,7 +94,7 @@ module _ (argument body other : NamedTerm) (name : List ℕ) (ty codomain : HolT
   past-differs (inl memory) whole typed within = cc
   past-differs (inr refusal) whole typed within =
       let past = past_of (nameless_within_limits (put_all theta (image body)))
-          (ap (λ (o : Option Fault). or_too_large o (nameless_within_limits (put_all theta (image body)))) (sym passes) ∙ refusal) in
+      (ap (λ (o : Option Fault). or_too_large o (nameless_within_limits (put_all theta (image body)))) (sym passes) ∙ refusal) in
       let fits = within_limits-image other whole typed within in
       sym (differ (fill (image argument) (close name ty (image body))) (image other) (ap nameless_within_limits (sym put-is) ∙ past) fits)
     where
@@ -291,9 +291,9 @@ candidate formula witness constant_term function binder body whole is_named dest
 pub witnessed-at : (theory : Theory) → generic_type theory exists_name ≡ Some (quantifier type_a) → (formula witness : NamedTerm) (whole : HolType)
     → type_of formula ≡ Some whole → first_unknown theory formula ≡ None → first_unknown theory witness ≡ None
     → (constant_term function binder body : NamedTerm) → formula ≡ combination constant_term function
-        → is_constant_named exists_name constant_term ≡ true → dest_abstraction function ≡ Some (binder, body)
+    → is_constant_named exists_name constant_term ≡ true → dest_abstraction function ≡ Some (binder, body)
     → (at : HasParts exists_name formula function binder body) → type_of witness ≡ Some at.ty → (instance : Nameless)
-        → same_term (fill (image witness) (close at.name at.ty (image body))) instance ≡ true
+    → same_term (fill (image witness) (close at.name at.ty (image body))) instance ≡ true
     → IsWitnessed theory formula function binder body witness instance
 witnessed-at theory generic formula witness whole formula_typed passes also constant_term function binder body is is_named dest at typed instance same =
     let parts = quantified-at theory exists_name generic formula constant_term function binder body whole (known_term theory formula whole passes formula_typed) is is_named dest in

@@ -101,7 +101,7 @@ module _ (name : List ℕ) (ty : HolType) (body : NamedTerm) where
         let truths : IsSized 2 2 (lam ty truth) = record { height = omega arith; nodes = omega arith; types = le-leb _ TYPE_NODES_LIMIT (omega arith) } in
         let generic_left : IsSized 4 6 (nameless_equation (predicate ty) (free (codes "P") (predicate ty)) (lam ty truth)) =
         sized-equation 2 1 2 (predicate ty) (free (codes "P") (predicate ty)) (lam ty truth) (omega arith) (omega arith)
-            (sized-more 1 1 2 1 (free (codes "P") (predicate ty)) predicate_sized (omega arith) (omega arith)) truths in
+        (sized-more 1 1 2 1 (free (codes "P") (predicate ty)) predicate_sized (omega arith) (omega arith)) truths in
         let generic_right : IsSized 2 3 (app (const forall_name (quantifier ty)) (free (codes "P") (predicate ty))) =
         sized-app 1 1 1 (const forall_name (quantifier ty)) (free (codes "P") (predicate ty)) quantifier_sized predicate_sized in
         let left = at_predicate ty (abstraction name ty body) binder is_always in

@@ -40,7 +40,7 @@ formula-passes theory formula typed known =
   where
     go : (types constants instances : Bool) → (types && constants && instances) ≡ true
         → (if not (types && true) then Some Fault.UnknownType else
-            (if not (constants && true) then Some Fault.UnknownConst else (if not (instances && true) then Some Fault.NotInstance else None))) ≡ None
+        (if not (constants && true) then Some Fault.UnknownConst else (if not (instances && true) then Some Fault.NotInstance else None))) ≡ None
     go true true true known = refl
     go true true false known = cc
     go true false instances known = cc
@@ -51,13 +51,13 @@ truth-sized = record { height = omega arith; nodes = omega arith; types = refl }
 
 pub truth-fits : (room : Bool) (p : Nameless) → FitsIf room p → room ≡ true
     → list_all nameless_within_limits
-        (nameless_equation bool_type proposition truth ∷ proposition ∷ nameless_equation bool_type p truth ∷ p ∷ nameless_equation bool_type p
-        (nameless_equation bool_type p truth) ∷ []) ≡ true
+    (nameless_equation bool_type proposition truth ∷ proposition ∷ nameless_equation bool_type p truth ∷ p ∷ nameless_equation bool_type p
+    (nameless_equation bool_type p truth) ∷ []) ≡ true
 truth-fits room p fits is =
     let sized = fits is in
     let equal = sized-equation 1900 900000 1 bool_type p truth (omega arith) (omega arith) sized truth-sized in
     let both = sized-equation 1902 900000 900004 bool_type p (nameless_equation bool_type p truth) (omega arith) (omega arith)
-        (sized-more 1900 900000 1902 900000 p sized (omega arith) (omega arith)) equal in
+    (sized-more 1900 900000 1902 900000 p sized (omega arith) (omega arith)) equal in
     rw (
       sized-within 1902 900004 (nameless_equation bool_type p truth) equal (omega arith) (omega arith),
       sized-within 1900 900000 p sized (omega arith) (omega arith),

@@ -32,10 +32,10 @@ pub infers_exists : {journal : Journal} {logic : Stored} {e w : NamedTerm} {ty s
     → AnswersStated result (image e ∷ image w ∷ terms_of_theorem a) (exists_outcome journal.theory e w a) → Infers journal.theory (rule_exists e w) (a ∷ []) result
 infers_exists {journal} {logic} {e} {w} {ty} {s} {a} {result} has legal typed witness_typed answers =
     infers journal.theory (rule_exists e w) (a ∷ []) (image e ∷ image w ∷ terms_of_theorem a) (exists_outcome journal.theory e w a) result
-        (drawn-exists journal logic has legal e w ty s a typed witness_typed) answers
+    (drawn-exists journal logic has legal e w ty s a typed witness_typed) answers
 
 pub infers_choose : {journal : Journal} {logic : Stored} {v : NamedTerm} {a b : Theorem} {result : Result Theorem Fault} → HasLogic journal logic → IsLegal journal.theory → IsPremise journal.theory a
     → AnswersStated result (image v ∷ terms_of_theorem a ++ terms_of_theorem b) (choose_outcome journal.theory v a b) → Infers journal.theory (rule_choose v) (a ∷ b ∷ []) result
 infers_choose {journal} {logic} {v} {a} {b} {result} has legal premise answers =
     infers journal.theory (rule_choose v) (a ∷ b ∷ []) (image v ∷ terms_of_theorem a ++ terms_of_theorem b)
-        (choose_outcome journal.theory v a b) result (drawn-choose journal logic has legal v a b premise) answers
+    (choose_outcome journal.theory v a b) result (drawn-choose journal logic has legal v a b premise) answers

@@ -24,7 +24,7 @@ two-pass theory first second one two s t first_typed second_typed first_known se
   where
     go : (a b c d e f : Bool) → (a && b && c) ≡ true → (d && e && f) ≡ true
         → (if not (a && (d && true)) then Some Fault.UnknownType else
-            (if not (b && (e && true)) then Some Fault.UnknownConst else (if not (c && (f && true)) then Some Fault.NotInstance else None))) ≡ None
+        (if not (b && (e && true)) then Some Fault.UnknownConst else (if not (c && (f && true)) then Some Fault.NotInstance else None))) ≡ None
     go true true true true true true known also = refl
     go true true true true true false known also = cc
     go true true true true false f known also = cc

@@ -70,15 +70,15 @@ closed-sized tall many name ty body typed few low less sized =
     let few_nodes = sized.nodes in
     let fits : types_fit whole ≡ true =
     both (types_fit body) (some_type_fits (option_map (function_type ty) (type_of body)))
-        (second_of_both (nat_le (height body) TERM_HEIGHT_LIMIT && nat_le (nodes body) TERM_NODES_LIMIT) (types_fit body)
-        (within (is_within_limits body) refl))
+    (second_of_both (nat_le (height body) TERM_HEIGHT_LIMIT && nat_le (nodes body) TERM_NODES_LIMIT) (types_fit body)
+    (within (is_within_limits body) refl))
     (ap (λ (o : Option HolType). some_type_fits (option_map (function_type ty) o)) typed ∙ le-leb (type_nodes (predicate ty)) TYPE_NODES_LIMIT (omega arith)) in
     let low_whole : height whole ≤ TERM_HEIGHT_LIMIT = omega arith in
     let few_whole : nodes whole ≤ TERM_NODES_LIMIT = omega arith in
     let inside : is_within_limits whole ≡ true =
     both (nat_le (height whole) TERM_HEIGHT_LIMIT && nat_le (nodes whole) TERM_NODES_LIMIT) (types_fit whole)
     (both (nat_le (height whole) TERM_HEIGHT_LIMIT) (nat_le (nodes whole) TERM_NODES_LIMIT) (le-leb (height whole) TERM_HEIGHT_LIMIT low_whole)
-        (le-leb (nodes whole) TERM_NODES_LIMIT few_whole)) fits in
+    (le-leb (nodes whole) TERM_NODES_LIMIT few_whole)) fits in
     let whole_typed : type_of whole ≡ Some (predicate ty) = ap (option_map (function_type ty)) typed in
     let image_inside : nameless_within_limits (image whole) ≡ true = within_limits-image whole (predicate ty) whole_typed inside in
     record {
@@ -119,11 +119,11 @@ conversion-within name ty body argument room argument_sized result_sized =
     let variable_sized = sized-more 1 1 1000 1 (free name ty) (free-sized name ty (omega arith)) (omega arith) (omega arith) in
     let first = sized-app 1000 5000 1 (closed name ty body) (free name ty) room.function variable_sized in
     let second = sized-equation 1001 5002 5000 bool_type (trivial name ty body) (image body) (omega arith) (omega arith) first
-        (sized-more 1000 5000 1001 5000 (image body) room.body_sized (omega arith) (omega arith)) in
+    (sized-more 1000 5000 1001 5000 (image body) room.body_sized (omega arith) (omega arith)) in
     let redex = sized-app 1000 5000 5000 (closed name ty body) (image argument) room.function argument_sized in
     let result = fill (image argument) (close name ty (image body)) in
     let third = sized-equation 1001 10001 5000 bool_type (app (closed name ty body) (image argument)) result (omega arith) (omega arith) redex
-        (sized-more 1000 5000 1001 5000 result result_sized (omega arith) (omega arith)) in
+    (sized-more 1000 5000 1001 5000 result result_sized (omega arith) (omega arith)) in
     rw (
       sized-within 1001 5002 (trivial name ty body) first (omega arith) (omega arith),
       sized-within 1003 10005 (nameless_equation bool_type (trivial name ty body) (image body)) second (omega arith) (omega arith),
@@ -139,7 +139,7 @@ instance-within tall many generic_left generic_right left right one low few gene
     let both = sized-equation tall many many bool_type left right one (omega arith) left_sized right_sized in
     let fits = sized-within (tall + 2) (many + many + 3) (nameless_equation bool_type left right) both (omega arith) (omega arith) in
     all_five (nameless_within_limits generic_right) (nameless_within_limits generic_left) (nameless_within_limits right)
-        (nameless_within_limits left) (nameless_within_limits (nameless_equation bool_type left right))
+    (nameless_within_limits left) (nameless_within_limits (nameless_equation bool_type left right))
     (within generic_right generic_right_sized) (within generic_left generic_left_sized) (within right right_sized) (within left left_sized) fits
   where
     all_five : (a b c d e : Bool) → a ≡ true → b ≡ true → c ≡ true → d ≡ true → e ≡ true → (a && (b && (c && (d && (e && true))))) ≡ true

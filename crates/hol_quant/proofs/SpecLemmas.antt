@@ -120,7 +120,7 @@ module _ (theory : Theory) (term : NamedTerm) (premise : Theorem) (function bind
       (sized-more 2 3 1100 12000 (at_type at.ty applied) generic_right (omega arith) (omega arith))
       (sized-more 1000 5000 1100 12000 (app (const forall_name (quantifier at.ty)) (closed at.name at.ty body)) room.conclusion_sized (omega arith) (omega arith))
       (sized-more 1001 10001 1100 12000 (app (closed at.name at.ty body) (image term))
-          (sized-app 1000 5000 5000 (closed at.name at.ty body) (image term) room.parts.function room.term_sized) (omega arith) (omega arith))
+      (sized-app 1000 5000 5000 (closed at.name at.ty body) (image term) room.parts.function room.term_sized) (omega arith) (omega arith))
 
   pub spec-conversion-within : list_all is_roomy small ≡ true → conversion_fits at.name at.ty bool_type body term ≡ true
   spec-conversion-within all = let room = spec-room all in conversion-within at.name at.ty body term room.parts room.term_sized room.result_sized

@@ -83,7 +83,7 @@ module _ (name other : List ℕ) (ty : HolType) (body : NamedTerm) (typed : type
   pub not-refused : nameless_within_limits (image body) ≡ true → vsubst_refusal pairs body ≡ None
   not-refused within =
       let fits : nameless_within_limits (put_all pairs (image body)) ≡ true = ap nameless_within_limits put-is
-          ∙ within-put (only name ty (free other ty)) (only-renames name other ty) (image body) ∙ within in
+      ∙ within-put (only name ty (free other ty)) (only-renames name other ty) (image body) ∙ within in
       rw (type_eq-self ty, fits) refl
 
   pub witnessed-sized : (tall many : ℕ) → IsSized tall many (image body) → IsSized tall many (witnessed name ty body (variable other ty))
@@ -109,7 +109,7 @@ module _ (result : Result NamedTerm Fault) (theta : List (NamedTerm × NamedTerm
 pub substituted-is : (result : Result NamedTerm Fault) (theta : List (NamedTerm × NamedTerm)) (body binder argument : NamedTerm)
     → theta ≡ (argument, binder) ∷ [] → AnswersSuch result (vsubst_refusal theta body) (λ new. image new ≡ put_all theta (image body))
     → IfOk result (λ made. (name other : List ℕ) (ty : HolType) → type_of body ≡ Some bool_type → binder ≡ variable name ty
-        → argument ≡ variable other ty → image made ≡ witnessed name ty body argument)
+    → argument ≡ variable other ty → image made ≡ witnessed name ty body argument)
 substituted-is (Ok made) theta body binder argument theta_is answers = λ name other ty typed binder_is argument_is.
     (at-variables (Ok made) theta body binder argument theta_is name other ty binder_is argument_is answers).1 ∙ put-witnessed name other ty body typed ∙ ap (witnessed name ty body) (sym argument_is)
 substituted-is (Err fault) theta body binder argument theta_is answers = tt

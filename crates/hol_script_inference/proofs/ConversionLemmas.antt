@@ -75,7 +75,7 @@ conversion-answers refiners conversions session unit tree term conversion answer
 pub conversion-given : (tools : Tools) (lemmas : List Theorem) (library : Library) (conv : Conv) (steps : Vec TermStep Global) (tree : TheoremTree)
     (theorem : Theorem) → IsAsked (AsksConversion conv steps) tree
     → ((unit : ConversionUnit) (t : TermTree) → conversion_of conv ≡ conversion_of_unit unit → flat_steps_of steps.items ≡ flat_steps (term_steps t)
-        → AnswersPlainly tools lemmas (Ok theorem) library (by_conversion unit t))
+    → AnswersPlainly tools lemmas (Ok theorem) library (by_conversion unit t))
     → MayGive tools lemmas library tree (Ok theorem)
 conversion-given tools lemmas library conv steps (by_conversion unit t) theorem asks answers = answers unit t asks.0 asks.1
 conversion-given tools lemmas library conv steps (by_rule t) theorem asks answers = absurd asks
@@ -84,7 +84,7 @@ conversion-given tools lemmas library conv steps (by_tautology t) theorem asks a
 pub conversion-refused : (tools : Tools) (lemmas : List Theorem) (library : Library) (conv : Conv) (steps : Vec TermStep Global) (tree : TheoremTree)
     (fault : Fault) → IsAsked (AsksConversion conv steps) tree
     → ((unit : ConversionUnit) (t : TermTree) → conversion_of conv ≡ conversion_of_unit unit → flat_steps_of steps.items ≡ flat_steps (term_steps t)
-        → AnswersPlainly tools lemmas (Err fault) library (by_conversion unit t))
+    → AnswersPlainly tools lemmas (Err fault) library (by_conversion unit t))
     → RefusesTheorem tools lemmas library tree (plain fault)
 conversion-refused tools lemmas library conv steps (by_conversion unit t) fault asks answers = plainly-refused tools lemmas library (by_conversion unit t) fault (answers unit t asks.0 asks.1)
 conversion-refused tools lemmas library conv steps (by_rule t) fault asks answers = absurd asks
@@ -94,7 +94,7 @@ pub conversion-refused_as : (tools : Tools) (lemmas : List Theorem) (library : L
     (tree : TheoremTree) (fault : Fault) (refused : Refused) → refused ≡ plain fault
     → IsAsked (AsksConversion conv steps) tree
     → ((unit : ConversionUnit) (t : TermTree) → conversion_of conv ≡ conversion_of_unit unit → flat_steps_of steps.items ≡ flat_steps (term_steps t)
-        → AnswersPlainly tools lemmas (Err fault) library (by_conversion unit t))
+    → AnswersPlainly tools lemmas (Err fault) library (by_conversion unit t))
     → RefusesTheorem tools lemmas library tree refused
 conversion-refused_as tools lemmas library conv steps tree fault refused is asks answers =
     subst (λ (r : Refused). RefusesTheorem tools lemmas library tree r) (sym is) (conversion-refused tools lemmas library conv steps tree fault asks answers)

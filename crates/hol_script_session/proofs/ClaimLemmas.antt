@@ -38,7 +38,7 @@ snoc_claims : (stored : List ℕ → Option Recorded) (names : List (List ℕ)) 
 snoc_claims stored [] name = append-nil (stored_claim name (stored name))
 snoc_claims stored (first ∷ names) name =
     ap (λ l. stored_claim first (stored first) ++ l) (snoc_claims stored names name)
-        ∙ sym (append_assoc (stored_claim first (stored first)) (stored_claims stored names) (stored_claim name (stored name)))
+    ∙ sym (append_assoc (stored_claim first (stored first)) (stored_claims stored names) (stored_claim name (stored name)))
 
 pub further_claims : (stored : List ℕ → Option Recorded) (names : List (String Global)) (at : ℕ) (item : String Global) (name : List ℕ)
     (found : Option Recorded) (before after : List Claimed) → at < length names → item ≡ get_or names at item
@@ -50,7 +50,7 @@ further_claims stored names at item name found before after within is named know
     ∙ ap (λ (n : List ℕ). stored_claims stored (map string_bytes (take at names)) ++ stored_claim n (stored n)) named in
     let longer : map string_bytes (take at names) ++ string_bytes item ∷ [] ≡ map string_bytes (take (at + 1) names) =
     sym (map-append string_bytes (take at names) (item ∷ [])) ∙ ap (λ (x : String Global). map string_bytes (take at names ++ x ∷ [])) is
-        ∙ ap (map string_bytes) (sym (take_more names at item within)) in
+    ∙ ap (map string_bytes) (sym (take_more names at item within)) in
     added ∙ here ∙ sym (snoc_claims stored (map string_bytes (take at names)) (string_bytes item)) ∙ ap (stored_claims stored) longer
 
 pub pushed_claim : (claims pushed : List Claim) (claim : Claim) → pushed ≡ claims ++ claim ∷ [] → claims_of pushed ≡ claims_of claims ++ claim_of claim ∷ []
@@ -61,8 +61,8 @@ stored_claims-made journal stored names made claim member = made.theorems claim.
 
 pub log_answers : (result : Result (Vec ℕ Global) Fault) (journal : Journal) (given claimed : List Claimed) → IsJournal journal → given ≡ claimed → AreMade journal claimed
     → IfOk result (λ (text : Vec ℕ Global). IsPrunedText journal given text.items)
-        → IfOk result (λ (text : Vec ℕ Global). IsLogOf journal.theory text.items given)
-        → IfOk result (λ (text : Vec ℕ Global). length text.items ≤ TEXT_BYTES_LIMIT)
+    → IfOk result (λ (text : Vec ℕ Global). IsLogOf journal.theory text.items given)
+    → IfOk result (λ (text : Vec ℕ Global). length text.items ≤ TEXT_BYTES_LIMIT)
     → IfOk result (λ (text : Vec ℕ Global). IsAcceptedLog journal (map log_claim claimed) text.items)
 log_answers (Ok text) journal given claimed is_journal same made pruned accepted within = record {
   is_log = record { is_journal = is_journal; claimed = claimed; made = made; are_claims = refl; pruned = subst (λ (cs : List Claimed). IsPrunedText journal cs text.items) same pruned };

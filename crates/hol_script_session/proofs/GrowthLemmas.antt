@@ -320,7 +320,7 @@ const_removed old mid new name ty added removed none = record {
 -- the same where a definition was refused in between
 pub removed_after : (old : Session) (mid : ScopeHere) (after : Session) (new : ScopeHere) (name : List ℕ) (ty : HolType) → SetsConstant (scope_of old.scope) (scope_of mid) name (Some ty)
     → KeepsSession (made old old.library.recorder mid) after → SetsConstant (scope_of after.scope) (scope_of new) name None
-        → (scope_of old.scope).generic_type name ≡ None → KeepsScope (scope_of old.scope) (scope_of new)
+    → (scope_of old.scope).generic_type name ≡ None → KeepsScope (scope_of old.scope) (scope_of new)
 removed_after old mid after new name ty added keeps removed none =
     const_removed (scope_of old.scope) (scope_of mid) (scope_of new) name ty added
     (subst (λ (s : ScopeHere). SetsConstant (scope_of s) (scope_of new) name None) keeps.scope removed) none
@@ -353,8 +353,12 @@ not_some (Some x) none = absurd (none refl)
 pub var_state : (old : Session) (scope : ScopeHere) (name : List ℕ) (ty : HolType) → SetsVariable (scope_of old.scope) (scope_of scope) name ty
     → state_of (made old old.library.recorder scope) ≡ with_variable (state_of old) name ty
 var_state old scope name ty sets = λ i.
-    record { theory = old.library.recorder.theory; variables = λ other. sets.variables other i; theorems = λ other.
-    theorem_of ((stored_of old.library.store).theorems other) }
+    record {
+      theory = old.library.recorder.theory;
+      variables = λ other. sets.variables other i;
+      theorems = λ other.
+          theorem_of ((stored_of old.library.store).theorems other);
+    }
 
 pub var_session : (old : Session) (scope : ScopeHere) (name : List ℕ) (ty : HolType) → IsSession old → knows_type old.library.recorder.theory ty ≡ true
     → SetsVariable (scope_of old.scope) (scope_of scope) name ty → IsSession (made old old.library.recorder scope)

@@ -14,13 +14,13 @@ returns-clause-ok c conclusion is =
     let stored = c.theorem_of-stored.result.now.theorem in
     let there = c.theorem_of-stored.ensures.theorem in
     let conclusion_is : c.conclusion_of-conclusion.result.now ≡ conclusion = c.conclusion_of-conclusion.ensures.value
-        ∙ sym (ap (λ (t : Theorem). t.conclusion) (axiom-is c.args.number conclusion stored is there)) in
+    ∙ sym (ap (λ (t : Theorem). t.conclusion) (axiom-is c.args.number conclusion stored is there)) in
     let fits = nameless_within_limits (nameless_equation bool_type (image conclusion) (image conclusion)) in
     restated-ok c.named.result c.args.recorder.now c.named.new.recorder fits conclusion c.named.ensures.continues
     (subst (λ (t : NamedTerm). IfOk c.named.result (λ made. made.theorem.conclusion ≡ t)) conclusion_is c.named.ensures.names)
     (subst (λ (t : NamedTerm). Shows stored [] (image t)
-        → DerivesIf (nameless_within_limits (nameless_equation bool_type (image t) (image t))) c.named.result [] (image t)) conclusion_is
-        (c.named.ensures.derives [])
+    → DerivesIf (nameless_within_limits (nameless_equation bool_type (image t) (image t))) c.named.result [] (image t)) conclusion_is
+    (c.named.ensures.derives [])
     (axiom-shown c.args.number conclusion stored is there))
 
 pub returns-clause-err : goal.returns-clause-err
@@ -28,10 +28,10 @@ returns-clause-err c conclusion is =
     let stored = c.theorem_of-stored.result.now.theorem in
     let there = c.theorem_of-stored.ensures.theorem in
     let conclusion_is : c.conclusion_of-conclusion.result.now ≡ conclusion = c.conclusion_of-conclusion.ensures.value
-        ∙ sym (ap (λ (t : Theorem). t.conclusion) (axiom-is c.args.number conclusion stored is there)) in
+    ∙ sym (ap (λ (t : Theorem). t.conclusion) (axiom-is c.args.number conclusion stored is there)) in
     let fits = nameless_within_limits (nameless_equation bool_type (image conclusion) (image conclusion)) in
     restated-err c.named.result fits conclusion is.fits
     (subst (λ (t : NamedTerm). Shows stored [] (image t)
-        → DerivesIf (nameless_within_limits (nameless_equation bool_type (image t) (image t))) c.named.result [] (image t)) conclusion_is
-        (c.named.ensures.derives [])
+    → DerivesIf (nameless_within_limits (nameless_equation bool_type (image t) (image t))) c.named.result [] (image t)) conclusion_is
+    (c.named.ensures.derives [])
     (axiom-shown c.args.number conclusion stored is there))

@@ -23,7 +23,7 @@ returns-clause-outcome c =
     (ap (λ (o : Option (NamedTerm × NamedTerm)). given o BadShape (λ sides. stated (images premise) sides.0)) (sym c.in-Some.ensures.sides))
     (λ room whole part. c.by_theorem.ensures.derives (images premise) (image premise.conclusion) room
     (leads-p_q theory 13 (conjunction p q) p a b c.deref.result.now refl refl parts.left_formula parts.right_formula
-        (c.deref.ensures.value ∙ c.in-Ok.ensures.ok) room (image premise.conclusion) (image c.in-Some.sides.left.now) (ap image parts.is) refl
+    (c.deref.ensures.value ∙ c.in-Ok.ensures.ok) room (image premise.conclusion) (image c.in-Some.sides.left.now) (ap image parts.is) refl
     (roomy-fits room (image premise.conclusion) whole) (roomy-fits room (image c.in-Some.sides.left.now) part))
     (shows-itself premise))
     c.by_theorem.ensures.names

@@ -66,8 +66,8 @@ returns-in-Err-with_case-clause-derives c h i j s room theorem first second left
     let cases = c.in-Ok-eliminated.ensures.derives h room theorem (disjunction-fits room p q left_room right_room) (both-fits room p q r left_room right_room r_room) in
     let here = subst (λ (t : Nameless). Shows c.args.first.now.theorem i t) (sym r_is) first in
     c.in-Err-with_case.ensures.derives h i r room
-        (subst (λ (t : NamedTerm). Shows c.in-Ok-eliminated.cases.theorem h (nameless.implication (nameless.implication p r) (image t)))
-        (sym rest_is) cases) here
+    (subst (λ (t : NamedTerm). Shows c.in-Ok-eliminated.cases.theorem h (nameless.implication (nameless.implication p r) (image t)))
+    (sym rest_is) cases) here
     (disch-fits room p r left_room r_room)
     (subst (λ (t : NamedTerm). FitsIf room (mp_equation (nameless.implication p r) (image t))) (sym rest_is) (first-case-fits room p q r left_room right_room r_room))
 
@@ -100,8 +100,8 @@ returns-clause-derives c h i j s room theorem first second left_room right_room 
     let left : List Nameless = without p i ++ h in
     let other =
     c.in-Ok-with_case.ensures.derives h i r room
-        (subst (λ (t : NamedTerm). Shows c.in-Ok-eliminated.cases.theorem h (nameless.implication (nameless.implication p r) (image t)))
-        (sym rest_is) cases) one
+    (subst (λ (t : NamedTerm). Shows c.in-Ok-eliminated.cases.theorem h (nameless.implication (nameless.implication p r) (image t)))
+    (sym rest_is) cases) one
     (disch-fits room p r left_room r_room)
     (subst (λ (t : NamedTerm). FitsIf room (mp_equation (nameless.implication p r) (image t))) (sym rest_is) (first-case-fits room p q r left_room right_room r_room)) in
     subst (λ (t : Nameless). DerivesIf room c.with_case-2.result (without q j ++ left) t) r_is

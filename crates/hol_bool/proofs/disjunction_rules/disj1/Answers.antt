@@ -57,8 +57,8 @@ by_theorem-requires-clause-known c =
     let b = c.args.q.now in
     let concluded = c.conclusion_of-p.ensures in
     p_q-known c.args.recorder.now.theory a b c.deref.result.now
-        (c.deref.ensures.value ∙ c.in-Ok-for_p_q.ensures.ok
-        ∙ ap (λ (t : NamedTerm). at_p_q t b) concluded.value) concluded.formula c.in-Ok.ensures.ok.formula
+    (c.deref.ensures.value ∙ c.in-Ok-for_p_q.ensures.ok
+    ∙ ap (λ (t : NamedTerm). at_p_q t b) concluded.value) concluded.formula c.in-Ok.ensures.ok.formula
 
 pub by_theorem-requires-clause-stated : goal.by_theorem-requires-clause-stated
 by_theorem-requires-clause-stated c =
@@ -69,4 +69,4 @@ by_theorem-requires-clause-stated c =
     let concluded = c.conclusion_of-p.ensures in
     let stated_is = connected-is c.in-Ok-connect.stated or_name a b c.conclusion_of-p.result.now b concluded.formula.typed passed.formula.typed concluded.value refl c.in-Ok-connect.ensures in
     made-formula journal.theory c.in-Ok-connect.stated (disjunction a b) stated_is
-        (connects journal c.args.logic.now c.requires.logic concluded.legal or_name refl a b concluded.formula passed.formula)
+    (connects journal c.args.logic.now c.requires.logic concluded.legal or_name refl a b concluded.formula passed.formula)

@@ -67,4 +67,4 @@ by_theorem-requires-clause-stated c =
     let concluded = c.conclusion_of-q.ensures in
     let stated_is = connected-is c.in-Ok-connect.stated or_name a b a c.conclusion_of-q.result.now passed.formula.typed concluded.formula.typed refl concluded.value c.in-Ok-connect.ensures in
     made-formula journal.theory c.in-Ok-connect.stated (disjunction a b) stated_is
-        (connects journal c.args.logic.now c.requires.logic concluded.legal or_name refl a b passed.formula concluded.formula)
+    (connects journal c.args.logic.now c.requires.logic concluded.legal or_name refl a b passed.formula concluded.formula)

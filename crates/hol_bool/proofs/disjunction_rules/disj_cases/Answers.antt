@@ -36,9 +36,9 @@ returns-clause-outcome c =
     let same : image r ≡ image second.conclusion = (same_term-Decides (image r) (image second.conclusion)).0 meet in
     answered c.by_cases.result arguments (of_second ++ (of_first ++ images theorem)) wanted r (disj_cases_outcome theorem first second)
     (ap (λ (o : Option (NamedTerm × NamedTerm)).
-        given o BadShape (λ sides. unless (are_alpha_equivalent r second.conclusion) NotAlpha
-        (stated (images theorem ++ without (image sides.0) (images first) ++ without (image sides.1) (images second)) r)))
-        (sym c.in-Some.ensures.sides)
+    given o BadShape (λ sides. unless (are_alpha_equivalent r second.conclusion) NotAlpha
+    (stated (images theorem ++ without (image sides.0) (images first) ++ without (image sides.1) (images second)) r)))
+    (sym c.in-Some.ensures.sides)
     ∙ ap (λ test. unless test NotAlpha (stated wanted r)) meet)
     (cases-set (images theorem) of_first of_second)
     (λ room roomy.

@@ -44,10 +44,10 @@ returns-clause-derives c h q room shown fits =
     let fits_here = subst (λ (t : Nameless). FitsIf room (disch_equation (image a) t)) (sym shown.concludes) fits in
     let from = nameless_equation bool_type (nameless.conjunction (image a) (image b)) (image a) in
     let leads = subst (λ (t : Theory). LeadsTo t 16 terms room from (image (implication a b))) (sym c.in-Ok-absorbed.ensures.continues.theory)
-        (disch-leads c.args.recorder.now.theory a b terms c.requires.formula concluded.formula terms_are room fits_here) in
+    (disch-leads c.args.recorder.now.theory a b terms c.requires.formula concluded.formula terms_are room fits_here) in
     let equation = subst (λ (t : Nameless).
-        Shows c.in-Ok-absorbed.equation.theorem left (nameless_equation bool_type (nameless.conjunction (image a) t) (image a)))
-        (sym shown.concludes) (c.in-Ok-absorbed.ensures.derives h q room shown fits) in
+    Shows c.in-Ok-absorbed.equation.theorem left (nameless_equation bool_type (nameless.conjunction (image a) t) (image a)))
+    (sym shown.concludes) (c.in-Ok-absorbed.ensures.derives h q room shown fits) in
     let answer : DerivesIf room c.by_theorem.result left (nameless.implication (image a) (image b)) =
     subst (λ (t : NamedTerm). LeadsTo c.absorbed.new.recorder.theory 16 terms room from (image t) → DerivesIf room c.by_theorem.result left (image t)) stated_is
     (λ l. c.by_theorem.ensures.derives left from room l equation) leads in
@@ -72,4 +72,4 @@ by_theorem-requires-clause-stated c =
     let stated_is = connected-is c.in-Ok.stated implies_name a b a c.conclusion_of-q.result.now c.requires.formula.typed concluded.formula.typed refl concluded.value c.in-Ok.ensures in
     formula_in c.absorbed.new.recorder.theory journal.theory c.in-Ok.stated c.in-Ok-absorbed.ensures.continues.theory
     (made-formula journal.theory c.in-Ok.stated (implication a b) stated_is
-        (connects journal c.args.logic.now c.requires.logic concluded.legal implies_name refl a b c.requires.formula concluded.formula))
+    (connects journal c.args.logic.now c.requires.logic concluded.legal implies_name refl a b c.requires.formula concluded.formula))

@@ -24,7 +24,7 @@ returns-clause-outcome c =
     answered c.by_theorem.result (image a ∷ terms_of_theorem premise) (images premise) (images premise) a (contr_outcome journal.theory a premise) outcome (record { to = λ x m. m; back = λ x m. m })
     (λ room roomy. c.by_theorem.ensures.derives (images premise) (image premise.conclusion) room
     (leads-p journal.theory 24 false_term p a c.deref.result.now refl refl passed.formula (c.deref.ensures.value ∙ c.in-Ok-for_p.ensures.ok) room
-        (image premise.conclusion) (image a) (ap image premise_is) refl
+    (image premise.conclusion) (image a) (ap image premise_is) refl
     (roomy-fits room (image premise.conclusion) (roomy (image premise.conclusion) (inr (inl refl)))) (roomy-fits room (image a) (roomy (image a) (inl refl))))
     (shows-itself premise))
     c.by_theorem.ensures.names

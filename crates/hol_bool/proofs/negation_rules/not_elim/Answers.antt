@@ -24,7 +24,7 @@ returns-in-Err-connect-clause-outcome c =
     answered-one (Err c.in-Err-connect.fault) premise (implication a false_term) (not_elim_outcome premise)
     (ap (λ (o : Option NamedTerm). given o BadShape (λ part. stated (images premise) (implication part false_term))) (sym c.in-Some.ensures.found))
     (λ room whole part. connected-past c.in-Err-connect.fault implies_name a false_term a c.in-Ok.falsity c.in-Some.ensures.part.formula.typed refl
-        refl c.in-Ok.ensures.ok c.in-Err-connect.ensures room
+    refl c.in-Ok.ensures.ok c.in-Err-connect.ensures room
     (roomy-fits room (image (implication a false_term)) part)) tt
 
 pub returns-in-Err-connect-clause-inferred : goal.returns-in-Err-connect-clause-inferred
@@ -44,8 +44,8 @@ returns-clause-outcome c =
     subst (λ (s : NamedTerm). LeadsTo theory 23 terms room (image premise.conclusion) (image s) → DerivesIf room c.by_theorem.result (images premise) (image s)) stated_is
     (λ leads. c.by_theorem.ensures.derives (images premise) (image premise.conclusion) room leads (shows-itself premise))
     (leads-p theory 23 (negation p) (implication p false_term) a terms refl refl negated.formula
-        (c.deref.ensures.value ∙ c.in-Ok-for_p.ensures.ok) room (image premise.conclusion) (image (implication a false_term))
-        (ap image negated.is) refl
+    (c.deref.ensures.value ∙ c.in-Ok-for_p.ensures.ok) room (image premise.conclusion) (image (implication a false_term))
+    (ap image negated.is) refl
     (roomy-fits room (image premise.conclusion) whole) (roomy-fits room (image (implication a false_term)) part)))
     (subst (λ (s : NamedTerm). IfOk c.by_theorem.result (λ made. made.theorem.conclusion ≡ s)) stated_is c.by_theorem.ensures.names)
 
@@ -64,4 +64,4 @@ by_theorem-requires-clause-stated c =
     let stated_is = connected-is c.in-Ok-connect.stated implies_name a false_term a c.in-Ok.falsity negated.formula.typed refl refl c.in-Ok.ensures.ok c.in-Ok-connect.ensures in
     made-formula journal.theory c.in-Ok-connect.stated (implication a false_term) stated_is
     (connects journal c.args.logic.now c.requires.logic c.in-Some.ensures.legal implies_name refl a false_term negated.formula
-        (falsity_is_formula journal c.args.logic.now c.requires.logic c.in-Some.ensures.legal))
+    (falsity_is_formula journal c.args.logic.now c.requires.logic c.in-Some.ensures.legal))

@@ -49,7 +49,7 @@ returns-clause-outcome c =
     subst (λ (s : NamedTerm). LeadsTo journal.theory 22 terms room (image premise.conclusion) (image s) → DerivesIf room c.by_theorem.result (images premise) (image s)) stated_is
     (λ leads. c.by_theorem.ensures.derives (images premise) (image premise.conclusion) room leads (shows-itself premise))
     (leads-p journal.theory 22 (implication p false_term) (negation p) a terms refl refl parts.left_formula
-        (c.deref.ensures.value ∙ c.in-Ok-for_p.ensures.ok) room (image premise.conclusion) (image (negation a)) premise_is refl
+    (c.deref.ensures.value ∙ c.in-Ok-for_p.ensures.ok) room (image premise.conclusion) (image (negation a)) premise_is refl
     (roomy-fits room (image premise.conclusion) whole) (roomy-fits room (image (negation a)) part)))
     (subst (λ (s : NamedTerm). IfOk c.by_theorem.result (λ made. made.theorem.conclusion ≡ s)) stated_is c.by_theorem.ensures.names)
 

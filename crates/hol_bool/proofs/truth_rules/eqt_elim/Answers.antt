@@ -29,7 +29,7 @@ returns-clause-outcome c =
     ∙ ap (λ test. unless test BadShape (stated (images premise) a)) true_right)
     (λ room whole part. c.by_theorem.ensures.derives (images premise) (image premise.conclusion) room
     (leads-p journal.theory 10 (equation p true_term) p a c.deref.result.now refl refl parts.formula
-        (c.deref.ensures.value ∙ c.in-Ok.ensures.ok) room (image premise.conclusion) (image a) parts.image_is refl
+    (c.deref.ensures.value ∙ c.in-Ok.ensures.ok) room (image premise.conclusion) (image a) parts.image_is refl
     (roomy-fits room (image premise.conclusion) whole) (roomy-fits room (image a) part))
     (shows-itself premise))
     c.by_theorem.ensures.names

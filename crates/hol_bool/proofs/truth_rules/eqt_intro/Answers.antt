@@ -25,7 +25,7 @@ returns-in-Err-equivalence-clause-outcome c =
     let fault = c.in-Err-equivalence.fault in
     answered-one (Err fault) premise (equation a true_term) (eqt_intro_outcome premise) refl
     (λ room whole part. equation-past fault a true_term c.conclusion_of-conclusion.result.now c.in-Ok.truth typed refl
-        c.conclusion_of-conclusion.ensures.value c.in-Ok.ensures.ok c.in-Err-equivalence.ensures room (truth-fits room (image a) whole))
+    c.conclusion_of-conclusion.ensures.value c.in-Ok.ensures.ok c.in-Err-equivalence.ensures room (truth-fits room (image a) whole))
     tt
 
 pub returns-in-Err-equivalence-clause-inferred : goal.returns-in-Err-equivalence-clause-inferred
@@ -46,8 +46,8 @@ returns-clause-outcome c =
     subst (λ (s : NamedTerm). LeadsTo theory 9 c.deref.result.now room (image a) (image s) → DerivesIf room c.by_theorem.result (images premise) (image s)) stated_is
     (λ leads. c.by_theorem.ensures.derives (images premise) (image a) room leads (shows-itself premise))
     (leads-p theory 9 p (equation p true_term) a c.deref.result.now refl refl formula
-        (c.deref.ensures.value ∙ c.in-Ok-for_p.ensures.ok ∙ ap (λ (t : NamedTerm). (t, p) ∷ []) concludes) room (image a)
-        (image (equation a true_term)) refl image_is
+    (c.deref.ensures.value ∙ c.in-Ok-for_p.ensures.ok ∙ ap (λ (t : NamedTerm). (t, p) ∷ []) concludes) room (image a)
+    (image (equation a true_term)) refl image_is
     (roomy-fits room (image a) whole) (roomy-fits room (image (equation a true_term)) part)))
     (subst (λ (s : NamedTerm). IfOk c.by_theorem.result (λ made. made.theorem.conclusion ≡ s)) stated_is c.by_theorem.ensures.names)
 
@@ -67,6 +67,6 @@ by_theorem-requires-clause-stated c =
     let concluded = c.conclusion_of-conclusion.ensures in
     let stated_is =
     equation-is c.in-Ok-equivalence.stated a true_term c.conclusion_of-conclusion.result.now c.in-Ok.truth concluded.formula.typed refl
-        concluded.value c.in-Ok.ensures.ok c.in-Ok-equivalence.ensures in
+    concluded.value c.in-Ok.ensures.ok c.in-Ok-equivalence.ensures in
     made-formula journal.theory c.in-Ok-equivalence.stated (equation a true_term) stated_is
     (equation-formula journal.theory concluded.legal a true_term concluded.formula (truth_is_formula journal c.args.logic.now c.requires.logic concluded.legal))

@@ -269,8 +269,8 @@ depth_conv-right_of-right-requires g t c =
 pub depth_conv-repeatc-here-requires : goal.depth_conv-repeatc-here-requires
 depth_conv-repeatc-here-requires g t c =
     let asked = asks-now c.right_of-right.result.now
-        (g.met.L.Leaves.stays_ready c.args.leaves.now) c.requires.asked c.in-Ok.ensures.makes.continued c.in-Ok.ensures.makes.library
-        c.right_of-right.ensures.known in
+    (g.met.L.Leaves.stays_ready c.args.leaves.now) c.requires.asked c.in-Ok.ensures.makes.continued c.in-Ok.ensures.makes.library
+    c.right_of-right.ensures.known in
     let sized = ap size c.requires.whole in
     search rules
 
@@ -290,7 +290,7 @@ depth_conv-then-requires g t c =
 pub depth_conv-returns-in-Ok-clause-converts : goal.depth_conv-returns-in-Ok-clause-converts
 depth_conv-returns-in-Ok-clause-converts g t c =
     depth-arm c.then.result (ap (with_leaves (g.L.Leaves.means c.args.leaves.now)) c.requires.whole) c.in-Ok.ensures.converts c.in-Ok.ensures.makes
-        c.right_of-right.ensures.right c.repeatc-here.ensures.converts
+    c.right_of-right.ensures.right c.repeatc-here.ensures.converts
     c.repeatc-here.ensures.makes c.then.ensures.joins
 
 pub depth_conv-returns-in-Err-clause-converts : goal.depth_conv-returns-in-Err-clause-converts
@@ -316,8 +316,8 @@ repeatc-returns-in-Err-clause-converts g t c = starved-at c.args.fuel.now.left c
 pub repeatc-converted-made-requires : goal.repeatc-converted-made-requires
 repeatc-converted-made-requires g t c =
     let asked = asks-now c.loop-chain.chain.current
-        (g.met.L.Leaves.stays_ready c.args.leaves.now) c.requires.asked c.loop-chain.invariant.1 c.loop-chain.invariant.2
-        c.loop-chain.invariant.3.held.known in
+    (g.met.L.Leaves.stays_ready c.args.leaves.now) c.requires.asked c.loop-chain.invariant.1 c.loop-chain.invariant.2
+    c.loop-chain.invariant.3.held.known in
     search rules
 
 pub repeatc-link-requires-clause-chain : goal.repeatc-link-requires-clause-chain
@@ -332,19 +332,19 @@ pub repeatc-returns-in-Ends-clause-converts : goal.repeatc-returns-in-Ends-claus
 repeatc-returns-in-Ends-clause-converts g t c =
     let so_far = joined_defined _ _ _ _ refl c.loop-chain.invariant.0 in
     (link-off c.loop-chain.chain _ c.in-Ends.result so_far c.loop-chain.invariant.1 c.loop-chain.invariant.3.held.known
-        c.converted-made.ensures.converts c.converted-made.ensures.makes c.in-Ends.ensures.links).0
+    c.converted-made.ensures.converts c.converted-made.ensures.makes c.in-Ends.ensures.links).0
 
 pub repeatc-returns-in-Ends-clause-last : goal.repeatc-returns-in-Ends-clause-last
 repeatc-returns-in-Ends-clause-last g t c =
     let so_far = joined_defined _ _ _ _ refl c.loop-chain.invariant.0 in
     (link-off c.loop-chain.chain _ c.in-Ends.result so_far c.loop-chain.invariant.1 c.loop-chain.invariant.3.held.known
-        c.converted-made.ensures.converts c.converted-made.ensures.makes c.in-Ends.ensures.links).1
+    c.converted-made.ensures.converts c.converted-made.ensures.makes c.in-Ends.ensures.links).1
 
 pub repeatc-loop-chain-smaller : goal.repeatc-loop-chain-smaller
 repeatc-loop-chain-smaller g t c =
     link-costs c.converted-made.new.library.recorder.theory
-        (proved_by c.converted-made.new.library.recorder.theory c.loop-chain.chain) c.args.t.now _ c.converted-made.result c.in-GoesOn.chain
-        c.converted-made.ensures.converts c.in-GoesOn.ensures.links
+    (proved_by c.converted-made.new.library.recorder.theory c.loop-chain.chain) c.args.t.now _ c.converted-made.result c.in-GoesOn.chain
+    c.converted-made.ensures.converts c.in-GoesOn.ensures.links
 
 pub repeatc-loop-chain-preserved : goal.repeatc-loop-chain-preserved
 repeatc-loop-chain-preserved g t c =
@@ -363,8 +363,8 @@ top_depth_conv-returns-in-Err-clause-converts g t c = starved-at c.args.fuel.now
 pub top_depth_conv-repeatc-here-requires : goal.top_depth_conv-repeatc-here-requires
 top_depth_conv-repeatc-here-requires g t c =
     let asked = asks-now c.loop-chain.chain.current
-        (g.met.L.Leaves.stays_ready c.args.leaves.now) c.requires.asked c.loop-chain.invariant.1 c.loop-chain.invariant.2
-        c.loop-chain.invariant.3.held.known in
+    (g.met.L.Leaves.stays_ready c.args.leaves.now) c.requires.asked c.loop-chain.invariant.1 c.loop-chain.invariant.2
+    c.loop-chain.invariant.3.held.known in
     let sized = ap size c.requires.whole in
     search rules
 
@@ -396,12 +396,12 @@ top_depth_conv-returns-in-Ends-link-clause-converts g t c =
     let so_far = top-start (ap (with_leaves (g.L.Leaves.means c.args.leaves.now)) c.requires.whole) c.loop-chain.invariant.0 in
     let before = continued-twice c.loop-chain.invariant.1 (continued-twice c.repeatc-here.ensures.makes.continued c.in-GoesOn.ensures.continued) in
     let so_far = joined_defined _ _ _ _ refl
-        (link-on c.loop-chain.chain _ c.in-GoesOn.chain so_far c.loop-chain.invariant.1 c.repeatc-here.ensures.converts c.repeatc-here.ensures.makes
-        c.in-GoesOn.ensures.links) in
+    (link-on c.loop-chain.chain _ c.in-GoesOn.chain so_far c.loop-chain.invariant.1 c.repeatc-here.ensures.converts c.repeatc-here.ensures.makes
+    c.in-GoesOn.ensures.links) in
     let below = changed-arm c.sub_conv-below.result c.changed-below.result
-        (top-below c.sub_conv-below.result
-        (ap (with_leaves (g.L.Leaves.means c.args.leaves.now)) c.requires.whole) c.sub_conv-below.ensures.converts)
-        (c.changed-below.ensures.changed _) in
+    (top-below c.sub_conv-below.result
+    (ap (with_leaves (g.L.Leaves.means c.args.leaves.now)) c.requires.whole) c.sub_conv-below.ensures.converts)
+    (c.changed-below.ensures.changed _) in
     let makes = changed-makes c.sub_conv-below.result c.changed-below.result c.sub_conv-below.ensures.makes c.changed-below.ensures.same in
     (link-off c.in-GoesOn.chain _ c.in-Ends-link.result so_far before c.in-GoesOn.ensures.made.held.known below makes c.in-Ends-link.ensures.links).0
 
@@ -410,8 +410,8 @@ top_depth_conv-converted-again-requires g t c =
     let before = continued-twice c.loop-chain.invariant.1 (continued-twice c.repeatc-here.ensures.makes.continued c.in-GoesOn.ensures.continued) in
     let before = continued-twice before (continued-twice c.sub_conv-below.ensures.makes.continued c.in-GoesOn-link.ensures.continued) in
     let asked = asks-now c.in-GoesOn-link.chain.current
-        (g.met.L.Leaves.stays_ready c.args.leaves.now) c.requires.asked before c.in-GoesOn-link.ensures.library
-        c.in-GoesOn-link.ensures.made.held.known in
+    (g.met.L.Leaves.stays_ready c.args.leaves.now) c.requires.asked before c.in-GoesOn-link.ensures.library
+    c.in-GoesOn-link.ensures.made.held.known in
     let sized = ap size c.requires.whole in
     search rules
 
@@ -428,17 +428,17 @@ top_depth_conv-returns-in-Ends-link-2-clause-converts g t c =
     let so_far = top-start (ap (with_leaves (g.L.Leaves.means c.args.leaves.now)) c.requires.whole) c.loop-chain.invariant.0 in
     let before = continued-twice c.loop-chain.invariant.1 (continued-twice c.repeatc-here.ensures.makes.continued c.in-GoesOn.ensures.continued) in
     let so_far = joined_defined _ _ _ _ refl
-        (link-on c.loop-chain.chain _ c.in-GoesOn.chain so_far c.loop-chain.invariant.1 c.repeatc-here.ensures.converts c.repeatc-here.ensures.makes
-        c.in-GoesOn.ensures.links) in
+    (link-on c.loop-chain.chain _ c.in-GoesOn.chain so_far c.loop-chain.invariant.1 c.repeatc-here.ensures.converts c.repeatc-here.ensures.makes
+    c.in-GoesOn.ensures.links) in
     let below = changed-arm c.sub_conv-below.result c.changed-below.result
-        (top-below c.sub_conv-below.result
-        (ap (with_leaves (g.L.Leaves.means c.args.leaves.now)) c.requires.whole) c.sub_conv-below.ensures.converts)
-        (c.changed-below.ensures.changed _) in
+    (top-below c.sub_conv-below.result
+    (ap (with_leaves (g.L.Leaves.means c.args.leaves.now)) c.requires.whole) c.sub_conv-below.ensures.converts)
+    (c.changed-below.ensures.changed _) in
     let makes = changed-makes c.sub_conv-below.result c.changed-below.result c.sub_conv-below.ensures.makes c.changed-below.ensures.same in
     let so_far = joined_defined _ _ _ _ refl (link-on c.in-GoesOn.chain _ c.in-GoesOn-link.chain (joined_tried _ _ _ _ so_far) before below makes c.in-GoesOn-link.ensures.links) in
     let before = continued-twice before (continued-twice makes.continued c.in-GoesOn-link.ensures.continued) in
     (link-off c.in-GoesOn-link.chain _ c.in-Ends-link-2.result so_far before c.in-GoesOn-link.ensures.made.held.known
-        c.converted-again.ensures.converts c.converted-again.ensures.makes c.in-Ends-link-2.ensures.links).0
+    c.converted-again.ensures.converts c.converted-again.ensures.makes c.in-Ends-link-2.ensures.links).0
 
 pub top_depth_conv-returns-in-Ends-link-2-clause-makes : goal.top_depth_conv-returns-in-Ends-link-2-clause-makes
 top_depth_conv-returns-in-Ends-link-2-clause-makes g t c =
@@ -450,15 +450,15 @@ top_depth_conv-returns-in-Ends-link-2-clause-makes g t c =
 pub top_depth_conv-loop-chain-smaller : goal.top_depth_conv-loop-chain-smaller
 top_depth_conv-loop-chain-smaller g t c =
     let first = link-costs c.repeatc-here.new.library.recorder.theory
-        (proved_by c.repeatc-here.new.library.recorder.theory c.loop-chain.chain) c.args.t.now _ c.repeatc-here.result c.in-GoesOn.chain
-        c.repeatc-here.ensures.converts c.in-GoesOn.ensures.links in
+    (proved_by c.repeatc-here.new.library.recorder.theory c.loop-chain.chain) c.args.t.now _ c.repeatc-here.result c.in-GoesOn.chain
+    c.repeatc-here.ensures.converts c.in-GoesOn.ensures.links in
     let below = changed-arm c.sub_conv-below.result c.changed-below.result c.sub_conv-below.ensures.converts (c.changed-below.ensures.changed _) in
     let second = link-costs c.sub_conv-below.new.library.recorder.theory
-        (proved_by c.sub_conv-below.new.library.recorder.theory c.in-GoesOn.chain) c.args.t.now _ c.changed-below.result c.in-GoesOn-link.chain below
-        c.in-GoesOn-link.ensures.links in
+    (proved_by c.sub_conv-below.new.library.recorder.theory c.in-GoesOn.chain) c.args.t.now _ c.changed-below.result c.in-GoesOn-link.chain below
+    c.in-GoesOn-link.ensures.links in
     let third = link-costs c.converted-again.new.library.recorder.theory
-        (proved_by c.converted-again.new.library.recorder.theory c.in-GoesOn-link.chain) c.args.t.now _ c.converted-again.result
-        c.in-GoesOn-link-2.chain c.converted-again.ensures.converts c.in-GoesOn-link-2.ensures.links in
+    (proved_by c.converted-again.new.library.recorder.theory c.in-GoesOn-link.chain) c.args.t.now _ c.converted-again.result
+    c.in-GoesOn-link-2.chain c.converted-again.ensures.converts c.in-GoesOn-link-2.ensures.links in
     omega (arith, first, second, third)
 
 pub top_depth_conv-loop-chain-preserved : goal.top_depth_conv-loop-chain-preserved
@@ -466,12 +466,12 @@ top_depth_conv-loop-chain-preserved g t c =
     let so_far = top-start (ap (with_leaves (g.L.Leaves.means c.args.leaves.now)) c.requires.whole) c.loop-chain.invariant.0 in
     let before = continued-twice c.loop-chain.invariant.1 (continued-twice c.repeatc-here.ensures.makes.continued c.in-GoesOn.ensures.continued) in
     let so_far = joined_defined _ _ _ _ refl
-        (link-on c.loop-chain.chain _ c.in-GoesOn.chain so_far c.loop-chain.invariant.1 c.repeatc-here.ensures.converts c.repeatc-here.ensures.makes
-        c.in-GoesOn.ensures.links) in
+    (link-on c.loop-chain.chain _ c.in-GoesOn.chain so_far c.loop-chain.invariant.1 c.repeatc-here.ensures.converts c.repeatc-here.ensures.makes
+    c.in-GoesOn.ensures.links) in
     let below = changed-arm c.sub_conv-below.result c.changed-below.result
-        (top-below c.sub_conv-below.result
-        (ap (with_leaves (g.L.Leaves.means c.args.leaves.now)) c.requires.whole) c.sub_conv-below.ensures.converts)
-        (c.changed-below.ensures.changed _) in
+    (top-below c.sub_conv-below.result
+    (ap (with_leaves (g.L.Leaves.means c.args.leaves.now)) c.requires.whole) c.sub_conv-below.ensures.converts)
+    (c.changed-below.ensures.changed _) in
     let makes = changed-makes c.sub_conv-below.result c.changed-below.result c.sub_conv-below.ensures.makes c.changed-below.ensures.same in
     let so_far = joined_defined _ _ _ _ refl (link-on c.in-GoesOn.chain _ c.in-GoesOn-link.chain (joined_tried _ _ _ _ so_far) before below makes c.in-GoesOn-link.ensures.links) in
     let before = continued-twice before (continued-twice makes.continued c.in-GoesOn-link.ensures.continued) in

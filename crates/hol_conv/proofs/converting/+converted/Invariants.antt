@@ -53,7 +53,7 @@ abbrev pub invariant-thenc-loop-other : goal.invariant-thenc-loop-other
 invariant-thenc-loop-other g l =
     ThencSoFar l.fn.library.recorder.theory (store_in l.fn.library) (g.L.Leaves.hosts l.leaves) l.depth
     l.fn.fuel.left (thenc_of (g.L.Leaves.means l.leaves) l.first l.others) l.t l.fuel.left (theorem_of l.fn.library.recorder.theory l.t l.made)
-        (all_stand_for (g.L.Leaves.means l.leaves) (drop l.other-index l.others))
+    (all_stand_for (g.L.Leaves.means l.leaves) (drop l.other-index l.others))
     × IsContinued l.fn.library l.library
     × IsLibrary l.library
     × IsAnswerOf l.library l.t l.made

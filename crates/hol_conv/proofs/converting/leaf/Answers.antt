@@ -12,7 +12,7 @@ returns-clause-converts g c depth =
     subst
     (λ (answer : Result Theorem Fault).
     Converts library.recorder.theory (store_in library) (g.L.Leaves.hosts c.args.leaves.now) depth c.args.fuel.now.left
-        (stands_for (g.L.Leaves.means c.args.leaves.now) c.args.conv.now) c.args.t.now answer
+    (stands_for (g.L.Leaves.means c.args.leaves.now) c.args.conv.now) c.args.t.now answer
     c.try_leaf.new.fuel.left)
     (sym (c.as_answer.ensures.answered library.recorder.theory c.args.t.now)) (c.try_leaf.ensures.converts depth)
 

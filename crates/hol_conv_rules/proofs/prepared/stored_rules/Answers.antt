@@ -15,7 +15,7 @@ returns-in-Some-clause-library c =
 pub returns-in-Some-clause-err : goal.returns-in-Some-clause-err
 returns-in-Some-clause-err c =
     refused-rules (store_in c.args.library.now) c.args.name.now c.in-Some.theorem.now.theorem c.rules_of.result
-        (ap (option_map (λ (made : Recorded). made.theorem)) (sym c.in-Some.ensures.found)) c.rules_of.ensures.err
+    (ap (option_map (λ (made : Recorded). made.theorem)) (sym c.in-Some.ensures.found)) c.rules_of.ensures.err
 
 pub returns-in-None-clause-err : goal.returns-in-None-clause-err
 returns-in-None-clause-err c = is_unnamed (ap (option_map (λ (made : Recorded). made.theorem)) (sym c.in-None.ensures.found))

@@ -9,9 +9,9 @@ pub returns-in-Err-clause-err : goal.returns-in-Err-clause-err
 returns-in-Err-clause-err c =
     let all = c.deref.result.now in
     refused_is (opening_of c.args.opening.now) (step_of c.args.refinement) (take (length all - 1) (drop 1 all)) c.in_ok-parts.parts.items
-        (drop 1 (goals_of c.args.opening.now.goals.items)) c.in-Err.fault
+    (drop 1 (goals_of c.args.opening.now.goals.items)) c.in-Err.fault
     (ap goals_of (take_rest all 1 ∙ ap (drop 1) c.deref.ensures.value)
-        ∙ sym (drop-map goal_of 1 c.args.opening.now.goals.items)) c.in_ok-parts.ensures.ok (rw c.deref-3.ensures.value at c.in-Err.ensures.err)
+    ∙ sym (drop-map goal_of 1 c.args.opening.now.goals.items)) c.in_ok-parts.ensures.ok (rw c.deref-3.ensures.value at c.in-Err.ensures.err)
 
 pub returns-clause-ok : goal.returns-clause-ok
 returns-clause-ok c =
@@ -20,5 +20,5 @@ returns-clause-ok c =
     (tree_of c.in-Ok.just) (drop 1 (goals_of c.args.opening.now.goals.items))
     (ap goals_of (take_rest all 1 ∙ ap (drop 1) c.deref.ensures.value) ∙ sym (drop-map goal_of 1 c.args.opening.now.goals.items))
     (rw c.new-goals.ensures.items at
-        (rw c.deref-2.ensures.value at c.in_ok-append_goals.ensures.ok)) c.in_ok-append_goals-2.ensures.ok c.in_ok-parts.ensures.ok
-        (rw c.deref-3.ensures.value at c.in-Ok.ensures.tree)
+    (rw c.deref-2.ensures.value at c.in_ok-append_goals.ensures.ok)) c.in_ok-append_goals-2.ensures.ok c.in_ok-parts.ensures.ok
+    (rw c.deref-3.ensures.value at c.in-Ok.ensures.tree)

@@ -20,4 +20,4 @@ returns-then-one-number c = λ entries are.
 pub returns : goal.returns
 returns c = λ entries are.
     kept_at 0 entries _ are c.partition_point-place.result c.in-Some.one.now c.args.number
-        (slice_get_read _ _ _ _ refl c.in-Some.ensures.lookup.3.0 c.in-Some.ensures.lookup.1) (omega (arith, c.if-one-number.false))
+    (slice_get_read _ _ _ _ refl c.in-Some.ensures.lookup.3.0 c.in-Some.ensures.lookup.1) (omega (arith, c.if-one-number.false))

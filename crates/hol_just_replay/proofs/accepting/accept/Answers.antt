@@ -22,7 +22,7 @@ returns-in-Err-passes_twice-clause-answer c =
 pub returns-clause-answer : goal.returns-clause-answer
 returns-clause-answer c =
     acceptable c.args.recorder.now.theory (theorems_in (stored_of c.args.store.now)) (goal_of c.args.goal.now)
-        (step_of c.args.step.now) c.in-Ok.ensures.answer (rw c.in-Ok.ensures.theory at c.in-Ok-passes_twice.ensures.answer)
+    (step_of c.args.step.now) c.in-Ok.ensures.answer (rw c.in-Ok.ensures.theory at c.in-Ok-passes_twice.ensures.answer)
 
 pub returns-clause-valid : goal.returns-clause-valid
 returns-clause-valid c =

@@ -13,7 +13,7 @@ replay_passes-requires-clause-store c = store-stays c.args.recorder.now c.falsit
 pub returns-in-Err-clause-answer : goal.returns-in-Err-clause-answer
 returns-in-Err-clause-answer c =
     unassumed c.args.recorder.now.theory (named_sequents (stored_of c.args.store.now)) (falsity_from false_term) false_term (goal_of c.args.goal.now)
-        (step_of c.args.step.now) c.in-Err.fault c.in-Err.ensures.drawn c.in-Err.ensures.fits
+    (step_of c.args.step.now) c.in-Err.fault c.in-Err.ensures.drawn c.in-Err.ensures.fits
 
 pub returns-clause-answer : goal.returns-clause-answer
 returns-clause-answer c = rw c.in-Ok.ensures.continues.theory at (c.replay_passes.ensures.answer false_term c.in-Ok.ensures.drawn)

@@ -8,7 +8,7 @@ use Rattle.hol_just_replay.proofs.accepting.replay_passes.Goals as goal
 pub returns-in-Err-clause-answer : goal.returns-in-Err-clause-answer
 returns-in-Err-clause-answer c extra shows =
     unreplayed c.args.recorder.now.theory (named_sequents (stored_of c.args.store.now)) extra (goal_of c.args.goal.now)
-        (step_of c.args.step.now) c.in-Err.fault (c.in-Err.ensures.replayed extra shows) c.in-Err.ensures.refusals
+    (step_of c.args.step.now) c.in-Err.fault (c.in-Err.ensures.replayed extra shows) c.in-Err.ensures.refusals
 
 pub returns-then-not-achieves_under-clause-answer : goal.returns-then-not-achieves_under-clause-answer
 returns-then-not-achieves_under-clause-answer c extra shows =

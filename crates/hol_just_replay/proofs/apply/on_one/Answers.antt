@@ -14,10 +14,10 @@ returns-in-Disj2-clause-room c = rw c.in-Disj2.is (room-disj2 c.ty-type-in-Disj2
 pub returns-in-Spec-clause-room : goal.returns-in-Spec-clause-room
 returns-in-Spec-clause-room c =
     rw c.in-Spec.is (room-spec {journal = c.args.recorder.now} {logic =
-        c.args.logic.now} c.requires.logic c.conclusion_of-premise.ensures.legal c.ty-type-in-Spec.ensures c.conclusion_of-premise.ensures.formula
-        c.spec.ensures.outcome)
+    c.args.logic.now} c.requires.logic c.conclusion_of-premise.ensures.legal c.ty-type-in-Spec.ensures c.conclusion_of-premise.ensures.formula
+    c.spec.ensures.outcome)
 
 pub returns-in-Exists-clause-room : goal.returns-in-Exists-clause-room
 returns-in-Exists-clause-room c =
     rw c.in-Exists.is (room-exists {journal = c.args.recorder.now} {logic =
-        c.args.logic.now} c.requires.logic c.conclusion_of-premise.ensures.legal c.ty-formula.ensures c.ty-witness.ensures c.exists.ensures.outcome)
+    c.args.logic.now} c.requires.logic c.conclusion_of-premise.ensures.legal c.ty-formula.ensures c.ty-witness.ensures c.exists.ensures.outcome)

@@ -12,4 +12,4 @@ returns-clause-continues c =
 pub returns-clause-inferred : goal.returns-clause-inferred
 returns-clause-inferred c =
     (c.primitive_rules_infer.ensures c.args.recorder.now.theory c.conclusion_of-premise.ensures.legal).abs c.args.binder.now
-        c.args.premise.now.theorem c.conclusion_of-premise.ensures.formula (theorem_in c.abs.result) c.abs.ensures.outcome
+    c.args.premise.now.theorem c.conclusion_of-premise.ensures.formula (theorem_in c.abs.result) c.abs.ensures.outcome

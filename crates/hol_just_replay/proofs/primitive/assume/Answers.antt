@@ -12,4 +12,4 @@ returns-clause-continues c =
 pub returns-clause-inferred : goal.returns-clause-inferred
 returns-clause-inferred c =
     (c.primitive_rules_infer.ensures c.args.recorder.now.theory c.theory_is_legal.ensures).assume c.args.term.now c.ty-type.result.now
-        c.ty-type.ensures (theorem_in c.assume.result) c.assume.ensures.outcome
+    c.ty-type.ensures (theorem_in c.assume.result) c.assume.ensures.outcome

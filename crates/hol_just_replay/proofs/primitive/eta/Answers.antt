@@ -7,5 +7,5 @@ use Rattle.hol_just_replay.proofs.primitive.eta.Goals as goal
 pub returns-clause-continues : goal.returns-clause-continues
 returns-clause-continues c =
     axiom-continues c.eta.result c.args.recorder.now c.eta.new.self by_eta
-        (record { theory = c.args.recorder.now.theory; hypotheses = []; conclusion = eta_conclusion }) refl c.eta.ensures.ok c.eta.ensures.err
-        c.eta.ensures.recorded c.eta.ensures.kept
+    (record { theory = c.args.recorder.now.theory; hypotheses = []; conclusion = eta_conclusion }) refl c.eta.ensures.ok c.eta.ensures.err
+    c.eta.ensures.recorded c.eta.ensures.kept

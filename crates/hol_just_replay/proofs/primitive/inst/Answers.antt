@@ -8,7 +8,7 @@ use Rattle.hol_just_replay.proofs.primitive.inst.Goals as goal
 pub returns-clause-continues : goal.returns-clause-continues
 returns-clause-continues c =
     continues-changed c.inst.result c.args.recorder.now c.inst.new.self (by_inst c.args.premise.now.entry c.args.theta.now)
-        (inst_refusal c.args.recorder.now.theory c.args.theta.now c.args.premise.now.theorem) (put_all c.args.theta.now) c.args.premise.now.theorem
+    (inst_refusal c.args.recorder.now.theory c.args.theta.now c.args.premise.now.theorem) (put_all c.args.theta.now) c.args.premise.now.theorem
     c.inst.ensures.outcome c.inst.ensures.recorded c.inst.ensures.kept
 
 pub returns-clause-inferred : goal.returns-clause-inferred

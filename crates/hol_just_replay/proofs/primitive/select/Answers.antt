@@ -7,5 +7,5 @@ use Rattle.hol_just_replay.proofs.primitive.select.Goals as goal
 pub returns-clause-continues : goal.returns-clause-continues
 returns-clause-continues c =
     axiom-continues c.select.result c.args.recorder.now c.select.new.self by_select
-        (record { theory = c.args.recorder.now.theory; hypotheses = select_hypothesis ∷ []; conclusion = select_conclusion }) refl
-        c.select.ensures.ok c.select.ensures.err c.select.ensures.recorded c.select.ensures.kept
+    (record { theory = c.args.recorder.now.theory; hypotheses = select_hypothesis ∷ []; conclusion = select_conclusion }) refl
+    c.select.ensures.ok c.select.ensures.err c.select.ensures.recorded c.select.ensures.kept

@@ -16,8 +16,8 @@ line_answer-requires-clause-subgoals c = made-stay c.args.recorder.now c.loop-li
 pub line_answer-requires-clause-places : goal.line_answer-requires-clause-places
 line_answer-requires-clause-places c =
     rw c.deref.ensures.value (line-cites c.args.recorder.now c.loop-line.recorder
-        (expected_in c.args.recorder.now.theory
-        (stored_of c.args.store.now) c.args.subgoals.now) c.args.lines.now c.loop-line.line-index c.line-item.result
+    (expected_in c.args.recorder.now.theory
+    (stored_of c.args.store.now) c.args.subgoals.now) c.args.lines.now c.loop-line.line-index c.line-item.result
     c.loop-line.answers.items c.loop-line-test.true c.line-item.is c.loop-line.invariant)
 
 pub loop-line-preserved : goal.loop-line-preserved

@@ -7,4 +7,4 @@ use Rattle.hol_just_replay.proofs.replays.replay.Goals as goal
 pub returns-clause-answer : goal.returns-clause-answer
 returns-clause-answer c =
     replay-answers (expected_in c.args.recorder.now.theory (stored_of c.args.store.now) c.args.subgoals.now
-        (tree_of c.args.just.now)) c.replayed.result c.replayed.ensures.met c.replayed.ensures.refusals
+    (tree_of c.args.just.now)) c.replayed.result c.replayed.ensures.met c.replayed.ensures.refusals

@@ -7,8 +7,8 @@ use Rattle.hol_just_replay.proofs.replays.replayed.Goals as goal
 pub finished-requires : goal.finished-requires
 finished-requires c =
     rw (c.root-root.ensures, c.deref.ensures.value)
-        (root-there c.args.recorder.now c.line_answers.new.recorder
-        (expected_in c.args.recorder.now.theory (stored_of c.args.store.now) c.args.subgoals.now) c.args.just.now
+    (root-there c.args.recorder.now c.line_answers.new.recorder
+    (expected_in c.args.recorder.now.theory (stored_of c.args.store.now) c.args.subgoals.now) c.args.just.now
     c.lines-lines.result.now c.in-Ok.answers.items c.lines-lines.ensures c.in-Ok.ensures.replayed)
 
 pub returns-in-Err-clause-met : goal.returns-in-Err-clause-met

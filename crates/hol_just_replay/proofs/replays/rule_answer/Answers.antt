@@ -12,7 +12,7 @@ returns-then-count-gt3-clause-met c expects trees met =
 pub returns-then-count-eq0-clause-met : goal.returns-then-count-eq0-clause-met
 returns-then-count-eq0-clause-met c expects trees met =
     from-all c.args.recorder.now.theory (rule_of c.args.rule.now) expects trees c.args.places.now [] c.by_rule.result
-        (none-meet expects trees c.args.places.now (search rules)) c.by_rule.ensures.applied
+    (none-meet expects trees c.args.places.now (search rules)) c.by_rule.ensures.applied
 
 pub returns-then-count-eq1-clause-met : goal.returns-then-count-eq1-clause-met
 returns-then-count-eq1-clause-met c expects trees met =
@@ -23,24 +23,24 @@ pub returns-in-Err-premise-clause-met : goal.returns-in-Err-premise-clause-met
 returns-in-Err-premise-clause-met c expects trees met =
     kept-from c.args.recorder.now.theory (rule_of c.args.rule.now) expects trees c.args.places.now c.in-Err-premise.answer c.kept-in-Err-premise.result c.kept-in-Err-premise.ensures.value
     (from-broken c.args.recorder.now.theory (rule_of c.args.rule.now) expects trees c.args.places.now 1 c.in-Err-premise.answer
-        (omega arith) c.in-Err-premise.ensures.broken (c.in-Err-premise.ensures.met expects trees met))
+    (omega arith) c.in-Err-premise.ensures.broken (c.in-Err-premise.ensures.met expects trees met))
 
 pub returns-then-count-eq2-clause-met : goal.returns-then-count-eq2-clause-met
 returns-then-count-eq2-clause-met c expects trees met =
     from-all c.args.recorder.now.theory (rule_of c.args.rule.now) expects trees c.args.places.now (c.in-Ok.first.now.theorem ∷ c.in-Ok-premise.second.now.theorem ∷ []) c.by_rule-then-count-eq2.result
     (two-meet expects trees c.args.places.now c.in-Ok.first.now c.in-Ok-premise.second.now (search rules) (c.in-Ok.ensures.met expects trees met)
-        (c.in-Ok-premise.ensures.met expects trees met)) c.by_rule-then-count-eq2.ensures.applied
+    (c.in-Ok-premise.ensures.met expects trees met)) c.by_rule-then-count-eq2.ensures.applied
 
 pub returns-in-Err-premise-2-clause-met : goal.returns-in-Err-premise-2-clause-met
 returns-in-Err-premise-2-clause-met c expects trees met =
     kept-from c.args.recorder.now.theory (rule_of c.args.rule.now) expects trees c.args.places.now c.in-Err-premise-2.answer c.kept-in-Err-premise-2.result c.kept-in-Err-premise-2.ensures.value
     (from-broken c.args.recorder.now.theory (rule_of c.args.rule.now) expects trees c.args.places.now 2 c.in-Err-premise-2.answer
-        (omega arith) c.in-Err-premise-2.ensures.broken (c.in-Err-premise-2.ensures.met expects trees met))
+    (omega arith) c.in-Err-premise-2.ensures.broken (c.in-Err-premise-2.ensures.met expects trees met))
 
 pub returns-clause-met : goal.returns-clause-met
 returns-clause-met c expects trees met =
     from-all c.args.recorder.now.theory (rule_of c.args.rule.now) expects trees c.args.places.now
-        (c.in-Ok.first.now.theorem ∷ c.in-Ok-premise.second.now.theorem ∷ c.in-Ok-premise-2.third.now.theorem ∷ []) c.by_rule-2.result
+    (c.in-Ok.first.now.theorem ∷ c.in-Ok-premise.second.now.theorem ∷ c.in-Ok-premise-2.third.now.theorem ∷ []) c.by_rule-2.result
     (three-meet expects trees c.args.places.now c.in-Ok.first.now c.in-Ok-premise.second.now c.in-Ok-premise-2.third.now (omega arith)
     (c.in-Ok.ensures.met expects trees met) (c.in-Ok-premise.ensures.met expects trees met) (c.in-Ok-premise-2.ensures.met expects trees met)) c.by_rule-2.ensures.applied
 

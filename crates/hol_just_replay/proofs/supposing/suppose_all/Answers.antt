@@ -19,14 +19,14 @@ returns-in-Err-clause-grown c = journals-grow.twice c.args.recorder.now c.loop-g
 pub loop-goal-preserved : goal.loop-goal-preserved
 loop-goal-preserved c =
     supposes-next c.args.recorder.now c.loop-goal.recorder c.suppose_one.new.recorder (map image c.args.falsity.now.theorem.hypotheses)
-        (goals_of c.args.goals.now) c.args.goals.now c.loop-goal.goal-index c.goal-item.result
+    (goals_of c.args.goals.now) c.args.goals.now c.loop-goal.goal-index c.goal-item.result
     c.loop-goal.theorems.items c.pushed.new.theorems.items c.in-Ok.theorem c.loop-goal-test.true c.goal-item.is c.loop-goal.invariant
-        c.in-Ok.ensures.grown c.in-Ok.ensures.theory c.in-Ok.ensures.made c.in-Ok.ensures.ok c.in_ok-pushed.ensures.ok
+    c.in-Ok.ensures.grown c.in-Ok.ensures.theory c.in-Ok.ensures.made c.in-Ok.ensures.ok c.in_ok-pushed.ensures.ok
 
 pub returns-clause-ok : goal.returns-clause-ok
 returns-clause-ok c =
     supposes-all c.args.recorder.now c.loop-goal.recorder (map image c.args.falsity.now.theorem.hypotheses)
-        (goals_of c.args.goals.now) c.args.goals.now c.loop-goal.goal-index c.loop-goal.theorems.items c.loop-goal-test.false c.loop-goal.invariant
+    (goals_of c.args.goals.now) c.args.goals.now c.loop-goal.goal-index c.loop-goal.theorems.items c.loop-goal-test.false c.loop-goal.invariant
 
 pub returns-in-Err-clause-fits : goal.returns-in-Err-clause-fits
 returns-in-Err-clause-fits c =

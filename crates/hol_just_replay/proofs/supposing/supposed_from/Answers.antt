@@ -13,14 +13,14 @@ use Rattle.hol_just_replay.proofs.supposing.supposed_from.Goals as goal
 pub returns-clause-drawn : goal.returns-clause-drawn
 returns-clause-drawn c =
     contr-supposes c.args.recorder.now.theory c.args.falsity.now.theorem (goal_of c.args.goal.now) c.in-Ok.theorem.theorem
-        (theorem_in c.with_assumptions.result) c.requires.concludes c.in-Ok.ensures.inferred
+    (theorem_in c.with_assumptions.result) c.requires.concludes c.in-Ok.ensures.inferred
     (subst (λ (theory : Theory). IsDrawn
-        (with_assumptions theory (map image c.in-Ok.theorem.theorem.hypotheses)
-        (image c.in-Ok.theorem.theorem.conclusion) c.args.goal.now.asms.items) (theorem_in c.with_assumptions.result))
+    (with_assumptions theory (map image c.in-Ok.theorem.theorem.hypotheses)
+    (image c.in-Ok.theorem.theorem.conclusion) c.args.goal.now.asms.items) (theorem_in c.with_assumptions.result))
     c.in-Ok.ensures.continues.theory
     (subst (λ (assumptions : List NamedTerm).
-        IsDrawn (with_assumptions c.contr.new.recorder.theory (map image c.in-Ok.theorem.theorem.hypotheses)
-        (image c.in-Ok.theorem.theorem.conclusion) assumptions) (theorem_in c.with_assumptions.result))
+    IsDrawn (with_assumptions c.contr.new.recorder.theory (map image c.in-Ok.theorem.theorem.hypotheses)
+    (image c.in-Ok.theorem.theorem.conclusion) assumptions) (theorem_in c.with_assumptions.result))
     c.deref.ensures.value c.with_assumptions.ensures.drawn))
 
 pub returns-in-Err-clause-fits : goal.returns-in-Err-clause-fits

@@ -10,8 +10,8 @@ use Rattle.hol_prelude.proofs.stages.with_existence.Goals as goal
 pub returns-in-Ok-clause-outcome : goal.returns-in-Ok-clause-outcome
 returns-in-Ok-clause-outcome c =
     table-makes c.make_table.result c.with_cases.new.recorder.theory c.make_table.new.recorder.theory logical_definitions
-        (theorems c.in-Ok.earlier.items) (first_theorems ++ laws ++ falsity_laws ++ decider_laws ++ disjunction_theorems ++ case_theorems)
-        (first_theorems ++ laws ++ falsity_laws ++ decider_laws ++ disjunction_theorems ++ case_theorems ++ existence_theorems)
+    (theorems c.in-Ok.earlier.items) (first_theorems ++ laws ++ falsity_laws ++ decider_laws ++ disjunction_theorems ++ case_theorems)
+    (first_theorems ++ laws ++ falsity_laws ++ decider_laws ++ disjunction_theorems ++ case_theorems ++ existence_theorems)
     c.make_table.ensures.outcome c.in-Ok.ensures.outcome.ok.defined c.in-Ok.ensures.outcome.ok.theorems_are refl
 
 pub returns-in-Ok-clause-grown : goal.returns-in-Ok-clause-grown

@@ -8,4 +8,4 @@ returns-clause-goes_on c =
     let variable = c.in_ok-variable.variable in
     let theorem = c.args.theorem.now.theorem in
     outcome-goes_on c.abs.result c.args.recorder.now c.abs.new.self _ (abs_outcome theory variable theorem)
-        (abs-stands theory variable theorem) c.abs.ensures.outcome c.abs.ensures.recorded c.abs.ensures.kept
+    (abs-stands theory variable theorem) c.abs.ensures.outcome c.abs.ensures.recorded c.abs.ensures.kept

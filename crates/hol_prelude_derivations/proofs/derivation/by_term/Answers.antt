@@ -13,4 +13,4 @@ returns-clause-goes_on c =
     let theory = c.args.recorder.now.theory in
     let term = c.in_ok-term.term in
     outcome-goes_on c.assume.result c.args.recorder.now c.assume.new.self _ (assume_outcome theory term)
-        (assume-stands theory term) c.assume.ensures.outcome c.assume.ensures.recorded c.assume.ensures.kept
+    (assume-stands theory term) c.assume.ensures.outcome c.assume.ensures.recorded c.assume.ensures.kept

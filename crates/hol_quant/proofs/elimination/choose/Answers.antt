@@ -30,8 +30,8 @@ returns-then-not-eq-clause-outcome c =
     let dest = sym c.in-Some.ensures.parts in
     let generic = logical-type journal c.args.logic.now c.requires.logic c.conclusion_of-formula.ensures.legal exists_name (quantifier type_a) refl in
     let quantified = choose-parts theory generic first c.conclusion_of-formula.ensures.formula c.conclusion_of-formula.result.now
-        c.in-Some-quantified_parts.parts.quantifier.now function binder body c.conclusion_of-formula.ensures.value parts.whole parts.named
-        parts.abstraction in
+    c.in-Some-quantified_parts.parts.quantifier.now function binder body c.conclusion_of-formula.ensures.value parts.whole parts.named
+    parts.abstraction in
     let type_is = quantified-type theory first.conclusion function binder body quantified c.ty.result.now c.ty.ensures in
     choose-mismatch theory term first second function binder body name ty (image term ∷ terms_of_theorem first ++ terms_of_theorem second) dest quantified
     (ap (λ t. type_eq t ty) type_is ∙ sym c.eq.ensures.value ∙ c.if-not-eq.true)
@@ -55,8 +55,8 @@ returns-in-Err-clause-outcome c =
     let dest = sym c.in-Some.ensures.parts in
     let generic = logical-type journal c.args.logic.now c.requires.logic c.conclusion_of-formula.ensures.legal exists_name (quantifier type_a) refl in
     let quantified = choose-parts theory generic first c.conclusion_of-formula.ensures.formula c.conclusion_of-formula.result.now
-        c.in-Some-quantified_parts.parts.quantifier.now function binder body c.conclusion_of-formula.ensures.value parts.whole parts.named
-        parts.abstraction in
+    c.in-Some-quantified_parts.parts.quantifier.now function binder body c.conclusion_of-formula.ensures.value parts.whole parts.named
+    parts.abstraction in
     let type_is = quantified-type theory first.conclusion function binder body quantified c.ty.result.now c.ty.ensures in
     let chosen = choose-start theory term first second function binder body name ty dest quantified (type_is ∙ c.eq.ensures.same.0 c.if-not-eq.false) in
     let at = chosen.at in
@@ -83,8 +83,8 @@ returns-then-is_free-clause-outcome c =
     let dest = sym c.in-Some.ensures.parts in
     let generic = logical-type journal c.args.logic.now c.requires.logic c.conclusion_of-formula.ensures.legal exists_name (quantifier type_a) refl in
     let quantified = choose-parts theory generic first c.conclusion_of-formula.ensures.formula c.conclusion_of-formula.result.now
-        c.in-Some-quantified_parts.parts.quantifier.now function binder body c.conclusion_of-formula.ensures.value parts.whole parts.named
-        parts.abstraction in
+    c.in-Some-quantified_parts.parts.quantifier.now function binder body c.conclusion_of-formula.ensures.value parts.whole parts.named
+    parts.abstraction in
     let type_is = quantified-type theory first.conclusion function binder body quantified c.ty.result.now c.ty.ensures in
     let chosen = choose-start theory term first second function binder body name ty dest quantified (type_is ∙ c.eq.ensures.same.0 c.if-not-eq.false) in
     let at = chosen.at in
@@ -94,7 +94,7 @@ returns-then-is_free-clause-outcome c =
     let first_is = ap (is_free name ty) (sym c.conclusion_of-formula.ensures.value) ∙ sym c.is_free.ensures in
     choose-free theory term first second function binder body name ty chosen
     (tested-are theory term first second function binder body name ty chosen true (is_free name ty second.conclusion)
-        (is_free_in_some name ty (others theory term first second function binder body name ty chosen)) (first_is ∙ c.if-is_free.true) refl refl)
+    (is_free_in_some name ty (others theory term first second function binder body name ty chosen)) (first_is ∙ c.if-is_free.true) refl refl)
 
 pub returns-then-is_free-clause-inferred : goal.returns-then-is_free-clause-inferred
 returns-then-is_free-clause-inferred c = infers_choose c.requires.logic c.conclusion_of-formula.ensures.legal c.conclusion_of-formula.ensures.formula (returns-then-is_free-clause-outcome c)
@@ -115,8 +115,8 @@ returns-then-is_free-2-clause-outcome c =
     let dest = sym c.in-Some.ensures.parts in
     let generic = logical-type journal c.args.logic.now c.requires.logic c.conclusion_of-formula.ensures.legal exists_name (quantifier type_a) refl in
     let quantified = choose-parts theory generic first c.conclusion_of-formula.ensures.formula c.conclusion_of-formula.result.now
-        c.in-Some-quantified_parts.parts.quantifier.now function binder body c.conclusion_of-formula.ensures.value parts.whole parts.named
-        parts.abstraction in
+    c.in-Some-quantified_parts.parts.quantifier.now function binder body c.conclusion_of-formula.ensures.value parts.whole parts.named
+    parts.abstraction in
     let type_is = quantified-type theory first.conclusion function binder body quantified c.ty.result.now c.ty.ensures in
     let chosen = choose-start theory term first second function binder body name ty dest quantified (type_is ∙ c.eq.ensures.same.0 c.if-not-eq.false) in
     let at = chosen.at in
@@ -127,8 +127,8 @@ returns-then-is_free-2-clause-outcome c =
     let second_is = ap (is_free name ty) (sym (c.concl.ensures.value ∙ ap (λ (t : Theorem). t.conclusion) c.thm-theorem.ensures)) ∙ sym c.is_free-2.ensures in
     choose-free theory term first second function binder body name ty chosen
     (tested-are theory term first second function binder body name ty chosen false true
-        (is_free_in_some name ty (others theory term first second function binder body name ty chosen)) (first_is ∙ c.if-is_free.false)
-        (second_is ∙ c.if-is_free-2.true) refl)
+    (is_free_in_some name ty (others theory term first second function binder body name ty chosen)) (first_is ∙ c.if-is_free.false)
+    (second_is ∙ c.if-is_free-2.true) refl)
 
 pub returns-then-is_free-2-clause-inferred : goal.returns-then-is_free-2-clause-inferred
 returns-then-is_free-2-clause-inferred c = infers_choose c.requires.logic c.conclusion_of-formula.ensures.legal c.conclusion_of-formula.ensures.formula (returns-then-is_free-2-clause-outcome c)
@@ -149,8 +149,8 @@ returns-then-is_free_in_others-clause-outcome c =
     let dest = sym c.in-Some.ensures.parts in
     let generic = logical-type journal c.args.logic.now c.requires.logic c.conclusion_of-formula.ensures.legal exists_name (quantifier type_a) refl in
     let quantified = choose-parts theory generic first c.conclusion_of-formula.ensures.formula c.conclusion_of-formula.result.now
-        c.in-Some-quantified_parts.parts.quantifier.now function binder body c.conclusion_of-formula.ensures.value parts.whole parts.named
-        parts.abstraction in
+    c.in-Some-quantified_parts.parts.quantifier.now function binder body c.conclusion_of-formula.ensures.value parts.whole parts.named
+    parts.abstraction in
     let type_is = quantified-type theory first.conclusion function binder body quantified c.ty.result.now c.ty.ensures in
     let chosen = choose-start theory term first second function binder body name ty dest quantified (type_is ∙ c.eq.ensures.same.0 c.if-not-eq.false) in
     let at = chosen.at in
@@ -165,7 +165,7 @@ returns-then-is_free_in_others-clause-outcome c =
     ∙ ap (list_any (λ h. not (same_term (image h) (image witness)) && is_free name ty h)) (sym hypotheses_are) ∙ sym c.is_free_in_others.ensures in
     choose-free theory term first second function binder body name ty chosen
     (tested-are theory term first second function binder body name ty chosen false false true (first_is ∙ c.if-is_free.false)
-        (second_is ∙ c.if-is_free-2.false) (third_is ∙ c.if-is_free_in_others.true))
+    (second_is ∙ c.if-is_free-2.false) (third_is ∙ c.if-is_free_in_others.true))
 
 pub returns-then-is_free_in_others-clause-inferred : goal.returns-then-is_free_in_others-clause-inferred
 returns-then-is_free_in_others-clause-inferred c =
@@ -188,8 +188,8 @@ eliminated-requires-clause-at c =
     let dest = sym c.in-Some.ensures.parts in
     let generic = logical-type journal c.args.logic.now c.requires.logic c.conclusion_of-formula.ensures.legal exists_name (quantifier type_a) refl in
     let quantified = choose-parts theory generic first c.conclusion_of-formula.ensures.formula c.conclusion_of-formula.result.now
-        c.in-Some-quantified_parts.parts.quantifier.now function binder body c.conclusion_of-formula.ensures.value parts.whole parts.named
-        parts.abstraction in
+    c.in-Some-quantified_parts.parts.quantifier.now function binder body c.conclusion_of-formula.ensures.value parts.whole parts.named
+    parts.abstraction in
     let type_is = quantified-type theory first.conclusion function binder body quantified c.ty.result.now c.ty.ensures in
     let chosen = choose-start theory term first second function binder body name ty dest quantified (type_is ∙ c.eq.ensures.same.0 c.if-not-eq.false) in
     chosen.at
@@ -210,8 +210,8 @@ returns-clause-outcome c =
     let dest = sym c.in-Some.ensures.parts in
     let generic = logical-type journal c.args.logic.now c.requires.logic c.conclusion_of-formula.ensures.legal exists_name (quantifier type_a) refl in
     let quantified = choose-parts theory generic first c.conclusion_of-formula.ensures.formula c.conclusion_of-formula.result.now
-        c.in-Some-quantified_parts.parts.quantifier.now function binder body c.conclusion_of-formula.ensures.value parts.whole parts.named
-        parts.abstraction in
+    c.in-Some-quantified_parts.parts.quantifier.now function binder body c.conclusion_of-formula.ensures.value parts.whole parts.named
+    parts.abstraction in
     let type_is = quantified-type theory first.conclusion function binder body quantified c.ty.result.now c.ty.ensures in
     let chosen = choose-start theory term first second function binder body name ty dest quantified (type_is ∙ c.eq.ensures.same.0 c.if-not-eq.false) in
     let at = chosen.at in
@@ -225,7 +225,7 @@ returns-clause-outcome c =
     let third_is = ap (is_free_in_some name ty) (sym others_are) ∙ sym (others-free name ty (image witness) second.hypotheses)
     ∙ ap (list_any (λ h. not (same_term (image h) (image witness)) && is_free name ty h)) (sym hypotheses_are) ∙ sym c.is_free_in_others.ensures in
     let fresh = tested-are theory term first second function binder body name ty chosen false false false (first_is ∙ c.if-is_free.false)
-        (second_is ∙ c.if-is_free-2.false) (third_is ∙ c.if-is_free_in_others.false) in
+    (second_is ∙ c.if-is_free-2.false) (third_is ∙ c.if-is_free_in_others.false) in
     choose-answers theory term first second function binder body name ty chosen c.eliminated.result fresh
     (c.eliminated.ensures.derives at chosen.formula_image (choose-fresh theory term first second function binder body name ty chosen fresh)) c.eliminated.ensures.names
 

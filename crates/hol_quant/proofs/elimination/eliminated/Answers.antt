@@ -61,9 +61,9 @@ returns-in-Err-by_formula_lemma-clause-derives c at is none =
     (subst (λ (t : Nameless). Shows first (images first) t) (is ∙ sym (formula-at theory function binder argument at q)) (shows-itself first)) in
     past-room c.in-Err-by_formula_lemma.fault (formula_lemma_fits at.ty function q (over_predicate exists_name) eliminated) (room theory function binder argument at q)
     (subst (λ (t : NamedTerm). DerivesIf (formula_lemma_fits at.ty function t (over_predicate exists_name) eliminated)
-        (Err c.in-Err-by_formula_lemma.fault) (images first) (at_formula at.ty function t eliminated)) c.conclusion_of-formula.ensures.value
+    (Err c.in-Err-by_formula_lemma.fault) (images first) (at_formula at.ty function t eliminated)) c.conclusion_of-formula.ensures.value
     (c.in-Err-by_formula_lemma.ensures.derives at.ty function_there argument_there formula_there (images first)
-        (over_predicate exists_name) eliminated (exists-shows c.theorem_of-lemma.result.now.theorem c.theorem_of-lemma.ensures.theorem) premise))
+    (over_predicate exists_name) eliminated (exists-shows c.theorem_of-lemma.result.now.theorem c.theorem_of-lemma.ensures.theorem) premise))
     (cases-fit theory function binder argument at q sufficient.conclusion enough.typed enough.is enough.fresh enough.fresh_q)
 
 pub implied-requires-clause-logic : goal.implied-requires-clause-logic
@@ -91,7 +91,7 @@ returns-clause-derives c at is none =
     let fits = room theory function binder argument at q in
     let here = closed at.name at.ty at.body in
     let always = subst (λ (t : Nameless). Shows c.in-Ok-generalized_up_to_names.always.theorem (images sufficient) t)
-        (for_all-is theory function binder argument at q sufficient.conclusion enough.is enough.fresh enough.fresh_q)
+    (for_all-is theory function binder argument at q sufficient.conclusion enough.is enough.fresh enough.fresh_q)
     (c.in-Ok-generalized_up_to_names.ensures.derives at.other at.ty fits
     (subst (λ (th : Theory). MayGeneralize th sufficient argument at.other at.ty) (sym c.in-Ok.ensures.continues.theory) enough.may)
     (for_all-fits theory function binder argument at q sufficient.conclusion enough.typed enough.is)) in
@@ -104,12 +104,12 @@ returns-clause-derives c at is none =
     (subst (λ (t : Nameless). Shows first (images first) t) (is ∙ sym (formula-at theory function binder argument at q)) (shows-itself first)) in
     let by_lemma = subst (λ (t : NamedTerm). Shows c.in-Ok-by_formula_lemma.cases.theorem (images first) (at_formula at.ty function t eliminated)) c.conclusion_of-formula.ensures.value
     (c.in-Ok-by_formula_lemma.ensures.derives at.ty function_there argument_there formula_there (images first)
-        (over_predicate exists_name) eliminated (exists-shows c.theorem_of-lemma.result.now.theorem c.theorem_of-lemma.ensures.theorem) premise) in
+    (over_predicate exists_name) eliminated (exists-shows c.theorem_of-lemma.result.now.theorem c.theorem_of-lemma.ensures.theorem) premise) in
     let cases = subst (λ (t : Nameless). Shows c.in-Ok-by_formula_lemma.cases.theorem (images first) t) (eliminates-at theory function binder argument at q) by_lemma in
     let answer = subst (λ (t : NamedTerm).
-        Shows c.in-Ok-by_formula_lemma.cases.theorem (images first) (nameless.implication (suffices at.ty here (image q)) (image t))
-        → FitsIf fits (nameless_equation bool_type (nameless.implication (suffices at.ty here (image q)) (image t)) (image t))
-        → DerivesIf fits c.implied.result (images sufficient ++ images first) (image t)) c.conclusion_of-formula.ensures.value
+    Shows c.in-Ok-by_formula_lemma.cases.theorem (images first) (nameless.implication (suffices at.ty here (image q)) (image t))
+    → FitsIf fits (nameless_equation bool_type (nameless.implication (suffices at.ty here (image q)) (image t)) (image t))
+    → DerivesIf fits c.implied.result (images sufficient ++ images first) (image t)) c.conclusion_of-formula.ensures.value
     (λ one room_for. c.implied.ensures.derives (images first) (images sufficient) (suffices at.ty here (image q)) fits one always room_for)
     cases (implied-fits theory function binder argument at q sufficient.conclusion enough.typed enough.is enough.fresh enough.fresh_q) in
     derives-set fits c.implied.result (images sufficient ++ images first) (images first ++ others) (image q) (enough.set (images first)) answer

@@ -19,7 +19,7 @@ returns-in-Err-clause-derives c at is =
     let argument = c.args.argument.now in
     past-room c.in-Err.fault (conversion_fits at.name at.ty bool_type at.body argument) (is_roomy (formula theory function binder argument at))
     (c.in-Err.ensures.derives at.name at.ty bool_type at.body at.function_is at.binder_is at.body_typed
-        (argument-typed theory function binder argument at) (none-unknown theory function binder argument at))
+    (argument-typed theory function binder argument at) (none-unknown theory function binder argument at))
     (conversion-fits theory function binder argument at)
 
 pub returns-in-Err-assume-clause-derives : goal.returns-in-Err-assume-clause-derives
@@ -37,7 +37,7 @@ returns-clause-derives c at is =
     let redex = applied theory function binder argument at in
     let result = witness theory function binder argument at in
     let equation = c.in-Ok.ensures.derives at.name at.ty bool_type at.body at.function_is at.binder_is at.body_typed
-        (argument-typed theory function binder argument at) (none-unknown theory function binder argument at) in
+    (argument-typed theory function binder argument at) (none-unknown theory function binder argument at) in
     let known = subst (λ (t : NamedTerm). IsKnown theory (image t) bool_type) (sym is) (applied-formula theory function binder argument at).known in
     let redex_is : image c.args.applied.now ≡ redex = ap image is ∙ applied_image theory function binder argument at in
     let assumed = subst (λ (t : Nameless). Shows c.in-Ok-assume.assumed.theorem (t ∷ []) t) redex_is

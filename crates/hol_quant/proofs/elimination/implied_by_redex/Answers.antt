@@ -81,6 +81,6 @@ returns-clause-derives c at =
     c.in-Ok-cut.ensures.derives (redex ∷ []) (images premise) w (image q) (c.in-Ok-from_redex.ensures.derives at made_is) (shows-itself premise) in
     let enough : FitsIf fits (disch_equation redex (image q)) =
     disch-fits fits redex (image q) (λ all. applied-sized theory function binder argument at (first-roomy theory function binder argument at q all))
-        (second-sized theory function binder argument at q) in
+    (second-sized theory function binder argument at q) in
     subst (λ (t : Nameless). DerivesIf fits c.discharged.result (without t left) (nameless.implication t (image q))) redex_is
     (c.discharged.ensures.derives left (image q) fits consequent (subst (λ (t : Nameless). FitsIf fits (disch_equation t (image q))) (sym redex_is) enough))

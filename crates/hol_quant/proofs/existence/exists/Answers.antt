@@ -83,7 +83,7 @@ returns-then-not-is_instance-clause-outcome c =
     let at = start.parts in
     let conclusion_is : c.concl-conclusion.result.now ≡ premise.conclusion = c.concl-conclusion.ensures.value ∙ ap (λ (t : Theorem). t.conclusion) c.thm.ensures in
     let tested = ap (λ (t : NamedTerm). same_term (fill (image witness) (close at.name at.ty (image body))) (image t)) (sym conclusion_is)
-        ∙ sym (c.in-Ok-is_body_with.ensures.ok at.name at.ty at.binder_is start.typed) ∙ c.if-not-is_instance.true in
+    ∙ sym (c.in-Ok-is_body_with.ensures.ok at.name at.ty at.binder_is start.typed) ∙ c.if-not-is_instance.true in
     not_alpha-refused theory formula witness premise at.name at.ty body at.dest start.typed c.in-Ok.ensures.ok c.in-Ok-pass_known.ensures.ok tested
 
 pub returns-then-not-is_instance-clause-inferred : goal.returns-then-not-is_instance-clause-inferred
@@ -106,13 +106,13 @@ returns-clause-outcome c =
     let at = start.parts in
     let conclusion_is : c.concl-conclusion.result.now ≡ premise.conclusion = c.concl-conclusion.ensures.value ∙ ap (λ (t : Theorem). t.conclusion) c.thm.ensures in
     let tested = ap (λ (t : NamedTerm). same_term (fill (image witness) (close at.name at.ty (image body))) (image t)) (sym conclusion_is)
-        ∙ sym (c.in-Ok-is_body_with.ensures.ok at.name at.ty at.binder_is start.typed) ∙ c.if-not-is_instance.false in
+    ∙ sym (c.in-Ok-is_body_with.ensures.ok at.name at.ty at.binder_is start.typed) ∙ c.if-not-is_instance.false in
     let generic = logical-type c.args.recorder.now c.args.logic.now c.requires.logic c.theory_is_legal.ensures exists_name (quantifier type_a) refl in
     let witnessed = witnessed-at theory generic formula witness c.ty-formula_type.result.now c.ty-formula_type.ensures c.in-Ok.ensures.ok
-        c.in-Ok-pass_known.ensures.ok parts.quantifier.now function binder body
+    c.in-Ok-pass_known.ensures.ok parts.quantifier.now function binder body
     c.in-Some.ensures.whole c.in-Some.ensures.named c.in-Some.ensures.abstraction at start.typed (image premise.conclusion) tested in
     exists-answers theory formula witness premise at.name at.ty body at.dest start.typed c.in-Ok.ensures.ok c.in-Ok-pass_known.ensures.ok tested
-        c.witnessed.result (c.witnessed.ensures.derives witnessed) c.witnessed.ensures.names
+    c.witnessed.result (c.witnessed.ensures.derives witnessed) c.witnessed.ensures.names
 
 pub returns-clause-inferred : goal.returns-clause-inferred
 returns-clause-inferred c = infers_exists c.requires.logic c.theory_is_legal.ensures c.ty-formula_type.ensures c.ty-witness_type.ensures (returns-clause-outcome c)

@@ -37,7 +37,7 @@ returns-in-Err-converted-clause-derives c formula at =
     let instance = image premise.conclusion in
     conversion-past theory formula function binder body witness instance at c.in-Err-converted.fault
     (c.in-Err-converted.ensures.derives at.parts.name at.parts.ty bool_type body at.parts.function_is at.parts.binder_is at.parts.body_typed
-        at.witness_typed (redex_passes theory formula function binder body witness instance at))
+    at.witness_typed (redex_passes theory formula function binder body witness instance at))
 
 pub equal_to_truth-requires-clause-lemma : goal.equal_to_truth-requires-clause-lemma
 equal_to_truth-requires-clause-lemma c =
@@ -75,12 +75,12 @@ returns-in-Err-trans-clause-derives c formula at =
     let premise = c.args.premise.now.theorem in
     let instance = image premise.conclusion in
     let conversion = c.in-Ok-converted.ensures.derives at.parts.name at.parts.ty bool_type body at.parts.function_is at.parts.binder_is
-        at.parts.body_typed at.witness_typed (redex_passes theory formula function binder body witness instance at) in
+    at.parts.body_typed at.witness_typed (redex_passes theory formula function binder body witness instance at) in
     let conversion_shown = conversion-at theory formula function binder body witness instance at c.in-Ok-converted.conversion.theorem conversion in
     truth-past theory formula function binder body witness instance at c.in-Err-trans.fault
     (c.in-Err-trans.ensures.derives [] (images premise) bool_type
-        (redex theory formula function binder body witness instance at) instance truth conversion_shown
-        (c.in-Ok-equal_to_truth.ensures.derives (is_roomy instance) (roomy-fits instance)))
+    (redex theory formula function binder body witness instance at) instance truth conversion_shown
+    (c.in-Ok-equal_to_truth.ensures.derives (is_roomy instance) (roomy-fits instance)))
 
 pub from_truth-requires-clause-lemma : goal.from_truth-requires-clause-lemma
 from_truth-requires-clause-lemma c =
@@ -102,19 +102,19 @@ returns-clause-derives c formula at =
     let premise = c.args.premise.now.theorem in
     let instance = image premise.conclusion in
     let conversion = c.in-Ok-converted.ensures.derives at.parts.name at.parts.ty bool_type body at.parts.function_is at.parts.binder_is
-        at.parts.body_typed at.witness_typed (redex_passes theory formula function binder body witness instance at) in
+    at.parts.body_typed at.witness_typed (redex_passes theory formula function binder body witness instance at) in
     let conversion_shown = conversion-at theory formula function binder body witness instance at c.in-Ok-converted.conversion.theorem conversion in
     let later : c.trans.new.recorder.theory ≡ theory = c.in-Ok-trans.ensures.continues.theory ∙ c.in-Ok-equal_to_truth.ensures.continues.theory ∙ c.in-Ok-converted.ensures.continues.theory in
     let made_is : c.in-Ok.redex ≡ combination function witness = (applied function witness c.in-Ok.redex c.in-Ok.ensures.outcome).is in
     let fits = list_all is_roomy (small theory formula function binder body witness instance at) in
     let redex_is : image c.in-Ok.redex ≡ redex theory formula function binder body witness instance at = ap image made_is ∙ redex_image theory formula function binder body witness instance at in
     let equal = c.in-Ok-trans.ensures.derives [] (images premise) bool_type
-        (redex theory formula function binder body witness instance at) instance truth conversion_shown
-        (c.in-Ok-equal_to_truth.ensures.derives (is_roomy instance) (roomy-fits instance)) in
+    (redex theory formula function binder body witness instance at) instance truth conversion_shown
+    (c.in-Ok-equal_to_truth.ensures.derives (is_roomy instance) (roomy-fits instance)) in
     let shown = subst (λ (t : Nameless). Shows c.in-Ok-trans.redex_equal.theorem (images premise) (nameless_equation bool_type t truth)) (sym redex_is) equal in
     let known = subst (λ (th : Theory). IsKnown th (image c.in-Ok.redex) bool_type) (sym later)
-        (subst (λ (t : NamedTerm). IsKnown theory (image t) bool_type) (sym made_is)
-        (redex_known theory formula function binder body witness instance at)) in
+    (subst (λ (t : NamedTerm). IsKnown theory (image t) bool_type) (sym made_is)
+    (redex_known theory formula function binder body witness instance at)) in
     subst (λ (t : NamedTerm). DerivesIf fits c.from_truth.result (images premise) (image t)) made_is
     (c.from_truth.ensures.derives fits (images premise) known
-        (subst (λ (t : NamedTerm). FitsIf fits (image t)) (sym made_is) (redex-fits theory formula function binder body witness instance at)) shown)
+    (subst (λ (t : NamedTerm). FitsIf fits (image t)) (sym made_is) (redex-fits theory formula function binder body witness instance at)) shown)

@@ -30,7 +30,7 @@ returns-clause-derives c room h known fits shown =
     (list_all nameless_within_limits (proposition ∷ equal ∷ p ∷ nameless_equation bool_type p truth ∷ nameless_equation bool_type (nameless_equation bool_type p truth) p ∷ []))
     room c.by_lemma.result h p (back-fits room p fits)
     (subst (λ (l : List (NamedTerm × NamedTerm)).
-        DerivesIf (list_all nameless_within_limits
-        (instantiate_all [] proposition ∷ instantiate_all [] equal ∷ instance_of [] l proposition ∷ instance_of [] l equal ∷ nameless_equation
-        bool_type (instance_of [] l equal) (instance_of [] l proposition) ∷ [])) c.by_lemma.result h (instance_of [] l proposition)) theta_is
+    DerivesIf (list_all nameless_within_limits
+    (instantiate_all [] proposition ∷ instantiate_all [] equal ∷ instance_of [] l proposition ∷ instance_of [] l equal ∷ nameless_equation
+    bool_type (instance_of [] l equal) (instance_of [] l proposition) ∷ [])) c.by_lemma.result h (instance_of [] l proposition)) theta_is
     (c.by_lemma.ensures.derives refl passes h equal proposition c.requires.shows shows))

@@ -9,7 +9,7 @@ returns-in-Ok-vsubst-clause-ok c name ty binder_is argument_typed =
     let theta : List (NamedTerm × NamedTerm) = (c.in-Ok.new, c.in-Ok-copy.old) ∷ [] in
     let theta_is = pair-is c.in-Ok.new argument c.in-Ok-copy.old c.args.binder.now (variable name ty) c.in-Ok.ensures.ok c.in-Ok-copy.ensures.ok binder_is in
     c.aconv.ensures.value ∙ instance-same argument c.args.body.now c.args.other.now name ty c.ty-body_type.result.now argument_typed
-        c.ty-body_type.ensures theta theta_is c.in-Ok-vsubst.instance c.in-Ok-vsubst.ensures.outcome.1
+    c.ty-body_type.ensures theta theta_is c.in-Ok-vsubst.instance c.in-Ok-vsubst.ensures.outcome.1
 
 pub returns-in-Err-TooLarge-clause-ok : goal.returns-in-Err-TooLarge-clause-ok
 returns-in-Err-TooLarge-clause-ok c name ty binder_is argument_typed =
@@ -17,5 +17,5 @@ returns-in-Err-TooLarge-clause-ok c name ty binder_is argument_typed =
     let theta : List (NamedTerm × NamedTerm) = (c.in-Ok.new, c.in-Ok-copy.old) ∷ [] in
     let theta_is = pair-is c.in-Ok.new argument c.in-Ok-copy.old c.args.binder.now (variable name ty) c.in-Ok.ensures.ok c.in-Ok-copy.ensures.ok binder_is in
     past-differs argument c.args.body.now c.args.other.now name ty c.ty-body_type.result.now argument_typed c.ty-body_type.ensures theta theta_is
-        (rw c.in-Err-TooLarge.field-0-is at c.in-Err-TooLarge.ensures.outcome) c.ty-other_type.result.now c.ty-other_type.ensures
-        c.well_formed-2.ensures.within_limits
+    (rw c.in-Err-TooLarge.field-0-is at c.in-Err-TooLarge.ensures.outcome) c.ty-other_type.result.now c.ty-other_type.ensures
+    c.well_formed-2.ensures.within_limits

@@ -39,10 +39,10 @@ returns-in-Err-by_predicate_lemma-clause-derives c at =
     let function_known = subst (λ (th : Theory). IsKnown th (image function) (predicate at.parts.ty)) (sym later) (predicate_known theory formula function binder body witness instance at) in
     let witness_known = subst (λ (th : Theory). IsKnown th (image witness) at.parts.ty) (sym later) at.witness_known in
     let premise_shows = subst (λ (t : Nameless). Shows c.in-Ok.redex.theorem (images premise) t)
-        (sym (redex-at theory formula function binder body witness instance at)) (c.in-Ok.ensures.derives formula at) in
+    (sym (redex-at theory formula function binder body witness instance at)) (c.in-Ok.ensures.derives formula at) in
     past-room c.in-Err-by_predicate_lemma.fault (lemma_fits at.parts.ty function witness applied (over_predicate exists_name)) fits
     (c.in-Err-by_predicate_lemma.ensures.derives at.parts.ty function_known witness_known (images premise) applied
-        (over_predicate exists_name) shows premise_shows) (exists-lemma-within theory formula function binder body witness instance at)
+    (over_predicate exists_name) shows premise_shows) (exists-lemma-within theory formula function binder body witness instance at)
 
 pub returns-clause-derives : goal.returns-clause-derives
 returns-clause-derives c at =
@@ -60,9 +60,9 @@ returns-clause-derives c at =
     let function_known = subst (λ (th : Theory). IsKnown th (image function) (predicate at.parts.ty)) (sym later) (predicate_known theory formula function binder body witness instance at) in
     let witness_known = subst (λ (th : Theory). IsKnown th (image witness) at.parts.ty) (sym later) at.witness_known in
     let premise_shows = subst (λ (t : Nameless). Shows c.in-Ok.redex.theorem (images premise) t)
-        (sym (redex-at theory formula function binder body witness instance at)) (c.in-Ok.ensures.derives formula at) in
+    (sym (redex-at theory formula function binder body witness instance at)) (c.in-Ok.ensures.derives formula at) in
     let answer = subst (λ (t : Nameless). Shows c.in-Ok-by_predicate_lemma.answer.theorem (images premise) t) (formula-at theory formula function binder body witness instance at)
     (c.in-Ok-by_predicate_lemma.ensures.derives at.parts.ty function_known witness_known (images premise) applied (over_predicate exists_name) shows premise_shows) in
     derives-where (nameless_within_limits (nameless_equation bool_type (image formula) (image formula))) fits c.named.result (images premise)
-        (image formula) (exists-names-within theory formula function binder body witness instance at)
+    (image formula) (exists-names-within theory formula function binder body witness instance at)
     (c.named.ensures.derives (images premise) answer)

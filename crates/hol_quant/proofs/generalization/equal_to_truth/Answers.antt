@@ -35,7 +35,7 @@ returns-clause-derives c room fits =
     (list_all nameless_within_limits (d ∷ proposition ∷ nameless_equation bool_type p truth ∷ p ∷ nameless_equation bool_type p (nameless_equation bool_type p truth) ∷ []))
     room c.by_lemma.result (images premise) (nameless_equation bool_type p truth) (truth-fits room p fits)
     (subst (λ (l : List (NamedTerm × NamedTerm)).
-        DerivesIf (list_all nameless_within_limits
-        (instantiate_all [] d ∷ instantiate_all [] proposition ∷ instance_of [] l d ∷ instance_of [] l proposition ∷ nameless_equation bool_type
-        (instance_of [] l proposition) (instance_of [] l d) ∷ [])) c.by_lemma.result (images premise) (instance_of [] l d)) theta_is
+    DerivesIf (list_all nameless_within_limits
+    (instantiate_all [] d ∷ instantiate_all [] proposition ∷ instance_of [] l d ∷ instance_of [] l proposition ∷ nameless_equation bool_type
+    (instance_of [] l proposition) (instance_of [] l d) ∷ [])) c.by_lemma.result (images premise) (instance_of [] l d)) theta_is
     (c.by_lemma.ensures.derives refl passes (images premise) proposition d c.requires.shows shows))

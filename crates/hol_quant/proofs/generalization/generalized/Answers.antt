@@ -117,9 +117,9 @@ returns-clause-outcome c =
     let stated = c.in-Ok-over_all.ensures.derives name ty room (may-generalize theory premise binder name ty at) made_is (gen-fits theory premise binder name ty at) in
     let shown = subst (λ (t : Nameless). Shows c.in-Ok-over_all.answer.theorem (images premise) t) (sym (formula_image theory premise binder name ty at) ∙ ap image (sym formula_is)) stated in
     let derives = subst (λ (t : NamedTerm).
-        DerivesIf (nameless_within_limits (nameless_equation bool_type (image t) (image t))) c.named.result (images premise) (image t)) formula_is
-        (c.named.ensures.derives (images premise) shown) in
+    DerivesIf (nameless_within_limits (nameless_equation bool_type (image t) (image t))) c.named.result (images premise) (image t)) formula_is
+    (c.named.ensures.derives (images premise) shown) in
     gen-answers theory premise binder name ty at c.named.result
     (derives-where (nameless_within_limits (nameless_equation bool_type (image whole) (image whole))) room c.named.result (images premise)
-        (image whole) (names-within theory premise binder name ty at) derives)
+    (image whole) (names-within theory premise binder name ty at) derives)
     (subst (λ (t : NamedTerm). IfOk c.named.result (λ made. made.theorem.conclusion ≡ t)) formula_is c.named.ensures.names)

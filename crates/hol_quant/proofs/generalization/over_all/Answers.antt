@@ -47,7 +47,7 @@ returns-clause-derives c name ty room may function_is fits =
     (subst (λ (t : Nameless). Shows c.in-Ok-abs.always.theorem (images premise) t) (sym (always-at name ty p binder)) always_shows) in
     let answer = c.by_predicate_lemma.ensures.derives ty function_there binder_there (images premise) is_always (over_predicate forall_name) c.requires.forall_shows premise_shows in
     let at_abstraction = subst (λ (f : NamedTerm).
-        DerivesIf (lemma_fits ty f binder is_always (over_predicate forall_name)) c.by_predicate_lemma.result (images premise)
-        (at_predicate ty f binder (over_predicate forall_name))) function_is answer in
+    DerivesIf (lemma_fits ty f binder is_always (over_predicate forall_name)) c.by_predicate_lemma.result (images premise)
+    (at_predicate ty f binder (over_predicate forall_name))) function_is answer in
     derives-where (lemma_fits ty made binder is_always (over_predicate forall_name)) room c.by_predicate_lemma.result (images premise) (for_all name ty p) (lemma-fits name ty p room fits binder)
     (subst (λ (t : Nameless). DerivesIf (lemma_fits ty made binder is_always (over_predicate forall_name)) c.by_predicate_lemma.result (images premise) t) (formula-at name ty p binder) at_abstraction)

@@ -33,18 +33,18 @@ returns-clause-derives c ty function_known element_known is_formula h p q shown 
     let formula_is : c.in-Ok-formula_pair.of_formula ≡ (formula, variable (codes "q") bool_type) = c.in-Ok-formula_pair.ensures.ok in
     let terms_are : terms ≡ wanted_terms = λ i. predicate_is i ∷ formula_is i ∷ [] in
     let types_pass = subst (λ (l : List (HolType × HolType)). type_replacements_refusal theory l ≡ None) (sym types_are)
-        (type-passes theory ty (IsKnown-type theory (image element) ty element_known)) in
+    (type-passes theory ty (IsKnown-type theory (image element) ty element_known)) in
     let terms_pass = subst (λ (l : List (NamedTerm × NamedTerm)). replacements_refusal theory l ≡ None) (sym terms_are)
     (two-pass theory function formula (codes "P") (codes "q") (predicate ty) bool_type function_typed is_formula.typed function_known is_formula.known) in
     let premise_there = subst (λ (l : List (HolType × HolType)). Shows c.args.premise.now.theorem h (instance_of l terms p)) (sym types_are)
     (subst (λ (l : List (NamedTerm × NamedTerm)). Shows c.args.premise.now.theorem h (instance_of wanted_types l p)) (sym terms_are) premise) in
     subst (λ (l : List (NamedTerm × NamedTerm)).
-        DerivesIf (list_all nameless_within_limits
-        (instantiate_all wanted_types q ∷ instantiate_all wanted_types p ∷ instance_of wanted_types l q ∷ instance_of wanted_types l p ∷
-        nameless_equation bool_type (instance_of wanted_types l p) (instance_of wanted_types l q) ∷ [])) c.by_lemma.result h
-        (instance_of wanted_types l q)) terms_are
+    DerivesIf (list_all nameless_within_limits
+    (instantiate_all wanted_types q ∷ instantiate_all wanted_types p ∷ instance_of wanted_types l q ∷ instance_of wanted_types l p ∷
+    nameless_equation bool_type (instance_of wanted_types l p) (instance_of wanted_types l q) ∷ [])) c.by_lemma.result h
+    (instance_of wanted_types l q)) terms_are
     (subst (λ (l : List (HolType × HolType)).
-        DerivesIf (list_all nameless_within_limits
-        (instantiate_all l q ∷ instantiate_all l p ∷ instance_of l terms q ∷ instance_of l terms p ∷ nameless_equation bool_type
-        (instance_of l terms p) (instance_of l terms q) ∷ [])) c.by_lemma.result h (instance_of l terms q)) types_are
+    DerivesIf (list_all nameless_within_limits
+    (instantiate_all l q ∷ instantiate_all l p ∷ instance_of l terms q ∷ instance_of l terms p ∷ nameless_equation bool_type
+    (instance_of l terms p) (instance_of l terms q) ∷ [])) c.by_lemma.result h (instance_of l terms q)) types_are
     (c.by_lemma.ensures.derives types_pass terms_pass h p q shown premise_there))

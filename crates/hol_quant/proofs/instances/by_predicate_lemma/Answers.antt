@@ -32,18 +32,18 @@ returns-clause-derives c ty function_known element_known h p q shown premise =
     let element_is : c.in-Ok-element_pair.of_element ≡ (element, variable (codes "x") ty) = c.in-Ok-element_pair.ensures.ok ty element_typed in
     let terms_are : terms ≡ wanted_terms = λ i. predicate_is i ∷ element_is i ∷ [] in
     let types_pass = subst (λ (l : List (HolType × HolType)). type_replacements_refusal theory l ≡ None) (sym types_are)
-        (type-passes theory ty (IsKnown-type theory (image element) ty element_known)) in
+    (type-passes theory ty (IsKnown-type theory (image element) ty element_known)) in
     let terms_pass = subst (λ (l : List (NamedTerm × NamedTerm)). replacements_refusal theory l ≡ None) (sym terms_are)
     (two-pass theory function element (codes "P") (codes "x") (predicate ty) ty function_typed element_typed function_known element_known) in
     let premise_there = subst (λ (l : List (HolType × HolType)). Shows c.args.premise.now.theorem h (instance_of l terms p)) (sym types_are)
     (subst (λ (l : List (NamedTerm × NamedTerm)). Shows c.args.premise.now.theorem h (instance_of wanted_types l p)) (sym terms_are) premise) in
     subst (λ (l : List (NamedTerm × NamedTerm)).
-        DerivesIf (list_all nameless_within_limits
-        (instantiate_all wanted_types q ∷ instantiate_all wanted_types p ∷ instance_of wanted_types l q ∷ instance_of wanted_types l p ∷
-        nameless_equation bool_type (instance_of wanted_types l p) (instance_of wanted_types l q) ∷ [])) c.by_lemma.result h
-        (instance_of wanted_types l q)) terms_are
+    DerivesIf (list_all nameless_within_limits
+    (instantiate_all wanted_types q ∷ instantiate_all wanted_types p ∷ instance_of wanted_types l q ∷ instance_of wanted_types l p ∷
+    nameless_equation bool_type (instance_of wanted_types l p) (instance_of wanted_types l q) ∷ [])) c.by_lemma.result h
+    (instance_of wanted_types l q)) terms_are
     (subst (λ (l : List (HolType × HolType)).
-        DerivesIf (list_all nameless_within_limits
-        (instantiate_all l q ∷ instantiate_all l p ∷ instance_of l terms q ∷ instance_of l terms p ∷ nameless_equation bool_type
-        (instance_of l terms p) (instance_of l terms q) ∷ [])) c.by_lemma.result h (instance_of l terms q)) types_are
+    DerivesIf (list_all nameless_within_limits
+    (instantiate_all l q ∷ instantiate_all l p ∷ instance_of l terms q ∷ instance_of l terms p ∷ nameless_equation bool_type
+    (instance_of l terms p) (instance_of l terms q) ∷ [])) c.by_lemma.result h (instance_of l terms q)) types_are
     (c.by_lemma.ensures.derives types_pass terms_pass h p q shown premise_there))

@@ -81,7 +81,7 @@ converted_known-requires c =
     let redex_none = subst (λ (th : Theory). first_unknown th (combination (abstraction at.name at.ty body) term) ≡ None) (sym later)
     (no_unknown theory (combination (abstraction at.name at.ty body) term) bool_type
     (subst (λ (t : Nameless). IsKnown theory (app t (image term)) bool_type) (sym (image-abstraction at.name at.ty body))
-        (app-known theory at.ty bool_type (closed at.name at.ty body) (image term) at.function_known term_known))) in
+    (app-known theory at.ty bool_type (closed at.name at.ty body) (image term) at.function_known term_known))) in
     record {
       name = at.name;
       ty = at.ty;
@@ -119,7 +119,7 @@ returns-in-Err-converted_known-clause-outcome c =
     let redex_none = subst (λ (th : Theory). first_unknown th (combination (abstraction at.name at.ty body) term) ≡ None) (sym later)
     (no_unknown theory (combination (abstraction at.name at.ty body) term) bool_type
     (subst (λ (t : Nameless). IsKnown theory (app t (image term)) bool_type) (sym (image-abstraction at.name at.ty body))
-        (app-known theory at.ty bool_type (closed at.name at.ty body) (image term) at.function_known term_known))) in
+    (app-known theory at.ty bool_type (closed at.name at.ty body) (image term) at.function_known term_known))) in
     let fault = c.in-Err-converted_known.fault in
     spec-answers theory term premise function binder body at start.typed (Err fault) none
     (past-room fault (conversion_fits at.name at.ty bool_type body term) fits
@@ -155,7 +155,7 @@ returns-clause-outcome c =
     let redex_none = subst (λ (th : Theory). first_unknown th (combination (abstraction at.name at.ty body) term) ≡ None) (sym later)
     (no_unknown theory (combination (abstraction at.name at.ty body) term) bool_type
     (subst (λ (t : Nameless). IsKnown theory (app t (image term)) bool_type) (sym (image-abstraction at.name at.ty body))
-        (app-known theory at.ty bool_type (closed at.name at.ty body) (image term) at.function_known term_known))) in
+    (app-known theory at.ty bool_type (closed at.name at.ty body) (image term) at.function_known term_known))) in
     let result = specialized_body theory term premise function binder body at start.typed in
     let equation = c.in-Ok-converted_known.ensures.derives at.name at.ty bool_type body at.function_is at.binder_is at.body_typed start.typed redex_none in
     spec-answers theory term premise function binder body at start.typed c.eq_mp.result none

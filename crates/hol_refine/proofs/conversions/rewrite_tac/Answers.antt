@@ -25,7 +25,7 @@ rewrite-requires-clause-equations g c =
 pub by_equation-requires-clause-equation : goal.by_equation-requires-clause-equation
 by_equation-requires-clause-equation g c =
     conversions-answer-equations (g.H.Converters.conversions c.args.hosts.now) c.rules_named.new.library.recorder.theory
-        (store_in c.rules_named.new.library) 0 c.args.fuel.now.left c.rewrite.new.fuel.left
+    (store_in c.rules_named.new.library) 0 c.args.fuel.now.left c.rewrite.new.fuel.left
     (top_depth_conv (rules_conv (theorems c.deref.result.now))) c.args.goal.now.concl c.in-Ok-rewrite.theorem.theorem c.in-Ok-rewrite.ensures.outcome
 
 pub returns-in-Err-clause-outcome : goal.returns-in-Err-clause-outcome

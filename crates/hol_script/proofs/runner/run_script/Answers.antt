@@ -38,8 +38,8 @@ pieces-init g c =
 pub returns-in-Err-write_answer-clause-err : goal.returns-in-Err-write_answer-clause-err
 returns-in-Err-write_answer-clause-err g c =
     underway-broken (session_tools (g.H.Refiners.refiners c.args.host.now)
-        (g.H.Converters.conversions c.args.host.now)) c.args.script.now c.in-Some.piece.now c.in-Some.behind.now c.answer-answer.result
-        c.leading_line_feeds.result c.pieces.invariant.underway c.in-Some.ensures
+    (g.H.Converters.conversions c.args.host.now)) c.args.script.now c.in-Some.piece.now c.in-Some.behind.now c.answer-answer.result
+    c.leading_line_feeds.result c.pieces.invariant.underway c.in-Some.ensures
     (sym c.if-not-is_blank_text.ensures) c.answer-answer.ensures.turns c.leading_line_feeds.ensures.count c.in-Err-write_answer.ensures.err
 
 pub pieces-preserved : goal.pieces-preserved
@@ -60,8 +60,8 @@ pieces-preserved g c =
                 (c.pieces.line + c.line_feeds.result) c.in-Some.behind.now
                 (counts_of w.keep.new.self.summary) (names_of w.keep.new.self)) (sym w.keep.ensures.manager)
                 (underway-turned (session_tools (g.H.Refiners.refiners c.args.host.now)
-                    (g.H.Converters.conversions c.args.host.now)) c.args.script.now c.in-Some.piece.now c.in-Some.behind.now w.answer-answer.result
-                    w.leading_line_feeds.result c.line_feeds.result c.pieces.invariant.underway
+                (g.H.Converters.conversions c.args.host.now)) c.args.script.now c.in-Some.piece.now c.in-Some.behind.now w.answer-answer.result
+                w.leading_line_feeds.result c.line_feeds.result c.pieces.invariant.underway
                 c.in-Some.ensures
                 (sym w.if-not-is_blank_text.ensures) w.answer-answer.ensures.turns w.leading_line_feeds.ensures.count c.line_feeds.ensures.count w.in-Ok-write_answer.ensures.ok
                 (w.keep.ensures.counts ∙ ap (λ (s : Summary). counting_answer (counts_of s) w.answer-answer.result) same)
@@ -96,20 +96,20 @@ returns-then-is_blank_text-clause-ok g c =
 pub returns-in-Ok-write_refusal-clause-ok : goal.returns-in-Ok-write_refusal-clause-ok
 returns-in-Ok-write_refusal-clause-ok g c =
     subst (λ (manager : Manager). Finishes
-        (session_tools (g.H.Refiners.refiners c.args.host.now) (g.H.Converters.conversions c.args.host.now)) c.args.script.now
-        (g.W.Sink.contents c.args.writer.now) (g.W.Sink.contents c.write_refusal.new.writer)
+    (session_tools (g.H.Refiners.refiners c.args.host.now) (g.H.Converters.conversions c.args.host.now)) c.args.script.now
+    (g.W.Sink.contents c.args.writer.now) (g.W.Sink.contents c.write_refusal.new.writer)
     (counts_of c.keep-in-Ok-write_refusal.new.self.summary) (names_of c.keep-in-Ok-write_refusal.new.self) (state_of manager)) (sym c.keep-in-Ok-write_refusal.ensures.manager)
     (underway-unfinished (session_tools (g.H.Refiners.refiners c.args.host.now)
-        (g.H.Converters.conversions c.args.host.now)) c.args.script.now c.leading_line_feeds-2.result c.plain-refused.result c.plain-refused.ensures
-        c.pieces.invariant.underway (rw c.in_default.is at c.cut.ensures)
+    (g.H.Converters.conversions c.args.host.now)) c.args.script.now c.leading_line_feeds-2.result c.plain-refused.result c.plain-refused.ensures
+    c.pieces.invariant.underway (rw c.in_default.is at c.cut.ensures)
     (sym c.if-is_blank_text.ensures) c.leading_line_feeds-2.ensures.count
     c.in-Ok-write_refusal.ensures.ok c.keep-in-Ok-write_refusal.ensures.counts c.keep-in-Ok-write_refusal.ensures.names)
 
 pub returns-in-Err-write_refusal-clause-err : goal.returns-in-Err-write_refusal-clause-err
 returns-in-Err-write_refusal-clause-err g c =
     unfinished-broken (session_tools (g.H.Refiners.refiners c.args.host.now)
-        (g.H.Converters.conversions c.args.host.now)) c.args.script.now c.leading_line_feeds-2.result c.plain-refused.result c.plain-refused.ensures
-        c.pieces.invariant.underway (rw c.in_default.is at c.cut.ensures)
+    (g.H.Converters.conversions c.args.host.now)) c.args.script.now c.leading_line_feeds-2.result c.plain-refused.result c.plain-refused.ensures
+    c.pieces.invariant.underway (rw c.in_default.is at c.cut.ensures)
     (sym c.if-is_blank_text.ensures) c.leading_line_feeds-2.ensures.count
     c.in-Err-write_refusal.ensures.err
 

@@ -24,7 +24,7 @@ returns-in-Ok-taut-clause-answers c = λ lemmas tree steps.
 pub returns-clause-answers : goal.returns-clause-answers
 returns-clause-answers c = λ lemmas tree steps.
     tautology-refused lemmas (state_of c.args.session.now)
-        (scope_of c.args.session.now.scope) tree c.in-Ok.term c.in-Err-taut.fault c.refusal_with_row.result (scope_same c.args.session.now c.requires)
+    (scope_of c.args.session.now.scope) tree c.in-Ok.term c.in-Err-taut.fault c.refusal_with_row.result (scope_same c.args.session.now c.requires)
     (c.in-Ok.ensures tree steps) (record { within = c.well_formed-2.ensures.within_limits; named = c.well_named.ensures }) c.in-Err-taut.ensures.outcome c.refusal_with_row.ensures
 
 pub returns-clause-grows : goal.returns-clause-grows

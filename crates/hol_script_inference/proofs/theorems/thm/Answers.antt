@@ -38,7 +38,7 @@ returns-in-Err-theorem-clause-stays g c = made_stays c.args.session.now c.theore
 pub returns-in-Err-theorem-clause-later : goal.returns-in-Err-theorem-clause-later
 returns-in-Err-theorem-clause-later g c =
     later_as (state_of c.args.session.now) (state_of c.theorem.new.session)
-        (made_state c.args.session.now c.theorem.new.session (without_row (Err c.in-Err-theorem.refused)) c.in-Err-theorem.ensures.makes)
+    (made_state c.args.session.now c.theorem.new.session (without_row (Err c.in-Err-theorem.refused)) c.in-Err-theorem.ensures.makes)
 
 pub keep-requires-clause-session : goal.keep-requires-clause-session
 keep-requires-clause-session g c = made_session c.args.session.now c.theorem.new.session (Ok c.in-Ok-theorem.theorem) c.in-Ok-theorem.ensures.makes c.libraries_grow.ensures c.requires

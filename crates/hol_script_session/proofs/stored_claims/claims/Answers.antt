@@ -19,6 +19,6 @@ loop-name-preserved c =
           (further_claims stored c.args.names.now c.loop-name.name-index c.name-item.result c.as_str-name.result.now None
           (claims_of c.loop-name.claims.items) _ c.loop-name-test.true c.name-item.is
           c.as_str-name.ensures.value (sym c.get.ensures.found
-              ∙ ap (option_map (λ (made : Bor Recorded). made.now)) w.in_default.is) c.loop-name.invariant
-              (sym (append-nil (claims_of c.loop-name.claims.items))))
+          ∙ ap (option_map (λ (made : Bor Recorded). made.now)) w.in_default.is) c.loop-name.invariant
+          (sym (append-nil (claims_of c.loop-name.claims.items))))
     ]

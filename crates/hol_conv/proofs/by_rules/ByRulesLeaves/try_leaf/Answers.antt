@@ -20,5 +20,5 @@ returns-clause-converts g c depth =
     let rules = theorems c.args.self.now.rules.now in
     other-tried library.recorder.theory (store_in library) hosts (rules_conv rules) c.args._leaf.now c.args.t.now (theorem_in c.rules_conv.result) c.args.fuel.now.left _
     c.requires.leaf c.if-not-spend.ensures.spent
-        (converts_rules library.recorder.theory (store_in library) hosts c.args.t.now rules
-        (theorem_in c.rules_conv.result) c.rules_conv.ensures.rewrites) depth
+    (converts_rules library.recorder.theory (store_in library) hosts c.args.t.now rules
+    (theorem_in c.rules_conv.result) c.rules_conv.ensures.rewrites) depth

@@ -13,10 +13,10 @@ invariant_of-self-2 c = elim c.match-self.branch [
   | in-Some+in_ok-copy+else-is_err w ↦ subst
       (λ (inside : kept.Inside). IsKept (record { count = inside.count + 1; kept = inside.kept; trail = c.with_step-trail.result }))
       (sym w.self-inside-is) (record {
-    counted = one_counted _ _ _ _ c.self.invariant.counted c.with_step-trail.ensures;
-    kept = kept_grown _ _ _ _ _ _ _ _ _ w.in-Some.is c.self.invariant.kept c.self.invariant.counted c.with_step-trail.ensures w.reserve.ensures.items
-        w.push_reserved.ensures.items refl (ap (λ (t : Theorem). derived (step_of c.args.rule) (sequent_of_theorem t)) w.in_ok-copy.ensures.ok);
-  })
+        counted = one_counted _ _ _ _ c.self.invariant.counted c.with_step-trail.ensures;
+        kept = kept_grown _ _ _ _ _ _ _ _ _ w.in-Some.is c.self.invariant.kept c.self.invariant.counted c.with_step-trail.ensures w.reserve.ensures.items
+            w.push_reserved.ensures.items refl (ap (λ (t : Theorem). derived (step_of c.args.rule) (sequent_of_theorem t)) w.in_ok-copy.ensures.ok);
+      })
   | in_default w ↦ subst (λ (inside : kept.Inside). IsKept (record { count = inside.count + 1; kept = inside.kept; trail = c.with_step-trail.result })) (sym w.self-inside-is) (record {
     counted = one_counted _ _ _ _ c.self.invariant.counted c.with_step-trail.ensures;
     kept = none_kept c.with_step-trail.result.entries _ w.in_default.is;

@@ -9,4 +9,4 @@ record-requires-clause-follows c =
     let made = made_in_view shown c.args.self.now theorem c.args.theorem.now c.self.view_is c.theorem.view_is c.requires in
     in_view shown c.args.self.now _ _ c.self.view_is
     (abs-follows shown c.self.invariant c.args.binder.now c.in_ok-copy.field-0 theorem c.in-Ok.answer c.in_ok-copy.ensures.ok
-        c.well_formed-2.ensures.within_limits made c.concl-theorem.ensures.theorem c.in-Ok.ensures.outcome c.within_limits.ensures)
+    c.well_formed-2.ensures.within_limits made c.concl-theorem.ensures.theorem c.in-Ok.ensures.outcome c.within_limits.ensures)

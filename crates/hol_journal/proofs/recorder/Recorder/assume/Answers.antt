@@ -7,4 +7,4 @@ record-requires-clause-follows c =
     let shown = viewed_recorder c.self.inside in
     in_view shown c.args.self.now _ _ c.self.view_is
     (assume-follows shown c.self.invariant c.args.term.now c.in_ok-copy.field-0 c.ty-type.result.now c.in-Ok.theorem c.in_ok-copy.ensures.ok
-        c.ty-type.ensures c.well_formed-2.ensures.within_limits c.in-Ok.ensures.outcome c.within_limits.ensures)
+    c.ty-type.ensures c.well_formed-2.ensures.within_limits c.in-Ok.ensures.outcome c.within_limits.ensures)

@@ -10,7 +10,7 @@ invariant_of-self-2 c =
     definition-stored (viewed_recorder c.self.inside) c.define.new.self c.reserve.new.self.entries c.push.new.self.entries _
     c.args.name.now c.args.term.now c.ty-type.result.now c.in-Ok.theorem c.self.invariant c.reserve.ensures.same c.push.ensures
     c.ty-type.ensures c.in-Ok.ensures.outcome c.within_limits.ensures c.well_formed-2.ensures.within_limits c.in-Ok.ensures.grown
-        (λ i. defined_entry (c.in_ok-from_str.ensures.ok i) (c.in_ok-copy.ensures.ok i))
+    (λ i. defined_entry (c.in_ok-from_str.ensures.ok i) (c.in_ok-copy.ensures.ok i))
 
 pub returns-clause-recorded : goal.returns-clause-recorded
 returns-clause-recorded c = record {

@@ -9,5 +9,5 @@ record-requires-clause-follows c =
     let made = made_in_view shown c.args.self.now theorem c.args.theorem.now c.self.view_is c.theorem.view_is c.requires in
     in_view shown c.args.self.now _ _ c.self.view_is
     (inst_type-follows shown c.self.invariant c.args.theta.now c.in_ok-copied_types.field-0.items theorem c.in-Ok.answer
-        c.in_ok-copied_types.ensures.ok c.type_pairs_fit.ensures made c.concl-theorem.ensures.theorem
+    c.in_ok-copied_types.ensures.ok c.type_pairs_fit.ensures made c.concl-theorem.ensures.theorem
     c.in-Ok.ensures.outcome.0 c.in-Ok.ensures.outcome.1 c.within_limits.ensures)

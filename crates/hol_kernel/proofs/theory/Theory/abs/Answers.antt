@@ -13,14 +13,14 @@ returns-in_err-left-clause-outcome c =
     let dest : dest_equation c.args.theorem.now.conclusion ≡ Some (c.in-Some-dest_eq.left_body.now, c.in-Some-dest_eq.right_body.now) = cc (c.in-Some-dest_eq.ensures, c.concl.ensures.value) in
     let known : knows_type c.args.self.now c.in-Some.ty.now ≡ true = cc (c.knows_type.ensures, c.if-not-knows_type.false) in
     let fresh : is_free_in_hypotheses c.in-Some.name.now c.in-Some.ty.now c.args.theorem.now.hypotheses ≡ false =
-        cc (c.is_free_in_hypotheses.ensures, c.if-is_free_in_hypotheses.false, c.hyps.ensures.value) in
+    cc (c.is_free_in_hypotheses.ensures, c.if-is_free_in_hypotheses.false, c.hyps.ensures.value) in
     let p = err_from_is_err_and c.from_residual-in_err-left.result c.from_residual-in_err-left.ensures.1 in
     rw (p.1, p.2) (elim c.in_err-left.ensures [
       | inl memory ↦ inl memory
       | inr refused ↦ inr (abs-concluded c.args.self.now c.args.binder.now c.args.theorem.now _ _ _ _ binder dest known fresh
           ∙ concluded-left c.args.self.now c.args.theorem.now.hypotheses
-              (abstraction c.in-Some.name.now c.in-Some.ty.now c.in-Some-dest_eq.left_body.now)
-              (abstraction c.in-Some.name.now c.in-Some.ty.now c.in-Some-dest_eq.right_body.now) _
+          (abstraction c.in-Some.name.now c.in-Some.ty.now c.in-Some-dest_eq.left_body.now)
+          (abstraction c.in-Some.name.now c.in-Some.ty.now c.in-Some-dest_eq.right_body.now) _
           (sym (abstraction-limited c.args.binder.now c.in-Some-dest_eq.left_body.now _ _ binder) ∙ refused))
     ])
 
@@ -30,14 +30,14 @@ returns-in_err-right-clause-outcome c =
     let dest : dest_equation c.args.theorem.now.conclusion ≡ Some (c.in-Some-dest_eq.left_body.now, c.in-Some-dest_eq.right_body.now) = cc (c.in-Some-dest_eq.ensures, c.concl.ensures.value) in
     let known : knows_type c.args.self.now c.in-Some.ty.now ≡ true = cc (c.knows_type.ensures, c.if-not-knows_type.false) in
     let fresh : is_free_in_hypotheses c.in-Some.name.now c.in-Some.ty.now c.args.theorem.now.hypotheses ≡ false =
-        cc (c.is_free_in_hypotheses.ensures, c.if-is_free_in_hypotheses.false, c.hyps.ensures.value) in
+    cc (c.is_free_in_hypotheses.ensures, c.if-is_free_in_hypotheses.false, c.hyps.ensures.value) in
     let p = err_from_is_err_and c.from_residual-in_err-right.result c.from_residual-in_err-right.ensures.1 in
     rw (p.1, p.2) (elim c.in_err-right.ensures [
       | inl memory ↦ inl memory
       | inr refused ↦ inr (abs-concluded c.args.self.now c.args.binder.now c.args.theorem.now _ _ _ _ binder dest known fresh
           ∙ concluded-right c.args.self.now c.args.theorem.now.hypotheses
-              (abstraction c.in-Some.name.now c.in-Some.ty.now c.in-Some-dest_eq.left_body.now)
-              (abstraction c.in-Some.name.now c.in-Some.ty.now c.in-Some-dest_eq.right_body.now) _
+          (abstraction c.in-Some.name.now c.in-Some.ty.now c.in-Some-dest_eq.left_body.now)
+          (abstraction c.in-Some.name.now c.in-Some.ty.now c.in-Some-dest_eq.right_body.now) _
           (sym (abstraction-limited c.args.binder.now c.in-Some-dest_eq.right_body.now _ _ binder) ∙ refused))
     ])
 
@@ -47,10 +47,10 @@ equation_theorem-requires-clause-typed c =
     let dest : dest_equation c.args.theorem.now.conclusion ≡ Some (c.in-Some-dest_eq.left_body.now, c.in-Some-dest_eq.right_body.now) = cc (c.in-Some-dest_eq.ensures, c.concl.ensures.value) in
     let left : c.in_ok-left.left ≡ abstraction c.in-Some.name.now c.in-Some.ty.now c.in-Some-dest_eq.left_body.now =
     limited-is (abstraction c.in-Some.name.now c.in-Some.ty.now c.in-Some-dest_eq.left_body.now) c.in_ok-left.left
-        (sym (abstraction-limited c.args.binder.now c.in-Some-dest_eq.left_body.now _ _ binder) ∙ c.in_ok-left.ensures) in
+    (sym (abstraction-limited c.args.binder.now c.in-Some-dest_eq.left_body.now _ _ binder) ∙ c.in_ok-left.ensures) in
     let right : c.in_ok-right.right ≡ abstraction c.in-Some.name.now c.in-Some.ty.now c.in-Some-dest_eq.right_body.now =
     limited-is (abstraction c.in-Some.name.now c.in-Some.ty.now c.in-Some-dest_eq.right_body.now) c.in_ok-right.right
-        (sym (abstraction-limited c.args.binder.now c.in-Some-dest_eq.right_body.now _ _ binder) ∙ c.in_ok-right.ensures) in
+    (sym (abstraction-limited c.args.binder.now c.in-Some-dest_eq.right_body.now _ _ binder) ∙ c.in_ok-right.ensures) in
     ap type_of left ∙ abs-types c.args.self.now c.entries.ensures.legal c.args.theorem.now c.requires c.concl.ensures.theorem c.in-Some.name.now c.in-Some.ty.now _ _ dest ∙ sym (ap type_of right)
 
 pub equation_theorem-requires-clause-theorem : goal.equation_theorem-requires-clause-theorem
@@ -59,13 +59,13 @@ equation_theorem-requires-clause-theorem c = λ ty typed.
     let dest : dest_equation c.args.theorem.now.conclusion ≡ Some (c.in-Some-dest_eq.left_body.now, c.in-Some-dest_eq.right_body.now) = cc (c.in-Some-dest_eq.ensures, c.concl.ensures.value) in
     let known : knows_type c.args.self.now c.in-Some.ty.now ≡ true = cc (c.knows_type.ensures, c.if-not-knows_type.false) in
     let fresh : is_free_in_hypotheses c.in-Some.name.now c.in-Some.ty.now c.args.theorem.now.hypotheses ≡ false =
-        cc (c.is_free_in_hypotheses.ensures, c.if-is_free_in_hypotheses.false, c.hyps.ensures.value) in
+    cc (c.is_free_in_hypotheses.ensures, c.if-is_free_in_hypotheses.false, c.hyps.ensures.value) in
     let left : c.in_ok-left.left ≡ abstraction c.in-Some.name.now c.in-Some.ty.now c.in-Some-dest_eq.left_body.now =
     limited-is (abstraction c.in-Some.name.now c.in-Some.ty.now c.in-Some-dest_eq.left_body.now) c.in_ok-left.left
-        (sym (abstraction-limited c.args.binder.now c.in-Some-dest_eq.left_body.now _ _ binder) ∙ c.in_ok-left.ensures) in
+    (sym (abstraction-limited c.args.binder.now c.in-Some-dest_eq.left_body.now _ _ binder) ∙ c.in_ok-left.ensures) in
     let right : c.in_ok-right.right ≡ abstraction c.in-Some.name.now c.in-Some.ty.now c.in-Some-dest_eq.right_body.now =
     limited-is (abstraction c.in-Some.name.now c.in-Some.ty.now c.in-Some-dest_eq.right_body.now) c.in_ok-right.right
-        (sym (abstraction-limited c.args.binder.now c.in-Some-dest_eq.right_body.now _ _ binder) ∙ c.in_ok-right.ensures) in
+    (sym (abstraction-limited c.args.binder.now c.in-Some-dest_eq.right_body.now _ _ binder) ∙ c.in_ok-right.ensures) in
     rw (left, right) (theorem-alike _ _ _ _ _ _ c.in_ok-entries.ensures.ok (c.in_ok-hypotheses.ensures.ok ∙ c.hyps-2.ensures.value) refl
     (abs-theorem c.args.self.now c.entries.ensures.legal c.args.theorem.now c.requires c.concl.ensures.theorem _ _ _ _ dest known fresh))
 
@@ -75,12 +75,12 @@ returns-clause-outcome c =
     let dest : dest_equation c.args.theorem.now.conclusion ≡ Some (c.in-Some-dest_eq.left_body.now, c.in-Some-dest_eq.right_body.now) = cc (c.in-Some-dest_eq.ensures, c.concl.ensures.value) in
     let known : knows_type c.args.self.now c.in-Some.ty.now ≡ true = cc (c.knows_type.ensures, c.if-not-knows_type.false) in
     let fresh : is_free_in_hypotheses c.in-Some.name.now c.in-Some.ty.now c.args.theorem.now.hypotheses ≡ false =
-        cc (c.is_free_in_hypotheses.ensures, c.if-is_free_in_hypotheses.false, c.hyps.ensures.value) in
+    cc (c.is_free_in_hypotheses.ensures, c.if-is_free_in_hypotheses.false, c.hyps.ensures.value) in
     let left : c.in_ok-left.left ≡ abstraction c.in-Some.name.now c.in-Some.ty.now c.in-Some-dest_eq.left_body.now =
     limited-is (abstraction c.in-Some.name.now c.in-Some.ty.now c.in-Some-dest_eq.left_body.now) c.in_ok-left.left
-        (sym (abstraction-limited c.args.binder.now c.in-Some-dest_eq.left_body.now _ _ binder) ∙ c.in_ok-left.ensures) in
+    (sym (abstraction-limited c.args.binder.now c.in-Some-dest_eq.left_body.now _ _ binder) ∙ c.in_ok-left.ensures) in
     let right : c.in_ok-right.right ≡ abstraction c.in-Some.name.now c.in-Some.ty.now c.in-Some-dest_eq.right_body.now =
     limited-is (abstraction c.in-Some.name.now c.in-Some.ty.now c.in-Some-dest_eq.right_body.now) c.in_ok-right.right
-        (sym (abstraction-limited c.args.binder.now c.in-Some-dest_eq.right_body.now _ _ binder) ∙ c.in_ok-right.ensures) in
+    (sym (abstraction-limited c.args.binder.now c.in-Some-dest_eq.right_body.now _ _ binder) ∙ c.in_ok-right.ensures) in
     answers-concluded _ _ _ _ _ _ _ _ _ _ (abs-concluded c.args.self.now c.args.binder.now c.args.theorem.now _ _ _ _ binder dest known fresh)
     c.in_ok-entries.ensures.ok (c.in_ok-hypotheses.ensures.ok ∙ c.hyps-2.ensures.value) left right c.equation_theorem.ensures.outcome

@@ -17,7 +17,7 @@ invariant_of-self-2 c = record {
   constants = λ other. c.self.invariant.constants other ∙ ap (λ entries. generic_type entries other) c.self.view_is ∙ sym (c.requires.constants other);
   declared_types = λ other.
       let earlier : contains_text c.self.inside.declared_types other ≡ is_declared c.args.self.now other = c.self.invariant.declared_types other
-          ∙ ap (λ entries. is_declared entries other) c.self.view_is in
+      ∙ ap (λ entries. is_declared entries other) c.self.view_is in
       hash_set_updates_text (string_bytes c.in_ok-name.name) c.self.inside.declared_types c.insert.new.self true c.in_ok-insert.ensures.updates other
       ∙ either (bytes_eq (string_bytes c.in_ok-name.name) other) (contains_text c.self.inside.declared_types other)
       ∙ (λ i. bytes_eq (c.in_ok-name.ensures.ok i) other || earlier i)

@@ -11,7 +11,7 @@ pub combination-requires : goal.combination-requires
 combination-requires c =
     let first : dest_equation c.args.first.now.conclusion ≡ Some (c.in-Some.left_function.now, c.in-Some.right_function.now) = cc (c.in-Some.ensures, c.concl.ensures.value) in
     let second : dest_equation c.args.second.now.conclusion ≡ Some (c.in-Some-dest_eq.left_argument.now, c.in-Some-dest_eq.right_argument.now) =
-        cc (c.in-Some-dest_eq.ensures, c.concl-2.ensures.value) in
+    cc (c.in-Some-dest_eq.ensures, c.concl-2.ensures.value) in
     let left = applied c.in-Some.left_function.now c.in-Some-dest_eq.left_argument.now c.in_ok-left.left c.in_ok-left.ensures in
     rw (mk_comb-types c.args.self.now c.entries.ensures.legal c.args.first.now c.args.second.now c.requires.first c.requires.second c.concl.ensures.theorem c.concl-2.ensures.theorem
     _ _ _ _ left.ty first second left.typed) refl
@@ -20,7 +20,7 @@ pub returns-in_err-right-clause-outcome : goal.returns-in_err-right-clause-outco
 returns-in_err-right-clause-outcome c =
     let first : dest_equation c.args.first.now.conclusion ≡ Some (c.in-Some.left_function.now, c.in-Some.right_function.now) = cc (c.in-Some.ensures, c.concl.ensures.value) in
     let second : dest_equation c.args.second.now.conclusion ≡ Some (c.in-Some-dest_eq.left_argument.now, c.in-Some-dest_eq.right_argument.now) =
-        cc (c.in-Some-dest_eq.ensures, c.concl-2.ensures.value) in
+    cc (c.in-Some-dest_eq.ensures, c.concl-2.ensures.value) in
     let left = applied c.in-Some.left_function.now c.in-Some-dest_eq.left_argument.now c.in_ok-left.left c.in_ok-left.ensures in
     let p = err_from_is_err_and c.from_residual-in_err-right.result c.from_residual-in_err-right.ensures.1 in
     rw (p.1, p.2) (elim c.in_err-right.ensures [
@@ -34,7 +34,7 @@ pub equation_theorem-requires-clause-typed : goal.equation_theorem-requires-clau
 equation_theorem-requires-clause-typed c =
     let first : dest_equation c.args.first.now.conclusion ≡ Some (c.in-Some.left_function.now, c.in-Some.right_function.now) = cc (c.in-Some.ensures, c.concl.ensures.value) in
     let second : dest_equation c.args.second.now.conclusion ≡ Some (c.in-Some-dest_eq.left_argument.now, c.in-Some-dest_eq.right_argument.now) =
-        cc (c.in-Some-dest_eq.ensures, c.concl-2.ensures.value) in
+    cc (c.in-Some-dest_eq.ensures, c.concl-2.ensures.value) in
     let left = applied c.in-Some.left_function.now c.in-Some-dest_eq.left_argument.now c.in_ok-left.left c.in_ok-left.ensures in
     ap type_of left.is ∙ left.typed
     ∙ sym (ap type_of (limited-is (combination c.in-Some.right_function.now c.in-Some-dest_eq.right_argument.now) c.in_ok-right.right c.in_ok-right.ensures)
@@ -45,12 +45,15 @@ pub equation_theorem-requires-clause-theorem : goal.equation_theorem-requires-cl
 equation_theorem-requires-clause-theorem c = λ ty typed.
     let first : dest_equation c.args.first.now.conclusion ≡ Some (c.in-Some.left_function.now, c.in-Some.right_function.now) = cc (c.in-Some.ensures, c.concl.ensures.value) in
     let second : dest_equation c.args.second.now.conclusion ≡ Some (c.in-Some-dest_eq.left_argument.now, c.in-Some-dest_eq.right_argument.now) =
-        cc (c.in-Some-dest_eq.ensures, c.concl-2.ensures.value) in
+    cc (c.in-Some-dest_eq.ensures, c.concl-2.ensures.value) in
     let items : c.in_ok-hypotheses.hypotheses.items ≡ with_hypotheses c.args.first.now.hypotheses c.args.second.now.hypotheses =
-        cc (c.in_ok-hypotheses.ensures.ok, c.hyps.ensures.value, c.hyps-2.ensures.value) in
+    cc (c.in_ok-hypotheses.ensures.ok, c.hyps.ensures.value, c.hyps-2.ensures.value) in
     let left = applied c.in-Some.left_function.now c.in-Some-dest_eq.left_argument.now c.in_ok-left.left c.in_ok-left.ensures in
-    rw (left.is, limited-is (combination c.in-Some.right_function.now c.in-Some-dest_eq.right_argument.now) c.in_ok-right.right
-        c.in_ok-right.ensures) (theorem-alike _ _ _ _ _ _ c.in_ok-entries.ensures.ok items refl
+    rw (
+      left.is,
+      limited-is (combination c.in-Some.right_function.now c.in-Some-dest_eq.right_argument.now) c.in_ok-right.right
+          c.in_ok-right.ensures,
+    ) (theorem-alike _ _ _ _ _ _ c.in_ok-entries.ensures.ok items refl
     (mk_comb-theorem c.args.self.now c.entries.ensures.legal c.args.first.now c.args.second.now c.requires.first c.requires.second c.concl.ensures.theorem c.concl-2.ensures.theorem
     _ _ _ _ ty first second (sym (ap type_of left.is) ∙ typed)))
 
@@ -58,12 +61,12 @@ pub returns-clause-outcome : goal.returns-clause-outcome
 returns-clause-outcome c =
     let first : dest_equation c.args.first.now.conclusion ≡ Some (c.in-Some.left_function.now, c.in-Some.right_function.now) = cc (c.in-Some.ensures, c.concl.ensures.value) in
     let second : dest_equation c.args.second.now.conclusion ≡ Some (c.in-Some-dest_eq.left_argument.now, c.in-Some-dest_eq.right_argument.now) =
-        cc (c.in-Some-dest_eq.ensures, c.concl-2.ensures.value) in
+    cc (c.in-Some-dest_eq.ensures, c.concl-2.ensures.value) in
     let left = applied c.in-Some.left_function.now c.in-Some-dest_eq.left_argument.now c.in_ok-left.left c.in_ok-left.ensures in
     let items : c.in_ok-hypotheses.hypotheses.items ≡ with_hypotheses c.args.first.now.hypotheses c.args.second.now.hypotheses =
-        cc (c.in_ok-hypotheses.ensures.ok, c.hyps.ensures.value, c.hyps-2.ensures.value) in
+    cc (c.in_ok-hypotheses.ensures.ok, c.hyps.ensures.value, c.hyps-2.ensures.value) in
     let right : c.in_ok-right.right ≡ combination c.in-Some.right_function.now c.in-Some-dest_eq.right_argument.now =
-        limited-is (combination c.in-Some.right_function.now c.in-Some-dest_eq.right_argument.now) c.in_ok-right.right c.in_ok-right.ensures in
+    limited-is (combination c.in-Some.right_function.now c.in-Some-dest_eq.right_argument.now) c.in_ok-right.right c.in_ok-right.ensures in
     answers-concluded _ _ _ _ _ _ _ _ _ _ (mk_comb-concluded c.args.self.now c.args.first.now c.args.second.now _ _ _ _ left.ty first second left.typed)
     c.in_ok-entries.ensures.ok items left.is right c.equation_theorem.ensures.outcome
 
@@ -71,7 +74,7 @@ pub returns-in_err-left-clause-outcome : goal.returns-in_err-left-clause-outcome
 returns-in_err-left-clause-outcome c =
     let first : dest_equation c.args.first.now.conclusion ≡ Some (c.in-Some.left_function.now, c.in-Some.right_function.now) = cc (c.in-Some.ensures, c.concl.ensures.value) in
     let second : dest_equation c.args.second.now.conclusion ≡ Some (c.in-Some-dest_eq.left_argument.now, c.in-Some-dest_eq.right_argument.now) =
-        cc (c.in-Some-dest_eq.ensures, c.concl-2.ensures.value) in
+    cc (c.in-Some-dest_eq.ensures, c.concl-2.ensures.value) in
     let p = err_from_is_err_and c.from_residual-in_err-left.result c.from_residual-in_err-left.ensures.1 in
     rw (p.1, p.2) (elim c.in_err-left.ensures [
       | inl memory ↦ inl memory

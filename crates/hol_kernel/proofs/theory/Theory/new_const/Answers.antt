@@ -21,4 +21,4 @@ returns-clause-earlier c =
     let is : c.in_ok-entries-2.entries ≡ declaration_of_constant c.args.name.now c.args.ty.now ∷ c.args.self.now =
     cc (c.in_ok-entries-2.ensures.ok, c.in_ok-entries.ensures.ok, c.in_ok-from_str.ensures.ok, c.in_ok-copy.ensures.ok) in
     only_grows (declaration_of_constant c.args.name.now c.args.ty.now) c.args.self.now c.grow_by_constant.new.self c.in_ok-entries-2.entries
-        c.grow_by_constant.result is c.grow_by_constant.ensures.ok c.grow_by_constant.ensures.kept
+    c.grow_by_constant.result is c.grow_by_constant.ensures.ok c.grow_by_constant.ensures.kept

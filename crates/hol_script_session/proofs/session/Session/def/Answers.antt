@@ -31,16 +31,16 @@ returns-in-Err-NameTaken-clause-performs c = λ lemmas tree steps.
     let old = c.args.self.now in
     refuses_by (state_of old) (state_of c.refusal_of_definition.new.self) (def_command c.args.name.now tree) c.refusal_of_definition.result
     (ap state_of c.refusal_of_definition.ensures.kept
-        ∙ kept_state old (made old old.library.recorder c.add_const.new.self) refl c.in-Err-NameTaken.ensures.kept
-        (same_store _)) c.refusal_of_definition.ensures.fault
+    ∙ kept_state old (made old old.library.recorder c.add_const.new.self) refl c.in-Err-NameTaken.ensures.kept
+    (same_store _)) c.refusal_of_definition.ensures.fault
     (λ refused. def_is_refused (def_outcome-is (state_of old) c.args.name.now tree c.in-Ok.term (c.in-Ok.ensures tree steps) ∙ refused))
 
 pub returns-in-Err-NameTaken-clause-kept : goal.returns-in-Err-NameTaken-clause-kept
 returns-in-Err-NameTaken-clause-kept c =
     let old = c.args.self.now in
     subst IsSession (sym c.refusal_of_definition.ensures.kept)
-        (kept_session old (made old old.library.recorder c.add_const.new.self) c.requires refl c.in-Err-NameTaken.ensures.kept (same_store _)
-        (same_laws _))
+    (kept_session old (made old old.library.recorder c.add_const.new.self) c.requires refl c.in-Err-NameTaken.ensures.kept (same_store _)
+    (same_laws _))
 
 pub returns-in-Err-add_const-clause-performs : goal.returns-in-Err-add_const-clause-performs
 returns-in-Err-add_const-clause-performs c = λ lemmas tree steps.
@@ -61,14 +61,14 @@ returns-in-Ok-define-clause-performs c = λ lemmas tree steps.
 pub returns-in-Ok-define-clause-kept : goal.returns-in-Ok-define-clause-kept
 returns-in-Ok-define-clause-kept c =
     def_session c.args.self.now c.define.new.self c.add_const.new.self c.args.name.now c.in-Ok.term c.ty.result.now _ c.libraries_grow.ensures
-        c.requires c.ty.ensures c.in-Ok-add_const.ensures.ok c.in-Ok-define.ensures.ok
+    c.requires c.ty.ensures c.in-Ok-add_const.ensures.ok c.in-Ok-define.ensures.ok
 
 pub returns-clause-performs : goal.returns-clause-performs
 returns-clause-performs c = λ lemmas tree steps.
     let old = c.args.self.now in
     let new = with_scope c.define.new.self c.remove_const.new.self in
     let keeps = removed_after old c.add_const.new.self c.define.new.self c.remove_const.new.self c.args.name.now c.ty.result.now
-        c.in-Ok-add_const.ensures.ok c.in-Err-define.ensures.kept c.remove_const.ensures
+    c.in-Ok-add_const.ensures.ok c.in-Err-define.ensures.kept c.remove_const.ensures
     (not_some ((scope_of old.scope).generic_type c.args.name.now) (λ known. never (c.in-Ok-add_const.ensures.taken.1 known))) in
     refuses_by (state_of old) (state_of new) (def_command c.args.name.now tree) c.in-Err-define.fault
     (kept_state old new c.in-Err-define.ensures.kept.recorder keeps c.in-Err-define.ensures.kept.store) c.in-Err-define.ensures.err
@@ -79,7 +79,7 @@ returns-clause-kept c =
     let old = c.args.self.now in
     let new = with_scope c.define.new.self c.remove_const.new.self in
     let keeps = removed_after old c.add_const.new.self c.define.new.self c.remove_const.new.self c.args.name.now c.ty.result.now
-        c.in-Ok-add_const.ensures.ok c.in-Err-define.ensures.kept c.remove_const.ensures
+    c.in-Ok-add_const.ensures.ok c.in-Err-define.ensures.kept c.remove_const.ensures
     (not_some ((scope_of old.scope).generic_type c.args.name.now) (λ known. never (c.in-Ok-add_const.ensures.taken.1 known))) in
     kept_session old new c.requires c.in-Err-define.ensures.kept.recorder keeps c.in-Err-define.ensures.kept.store c.in-Err-define.ensures.kept.kept
 
@@ -128,6 +128,6 @@ returns-clause-later c =
     let old = c.args.self.now in
     let new = with_scope c.define.new.self c.remove_const.new.self in
     let keeps = removed_after old c.add_const.new.self c.define.new.self c.remove_const.new.self c.args.name.now c.ty.result.now
-        c.in-Ok-add_const.ensures.ok c.in-Err-define.ensures.kept c.remove_const.ensures
+    c.in-Ok-add_const.ensures.ok c.in-Err-define.ensures.kept c.remove_const.ensures
     (not_some ((scope_of old.scope).generic_type c.args.name.now) (λ known. never (c.in-Ok-add_const.ensures.taken.1 known))) in
     later_as (state_of old) (state_of new) (kept_state old new c.in-Err-define.ensures.kept.recorder keeps c.in-Err-define.ensures.kept.store)

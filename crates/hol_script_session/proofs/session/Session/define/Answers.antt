@@ -18,7 +18,7 @@ returns-clause-ok c =
     let before = c.args.self.now.library.recorder in
     let after = c.define.new.self in
     let made : IsLineOf c.in-Ok-Some.line (scope_of c.args.self.now.scope) c.as_str.result.now
-        (record { theory = []; hypotheses = []; conclusion = equation (constant c.args.name.now (own_type c.args.term.now)) c.args.term.now }) =
+    (record { theory = []; hypotheses = []; conclusion = equation (constant c.args.name.now (own_type c.args.term.now)) c.args.term.now }) =
     rw c.in-Ok-Some.field-0-is at c.in-Ok-Some.ensures in
     record {
       answer = answer;

@@ -11,7 +11,7 @@ returns-in-Err-clause-later c = later_as (state_of c.args.self.now) (state_of c.
 pub returns-in-Ok-store-clause-ok : goal.returns-in-Ok-store-clause-ok
 returns-in-Ok-store-clause-ok c =
     keeps_line c.args.self.now c.store.new.self c.args.name.now c.args.theorem.theorem c.in-Ok.line c.requires.session c.sound.ensures
-        (rw c.thm-thm.ensures at c.well_formed-2.ensures) c.requires.made.earlier
+    (rw c.thm-thm.ensures at c.well_formed-2.ensures) c.requires.made.earlier
     (rw c.thm-thm.ensures at c.in-Ok.ensures.ok) c.in-Ok-store.ensures.ok
 
 pub returns-in-Ok-store-clause-stays : goal.returns-in-Ok-store-clause-stays

@@ -13,7 +13,7 @@ log_text-requires c =
     let claimed = stored_claims stored.theorems (map string_bytes c.args.names.now) in
     let same : claims_of c.deref.result.now ≡ claimed = ap claims_of c.deref.ensures.value ∙ c.in-Ok.ensures.ok in
     subst (λ (cs : List Claimed). AreMade c.args.self.now.library.recorder cs) (sym same)
-        (stored_claims-made c.args.self.now.library.recorder stored (map string_bytes c.args.names.now) c.requires.session.library.stored)
+    (stored_claims-made c.args.self.now.library.recorder stored (map string_bytes c.args.names.now) c.requires.session.library.stored)
 
 pub returns-in-Ok-clause-ok : goal.returns-in-Ok-clause-ok
 returns-in-Ok-clause-ok c =

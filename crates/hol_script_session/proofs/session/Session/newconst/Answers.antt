@@ -35,16 +35,16 @@ returns-in-Err-NameTaken-clause-performs c = λ lemmas tree steps.
     let old = c.args.self.now in
     refuses_by (state_of old) (state_of c.refusal_of_const.new.self) (newconst_command c.args.name.now tree) c.refusal_of_const.result
     (ap state_of c.refusal_of_const.ensures.kept
-        ∙ kept_state old (made old old.library.recorder c.add_const.new.self) refl c.in-Err-NameTaken.ensures.kept
-        (same_store _)) c.refusal_of_const.ensures.fault
+    ∙ kept_state old (made old old.library.recorder c.add_const.new.self) refl c.in-Err-NameTaken.ensures.kept
+    (same_store _)) c.refusal_of_const.ensures.fault
     (λ refused. newconst_is_refused (newconst_outcome-is (state_of old) c.args.name.now tree c.in-Ok.ty (c.in-Ok.ensures.reads tree steps) ∙ refused))
 
 pub returns-in-Err-NameTaken-clause-kept : goal.returns-in-Err-NameTaken-clause-kept
 returns-in-Err-NameTaken-clause-kept c =
     let old = c.args.self.now in
     subst IsSession (sym c.refusal_of_const.ensures.kept)
-        (kept_session old (made old old.library.recorder c.add_const.new.self) c.requires refl c.in-Err-NameTaken.ensures.kept (same_store _)
-        (same_laws _))
+    (kept_session old (made old old.library.recorder c.add_const.new.self) c.requires refl c.in-Err-NameTaken.ensures.kept (same_store _)
+    (same_laws _))
 
 pub returns-in-Ok-new_const-clause-performs : goal.returns-in-Ok-new_const-clause-performs
 returns-in-Ok-new_const-clause-performs c = λ lemmas tree steps.
@@ -57,7 +57,7 @@ returns-in-Ok-new_const-clause-performs c = λ lemmas tree steps.
 pub returns-in-Ok-new_const-clause-kept : goal.returns-in-Ok-new_const-clause-kept
 returns-in-Ok-new_const-clause-kept c =
     const_session c.args.self.now c.new_const.new.self c.add_const.new.self c.args.name.now c.in-Ok.ty c.libraries_grow.ensures c.requires
-        c.in-Ok-add_const.ensures.ok c.in-Ok-new_const.ensures.outcome c.in-Ok-new_const.ensures.grown
+    c.in-Ok-add_const.ensures.ok c.in-Ok-new_const.ensures.outcome c.in-Ok-new_const.ensures.grown
 
 pub returns-clause-performs : goal.returns-clause-performs
 returns-clause-performs c = λ lemmas tree steps.

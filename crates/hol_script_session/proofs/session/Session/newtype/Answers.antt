@@ -19,7 +19,7 @@ use Rattle.hol_script_session.proofs.session.Session.newtype.Goals as goal
 pub refusal_of_type-requires : goal.refusal_of_type-requires
 refusal_of_type-requires c =
     type-not_new c.args.self.now.library.recorder.theory c.args.name.now
-        (sym (c.requires.scope.types c.args.name.now) ∙ c.in-Err-NameTaken.ensures.taken.0 (ap (λ e. Err e) c.in-Err-NameTaken.field-0-is))
+    (sym (c.requires.scope.types c.args.name.now) ∙ c.in-Err-NameTaken.ensures.taken.0 (ap (λ e. Err e) c.in-Err-NameTaken.field-0-is))
 
 pub returns-in-Err-NameTaken-clause-performs : goal.returns-in-Err-NameTaken-clause-performs
 returns-in-Err-NameTaken-clause-performs c = λ lemmas.
@@ -32,8 +32,8 @@ pub returns-in-Err-NameTaken-clause-kept : goal.returns-in-Err-NameTaken-clause-
 returns-in-Err-NameTaken-clause-kept c =
     let old = c.args.self.now in
     subst IsSession (sym c.refusal_of_type.ensures.kept)
-        (kept_session old (made old old.library.recorder c.add_type.new.self) c.requires refl c.in-Err-NameTaken.ensures.kept (same_store _)
-        (same_laws _))
+    (kept_session old (made old old.library.recorder c.add_type.new.self) c.requires refl c.in-Err-NameTaken.ensures.kept (same_store _)
+    (same_laws _))
 
 pub returns-in-Err-clause-performs : goal.returns-in-Err-clause-performs
 returns-in-Err-clause-performs c = λ lemmas.
@@ -56,7 +56,7 @@ returns-in-Ok-new_type-clause-performs c = λ lemmas.
 pub returns-in-Ok-new_type-clause-kept : goal.returns-in-Ok-new_type-clause-kept
 returns-in-Ok-new_type-clause-kept c =
     type_session c.args.self.now c.new_type.new.self c.add_type.new.self c.args.name.now c.libraries_grow.ensures c.requires c.in-Ok.ensures.ok
-        c.in-Ok-new_type.ensures.outcome c.in-Ok-new_type.ensures.grown
+    c.in-Ok-new_type.ensures.outcome c.in-Ok-new_type.ensures.grown
 
 pub returns-in-Err-new_type-clause-performs : goal.returns-in-Err-new_type-clause-performs
 returns-in-Err-new_type-clause-performs c = λ lemmas.

@@ -23,8 +23,8 @@ returns-in-Ok c = λ lemmas.
     prints (state_of session) (state_of session) (show_command c.args.name.now) c.args.name.now theorem c.in-Ok.line
     (show_prints (ap theorem_of (sym c.in-Some.ensures.found)))
     (λ beside. proved (with_beside beside (state_of session)) theorem c.sound.ensures c.requires.legal
-        (rw c.thm-thm.ensures at c.well_formed-2.ensures)
-        (c.requires.library.stored.theorems c.args.name.now c.in-Some.theorem.now (sym c.in-Some.ensures.found)).earlier)
+    (rw c.thm-thm.ensures at c.well_formed-2.ensures)
+    (c.requires.library.stored.theorems c.args.name.now c.in-Some.theorem.now (sym c.in-Some.ensures.found)).earlier)
     (subst (λ (scope : Scope). IsLineOf c.in-Ok.line scope c.args.name.now theorem) (scope_same session c.requires) (rw c.thm-thm.ensures at c.in-Ok.ensures.ok))
 
 pub returns-in-Err : goal.returns-in-Err

@@ -41,7 +41,7 @@ pub returns-in-Ok-set_var-clause-later : goal.returns-in-Ok-set_var-clause-later
 returns-in-Ok-set_var-clause-later c =
     let old = c.args.self.now in
     later_var (state_of old) (state_of (made old old.library.recorder c.set_var.new.self)) c.args.name.now c.in-Ok.ty
-        (var_state old c.set_var.new.self c.args.name.now c.in-Ok.ty c.in-Ok-set_var.ensures.ok)
+    (var_state old c.set_var.new.self c.args.name.now c.in-Ok.ty c.in-Ok-set_var.ensures.ok)
 
 pub returns-clause-later : goal.returns-clause-later
 returns-clause-later c =
