@@ -1,5 +1,6 @@
 -- BETA_CONV: a redex, the trivial one of its abstraction, and what putting the argument for the variable makes of that.
-use Rattle.std.proofs.Common.{◌≡◌, ◌+◌, ◌≤◌, ℕ, suc, List, [], ◌∷◌, Bool, true, false, ◌&&◌, not, if◌then◌else◌, refl, sym, ◌∙◌, ap, subst, inl, inr, Option, Some, None, Result, Ok, Err, IfOk, arith, nat_le}
+use Rattle.std.proofs.Common.{◌≡◌, ◌+◌, ◌≤◌, ℕ, suc, List, [], ◌∷◌, Bool, true, false, ◌&&◌, not, if◌then◌else◌, refl, sym, ◌∙◌, ap, subst, inl, inr}
+use Rattle.std.proofs.Common.{Option, Some, None, Result, Ok, Err, IfOk, arith, nat_le}
 use Rattle.std.specs.Option.{option_map, option_map_or}
 use Rattle.std.specs.List.{list_all}
 use Rattle.hol_model.specs.declared.fault.Fault.{Fault}
@@ -52,7 +53,8 @@ pub one_pair : (argument : NamedTerm) (name : List ℕ) (ty : HolType) (other : 
     → replacement ((argument, variable name ty) ∷ []) other s ≡ only name ty (image argument) other s
 one_pair argument name ty other s = go (same_variable name ty other s)
   where
-    go : (test : Bool) → option_map_or (λ (pair : NamedTerm × NamedTerm). image pair.0) (if◌then◌else◌ {A = Option (NamedTerm × NamedTerm)} test (Some (argument, variable name ty)) None) (free other s)
+    go : (test : Bool) → option_map_or (λ (pair : NamedTerm × NamedTerm). image pair.0)
+        (if◌then◌else◌ {A = Option (NamedTerm × NamedTerm)} test (Some (argument, variable name ty)) None) (free other s)
         ≡ (if test then image argument else free other s)
     go true = refl
     go false = refl
@@ -140,7 +142,9 @@ module _ (theory : Theory) (name : List ℕ) (ty codomain : HolType) (body argum
 
   closed_type : nameless_type (ty ∷ []) (close name ty (image body)) ≡ codomain
   closed_type =
-      let typed : HasType [] closed (function_type ty codomain) = subst (λ (t : Nameless). HasType [] t (function_type ty codomain)) (image-abstraction name ty body) (image-typed (abstraction name ty body) (function_type ty codomain) function_typed) in
+      let typed : HasType [] closed (function_type ty codomain) =
+      subst (λ (t : Nameless). HasType [] t (function_type ty codomain)) (image-abstraction name ty body)
+      (image-typed (abstraction name ty body) (function_type ty codomain) function_typed) in
       let is = nameless_type-is closed [] (function_type ty codomain) typed in
       cc
 
@@ -202,7 +206,8 @@ module _ (theory : Theory) (name : List ℕ) (ty codomain : HolType) (body argum
       let room = redex_room roomy in
       let few = room.codomain_few in
       sized-within 1003 10005 (nameless_equation codomain (app closed (free name ty)) (image body))
-      (sized-equation 1001 5002 5000 codomain (app closed (free name ty)) (image body) (omega arith) (omega arith) (trivial_sized room) (sized-more 1000 5000 1001 5000 (image body) room.body_sized (omega arith) (omega arith)))
+      (sized-equation 1001 5002 5000 codomain (app closed (free name ty)) (image body) (omega arith) (omega arith) (trivial_sized room)
+      (sized-more 1000 5000 1001 5000 (image body) room.body_sized (omega arith) (omega arith)))
       (omega arith) (omega arith)
 
   -- what is stated
@@ -241,7 +246,9 @@ module _ (theory : Theory) (name : List ℕ) (ty codomain : HolType) (body argum
   replacement-passes none = rw (argument_typed, type_eq-self ty) (go (knows_types theory argument) (knows_constants theory argument) (has_instances theory argument) (argument-known none))
     where
       go : (types constants instances : Bool) → (types && constants && instances) ≡ true
-          → (if not (types && true) then Some Fault.UnknownType else (if not (constants && true) then Some Fault.UnknownConst else (if not (instances && true) then Some Fault.NotInstance else None))) ≡ None
+          → (if not (types && true) then Some Fault.UnknownType else
+          (if not (constants && true) then Some Fault.UnknownConst else (if not (instances && true) then Some Fault.NotInstance else None))) ≡
+          None
       go true true true known = refl
       go true true false known = cc
       go true false instances known = cc
@@ -260,7 +267,8 @@ module _ (theory : Theory) (name : List ℕ) (ty codomain : HolType) (body argum
       → AnswersStated (theorem_in result) (image redex ∷ []) (beta_converted_outcome theory redex)
   beta_conv-stated result none theta theta_is derives =
       let is : put_all theta (nameless_equation codomain (app closed (free name ty)) (image body)) ≡ conversion =
-      ap (λ (l : List (NamedTerm × NamedTerm)). put_all l (nameless_equation codomain (app closed (free name ty)) (image body))) theta_is ∙ put-redex argument name ty codomain body body_typed ∙ sym stated_is in
+      ap (λ (l : List (NamedTerm × NamedTerm)). put_all l (nameless_equation codomain (app closed (free name ty)) (image body))) theta_is
+      ∙ put-redex argument name ty codomain body body_typed ∙ sym stated_is in
       let shown : DerivesInstance result [] conversion = subst (λ (t : Nameless). DerivesInstance result [] t) is derives in
       let roomy = derives-where (list_all nameless_within_limits (conversion ∷ [])) (list_all is_roomy (conversion ∷ [])) result [] conversion conversion-room shown in
       subst (λ (o : Result Stated Fault). AnswersStated (theorem_in result) (image redex ∷ []) o) (sym (outcome_is none))
@@ -272,7 +280,8 @@ module _ (theory : Theory) (name : List ℕ) (ty codomain : HolType) (body argum
       concludes_of (Err fault) shown = tt
 
 -- an application that is refused though its parts fit is past the limits
-pub applied-past : (fault : Fault) (function argument : NamedTerm) (ty : HolType) → type_of (combination function argument) ≡ Some ty → Answers {A = NamedTerm} (Err fault) (combination_outcome function argument)
+pub applied-past : (fault : Fault) (function argument : NamedTerm) (ty : HolType) → type_of (combination function argument) ≡ Some ty
+    → Answers {A = NamedTerm} (Err fault) (combination_outcome function argument)
     → IsPast fault (nameless_within_limits (image (combination function argument)))
 applied-past fault function argument ty typed (inl memory) = inl memory
 applied-past fault function argument ty typed (inr refusal) =

@@ -45,7 +45,9 @@ module _ (name : List ℕ) (ty codomain : HolType) (body argument : NamedTerm) (
   abbrev third_fits : Bool
   third_fits = nameless_within_limits (conversion name ty codomain body argument)
 
-  pub trivial-past : (theory : Theory) (fault : Fault) → Answers {A = NamedTerm} (Err fault) (combination_outcome (abstraction name ty body) (variable name ty)) → IsPast fault (conversion_fits name ty codomain body argument)
+  pub trivial-past : (theory : Theory) (fault : Fault)
+      → Answers {A = NamedTerm} (Err fault) (combination_outcome (abstraction name ty body) (variable name ty))
+      → IsPast fault (conversion_fits name ty codomain body argument)
   trivial-past theory fault answers =
       past-room fault first_fits (conversion_fits name ty codomain body argument)
       (subst (λ (t : Nameless). IsPast fault (nameless_within_limits (app t (free name ty)))) (image-abstraction name ty body)

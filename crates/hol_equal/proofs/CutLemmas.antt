@@ -25,7 +25,8 @@ use Rattle.hol_equal.proofs.StepLemmas.{same_sets, of_without, in_without, dest-
 use Rattle.hol_equal.proofs.Sizes.{leaves_room, past-room, sized-equation, sized-within}
 
 -- the conclusion of a theorem handed in is known
-pub conclusion-known : (journal : Journal) → IsLegal journal.theory → (made : Recorded) → IsMade journal made → IsTheorem made.theorem → IsKnown journal.theory (image made.theorem.conclusion) bool_type
+pub conclusion-known : (journal : Journal) → IsLegal journal.theory → (made : Recorded) → IsMade journal made → IsTheorem made.theorem
+    → IsKnown journal.theory (image made.theorem.conclusion) bool_type
 conclusion-known journal legal made is_made is = (Derivable-known journal.theory legal (standing journal.theory legal made.theorem is_made.earlier is)).conclusion
 
 -- so is a term of the same image
@@ -70,8 +71,11 @@ other_way : (h k : List Nameless) → IsSameSet h k → IsSameSet k h
 other_way h k same = record { to = same.back; back = same.to }
 
 -- what EQ_MP gives is the cut
-pub cut-derives : (fits : Bool) (result : Result Recorded Fault) (h k : List Nameless) (p q : Nameless) → Gives result ((without q h ++ without p k) ++ h) q → DerivesIf fits result (h ++ without p k) q
-cut-derives fits (Ok made) h k p q gives = shows-set made.theorem ((without q h ++ without p k) ++ h) (h ++ without p k) q (other_way ((without q h ++ without p k) ++ h) (h ++ without p k) (cut-set h k p q)) gives
+pub cut-derives : (fits : Bool) (result : Result Recorded Fault) (h k : List Nameless) (p q : Nameless)
+    → Gives result ((without q h ++ without p k) ++ h) q → DerivesIf fits result (h ++ without p k) q
+cut-derives fits (Ok made) h k p q gives =
+    shows-set made.theorem ((without q h ++ without p k) ++ h) (h ++ without p k) q
+    (other_way ((without q h ++ without p k) ++ h) (h ++ without p k) (cut-set h k p q)) gives
 cut-derives fits (Err fault) h k p q gives = inl gives
 
 -- EQ_MP's very answer, where the equation is that of two formulas
@@ -103,10 +107,16 @@ derives-where fits other (Err fault) h c room derives = past-room fault fits oth
 
 -- a derived rule's answer
 
-pub answers-stated : (result : Result Recorded Fault) (arguments small : List Nameless) (h : List Nameless) (c : Nameless) (sequent : Stated) → DerivesIf (list_all is_roomy small) result h c → IsSameSet h sequent.hypotheses
+pub answers-stated : (result : Result Recorded Fault) (arguments small : List Nameless) (h : List Nameless) (c : Nameless) (sequent : Stated)
+    → DerivesIf (list_all is_roomy small) result h c → IsSameSet h sequent.hypotheses
     → IfOk result (λ made. IsConclusion sequent.conclusion made.theorem.conclusion) → ((t : Nameless) → IsMember t small → IsMember t (arguments ++ terms_of_stated sequent))
     → AnswersStated (theorem_in result) arguments (Ok sequent)
-answers-stated (Ok made) arguments small h c sequent shown same concludes there = record { hypotheses = same_sets (map image made.theorem.hypotheses) h sequent.hypotheses (other_way h (map image made.theorem.hypotheses) shown.same_set) same; conclusion = concludes }
+answers-stated (Ok made) arguments small h c sequent shown same concludes there =
+    record {
+      hypotheses = same_sets (map image made.theorem.hypotheses) h sequent.hypotheses
+          (other_way h (map image made.theorem.hypotheses) shown.same_set) same;
+      conclusion = concludes;
+    }
 answers-stated (Err fault) arguments small h c sequent past same concludes there =
     past-room fault (list_all is_roomy small) (list_all is_roomy (arguments ++ terms_of_stated sequent)) past
     (λ all. each small (λ t m. member_passes is_roomy (arguments ++ terms_of_stated sequent) t all (there t m)))
@@ -145,7 +155,8 @@ assumed theory term theorem is =
     }
 
 pub add_assum-stated : (result : Result Recorded Fault) (theory : Theory) (term : NamedTerm) (first theorem : Theorem) → IsAssumed theory term first
-    → DerivesIf (nameless_within_limits (nameless_equation bool_type (image term) (image theorem.conclusion))) result (image term ∷ [] ++ without (image term) (images theorem)) (image theorem.conclusion)
+    → DerivesIf (nameless_within_limits (nameless_equation bool_type (image term) (image theorem.conclusion))) result
+    (image term ∷ [] ++ without (image term) (images theorem)) (image theorem.conclusion)
     → IfOk result (λ made. made.theorem.conclusion ≡ theorem.conclusion)
     → AnswersStated (theorem_in result) (image term ∷ terms_of_theorem theorem) (add_assum_outcome theory term theorem)
 add_assum-stated result theory term first theorem is derives concludes =
@@ -172,7 +183,8 @@ add_assum-stated result theory term first theorem is derives concludes =
 -- PROVE_HYP
 
 pub prove_hyp-taken : (result : Result Recorded Fault) (first second : Theorem) → is_among (image first.conclusion) (images second) ≡ true
-    → DerivesIf (nameless_within_limits (nameless_equation bool_type (image first.conclusion) (image second.conclusion))) result (images first ++ without (image first.conclusion) (images second)) (image second.conclusion)
+    → DerivesIf (nameless_within_limits (nameless_equation bool_type (image first.conclusion) (image second.conclusion))) result
+    (images first ++ without (image first.conclusion) (images second)) (image second.conclusion)
     → IfOk result (λ made. made.theorem.conclusion ≡ second.conclusion)
     → AnswersStated (theorem_in result) (terms_of_theorem first ++ terms_of_theorem second) (prove_hyp_outcome first second)
 prove_hyp-taken result first second among derives concludes =
@@ -187,7 +199,8 @@ prove_hyp-taken result first second among derives concludes =
     (λ t m. elim m [ inl e ↦ inl e | inr k ↦ (elim k [ inl e ↦ IsMember-append_right t arguments (terms_of_stated sequent) (inl e) | inr none ↦ absurd none ]) ]))
 
 pub prove_hyp-kept : (result : Result Recorded Fault) (first second : Theorem) → is_among (image first.conclusion) (images second) ≡ false
-    → DerivesIf (nameless_within_limits (nameless_equation bool_type (image second.conclusion) (image second.conclusion))) result (images second ++ without (image second.conclusion) (images second)) (image second.conclusion)
+    → DerivesIf (nameless_within_limits (nameless_equation bool_type (image second.conclusion) (image second.conclusion))) result
+    (images second ++ without (image second.conclusion) (images second)) (image second.conclusion)
     → IfOk result (λ made. made.theorem.conclusion ≡ second.conclusion)
     → AnswersStated (theorem_in result) (terms_of_theorem first ++ terms_of_theorem second) (prove_hyp_outcome first second)
 prove_hyp-kept result first second among derives concludes =
@@ -207,7 +220,8 @@ prove_hyp-kept result first second among derives concludes =
       | inr k ↦ (elim k [ inl e ↦ IsMember-append_right t arguments (terms_of_stated sequent) (inl e) | inr none ↦ absurd none ])
     ]))
 
-pub conclusion-formula : (journal : Journal) → IsLegal journal.theory → (made : Recorded) → IsMade journal made → (theorem : Theorem) → theorem ≡ made.theorem → IsTheorem theorem → IsFormula journal.theory made.theorem.conclusion
+pub conclusion-formula : (journal : Journal) → IsLegal journal.theory → (made : Recorded) → IsMade journal made → (theorem : Theorem)
+    → theorem ≡ made.theorem → IsTheorem theorem → IsFormula journal.theory made.theorem.conclusion
 conclusion-formula journal legal made is_made theorem same is =
     let is_theorem = subst (λ (t : Theorem). IsTheorem t) same is in
     record { typed = formula_of made.theorem is_theorem; known = conclusion-known journal legal made is_made is_theorem }

@@ -12,7 +12,8 @@ use Rattle.hol_model.specs.Kernel.Theorem.{Theorem}
 use Rattle.hol_model.specs.Logic.Derivable.{without, nameless_equation}
 use Rattle.hol_model.specs.Kernel.Outcome.{given as stated_given, refused}
 use Rattle.hol_model.specs.Kernel.Rules.{dest_equation, first_unknown}
-use Rattle.hol_model.specs.Derived.DerivedRules.{Conclusion, images, is_among, stated, stated_with_left, beta_conv_outcome, sym_outcome, add_assum_outcome, prove_hyp_outcome, eqt_intro_outcome, conj_outcome}
+use Rattle.hol_model.specs.Derived.DerivedRules.{Conclusion, images, is_among, stated, stated_with_left, beta_conv_outcome, sym_outcome}
+use Rattle.hol_model.specs.Derived.DerivedRules.{add_assum_outcome, prove_hyp_outcome, eqt_intro_outcome, conj_outcome}
 use Rattle.hol_model.specs.Derived.InferenceRules.{rule_sym, rule_beta_conv, rule_add_assum, rule_prove_hyp, rule_eqt_intro, rule_conj}
 use Rattle.hol_model.specs.Logic.NamedLogic as named
 use Rattle.hol_model.specs.Logic.NamelessLogic as nameless
@@ -72,7 +73,9 @@ pub drawn-sym : (theory : Theory) → IsLegal theory → (a : Theorem) → IsPre
 drawn-sym theory legal a premise = go (dest_equation a.conclusion) refl
   where
     go : (found : Option (NamedTerm × NamedTerm)) → dest_equation a.conclusion ≡ found
-        → StatesDrawn (stated_given found NotEquation (λ sides. stated (images a) (equation sides.1 sides.0))) (given (given (nameless.dest_equation (image a.conclusion)) (λ e. conclude (all ∷ []) (nameless_equation e.ty e.right e.left))) (λ inference. drawn inference (images a ∷ [])))
+        → StatesDrawn (stated_given found NotEquation (λ sides. stated (images a) (equation sides.1 sides.0)))
+        (given (given (nameless.dest_equation (image a.conclusion)) (λ e. conclude (all ∷ []) (nameless_equation e.ty e.right e.left)))
+        (λ inference. drawn inference (images a ∷ [])))
     go None is = rw (no-equation a.conclusion is) tt
     go (Some (left, right)) is =
         let e = sides theory legal a.conclusion left right premise.known is in
@@ -81,12 +84,14 @@ drawn-sym theory legal a premise = go (dest_equation a.conclusion) refl
 
 pub drawn-add_assum : (theory : Theory) (p : NamedTerm) (ty : HolType) (a : Theorem) → type_of p ≡ Some ty → Draws theory (rule_add_assum p) (a ∷ []) (add_assum_outcome theory p a)
 drawn-add_assum theory p ty a typed =
-    walked theory p ty bool_type typed NotBool (stated (image p ∷ images a) a.conclusion) (record { passing = all ∷ []; supposed = image p ∷ []; conclusion = image a.conclusion }) (λ inference. drawn inference (images a ∷ []))
+    walked theory p ty bool_type typed NotBool (stated (image p ∷ images a) a.conclusion)
+    (record { passing = all ∷ []; supposed = image p ∷ []; conclusion = image a.conclusion }) (λ inference. drawn inference (images a ∷ []))
     (record { hypotheses = same_set (ap (λ (h : List Nameless). image p ∷ h) (sym (one_premise (images a)))); conclusion = refl })
 
 pub drawn-eqt_intro : (theory : Theory) (a : Theorem) → IsPremise theory a → Draws theory rule_eqt_intro (a ∷ []) (eqt_intro_outcome a)
 drawn-eqt_intro theory a premise =
-    drawn-of_one a (equation a.conclusion named.true_term) (nameless_equation bool_type (image a.conclusion) (image named.true_term)) (image-equation a.conclusion named.true_term bool_type premise.typed)
+    drawn-of_one a (equation a.conclusion named.true_term) (nameless_equation bool_type (image a.conclusion) (image named.true_term))
+    (image-equation a.conclusion named.true_term bool_type premise.typed)
 
 pub drawn-conj : (theory : Theory) (a b : Theorem) → Draws theory rule_conj (a ∷ b ∷ []) (conj_outcome a b)
 drawn-conj theory a b = drawn-of_two a b (named.conjunction a.conclusion b.conclusion) (image (named.conjunction a.conclusion b.conclusion)) refl

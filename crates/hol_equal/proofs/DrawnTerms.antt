@@ -80,8 +80,11 @@ module _ {A : Type 0} (R : Result A Fault → Option Sequent → Type 0) (none_d
       → R next (rest inference)
       → R (unless (is_of_type s term) fault (refused (first_unknown theory term) next)) (given (require (knows_nameless theory (image term) s) (Some inference)) rest)
   walked_by theory term ty s typed fault next inference rest drawn =
-      subst (λ (b : Bool). R (unless (option_map_or (λ found. type_eq found s) (type_of term) false) fault (refused (first_unknown theory term) next)) (given (require b (Some inference)) rest)) (sym (knows-image theory term ty s typed))
-      (subst (λ (o : Option HolType). R (unless (option_map_or (λ found. type_eq found s) o false) fault (refused (first_unknown theory term) next)) (given (require (type_eq ty s && is_known theory term) (Some inference)) rest)) (sym typed)
+      subst (λ (b : Bool). R (unless (option_map_or (λ found. type_eq found s) (type_of term) false) fault
+      (refused (first_unknown theory term) next)) (given (require b (Some inference)) rest)) (sym (knows-image theory term ty s typed))
+      (subst (λ (o : Option HolType).
+      R (unless (option_map_or (λ found. type_eq found s) o false) fault (refused (first_unknown theory term) next))
+      (given (require (type_eq ty s && is_known theory term) (Some inference)) rest)) (sym typed)
       (go (type_eq ty s) (knows_types theory term) (knows_constants theory term) (has_instances theory term)))
     where
       go : (one types constants instances : Bool)

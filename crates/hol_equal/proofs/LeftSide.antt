@@ -40,8 +40,12 @@ module _ (theory : Theory) (t : NamedTerm) (ty : HolType) (typed : type_of t ≡
   converted-refused fault = go (dest_redex t) (first_unknown theory t)
     where
       go : (found : Option (Abstracted × NamedTerm)) (unknown : Option Fault)
-          → AnswersStated (Err fault) (image t ∷ []) (given found BadShape (λ redex. refused unknown (stated_up_to_names [] (nameless_equation (nameless_type [] (image t)) (image t) (body_with redex.0 redex.1)))))
-          → AnswersStated (Err fault) (image t ∷ []) (given found BadShape (λ redex. refused unknown (stated_with_left [] t (nameless_equation (nameless_type [] (image t)) (image t) (body_with redex.0 redex.1)))))
+          → AnswersStated (Err fault) (image t ∷ [])
+          (given found BadShape (λ redex.
+          refused unknown (stated_up_to_names [] (nameless_equation (nameless_type [] (image t)) (image t) (body_with redex.0 redex.1)))))
+          → AnswersStated (Err fault) (image t ∷ [])
+          (given found BadShape (λ redex.
+          refused unknown (stated_with_left [] t (nameless_equation (nameless_type [] (image t)) (image t) (body_with redex.0 redex.1)))))
       go None unknown answers = answers
       go (Some redex) (Some other) answers = answers
       go (Some redex) None answers = answers
@@ -50,7 +54,9 @@ module _ (theory : Theory) (t : NamedTerm) (ty : HolType) (typed : type_of t ≡
   is-converted theorem = go (dest_redex t) refl (first_unknown theory t) refl
     where
       go : (found : Option (Abstracted × NamedTerm)) → dest_redex t ≡ found → (unknown : Option Fault) → first_unknown theory t ≡ unknown
-          → AnswersStated (Ok theorem) (image t ∷ []) (given found BadShape (λ redex. refused unknown (stated_up_to_names [] (nameless_equation (nameless_type [] (image t)) (image t) (body_with redex.0 redex.1)))))
+          → AnswersStated (Ok theorem) (image t ∷ [])
+          (given found BadShape (λ redex.
+          refused unknown (stated_up_to_names [] (nameless_equation (nameless_type [] (image t)) (image t) (body_with redex.0 redex.1)))))
           → IsConverted theory t ty theorem
       go None dest unknown is answers = absurd answers
       go (Some redex) dest (Some fault) is answers = absurd answers
@@ -79,7 +85,8 @@ module _ (theory : Theory) (t : NamedTerm) (ty : HolType) (typed : type_of t ≡
       let whole = nameless_equation ty (image t) right in
       let room = equation-room ty (image t) right (first_of_both (is_roomy whole) true roomy) in
       let few = room.few in
-      sized-within 1002 10003 (nameless_equation ty (image t) (image t)) (sized-equation 1000 5000 5000 ty (image t) (image t) (omega arith) (omega arith) room.left room.left) (omega arith) (omega arith)
+      sized-within 1002 10003 (nameless_equation ty (image t) (image t))
+      (sized-equation 1000 5000 5000 ty (image t) (image t) (omega arith) (omega arith) room.left room.left) (omega arith) (omega arith)
 
   pub reflexive-past : (theorem : Theorem) → IsConverted theory t ty theorem → (fault : Fault) → IsPast fault (nameless_within_limits (nameless_equation ty (image t) (image t)))
       → AnswersStated (Err fault) (image t ∷ []) (beta_conv_outcome theory t)
@@ -109,7 +116,8 @@ pub reflexive-left : (t : NamedTerm) (theorem : Theorem) → theorem.conclusion 
 reflexive-left t theorem is = subst (λ (c : NamedTerm). HasLeftSide t c) (sym is) (record { right = t; sides = dest-equation t t })
 
 -- what TRANS keeps of the first theorem's left side
-pub kept-left : (t : NamedTerm) (first : Theorem) (result : Result Recorded Fault) → IfOk result (λ made. (left : NamedTerm) → HasLeftSide left first.conclusion → HasLeftSide left made.theorem.conclusion)
+pub kept-left : (t : NamedTerm) (first : Theorem) (result : Result Recorded Fault)
+    → IfOk result (λ made. (left : NamedTerm) → HasLeftSide left first.conclusion → HasLeftSide left made.theorem.conclusion)
     → HasLeftSide t first.conclusion → IfOk result (λ made. HasLeftSide t made.theorem.conclusion)
 kept-left t first (Ok made) names left = names t left
 kept-left t first (Err fault) names left = tt

@@ -12,7 +12,8 @@ map-twice : (f g : Nameless → Nameless) (h : List Nameless) → map g (map f h
 map-twice f g [] = refl
 map-twice f g (t ∷ h) = ap (λ l. g (f t) ∷ l) (map-twice f g h)
 
-pub derives-map : (fits : Bool) (result : Result Recorded Fault) (f g : Nameless → Nameless) (h : List Nameless) (c : Nameless) → DerivesIf fits result (map g (map f h)) c → DerivesIf fits result (map (λ t. g (f t)) h) c
+pub derives-map : (fits : Bool) (result : Result Recorded Fault) (f g : Nameless → Nameless) (h : List Nameless) (c : Nameless)
+    → DerivesIf fits result (map g (map f h)) c → DerivesIf fits result (map (λ t. g (f t)) h) c
 derives-map fits result f g h c derives = subst (λ (l : List Nameless). DerivesIf fits result l c) (map-twice f g h) derives
 
 -- all of the first list, and all of the second

@@ -1,5 +1,6 @@
 -- What the kernel's rules come to by image.
-use Rattle.std.proofs.Common.{◌≡◌, ℕ, List, [], ◌∷◌, ◌++◌, map, Bool, true, false, ◌&&◌, not, if◌then◌else◌, refl, sym, ◌∙◌, ap, subst, inl, inr, Option, Some, None, Result, Ok, Err, IfOk, OnErr, append-nil}
+use Rattle.std.proofs.Common.{◌≡◌, ℕ, List, [], ◌∷◌, ◌++◌, map, Bool, true, false, ◌&&◌, not, if◌then◌else◌, refl, sym, ◌∙◌, ap, subst, inl, inr}
+use Rattle.std.proofs.Common.{Option, Some, None, Result, Ok, Err, IfOk, OnErr, append-nil}
 use Rattle.std.specs.Option.{is_some}
 use Rattle.std.specs.List.{list_all}
 use Rattle.std.proofs.lemmas.Slice.Eq.{bytes_eq-Decides}
@@ -14,7 +15,9 @@ use Rattle.hol_model.specs.Logic.Derivable.{IsMember, IsSameSet, without, namele
 use Rattle.hol_model.specs.Kernel.Theorem.{Theorem, IsTheorem, are_alpha_equivalent, with_hypotheses, without_hypothesis}
 use Rattle.hol_model.specs.Kernel.Outcome.{Answers, AnswersSuch, unless, given, refused}
 use Rattle.hol_model.specs.Kernel.Instantiation.{IsChanged, all_fit, or_too_large}
-use Rattle.hol_model.specs.Kernel.Rules.{first_unknown, is_formula, dest_equation, dest_trivial_redex, is_free_in_hypotheses, concluded, refl_outcome, assume_outcome, trans_outcome, eq_mp_outcome, mk_comb_outcome, abs_outcome, deduct_antisym_outcome, beta_outcome}
+use Rattle.hol_model.specs.Kernel.Rules.{first_unknown, is_formula, dest_equation, dest_trivial_redex, is_free_in_hypotheses, concluded, refl_outcome}
+use Rattle.hol_model.specs.Kernel.Rules.{assume_outcome, trans_outcome, eq_mp_outcome, mk_comb_outcome, abs_outcome, deduct_antisym_outcome}
+use Rattle.hol_model.specs.Kernel.Rules.{beta_outcome}
 use Rattle.hol_model.specs.Logic.KnownTerm.{knows_types, knows_constants, has_instances, is_known}
 use Rattle.hol_model.specs.Terms.Substitution.{close}
 use Rattle.hol_model.proofs.Terms.NamedTests.{is_known-Decides}
@@ -69,7 +72,12 @@ continued (Ok made) old new step stands recorded kept = record {
   held = record { made = journals-grow.made old new step made recorded; stands_on = recorded.stands_on };
 }
 continued (Err fault) old new step stands recorded kept = record {
-  grown = record { added = []; entries = ap (λ (j : Journal). j.entries) kept ∙ sym (append-nil old.entries); earlier = earlier-same old.theory new.theory (ap (λ (j : Journal). j.theory) (sym kept)) };
+  grown = record {
+    added = [];
+    entries = ap (λ (j : Journal). j.entries) kept ∙ sym (append-nil old.entries);
+    earlier =
+        earlier-same old.theory new.theory (ap (λ (j : Journal). j.theory) (sym kept));
+  };
   theory = ap (λ (j : Journal). j.theory) kept;
   held = tt;
 }
@@ -287,12 +295,15 @@ pub trans-names : (result : Result Recorded Fault) (theory : Theory) (first seco
 trans-names (Ok made) theory first second answers = λ left has. go left has.right (dest_equation second.conclusion) (rw has.sides at answers)
   where
     go : (left right : NamedTerm) (found : Option (NamedTerm × NamedTerm))
-        → given found NotEquation (λ sides. unless (are_alpha_equivalent right sides.0) NotAlpha (concluded theory (with_hypotheses first.hypotheses second.hypotheses) (equation left sides.1))) ≡ Ok made.theorem
+        → given found NotEquation (λ sides.
+        unless (are_alpha_equivalent right sides.0) NotAlpha
+        (concluded theory (with_hypotheses first.hypotheses second.hypotheses) (equation left sides.1))) ≡ Ok made.theorem
         → HasLeftSide left made.theorem.conclusion
     go left right None is = cc
     go left right (Some sides) is =
         let next = concluded theory (with_hypotheses first.hypotheses second.hypotheses) (equation left sides.1) in
-        let made_is = concluded-is theory (with_hypotheses first.hypotheses second.hypotheses) (equation left sides.1) made.theorem (unless-is (are_alpha_equivalent right sides.0) NotAlpha next made.theorem is).1 in
+        let made_is = concluded-is theory (with_hypotheses first.hypotheses second.hypotheses) (equation left sides.1) made.theorem
+        (unless-is (are_alpha_equivalent right sides.0) NotAlpha next made.theorem is).1 in
         subst (λ (c : NamedTerm). HasLeftSide left c) (sym (ap (λ (t : Theorem). t.conclusion) made_is)) (record { right = sides.1; sides = dest-equation left sides.1 })
 trans-names (Err fault) theory first second answers = tt
 
@@ -331,7 +342,8 @@ mk_comb-stands theory first second = search standing
 pub application : (f x : NamedTerm) (domain codomain : HolType) → type_of f ≡ Some (function_type domain codomain) → type_of x ≡ Some domain → type_of (combination f x) ≡ Some codomain
 application f x domain codomain typed_f typed_x = rw (typed_f, typed_x, type_eq-self domain) refl
 
-pub mk_comb-derives : (result : Result Recorded Fault) (theory : Theory) (first second : Theorem) → IsTheorem first → IsTheorem second → Answers (theorem_in result) (mk_comb_outcome theory first second)
+pub mk_comb-derives : (result : Result Recorded Fault) (theory : Theory) (first second : Theorem) → IsTheorem first → IsTheorem second
+    → Answers (theorem_in result) (mk_comb_outcome theory first second)
     → (h k : List Nameless) (domain codomain : HolType) (f g x y : Nameless) → Shows first h (nameless_equation (function_type domain codomain) f g) → Shows second k (nameless_equation domain x y)
     → Derives result (h ++ k) (nameless_equation codomain (app f x) (app g y))
 mk_comb-derives result theory first second is_first is_second answers h k domain codomain f g x y shown_first shown_second =
@@ -356,7 +368,9 @@ binder_is (abstraction other s body) name ty is = cc
 
 not_free : (name : List ℕ) (ty : HolType) (hypotheses : List NamedTerm) → NotFreeInAny name ty (map image hypotheses) → is_free_in_hypotheses name ty hypotheses ≡ false
 not_free name ty [] fresh = refl
-not_free name ty (h ∷ hypotheses) fresh = neither (is_free name ty h) (is_free_in_hypotheses name ty hypotheses) (sym (occurs_free-image name ty h) ∙ fresh (image h) (inl refl)) (not_free name ty hypotheses (λ t m. fresh t (inr m)))
+not_free name ty (h ∷ hypotheses) fresh =
+    neither (is_free name ty h) (is_free_in_hypotheses name ty hypotheses) (sym (occurs_free-image name ty h) ∙ fresh (image h) (inl refl))
+    (not_free name ty hypotheses (λ t m. fresh t (inr m)))
 
 abstraction-typed : (name : List ℕ) (domain codomain : HolType) (body : NamedTerm) → type_of body ≡ Some codomain → type_of (abstraction name domain body) ≡ Some (function_type domain codomain)
 abstraction-typed name domain codomain body typed = rw typed refl
@@ -384,13 +398,16 @@ without-same p h k same = record {
   back = λ x m. in_without x p h (same.back x (of_without x p k m)) (not_without x p k m);
 }
 
-pub deduct-derives : (result : Result Recorded Fault) (theory : Theory) (first second : Theorem) → IsTheorem first → IsTheorem second → Answers (theorem_in result) (deduct_antisym_outcome theory first second)
+pub deduct-derives : (result : Result Recorded Fault) (theory : Theory) (first second : Theorem) → IsTheorem first → IsTheorem second
+    → Answers (theorem_in result) (deduct_antisym_outcome theory first second)
     → (h k : List Nameless) (p q : Nameless) → Shows first h p → Shows second k q → Derives result (without q h ++ without p k) (nameless_equation bool_type p q)
 deduct-derives result theory first second is_first is_second answers h k p q shown_first shown_second =
     let left = without_hypothesis second.conclusion first.hypotheses in
     let right = without_hypothesis first.conclusion second.hypotheses in
-    let left_is : map image left ≡ without q (map image first.hypotheses) = image-without_hypothesis second.conclusion first.hypotheses ∙ ap (λ t. without t (map image first.hypotheses)) shown_second.concludes in
-    let right_is : map image right ≡ without p (map image second.hypotheses) = image-without_hypothesis first.conclusion second.hypotheses ∙ ap (λ t. without t (map image second.hypotheses)) shown_first.concludes in
+    let left_is : map image left ≡ without q (map image first.hypotheses) = image-without_hypothesis second.conclusion first.hypotheses
+    ∙ ap (λ t. without t (map image first.hypotheses)) shown_second.concludes in
+    let right_is : map image right ≡ without p (map image second.hypotheses) = image-without_hypothesis first.conclusion second.hypotheses
+    ∙ ap (λ t. without t (map image second.hypotheses)) shown_first.concludes in
     equation-derives result theory (with_hypotheses left right) first.conclusion second.conclusion bool_type (without q h ++ without p k) p q
     (formula_of first is_first) (formula_of second is_second) shown_first.concludes shown_second.concludes
     (merged (without q h) (without p k) left right
@@ -403,7 +420,8 @@ pub beta-stands : (theory : Theory) (term : NamedTerm) → StandsOn theory (beta
 beta-stands theory term = search standing
 
 pub beta-derives : (result : Result Recorded Fault) (theory : Theory) (term : NamedTerm) → Answers (theorem_in result) (beta_outcome theory term)
-    → (name : List ℕ) (domain codomain : HolType) (body : NamedTerm) → term ≡ combination (abstraction name domain body) (variable name domain) → type_of body ≡ Some codomain → IsKnown theory (image term) codomain
+    → (name : List ℕ) (domain codomain : HolType) (body : NamedTerm) → term ≡ combination (abstraction name domain body) (variable name domain)
+    → type_of body ≡ Some codomain → IsKnown theory (image term) codomain
     → Derives result [] (nameless_equation codomain (app (lam domain (close name domain (image body))) (free name domain)) (image body))
 beta-derives result theory term answers name domain codomain body is typed_body known =
     let none = no_unknown theory term codomain known in
@@ -460,7 +478,8 @@ changed-derives (Err fault) theory change theorem refusal (inl memory) none h c 
 changed-derives (Err fault) theory change theorem refusal (inr is) none h c shown =
     go (all_fit change (theorem.conclusion ∷ theorem.hypotheses)) refl (subst (λ (r : Option Fault). or_too_large r (all_fit change (theorem.conclusion ∷ theorem.hypotheses)) ≡ Some fault) none is)
   where
-    go : (fits : Bool) → all_fit change (theorem.conclusion ∷ theorem.hypotheses) ≡ fits → or_too_large None fits ≡ Some fault → IsPast fault (list_all nameless_within_limits (change c ∷ map change h))
+    go : (fits : Bool) → all_fit change (theorem.conclusion ∷ theorem.hypotheses) ≡ fits → or_too_large None fits ≡ Some fault
+        → IsPast fault (list_all nameless_within_limits (change c ∷ map change h))
     go true is_fits refusal = cc
     go false is_fits refusal = let large : TooLarge ≡ fault = cc in inr (sym large, changed-past change theorem h c shown is_fits)
 
@@ -469,7 +488,9 @@ changed-derives (Err fault) theory change theorem refusal (inr is) none h c show
 pub refl-names : (result : Result Recorded Fault) (theory : Theory) (term : NamedTerm) → Answers (theorem_in result) (refl_outcome theory term)
     → IfOk result (λ made. made.theorem.conclusion ≡ equation term term)
 refl-names (Ok made) theory term answers =
-    ap (λ (t : Theorem). t.conclusion) (concluded-is theory [] (equation term term) made.theorem (refused-is (first_unknown theory term) (concluded theory [] (equation term term)) made.theorem answers))
+    ap (λ (t : Theorem). t.conclusion)
+    (concluded-is theory [] (equation term term) made.theorem
+    (refused-is (first_unknown theory term) (concluded theory [] (equation term term)) made.theorem answers))
 refl-names (Err fault) theory term answers = tt
 
 pub eq_mp-names : (result : Result Recorded Fault) (theory : Theory) (first second : Theorem) → Answers (theorem_in result) (eq_mp_outcome theory first second)
@@ -488,14 +509,16 @@ mk_comb-names (Ok made) theory first second answers = λ functions arguments des
     let next = concluded theory (with_hypotheses first.hypotheses second.hypotheses) whole in
     let outcome : unless (is_some (type_of (combination functions.0 arguments.0))) TypeMismatch next ≡ Ok made.theorem = rw (dest_first, dest_second) at answers in
     ap (λ (t : Theorem). t.conclusion)
-    (concluded-is theory (with_hypotheses first.hypotheses second.hypotheses) whole made.theorem (unless-is (is_some (type_of (combination functions.0 arguments.0))) TypeMismatch next made.theorem outcome).1)
+    (concluded-is theory (with_hypotheses first.hypotheses second.hypotheses) whole made.theorem
+    (unless-is (is_some (type_of (combination functions.0 arguments.0))) TypeMismatch next made.theorem outcome).1)
 mk_comb-names (Err fault) theory first second answers = tt
 
 pub deduct-names : (result : Result Recorded Fault) (theory : Theory) (first second : Theorem) → Answers (theorem_in result) (deduct_antisym_outcome theory first second)
     → IfOk result (λ made. made.theorem.conclusion ≡ equation first.conclusion second.conclusion)
 deduct-names (Ok made) theory first second answers =
     ap (λ (t : Theorem). t.conclusion)
-    (concluded-is theory (with_hypotheses (without_hypothesis second.conclusion first.hypotheses) (without_hypothesis first.conclusion second.hypotheses)) (equation first.conclusion second.conclusion) made.theorem answers)
+    (concluded-is theory (with_hypotheses (without_hypothesis second.conclusion first.hypotheses)
+    (without_hypothesis first.conclusion second.hypotheses)) (equation first.conclusion second.conclusion) made.theorem answers)
 deduct-names (Err fault) theory first second answers = tt
 
 -- calls one after another

@@ -56,7 +56,8 @@ sym-parts journal legal made is_made is relation a b whole dest =
       shows = record { same_set = record { to = λ x m. m; back = λ x m. m }; concludes = e.image_is };
       relation_image = relation_image;
       relation_is = relation-from relation e.ty relation_image;
-      relation_known = subst (λ (t : Nameless). IsKnown journal.theory t (equality_type e.ty)) (sym relation_image) (record { typed = refl; parts = ((type_known, (type_known, tt)), equality-known journal.theory legal e.ty) });
+      relation_known = subst (λ (t : Nameless). IsKnown journal.theory t (equality_type e.ty)) (sym relation_image)
+          (record { typed = refl; parts = ((type_known, (type_known, tt)), equality-known journal.theory legal e.ty) });
       left_known = sides.left;
       left_typed = e.left_typed;
       right_typed = e.right_typed;
@@ -76,7 +77,8 @@ known_in now old t ty same known = subst (λ (th : Theory). IsKnown th t ty) (sy
 
 -- `=` as it stands in the equation, and as it is written
 pub relation-shows : (theory : Theory) (theorem : Theorem) (relation a b : NamedTerm) (parts : SymParts theory theorem relation a b) (made : Theorem)
-    → Shows made [] (nameless_equation (equality_type parts.ty) (image relation) (image relation)) → Shows made [] (nameless_equation (equality_type parts.ty) (equality_at parts.ty) (equality_at parts.ty))
+    → Shows made [] (nameless_equation (equality_type parts.ty) (image relation) (image relation))
+    → Shows made [] (nameless_equation (equality_type parts.ty) (equality_at parts.ty) (equality_at parts.ty))
 relation-shows theory theorem relation a b parts made shown = subst (λ (t : Nameless). Shows made [] (nameless_equation (equality_type parts.ty) t t)) parts.relation_image shown
 
 -- what is made on the way is within the limits
@@ -87,7 +89,8 @@ relation-within ty l r roomy =
     let room = equation-room ty l r roomy in
     let few = room.few in
     let one = equality-sized ty (omega arith) in
-    sized-within 3 5 (nameless_equation (equality_type ty) (equality_at ty) (equality_at ty)) (sized-equation 1 1 1 (equality_type ty) (equality_at ty) (equality_at ty) (omega arith) (omega arith) one one) (omega arith) (omega arith)
+    sized-within 3 5 (nameless_equation (equality_type ty) (equality_at ty) (equality_at ty))
+    (sized-equation 1 1 1 (equality_type ty) (equality_at ty) (equality_at ty) (omega arith) (omega arith) one one) (omega arith) (omega arith)
 
 pub applied-within : (ty : HolType) (l r : Nameless) → is_roomy (nameless_equation ty l r) ≡ true
     → nameless_within_limits (nameless_equation (function_type ty bool_type) (app (const equality_name (equality_type ty)) l) (app (const equality_name (equality_type ty)) r)) ≡ true
@@ -146,7 +149,8 @@ pub sym-names : (result : Result Recorded Fault) (theory : Theory) (theorem same
     → same.conclusion ≡ equation relation relation
     → ((f x : NamedTerm × NamedTerm) → dest_equation same.conclusion ≡ Some f → dest_equation theorem.conclusion ≡ Some x → applied.conclusion ≡ equation (combination f.0 x.0) (combination f.1 x.1))
     → reflexive.conclusion ≡ equation a a
-    → ((f x : NamedTerm × NamedTerm) → dest_equation applied.conclusion ≡ Some f → dest_equation reflexive.conclusion ≡ Some x → congruence.conclusion ≡ equation (combination f.0 x.0) (combination f.1 x.1))
+    → ((f x : NamedTerm × NamedTerm) → dest_equation applied.conclusion ≡ Some f → dest_equation reflexive.conclusion ≡ Some x
+    → congruence.conclusion ≡ equation (combination f.0 x.0) (combination f.1 x.1))
     → IfOk result (λ made. (sides : NamedTerm × NamedTerm) → dest_equation congruence.conclusion ≡ Some sides → made.theorem.conclusion ≡ sides.1)
     → IfOk result (λ made. made.theorem.conclusion ≡ equation b a)
 sym-names (Err fault) theory theorem same applied reflexive congruence relation a b parts one two three four five = tt

@@ -23,7 +23,8 @@ returns-in-Err-beta-clause-derives c name ty codomain body function_is binder_is
     let theory = c.args.recorder.now.theory in
     let made = applied c.args.function.now c.args.binder.now c.in-Ok.trivial c.in-Ok.ensures.outcome in
     let trivial_is : c.in-Ok.trivial ≡ combination (abstraction name ty body) (variable name ty) = made.is ∙ (λ i. combination (function_is i) (binder_is i)) in
-    let trivial_known = subst (λ (t : NamedTerm). IsKnown theory (image t) codomain) (sym trivial_is) (trivial-known theory name ty codomain body c.args.argument.now body_typed argument_typed known) in
+    let trivial_known = subst (λ (t : NamedTerm). IsKnown theory (image t) codomain) (sym trivial_is)
+    (trivial-known theory name ty codomain body c.args.argument.now body_typed argument_typed known) in
     equation-past name ty codomain body c.args.argument.now body_typed argument_typed c.in-Err-beta.fault
     (c.in-Err-beta.ensures.derives name ty codomain body trivial_is body_typed trivial_known)
 

@@ -34,7 +34,8 @@ returns-in-Err-beta_known-clause-derives c name ty codomain body function_is bin
     let theory = c.args.recorder.now.theory in
     let made = applied c.args.function.now c.args.binder.now c.in-Ok.trivial c.in-Ok.ensures.outcome in
     let trivial_is : c.in-Ok.trivial ≡ combination (abstraction name ty body) (variable name ty) = made.is ∙ (λ i. combination (function_is i) (binder_is i)) in
-    let trivial_known = subst (λ (t : NamedTerm). IsKnown theory (image t) codomain) (sym trivial_is) (trivial-known theory name ty codomain body c.args.argument.now body_typed argument_typed known) in
+    let trivial_known = subst (λ (t : NamedTerm). IsKnown theory (image t) codomain) (sym trivial_is)
+    (trivial-known theory name ty codomain body c.args.argument.now body_typed argument_typed known) in
     equation-past name ty codomain body c.args.argument.now body_typed argument_typed c.in-Err-beta_known.fault
     (c.in-Err-beta_known.ensures.derives name ty codomain body trivial_is body_typed trivial_known)
 
@@ -48,7 +49,8 @@ inst_known-requires-clause-known c =
     let theta : List (NamedTerm × NamedTerm) = (c.in-Ok-copy.new, c.in-Ok-copy-2.old) ∷ [] in
     let theta_is : theta ≡ (argument, variable is.name is.ty) ∷ [] = λ i. (new_is i, old_is i) ∷ [] in
     subst (λ (th : Theory). replacements_refusal th theta ≡ None) (sym c.in-Ok-beta_known.ensures.continues.theory)
-    (subst (λ (l : List (NamedTerm × NamedTerm)). replacements_refusal theory l ≡ None) (sym theta_is) (replacement-passes theory is.name is.ty is.codomain is.body argument is.body_typed is.argument_typed is.known))
+    (subst (λ (l : List (NamedTerm × NamedTerm)). replacements_refusal theory l ≡ None) (sym theta_is)
+    (replacement-passes theory is.name is.ty is.codomain is.body argument is.body_typed is.argument_typed is.known))
 
 pub returns-clause-derives : goal.returns-clause-derives
 returns-clause-derives c name ty codomain body function_is binder_is body_typed argument_typed known =

@@ -14,7 +14,8 @@ use Rattle.hol_equal.specs.Conversions.{beta_converted_outcome}
 use Rattle.hol_journal.specs.Journal.{theorem_in}
 use Rattle.hol_kernel.proofs.LimitLemmas.{applied}
 use Rattle.hol_equal.proofs.StepLemmas.{is_known-where}
-use Rattle.hol_equal.proofs.BetaLemmas.{redex-of, term-is, beta_conv-walk, beta_conv-past, applied-past, trivial_typed, trivial-within, trivial-known, conversion-within, replacement-passes, beta_conv-stated}
+use Rattle.hol_equal.proofs.BetaLemmas.{redex-of, term-is, beta_conv-walk, beta_conv-past, applied-past, trivial_typed, trivial-within, trivial-known}
+use Rattle.hol_equal.proofs.BetaLemmas.{conversion-within, replacement-passes, beta_conv-stated}
 use Rattle.hol_equal.proofs.equality.beta_converted.Goals as goal
 
 pub returns-in-Some-first_unknown-clause-outcome : goal.returns-in-Some-first_unknown-clause-outcome
@@ -45,8 +46,10 @@ returns-in-Err-clause-outcome c =
     let whole = combination (abstraction parts.name parts.ty body) argument in
     let none = subst (λ (t : NamedTerm). first_unknown theory t ≡ None) is (sym (rw c.theory.ensures at c.in-None.ensures)) in
     subst (λ (t : NamedTerm). AnswersStated (Err c.in-Err.fault) (image t ∷ []) (beta_converted_outcome theory t)) (sym is)
-    (beta_conv-past theory parts.name parts.ty parts.codomain body argument parts.body_typed parts.argument_typed c.in-Err.fault (nameless_within_limits (image (combination (abstraction parts.name parts.ty body) (variable parts.name parts.ty)))) none
-    (applied-past c.in-Err.fault (abstraction parts.name parts.ty body) (variable parts.name parts.ty) parts.codomain (trivial_typed theory parts.name parts.ty parts.codomain body argument parts.body_typed parts.argument_typed)
+    (beta_conv-past theory parts.name parts.ty parts.codomain body argument parts.body_typed parts.argument_typed c.in-Err.fault
+    (nameless_within_limits (image (combination (abstraction parts.name parts.ty body) (variable parts.name parts.ty)))) none
+    (applied-past c.in-Err.fault (abstraction parts.name parts.ty body) (variable parts.name parts.ty) parts.codomain
+    (trivial_typed theory parts.name parts.ty parts.codomain body argument parts.body_typed parts.argument_typed)
     (subst (λ (f : NamedTerm). Answers {A = NamedTerm} (Err c.in-Err.fault) (combination_outcome f (variable parts.name parts.ty))) parts.function_is
     (subst (λ (b : NamedTerm). Answers {A = NamedTerm} (Err c.in-Err.fault) (combination_outcome function b)) parts.binder_is c.in-Err.ensures.outcome)))
     (trivial-within theory parts.name parts.ty parts.codomain body argument parts.body_typed parts.argument_typed))
@@ -65,7 +68,8 @@ beta_known-requires c =
     let made = applied function binder c.in-Ok.trivial c.in-Ok.ensures.outcome in
     let trivial_is : c.in-Ok.trivial ≡ combination (abstraction parts.name parts.ty body) (variable parts.name parts.ty) = made.is ∙ (λ i. combination (parts.function_is i) (parts.binder_is i)) in
     is_known-where theory c.in-Ok.trivial parts.codomain
-    (subst (λ (t : NamedTerm). IsKnown theory (image t) parts.codomain) (sym trivial_is) (trivial-known theory parts.name parts.ty parts.codomain body argument parts.body_typed parts.argument_typed none))
+    (subst (λ (t : NamedTerm). IsKnown theory (image t) parts.codomain) (sym trivial_is)
+    (trivial-known theory parts.name parts.ty parts.codomain body argument parts.body_typed parts.argument_typed none))
 
 pub returns-in-Err-beta_known-clause-outcome : goal.returns-in-Err-beta_known-clause-outcome
 returns-in-Err-beta_known-clause-outcome c =
@@ -81,9 +85,12 @@ returns-in-Err-beta_known-clause-outcome c =
     let none = subst (λ (t : NamedTerm). first_unknown theory t ≡ None) is (sym (rw c.theory.ensures at c.in-None.ensures)) in
     let made = applied function binder c.in-Ok.trivial c.in-Ok.ensures.outcome in
     let trivial_is : c.in-Ok.trivial ≡ combination (abstraction parts.name parts.ty body) (variable parts.name parts.ty) = made.is ∙ (λ i. combination (parts.function_is i) (parts.binder_is i)) in
-    let known = subst (λ (t : NamedTerm). IsKnown theory (image t) parts.codomain) (sym trivial_is) (trivial-known theory parts.name parts.ty parts.codomain body argument parts.body_typed parts.argument_typed none) in
+    let known = subst (λ (t : NamedTerm). IsKnown theory (image t) parts.codomain) (sym trivial_is)
+    (trivial-known theory parts.name parts.ty parts.codomain body argument parts.body_typed parts.argument_typed none) in
     subst (λ (t : NamedTerm). AnswersStated (Err c.in-Err-beta_known.fault) (image t ∷ []) (beta_converted_outcome theory t)) (sym is)
-    (beta_conv-past theory parts.name parts.ty parts.codomain body argument parts.body_typed parts.argument_typed c.in-Err-beta_known.fault (nameless_within_limits (nameless_equation parts.codomain (app (lam parts.ty (close parts.name parts.ty (image body))) (free parts.name parts.ty)) (image body))) none
+    (beta_conv-past theory parts.name parts.ty parts.codomain body argument parts.body_typed parts.argument_typed c.in-Err-beta_known.fault
+    (nameless_within_limits (nameless_equation parts.codomain
+    (app (lam parts.ty (close parts.name parts.ty (image body))) (free parts.name parts.ty)) (image body))) none
     (c.in-Err-beta_known.ensures.derives parts.name parts.ty parts.codomain body trivial_is parts.body_typed known)
     (conversion-within theory parts.name parts.ty parts.codomain body argument parts.body_typed parts.argument_typed))
 
@@ -103,7 +110,8 @@ inst_known-requires-clause-known c =
     let theta : List (NamedTerm × NamedTerm) = (c.in-Ok-copy.argument, c.in-Ok-copy-2.binder) ∷ [] in
     let theta_is : theta ≡ (argument, variable parts.name parts.ty) ∷ [] = λ i. (argument_is i, binder_is i) ∷ [] in
     subst (λ (th : Theory). replacements_refusal th theta ≡ None) (sym c.in-Ok-beta_known.ensures.continues.theory)
-    (subst (λ (l : List (NamedTerm × NamedTerm)). replacements_refusal theory l ≡ None) (sym theta_is) (replacement-passes theory parts.name parts.ty parts.codomain body argument parts.body_typed parts.argument_typed none))
+    (subst (λ (l : List (NamedTerm × NamedTerm)). replacements_refusal theory l ≡ None) (sym theta_is)
+    (replacement-passes theory parts.name parts.ty parts.codomain body argument parts.body_typed parts.argument_typed none))
 
 pub returns-clause-outcome : goal.returns-clause-outcome
 returns-clause-outcome c =
@@ -119,14 +127,16 @@ returns-clause-outcome c =
     let none = subst (λ (t : NamedTerm). first_unknown theory t ≡ None) is (sym (rw c.theory.ensures at c.in-None.ensures)) in
     let made = applied function binder c.in-Ok.trivial c.in-Ok.ensures.outcome in
     let trivial_is : c.in-Ok.trivial ≡ combination (abstraction parts.name parts.ty body) (variable parts.name parts.ty) = made.is ∙ (λ i. combination (parts.function_is i) (parts.binder_is i)) in
-    let known = subst (λ (t : NamedTerm). IsKnown theory (image t) parts.codomain) (sym trivial_is) (trivial-known theory parts.name parts.ty parts.codomain body argument parts.body_typed parts.argument_typed none) in
+    let known = subst (λ (t : NamedTerm). IsKnown theory (image t) parts.codomain) (sym trivial_is)
+    (trivial-known theory parts.name parts.ty parts.codomain body argument parts.body_typed parts.argument_typed none) in
     let converted = c.in-Ok-beta_known.ensures.derives parts.name parts.ty parts.codomain body trivial_is parts.body_typed known in
     let argument_is : c.in-Ok-copy.argument ≡ argument = c.in-Ok-copy.ensures.ok in
     let binder_is : c.in-Ok-copy-2.binder ≡ variable parts.name parts.ty = c.in-Ok-copy-2.ensures.ok ∙ parts.binder_is in
     let theta : List (NamedTerm × NamedTerm) = (c.in-Ok-copy.argument, c.in-Ok-copy-2.binder) ∷ [] in
     let theta_is : theta ≡ (argument, variable parts.name parts.ty) ∷ [] = λ i. (argument_is i, binder_is i) ∷ [] in
     let passes = subst (λ (th : Theory). replacements_refusal th theta ≡ None) (sym c.in-Ok-beta_known.ensures.continues.theory)
-    (subst (λ (l : List (NamedTerm × NamedTerm)). replacements_refusal theory l ≡ None) (sym theta_is) (replacement-passes theory parts.name parts.ty parts.codomain body argument parts.body_typed parts.argument_typed none)) in
+    (subst (λ (l : List (NamedTerm × NamedTerm)). replacements_refusal theory l ≡ None) (sym theta_is)
+    (replacement-passes theory parts.name parts.ty parts.codomain body argument parts.body_typed parts.argument_typed none)) in
     subst (λ (t : NamedTerm). AnswersStated (theorem_in c.inst_known.result) (image t ∷ []) (beta_converted_outcome theory t)) (sym is)
     (beta_conv-stated theory parts.name parts.ty parts.codomain body argument parts.body_typed parts.argument_typed c.inst_known.result none theta theta_is
     (c.inst_known.ensures.derives passes [] (nameless_equation parts.codomain (app (lam parts.ty (close parts.name parts.ty (image body))) (free parts.name parts.ty)) (image body)) converted))

@@ -19,7 +19,8 @@ refl_known-requires c =
     let a = c.in-Some.parts.left.now in
     let b = c.in-Some.parts.right.now in
     let parts =
-    sym-parts-at journal c.conclusion_of.ensures.legal c.args.premise.now c.requires c.args.premise.now.theorem refl c.conclusion_of.ensures.theorem c.conclusion_of.result.now relation a b c.conclusion_of.ensures.value c.in-Some.ensures.whole c.in-Some.ensures.sides in
+    sym-parts-at journal c.conclusion_of.ensures.legal c.args.premise.now c.requires c.args.premise.now.theorem refl c.conclusion_of.ensures.theorem
+    c.conclusion_of.result.now relation a b c.conclusion_of.ensures.value c.in-Some.ensures.whole c.in-Some.ensures.sides in
     is_known-where journal.theory relation (equality_type parts.ty) parts.relation_known
 
 pub returns-in-Err-clause-outcome : goal.returns-in-Err-clause-outcome
@@ -30,7 +31,8 @@ returns-in-Err-clause-outcome c =
     let a = c.in-Some.parts.left.now in
     let b = c.in-Some.parts.right.now in
     let parts =
-    sym-parts-at journal c.conclusion_of.ensures.legal c.args.premise.now c.requires c.args.premise.now.theorem refl c.conclusion_of.ensures.theorem c.conclusion_of.result.now relation a b c.conclusion_of.ensures.value c.in-Some.ensures.whole c.in-Some.ensures.sides in
+    sym-parts-at journal c.conclusion_of.ensures.legal c.args.premise.now c.requires c.args.premise.now.theorem refl c.conclusion_of.ensures.theorem
+    c.conclusion_of.result.now relation a b c.conclusion_of.ensures.value c.in-Some.ensures.whole c.in-Some.ensures.sides in
     let at = equality_at parts.ty in
     sym-past c.in-Err.fault journal.theory premise relation a b parts (nameless_within_limits (nameless_equation (equality_type parts.ty) (image relation) (image relation)))
     (c.in-Err.ensures.derives (equality_type parts.ty) parts.relation_known)
@@ -51,7 +53,8 @@ returns-in-Err-mk_comb-clause-outcome c =
     let a = c.in-Some.parts.left.now in
     let b = c.in-Some.parts.right.now in
     let parts =
-    sym-parts-at journal c.conclusion_of.ensures.legal c.args.premise.now c.requires c.args.premise.now.theorem refl c.conclusion_of.ensures.theorem c.conclusion_of.result.now relation a b c.conclusion_of.ensures.value c.in-Some.ensures.whole c.in-Some.ensures.sides in
+    sym-parts-at journal c.conclusion_of.ensures.legal c.args.premise.now c.requires c.args.premise.now.theorem refl c.conclusion_of.ensures.theorem
+    c.conclusion_of.result.now relation a b c.conclusion_of.ensures.value c.in-Some.ensures.whole c.in-Some.ensures.sides in
     let at = equality_at parts.ty in
     let same = relation-shows journal.theory premise relation a b parts c.in-Ok.same.theorem (c.in-Ok.ensures.derives (equality_type parts.ty) parts.relation_known) in
     sym-past c.in-Err-mk_comb.fault journal.theory premise relation a b parts (nameless_within_limits (nameless_equation (function_type parts.ty bool_type) (app at (image a)) (app at (image b))))
@@ -69,7 +72,8 @@ refl_known-requires-2 c =
     let a = c.in-Some.parts.left.now in
     let b = c.in-Some.parts.right.now in
     let parts =
-    sym-parts-at journal c.conclusion_of.ensures.legal c.args.premise.now c.requires c.args.premise.now.theorem refl c.conclusion_of.ensures.theorem c.conclusion_of.result.now relation a b c.conclusion_of.ensures.value c.in-Some.ensures.whole c.in-Some.ensures.sides in
+    sym-parts-at journal c.conclusion_of.ensures.legal c.args.premise.now c.requires c.args.premise.now.theorem refl c.conclusion_of.ensures.theorem
+    c.conclusion_of.result.now relation a b c.conclusion_of.ensures.value c.in-Some.ensures.whole c.in-Some.ensures.sides in
     is_known-where c.mk_comb.new.recorder.theory a parts.ty
     (known_in c.mk_comb.new.recorder.theory journal.theory (image a) parts.ty (c.in-Ok-mk_comb.ensures.continues.theory ∙ c.in-Ok.ensures.continues.theory) parts.left_known)
 
@@ -81,7 +85,8 @@ returns-in-Err-refl_known-clause-outcome c =
     let a = c.in-Some.parts.left.now in
     let b = c.in-Some.parts.right.now in
     let parts =
-    sym-parts-at journal c.conclusion_of.ensures.legal c.args.premise.now c.requires c.args.premise.now.theorem refl c.conclusion_of.ensures.theorem c.conclusion_of.result.now relation a b c.conclusion_of.ensures.value c.in-Some.ensures.whole c.in-Some.ensures.sides in
+    sym-parts-at journal c.conclusion_of.ensures.legal c.args.premise.now c.requires c.args.premise.now.theorem refl c.conclusion_of.ensures.theorem
+    c.conclusion_of.result.now relation a b c.conclusion_of.ensures.value c.in-Some.ensures.whole c.in-Some.ensures.sides in
     let at = equality_at parts.ty in
     let known = known_in c.mk_comb.new.recorder.theory journal.theory (image a) parts.ty (c.in-Ok-mk_comb.ensures.continues.theory ∙ c.in-Ok.ensures.continues.theory) parts.left_known in
     sym-past c.in-Err-refl_known.fault journal.theory premise relation a b parts (nameless_within_limits (nameless_equation parts.ty (image a) (image a)))
@@ -103,14 +108,17 @@ returns-in-Err-mk_comb-2-clause-outcome c =
     let a = c.in-Some.parts.left.now in
     let b = c.in-Some.parts.right.now in
     let parts =
-    sym-parts-at journal c.conclusion_of.ensures.legal c.args.premise.now c.requires c.args.premise.now.theorem refl c.conclusion_of.ensures.theorem c.conclusion_of.result.now relation a b c.conclusion_of.ensures.value c.in-Some.ensures.whole c.in-Some.ensures.sides in
+    sym-parts-at journal c.conclusion_of.ensures.legal c.args.premise.now c.requires c.args.premise.now.theorem refl c.conclusion_of.ensures.theorem
+    c.conclusion_of.result.now relation a b c.conclusion_of.ensures.value c.in-Some.ensures.whole c.in-Some.ensures.sides in
     let at = equality_at parts.ty in
     let same = relation-shows journal.theory premise relation a b parts c.in-Ok.same.theorem (c.in-Ok.ensures.derives (equality_type parts.ty) parts.relation_known) in
     let applied =
     c.in-Ok-mk_comb.ensures.derives [] (images premise) parts.ty (function_type parts.ty bool_type) at at (image a) (image b) same parts.shows in
     let known = known_in c.mk_comb.new.recorder.theory journal.theory (image a) parts.ty (c.in-Ok-mk_comb.ensures.continues.theory ∙ c.in-Ok.ensures.continues.theory) parts.left_known in
     let reflexive = c.in-Ok-refl_known.ensures.derives parts.ty known in
-    sym-past c.in-Err-mk_comb-2.fault journal.theory premise relation a b parts (nameless_within_limits (nameless_equation bool_type (nameless_equation parts.ty (image a) (image a)) (nameless_equation parts.ty (image b) (image a))))
+    sym-past c.in-Err-mk_comb-2.fault journal.theory premise relation a b parts
+    (nameless_within_limits (nameless_equation bool_type (nameless_equation parts.ty (image a) (image a))
+    (nameless_equation parts.ty (image b) (image a))))
     (c.in-Err-mk_comb-2.ensures.derives ([] ++ images premise) [] parts.ty bool_type (app at (image a)) (app at (image b)) (image a) (image a) applied reflexive)
     (congruence-within parts.ty (image a) (image b))
 
@@ -157,7 +165,8 @@ returns-clause-outcome c =
     let a = c.in-Some.parts.left.now in
     let b = c.in-Some.parts.right.now in
     let parts =
-    sym-parts-at journal c.conclusion_of.ensures.legal c.args.premise.now c.requires c.args.premise.now.theorem refl c.conclusion_of.ensures.theorem c.conclusion_of.result.now relation a b c.conclusion_of.ensures.value c.in-Some.ensures.whole c.in-Some.ensures.sides in
+    sym-parts-at journal c.conclusion_of.ensures.legal c.args.premise.now c.requires c.args.premise.now.theorem refl c.conclusion_of.ensures.theorem
+    c.conclusion_of.result.now relation a b c.conclusion_of.ensures.value c.in-Some.ensures.whole c.in-Some.ensures.sides in
     let at = equality_at parts.ty in
     let same = relation-shows journal.theory premise relation a b parts c.in-Ok.same.theorem (c.in-Ok.ensures.derives (equality_type parts.ty) parts.relation_known) in
     let applied =
@@ -167,7 +176,8 @@ returns-clause-outcome c =
     let congruence = c.in-Ok-mk_comb-2.ensures.derives ([] ++ images premise) [] parts.ty bool_type (app at (image a)) (app at (image b)) (image a) (image a) applied reflexive in
     sym-stated c.eq_mp_known.result journal.theory premise relation a b parts
     (c.eq_mp_known.ensures.gives (([] ++ images premise) ++ []) [] (nameless_equation parts.ty (image a) (image a)) (nameless_equation parts.ty (image b) (image a)) congruence reflexive)
-    (sym-names c.eq_mp_known.result journal.theory premise c.in-Ok.same.theorem c.in-Ok-mk_comb.applied.theorem c.in-Ok-refl_known.reflexive.theorem c.in-Ok-mk_comb-2.congruence.theorem relation a b parts
+    (sym-names c.eq_mp_known.result journal.theory premise c.in-Ok.same.theorem c.in-Ok-mk_comb.applied.theorem c.in-Ok-refl_known.reflexive.theorem
+    c.in-Ok-mk_comb-2.congruence.theorem relation a b parts
     c.in-Ok.ensures.names c.in-Ok-mk_comb.ensures.names c.in-Ok-refl_known.ensures.names c.in-Ok-mk_comb-2.ensures.names c.eq_mp_known.ensures.names)
 
 pub returns-clause-inferred : goal.returns-clause-inferred
