@@ -1,7 +1,9 @@
 -- Entries one after another.
 use Rattle.std.proofs.Common.{◌≡◌, ℕ, ◌+◌, ◌<◌, List, [], ◌∷◌, ◌++◌, length, take, Bool, true, false, nat_eq, map, Result, Ok, Err, OnOk, refl, sym, ◌∙◌, ap, subst, inl, inr, arith}
-use Rattle.std.proofs.Common.{suc}
-use Rattle.std.proofs.lemmas.List.{length-take-le}
+use Rattle.std.proofs.Common.{Some}
+use Rattle.std.specs.Prelude.{slice_get}
+use Rattle.std.proofs.lemmas.List.{length-take-le, take_more}
+use Rattle.std.proofs.lemmas.Option.{slice_get_within, get_or_from_slice_get}
 use Rattle.std.specs.List.{list_any}
 use Rattle.std.proofs.lemmas.Bool.Decides.{nat_tests}
 use Rattle.hol_model.specs.Logic.Derivable.{IsMember}
@@ -9,8 +11,6 @@ use Rattle.hol_model.proofs.Terms.Membership.{of_append}
 use Rattle.hol_journal.specs.Steps.{JournalEntry, derived, declared_type, declared_constant, terms_of, types_of}
 use Rattle.hol_journal_log.specs.LogWriting.{Written, Claimed, write_claim, write_claims, write_each, write_entry, write_entries, write_types}
 use Rattle.hol_journal_log.specs.Writing.{StandBelow, write_marked}
-use Rattle.hol_journal.specs.Views.{entry_of, entries_of}
-use Rattle.hol_journal.specs.declared.entry.Entry.{Entry}
 use Rattle.hol_journal_log.specs.declared.claim.Claim.{Claim}
 use Rattle.hol_journal_log.specs.Claims.{claim_of, claims_of}
 use Rattle.hol_journal_log.specs.Pruning.{entries_of_claims}
@@ -71,27 +71,24 @@ write_entries-push place (e ∷ entries) (false ∷ marks) entry mark w same =
 length_take : {X : Type 0} (xs : List X) (i : ℕ) → i < length xs → length (take i xs) ≡ i
 length_take xs i within = length-take-le i xs (omega arith)
 
-entries-push : (entries : List Entry) (entry : Entry) → entries_of (entries ++ entry ∷ []) ≡ entries_of entries ++ entry_of entry ∷ []
-entries-push [] entry = refl
-entries-push (first ∷ entries) entry = ap (λ l. entry_of first ∷ l) (entries-push entries entry)
+-- the entries before a place, and the entry there
+pub one_more_entry : (entries : List JournalEntry) (i : ℕ) (entry : JournalEntry) → slice_get entries i ≡ Some entry → take (i + 1) entries ≡ take i entries ++ entry ∷ []
+one_more_entry entries i entry there =
+    take_more entries i entry (slice_get_within entries i entry there) ∙ ap (λ e. take i entries ++ e ∷ []) (get_or_from_slice_get entries i entry entry there)
 
-length_entries : (entries : List Entry) → length (entries_of entries) ≡ length entries
-length_entries [] = refl
-length_entries (first ∷ entries) = ap suc (length_entries entries)
-
-pub entries_turn : (entries : List Entry) (marks : List Bool) (i : ℕ) (entry : Entry) (mark : Bool) (nothing w new : Written) → i < length entries → length marks ≡ length entries
+pub entries_turn : (entries : List JournalEntry) (marks : List Bool) (i : ℕ) (entry : JournalEntry) (mark : Bool) (nothing w new : Written) → i < length entries → length marks ≡ length entries
     → take (i + 1) entries ≡ take i entries ++ entry ∷ [] → take (i + 1) marks ≡ take i marks ++ mark ∷ []
-    → w ≡ write_entries 0 (entries_of (take i entries)) (take i marks) nothing → new ≡ write_marked i mark (entry_of entry) w
-    → new ≡ write_entries 0 (entries_of (take (i + 1) entries)) (take (i + 1) marks) nothing
+    → w ≡ write_entries 0 (take i entries) (take i marks) nothing → new ≡ write_marked i mark entry w
+    → new ≡ write_entries 0 (take (i + 1) entries) (take (i + 1) marks) nothing
 entries_turn entries marks i entry mark nothing w new within one_each longer_entries longer_marks before is =
-    let front = entries_of (take i entries) in
-    let count : length front ≡ i = length_entries (take i entries) ∙ length_take entries i within in
+    let front = take i entries in
+    let count : length front ≡ i = length_take entries i within in
     let marks_count : length (take i marks) ≡ i = length_take marks i (omega arith) in
-    let push = write_entries-push 0 front (take i marks) (entry_of entry) mark nothing (omega arith) in
+    let push = write_entries-push 0 front (take i marks) entry mark nothing (omega arith) in
     let place : 0 + length front ≡ i = omega arith in
-    let goal : write_entries 0 (entries_of (take (i + 1) entries)) (take (i + 1) marks) nothing ≡ write_entries 0 (front ++ entry_of entry ∷ []) (take i marks ++ mark ∷ []) nothing =
-    ap (λ l. write_entries 0 l (take (i + 1) marks) nothing) (ap entries_of longer_entries ∙ entries-push (take i entries) entry) ∙ ap (λ l. write_entries 0 (front ++ entry_of entry ∷ []) l nothing) longer_marks in
-    is ∙ (ap (write_marked i mark (entry_of entry)) before ∙ (ap (λ n. write_marked n mark (entry_of entry) (write_entries 0 front (take i marks) nothing)) (sym place) ∙ (sym push ∙ sym goal)))
+    let goal : write_entries 0 (take (i + 1) entries) (take (i + 1) marks) nothing ≡ write_entries 0 (front ++ entry ∷ []) (take i marks ++ mark ∷ []) nothing =
+    ap (λ l. write_entries 0 l (take (i + 1) marks) nothing) longer_entries ∙ ap (λ l. write_entries 0 (front ++ entry ∷ []) l nothing) longer_marks in
+    is ∙ (ap (write_marked i mark entry) before ∙ (ap (λ n. write_marked n mark entry (write_entries 0 front (take i marks) nothing)) (sym place) ∙ (sym push ∙ sym goal)))
 
 -- one more claim
 

@@ -5,8 +5,6 @@ use Rattle.std.specs.List.{list_any, slice_index_or, flat_map}
 use Rattle.indexmap.specs.IndexSet.{insert_key}
 use Rattle.indexmap.specs.IndexMap.{insert_entry}
 use Rattle.hol_model.specs.Terms.NamedTerm.{NamedTerm}
-use Rattle.hol_journal.specs.Views.{entry_of, entries_of as journal_entries}
-use Rattle.hol_journal.specs.declared.entry.Entry.{Entry}
 use Rattle.hol_journal_log.proofs.StepLineLemmas.{both_parts-push}
 use Rattle.std.specs.Str.{bytes_eq}
 use Rattle.std.proofs.lemmas.Slice.Eq.{bytes_eq-Decides}
@@ -14,7 +12,8 @@ use Rattle.hol_model.specs.Logic.Derivable.{IsMember}
 use Rattle.hol_model.specs.Goals.Goals.{Sequent}
 use Rattle.hol_model.proofs.Terms.Membership.{of_append, IsMember-append_left, IsMember-append_right}
 use Rattle.hol_model.proofs.Tests.{first_of_neither, second_of_neither}
-use Rattle.hol_journal.specs.Steps.{Step, JournalEntry, derived, declared_type, declared_constant, entries_of, both_parts}
+use Rattle.hol_journal.specs.Steps.{Step, by_refl, by_trans, by_mk_comb, by_abs, by_beta, by_assume, by_eq_mp, by_deduct, by_inst, by_inst_type, by_eta, by_select, by_definition, JournalEntry, derived, declared_type, declared_constant, entries_of, both_parts}
+use Rattle.hol_journal.specs.Journal.{added_by}
 use Rattle.hol_journal_log.specs.Noted.{AreNoted}
 use Rattle.hol_journal_log.specs.Needed.{names_in, names_in_term, introduced_by, IsNeeded, by_claim, by_citation, by_name, StandOnEarlier, MarksNeeded}
 use Rattle.hol_journal_log.specs.Marking.{IsMarkedAt, AreMarked, held_names, is_reached, cited_by, CitesWithin, IsEntryMarked, Marks, Notes, is_noted, IsMarkedFrom}
@@ -326,15 +325,38 @@ entry_marked (Ok x) place entry marks middle new_marks names new_names reaches f
 }
 entry_marked (Err e) place entry marks middle new_marks names new_names reaches first second notes = tt
 
--- the entry of the code at a place
-pub entry_there : (entries : List Entry) (at : ℕ) (entry : Entry) → at < length entries → entry ≡ get_or entries at entry → slice_get (journal_entries entries) at ≡ Some (entry_of entry)
-entry_there [] at entry within is = absurd (omega arith)
-entry_there (first ∷ entries) zero entry within is = ap (λ e. Some (entry_of e)) (sym is)
-entry_there (first ∷ entries) (suc at) entry within is = entry_there entries at entry (omega arith) is
+-- the entry at a place
+pub entry_at : (entries : List JournalEntry) (at : ℕ) → at < length entries → (entry : JournalEntry) × (slice_get entries at ≡ Some entry)
+entry_at [] at within = absurd (omega arith)
+entry_at (first ∷ entries) zero within = (first, refl)
+entry_at (first ∷ entries) (suc at) within = entry_at entries at (omega arith)
 
-pub length_entries : (entries : List Entry) → length (journal_entries entries) ≡ length entries
-length_entries [] = refl
-length_entries (first ∷ entries) = ap suc (length_entries entries)
+-- an entry that adds nothing introduces no name
+introduces_nothing : (entry : JournalEntry) → added_by entry ≡ [] → introduced_by entry ≡ None
+introduces_nothing (derived (by_refl term) sequent) adds = refl
+introduces_nothing (derived (by_trans first second) sequent) adds = refl
+introduces_nothing (derived (by_mk_comb first second) sequent) adds = refl
+introduces_nothing (derived (by_abs binder theorem) sequent) adds = refl
+introduces_nothing (derived (by_beta term) sequent) adds = refl
+introduces_nothing (derived (by_assume term) sequent) adds = refl
+introduces_nothing (derived (by_eq_mp first second) sequent) adds = refl
+introduces_nothing (derived (by_deduct first second) sequent) adds = refl
+introduces_nothing (derived (by_inst theorem pairs) sequent) adds = refl
+introduces_nothing (derived (by_inst_type theorem pairs) sequent) adds = refl
+introduces_nothing (derived by_eta sequent) adds = refl
+introduces_nothing (derived by_select sequent) adds = refl
+introduces_nothing (derived (by_definition name term) sequent) adds = cc
+introduces_nothing (declared_type name) adds = cc
+introduces_nothing (declared_constant name ty) adds = cc
+
+-- one that adds nothing is passed over, where it is not marked
+pub untold_passed : {A E : Type 0} (answer : Result A E) (place : ℕ) (entry : JournalEntry) (marks : List Bool) (names : List (List ℕ)) → added_by entry ≡ []
+    → OnOk answer (slice_index_or marks place false ≡ false) → OnOk answer (IsEntryMarked place entry marks names marks names)
+untold_passed (Ok x) place entry marks names adds unmarked =
+    let none : introduced_by entry ≡ None = introduces_nothing entry adds in
+    let passes : is_reached place entry marks names ≡ false = rw (unmarked, none) refl in
+    entry_passed place entry marks names passes
+untold_passed (Err e) place entry marks names adds unmarked = tt
 
 -- an entry cites within the marks
 pub cites_within : (entries : List JournalEntry) (at count : ℕ) (entry : JournalEntry) → StandOnEarlier entries → slice_get entries at ≡ Some entry → at < count → CitesWithin entry count

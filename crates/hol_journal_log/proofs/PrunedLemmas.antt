@@ -6,7 +6,6 @@ use Rattle.hol_model.proofs.Terms.Membership.{of_map, of_append}
 use Rattle.hol_model.specs.Logs.LogLine.{LogLine}
 use Rattle.hol_journal.specs.Steps.{derived, sequent_of_theorem}
 use Rattle.hol_journal.specs.Journal.{Journal, IsJournal}
-use Rattle.hol_journal_log.specs.Needed.{StandOnEarlier}
 use Rattle.hol_journal_log.specs.LogWriting.{Claimed}
 use Rattle.hol_journal_log.specs.Pruning.{IsPruned, AreMade, IsFitting, AreFitting, HaveIdentifiers, HasNames, entries_of_claims}
 use Rattle.hol_journal_log.specs.LogAccepted.{IsFormulaWithin, IsAccepted, LogsAreAccepted}
@@ -18,22 +17,14 @@ use Rattle.hol_model.specs.Logic.Theory.{Theory}
 use Rattle.hol_model.specs.Terms.NamedTerm.{NamedTerm, is_within_limits}
 use Rattle.hol_model.proofs.Tests.{first_of_both, second_of_both}
 use Rattle.std.specs.List.{All, list_all}
-use Rattle.hol_journal.specs.Views.{entries_of}
-use Rattle.hol_journal.specs.declared.entry.Entry.{Entry}
-use Rattle.hol_journal_log.proofs.EarlierEntries.{stands-on-earlier}
-use Rattle.hol_journal_log.proofs.MarkingLemmas.{within, length_entries}
+use Rattle.hol_journal_log.proofs.MarkingLemmas.{within}
 
-pub stored_earlier : (journal : Journal) (entries : List Entry) → IsJournal journal → entries_of entries ≡ journal.entries → StandOnEarlier (entries_of entries)
-stored_earlier journal entries is same = subst StandOnEarlier (sym same) (stands-on-earlier journal is)
-
-pub cited_within : (journal : Journal) (entries : List Entry) (claims : List Claimed) (cited : List ℕ) → AreMade journal claims → entries_of entries ≡ journal.entries → cited ≡ entries_of_claims claims
-    → (number : ℕ) → IsMember number cited → number < length entries
-cited_within journal entries claims cited made same is number member =
+pub cited_within : (journal : Journal) (claims : List Claimed) (cited : List ℕ) → AreMade journal claims → cited ≡ entries_of_claims claims
+    → (number : ℕ) → IsMember number cited → number < length journal.entries
+cited_within journal claims cited made is number member =
     let claim = of_map (λ (c : Claimed). c.made.entry) number claims (subst (λ l. IsMember number l) is member) in
     let by = made claim.0 claim.1 in
-    let there : slice_get (entries_of entries) number ≡ slice_get journal.entries claim.0.made.entry = ap (λ l. slice_get l number) same ∙ ap (slice_get journal.entries) claim.2 in
-    let inside = within (entries_of entries) number (derived by.step (sequent_of_theorem claim.0.made.theorem)) (there ∙ by.there) in
-    omega (arith, length_entries entries)
+    within journal.entries number (derived by.step (sequent_of_theorem claim.0.made.theorem)) (ap (slice_get journal.entries) claim.2 ∙ by.there)
 
 -- fitting theorems
 

@@ -15,7 +15,7 @@ use std::alloc::Global;
 /// The text of the log of the claims, which `pruned` gives, within the limit on texts. Where each claim's name is an
 /// identifier, it is accepted, with these claims, over entries of the recorder's theory.
 ///
-/// Refusals: Memory, and TooLong, where the text would be longer.
+/// Refusals: Memory, also where an entry that the log needs is not kept, and TooLong, where the text would be longer.
 pub fn log_text<'a>(
     recorder: &'a Recorder,
     alloc: Global,

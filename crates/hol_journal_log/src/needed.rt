@@ -1,17 +1,18 @@
 // Which entries of a journal the log of some theorems needs.
-ghost use Rattle.std.specs.Prelude.{◌≡◌, ◌<◌, ℕ, List, [], ◌∷◌, ◌++◌, length, slice_get, Some, IfOk, IfErr, OnOk, IsTrue};
-ghost use Rattle.std.specs.List.{flat_map};
+ghost use Rattle.std.specs.Prelude.{◌≡◌, ◌<◌, ℕ, List, [], ◌∷◌, ◌++◌, length, false, slice_get, Some, IfOk, IfErr, OnOk, IsTrue};
+ghost use Rattle.std.specs.List.{flat_map, slice_index_or};
 ghost use Rattle.hol_model.specs.Logic.Derivable.{IsMember};
 ghost use Rattle.hol_model.specs.declared.fault.Fault.TheVariants.{Memory};
 ghost use Rattle.hol_journal.specs.Steps as steps;
-ghost use Rattle.hol_journal.specs.Steps.{terms_of, types_of, both_parts};
-ghost use Rattle.hol_journal.specs.Views.{step_of, entry_of, entries_of};
+ghost use Rattle.hol_journal.specs.Steps.{JournalEntry, terms_of, types_of, both_parts};
+ghost use Rattle.hol_journal.specs.Views.{step_of, entry_of};
 ghost use Rattle.hol_journal_log.specs.Needed.{names_in_type, names_in_term, names_in, introduced_by, MarksNeeded, StandOnEarlier};
 ghost use Rattle.hol_journal_log.specs.Marking as marking;
 ghost use Rattle.hol_journal_log.specs.Marking.{Marks, Notes, IsMarkedFrom};
 
 use crate::mark::mark_of;
 use crate::same::is_same;
+use hol_journal::Recorder;
 use hol_journal::entry::{Entry, Rule};
 use hol_model::Fault;
 use hol_terms::{Parts, Term};
@@ -92,20 +93,20 @@ impl<'a> Names<'a> {
     }
 }
 
-/// Which entries are needed for the theorems of the claimed entries.
+/// Which entries are needed for the theorems of the claimed entries. Refusal: Memory, also where one of them is not kept.
 pub(crate) fn needed(
     alloc: Global,
-    entries: &[Entry],
+    recorder: &Recorder,
     claimed: &[usize],
 ) -> Result<Vec<bool>, Fault>
-    requires earlier { StandOnEarlier (entries_of entries.now) }
-    requires within { (number : ℕ) → IsMember number claimed.now → number < length entries.now }
-    ensures ok { IfOk result (λ marks. MarksNeeded (entries_of entries.now) claimed.now marks.items) }
+    requires earlier { StandOnEarlier recorder.now.entries }
+    requires within { (number : ℕ) → IsMember number claimed.now → number < length recorder.now.entries }
+    ensures ok { IfOk result (λ marks. MarksNeeded recorder.now.entries claimed.now marks.items) }
     ensures err { IfErr result (λ fault. fault ≡ Memory) }
 {
-    let mut marks = marks_of(alloc, entries.len(), claimed)?;
+    let mut marks = marks_of(alloc, recorder.entries(), claimed)?;
     let mut names = Names::new(alloc);
-    match mark_all(entries, claimed, &mut marks, &mut names) {
+    match mark_all(recorder, claimed, &mut marks, &mut names) {
         Ok(()) => Ok(marks),
         Err(fault) => Err(fault),
     }
@@ -127,19 +128,54 @@ fn marks_of(alloc: Global, count: usize, numbers: &[usize]) -> Result<Vec<bool>,
 
 // Marks the needed entries, from the newest back.
 fn mark_all<'a>(
-    entries: &'a [Entry],
+    recorder: &'a Recorder,
     claimed: &[usize],
     marks: &mut Vec<bool>,
     names: &mut Names<'a>,
 ) -> Result<(), Fault>
-    requires earlier { StandOnEarlier (entries_of entries.now) }
-    requires begun { IsMarkedFrom (entries_of entries.now) claimed.now (length entries.now) marks.old.items names.old }
-    ensures ok { OnOk result (IsMarkedFrom (entries_of entries.now) claimed.now 0 marks.new.items names.new) }
+    requires earlier { StandOnEarlier recorder.now.entries }
+    requires begun { IsMarkedFrom recorder.now.entries claimed.now (length recorder.now.entries) marks.old.items names.old }
+    ensures ok { OnOk result (IsMarkedFrom recorder.now.entries claimed.now 0 marks.new.items names.new) }
     ensures err { IfErr result (λ fault. fault ≡ Memory) }
 {
-    for behind in 0..entries.len() {
-        let at = entries.len() - 1 - behind;
-        mark_entry(&entries[at], at, marks, names)?;
+    let count = recorder.entries();
+    for behind in 0..count {
+        mark_stored(recorder, count - 1 - behind, marks, names)?;
+    }
+    Ok(())
+}
+
+// Marks the entry of a number, where it is needed, and what it needs.
+fn mark_stored<'a>(
+    recorder: &'a Recorder,
+    place: usize,
+    marks: &mut Vec<bool>,
+    names: &mut Names<'a>,
+) -> Result<(), Fault>
+    requires earlier { StandOnEarlier recorder.now.entries }
+    requires place { place < length marks.old.items }
+    ensures ok { (entry : JournalEntry) → slice_get recorder.now.entries place ≡ Some entry
+        → OnOk result (marking.IsEntryMarked place entry marks.old.items names.old marks.new.items names.new) }
+    ensures err { IfErr result (λ fault. fault ≡ Memory) }
+{
+    let stored = match recorder.stored(place) {
+        Ok(stored) => stored,
+        Err(fault) => return Err(fault),
+    };
+    match stored {
+        Some(entry) => mark_entry(entry, place, marks, names),
+        None => pass_over(place, marks),
+    }
+}
+
+// An entry that is not kept is not needed, as far as is known.
+fn pass_over(place: usize, marks: &[bool]) -> Result<(), Fault>
+    requires { place < length marks.now }
+    ensures ok { OnOk result (slice_index_or marks.now place false ≡ false) }
+    ensures err { IfErr result (λ fault. fault ≡ Memory) }
+{
+    if marks[place] {
+        return Err(Fault::Memory);
     }
     Ok(())
 }

@@ -6,7 +6,6 @@ ghost use Rattle.hol_journal_log.specs.Claims.{claims_of};
 ghost use Rattle.hol_journal_log.specs.LogWriting.{nothing_written, log_written, log_lines};
 ghost use Rattle.hol_journal_log.specs.Pruning.{IsPruned, AreMade, AreFitting, HaveIdentifiers, HasNames, entries_of_claims};
 ghost use Rattle.hol_journal_log.specs.LogAccepted.{IsAccepted};
-ghost use Rattle.hol_journal.specs.Views.{entries_of};
 ghost use Rattle.hol_journal_log.specs.Writer.{written};
 
 use crate::claim::Claim;
@@ -15,13 +14,13 @@ use crate::log_laws::journal_logs_are_accepted;
 use crate::needed::needed;
 use crate::writer::Writer;
 use hol_journal::Recorder;
-use hol_journal::entry::Entry;
 use hol_logtext::Line;
 use hol_model::Fault;
 use std::alloc::Global;
 
 /// The log of the claims: the lines of the entries that they need, and of the claims. Where each claim's name is an
-/// identifier, the log is accepted, over entries of the recorder's theory.
+/// identifier, the log is accepted, over entries of the recorder's theory. Refusal: Memory, also where an entry that it needs
+/// is not kept.
 pub fn pruned<'a>(
     recorder: &'a Recorder,
     alloc: Global,
@@ -33,7 +32,7 @@ pub fn pruned<'a>(
     ensures accepted { HaveIdentifiers (claims_of claims.now) → IfOk result (λ lines. IsAccepted recorder.now.theory (map line_of lines.items) (claims_of claims.now)) }
     ensures err { IfErr result (λ fault. fault ≡ Memory) }
 {
-    let _entries = recorder.stored();
+    let _entry = recorder.stored(0);
     journal_logs_are_accepted();
     claims_fit(claims);
     claims_log(recorder, alloc, claims)
@@ -49,12 +48,10 @@ fn claims_log<'a>(
     ensures named { IfOk result (λ lines. HasNames (map line_of lines.items)) }
     ensures err { IfErr result (λ fault. fault ≡ Memory) }
 {
-    let Some(entries) = recorder.stored() else {
-        return Err(Fault::Memory);
-    };
+    let _entry = recorder.stored(0);
     let cited = cited_entries(alloc, claims)?;
-    let marks = needed(alloc, entries, &cited)?;
-    log(alloc, entries, &marks, claims)
+    let marks = needed(alloc, recorder, &cited)?;
+    log(alloc, recorder, &marks, claims)
 }
 
 // The theorems of claims are theorems, of formulas within the limits.
@@ -83,17 +80,17 @@ fn cited_entries(alloc: Global, claims: &[Claim<'_>]) -> Result<Vec<usize>, Faul
 // The log of the marked entries and the claims.
 fn log<'a>(
     alloc: Global,
-    entries: &'a [Entry],
+    recorder: &'a Recorder,
     marks: &[bool],
     claims: &[Claim<'a>],
 ) -> Result<Vec<Line<'a>>, Fault>
-    requires { length marks.now ≡ length entries.now }
-    ensures lines { IfOk result (λ lines. map line_of lines.items ≡ log_lines (entries_of entries.now) marks.now (claims_of claims.now)) }
+    requires { length marks.now ≡ length recorder.now.entries }
+    ensures lines { IfOk result (λ lines. map line_of lines.items ≡ log_lines recorder.now.entries marks.now (claims_of claims.now)) }
     ensures named { IfOk result (λ lines. HasNames (map line_of lines.items)) }
     ensures err { IfErr result (λ fault. fault ≡ Memory) }
 {
     let mut writer = Writer::new(alloc);
-    match write_log(alloc, entries, marks, claims, &mut writer) {
+    match write_log(alloc, recorder, marks, claims, &mut writer) {
         Ok(()) => writer.finish(claims.len()),
         Err(fault) => Err(fault),
     }
@@ -102,17 +99,17 @@ fn log<'a>(
 // Writes the marked entries and the claims.
 fn write_log<'a>(
     alloc: Global,
-    entries: &'a [Entry],
+    recorder: &'a Recorder,
     marks: &[bool],
     claims: &[Claim<'a>],
     writer: &mut Writer<'a>,
 ) -> Result<(), Fault>
     requires begun { written writer.old ≡ nothing_written }
-    requires one_each { length marks.now ≡ length entries.now }
-    ensures ok { OnOk result (written writer.new ≡ log_written (entries_of entries.now) marks.now (claims_of claims.now)) }
+    requires one_each { length marks.now ≡ length recorder.now.entries }
+    ensures ok { OnOk result (written writer.new ≡ log_written recorder.now.entries marks.now (claims_of claims.now)) }
     ensures named { OnOk result (HasNames (written writer.new).lines) }
     ensures err { IfErr result (λ fault. fault ≡ Memory) }
 {
-    writer.write_entries(alloc, entries, marks)?;
+    writer.write_entries(alloc, recorder, marks)?;
     writer.write_claims(alloc, claims)
 }

@@ -1,13 +1,13 @@
 // The lines of a log, as they are written.
-ghost use Rattle.std.specs.Prelude.{◌≡◌, ◌+◌, length, List, [], ◌∷◌, ◌++◌, nat_eq, map, IfOk, IfErr, IfSome, OnOk, IsTrue, IsFalse};
+ghost use Rattle.std.specs.Prelude.{◌≡◌, ◌+◌, length, List, [], ◌∷◌, ◌++◌, nat_eq, map, Some, slice_get, IfOk, IfErr, IfSome, OnOk, IsTrue, IsFalse};
 ghost use Rattle.std.specs.List.{list_any};
 ghost use Rattle.hol_model.specs.Terms.NamedTerm.{NamedTerm};
 ghost use Rattle.hol_model.specs.Logs.LogLine.LogLine.{header_line, theorem_line, end_line};
 ghost use Rattle.hol_model.specs.Logs.LogLine.LogVersion.{second_version};
 ghost use Rattle.hol_model.specs.declared.fault.Fault.TheVariants.{Memory};
 ghost use Rattle.hol_logtext.specs.Lines.{line_of, rule_of};
-ghost use Rattle.hol_journal.specs.Steps.{both_parts};
-ghost use Rattle.hol_journal.specs.Views.{step_of, entry_of, entries_of};
+ghost use Rattle.hol_journal.specs.Steps.{JournalEntry, both_parts};
+ghost use Rattle.hol_journal.specs.Views.{step_of, entry_of};
 ghost use Rattle.hol_journal_log.specs.LogWriting as log;
 ghost use Rattle.hol_journal_log.specs.LogWriting.{Written, Claimed, nothing_written, number_of_entry, with_line};
 ghost use Rattle.hol_model.specs.Terms.NamedTerm.{variable, constant};
@@ -19,6 +19,7 @@ ghost use Rattle.hol_journal_log.specs.Writer.{line_of_type, line_of_term, writt
 
 use crate::claim::Claim;
 use crate::mark::mark_of;
+use hol_journal::Recorder;
 use hol_journal::entry::{Entry, Rule};
 use hol_kernel::Thm;
 use hol_logtext::{Line, Rule as LogRule, Version};
@@ -535,35 +536,36 @@ impl<'a> Writer<'a> {
         self.put_line(Line::Claim(name, theorem, conclusion, hypotheses))
     }
 
-    /// Writes the marked entries.
+    /// Writes the marked entries. Refusal: Memory, also where one of them is not kept.
     pub(crate) fn write_entries(
         &mut self,
         alloc: Global,
-        entries: &'a [Entry],
+        recorder: &'a Recorder,
         marks: &[bool],
     ) -> Result<(), Fault>
         requires begun { written self.old ≡ nothing_written }
-        requires one_each { length marks.now ≡ length entries.now }
-        ensures ok { OnOk result (written self.new ≡ log.write_entries 0 (entries_of entries.now) marks.now nothing_written) }
+        requires one_each { length marks.now ≡ length recorder.now.entries }
+        ensures ok { OnOk result (written self.new ≡ log.write_entries 0 recorder.now.entries marks.now nothing_written) }
         ensures named { OnOk result (KeepsNames (written self.old) (written self.new)) }
         ensures err { IfErr result (λ fault. fault ≡ Memory) }
     {
-        for at in 0..entries.len() {
-            self.write_marked(alloc, at, &entries[at], marks[at])?;
+        for at in 0..marks.len() {
+            self.write_marked(alloc, recorder, at, marks[at])?;
         }
         Ok(())
     }
 
-    // Writes an entry if it is marked.
+    // Writes the entry of a number if it is marked.
     fn write_marked(
         &mut self,
         alloc: Global,
+        recorder: &'a Recorder,
         number: usize,
-        entry: &'a Entry,
         mark: bool,
     ) -> Result<(), Fault>
         requires { StandBelow number (written self.old) }
-        ensures ok { OnOk result (written self.new ≡ write_marked number mark (entry_of entry.now) (written self.old)) }
+        ensures ok { (entry : JournalEntry) → slice_get recorder.now.entries number ≡ Some entry
+            → OnOk result (written self.new ≡ write_marked number mark entry (written self.old)) }
         ensures below { OnOk result (StandBelow (number + 1) (written self.new)) }
         ensures named { OnOk result (KeepsNames (written self.old) (written self.new)) }
         ensures err { IfErr result (λ fault. fault ≡ Memory) }
@@ -571,7 +573,11 @@ impl<'a> Writer<'a> {
         if !mark {
             return Ok(());
         }
-        self.write_entry(alloc, number, entry)
+        match recorder.stored(number) {
+            Ok(Some(entry)) => self.write_entry(alloc, number, entry),
+            Ok(None) => Err(Fault::Memory),
+            Err(fault) => Err(fault),
+        }
     }
 
     /// Writes claims.
