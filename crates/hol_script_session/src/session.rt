@@ -320,7 +320,7 @@ impl Session {
         ensures too_long { IsErrOf result TooLong → IsLongLog self.now.library.recorder (map log_claim (stored_claims ((stored_of self.now.library.store).theorems) (map string_bytes names.now))) }
         ensures refusals { IfErr result (Contains (TooLong ∷ Memory ∷ [])) }
     {
-        let _entries = self.library.recorder.stored();
+        let _entry = self.library.recorder.stored(0);
         match claims(alloc, &self.library.store, names) {
             Ok(claims) => log_text(&self.library.recorder, alloc, &claims),
             Err(fault) => Err(fault),
