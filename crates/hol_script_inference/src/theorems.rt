@@ -55,8 +55,30 @@ pub fn thm<H: Refiners>(
     }
 }
 
-// What `thm` asks for. The state stays.
+// What `thm` asks for. The state stays; where it is refused, what was recorded for it is not kept.
 fn theorem<H: Refiners>(
+    session: &mut Session,
+    alloc: Global,
+    hosts: &H,
+    asked: &Asked,
+) -> Result<Rec, Refused>
+    requires { IsSession session.old }
+    ensures answers { (tree : TheoremTree) → IsAsked asked.now tree
+        → AnswersTheorem (session_tools (H.refiners hosts.now) (H.conversions hosts.now)) (lemmas_of session.old) (theorem_given result) (state_of session.old) tree }
+    ensures makes { MakesTheorem session.old session.new (without_row result) }
+{
+    let mark = session.library.recorder.entries();
+    match inferred(session, alloc, hosts, asked) {
+        Ok(theorem) => Ok(theorem),
+        Err(refused) => {
+            session.library.recorder.give_back(mark);
+            Err(refused)
+        }
+    }
+}
+
+// What `thm` asks for. The state stays.
+fn inferred<H: Refiners>(
     session: &mut Session,
     alloc: Global,
     hosts: &H,
