@@ -132,11 +132,13 @@ impl Manager {
         }
     }
 
-    // Forgets the lemmas behind the first ones, so many.
-    fn forget(&mut self, lemmas: usize)
+    // Forgets the lemmas behind the first ones, so many, and then keeps no entry of a rule from a number on, which they alone
+    // cite.
+    fn forget(&mut self, lemmas: usize, entries: usize)
         ensures { Forgets self.old self.new lemmas }
     {
         self.prover.session.library.store.keep_lemmas(lemmas);
+        self.prover.session.library.recorder.give_back(entries);
     }
 
     /// `e` (HOL Light's `e`): refines the first open goal by an expression, and shows the goals that are open then. It may spend
@@ -159,6 +161,7 @@ impl Manager {
             Err(fault) => return Err(fault),
         };
         let lemmas = self.prover.session.library.store.lemma_count();
+        let entries = self.prover.session.library.recorder.entries();
         let mut fuel = Fuel::new(STEPS_LIMIT);
         match self
             .stack
@@ -166,14 +169,14 @@ impl Manager {
         {
             Ok(_told) => {}
             Err(fault) => {
-                self.forget(lemmas);
+                self.forget(lemmas, entries);
                 return Err(fault);
             }
         }
         match self.shown_or_undone(alloc) {
             Ok(printed) => Ok(printed),
             Err(fault) => {
-                self.forget(lemmas);
+                self.forget(lemmas, entries);
                 Err(fault)
             }
         }

@@ -5,7 +5,7 @@ pub returns : goal.returns
 returns c = record {
   stack = refl;
   scope = refl;
-  recorder = refl;
+  recorder = c.give_back.ensures;
   logic = refl;
   laws = refl;
   theorems = c.keep_lemmas.ensures.theorems;
