@@ -7,8 +7,8 @@ use hol_model::Fault;
 use hol_script::run;
 use hol_test_sample_devices::{Kept, push_filled, push_times};
 use hol_test_sample_logs::logs::{
-    CONSTANT, DECLARED, ENTRIES, LOG, LOG_OF_CONSTANT, LOG_OF_SHOWN_AGAIN, PROOFS, PROVED, SCRIPT,
-    SHOWN_AGAIN,
+    CONSTANT, DECLARED, ENTRIES, LOG, LOG_OF_CONSTANT, LOG_OF_SHOWN_AGAIN, MARKED, PROOFS, PROVED,
+    REFUSED, SCRIPT, SHOWN_AGAIN,
 };
 use std::alloc::Global;
 
@@ -73,6 +73,36 @@ fn has_journal(alloc: Global, wants_log: bool) -> Result<bool, Fault> {
 fn entries_are_kept_for_a_log_alone(rt: HostRuntime) {
     assert!(rt; has_journal(rt.alloc(), true) == Ok(true));
     assert!(rt; has_journal(rt.alloc(), false) == Ok(false));
+}
+
+// The log of the marked script with these commands at its marks, where so many are refused.
+fn log_of_marked(alloc: Global, commands: &[u8], refused: u64) -> Result<Option<Vec<u8>>, Fault> {
+    let mut script = Vec::new(alloc);
+    push_filled(&mut script, MARKED, commands)?;
+    let mut reader = FromRead::new(script.as_slice());
+    let mut writer = IntoWrite::new(Vec::new(alloc));
+    let mut log = Kept::new(alloc);
+    let ended = run(alloc, &mut reader, &mut writer, &mut log, true, &NoHost)?;
+    if ended.summary.refused == refused && ended.summary.printed == 2 {
+        Ok(Some(log.bytes))
+    } else {
+        Ok(None)
+    }
+}
+
+// Whether refused commands leave no trace in a log.
+fn logs_as_without_refused(alloc: Global) -> Result<bool, Fault> {
+    let plain = log_of_marked(alloc, b"", 0)?;
+    let other = log_of_marked(alloc, REFUSED, 4)?;
+    match (plain, other) {
+        (Some(plain), Some(other)) => Ok(plain.as_slice() == other.as_slice()),
+        _ => Ok(false),
+    }
+}
+
+#[test]
+fn logs_no_refused_command(rt: HostRuntime) {
+    assert!(rt; logs_as_without_refused(rt.alloc()) == Ok(true));
 }
 
 // So many times the first text, a variable, and so many times the second text.

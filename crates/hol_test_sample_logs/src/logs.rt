@@ -84,3 +84,12 @@ d: |- (([==>:bool->bool->bool] #) #)
 u: |- (([==>:bool->bool->bool] #) #)
 w: |- (([==>:bool->bool->bool] #) #)
 ";
+
+/// A script of two theorems, with marks where other commands may stand.
+pub const MARKED: &str = "\
+thm comm = TAUT `(p:bool) /\\ (q:bool) <=> (q:bool) /\\ (p:bool)` ;; # \
+goal `(a:bool) /\\ (b:bool) ==> (a:bool)` ;; # e TAUT_TAC ;; save w ;;";
+
+/// Commands that are refused there, the last where there is a goal because it takes too many steps.
+pub const REFUSED: &[u8] = b"\
+thm r = CONV (REPEATC (REWR_CONV comm)) `(a:bool) /\\ (b:bool)` ;; e REWRITE_TAC [comm] ;;";
