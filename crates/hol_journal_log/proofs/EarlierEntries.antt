@@ -46,7 +46,8 @@ type_names theory (function_type a b) name known m = elim (of_append name (names
   | inr r ↦ type_names theory b name (second_of_both (knows_type theory a) (knows_type theory b) known) r
 ]
 
-term_names : (theory : Theory) (term : NamedTerm) (name : List ℕ) → knows_types theory term ≡ true → knows_constants theory term ≡ true → IsMember name (names_in_term term) → is_new_name theory name ≡ false
+term_names : (theory : Theory) (term : NamedTerm) (name : List ℕ) → knows_types theory term ≡ true → knows_constants theory term ≡ true
+    → IsMember name (names_in_term term) → is_new_name theory name ≡ false
 term_names theory (variable other ty) name types constants m = type_names theory ty name types m
 term_names theory (constant other ty) name types constants (inl same) = ap (λ t. not t && not (is_declared theory name)) (ap (λ n. is_some (generic_type theory n)) same ∙ constants)
 term_names theory (constant other ty) name types constants (inr m) = type_names theory ty name types m

@@ -50,7 +50,8 @@ entry_below number (declared_constant name ty) old stand = let grows = write_typ
 pub unmarked_below : (number : ℕ) (old : Written) → StandBelow number old → StandBelow (number + 1) old
 unmarked_below number old stand = same_theorems number (number + 1) old old refl (omega arith) stand
 
-pub marked_answers : {A E : Type 0} (answer : Result A E) (number : ℕ) (entry : JournalEntry) (old new : Written) → StandBelow number old → OnOk answer (new ≡ write_entry number entry old) → OnOk answer (StandBelow (number + 1) new)
+pub marked_answers : {A E : Type 0} (answer : Result A E) (number : ℕ) (entry : JournalEntry) (old new : Written) → StandBelow number old
+    → OnOk answer (new ≡ write_entry number entry old) → OnOk answer (StandBelow (number + 1) new)
 marked_answers (Ok x) number entry old new stand is = subst (StandBelow (number + 1)) (sym is) (entry_below number entry old stand)
 marked_answers (Err e) number entry old new stand is = tt
 
@@ -100,12 +101,16 @@ map-push : {A B : Type 0} (f : A → B) (items : List A) (item : A) → map f (i
 map-push f [] item = refl
 map-push f (first ∷ items) item = ap (λ l. f first ∷ l) (map-push f items item)
 
-pub claims_turn : {A : Type 0} (f : A → Claimed) (front longer : List A) (item : A) (old w new : Written) → longer ≡ front ++ item ∷ [] → w ≡ write_claims (map f front) old → new ≡ write_claim (f item) w
+pub claims_turn : {A : Type 0} (f : A → Claimed) (front longer : List A) (item : A) (old w new : Written) → longer ≡ front ++ item ∷ []
+    → w ≡ write_claims (map f front) old → new ≡ write_claim (f item) w
     → new ≡ write_claims (map f longer) old
 claims_turn f front longer item old w new is before one =
-    one ∙ (ap (write_claim (f item)) before ∙ (sym (write_each-push write_claim (map f front) (f item) old) ∙ (ap (λ l. write_claims l old) (sym (map-push f front item)) ∙ ap (λ l. write_claims (map f l) old) (sym is))))
+    one ∙ (ap (write_claim (f item)) before
+    ∙ (sym (write_each-push write_claim (map f front) (f item) old)
+    ∙ (ap (λ l. write_claims l old) (sym (map-push f front item)) ∙ ap (λ l. write_claims (map f l) old) (sym is))))
 
-pub numbers_turn : {A : Type 0} (f : A → ℕ) (front longer : List A) (item : A) (numbers new : List ℕ) (number : ℕ) → longer ≡ front ++ item ∷ [] → numbers ≡ map f front → new ≡ numbers ++ number ∷ [] → number ≡ f item
+pub numbers_turn : {A : Type 0} (f : A → ℕ) (front longer : List A) (item : A) (numbers new : List ℕ) (number : ℕ) → longer ≡ front ++ item ∷ []
+    → numbers ≡ map f front → new ≡ numbers ++ number ∷ [] → number ≡ f item
     → new ≡ map f longer
 numbers_turn f front longer item numbers new number is before one same =
     one ∙ (ap (λ l. l ++ number ∷ []) before ∙ (ap (λ n. map f front ++ n ∷ []) same ∙ (sym (map-push f front item) ∙ ap (map f) (sym is))))

@@ -15,7 +15,8 @@ use Rattle.hol_model.proofs.Terms.Membership.{IsMember-append_left, IsMember-app
 use Rattle.hol_model.proofs.Tests.{second_of_both}
 use Rattle.hol_model.proofs.Logic.Later.{rest_is_legal}
 use Rattle.hol_journal.specs.Steps as steps
-use Rattle.hol_journal.specs.Steps.{by_refl, by_trans, by_mk_comb, by_abs, by_beta, by_assume, by_eq_mp, by_deduct, by_inst, by_inst_type, by_eta, by_select, by_definition, JournalEntry, derived, declared_constant}
+use Rattle.hol_journal.specs.Steps.{by_refl, by_trans, by_mk_comb, by_abs, by_beta, by_assume, by_eq_mp, by_deduct, by_inst, by_inst_type, by_eta}
+use Rattle.hol_journal.specs.Steps.{by_select, by_definition, JournalEntry, derived, declared_constant}
 use Rattle.hol_journal.specs.Journal.{added_by, grown_by, IsKnownWithin, IsKnownTypeWithin}
 use Rattle.hol_journal_log.specs.Needed.{names_in_type, names_in_term, introduced_by}
 use Rattle.hol_journal_log.proofs.LogParts.{less_fits}

@@ -29,7 +29,9 @@ use Rattle.hol_journal.specs.Lines.{NamesTerm, NamesTheorem}
 use Rattle.hol_journal.specs.Journal.{Journal, IsJournal, IsKnownWithin}
 use Rattle.hol_journal_log.specs.Needed.{MarksNeeded}
 use Rattle.hol_journal_log.specs.Needed.IsNeeded.{by_claim}
-use Rattle.hol_journal_log.specs.LogWriting.{Written, Claimed, nothing_written, terms_of_claim, with_line, with_type_line, with_term_line, type_line, term_line, write_type, write_variable, write_term, write_terms, write_claim, write_claims, write_entries, number_of_entry, number_of_term, theorem_number, is_among}
+use Rattle.hol_journal_log.specs.LogWriting.{Written, Claimed, nothing_written, terms_of_claim, with_line, with_type_line, with_term_line, type_line}
+use Rattle.hol_journal_log.specs.LogWriting.{term_line, write_type, write_variable, write_term, write_terms, write_claim, write_claims, write_entries}
+use Rattle.hol_journal_log.specs.LogWriting.{number_of_entry, number_of_term, theorem_number, is_among}
 use Rattle.hol_journal_log.specs.LogAccepted.{has_name, MayClaim, log_claim, LogsAreAccepted}
 use Rattle.hol_journal.proofs.Showing.{neither, record_sequent}
 use Rattle.hol_journal.proofs.SequentLemmas.{set_of-ordered}
@@ -83,7 +85,8 @@ lines_term (abstraction name ty body) written =
     let w1 = write_variable name ty written in
     let w2 = write_term body w1 in
     let line = term_line w2.types w2.terms (abstraction name ty body) in
-    goes_on-twice written.lines w2.lines (with_term_line line w2).lines (goes_on-twice written.lines w1.lines w2.lines (lines_leaf (variable name ty) ty written) (lines_term body w1)) (lines_term_line line w2)
+    goes_on-twice written.lines w2.lines (with_term_line line w2).lines
+    (goes_on-twice written.lines w1.lines w2.lines (lines_leaf (variable name ty) ty written) (lines_term body w1)) (lines_term_line line w2)
 
 lines_terms : (terms : List NamedTerm) (written : Written) → GoesOn written.lines (write_terms terms written).lines
 lines_terms [] written = goes_on-same written.lines
@@ -226,7 +229,8 @@ module _ (journal : Journal) (claimed : List ℕ) (marks : List Bool) (is : IsJo
       record {
         after = rest.after;
         log = rest.log;
-        claims_are = rest.claims_are ∙ ap (λ l. l ++ map log_claim claims) (done.claims ∙ ap (λ l. l ++ log_claim claim ∷ []) one.wrote.claims) ∙ append_assoc state.claims (log_claim claim ∷ []) (map log_claim claims);
+        claims_are = rest.claims_are ∙ ap (λ l. l ++ map log_claim claims) (done.claims ∙ ap (λ l. l ++ log_claim claim ∷ []) one.wrote.claims)
+            ∙ append_assoc state.claims (log_claim claim ∷ []) (map log_claim claims);
         theory = rest.theory ∙ one.wrote.theory;
       }
 

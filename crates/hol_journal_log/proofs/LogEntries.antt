@@ -1,5 +1,6 @@
 -- The lines of the entries that are marked are accepted, and give their sequents.
-use Rattle.std.proofs.Common.{◌≡◌, ◌⊎◌, ◌≤◌, ◌+◌, ℕ, suc, List, [], ◌∷◌, ◌++◌, length, Bool, true, false, not, refl, sym, ◌∙◌, ap, subst, inl, inr, Some, append-nil, append_assoc, length-append, arith, nat_le}
+use Rattle.std.proofs.Common.{◌≡◌, ◌⊎◌, ◌≤◌, ◌+◌, ℕ, suc, List, [], ◌∷◌, ◌++◌, length, Bool, true, false, not, refl, sym, ◌∙◌, ap, subst, inl, inr}
+use Rattle.std.proofs.Common.{Some, append-nil, append_assoc, length-append, arith, nat_le}
 use Rattle.std.specs.Prelude.{slice_get, ◌==◌}
 use Rattle.std.specs.List.{list_any, flat_map}
 use Rattle.std.proofs.lemmas.Bool.{lt-leb}
@@ -25,19 +26,23 @@ use Rattle.hol_model.proofs.Tests.{both}
 use Rattle.hol_model.proofs.Terms.TypeTests.{knows_type-Decides, is_fixed-Decides, is_new_name-Decides}
 use Rattle.hol_kernel.proofs.DefinitionLemmas.{own_type-is}
 use Rattle.hol_journal.specs.Steps as steps
-use Rattle.hol_journal.specs.Steps.{Step, by_refl, by_trans, by_mk_comb, by_abs, by_beta, by_assume, by_eq_mp, by_deduct, by_inst, by_inst_type, by_eta, by_select, by_definition, JournalEntry, derived, declared_constant, derived_sequent, sequent_at, terms_of, types_of}
+use Rattle.hol_journal.specs.Steps.{Step, by_refl, by_trans, by_mk_comb, by_abs, by_beta, by_assume, by_eq_mp, by_deduct, by_inst, by_inst_type}
+use Rattle.hol_journal.specs.Steps.{by_eta, by_select, by_definition, JournalEntry, derived, declared_constant, derived_sequent, sequent_at, terms_of}
+use Rattle.hol_journal.specs.Steps.{types_of}
 use Rattle.hol_journal.specs.Lines.{Numbering, line_of, NamesTheorem, NamesParts, MayGoOn}
 use Rattle.hol_journal.specs.Journal.{Journal, added_by, grown_by, theory_of, KnowsParts, IsJournal, IsKnownWithin, IsKnownTypeWithin}
 use Rattle.hol_journal_log.specs.Needed.{names_in_type, names_in_term, names_in, introduced_by, MarksNeeded}
 use Rattle.hol_journal_log.specs.Needed.IsNeeded.{by_citation, by_name}
 use Rattle.hol_journal_log.specs.LogAccepted.{IsPartOf}
-use Rattle.hol_journal_log.specs.LogWriting.{Written, nothing_written, theorem_number, number_of_type, numbering, with_line, with_theorem, write_type, write_types, write_terms, write_entry, write_entries}
+use Rattle.hol_journal_log.specs.LogWriting.{Written, nothing_written, theorem_number, number_of_type, numbering, with_line, with_theorem, write_type}
+use Rattle.hol_journal_log.specs.LogWriting.{write_types, write_terms, write_entry, write_entries}
 use Rattle.hol_journal.proofs.SequentLemmas.{term_type-image}
 use Rattle.hol_journal.proofs.JournalLemmas.{grown_by-last}
 use Rattle.hol_journal_log.proofs.LogTables.{passes_there, still_there, last_there, get_last}
 use Rattle.hol_journal_log.proofs.LogRuns.{IsLog, run-start, log-more, faultless, wrote-twice}
 use Rattle.hol_journal_log.proofs.LogParts.{HasRoom, less_fits, room_later, known_later, stays_type, names_type, names_term, writes_type, writes_types, writes_terms}
-use Rattle.hol_journal_log.proofs.KeptTheory.{in_flat_map, Agree, AgreeOn, type_kept, term_kept, entry_name, agree_both, agree_other, new_earlier, new_both, adds, grown_by-append, legal_before, room_before}
+use Rattle.hol_journal_log.proofs.KeptTheory.{in_flat_map, Agree, AgreeOn, type_kept, term_kept, entry_name, agree_both, agree_other, new_earlier}
+use Rattle.hol_journal_log.proofs.KeptTheory.{new_both, adds, grown_by-append, legal_before, room_before}
 use Rattle.hol_journal.proofs.Places.{get_earlier, get_at_end}
 
 -- what the line of a step adds to the theory
@@ -135,7 +140,8 @@ module _ (journal : Journal) (claimed : List ℕ) (marks : List Bool) (is : IsJo
     stand = λ place other there. ap (λ l. slice_get l place) two ∙ go place other (get_last old.theorems number place other (ap (λ l. slice_get l place) (sym one) ∙ there));
   }
     where
-      go : (place other : ℕ) → (slice_get old.theorems place ≡ Some other) ⊎ ((place ≡ length old.theorems) × (number ≡ other)) → slice_get (state.theorems ++ sequent ∷ []) place ≡ Some (sequent_at journal.entries other)
+      go : (place other : ℕ) → (slice_get old.theorems place ≡ Some other) ⊎ ((place ≡ length old.theorems) × (number ≡ other))
+          → slice_get (state.theorems ++ sequent ∷ []) place ≡ Some (sequent_at journal.entries other)
       go place other (inl earlier) = get_earlier state.theorems (sequent ∷ []) place (sequent_at journal.entries other) (stands.stand place other earlier)
       go place other (inr last) =
           ap (slice_get (state.theorems ++ sequent ∷ [])) (last.0 ∙ stands.count) ∙ get_at_end state.theorems sequent ∙ ap Some (sym at ∙ ap (sequent_at journal.entries) last.1)
@@ -218,7 +224,8 @@ module _ (journal : Journal) (claimed : List ℕ) (marks : List Bool) (is : IsJo
         less_agrees (inl none) name kept = subst (λ (t : Theory). Agree (t ++ theory_of before) state.theory name) (sym none) (covers.agree name (kept_before name kept))
         less_agrees (inr one) name kept =
             let differs : ¬ (entry_name one.0 ≡ name) = λ same. unmarked (kept here entry (get_at_end before entry) (one.2 ∙ ap Some same)) in
-            subst (λ (t : Theory). Agree (t ++ theory_of before) state.theory name) (sym one.1) (agree_other one.0 (theory_of before) state.theory name differs (covers.agree name (kept_before name kept)))
+            subst (λ (t : Theory). Agree (t ++ theory_of before) state.theory name) (sym one.1)
+            (agree_other one.0 (theory_of before) state.theory name differs (covers.agree name (kept_before name kept)))
 
     -- an entry that is marked is written
     covers-more : (written new : Written) (state : LogState) → Covers before written state → (done : WroteEntry here entry written new state) → Covers (before ++ entry ∷ []) new done.after
@@ -228,7 +235,8 @@ module _ (journal : Journal) (claimed : List ℕ) (marks : List Bool) (is : IsJo
           let sum = length-append (added_by entry) (theory_of before) in let same = ap length grown_is in
           let kept_sum = length-append (added_by entry) state.theory in let kept_same = ap length done.theory in let less = covers.fewer in omega arith;
       new_names = λ name is_new. ap (λ t. is_new_name t name) done.theory ∙ more_new (adds entry) name (ap (λ t. is_new_name t name) (sym grown_is) ∙ is_new);
-      agree = λ name kept. subst (λ (t : Theory). Agree t done.after.theory name) (sym grown_is) (subst (λ (t : Theory). Agree (added_by entry ++ theory_of before) t name) (sym done.theory) (more_agrees (adds entry) name kept));
+      agree = λ name kept. subst (λ (t : Theory). Agree t done.after.theory name) (sym grown_is)
+          (subst (λ (t : Theory). Agree (added_by entry ++ theory_of before) t name) (sym done.theory) (more_agrees (adds entry) name kept));
       inside = λ one m. subst (λ (t : Theory). IsMember one t) (sym grown_is) (elim (of_append one (added_by entry) state.theory (subst (λ (t : Theory). IsMember one t) done.theory m)) [
         | inl added ↦ IsMember-append_left one (added_by entry) (theory_of before) added
         | inr earlier ↦ IsMember-append_right one (added_by entry) (theory_of before) (covers.inside one earlier)
@@ -462,7 +470,8 @@ module _ (journal : Journal) (claimed : List ℕ) (marks : List Bool) (is : IsJo
   writes_entries before (entry ∷ after) (true ∷ left) number at all is_left written state covers =
       let marked : IsMarked (length before) = mark_here before (true ∷ left) is_left in
       let done = writes_entry before entry after all marked written state covers in
-      let next = subst (λ n. Covers (before ++ entry ∷ []) (write_entry n entry written) done.after) (sym at) (covers-more before entry after all written (write_entry (length before) entry written) state covers done) in
+      let next = subst (λ n. Covers (before ++ entry ∷ []) (write_entry n entry written) done.after) (sym at)
+      (covers-more before entry after all written (write_entry (length before) entry written) state covers done) in
       let longer = length_push before entry in
       writes_entries (before ++ entry ∷ []) after left (number + 1) (omega arith) (next_all before entry after all) (next_left before entry true left is_left)
       (write_entry number entry written) done.after next
@@ -476,7 +485,8 @@ module _ (journal : Journal) (claimed : List ℕ) (marks : List Bool) (is : IsJo
       other_mark same = cc
 
   pub entries_written : CoversAll (write_entries 0 journal.entries marks nothing_written)
-  entries_written = writes_entries [] journal.entries marks 0 refl refl (λ number. let same : 0 + number ≡ number = omega arith in ap (slice_get marks) same) nothing_written (first_state second_version) covers-start
+  entries_written = writes_entries [] journal.entries marks 0 refl refl
+      (λ number. let same : 0 + number ≡ number = omega arith in ap (slice_get marks) same) nothing_written (first_state second_version) covers-start
 
   pub room_of : (written : Written) (state : LogState) → Covers journal.entries written state → HasRoom state
   room_of written state covers =

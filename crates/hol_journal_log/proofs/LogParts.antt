@@ -24,11 +24,13 @@ use Rattle.hol_model.proofs.Terms.Images.{application-typed, image-abstraction}
 use Rattle.hol_model.proofs.Terms.Measures.{some_type}
 use Rattle.hol_model.proofs.Terms.WithinLimits.{within_limits-image}
 use Rattle.hol_journal.specs.Journal.{IsKnownWithin, IsKnownTypeWithin}
-use Rattle.hol_journal_log.specs.LogWriting.{Written, same_line, is_among, place_of, type_line, type_number, term_line, term_number, with_type_line, with_term_line, write_type, write_variable, write_term, write_types, write_terms}
+use Rattle.hol_journal_log.specs.LogWriting.{Written, same_line, is_among, place_of, type_line, type_number, term_line, term_number, with_type_line}
+use Rattle.hol_journal_log.specs.LogWriting.{with_term_line, write_type, write_variable, write_term, write_types, write_terms}
 use Rattle.hol_journal.specs.Lines.{NamesType, NamesTerm}
 use Rattle.hol_journal.proofs.Showing.{neither}
 use Rattle.hol_journal.proofs.SequentLemmas.{term_type-image}
-use Rattle.hol_journal_log.proofs.LogTables.{GoesOn, line_there, still_there, same_place, type_variable_is-part, function_is-part, declared_type_is-part, variable_is-part, constant_is-part, combination_is-part, abstraction_is-part}
+use Rattle.hol_journal_log.proofs.LogTables.{GoesOn, line_there, still_there, same_place, type_variable_is-part, function_is-part}
+use Rattle.hol_journal_log.proofs.LogTables.{declared_type_is-part, variable_is-part, constant_is-part, combination_is-part, abstraction_is-part}
 use Rattle.hol_journal_log.proofs.LogRuns.{IsLog, Wrote, wrote-nothing, wrote-twice, wrote-type_line, wrote-term_line, faultless}
 
 -- what has lines
@@ -93,7 +95,8 @@ stays_term types now_types terms now on_types on_terms (abstraction name ty body
     let binder = stays_type types now_types on_types ty has.0.0 in
     let one = stays_line terms now on_terms (variable_line name (type_number types ty)) (variable_line name (type_number now_types ty)) (ap (variable_line name) binder.number) has.0.1 in
     let two = stays_term types now_types terms now on_types on_terms body has.1 in
-    let s = stays_line terms now on_terms (term_line types terms (abstraction name ty body)) (term_line now_types now (abstraction name ty body)) (λ i. abstraction_line (one.1 i) (two.number i)) has.2 in
+    let s = stays_line terms now on_terms (term_line types terms (abstraction name ty body)) (term_line now_types now (abstraction name ty body))
+    (λ i. abstraction_line (one.1 i) (two.number i)) has.2 in
     record { has = ((binder.has, one.0), two.has, s.0); number = s.1 }
 
 -- what the numbers name
@@ -126,7 +129,8 @@ module _ (written : Written) (state : LogState) (log : IsLog written state) wher
       let two = names_type b has.1 in
       line_names_type (type_line written.types (function_type a b)) (function_type a b) has.2 (λ i. function_type (one.is i) (two.is i) ∷ [])
 
-  names_variable : (name : List ℕ) (ty : HolType) → HasVariable written.types written.terms name ty → NamesTerm state (place_of (variable_line name (type_number written.types ty)) written.terms) (free name ty)
+  names_variable : (name : List ℕ) (ty : HolType) → HasVariable written.types written.terms name ty
+      → NamesTerm state (place_of (variable_line name (type_number written.types ty)) written.terms) (free name ty)
   names_variable name ty has = let one = names_type ty has.0 in line_names_term (variable_line name (type_number written.types ty)) (free name ty) has.1 (λ i. free name (one.is i) ∷ [])
 
   pub names_term : (term : NamedTerm) → HasTerm written.types written.terms term → NamesTerm state (term_number written.types written.terms term) (image term)

@@ -1,5 +1,6 @@
 -- Lines that are accepted one after another, and what the tables of a log that is written stand for.
-use Rattle.std.proofs.Common.{◌≡◌, ◌⊎◌, ◌<◌, ◌+◌, ℕ, List, [], ◌∷◌, ◌++◌, length, Bool, true, false, refl, sym, ◌∙◌, ap, subst, inl, inr, Some, None, Ok, append-nil, append_assoc, length-append, if◌then◌else◌, arith}
+use Rattle.std.proofs.Common.{◌≡◌, ◌⊎◌, ◌<◌, ◌+◌, ℕ, List, [], ◌∷◌, ◌++◌, length, Bool, true, false, refl, sym, ◌∙◌, ap, subst, inl, inr, Some, None}
+use Rattle.std.proofs.Common.{Ok, append-nil, append_assoc, length-append, if◌then◌else◌, arith}
 use Rattle.std.specs.Prelude.{slice_get, map}
 use Rattle.std.specs.List.{list_all, slice_index_or}
 use Rattle.std.proofs.lemmas.List.Folds.{list_all-append}
@@ -50,7 +51,8 @@ pub record IsRun (lines : List LogLine) (state : LogState) : Type 0 where
 pub run-start : IsRun [] (first_state second_version)
 run-start = record { is = refl; accepted = λ _. tt }
 
-pub run-more : (lines : List LogLine) (state : LogState) (line : LogLine) → IsRun lines state → (has_name line ≡ true → first_cause state line ≡ None) → IsRun (lines ++ line ∷ []) (after_line state line)
+pub run-more : (lines : List LogLine) (state : LogState) (line : LogLine) → IsRun lines state
+    → (has_name line ≡ true → first_cause state line ≡ None) → IsRun (lines ++ line ∷ []) (after_line state line)
 run-more lines state line run next = record {
   is = after-last (first_state second_version) lines line ∙ ap (λ s. after_line s line) run.is;
   accepted = λ named.
@@ -151,7 +153,8 @@ types_later old new later = record { good = fault; same = makes }
     fault bool_line x is good = refl
     fault (declared_type_line name) x is good = refl
     fault (function_type_line a b) x is good =
-        neither _ _ (type_stays old new later a (first_of_neither (is_no_type old a) (is_no_type old b) good)).0 (type_stays old new later b (second_of_neither (is_no_type old a) (is_no_type old b) good)).0
+        neither _ _ (type_stays old new later a (first_of_neither (is_no_type old a) (is_no_type old b) good)).0
+        (type_stays old new later b (second_of_neither (is_no_type old a) (is_no_type old b) good)).0
     fault _ x is good = cc
 
     makes : (line : LogLine) (x : HolType) → new_types old line ≡ x ∷ [] → has_number_fault old line ≡ false → new_types new line ≡ x ∷ []
@@ -159,7 +162,8 @@ types_later old new later = record { good = fault; same = makes }
     makes bool_line x is good = is
     makes (declared_type_line name) x is good = is
     makes (function_type_line a b) x is good =
-        (λ i. function_type ((type_stays old new later a (first_of_neither (is_no_type old a) (is_no_type old b) good)).1 i) ((type_stays old new later b (second_of_neither (is_no_type old a) (is_no_type old b) good)).1 i) ∷ []) ∙ is
+        (λ i. function_type ((type_stays old new later a (first_of_neither (is_no_type old a) (is_no_type old b) good)).1 i)
+        ((type_stays old new later b (second_of_neither (is_no_type old a) (is_no_type old b) good)).1 i) ∷ []) ∙ is
     makes _ x is good = cc
 
 pub terms_later : (old new : LogState) → IsLater old new → SaysLater (has_number_fault old) (has_number_fault new) (new_terms old) (new_terms new)
@@ -169,18 +173,22 @@ terms_later old new later = record { good = fault; same = makes }
     fault (variable_line name ty) x is good = (type_stays old new later ty good).0
     fault (constant_line name ty) x is good = (type_stays old new later ty good).0
     fault (combination_line a b) x is good =
-        neither _ _ (term_stays old new later a (first_of_neither (is_no_term old a) (is_no_term old b) good)).0 (term_stays old new later b (second_of_neither (is_no_term old a) (is_no_term old b) good)).0
+        neither _ _ (term_stays old new later a (first_of_neither (is_no_term old a) (is_no_term old b) good)).0
+        (term_stays old new later b (second_of_neither (is_no_term old a) (is_no_term old b) good)).0
     fault (abstraction_line a b) x is good =
-        neither _ _ (term_stays old new later a (first_of_neither (is_no_term old a) (is_no_term old b) good)).0 (term_stays old new later b (second_of_neither (is_no_term old a) (is_no_term old b) good)).0
+        neither _ _ (term_stays old new later a (first_of_neither (is_no_term old a) (is_no_term old b) good)).0
+        (term_stays old new later b (second_of_neither (is_no_term old a) (is_no_term old b) good)).0
     fault _ x is good = cc
 
     makes : (line : LogLine) (x : Nameless) → new_terms old line ≡ x ∷ [] → has_number_fault old line ≡ false → new_terms new line ≡ x ∷ []
     makes (variable_line name ty) x is good = ap (λ t. Nameless.free name t ∷ []) (type_stays old new later ty good).1 ∙ is
     makes (constant_line name ty) x is good = ap (λ t. Nameless.const name t ∷ []) (type_stays old new later ty good).1 ∙ is
     makes (combination_line a b) x is good =
-        (λ i. Nameless.app ((term_stays old new later a (first_of_neither (is_no_term old a) (is_no_term old b) good)).1 i) ((term_stays old new later b (second_of_neither (is_no_term old a) (is_no_term old b) good)).1 i) ∷ []) ∙ is
+        (λ i. Nameless.app ((term_stays old new later a (first_of_neither (is_no_term old a) (is_no_term old b) good)).1 i)
+        ((term_stays old new later b (second_of_neither (is_no_term old a) (is_no_term old b) good)).1 i) ∷ []) ∙ is
     makes (abstraction_line a b) x is good =
-        (λ i. abstraction_over ((term_stays old new later a (first_of_neither (is_no_term old a) (is_no_term old b) good)).1 i) ((term_stays old new later b (second_of_neither (is_no_term old a) (is_no_term old b) good)).1 i) ∷ []) ∙ is
+        (λ i. abstraction_over ((term_stays old new later a (first_of_neither (is_no_term old a) (is_no_term old b) good)).1 i)
+        ((term_stays old new later b (second_of_neither (is_no_term old a) (is_no_term old b) good)).1 i) ∷ []) ∙ is
     makes _ x is good = cc
 
 -- each state comes before the next
@@ -208,8 +216,10 @@ log-more written state line log other next = record {
   run = run-more written.lines state line log.run next;
   version = log.version;
   going_on = neither state.is_ended (ends line) log.going_on other.ends;
-  types = stands-later written.types _ _ _ _ state.types _ log.types (types_later state (after_line state line) (later-next state line)) (ap (λ l. state.types ++ l) other.types ∙ append-nil state.types);
-  terms = stands-later written.terms _ _ _ _ state.terms _ log.terms (terms_later state (after_line state line) (later-next state line)) (ap (λ l. state.terms ++ l) other.terms ∙ append-nil state.terms);
+  types = stands-later written.types _ _ _ _ state.types _ log.types (types_later state (after_line state line) (later-next state line))
+      (ap (λ l. state.types ++ l) other.types ∙ append-nil state.types);
+  terms = stands-later written.terms _ _ _ _ state.terms _ log.terms (terms_later state (after_line state line) (later-next state line))
+      (ap (λ l. state.terms ++ l) other.terms ∙ append-nil state.terms);
 }
 
 -- what else a line of a type or a term leaves as it is
@@ -301,7 +311,8 @@ wrote-type_line written state line x log part made good next = go (is_among line
         version = log.version;
         going_on = neither state.is_ended (ends line) log.going_on only.0.ends;
         types = stands-more written.types _ _ _ _ state.types _ line x log.types says (ap (λ l. state.types ++ l) made) (says.same line x made good) (says.good line x made good);
-        terms = stands-later written.terms _ _ _ _ state.terms _ log.terms (terms_later state (after_line state line) (later-next state line)) (ap (λ l. state.terms ++ l) only.1 ∙ append-nil state.terms);
+        terms = stands-later written.terms _ _ _ _ state.terms _ log.terms (terms_later state (after_line state line) (later-next state line))
+            (ap (λ l. state.terms ++ l) only.1 ∙ append-nil state.terms);
       };
       types = record { added = line ∷ []; is = refl };
       terms = goes_on-same written.terms;
@@ -312,7 +323,8 @@ wrote-type_line written state line x log part made good next = go (is_among line
       lines = record { added = line ∷ []; is = refl };
     }
 
-    go : (t : Bool) → is_among line written.types ≡ t → Wrote written (if t then written else new_type_line line written) state × (is_among line ((if t then written else new_type_line line written).types) ≡ true)
+    go : (t : Bool) → is_among line written.types ≡ t → Wrote written (if t then written else new_type_line line written) state
+        × (is_among line ((if t then written else new_type_line line written).types) ≡ true)
     go true there = (wrote-nothing written state log, there)
     go false there = (added, last_there (same_line line) written.types line part)
 
@@ -339,7 +351,8 @@ wrote-term_line written state line x log part made good next = go (is_among line
         run = run-more written.lines state line log.run next;
         version = log.version;
         going_on = neither state.is_ended (ends line) log.going_on only.0.ends;
-        types = stands-later written.types _ _ _ _ state.types _ log.types (types_later state (after_line state line) (later-next state line)) (ap (λ l. state.types ++ l) only.1 ∙ append-nil state.types);
+        types = stands-later written.types _ _ _ _ state.types _ log.types (types_later state (after_line state line) (later-next state line))
+            (ap (λ l. state.types ++ l) only.1 ∙ append-nil state.types);
         terms = stands-more written.terms _ _ _ _ state.terms _ line x log.terms says (ap (λ l. state.terms ++ l) made) (says.same line x made good) (says.good line x made good);
       };
       types = goes_on-same written.types;
@@ -351,6 +364,7 @@ wrote-term_line written state line x log part made good next = go (is_among line
       lines = record { added = line ∷ []; is = refl };
     }
 
-    go : (t : Bool) → is_among line written.terms ≡ t → Wrote written (if t then written else new_term_line line written) state × (is_among line ((if t then written else new_term_line line written).terms) ≡ true)
+    go : (t : Bool) → is_among line written.terms ≡ t → Wrote written (if t then written else new_term_line line written) state
+        × (is_among line ((if t then written else new_term_line line written).terms) ≡ true)
     go true there = (wrote-nothing written state log, there)
     go false there = (added, last_there (same_line line) written.terms line part)

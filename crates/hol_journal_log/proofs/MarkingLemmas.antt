@@ -1,5 +1,6 @@
 -- The steps of marking.
-use Rattle.std.proofs.Common.{get_or, Bor, Result, Ok, Err, OnOk, if◌then◌else◌, append_assoc, append-nil, ◌≡◌, ◌⊎◌, ℕ, zero, suc, ◌+◌, ◌<◌, ◌≤◌, List, [], ◌∷◌, ◌++◌, length, Bool, true, false, ◌||◌, Option, Some, None, refl, sym, ◌∙◌, ap, subst, inl, inr, arith}
+use Rattle.std.proofs.Common.{get_or, Bor, Result, Ok, Err, OnOk, if◌then◌else◌, append_assoc, append-nil, ◌≡◌, ◌⊎◌, ℕ, zero, suc, ◌+◌, ◌<◌, ◌≤◌}
+use Rattle.std.proofs.Common.{List, [], ◌∷◌, ◌++◌, length, Bool, true, false, ◌||◌, Option, Some, None, refl, sym, ◌∙◌, ap, subst, inl, inr, arith}
 use Rattle.std.specs.Prelude.{slice_get}
 use Rattle.std.specs.List.{list_any, slice_index_or, flat_map}
 use Rattle.indexmap.specs.IndexSet.{insert_key}
@@ -12,7 +13,8 @@ use Rattle.hol_model.specs.Logic.Derivable.{IsMember}
 use Rattle.hol_model.specs.Goals.Goals.{Sequent}
 use Rattle.hol_model.proofs.Terms.Membership.{of_append, IsMember-append_left, IsMember-append_right}
 use Rattle.hol_model.proofs.Tests.{first_of_neither, second_of_neither}
-use Rattle.hol_journal.specs.Steps.{Step, by_refl, by_trans, by_mk_comb, by_abs, by_beta, by_assume, by_eq_mp, by_deduct, by_inst, by_inst_type, by_eta, by_select, by_definition, JournalEntry, derived, declared_type, declared_constant, entries_of, both_parts}
+use Rattle.hol_journal.specs.Steps.{Step, by_refl, by_trans, by_mk_comb, by_abs, by_beta, by_assume, by_eq_mp, by_deduct, by_inst, by_inst_type}
+use Rattle.hol_journal.specs.Steps.{by_eta, by_select, by_definition, JournalEntry, derived, declared_type, declared_constant, entries_of, both_parts}
 use Rattle.hol_journal.specs.Journal.{added_by}
 use Rattle.hol_journal_log.specs.Noted.{AreNoted}
 use Rattle.hol_journal_log.specs.Needed.{names_in, names_in_term, introduced_by, IsNeeded, by_claim, by_citation, by_name, StandOnEarlier, MarksNeeded}
@@ -43,7 +45,8 @@ pub noted_member : (names : List (List ℕ)) (name : List ℕ) → is_noted name
 noted_member [] name noted = cc
 noted_member (other ∷ names) name noted = go (bytes_eq name other) refl noted (noted_member names name)
   where
-    go : (test : Bool) → bytes_eq name other ≡ test → (test || list_any (bytes_eq name) names) ≡ true → (list_any (bytes_eq name) names ≡ true → IsMember name names) → (name ≡ other) ⊎ IsMember name names
+    go : (test : Bool) → bytes_eq name other ≡ test → (test || list_any (bytes_eq name) names) ≡ true
+        → (list_any (bytes_eq name) names ≡ true → IsMember name names) → (name ≡ other) ⊎ IsMember name names
     go true is any later = inl ((bytes_eq-Decides name other).0 is)
     go false is any later = inr (later any)
 
@@ -172,7 +175,8 @@ module _ (entries : List JournalEntry) (claimed : List ℕ) (place : ℕ) (entry
           | inr (inr member) ↦ cited_needed user entry refl member
         ]
 
-        cited_member : (number user : ℕ) (step : Step) (sequent : Sequent) → user ≡ place → slice_get entries user ≡ Some (derived step sequent) → IsMember number (entries_of step) → IsMember number (cited_by entry)
+        cited_member : (number user : ℕ) (step : Step) (sequent : Sequent) → user ≡ place → slice_get entries user ≡ Some (derived step sequent)
+            → IsMember number (entries_of step) → IsMember number (cited_by entry)
         cited_member number user step sequent here using member =
             let same : entry ≡ derived step sequent = same_value (sym there ∙ ap (slice_get entries) (sym here) ∙ using) in
             subst (λ e. IsMember number (cited_by e)) (sym same) member
@@ -214,7 +218,8 @@ any_held : (name : List ℕ) (keys : List (Bor (List ℕ))) → list_any (λ key
 any_held name [] = refl
 any_held name (key ∷ keys) = ap (λ rest. bytes_eq name key.now || rest) (any_held name keys)
 
-pub noted_by : (answer : Bool) (keys : List (Bor (List ℕ))) (text name : List ℕ) (introduced : Option (List ℕ)) → answer ≡ list_any (λ key. bytes_eq text key.now) keys → text ≡ name → introduced ≡ Some name
+pub noted_by : (answer : Bool) (keys : List (Bor (List ℕ))) (text name : List ℕ) (introduced : Option (List ℕ))
+    → answer ≡ list_any (λ key. bytes_eq text key.now) keys → text ≡ name → introduced ≡ Some name
     → answer ≡ is_noted (held_names keys) introduced
 noted_by answer keys text name introduced is same introduces = is ∙ (any_held text keys ∙ (ap (λ n. is_noted (held_names keys) (Some n)) same ∙ ap (is_noted (held_names keys)) (sym introduces)))
 
@@ -225,7 +230,8 @@ held_end (first ∷ keys) key = ap (λ l. first.now ∷ l) (held_end keys key)
 pub note_put : (keys new_keys : List (Bor (List ℕ))) (key : Bor (List ℕ)) → new_keys ≡ insert_key (λ a b. bytes_eq a.now b.now) keys key → Notes (held_names keys) (held_names new_keys) (key.now ∷ [])
 note_put keys new_keys key put = go (list_any (λ other. bytes_eq key.now other.now) keys) refl put
   where
-    go : (test : Bool) → list_any (λ other. bytes_eq key.now other.now) keys ≡ test → new_keys ≡ (if test then keys else keys ++ key ∷ []) → Notes (held_names keys) (held_names new_keys) (key.now ∷ [])
+    go : (test : Bool) → list_any (λ other. bytes_eq key.now other.now) keys ≡ test → new_keys ≡ (if test then keys else keys ++ key ∷ [])
+        → Notes (held_names keys) (held_names new_keys) (key.now ∷ [])
     go true any is =
         let there : IsMember key.now (held_names keys) = noted_member (held_names keys) key.now (sym (any_held key.now keys) ∙ any) in
         subst (λ k. Notes (held_names keys) (held_names k) (key.now ∷ [])) (sym is) (record {
@@ -241,7 +247,8 @@ note_put keys new_keys key put = go (list_any (λ other. bytes_eq key.now other.
           only = λ n h. of_append n (held_names keys) (key.now ∷ []) h;
         })
 
-pub notes_two : {A E : Type 0} (answer : Result A E) (first second third : List (List ℕ)) (xs ys zs : List (List ℕ)) → zs ≡ xs ++ ys → Notes first second xs → OnOk answer (Notes second third ys) → OnOk answer (Notes first third zs)
+pub notes_two : {A E : Type 0} (answer : Result A E) (first second third : List (List ℕ)) (xs ys zs : List (List ℕ)) → zs ≡ xs ++ ys
+    → Notes first second xs → OnOk answer (Notes second third ys) → OnOk answer (Notes first third zs)
 notes_two (Ok x) first second third xs ys zs is early late = subst (Notes first third) (sym is) (Notes-twice first second third xs ys early late)
 notes_two (Err e) first second third xs ys zs is early late = tt
 
@@ -262,19 +269,22 @@ notes_kept (Err e) first third fourth names is notes = tt
 pub noted_more : (old new names : List (List ℕ)) (terms : List (ℕ × Bor NamedTerm)) → Notes old new names → AreNoted old terms → AreNoted new terms
 noted_more old new names terms notes are = record { noted = λ entry member name inside. notes.kept name (are.noted entry member name inside) }
 
-entry_in : {K V : Type 0} (e : K → K → Bool) (entries : List (K × V)) (key : K) (value : V) (entry : K × V) → IsMember entry (insert_entry e entries key value) → IsMember entry entries ⊎ (entry.1 ≡ value)
+entry_in : {K V : Type 0} (e : K → K → Bool) (entries : List (K × V)) (key : K) (value : V) (entry : K × V)
+    → IsMember entry (insert_entry e entries key value) → IsMember entry entries ⊎ (entry.1 ≡ value)
 entry_in {K} {V} e [] key value entry (inl same) = inr (ap (λ (p : K × V). p.1) same)
 entry_in e [] key value entry (inr none) = absurd none
 entry_in {K} {V} e (first ∷ rest) key value entry member = go (e key first.0) member (entry_in e rest key value entry)
   where
-    go : (test : Bool) → IsMember entry (if test then (first.0, value) ∷ rest else first ∷ insert_entry e rest key value) → (IsMember entry (insert_entry e rest key value) → IsMember entry rest ⊎ (entry.1 ≡ value))
+    go : (test : Bool) → IsMember entry (if test then (first.0, value) ∷ rest else first ∷ insert_entry e rest key value)
+        → (IsMember entry (insert_entry e rest key value) → IsMember entry rest ⊎ (entry.1 ≡ value))
         → IsMember entry (first ∷ rest) ⊎ (entry.1 ≡ value)
     go true (inl same) deeper = inr (ap (λ (p : K × V). p.1) same)
     go true (inr member) deeper = inl (inr member)
     go false (inl same) deeper = inl (inl same)
     go false (inr member) deeper = elim (deeper member) [ inl early ↦ inl (inr early) | inr new ↦ inr new ]
 
-pub noted_term : (e : ℕ → ℕ → Bool) (names : List (List ℕ)) (terms : List (ℕ × Bor NamedTerm)) (mark : ℕ) (term : Bor NamedTerm) → Notes names names (names_in_term term.now) → AreNoted names terms → AreNoted names (insert_entry e terms mark term)
+pub noted_term : (e : ℕ → ℕ → Bool) (names : List (List ℕ)) (terms : List (ℕ × Bor NamedTerm)) (mark : ℕ) (term : Bor NamedTerm)
+    → Notes names names (names_in_term term.now) → AreNoted names terms → AreNoted names (insert_entry e terms mark term)
 noted_term e names terms mark term notes are = record {
   noted = λ entry member name inside. elim (entry_in e terms mark term entry member) [
     | inl early ↦ are.noted entry early name inside
@@ -283,8 +293,11 @@ noted_term e names terms mark term notes are = record {
 }
 
 -- the names in a term that is kept are noted
-pub noted_at : (names : List (List ℕ)) (terms : List (ℕ × Bor NamedTerm)) (place mark : ℕ) (kept : Bor NamedTerm) (term : NamedTerm) → slice_get terms place ≡ Some (mark, kept) → kept.now ≡ term → AreNoted names terms → Notes names names (names_in_term term)
-noted_at names terms place mark kept term there is are = subst (λ t. Notes names names (names_in_term t)) is (record { kept = λ n h. h; added = are.noted (mark, kept) (member terms place there); only = λ n h. inl h })
+pub noted_at : (names : List (List ℕ)) (terms : List (ℕ × Bor NamedTerm)) (place mark : ℕ) (kept : Bor NamedTerm) (term : NamedTerm)
+    → slice_get terms place ≡ Some (mark, kept) → kept.now ≡ term → AreNoted names terms → Notes names names (names_in_term term)
+noted_at names terms place mark kept term there is are =
+    subst (λ t. Notes names names (names_in_term t)) is
+    (record { kept = λ n h. h; added = are.noted (mark, kept) (member terms place there); only = λ n h. inl h })
   where
     member : (terms : List (ℕ × Bor NamedTerm)) (place : ℕ) → slice_get terms place ≡ Some (mark, kept) → IsMember (mark, kept) terms
     member [] place there = cc
@@ -301,7 +314,9 @@ pub notes_pair_turn : {A : Type 0} (f : A → List (List ℕ)) (first second thi
 notes_pair_turn f first second third fourth front longer x before one two is =
     let all = Notes-twice first third fourth (flat_map f (both_parts front) ++ f x.0) (f x.1) (Notes-twice first second third (flat_map f (both_parts front)) (f x.0) before one) two in
     let same : flat_map f (both_parts longer) ≡ (flat_map f (both_parts front) ++ f x.0) ++ f x.1 =
-    ap (λ l. flat_map f (both_parts l)) is ∙ (ap (flat_map f) (both_parts-push front x.0 x.1) ∙ (flat_map-push f (both_parts front ++ x.0 ∷ []) x.1 ∙ ap (λ l. l ++ f x.1) (flat_map-push f (both_parts front) x.0))) in
+    ap (λ l. flat_map f (both_parts l)) is
+    ∙ (ap (flat_map f) (both_parts-push front x.0 x.1)
+    ∙ (flat_map-push f (both_parts front ++ x.0 ∷ []) x.1 ∙ ap (λ l. l ++ f x.1) (flat_map-push f (both_parts front) x.0))) in
     subst (Notes first fourth) (sym same) all
 
 -- the first marks
@@ -315,8 +330,10 @@ marked_more old new front longer number before more is = subst (AreMarked new) (
 pub entry_passed : (place : ℕ) (entry : JournalEntry) (marks : List Bool) (names : List (List ℕ)) → is_reached place entry marks names ≡ false → IsEntryMarked place entry marks names marks names
 entry_passed place entry marks names passes = record { marked = λ is. cc (is, passes); noted = λ is. cc (is, passes); kept_marks = λ _. refl; kept_names = λ _. refl }
 
-pub entry_marked : {A E : Type 0} (answer : Result A E) (place : ℕ) (entry : JournalEntry) (marks middle new_marks : List Bool) (names new_names : List (List ℕ)) → is_reached place entry marks names ≡ true
-    → Marks marks middle (place ∷ []) → Marks middle new_marks (cited_by entry) → OnOk answer (Notes names new_names (names_in entry)) → OnOk answer (IsEntryMarked place entry marks names new_marks new_names)
+pub entry_marked : {A E : Type 0} (answer : Result A E) (place : ℕ) (entry : JournalEntry) (marks middle new_marks : List Bool)
+    (names new_names : List (List ℕ)) → is_reached place entry marks names ≡ true
+    → Marks marks middle (place ∷ []) → Marks middle new_marks (cited_by entry) → OnOk answer (Notes names new_names (names_in entry))
+    → OnOk answer (IsEntryMarked place entry marks names new_marks new_names)
 entry_marked (Ok x) place entry marks middle new_marks names new_names reaches first second notes = record {
   marked = λ is. Marks-twice marks middle new_marks (place ∷ []) (cited_by entry) first second;
   noted = λ is. notes;

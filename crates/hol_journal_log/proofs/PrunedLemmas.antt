@@ -56,7 +56,8 @@ fitting_turn front longer claim is before one claimed member =
     push [] = refl
     push (first ∷ claims) = ap (λ l. claim_of first ∷ l) (push claims)
 
-pub accepted_answers : {A E : Type 0} (answer : Result A E) (lines : A → List LogLine) (journal : Journal) (claims : List Claimed) → LogsAreAccepted → IsJournal journal → AreMade journal claims → AreFitting claims
+pub accepted_answers : {A E : Type 0} (answer : Result A E) (lines : A → List LogLine) (journal : Journal) (claims : List Claimed) → LogsAreAccepted
+    → IsJournal journal → AreMade journal claims → AreFitting claims
     → IfOk answer (λ all. IsPruned journal claims (lines all)) → IfOk answer (λ all. HasNames (lines all)) → HaveIdentifiers claims → IfOk answer (λ all. IsAccepted journal.theory (lines all) claims)
 accepted_answers (Ok all) lines journal claims accepts is made fitting pruned named identifiers =
     let accepted = accepts journal pruned.marks claims is pruned.needed (subst HasNames pruned.is_log named)

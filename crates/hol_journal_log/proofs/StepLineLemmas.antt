@@ -95,8 +95,11 @@ pub claim_answers : {A E : Type 0} (answer : Result A E) (old one two new : Writ
     → OnOk answer (new ≡ with_line (claim_line claim.name theorem conclusion hypotheses) two) → OnOk answer (new ≡ write_claim claim old)
 claim_answers (Ok x) old one two new claim theorem conclusion hypotheses is are at put =
     let both = first_of_more old one two claim.made.theorem.conclusion conclusion claim.made.theorem.hypotheses hypotheses is are in
-    let line : claim_line claim.name theorem conclusion hypotheses ≡ claim_line claim.name (number_of_entry two claim.made.entry) (number_of_term two claim.made.theorem.conclusion) (map (number_of_term two) claim.made.theorem.hypotheses) = cc (at, both.1, are.numbered) in
-    put ∙ (ap (λ l. with_line l two) line ∙ ap (λ w. with_line (claim_line claim.name (number_of_entry w claim.made.entry) (number_of_term w claim.made.theorem.conclusion) (map (number_of_term w) claim.made.theorem.hypotheses)) w) both.0)
+    let line : claim_line claim.name theorem conclusion hypotheses ≡ claim_line claim.name (number_of_entry two claim.made.entry)
+    (number_of_term two claim.made.theorem.conclusion) (map (number_of_term two) claim.made.theorem.hypotheses) = cc (at, both.1, are.numbered) in
+    put ∙ (ap (λ l. with_line l two) line
+    ∙ ap (λ w. with_line (claim_line claim.name (number_of_entry w claim.made.entry) (number_of_term w claim.made.theorem.conclusion)
+    (map (number_of_term w) claim.made.theorem.hypotheses)) w) both.0)
 claim_answers (Err e) old one two new claim theorem conclusion hypotheses is are at put = tt
 
 -- a definition behind its term, and a declared constant behind its type
@@ -113,7 +116,8 @@ definition_answers (Ok x) old one new place number entry text name term sequent 
 definition_answers (Err e) old one new place number entry text name term sequent is same written put = tt
 
 pub declaration_answers : {A E : Type 0} (answer : Result A E) (old one new : Written) (place number : ℕ) (entry : JournalEntry) (text name : List ℕ) (ty : HolType)
-    → entry ≡ declared_constant name ty → text ≡ name → IsTypeWritten old one ty number → OnOk answer (new ≡ with_line (new_constant_line text number) one) → OnOk answer (new ≡ write_entry place entry old)
+    → entry ≡ declared_constant name ty → text ≡ name → IsTypeWritten old one ty number
+    → OnOk answer (new ≡ with_line (new_constant_line text number) one) → OnOk answer (new ≡ write_entry place entry old)
 declaration_answers (Ok x) old one new place number entry text name ty is same written put =
     let line : new_constant_line text number ≡ new_constant_line name (number_of_type one ty) = cc (same, written.numbered) in
     put ∙ (ap (λ l. with_line l one) line ∙ (ap (λ w. with_line (new_constant_line name (number_of_type w ty)) w) written.written ∙ ap (λ e. write_entry place e old) (sym is)))

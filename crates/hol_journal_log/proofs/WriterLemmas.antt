@@ -103,7 +103,8 @@ module _ (line : LogLine) (named : IsNamed line) (terms : List LogLine) (theorem
   was_type types among is = record { written = rw among; numbered = is }
 
   new_type : (types : List LogLine) → is_among line types ≡ false → place ≡ place_of line types
-      → IsTypeLineWritten (record { types = types; terms = terms; theorems = theorems; lines = lines }) (record { types = types ++ line ∷ []; terms = terms; theorems = theorems; lines = lines ++ line ∷ [] }) line place
+      → IsTypeLineWritten (record { types = types; terms = terms; theorems = theorems; lines = lines })
+      (record { types = types ++ line ∷ []; terms = terms; theorems = theorems; lines = lines ++ line ∷ [] }) line place
   new_type types among is =
       let put : place_of line (if is_among line types then types else types ++ line ∷ []) ≡ place_of line types = place-put (same_line line) types line named in
       let here : place_of line (types ++ line ∷ []) ≡ place_of line types = sym (ap (λ t. place_of line (if t then types else types ++ line ∷ [])) among) ∙ put in
@@ -120,14 +121,16 @@ module _ (key : TypeLine) (keys new_keys : List TypeLine) (terms : List LogLine)
   type_any = any-line type_line.ghosts.eq line_of_type type_lines_agree key keys
 
   pub type_was_there : is_new ≡ false
-      → IfOk answer (IsTypeLineWritten (record { types = map line_of_type keys; terms = terms; theorems = theorems; lines = lines }) (record { types = map line_of_type new_keys; terms = terms; theorems = theorems; lines = lines }) (line_of_type key))
+      → IfOk answer (IsTypeLineWritten (record { types = map line_of_type keys; terms = terms; theorems = theorems; lines = lines })
+      (record { types = map line_of_type new_keys; terms = terms; theorems = theorems; lines = lines }) (line_of_type key))
   type_was_there old =
       let any : list_any (type_line.ghosts.eq key) keys ≡ true = negated _ (sym is ∙ old) in
       let same : new_keys ≡ keys = put ∙ there-key type_line.ghosts.eq line_of_type type_lines_agree key keys any in
       answer_at answer place _ answers (rw same (was_type (line_of_type key) (type_is_named key) terms theorems lines place (map line_of_type keys) (sym type_any ∙ any) type_place))
 
   pub type_is_put : is_new ≡ true → (new_lines : List LogLine) → new_lines ≡ lines ++ line_of_type key ∷ []
-      → IfOk answer (IsTypeLineWritten (record { types = map line_of_type keys; terms = terms; theorems = theorems; lines = lines }) (record { types = map line_of_type new_keys; terms = terms; theorems = theorems; lines = new_lines }) (line_of_type key))
+      → IfOk answer (IsTypeLineWritten (record { types = map line_of_type keys; terms = terms; theorems = theorems; lines = lines })
+      (record { types = map line_of_type new_keys; terms = terms; theorems = theorems; lines = new_lines }) (line_of_type key))
   type_is_put new new_lines longer =
       let any : list_any (type_line.ghosts.eq key) keys ≡ false = not_negated _ (sym is ∙ new) in
       let same : map line_of_type new_keys ≡ map line_of_type keys ++ line_of_type key ∷ [] =
@@ -140,7 +143,8 @@ module _ (line : LogLine) (named : IsNamed line) (types : List LogLine) (theorem
   was_term terms among is = record { written = rw among; numbered = is }
 
   new_term : (terms : List LogLine) → is_among line terms ≡ false → place ≡ place_of line terms
-      → IsTermLineWritten (record { types = types; terms = terms; theorems = theorems; lines = lines }) (record { types = types; terms = terms ++ line ∷ []; theorems = theorems; lines = lines ++ line ∷ [] }) line place
+      → IsTermLineWritten (record { types = types; terms = terms; theorems = theorems; lines = lines })
+      (record { types = types; terms = terms ++ line ∷ []; theorems = theorems; lines = lines ++ line ∷ [] }) line place
   new_term terms among is =
       let put : place_of line (if is_among line terms then terms else terms ++ line ∷ []) ≡ place_of line terms = place-put (same_line line) terms line named in
       let here : place_of line (terms ++ line ∷ []) ≡ place_of line terms = sym (ap (λ t. place_of line (if t then terms else terms ++ line ∷ [])) among) ∙ put in
@@ -157,14 +161,16 @@ module _ (key : TermLine) (keys new_keys : List TermLine) (types : List LogLine)
   term_any = any-line term_line.ghosts.eq line_of_term term_lines_agree key keys
 
   pub term_was_there : is_new ≡ false
-      → IfOk answer (IsTermLineWritten (record { types = types; terms = map line_of_term keys; theorems = theorems; lines = lines }) (record { types = types; terms = map line_of_term new_keys; theorems = theorems; lines = lines }) (line_of_term key))
+      → IfOk answer (IsTermLineWritten (record { types = types; terms = map line_of_term keys; theorems = theorems; lines = lines })
+      (record { types = types; terms = map line_of_term new_keys; theorems = theorems; lines = lines }) (line_of_term key))
   term_was_there old =
       let any : list_any (term_line.ghosts.eq key) keys ≡ true = negated _ (sym is ∙ old) in
       let same : new_keys ≡ keys = put ∙ there-key term_line.ghosts.eq line_of_term term_lines_agree key keys any in
       answer_at answer place _ answers (rw same (was_term (line_of_term key) (term_is_named key) types theorems lines place (map line_of_term keys) (sym term_any ∙ any) term_place))
 
   pub term_is_put : is_new ≡ true → (new_lines : List LogLine) → new_lines ≡ lines ++ line_of_term key ∷ []
-      → IfOk answer (IsTermLineWritten (record { types = types; terms = map line_of_term keys; theorems = theorems; lines = lines }) (record { types = types; terms = map line_of_term new_keys; theorems = theorems; lines = new_lines }) (line_of_term key))
+      → IfOk answer (IsTermLineWritten (record { types = types; terms = map line_of_term keys; theorems = theorems; lines = lines })
+      (record { types = types; terms = map line_of_term new_keys; theorems = theorems; lines = new_lines }) (line_of_term key))
   term_is_put new new_lines longer =
       let any : list_any (term_line.ghosts.eq key) keys ≡ false = not_negated _ (sym is ∙ new) in
       let same : map line_of_term new_keys ≡ map line_of_term keys ++ line_of_term key ∷ [] =
@@ -223,8 +229,10 @@ term_flips (terms.Combination f a) (terms.Combination g b) = let first = number-
 term_flips (terms.Abstraction v a) (terms.Abstraction w b) = let first = number-flip v w in let second = number-flip a b in cc
 term_flips _ _ = refl
 
-pub type_at : (keys : List TypeLine) (key : TypeLine) (place : ℕ) (terms : List LogLine) (theorems : List ℕ) (lines : List LogLine) → IsDistinct type_line.ghosts.eq keys → Some key ≡ slice_get keys place
-    → IsTypeLineWritten (record { types = map line_of_type keys; terms = terms; theorems = theorems; lines = lines }) (record { types = map line_of_type keys; terms = terms; theorems = theorems; lines = lines }) (line_of_type key) place
+pub type_at : (keys : List TypeLine) (key : TypeLine) (place : ℕ) (terms : List LogLine) (theorems : List ℕ) (lines : List LogLine)
+    → IsDistinct type_line.ghosts.eq keys → Some key ≡ slice_get keys place
+    → IsTypeLineWritten (record { types = map line_of_type keys; terms = terms; theorems = theorems; lines = lines })
+    (record { types = map line_of_type keys; terms = terms; theorems = theorems; lines = lines }) (line_of_type key) place
 type_at keys key place terms theorems lines distinct there =
     let same : type_line.ghosts.eq key key ≡ true = type_lines_agree key key ∙ type_is_named key in
     let any : list_any (type_line.ghosts.eq key) keys ≡ true = any-there (type_line.ghosts.eq key) keys place key (sym there) same in
@@ -232,8 +240,10 @@ type_at keys key place terms theorems lines distinct there =
     was_type (line_of_type key) (type_is_named key) terms theorems lines place (map line_of_type keys) (sym (any-line type_line.ghosts.eq line_of_type type_lines_agree key keys) ∙ any)
     (sym first ∙ place-line type_line.ghosts.eq line_of_type type_lines_agree key keys)
 
-pub term_at : (keys : List TermLine) (key : TermLine) (place : ℕ) (types : List LogLine) (theorems : List ℕ) (lines : List LogLine) → IsDistinct term_line.ghosts.eq keys → Some key ≡ slice_get keys place
-    → IsTermLineWritten (record { types = types; terms = map line_of_term keys; theorems = theorems; lines = lines }) (record { types = types; terms = map line_of_term keys; theorems = theorems; lines = lines }) (line_of_term key) place
+pub term_at : (keys : List TermLine) (key : TermLine) (place : ℕ) (types : List LogLine) (theorems : List ℕ) (lines : List LogLine)
+    → IsDistinct term_line.ghosts.eq keys → Some key ≡ slice_get keys place
+    → IsTermLineWritten (record { types = types; terms = map line_of_term keys; theorems = theorems; lines = lines })
+    (record { types = types; terms = map line_of_term keys; theorems = theorems; lines = lines }) (line_of_term key) place
 term_at keys key place types theorems lines distinct there =
     let same : term_line.ghosts.eq key key ≡ true = term_lines_agree key key ∙ term_is_named key in
     let any : list_any (term_line.ghosts.eq key) keys ≡ true = any-there (term_line.ghosts.eq key) keys place key (sym there) same in
@@ -272,21 +282,26 @@ combination_answers (Err fault) term f a old one two new i j is first second put
 
 pub abstraction_answers : (answer : Result ℕ Fault) (term : NamedTerm) (name : List ℕ) (ty : HolType) (body : NamedTerm) (old one two new : Written) (i j : ℕ) → abstraction name ty body ≡ term
     → IsTermWritten old one (variable name ty) i → IsTermWritten one two body j → IfOk answer (IsTermLineWritten two new (abstraction_line i j)) → IfOk answer (IsTermWritten old new term)
-abstraction_answers (Ok n) term name ty body old one two new i j is first second put = subst (λ s. IsTermWritten old new s n) is (abstraction_written name ty body old one two new i j n first second put)
+abstraction_answers (Ok n) term name ty body old one two new i j is first second put =
+    subst (λ s. IsTermWritten old new s n) is (abstraction_written name ty body old one two new i j n first second put)
 abstraction_answers (Err fault) term name ty body old one two new i j is first second put = tt
 
 -- what is written is written under its number already
 
-pub function_at : (ty a b : HolType) (w : Written) (d c n : ℕ) → function_type a b ≡ ty → IsTypeLineWritten w w (function_type_line d c) n → IsTypeWritten w w a d → IsTypeWritten w w b c → IsTypeWritten w w ty n
+pub function_at : (ty a b : HolType) (w : Written) (d c n : ℕ) → function_type a b ≡ ty → IsTypeLineWritten w w (function_type_line d c) n
+    → IsTypeWritten w w a d → IsTypeWritten w w b c → IsTypeWritten w w ty n
 function_at ty a b w d c n is put first second = subst (λ t. IsTypeWritten w w t n) is (function_written a b w w w w d c n first second put)
 
-pub variable_at : (name other : List ℕ) (ty : HolType) (w : Written) (t n : ℕ) → bytes_eq other name ≡ true → IsTermLineWritten w w (variable_line other t) n → IsTypeWritten w w ty t → IsTermWritten w w (variable name ty) n
+pub variable_at : (name other : List ℕ) (ty : HolType) (w : Written) (t n : ℕ) → bytes_eq other name ≡ true
+    → IsTermLineWritten w w (variable_line other t) n → IsTypeWritten w w ty t → IsTermWritten w w (variable name ty) n
 variable_at name other ty w t n same put first = subst (λ (m : List ℕ). IsTermWritten w w (variable m ty) n) ((bytes_eq-Decides other name).0 same) (variable_written other ty w w w t n first put)
 
-pub constant_at : (name other : List ℕ) (ty : HolType) (w : Written) (t n : ℕ) → bytes_eq other name ≡ true → IsTermLineWritten w w (constant_line other t) n → IsTypeWritten w w ty t → IsTermWritten w w (constant name ty) n
+pub constant_at : (name other : List ℕ) (ty : HolType) (w : Written) (t n : ℕ) → bytes_eq other name ≡ true
+    → IsTermLineWritten w w (constant_line other t) n → IsTypeWritten w w ty t → IsTermWritten w w (constant name ty) n
 constant_at name other ty w t n same put first = subst (λ (m : List ℕ). IsTermWritten w w (constant m ty) n) ((bytes_eq-Decides other name).0 same) (constant_written other ty w w w t n first put)
 
-pub combination_at : (term f a : NamedTerm) (w : Written) (i j n : ℕ) → combination f a ≡ term → IsTermLineWritten w w (combination_line i j) n → IsTermWritten w w f i → IsTermWritten w w a j → IsTermWritten w w term n
+pub combination_at : (term f a : NamedTerm) (w : Written) (i j n : ℕ) → combination f a ≡ term → IsTermLineWritten w w (combination_line i j) n
+    → IsTermWritten w w f i → IsTermWritten w w a j → IsTermWritten w w term n
 combination_at term f a w i j n is put first second = subst (λ s. IsTermWritten w w s n) is (combination_written f a w w w w i j n first second put)
 
 pub abstraction_at : (term : NamedTerm) (name : List ℕ) (ty : HolType) (body : NamedTerm) (w : Written) (i j n : ℕ) → abstraction name ty body ≡ term → IsTermLineWritten w w (abstraction_line i j) n

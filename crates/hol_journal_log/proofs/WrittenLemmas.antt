@@ -9,7 +9,9 @@ use Rattle.hol_model.specs.Terms.NamedTerm.{NamedTerm, variable, constant, combi
 use Rattle.hol_model.specs.Logs.LogLine.{LogLine}
 use Rattle.hol_model.specs.Logs.LogLine.LogLine.{type_variable_line, bool_line, function_type_line, declared_type_line, variable_line, constant_line, combination_line, abstraction_line}
 use Rattle.hol_model.proofs.Tests.{both}
-use Rattle.hol_journal_log.specs.LogWriting.{Written, same_line, is_among, place_of, type_line, type_number, term_line, term_number, with_type_line, with_term_line, with_type, with_term, write_type, write_variable, write_term, write_each, number_of_type, number_of_term}
+use Rattle.hol_journal_log.specs.LogWriting.{Written, same_line, is_among, place_of, type_line, type_number, term_line, term_number, with_type_line}
+use Rattle.hol_journal_log.specs.LogWriting.{with_term_line, with_type, with_term, write_type, write_variable, write_term, write_each, number_of_type}
+use Rattle.hol_journal_log.specs.LogWriting.{number_of_term}
 use Rattle.hol_journal_log.specs.Writing.{IsWritten, AreWritten, IsTypeWritten, IsTermWritten, AreTypesWritten, AreTermsWritten, IsTypeLineWritten, IsTermLineWritten}
 
 -- the first place that passes a test, in a longer list and in a list with one more
@@ -260,17 +262,21 @@ module _ (types more_types terms more_terms : List LogLine) where
   term_line-longer (variable name ty) has = ap (variable_line name) (type_number-longer types more_types ty has.0)
   term_line-longer (constant name ty) has = ap (constant_line name) (type_number-longer types more_types ty has.0)
   term_line-longer (combination function argument) has =
-      let first = number-longer (term_line types terms function) (term_line (types ++ more_types) (terms ++ more_terms) function) terms more_terms (HasTerm-among types terms function has.0) (term_line-longer function has.0) in
-      let second = number-longer (term_line types terms argument) (term_line (types ++ more_types) (terms ++ more_terms) argument) terms more_terms (HasTerm-among types terms argument has.1) (term_line-longer argument has.1) in
+      let first = number-longer (term_line types terms function) (term_line (types ++ more_types) (terms ++ more_terms) function) terms more_terms
+      (HasTerm-among types terms function has.0) (term_line-longer function has.0) in
+      let second = number-longer (term_line types terms argument) (term_line (types ++ more_types) (terms ++ more_terms) argument) terms more_terms
+      (HasTerm-among types terms argument has.1) (term_line-longer argument has.1) in
       cc (first, second)
   term_line-longer (abstraction name ty body) has =
       let binder : variable_line name (type_number (types ++ more_types) ty) ≡ variable_line name (type_number types ty) = ap (variable_line name) (type_number-longer types more_types ty has.0) in
       let first = number-longer (variable_line name (type_number types ty)) (variable_line name (type_number (types ++ more_types) ty)) terms more_terms has.1 binder in
-      let second = number-longer (term_line types terms body) (term_line (types ++ more_types) (terms ++ more_terms) body) terms more_terms (HasTerm-among types terms body has.2) (term_line-longer body has.2) in
+      let second = number-longer (term_line types terms body) (term_line (types ++ more_types) (terms ++ more_terms) body) terms more_terms
+      (HasTerm-among types terms body has.2) (term_line-longer body has.2) in
       cc (first, second)
 
   pub term_number-longer : (term : NamedTerm) → HasTerm types terms term → term_number (types ++ more_types) (terms ++ more_terms) term ≡ term_number types terms term
-  term_number-longer term has = number-longer (term_line types terms term) (term_line (types ++ more_types) (terms ++ more_terms) term) terms more_terms (HasTerm-among types terms term has) (term_line-longer term has)
+  term_number-longer term has = number-longer (term_line types terms term)
+      (term_line (types ++ more_types) (terms ++ more_terms) term) terms more_terms (HasTerm-among types terms term has) (term_line-longer term has)
 
   among-as : (line other : LogLine) → is_among line terms ≡ true → other ≡ line → is_among other (terms ++ more_terms) ≡ true
   among-as line other among same = rw same (any-longer (same_line line) terms more_terms among)
@@ -287,13 +293,16 @@ module _ (types more_types terms more_terms : List LogLine) where
   HasTerm-longer (combination function argument) has = (
     HasTerm-longer function has.0,
     HasTerm-longer argument has.1,
-    among-as (term_line types terms (combination function argument)) (term_line (types ++ more_types) (terms ++ more_terms) (combination function argument)) has.2 (term_line-longer (combination function argument) has),
+    among-as (term_line types terms (combination function argument))
+        (term_line (types ++ more_types) (terms ++ more_terms) (combination function argument)) has.2
+        (term_line-longer (combination function argument) has),
   )
   HasTerm-longer (abstraction name ty body) has = (
     HasType-longer types more_types ty has.0,
     among-as (variable_line name (type_number types ty)) (variable_line name (type_number (types ++ more_types) ty)) has.1 (ap (variable_line name) (type_number-longer types more_types ty has.0)),
     HasTerm-longer body has.2,
-    among-as (term_line types terms (abstraction name ty body)) (term_line (types ++ more_types) (terms ++ more_terms) (abstraction name ty body)) has.3 (term_line-longer (abstraction name ty body) has),
+    among-as (term_line types terms (abstraction name ty body))
+        (term_line (types ++ more_types) (terms ++ more_terms) (abstraction name ty body)) has.3 (term_line-longer (abstraction name ty body) has),
   )
 
 abbrev pub HasTermOf : Written → NamedTerm → Type 0
@@ -355,7 +364,8 @@ combination-has f a w first second =
     let same : combination_line (number_of_term new f) (number_of_term new a) ≡ combination_line (number_of_term w f) (number_of_term w a) = cc (same_f, same_a) in
     (HasTerm-grown w new f grows first, HasTerm-grown w new a grows second, subst (λ l. is_among l new.terms ≡ true) (sym same) (is_put term w))
 
-abstraction-has : (name : List ℕ) (ty : HolType) (body : NamedTerm) (w : Written) → HasTermOf w (variable name ty) → HasTermOf w body → HasTermOf (with_term (abstraction name ty body) w) (abstraction name ty body)
+abstraction-has : (name : List ℕ) (ty : HolType) (body : NamedTerm) (w : Written) → HasTermOf w (variable name ty) → HasTermOf w body
+    → HasTermOf (with_term (abstraction name ty body) w) (abstraction name ty body)
 abstraction-has name ty body w first second =
     let term = abstraction name ty body in
     let new = with_term term w in
@@ -363,7 +373,8 @@ abstraction-has name ty body w first second =
     let binder : HasTermOf new (variable name ty) = HasTerm-grown w new (variable name ty) grows first in
     let same_v : number_of_term new (variable name ty) ≡ number_of_term w (variable name ty) = term_number-grown w new (variable name ty) grows first in
     let same_b : number_of_term new body ≡ number_of_term w body = term_number-grown w new body grows second in
-    let same : abstraction_line (number_of_term new (variable name ty)) (number_of_term new body) ≡ abstraction_line (number_of_term w (variable name ty)) (number_of_term w body) = cc (same_v, same_b) in
+    let same : abstraction_line (number_of_term new (variable name ty)) (number_of_term new body) ≡ abstraction_line
+    (number_of_term w (variable name ty)) (number_of_term w body) = cc (same_v, same_b) in
     (binder.0, binder.1, HasTerm-grown w new body grows second, subst (λ l. is_among l new.terms ≡ true) (sym same) (is_put term w))
 
 pub write_term-has : (term : NamedTerm) (w : Written) → HasTermOf (write_term term w) term
@@ -388,13 +399,15 @@ put_term term w new line n is kept put =
     let line_now : line ≡ term_line new.types new.terms term = is ∙ sym (kept grows) in
     (is_new, put.numbered ∙ ap (λ l. place_of l new.terms) line_now)
 
-pub variable_written : (name : List ℕ) (ty : HolType) (old one new : Written) (t n : ℕ) → IsTypeWritten old one ty t → IsTermLineWritten one new (variable_line name t) n → IsTermWritten old new (variable name ty) n
+pub variable_written : (name : List ℕ) (ty : HolType) (old one new : Written) (t n : ℕ) → IsTypeWritten old one ty t
+    → IsTermLineWritten one new (variable_line name t) n → IsTermWritten old new (variable name ty) n
 variable_written name ty old one new t n first put =
     let has : HasType one.types ty = subst (λ w. HasType w.types ty) (sym first.written) (write_type-has ty old) in
     let same = put_term (variable name ty) one new (variable_line name t) n (ap (variable_line name) first.numbered) (λ grows. ap (variable_line name) (type_number-grown one new ty grows has)) put in
     record { written = same.0 ∙ ap (with_term (variable name ty)) first.written; numbered = same.1 }
 
-pub constant_written : (name : List ℕ) (ty : HolType) (old one new : Written) (t n : ℕ) → IsTypeWritten old one ty t → IsTermLineWritten one new (constant_line name t) n → IsTermWritten old new (constant name ty) n
+pub constant_written : (name : List ℕ) (ty : HolType) (old one new : Written) (t n : ℕ) → IsTypeWritten old one ty t
+    → IsTermLineWritten one new (constant_line name t) n → IsTermWritten old new (constant name ty) n
 constant_written name ty old one new t n first put =
     let has : HasType one.types ty = subst (λ w. HasType w.types ty) (sym first.written) (write_type-has ty old) in
     let same = put_term (constant name ty) one new (constant_line name t) n (ap (constant_line name) first.numbered) (λ grows. ap (constant_line name) (type_number-grown one new ty grows has)) put in
@@ -423,7 +436,8 @@ combination_written f a old one two new i j n first second put =
     let numbers = numbers_of_both f a old one two i j first second in
     let has = has_both f a old one two i j first second in
     let line : combination_line i j ≡ term_line two.types two.terms (combination f a) = cc (numbers.0, numbers.1) in
-    let kept = λ (grows : Grows two new). ap (λ k. combination_line k (number_of_term new a)) (term_number-grown two new f grows has.0) ∙ ap (combination_line (number_of_term two f)) (term_number-grown two new a grows has.1) in
+    let kept = λ (grows : Grows two new). ap (λ k. combination_line k (number_of_term new a)) (term_number-grown two new f grows has.0)
+    ∙ ap (combination_line (number_of_term two f)) (term_number-grown two new a grows has.1) in
     let same = put_term (combination f a) two new (combination_line i j) n line kept put in
     record { written = same.0 ∙ ap (with_term (combination f a)) (is_both f a old one two i j first second); numbered = same.1 }
 
@@ -434,7 +448,8 @@ abstraction_written name ty body old one two new i j n first second put =
     let numbers = numbers_of_both v body old one two i j first second in
     let has = has_both v body old one two i j first second in
     let line : abstraction_line i j ≡ term_line two.types two.terms (abstraction name ty body) = cc (numbers.0, numbers.1) in
-    let kept = λ (grows : Grows two new). ap (λ k. abstraction_line k (number_of_term new body)) (term_number-grown two new v grows has.0) ∙ ap (abstraction_line (number_of_term two v)) (term_number-grown two new body grows has.1) in
+    let kept = λ (grows : Grows two new). ap (λ k. abstraction_line k (number_of_term new body)) (term_number-grown two new v grows has.0)
+    ∙ ap (abstraction_line (number_of_term two v)) (term_number-grown two new body grows has.1) in
     let same = put_term (abstraction name ty body) two new (abstraction_line i j) n line kept put in
     record { written = same.0 ∙ ap (with_term (abstraction name ty body)) (is_both v body old one two i j first second); numbered = same.1 }
 
@@ -478,10 +493,12 @@ module _ {A : Type 0} (write : A → Written → Written) (number : Written → 
         numbered = ap (λ l. l ++ n ∷ []) (are.numbered ∙ sym same) ∙ ap (λ k. map (number new) xs ++ k ∷ []) is.numbered ∙ sym (map-push (number new) xs x);
       }
 
-pub one_more_type : (old w new : Written) (xs : List HolType) (x : HolType) (ns : List ℕ) (n : ℕ) → AreTypesWritten old w xs ns → IsTypeWritten w new x n → AreTypesWritten old new (xs ++ x ∷ []) (ns ++ n ∷ [])
+pub one_more_type : (old w new : Written) (xs : List HolType) (x : HolType) (ns : List ℕ) (n : ℕ) → AreTypesWritten old w xs ns
+    → IsTypeWritten w new x n → AreTypesWritten old new (xs ++ x ∷ []) (ns ++ n ∷ [])
 one_more_type = written_one_more write_type number_of_type (λ w ty. HasType w.types ty) write_type-grows write_type-has HasType-grown type_number-grown
 
-pub one_more_term : (old w new : Written) (xs : List NamedTerm) (x : NamedTerm) (ns : List ℕ) (n : ℕ) → AreTermsWritten old w xs ns → IsTermWritten w new x n → AreTermsWritten old new (xs ++ x ∷ []) (ns ++ n ∷ [])
+pub one_more_term : (old w new : Written) (xs : List NamedTerm) (x : NamedTerm) (ns : List ℕ) (n : ℕ) → AreTermsWritten old w xs ns
+    → IsTermWritten w new x n → AreTermsWritten old new (xs ++ x ∷ []) (ns ++ n ∷ [])
 one_more_term = written_one_more write_term number_of_term HasTermOf write_term-grows write_term-has HasTerm-grown term_number-grown
 
 pub write_types-grows : (types : List HolType) (w : Written) → Grows w (write_each write_type types w)

@@ -8,7 +8,9 @@ use Rattle.hol_model.specs.Terms.NamedTerm.{NamedTerm, variable, constant, combi
 use Rattle.hol_model.specs.Kernel.Theorem.{Theorem}
 use Rattle.hol_model.specs.Logs.LogLine.{LogLine}
 use Rattle.hol_model.specs.Logs.LogLine.LogVersion.{second_version}
-use Rattle.hol_model.specs.Logs.LogLine.LogLine.{header_line, type_variable_line, bool_line, function_type_line, declared_type_line, variable_line, constant_line, combination_line, abstraction_line, new_type_line, new_constant_line, theorem_line, claim_line, end_line}
+use Rattle.hol_model.specs.Logs.LogLine.LogLine.{header_line, type_variable_line, bool_line, function_type_line, declared_type_line, variable_line}
+use Rattle.hol_model.specs.Logs.LogLine.LogLine.{constant_line, combination_line, abstraction_line, new_type_line, new_constant_line, theorem_line}
+use Rattle.hol_model.specs.Logs.LogLine.LogLine.{claim_line, end_line}
 use Rattle.hol_journal.specs.Steps as steps
 use Rattle.hol_journal.specs.Steps.{Step, JournalEntry, derived, declared_constant, terms_of, types_of}
 use Rattle.hol_journal.specs.Lines.{Numbering, line_of}

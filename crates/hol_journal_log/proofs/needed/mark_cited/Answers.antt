@@ -23,10 +23,14 @@ pub mark_both-requires-in-EqMp-clause-second : goal.mark_both-requires-in-EqMp-c
 mark_both-requires-in-EqMp-clause-second c = within_of (step_of c.args.rule.now) (steps.by_eq_mp c.in-EqMp.first c.in-EqMp.second) _ _ (ap step_of c.in-EqMp.is) c.requires (inr (inl refl))
 
 pub mark_both-requires-in-DeductAntisym-clause-first : goal.mark_both-requires-in-DeductAntisym-clause-first
-mark_both-requires-in-DeductAntisym-clause-first c = within_of (step_of c.args.rule.now) (steps.by_deduct c.in-DeductAntisym.first c.in-DeductAntisym.second) _ _ (ap step_of c.in-DeductAntisym.is) c.requires (inl refl)
+mark_both-requires-in-DeductAntisym-clause-first c =
+    within_of (step_of c.args.rule.now) (steps.by_deduct c.in-DeductAntisym.first c.in-DeductAntisym.second) _ _
+    (ap step_of c.in-DeductAntisym.is) c.requires (inl refl)
 
 pub mark_both-requires-in-DeductAntisym-clause-second : goal.mark_both-requires-in-DeductAntisym-clause-second
-mark_both-requires-in-DeductAntisym-clause-second c = within_of (step_of c.args.rule.now) (steps.by_deduct c.in-DeductAntisym.first c.in-DeductAntisym.second) _ _ (ap step_of c.in-DeductAntisym.is) c.requires (inr (inl refl))
+mark_both-requires-in-DeductAntisym-clause-second c =
+    within_of (step_of c.args.rule.now) (steps.by_deduct c.in-DeductAntisym.first c.in-DeductAntisym.second) _ _
+    (ap step_of c.in-DeductAntisym.is) c.requires (inr (inl refl))
 
 pub mark-requires : goal.mark-requires
 mark-requires c = within_of (step_of c.args.rule.now) (steps.by_abs c.in-Abs.field-0 c.in-Abs.theorem) _ _ (ap step_of c.in-Abs.is) c.requires (inl refl)

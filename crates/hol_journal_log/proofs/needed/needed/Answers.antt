@@ -7,7 +7,8 @@ marks_of-requires c = λ number member. let below = c.requires.within number mem
 
 pub mark_all-requires-clause-begun : goal.mark_all-requires-clause-begun
 mark_all-requires-clause-begun c =
-    let begun = marking_begun c.args.recorder.now.entries c.args.claimed.now c.in_ok-marks.marks.items c.requires.earlier (c.in_ok-marks.ensures.count ∙ c.entries.ensures) c.in_ok-marks.ensures.set c.requires.within in
+    let begun = marking_begun c.args.recorder.now.entries c.args.claimed.now c.in_ok-marks.marks.items c.requires.earlier
+    (c.in_ok-marks.ensures.count ∙ c.entries.ensures) c.in_ok-marks.ensures.set c.requires.within in
     rw c.new-names.ensures begun
 
 pub returns-in-Ok-clause-ok : goal.returns-in-Ok-clause-ok

@@ -8,7 +8,9 @@ use Rattle.hol_journal_log.proofs.pruning.claims_fit.Goals as goal
 
 pub loop-at-preserved : goal.loop-at-preserved
 loop-at-preserved c =
-    fitting_turn _ _ c.index-claims-at.result (next_item c.args.claims.now c.loop-at.at c.index-claims-at.result c.loop-at-test.true c.index-claims-at.is) c.loop-at.invariant (rw c.theorem.ensures at c.formulas_fit.ensures)
+    fitting_turn _ _ c.index-claims-at.result
+    (next_item c.args.claims.now c.loop-at.at c.index-claims-at.result c.loop-at-test.true c.index-claims-at.is) c.loop-at.invariant
+    (rw c.theorem.ensures at c.formulas_fit.ensures)
 
 pub returns : goal.returns
 returns c =

@@ -13,7 +13,8 @@ use Rattle.hol_script_inference.proofs.theorems.inferred.Goals as goal
 
 pub returns-in-Err-clause-answers : goal.returns-in-Err-clause-answers
 returns-in-Err-clause-answers g c = λ tree asks.
-    rule-refused_as (session_tools (g.H.Refiners.refiners c.args.hosts.now) (g.H.Converters.conversions c.args.hosts.now)) (lemmas_of c.args.session.now) (state_of c.args.session.now) c.in-Rule.rule tree
+    rule-refused_as (session_tools (g.H.Refiners.refiners c.args.hosts.now) (g.H.Converters.conversions c.args.hosts.now))
+    (lemmas_of c.args.session.now) (state_of c.args.session.now) c.in-Rule.rule tree
     c.in-Err.fault c.plain.result c.plain.ensures (subst (λ (a : Asked). IsAsked a tree) c.in-Rule.is asks) c.in-Err.ensures.answers
 
 pub returns-in-Tautology-clause-answers : goal.returns-in-Tautology-clause-answers

@@ -9,5 +9,7 @@ returns-then-is_term_at t c = λ is.
 
 pub returns-then-is_variable_at : goal.returns-then-is_variable_at
 returns-then-is_variable_at t c = λ is.
-    abstraction_at c.args.term.now c.in-Abstraction.name.now c.in-Abstraction.ty.now c.in-Abstraction.body.now (written c.args.self.now) c.in-Some-Abstraction.first c.in-Some-Abstraction.second c.args.number
-    c.in-Abstraction.ensures.value (rw c.in-Some-Abstraction.field-0-is at c.in-Some-Abstraction.ensures) (c.is_variable_at-in-Some-Abstraction.ensures c.if-is_variable_at.true) (c.is_term_at-then-is_variable_at.ensures is)
+    abstraction_at c.args.term.now c.in-Abstraction.name.now c.in-Abstraction.ty.now c.in-Abstraction.body.now
+    (written c.args.self.now) c.in-Some-Abstraction.first c.in-Some-Abstraction.second c.args.number
+    c.in-Abstraction.ensures.value (rw c.in-Some-Abstraction.field-0-is at c.in-Some-Abstraction.ensures)
+    (c.is_variable_at-in-Some-Abstraction.ensures c.if-is_variable_at.true) (c.is_term_at-then-is_variable_at.ensures is)

@@ -6,7 +6,8 @@ use Rattle.hol_journal_log.proofs.writer.Writer.put_term.Goals as goal
 
 pub returns-then-not-is_new-clause-ok : goal.returns-then-not-is_new-clause-ok
 returns-then-not-is_new-clause-ok c =
-    term_was_there c.args.line c.args.self.now.terms.keys c.insert_full.new.self.keys (map line_of_type c.args.self.now.types.keys) c.args.self.now.theorems.keys (map line_of c.args.self.now.lines.items)
+    term_was_there c.args.line c.args.self.now.terms.keys c.insert_full.new.self.keys
+    (map line_of_type c.args.self.now.types.keys) c.args.self.now.theorems.keys (map line_of c.args.self.now.lines.items)
     _ _ c.number.result c.in_ok-place.ensures.keys c.in_ok-place.ensures.added c.in_ok-place.ensures.index c.number.ensures.ok (search c)
 
 pub returns-clause-ok : goal.returns-clause-ok

@@ -11,5 +11,6 @@ returns-clause-ok c =
     let one = written c.term_number.new.self in
     let begun : AreTermsWritten one one [] c.new-hypotheses.result.items = rw c.new-hypotheses.ensures.items (nothing_before one) in
     let are : AreTermsWritten one (written c.term_numbers.new.self) c.hyps.result.now c.term_numbers.new.numbers.items = c.in_ok-term_numbers.ensures.ok one [] begun in
-    claim_answers c.put_line.result (written c.args.self.now) one (written c.term_numbers.new.self) (written c.put_line.new.self) claim c.in_ok-theorem.theorem c.in_ok-conclusion.conclusion c.term_numbers.new.numbers.items
+    claim_answers c.put_line.result (written c.args.self.now) one (written c.term_numbers.new.self)
+    (written c.put_line.new.self) claim c.in_ok-theorem.theorem c.in_ok-conclusion.conclusion c.term_numbers.new.numbers.items
     (rw c.concl.ensures.value at c.in_ok-conclusion.ensures.ok) (rw c.hyps.ensures.value at are) c.in_ok-theorem.ensures.ok c.put_line.ensures.ok

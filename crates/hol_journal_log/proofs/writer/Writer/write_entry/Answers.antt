@@ -21,5 +21,8 @@ returns-in_ok-term-in-Defined-clause-ok c =
 
 pub returns-in_ok-ty-in-DeclaredConstant-clause-ok : goal.returns-in_ok-ty-in-DeclaredConstant-clause-ok
 returns-in_ok-ty-in-DeclaredConstant-clause-ok c =
-    declaration_answers c.put_line-in-DeclaredConstant.result (written c.args.self.now) (written c.type_number.new.self) (written c.put_line-in-DeclaredConstant.new.self) c.args.number c.in_ok-ty-in-DeclaredConstant.ty
-    (entry_of c.args.entry.now) c.as_str-in-DeclaredConstant.result.now _ _ (ap entry_of c.in-DeclaredConstant.is) c.as_str-in-DeclaredConstant.ensures.value c.in_ok-ty-in-DeclaredConstant.ensures.ok c.put_line-in-DeclaredConstant.ensures.ok
+    declaration_answers c.put_line-in-DeclaredConstant.result (written c.args.self.now) (written c.type_number.new.self)
+    (written c.put_line-in-DeclaredConstant.new.self) c.args.number c.in_ok-ty-in-DeclaredConstant.ty
+    (entry_of c.args.entry.now) c.as_str-in-DeclaredConstant.result.now _ _
+    (ap entry_of c.in-DeclaredConstant.is) c.as_str-in-DeclaredConstant.ensures.value c.in_ok-ty-in-DeclaredConstant.ensures.ok
+    c.put_line-in-DeclaredConstant.ensures.ok
