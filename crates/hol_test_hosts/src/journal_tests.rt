@@ -19,9 +19,9 @@ fn make(alloc: Global, recorder: &mut Recorder, axioms: usize) -> Result<(), Fau
     Ok(())
 }
 
-// Whether the entries of these numbers are kept, and of no others.
+// Whether of the first eight entries those of these numbers are kept, and no others.
 fn keeps(recorder: &Recorder, numbers: &[usize]) -> bool {
-    for number in 0..recorder.entries() + 1 {
+    for number in 0..8 {
         let is_kept = match recorder.stored(number) {
             Ok(stored) => stored.is_some(),
             Err(_) => return false,
