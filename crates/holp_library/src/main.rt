@@ -21,7 +21,7 @@ struct Run {
     name: &'static str,
 }
 
-const RUNS: [Run; 15] = [
+const RUNS: [Run; 21] = [
     Run {
         needed: "",
         name: "logic.hol",
@@ -81,6 +81,30 @@ const RUNS: [Run; 15] = [
     Run {
         needed: "logic.hol",
         name: "developments/hoare.hol",
+    },
+    Run {
+        needed: "logic.hol numbers.hol",
+        name: "developments/latch.hol",
+    },
+    Run {
+        needed: "logic.hol numbers.hol developments/fulladder.hol",
+        name: "developments/ripple.hol",
+    },
+    Run {
+        needed: "logic.hol",
+        name: "developments/altbit.hol",
+    },
+    Run {
+        needed: "logic.hol relations.hol sets.hol orders.hol",
+        name: "developments/authentication.hol",
+    },
+    Run {
+        needed: "logic.hol relations.hol sets.hol orders.hol",
+        name: "developments/galois.hol",
+    },
+    Run {
+        needed: "logic.hol choice.hol functions.hol relations.hol sets.hol orders.hol",
+        name: "developments/cantor.hol",
     },
 ];
 
