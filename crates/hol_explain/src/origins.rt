@@ -13,7 +13,8 @@ pub struct Origin<'a> {
 pub fn origin_of<'a>(origins: &[Origin<'a>], line: usize) -> (&'a str, usize) {
     let mut file = "";
     let mut before = 0usize;
-    for origin in origins {
+    for at in 0..origins.len() {
+        let origin = &origins[at];
         if origin.lines_before < line {
             file = origin.file;
             before = origin.lines_before;

@@ -9,16 +9,25 @@ use clap::ArgMatches;
 use clap::error::ErrorKind;
 use hol_model::Fault;
 
-// Whether standard input is named at most once.
-fn names_input_once(names: &[&str]) -> bool {
-    names.iter().filter(|name| **name == "-").count() <= 1
+// Whether standard input is named more than once.
+fn names_input_twice(names: &[&str]) -> bool {
+    let mut is_named = false;
+    for at in 0..names.len() {
+        if names[at] == "-" {
+            if is_named {
+                return true;
+            }
+            is_named = true;
+        }
+    }
+    false
 }
 
 // `run`: the status is 0, 1 where a command of the scripts was refused, or that of a fault.
 fn run(rt: &HostRuntime, matches: &ArgMatches<'_>) -> anyhow::Result<u8> {
     let names = values(matches, "SCRIPT");
     ensure!(
-        names_input_once(names),
+        !names_input_twice(names),
         "- is standard input, and may stand once"
     );
     let explains = matches.get_flag("explain");

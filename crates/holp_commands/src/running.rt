@@ -101,7 +101,7 @@ fn run_over<L: Sink>(
 /// Runs scripts as one, and answers how many of their commands were refused.
 pub(crate) fn run_scripts(rt: &HostRuntime, names: &[&str], explains: bool) -> Result<u64, Fault> {
     let opened = open_scripts(rt, names, explains)?;
-    let scripts = read_scripts(rt, opened)?;
+    let scripts = read_scripts(rt, names, opened)?;
     let mut no_log = IntoWrite::new(Vec::new(rt.alloc()));
     run_over(rt, &scripts, explains, &mut no_log, false)
 }
@@ -117,7 +117,7 @@ pub(crate) fn run_scripts_with_log(
     logs_are_checked();
     let opened = open_scripts(rt, names, explains)?;
     let mut file = create(rt, log)?;
-    let scripts = read_scripts(rt, opened)?;
+    let scripts = read_scripts(rt, names, opened)?;
     let logs = Box::new(rt.alloc(), move |piece: &[u8]| file.write(piece))?;
     run_over(rt, &scripts, explains, &mut IntoCall::new(logs), true)
 }

@@ -3,17 +3,10 @@
 use hol_device_adapters::FromCall;
 use hol_device_io::read_all;
 use hol_explain::{Origin, origin_of};
-use hol_model::Fault;
+use hol_model::{Fault, TEXT_BYTES_LIMIT};
 use hol_script_commands::cut::{cut, leading_line_feeds, line_feeds};
 use holp_files::ScriptFile;
 use std::alloc::Global;
-
-/// A script whose file is open.
-#[derive(Drop)]
-pub(crate) struct Opened<'a> {
-    name: &'a str,
-    file: ScriptFile,
-}
 
 /// The text of scripts one behind another, and which of its lines come from which. Each script begins on a line of its own: where
 /// the one before does not end with a line feed, one stands between them.
@@ -46,6 +39,9 @@ impl<'a> Scripts<'a> {
     // Puts a script behind the others.
     fn append(&mut self, name: &'a str, script: &[u8]) -> Result<(), Fault> {
         self.end_line()?;
+        if script.len() > TEXT_BYTES_LIMIT.saturating_sub(self.text.len()) {
+            return Err(Fault::TooLong);
+        }
         self.origins.push(Origin {
             file: name,
             lines_before: self.lines,
@@ -55,12 +51,22 @@ impl<'a> Scripts<'a> {
         Ok(())
     }
 
-    // Reads a script, and puts it behind the others.
-    fn read(&mut self, alloc: Global, opened: Opened<'a>) -> Result<(), Fault> {
-        let Opened { name, mut file } = opened;
-        let reads = Box::new(alloc, move |buf: &mut [u8]| file.read(buf))?;
-        let script = read_all(alloc, &mut FromCall::new(reads))?;
-        self.append(name, &script)
+    // Reads scripts that are open, and puts each behind the others.
+    fn read(
+        &mut self,
+        alloc: Global,
+        names: &[&'a str],
+        opened: Vec<ScriptFile>,
+    ) -> Result<(), Fault> {
+        let mut at = 0usize;
+        for file in opened {
+            let script = text_of(alloc, file)?;
+            if at < names.len() {
+                self.append(names[at], &script)?;
+            }
+            at = at.saturating_add(1);
+        }
+        Ok(())
     }
 
     /// The scripts in which refused commands are to be told: none, where there is one or where refusals are explained.
@@ -68,7 +74,7 @@ impl<'a> Scripts<'a> {
         if explains || self.origins.len() < 2 {
             &[]
         } else {
-            &self.origins
+            self.origins.as_slice()
         }
     }
 
@@ -99,33 +105,37 @@ impl<'a> Scripts<'a> {
     }
 }
 
+// The text of a script that is open.
+fn text_of(alloc: Global, mut file: ScriptFile) -> Result<Vec<u8>, Fault> {
+    let reads = Box::new(alloc, move |buf: &mut [u8]| file.read(buf))?;
+    read_all(alloc, &mut FromCall::new(reads))
+}
+
 /// Opens scripts; `-` names standard input. Where refusals are explained, and where there are several scripts, standard error
 /// tells which of them is not read, and why. Refused: ReadFault, Memory.
-pub(crate) fn open_scripts<'a>(
+pub(crate) fn open_scripts(
     rt: &HostRuntime,
-    names: &[&'a str],
+    names: &[&str],
     explains: bool,
-) -> Result<Vec<Opened<'a>>, Fault> {
+) -> Result<Vec<ScriptFile>, Fault> {
     let tells = explains || names.len() > 1;
     let mut opened = Vec::new(rt.alloc());
-    for name in names {
-        let name = *name;
-        let file = ScriptFile::open(rt, name, tells)?;
-        opened.push(Opened { name, file })?;
+    for at in 0..names.len() {
+        opened.push(ScriptFile::open(rt, names[at], tells)?)?;
     }
     Ok(opened)
 }
 
-/// Reads scripts that are open, one after another. Refused: ReadFault, TooLong of one script, Memory.
+/// Reads scripts that were opened under these names, one after another. Standard error tells the commands that go on in another
+/// script. Refused: ReadFault, TooLong where all of them are longer than the limit on texts, Memory.
 pub(crate) fn read_scripts<'a>(
     rt: &HostRuntime,
-    opened: Vec<Opened<'a>>,
+    names: &[&'a str],
+    opened: Vec<ScriptFile>,
 ) -> Result<Scripts<'a>, Fault> {
     let mut scripts = Scripts::new(rt.alloc());
-    for script in opened {
-        scripts.read(rt.alloc(), script)?;
-    }
-    if scripts.origins.len() > 1 {
+    scripts.read(rt.alloc(), names, opened)?;
+    if names.len() > 1 {
         scripts.tell_all_unended(rt);
     }
     Ok(scripts)
