@@ -3,7 +3,7 @@
 use crate::checking::{check_file, check_file_with_theory, migrate_file};
 use crate::ending::tell;
 use crate::running::{run_scripts, run_scripts_with_log};
-use crate::words::{command_line, value, values};
+use crate::words::{command_line, value};
 use anyhow::ensure;
 use clap::ArgMatches;
 use clap::error::ErrorKind;
@@ -25,7 +25,10 @@ fn names_input_twice(names: &[&str]) -> bool {
 
 // `run`: the status is 0, 1 where a command of the scripts was refused, or that of a fault.
 fn run(rt: &HostRuntime, matches: &ArgMatches<'_>) -> anyhow::Result<u8> {
-    let names = values(matches, "SCRIPT");
+    let Some(names) = matches.get_strs("SCRIPT") else {
+        // clap has asked for a script.
+        return Ok(2);
+    };
     ensure!(
         !names_input_twice(names),
         "- is standard input, and may stand once"

@@ -1,7 +1,6 @@
 // In which script each refused command stands.
 
 use hol_explain::{Origin, origin_of};
-use std::fmt;
 use std::io::Write;
 use std::rt::Stderr;
 
@@ -17,40 +16,23 @@ pub(crate) struct Refusals<'a> {
     front: Vec<u8>,
 }
 
-// A refusal with its script and its line there.
+// A refusal as a line of output tells it: the line of its command, its number and its name.
 #[derive(Clone, Copy)]
-struct Told<'a> {
-    file: &'a str,
+struct Refusal<'a> {
     line: usize,
     number: &'a str,
     name: &'a str,
 }
 
-impl fmt::Display for Told<'_> {
-    fn fmt<W: fmt::Write>(&self, f: &mut fmt::Formatter<W>) -> fmt::Result {
-        write!(
-            f,
-            "{}:{}: {} {}",
-            self.file, self.line, self.number, self.name
-        )
-    }
-}
-
-// What is told of a line of output, where it is `line N: En Name`, with more behind it or not. No other line begins so: where
-// `line` is a constant, no number stands behind it.
-fn told_of<'a>(origins: &[Origin<'a>], line: &'a str) -> Option<Told<'a>> {
-    let (place, refusal) = line.strip_prefix("line ")?.split_once(": ")?;
-    let place = place.parse::<usize>().ok()?;
-    let (file, line) = origin_of(origins, place);
+// The refusal that a line of output tells: `line N: En Name`, with more behind it or not. No other line begins so: where `line` is a
+// constant, no number stands behind it.
+fn refusal_in(output: &str) -> Option<Refusal<'_>> {
+    let (line, refusal) = output.strip_prefix("line ")?.split_once(": ")?;
+    let line = line.parse::<usize>().ok()?;
     let mut words = refusal.split_whitespace();
     let number = words.next()?;
     let name = words.next()?;
-    Some(Told {
-        file,
-        line,
-        number,
-        name,
-    })
+    Some(Refusal { line, number, name })
 }
 
 impl Refusals<'_> {
@@ -65,10 +47,13 @@ impl Refusals<'_> {
 
     // Tells of a refusal, if the line is one, and begins the next line.
     fn end_line(&mut self) {
-        if let Ok(line) = str::from_utf8(&self.front) {
-            if let Some(told) = told_of(self.origins, line) {
+        if let Ok(output) = str::from_utf8(&self.front) {
+            if let Some(refusal) = refusal_in(output) {
+                let (file, line) = origin_of(self.origins, refusal.line);
+                let number = refusal.number;
+                let name = refusal.name;
                 let mut stderr = self.stderr;
-                let _ = writeln!(stderr, "{told}");
+                let _ = writeln!(stderr, "{file}:{line}: {number} {name}");
             }
         }
         self.front.clear();
@@ -97,41 +82,25 @@ impl Refusals<'_> {
 #[cfg(test)]
 mod tests {
     use super::*;
-    use std::alloc::{AllocError, Global};
 
-    const ORIGINS: [Origin<'static>; 2] = [
-        Origin {
-            file: "a.hol",
-            lines_before: 0,
-        },
-        Origin {
-            file: "b.hol",
-            lines_before: 3,
-        },
-    ];
-
-    // What is told of a line; no text where nothing is.
-    fn text(alloc: Global, line: &str) -> Result<String, AllocError> {
-        match told_of(&ORIGINS, line) {
-            Some(told) => format!(in alloc; "{told}"),
-            None => Ok(String::new(alloc)),
+    // Whether this is told of a line of output.
+    fn tells(output: &str, line: usize, number: &str, name: &str) -> bool {
+        match refusal_in(output) {
+            Some(told) => told.line == line && told.number == number && told.name == name,
+            None => false,
         }
     }
 
     #[test]
-    fn refusals_are_told(rt: HostRuntime) -> anyhow::Result<()> {
-        let alloc = rt.alloc();
-        assert!(rt; text(alloc, "line 3: E16 BadShape")?.as_str() == "a.hol:3: E16 BadShape");
-        let row = "line 5: E26 NotTautology (p:bool)=T, (q:bool)=F";
-        assert!(rt; text(alloc, row)?.as_str() == "b.hol:2: E26 NotTautology");
-        Ok(())
+    fn refusals_are_found(rt: HostRuntime) {
+        assert!(rt; tells("line 3: E16 BadShape", 3, "E16", "BadShape"));
+        let with_row = "line 12: E26 NotTautology (p:bool)=T, (q:bool)=F";
+        assert!(rt; tells(with_row, 12, "E26", "NotTautology"));
     }
 
     #[test]
-    fn other_lines_are_passed_over(rt: HostRuntime) -> anyhow::Result<()> {
-        let alloc = rt.alloc();
-        assert!(rt; text(alloc, "line: |- (x:bool) <=> (x:bool)")?.is_empty());
-        assert!(rt; text(alloc, "line zero ?- line zero")?.is_empty());
-        Ok(())
+    fn other_lines_are_passed_over(rt: HostRuntime) {
+        assert!(rt; refusal_in("line: |- (x:bool) <=> (x:bool)").is_none());
+        assert!(rt; refusal_in("line zero ?- line zero").is_none());
     }
 }

@@ -9,8 +9,8 @@ use hol_explain::{Script, explain};
 use hol_host::Host;
 use hol_host_samples::{liar, liar2, peel, swap};
 use hol_just::Goal;
-use hol_model::{Fault, Sink, Source};
-use hol_script::{Summary, run};
+use hol_model::{Fault, Sink};
+use hol_script::run;
 use hol_terms::Term;
 use std::alloc::Global;
 use std::fs::{self, File};
@@ -25,17 +25,16 @@ fn create(rt: &HostRuntime, name: &str) -> Result<File, Fault> {
     }
 }
 
-// Runs a script over a host with the sample refiners and conversions. Where a script is given to be explained, what is said of
-// its refusals is written to standard error behind the run, and takes no part in how the run ends.
-fn run_hosted<R: Source, W: Sink, L: Sink>(
+// Runs a script over a host with the sample refiners and conversions, and answers how many of its commands were refused. Where
+// these are to be explained, what is said of them is written to standard error behind the run, and takes no part in how it ends.
+fn run_hosted<W: Sink, L: Sink>(
     rt: &HostRuntime,
-    reader: &mut R,
+    script: &Script<'_>,
+    explains: bool,
     writer: &mut W,
     log: &mut L,
     wants_log: bool,
-    explained: Option<&Script<'_>>,
-) -> Result<Summary, Fault>
-    requires reader_unfailed { R.has_failed reader.old ≡ false }
+) -> Result<u64, Fault>
     requires writer_unfailed { W.has_failed writer.old ≡ false }
     requires log_unfailed { L.has_failed log.old ≡ false }
 {
@@ -49,20 +48,20 @@ fn run_hosted<R: Source, W: Sink, L: Sink>(
     host.refiner(alloc, "liar2", lies_twice)?;
     let swaps = Box::new(alloc, |alloc: Global, term: &Term| swap(alloc, term))?;
     host.conv(alloc, "swap", swaps)?;
-    let ended = run(alloc, reader, writer, log, wants_log, &host)?;
-    let summary = ended.summary;
-    match explained {
-        Some(script) if summary.refused > 0 => {
-            drop(ended);
-            let mut output = rt.stderr();
-            if let Ok(writes) = Box::new(alloc, move |piece: &[u8]| output.write(piece)) {
-                let _ = explain(alloc, script, &host, &mut IntoCall::new(writes));
-            }
+    let mut reader = FromRead::new(script.text);
+    let ended = run(alloc, &mut reader, writer, log, wants_log, &host)?;
+    let refused = ended.summary.refused;
+    if explains && refused > 0 {
+        drop(ended);
+        let mut output = rt.stderr();
+        if let Ok(writes) = Box::new(alloc, move |piece: &[u8]| output.write(piece)) {
+            let _ = explain(alloc, script, &host, &mut IntoCall::new(writes));
         }
+    } else {
         // The program ends, and the session goes with its memory, as one.
-        _ => forget(ended),
+        forget(ended);
     }
-    Ok(summary)
+    Ok(refused)
 }
 
 // The names of the functions of the host.
@@ -91,11 +90,8 @@ fn run_over<L: Sink>(
         text: scripts.text.as_slice(),
         host_names: &host_names,
     };
-    let mut reader = FromRead::new(scripts.text.as_slice());
     let mut writer = Output::new(rt, scripts.told(explains));
-    let explained = if explains { Some(&script) } else { None };
-    let summary = run_hosted(rt, &mut reader, &mut writer, log, wants_log, explained)?;
-    Ok(summary.refused)
+    run_hosted(rt, &script, explains, &mut writer, log, wants_log)
 }
 
 /// Runs scripts as one, and answers how many of their commands were refused.

@@ -78,14 +78,6 @@ pub(crate) fn value<'a>(matches: &'a ArgMatches<'_>, name: &str) -> &'a str {
     }
 }
 
-/// The values of an argument that may have several; none where there are none.
-pub(crate) fn values<'a, 'b>(matches: &'a ArgMatches<'b>, name: &str) -> &'a [&'b str] {
-    match matches.get_strs(name) {
-        Some(values) => values,
-        None => &[],
-    }
-}
-
 #[cfg(test)]
 mod tests {
     use super::*;
