@@ -1,23 +1,26 @@
 #!/usr/bin/env python3
 """examples.py [PROGRAM] [--write]: the examples and links of README.md and docs/ against what the gate runs.
 
-`rt ci` runs the scripts of crates/holp_examples/data and compares what they print with crates/holp_examples/stdout; of the host
-in crates/holp_host_example likewise. This tool compares the pages with those files. A comment stands before a block of code:
+`rt ci` runs the command lines of crates/holp_examples/data/lines.txt and compares what they print with crates/holp_examples/stdout;
+of the host in crates/holp_host_example likewise. This tool compares the pages with those files. A comment stands before a block of
+code:
 
     <!-- example: NAME.hol -->                  lines of the script, each command with what it prints behind `> `
-    <!-- example: NAME.hol, its log -->         lines of its log; `its log checked`: of what the checker says
+    <!-- example: NAME.hol, its log -->         lines of its log; `its log checked`: of what `check --theory` says
     <!-- example: host -->                      the same of the script that the host runs
     <!-- file: PATH -->                         lines of a file of the repository
     <!-- shell -->                              commands behind `$ `, each with what it prints, and `[N]` for a status that is not 0
 
 The lines of a block stand there in one piece, but where a line `..` says that some are left out. A row of a table that begins with a
 refusal, as `| E5 UnknownConst |`, ends with commands that stand in reference/refusals.hol and of which the last meets that refusal.
-Blocks of shell, and rows whose commands are for a shell (`$ ..`), are run where PROGRAM is given. With --write, PROGRAM makes
-crates/holp_examples/stdout anew, and what blocks of commands print. Each difference is told, and the status is then 1.
-Each number of crates/hol_model/src/limits.rt stands in the table of limits.
+A block of shell whose commands all stand in lines.txt (there without `examples/`) is compared with what the gate compares, but for
+the messages on standard error. Other blocks of shell, these messages, and rows whose commands are for a shell (`$ ..`) are compared
+where PROGRAM is given. With --write, PROGRAM makes crates/holp_examples/stdout anew, and what blocks of commands print. Each
+difference is told, and the status is then 1. Each number of crates/hol_model/src/limits.rt stands in the table of limits.
 """
 import os
 import re
+import shutil
 import subprocess
 import sys
 import tempfile
@@ -27,7 +30,7 @@ CRATE, HOST = f"{ROOT}/crates/holp_examples", f"{ROOT}/crates/holp_host_example"
 words = [it for it in sys.argv[1:] if it != "--write"]
 PROGRAM = os.path.abspath(words[0]) if words else None
 BLOCK = re.compile(r"(<!-- (example|file|shell)(?:: (.*?))? -->\n```\w*\n)(.*?)```\n", re.S)
-wrong = []
+wrong, unread = [], []
 
 
 def text(path):
@@ -35,27 +38,47 @@ def text(path):
         return file.read()
 
 
-def program(*arguments, given=None):
-    return subprocess.run([PROGRAM, *arguments], input=given, capture_output=True, text=True, timeout=120).stdout
-
-
 def write_stdout():
     """what the program of the crate prints, made by PROGRAM"""
-    main = text(f"{CRATE}/src/main.rt")
-    scripts, logged = (re.findall(r'"(.*?)"', re.search(rf"const {name}: .*? = \[(.*?)\];", main, re.S)[1]) for name in ("SCRIPTS", "LOGGED"))
-    made = "".join(f"== {name}\n" + program("run", "-", given=text(f"{CRATE}/data/{name}")) for name in scripts)
+    made = ""
     with tempfile.TemporaryDirectory() as room:
-        for name in logged:
-            program("run", f"{CRATE}/data/{name}", "--log", f"{room}/log")
-            made += f"== {name}, its log\n{text(f'{room}/log')}== {name}, its log checked\n" + program("check", "--theory", f"{room}/log")
+        data = shutil.copytree(f"{CRATE}/data", f"{room}/data")
+        with open(f"{CRATE}/stdin", encoding="utf-8") as given:
+            for line in LINES:
+                ran = subprocess.run([PROGRAM, *line.split()[2:]], cwd=data, stdin=given, stdout=subprocess.PIPE, stderr=subprocess.DEVNULL, text=True, timeout=120)
+                made += f"{line}\n{ran.stdout}" + (f"[{ran.returncode}]\n" if ran.returncode else "")
     with open(f"{CRATE}/stdout", "w", encoding="utf-8") as file:
         file.write(made)
 
 
+def cut_stdout():
+    """what the gate compares, by its command lines, each as a list of lines"""
+    left, shown = text(f"{CRATE}/stdout").splitlines(), {}
+    for line, behind in zip(LINES, LINES[1:] + [None]):
+        if left[:1] != [line]:
+            sys.exit(f"{CRATE}/stdout: {line} does not stand where it should")
+        end = left.index(behind, 1) if behind else len(left)
+        shown[line] = left[1:end]
+        left = left[end:]
+    return shown
+
+
+def printed(name):
+    """what the gate compares of a script, `NAME.hol`, `NAME.hol, its log` or `NAME.hol, its log checked`"""
+    script, _, which = name.partition(", ")
+    log = os.path.basename(script).replace(".hol", ".log")
+    if which:
+        return sections[f"$ holp check --theory {log}" if "checked" in which else f"$ holp run {script} --log /dev/stdout"]
+    lines = (f"$ holp run {script}{option}" for option in ("", " --explain", f" --log {log}"))
+    return next(sections[line] for line in lines if line in sections)
+
+
 def session(name):
     """the commands of a script, each with what it prints: its answers stand in the order of its commands"""
-    script, output = (f"{HOST}/data/host.hol", text(f"{HOST}/stdout")) if name == "host" else (f"{CRATE}/data/{name}", sections[name])
-    answers, shown = output.splitlines(), []
+    script = f"{HOST}/data/host.hol" if name == "host" else f"{CRATE}/data/{name}"
+    answers, shown = text(f"{HOST}/stdout").splitlines() if name == "host" else printed(name), []
+    if answers[-1:] == ["[1]"]:
+        answers = answers[:-1]
     for number, command in commands(text(script)):
         word, count = command.split()[0], 0
         if answers and answers[0].startswith(f"line {number}: "):
@@ -114,6 +137,25 @@ def run_commands(lines):
     return shown
 
 
+def is_told(line):
+    """whether a line of a block of shell stands on standard error"""
+    return re.match(r"holp: |\S+\.hol:\d+:", line)
+
+
+def judge_shell(page, block):
+    """a block of shell, against what the gate compares, where it has each command"""
+    shown = []
+    for line in block:
+        if line.startswith("$ "):
+            line = line.replace("examples/", "")
+            if line not in sections:
+                return False
+            shown += [line, *sections[line]]
+    if [line.replace("examples/", "") if line.startswith("$ ") else line for line in block if not is_told(line)] != shown:
+        wrong.append(f"{page}: shell: " + "\n    ".join(shown))
+    return True
+
+
 def written(kind, name, block):
     """the block as --write leaves it"""
     if kind == "shell":
@@ -125,11 +167,13 @@ def judge_block(page, kind, name, block):
     if kind == "shell":
         if PROGRAM and run_commands(block) != block:
             wrong.append(f"{page}: shell: " + "\n    ".join(run_commands(block)))
+        if not judge_shell(page, block):
+            unread.append(page)
         return
     if kind == "file":
         whole = text(f"{ROOT}/{name}").splitlines()
     elif "," in name:
-        whole = sections[name].splitlines()
+        whole = printed(name)
     else:
         whole = sum(session(name), [])
     for piece in re.split(r"(?m)^\.\.\n", "\n".join(block) + "\n"):
@@ -144,8 +188,9 @@ def judge_row(page, code, refusal, cell):
         return
     given = [" ".join(it.split()) for it in re.findall(r".*?;;", cell, re.S)]
     script = list(commands(text(f"{CRATE}/data/reference/refusals.hol")))
+    answers = " ".join(printed("reference/refusals.hol"))
     places = [script[at][0] for at in range(len(script)) if [it for _, it in script[: at + 1]][-len(given) :] == given]
-    if not any(f"line {place}: {code} {refusal}" in sections["reference/refusals.hol"] for place in places):
+    if not any(f"line {place}: {code} {refusal}" in answers for place in places):
         wrong.append(f"{page}: {code} {refusal} is not met by {given}")
 
 
@@ -165,9 +210,10 @@ def judge_links(page, here):
             wrong.append(f"{page}: no such heading: {target}")
 
 
+LINES = text(f"{CRATE}/data/lines.txt").splitlines()
 if "--write" in sys.argv:
     write_stdout()
-sections = dict(re.findall(r"(?ms)^== (.*?)\n(.*?)(?=^== |\Z)", text(f"{CRATE}/stdout")))
+sections = cut_stdout()
 pages = ["README.md"] + [f"docs/{name}" for name in sorted(os.listdir(f"{ROOT}/docs")) if name.endswith(".md")]
 for page in pages:
     here = text(f"{ROOT}/{page}")
@@ -184,5 +230,7 @@ table = re.search(r"(?ms)^## 10\. Limits\n.*?^## ", text(f"{ROOT}/docs/REFERENCE
 for name, number in re.findall(r"pub const (\w+_LIMIT): \w+ = ([\d_]+);", text(f"{ROOT}/crates/hol_model/src/limits.rt")):
     if name != "NUMBER_LIMIT" and f"| {int(number):,} " not in table:
         wrong.append(f"docs/REFERENCE.md: {name} is not in the table of limits")
-print("\n".join(wrong) if wrong else f"{len(pages)} pages: all as they are run" + ("" if PROGRAM else "; the shell's commands were not run"))
+if not PROGRAM and unread:
+    print("no PROGRAM was given, so a block of shell was not compared: " + ", ".join(unread))
+print("\n".join(wrong) if wrong else f"{len(pages)} pages: all as they are run")
 sys.exit(1 if wrong else 0)

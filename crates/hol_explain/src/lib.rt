@@ -3,8 +3,10 @@
 #![tactic(auto)]
 
 mod message;
+mod origins;
 mod search;
 mod walk;
 
 pub use hol_script::Refused;
+pub use origins::{Origin, origin_of};
 pub use walk::{Script, explain, explain_refusal};

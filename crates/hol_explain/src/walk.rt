@@ -4,6 +4,7 @@ ghost use Rattle.hol_model.specs.declared.fault.Fault.TheVariants.{Memory, Write
 ghost use Rattle.hol_script.specs.Managers.{IsManager};
 
 use crate::message::message_of;
+use crate::origins::{Origin, located};
 use crate::search::Trial;
 use hol_device_io::write_all;
 use hol_explain_hints::{Known, NoMemory, Piece, Place, between, told, unfinished};
@@ -14,10 +15,10 @@ use hol_script::{Manager, Refused};
 use hol_script_commands::cut::{cut, is_blank_text};
 use std::alloc::Global;
 
-/// A script, the name of its file, and the names of the host's functions.
+/// A script, the files that its lines come from, in order, and the names of the host's functions.
 #[derive(Clone, Copy)]
 pub struct Script<'a> {
-    pub file: &'a str,
+    pub origins: &'a [Origin<'a>],
     pub text: &'a [u8],
     pub host_names: &'a [String],
 }
@@ -48,14 +49,9 @@ fn explained<H: Refiners>(
         piece,
     };
     let message = message_of(&trial, walk.script.host_names, known, manager, refused)?;
-    let here = place.behind(between(piece.bytes, 0, message.at));
-    told(
-        walk.alloc,
-        walk.script.file,
-        &here,
-        &refused.fault,
-        &message,
-    )
+    let place = place.behind(between(piece.bytes, 0, message.at));
+    let (file, here) = located(walk.script.origins, &place);
+    told(walk.alloc, file, &here, &refused.fault, &message)
 }
 
 // Runs a command, and answers what is said of its refusal, if it is refused.
@@ -133,6 +129,18 @@ fn explain_piece<W: Sink, H: Refiners>(
     }
 }
 
+// What is said of a rest without a mark behind it, which begins at a place.
+fn unfinished_rest<H: Refiners>(
+    walk: &Walk<'_, H>,
+    rest: &[u8],
+    place: &Place,
+) -> Result<String, NoMemory> {
+    let start = Piece::new(walk.alloc, rest)?.start(0);
+    let begin = place.behind(between(rest, 0, start));
+    let (file, here) = located(walk.script.origins, &begin);
+    unfinished(walk.alloc, file, between(rest, start, rest.len()), &here)
+}
+
 // Writes what is said of a rest without a mark behind it, where it holds more than white space.
 fn explain_rest<W: Sink, H: Refiners>(
     walk: &Walk<'_, H>,
@@ -146,10 +154,7 @@ fn explain_rest<W: Sink, H: Refiners>(
     if is_blank_text(rest) {
         return Ok(());
     }
-    write_told(
-        writer,
-        unfinished(walk.alloc, walk.script.file, rest, place),
-    )
+    write_told(writer, unfinished_rest(walk, rest, place))
 }
 
 // Runs the commands of a script, and writes what is said of each that is refused.
@@ -182,7 +187,7 @@ fn explain_pieces<W: Sink, H: Refiners>(
 }
 
 /// Runs the commands of a script once more, over a proof manager of its own, and writes a message for each that is refused:
-/// the file, the line and the column of the part in question, the refusal, and what was expected and what stands there.
+/// the file, and in it the line and the column of the part in question, the refusal, and what was expected and what stands there.
 /// What the messages say takes part in no promise. Refused: Memory, and WriteFault where the sink failed.
 pub fn explain<W: Sink, H: Refiners>(
     alloc: Global,

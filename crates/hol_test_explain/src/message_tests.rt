@@ -1,11 +1,42 @@
 // Refused commands, with what is said of each.
-use crate::rows::{first_wrong, says};
+use crate::rows::{first_wrong, says, says_in};
+use hol_explain::Origin;
 use hol_model::Fault;
 use hol_test_sample_devices::push_times;
 use hol_test_sample_scripts::messages::{
     COMMANDS, FURTHER_NAMES, GOALS, LIMITS, MISFITS, NAMES, QUOTES, RULES, SHAPES, TERMS,
 };
 use std::alloc::Global;
+
+// The files of a script, of which one has no line.
+const ORIGINS: [Origin<'static>; 3] = [
+    Origin {
+        file: "a",
+        lines_before: 0,
+    },
+    Origin {
+        file: "empty",
+        lines_before: 2,
+    },
+    Origin {
+        file: "b",
+        lines_before: 2,
+    },
+];
+
+const SCRIPT: &[u8] = b"show TRUTH ;;
+newtype Num ;;
+show
+ EXCLUDED_MIDLE ;;
+
+show TRUTH
+";
+
+const MESSAGES: &[u8] =
+    b"a:2:9: E3 BadName: `Num` is no name of a declared type, which begins with a small letter and is not `bool`
+b:2:2: E21 UnknownName: no theorem is stored under `EXCLUDED_MIDLE`; the nearest known name is `EXCLUDED_MIDDLE`
+b:4:1: E28 Syntax: a command ends with `;;`, and here the script ends before one
+";
 
 // What is said of a term that is too high.
 fn tells_the_height(alloc: Global) -> Result<bool, Fault> {
@@ -67,4 +98,9 @@ fn quotes_are_explained(rt: HostRuntime) {
 fn limits_are_explained(rt: HostRuntime) {
     assert!(rt; first_wrong(rt.alloc(), LIMITS) == Ok(7));
     assert!(rt; tells_the_height(rt.alloc()) == Ok(true));
+}
+
+#[test]
+fn files_are_named(rt: HostRuntime) {
+    assert!(rt; says_in(rt.alloc(), &ORIGINS, SCRIPT, MESSAGES) == Ok(true));
 }

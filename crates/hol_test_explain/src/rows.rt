@@ -1,11 +1,17 @@
 // Scripts as data, and what is said of their refusals.
-use hol_explain::{Refused, Script, explain, explain_refusal};
+use hol_explain::{Origin, Refused, Script, explain, explain_refusal};
 use hol_host::{Host, NoHost};
 use hol_host_samples::liar;
 use hol_just::Goal;
 use hol_model::Fault;
 use hol_test_sample_devices::{Compared, Row, Rows};
 use std::alloc::Global;
+
+// The file of a row's script.
+const ORIGINS: [Origin<'static>; 1] = [Origin {
+    file: "s",
+    lines_before: 0,
+}];
 
 /// The title of the first row of a text of whose script something else is said, or how many rows there are.
 pub(crate) fn first_wrong(alloc: Global, text: &str) -> Result<usize, &str> {
@@ -23,13 +29,23 @@ pub(crate) fn first_wrong(alloc: Global, text: &str) -> Result<usize, &str> {
 
 /// Whether this is said of a script, and no more, where the host has a refiner that lies.
 pub(crate) fn says(alloc: Global, script: &[u8], messages: &[u8]) -> Result<bool, Fault> {
+    says_in(alloc, &ORIGINS, script, messages)
+}
+
+/// The same of a script that was put together from files.
+pub(crate) fn says_in(
+    alloc: Global,
+    origins: &[Origin<'_>],
+    script: &[u8],
+    messages: &[u8],
+) -> Result<bool, Fault> {
     let mut host = Host::new(alloc);
     let lies = Box::new(alloc, |alloc: Global, goal: &Goal| liar(alloc, goal))?;
     host.refiner(alloc, "liar", lies)?;
     let mut host_names = Vec::new(alloc);
     host_names.push(String::from_str(alloc, "liar")?)?;
     let script = Script {
-        file: "s",
+        origins,
         text: script,
         host_names: &host_names,
     };
@@ -42,7 +58,7 @@ pub(crate) fn says(alloc: Global, script: &[u8], messages: &[u8]) -> Result<bool
 pub(crate) fn says_of(alloc: Global, row: &Row<'_>, fault: Fault) -> Result<bool, Fault> {
     let host_names = Vec::new(alloc);
     let script = Script {
-        file: "s",
+        origins: &ORIGINS,
         text: row.script.as_bytes(),
         host_names: &host_names,
     };

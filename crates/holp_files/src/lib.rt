@@ -10,5 +10,5 @@ mod standard;
 pub use exit_status::status;
 pub use input::Input;
 pub use new_file::NewFile;
-pub use script_file::{Asked, ScriptFile};
+pub use script_file::ScriptFile;
 pub use standard::hold_standard_descriptors;

@@ -6,16 +6,8 @@ use std::fmt;
 use std::io::{self, Write};
 use std::rt::Stderr;
 
-/// How a script is run: the name of its file, where `-` names standard input, and whether standard error tells more of what
-/// is refused.
-#[derive(Clone, Copy)]
-pub struct Asked<'a> {
-    pub script: &'a str,
-    pub explains: bool,
-}
-
-/// The file of a script, or standard input. Where refusals are to be explained, it tells on standard error why it is not read,
-/// which takes no part in how the run ends.
+/// The file of a script, or standard input. Where it is asked for, standard error tells why the script is not read, which takes
+/// no part in how the run ends.
 #[derive(Drop)]
 pub struct ScriptFile {
     input: Input,
@@ -45,18 +37,15 @@ fn tell_reason(told: Option<Stderr>, script: &str, reason: &io::Error) {
 }
 
 impl ScriptFile {
-    /// Opens the file of a script, or standard input (`ReadFault`).
-    pub fn open(rt: &HostRuntime, asked: &Asked<'_>) -> Result<ScriptFile, Fault> {
-        let told = if asked.explains {
-            Some(rt.stderr())
-        } else {
-            None
-        };
-        let name = String::from_str(rt.alloc(), asked.script)?;
-        match Input::open(rt, asked.script) {
+    /// Opens the file of a script; `-` names standard input. Where it `tells`, so do its reads. Refused: ReadFault where the
+    /// file cannot be opened, Memory.
+    pub fn open(rt: &HostRuntime, script: &str, tells: bool) -> Result<ScriptFile, Fault> {
+        let told = if tells { Some(rt.stderr()) } else { None };
+        let name = String::from_str(rt.alloc(), script)?;
+        match Input::open(rt, script) {
             Ok(input) => Ok(ScriptFile { input, name, told }),
             Err(reason) => {
-                tell_reason(told, asked.script, &reason);
+                tell_reason(told, script, &reason);
                 Err(Fault::ReadFault)
             }
         }
@@ -100,10 +89,7 @@ mod tests {
 
     #[test]
     fn a_script_that_is_not_there_is_a_read_fault(rt: HostRuntime) {
-        let asked = Asked {
-            script: "no/such/script.hol",
-            explains: false,
-        };
-        assert!(rt; matches!(ScriptFile::open(&rt, &asked), Err(Fault::ReadFault)));
+        let opened = ScriptFile::open(&rt, "no/such/script.hol", false);
+        assert!(rt; matches!(opened, Err(Fault::ReadFault)));
     }
 }

@@ -4,7 +4,7 @@ use Rattle.hol_model.specs.declared.fault.Cause.{Cause}
 use Rattle.hol_model.specs.Logs.LogState.{LogState}
 use Rattle.hol_model.specs.Logs.LogText.{LogOutcome}
 use Rattle.hol_check.specs.LogAnswers.{log_answer}
-use Rattle.holp.specs.LogsChecked.{LogsAreChecked}
+use Rattle.holp_commands.specs.LogsChecked.{LogsAreChecked}
 
 same_state : (outcome : LogOutcome) (first second : LogState) → outcome ≡ Ok first → outcome ≡ Ok second → first ≡ second
 same_state outcome first second is other = cc

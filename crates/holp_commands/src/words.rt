@@ -3,25 +3,6 @@
 use clap::{Arg, ArgAction, ArgMatches, Command};
 use hol_model::Fault;
 use std::alloc::Global;
-use std::env;
-use std::io::ErrorKind;
-
-/// The words on the command line.
-pub(crate) fn words(rt: &HostRuntime) -> anyhow::Result<Vec<String>> {
-    let words = match env::args(rt) {
-        Ok(words) => words.collect(rt.alloc()),
-        Err(error) => {
-            if error.kind() == ErrorKind::OutOfMemory {
-                return Err(Fault::Memory.into());
-            }
-            return Err(error.into());
-        }
-    };
-    match words {
-        Ok(words) => Ok(words),
-        Err(_) => Err(Fault::Memory.into()),
-    }
-}
 
 // An argument that names a file.
 fn file_argument<'a>(alloc: Global, name: &'a str, help: &'a str) -> Arg<'a> {
@@ -34,12 +15,16 @@ fn file_argument<'a>(alloc: Global, name: &'a str, help: &'a str) -> Arg<'a> {
 /// The commands with their arguments.
 pub(crate) fn command_line<'a>(alloc: Global) -> Result<Command<'a>, Fault> {
     let run = Command::new(alloc, "run")
-        .about("Runs a proof script")
-        .arg(file_argument(
-            alloc,
-            "SCRIPT",
-            "The file of the proof script; - is standard input",
-        ))?
+        .about("Runs proof scripts, one after another as one")
+        .arg(
+            file_argument(
+                alloc,
+                "SCRIPT",
+                "The files of the proof scripts; - is standard input",
+            )
+            .num_args(1..)
+            .action(ArgAction::Append),
+        )?
         .arg(
             Arg::new(alloc, "log")
                 .long("log")
@@ -119,7 +104,7 @@ mod tests {
 Usage: holp <COMMAND>
 
 Commands:
-  run      Runs a proof script
+  run      Runs proof scripts, one after another as one
   check    Checks a proof log and lists its claims
   migrate  Checks a proof log and writes it in the second version
   help     Print this message or the help of the given subcommand(s)
@@ -148,9 +133,9 @@ For more information, try '--help'.
     #[test]
     fn an_argument_that_is_missing_is_named(rt: HostRuntime) -> anyhow::Result<()> {
         let fault = "error: the following required arguments were not provided:
-  <SCRIPT>
+  <SCRIPT>...
 
-Usage: holp run <SCRIPT>
+Usage: holp run <SCRIPT>...
 
 For more information, try '--help'.
 ";

@@ -1,5 +1,0 @@
-use Rattle.holp.proofs.CheckedLemmas.{logs_are_checked}
-use Rattle.holp.proofs.laws.logs_are_checked.Goals as goal
-
-pub returns : goal.returns
-returns c = logs_are_checked

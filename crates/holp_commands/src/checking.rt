@@ -1,0 +1,68 @@
+// Checks and migrates logs.
+
+use hol_check::{Claim, check, check_log, migrate, write_claims, write_entries};
+use hol_device_adapters::{FromCall, IntoCall};
+use hol_model::Fault;
+use holp_files::{Input, NewFile};
+use itoa::Buffer;
+use std::io::Write;
+
+// The file of this name, to be read; `-` names standard input.
+fn open(rt: &HostRuntime, name: &str) -> Result<Input, Fault> {
+    match Input::open(rt, name) {
+        Ok(input) => Ok(input),
+        Err(_) => Err(Fault::ReadFault),
+    }
+}
+
+/// Checks a log, and prints its claims and their number.
+pub(crate) fn check_file(rt: &HostRuntime, log: &str) -> Result<u64, Fault> {
+    let alloc = rt.alloc();
+    let mut file = open(rt, log)?;
+    let reads = Box::new(alloc, move |buf: &mut [u8]| file.read(buf))?;
+    let mut reader = FromCall::new(reads);
+    let claims = check(alloc, &mut reader)?;
+    print_claims(rt, &claims)
+}
+
+/// Checks a log, and prints the entries of its theory, then its claims and their number.
+pub(crate) fn check_file_with_theory(rt: &HostRuntime, log: &str) -> Result<u64, Fault> {
+    let alloc = rt.alloc();
+    let mut file = open(rt, log)?;
+    let reads = Box::new(alloc, move |buf: &mut [u8]| file.read(buf))?;
+    let mut reader = FromCall::new(reads);
+    let log = check_log(alloc, &mut reader)?;
+    let mut output = rt.stdout();
+    let writes = Box::new(alloc, move |piece: &[u8]| output.write(piece))?;
+    write_entries(alloc, &log.entries, &mut IntoCall::new(writes))?;
+    print_claims(rt, &log.claims)
+}
+
+// Prints claims and their number.
+fn print_claims(rt: &HostRuntime, claims: &[Claim]) -> Result<u64, Fault> {
+    let alloc = rt.alloc();
+    let mut output = rt.stdout();
+    let writes = Box::new(alloc, move |piece: &[u8]| output.write(piece))?;
+    write_claims(alloc, claims, &mut IntoCall::new(writes))?;
+    let mut digits = Buffer::new();
+    match println!(rt; "claims: {}", digits.format(claims.len())) {
+        Ok(()) => Ok(0),
+        Err(_) => Err(Fault::WriteFault),
+    }
+}
+
+/// Checks a log, writes it in the second version to a new file, and prints the number of its claims. The log is read to
+/// its end before the new file is made, and the file is made for an accepted log alone.
+pub(crate) fn migrate_file(rt: &HostRuntime, log: &str, new: &str) -> Result<u64, Fault> {
+    let alloc = rt.alloc();
+    let mut file = open(rt, log)?;
+    let reads = Box::new(alloc, move |buf: &mut [u8]| file.read(buf))?;
+    let mut reader = FromCall::new(reads);
+    let mut writer = NewFile::new(rt, new);
+    let claims = migrate(alloc, &mut reader, &mut writer)?;
+    let mut digits = Buffer::new();
+    match println!(rt; "migrated: {} claims", digits.format(claims.len())) {
+        Ok(()) => Ok(0),
+        Err(_) => Err(Fault::WriteFault),
+    }
+}

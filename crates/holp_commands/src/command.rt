@@ -1,0 +1,83 @@
+// The command that words name.
+
+use crate::checking::{check_file, check_file_with_theory, migrate_file};
+use crate::ending::tell;
+use crate::running::{run_scripts, run_scripts_with_log};
+use crate::words::{command_line, value};
+use anyhow::ensure;
+use clap::ArgMatches;
+use clap::error::ErrorKind;
+use hol_model::Fault;
+
+// Whether standard input is named more than once.
+fn names_input_twice(names: &[&str]) -> bool {
+    let mut is_named = false;
+    for at in 0..names.len() {
+        if names[at] == "-" {
+            if is_named {
+                return true;
+            }
+            is_named = true;
+        }
+    }
+    false
+}
+
+// `run`: the status is 0, 1 where a command of the scripts was refused, or that of a fault.
+fn run(rt: &HostRuntime, matches: &ArgMatches<'_>) -> anyhow::Result<u8> {
+    let Some(names) = matches.get_strs("SCRIPT") else {
+        // clap has asked for a script.
+        return Ok(2);
+    };
+    ensure!(
+        !names_input_twice(names),
+        "- is standard input, and may stand once"
+    );
+    let explains = matches.get_flag("explain");
+    let answer = match matches.get_str("log") {
+        Some(log) => run_scripts_with_log(rt, names, explains, log),
+        None => run_scripts(rt, names, explains),
+    };
+    Ok(tell(rt, answer))
+}
+
+// `check`: the status is 0, 3 where the log is refused, or that of a fault.
+fn check(rt: &HostRuntime, matches: &ArgMatches<'_>) -> u8 {
+    let log = value(matches, "LOG");
+    let answer = if matches.get_flag("theory") {
+        check_file_with_theory(rt, log)
+    } else {
+        check_file(rt, log)
+    };
+    tell(rt, answer)
+}
+
+/// Runs the command that words name, of which the first is the program's name, and answers the exit status: 0 where all was
+/// accepted, 1 where a command of a script was refused, 2 for wrong words and for faults of files, memory or length, 3 for a
+/// refused log. Help and the version go to standard output, faults to standard error. An error is another with status 2,
+/// which is not told yet.
+pub fn run_command(rt: &HostRuntime, words: &[String]) -> anyhow::Result<u8> {
+    let command = command_line(rt.alloc())?;
+    let matches = match command.try_get_matches_from(words) {
+        Ok(matches) => matches,
+        Err(error) => {
+            if error.kind() == ErrorKind::OutOfMemory {
+                return Ok(tell(rt, Err(Fault::Memory)));
+            }
+            error.print(rt)?;
+            return Ok(error.exit_code() as u8);
+        }
+    };
+    if let Some(asked) = matches.subcommand_matches("run") {
+        return run(rt, asked);
+    }
+    if let Some(asked) = matches.subcommand_matches("check") {
+        return Ok(check(rt, asked));
+    }
+    if let Some(asked) = matches.subcommand_matches("migrate") {
+        let answer = migrate_file(rt, value(asked, "LOG"), value(asked, "NEW"));
+        return Ok(tell(rt, answer));
+    }
+    // clap has asked for a command.
+    Ok(2)
+}

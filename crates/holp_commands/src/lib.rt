@@ -1,0 +1,17 @@
+//! The commands of the program `holp`: what each does with the files that its words name, what it prints, and the status that it
+//! ends with. That the right file goes to the right call has to be read; what the calls do is told on `hol_script::run` and
+//! `hol_check::check`. `logs_are_checked` joins the two: what the checker answers for the log of a run.
+#![tactic(auto)]
+
+mod checking;
+mod command;
+mod ending;
+mod laws;
+mod output;
+mod refusals;
+mod running;
+mod scripts;
+mod words;
+
+pub use command::run_command;
+pub use laws::logs_are_checked;

@@ -1,0 +1,119 @@
+// Runs scripts over a host with the sample refiners and conversions.
+ghost use Rattle.std.specs.Prelude.{◌≡◌, false};
+
+use crate::laws::logs_are_checked;
+use crate::output::Output;
+use crate::scripts::{Scripts, open_scripts, read_scripts};
+use hol_device_adapters::{FromRead, IntoCall, IntoWrite};
+use hol_explain::{Script, explain};
+use hol_host::Host;
+use hol_host_samples::{liar, liar2, peel, swap};
+use hol_just::Goal;
+use hol_model::{Fault, Sink};
+use hol_script::run;
+use hol_terms::Term;
+use std::alloc::Global;
+use std::fs::{self, File};
+use std::io::Write;
+use std::mem::forget;
+
+// The file of this name, made empty, to be written.
+fn create(rt: &HostRuntime, name: &str) -> Result<File, Fault> {
+    match fs::create(rt, name) {
+        Ok(file) => Ok(file),
+        Err(_) => Err(Fault::WriteFault),
+    }
+}
+
+// Runs a script over a host with the sample refiners and conversions, and answers how many of its commands were refused. Where
+// these are to be explained, what is said of them is written to standard error behind the run, and takes no part in how it ends.
+fn run_hosted<W: Sink, L: Sink>(
+    rt: &HostRuntime,
+    script: &Script<'_>,
+    explains: bool,
+    writer: &mut W,
+    log: &mut L,
+    wants_log: bool,
+) -> Result<u64, Fault>
+    requires writer_unfailed { W.has_failed writer.old ≡ false }
+    requires log_unfailed { L.has_failed log.old ≡ false }
+{
+    let alloc = rt.alloc();
+    let mut host = Host::new(alloc);
+    let peels = Box::new(alloc, |alloc: Global, goal: &Goal| peel(alloc, goal))?;
+    host.refiner(alloc, "peel", peels)?;
+    let lies = Box::new(alloc, |alloc: Global, goal: &Goal| liar(alloc, goal))?;
+    host.refiner(alloc, "liar", lies)?;
+    let lies_twice = Box::new(alloc, |alloc: Global, goal: &Goal| liar2(alloc, goal))?;
+    host.refiner(alloc, "liar2", lies_twice)?;
+    let swaps = Box::new(alloc, |alloc: Global, term: &Term| swap(alloc, term))?;
+    host.conv(alloc, "swap", swaps)?;
+    let mut reader = FromRead::new(script.text);
+    let ended = run(alloc, &mut reader, writer, log, wants_log, &host)?;
+    let refused = ended.summary.refused;
+    if explains && refused > 0 {
+        drop(ended);
+        let mut output = rt.stderr();
+        if let Ok(writes) = Box::new(alloc, move |piece: &[u8]| output.write(piece)) {
+            let _ = explain(alloc, script, &host, &mut IntoCall::new(writes));
+        }
+    } else {
+        // The program ends, and the session goes with its memory, as one.
+        forget(ended);
+    }
+    Ok(refused)
+}
+
+// The names of the functions of the host.
+fn host_names(alloc: Global) -> Result<Vec<String>, Fault> {
+    let mut names = Vec::new(alloc);
+    for name in ["peel", "liar", "liar2", "swap"] {
+        names.push(String::from_str(alloc, name)?)?;
+    }
+    Ok(names)
+}
+
+// Runs scripts as one, and answers how many of their commands were refused. Standard error tells where these stand, or, where it
+// is to explain them, why they were refused.
+fn run_over<L: Sink>(
+    rt: &HostRuntime,
+    scripts: &Scripts<'_>,
+    explains: bool,
+    log: &mut L,
+    wants_log: bool,
+) -> Result<u64, Fault>
+    requires { L.has_failed log.old ≡ false }
+{
+    let host_names = host_names(rt.alloc())?;
+    let script = Script {
+        origins: scripts.origins.as_slice(),
+        text: scripts.text.as_slice(),
+        host_names: &host_names,
+    };
+    let mut writer = Output::new(rt, scripts.told(explains));
+    run_hosted(rt, &script, explains, &mut writer, log, wants_log)
+}
+
+/// Runs scripts as one, and answers how many of their commands were refused.
+pub(crate) fn run_scripts(rt: &HostRuntime, names: &[&str], explains: bool) -> Result<u64, Fault> {
+    let opened = open_scripts(rt, names, explains)?;
+    let scripts = read_scripts(rt, names, opened)?;
+    let mut no_log = IntoWrite::new(Vec::new(rt.alloc()));
+    run_over(rt, &scripts, explains, &mut no_log, false)
+}
+
+/// Runs scripts as one and writes their log, and answers how many of their commands were refused. The log's file is made once
+/// the scripts are open, before they are read.
+pub(crate) fn run_scripts_with_log(
+    rt: &HostRuntime,
+    names: &[&str],
+    explains: bool,
+    log: &str,
+) -> Result<u64, Fault> {
+    logs_are_checked();
+    let opened = open_scripts(rt, names, explains)?;
+    let mut file = create(rt, log)?;
+    let scripts = read_scripts(rt, names, opened)?;
+    let logs = Box::new(rt.alloc(), move |piece: &[u8]| file.write(piece))?;
+    run_over(rt, &scripts, explains, &mut IntoCall::new(logs), true)
+}
