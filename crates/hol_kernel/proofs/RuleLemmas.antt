@@ -14,7 +14,7 @@ use Rattle.hol_model.specs.Logic.KnownTerm.{knows_type, knows_types, knows_const
 use Rattle.hol_model.specs.Logic.Derivable.{Derivable, IsMember, NotFreeInAny, nameless_equation}
 use Rattle.hol_model.specs.Logic.Derivable.Derivable.{same_hypotheses, refl_rule, trans_rule, mk_comb_rule, abs_rule, beta_rule, assume_rule, eq_mp_rule, deduct_antisym_rule, eta_rule, select_rule}
 use Rattle.hol_model.proofs.Terms.HolTypeEq.{type_eq-Decides}
-use Rattle.hol_model.proofs.Tests.{same_name, same_variable-type, first_of_both, second_of_both}
+use Rattle.hol_model.proofs.Tests.{same_name, same_variable-type, same_term-Decides, first_of_both, second_of_both}
 use Rattle.hol_model.proofs.Logic.Later.{Derivable-earlier}
 use Rattle.hol_model.proofs.Terms.Typing.{one_type}
 use Rattle.hol_model.proofs.Logic.Known.{Derivable-known, generic_type-logical}
@@ -23,8 +23,9 @@ use Rattle.hol_model.proofs.Logic.KnownTerms.{image-known, knows_type-IsKnownTyp
 use Rattle.hol_model.specs.Kernel.NamedAxioms.{eta_conclusion, select_hypothesis, select_conclusion}
 use Rattle.hol_model.specs.Kernel.Outcome.{Answers}
 use Rattle.hol_model.specs.Kernel.Theorem.{Theorem, IsTheorem, are_alpha_equivalent, with_hypotheses, without_hypothesis}
-use Rattle.hol_model.specs.Kernel.Rules.{first_unknown, dest_equation, dest_trivial_redex, is_formula, is_free_in_hypotheses, concluded, assume_outcome, mk_comb_outcome, abs_outcome}
+use Rattle.hol_model.specs.Kernel.Rules.{first_unknown, dest_equation, dest_trivial_redex, is_formula, is_free_in_hypotheses, concluded, assume_outcome, mk_comb_outcome, abs_outcome, trans_outcome, eq_mp_outcome}
 use Rattle.hol_kernel.specs.KnownFormula.{IsKnownFormula}
+use Rattle.hol_kernel.specs.Fits.{TransFits, EqMpFits}
 use Rattle.hol_kernel.proofs.KnownLemmas.{no_unknown, known_where_none}
 use Rattle.hol_kernel.proofs.HypothesesLemmas.{with_hypotheses-same_set, image-without_hypothesis}
 use Rattle.hol_kernel.proofs.OrderLemmas.{with_hypotheses-ordered, kept-ordered}
@@ -110,6 +111,54 @@ sides theory legal (combination (combination (constant name s) left) right) a b 
         (equation_parts theory legal name s left right ((bytes_eq-Decides name equality_name).0 passed) known))
     go false passed is = cc
 sides theory legal _ a b known is = cc
+
+-- the sides of a theorem that is an equation
+own_sides : (theorem : Theorem) → IsTheorem theorem → (left right : NamedTerm) → dest_equation theorem.conclusion ≡ Some (left, right) → IsEquation theorem.conclusion left right
+own_sides theorem is left right dest = sides theorem.theory is.legal theorem.conclusion left right (Derivable-known theorem.theory is.legal is.derivable).conclusion dest
+
+-- the same image, so the same type
+same_type : (a b : NamedTerm) (s t : HolType) → type_of a ≡ Some s → type_of b ≡ Some t → image a ≡ image b → s ≡ t
+same_type a b s t a_typed b_typed same =
+    one_type (image a) s t (image-typed a s a_typed) (rw same (image-typed b t b_typed))
+
+-- equations with one middle term fit, and those that fit have one
+pub trans-fits : (first second : Theorem) → IsTheorem first → IsTheorem second
+    → (a b m c : NamedTerm) → dest_equation first.conclusion ≡ Some (a, b) → dest_equation second.conclusion ≡ Some (m, c) → image b ≡ image m → TransFits first second
+trans-fits first second is_first is_second a b m c dest_first dest_second alpha =
+    let left = own_sides first is_first a b dest_first in
+    let right = own_sides second is_second m c dest_second in
+    record {
+      ty = left.ty;
+      left = image a;
+      middle = image b;
+      right = image c;
+      first_is = left.image_is;
+      second_is = rw (same_type b m left.ty right.ty left.right_typed right.left_typed alpha, alpha) right.image_is;
+    }
+
+pub trans-middle : (first second : Theorem) → IsTheorem first → IsTheorem second
+    → (a b m c : NamedTerm) → dest_equation first.conclusion ≡ Some (a, b) → dest_equation second.conclusion ≡ Some (m, c) → TransFits first second → image b ≡ image m
+trans-middle first second is_first is_second a b m c dest_first dest_second fits =
+    let left = own_sides first is_first a b dest_first in
+    let right = own_sides second is_second m c dest_second in
+    let ends : image b ≡ fits.middle = cc (left.image_is, fits.first_is) in
+    let begins : image m ≡ fits.middle = cc (right.image_is, fits.second_is) in
+    ends ∙ sym begins
+
+-- an equation of formulas and its left side fit, and in those that fit it is the left side
+pub eq_mp-fits : (first second : Theorem) → IsTheorem first → IsTheorem second
+    → (p q : NamedTerm) → dest_equation first.conclusion ≡ Some (p, q) → image p ≡ image second.conclusion → EqMpFits first second
+eq_mp-fits first second is_first is_second p q dest alpha =
+    let parts = own_sides first is_first p q dest in
+    let formula : HasType [] (image p) bool_type = rw alpha (Derivable-known second.theory is_second.legal is_second.derivable).conclusion.typed in
+    let one : parts.ty ≡ bool_type = one_type (image p) parts.ty bool_type (image-typed p parts.ty parts.left_typed) formula in
+    record { right = image q; first_is = parts.image_is ∙ (λ i. nameless_equation (one i) (alpha i) (image q)) }
+
+pub eq_mp-left : (first second : Theorem) → IsTheorem first → (p q : NamedTerm) → dest_equation first.conclusion ≡ Some (p, q) → EqMpFits first second
+    → image p ≡ image second.conclusion
+eq_mp-left first second is_first p q dest fits =
+    let parts = own_sides first is_first p q dest in
+    cc (parts.image_is, fits.first_is)
 
 -- a theorem, as the program makes its parts
 pub theorem-alike : (theory : Theory) (hypotheses : List NamedTerm) (conclusion : NamedTerm) (entries : Theory) (items : List NamedTerm) (term : NamedTerm)
@@ -210,11 +259,6 @@ module _ (theory : Theory) (legal : IsLegal theory) where
     derivable = assume_rule (image term) (known_term theory term bool_type none (is_formula-type term formula));
     ordered = (tt, tt);
   }
-
-  -- the same image, so the same type
-  same_type : (a b : NamedTerm) (s t : HolType) → type_of a ≡ Some s → type_of b ≡ Some t → image a ≡ image b → s ≡ t
-  same_type a b s t a_typed b_typed same =
-      one_type (image a) s t (image-typed a s a_typed) (rw same (image-typed b t b_typed))
 
   pub trans-types : (first second : Theorem) → IsEarlier first.theory theory → IsEarlier second.theory theory → IsTheorem first → IsTheorem second
       → (a b m c : NamedTerm) → dest_equation first.conclusion ≡ Some (a, b) → dest_equation second.conclusion ≡ Some (m, c) → image b ≡ image m
@@ -355,6 +399,14 @@ module _ (theory : Theory) (legal : IsLegal theory) where
 
 -- what the rules on two sides come to, where nothing but the limits can refuse
 
+pub trans-concluded : (theory : Theory) (first second : Theorem) (a b m c : NamedTerm) → dest_equation first.conclusion ≡ Some (a, b) → dest_equation second.conclusion ≡ Some (m, c)
+    → image b ≡ image m → trans_outcome theory first second ≡ concluded theory (with_hypotheses first.hypotheses second.hypotheses) (equation a c)
+trans-concluded theory first second a b m c dest_first dest_second alpha = rw (dest_first, dest_second, (same_term-Decides (image b) (image m)).1 alpha) refl
+
+pub eq_mp-concluded : (theory : Theory) (first second : Theorem) (p q : NamedTerm) → dest_equation first.conclusion ≡ Some (p, q) → image p ≡ image second.conclusion
+    → eq_mp_outcome theory first second ≡ Ok (record { theory = theory; hypotheses = with_hypotheses first.hypotheses second.hypotheses; conclusion = q })
+eq_mp-concluded theory first second p q dest alpha = rw (dest, (same_term-Decides (image p) (image second.conclusion)).1 alpha) refl
+
 pub mk_comb-concluded : (theory : Theory) (first second : Theorem) (f g x y : NamedTerm) (ty : HolType) → dest_equation first.conclusion ≡ Some (f, g) → dest_equation second.conclusion ≡ Some (x, y)
     → type_of (combination f x) ≡ Some ty
     → mk_comb_outcome theory first second ≡ concluded theory (with_hypotheses first.hypotheses second.hypotheses) (equation (combination f x) (combination g y))
@@ -373,16 +425,20 @@ answers-concluded result outcome theory entries hypotheses items a b left right 
     let parts : concluded entries items (equation left right) ≡ concluded theory hypotheses (equation a b) = λ i. concluded (one i) (two i) (equation (three i) (four i)) in
     subst (λ (o : Result Theorem Fault). Answers result o) (parts ∙ sym is) answers
 
--- the outcome of ASSUME of a known formula, as the program makes its parts
-pub assume-answers : (theory : Theory) (term : NamedTerm) → IsKnownFormula theory term → (result : Result Theorem Fault) (entries : Theory) (items : List NamedTerm) (conclusion : NamedTerm)
-    → entries ≡ theory → items ≡ term ∷ [] → conclusion ≡ term
-    → IfOk result (λ made. made ≡ record { theory = entries; hypotheses = items; conclusion = conclusion }) → IfErr result (λ fault. fault ≡ Memory) → Answers result (assume_outcome theory term)
-assume-answers theory term known (Ok made) entries items conclusion one two three ok err =
-    let assumed : Theorem = record { theory = theory; hypotheses = term ∷ []; conclusion = term } in
-    let outcome : assume_outcome theory term ≡ Ok assumed = rw (known_is_formula theory term known, no_unknown theory term known.known) refl in
-    let parts : record { theory = entries; hypotheses = items; conclusion = conclusion } ≡ assumed = λ i. record { theory = one i; hypotheses = two i; conclusion = three i } in
-    outcome ∙ ap Ok (sym (ok ∙ parts))
-assume-answers theory term known (Err fault) entries items conclusion one two three ok err = inl err
+-- the outcome of a rule that only memory can refuse, as the program makes its parts
+pub answers-made : (result outcome : Result Theorem Fault) (theory entries : Theory) (hypotheses items : List NamedTerm) (term conclusion : NamedTerm)
+    → outcome ≡ Ok (record { theory = theory; hypotheses = hypotheses; conclusion = term }) → entries ≡ theory → items ≡ hypotheses → conclusion ≡ term
+    → IfOk result (λ made. made ≡ record { theory = entries; hypotheses = items; conclusion = conclusion }) → IfErr result (λ fault. fault ≡ Memory) → Answers result outcome
+answers-made (Ok made) outcome theory entries hypotheses items term conclusion is one two three ok err =
+    let parts : record { theory = entries; hypotheses = items; conclusion = conclusion } ≡ record { theory = theory; hypotheses = hypotheses; conclusion = term } =
+    λ i. record { theory = one i; hypotheses = two i; conclusion = three i } in
+    is ∙ ap Ok (sym (ok ∙ parts))
+answers-made (Err fault) outcome theory entries hypotheses items term conclusion is one two three ok err = inl err
+
+-- ASSUME of a known formula comes to it
+pub assume-concluded : (theory : Theory) (term : NamedTerm) → IsKnownFormula theory term
+    → assume_outcome theory term ≡ Ok (record { theory = theory; hypotheses = term ∷ []; conclusion = term })
+assume-concluded theory term known = rw (known_is_formula theory term known, no_unknown theory term known.known) refl
 
 -- the axioms
 

@@ -1,6 +1,7 @@
 pub mod Entries
 pub mod Thm
 pub mod KnownFormula
+pub mod Fits
 pub mod TheoryState
 pub mod Place
 pub mod Binders

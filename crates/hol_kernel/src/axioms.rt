@@ -16,7 +16,8 @@ use std::alloc::Global;
 impl Theory {
     ghost use Rattle.hol_model.specs.Kernel.Theorem.{Theorem};
 
-    /// ETA: `|- (\x:A. t x) = t`.
+    /// ETA: `|- (\x:A. t x) = t`, for a variable `t` of type `A->B`: a function is the abstraction of its values. Only memory
+    /// refuses it.
     pub fn eta(&self, alloc: Global) -> Result<Thm, Fault>
         ensures ok { IfOk result (λ theorem. theorem ≡ record { theory = self.now; hypotheses = []; conclusion = axioms.eta_conclusion }) }
         ensures err { IfErr result (λ fault. fault ≡ Memory) }
@@ -25,7 +26,8 @@ impl Theory {
         Thm::new(alloc, self.entries()?, Vec::new(alloc), conclusion)
     }
 
-    /// SELECT: `P x |- P (@ P)`.
+    /// SELECT: `P x |- P (@ P)`, for variables `P` of type `A->bool` and `x` of type `A`: choice takes a value that has the
+    /// property, where one has. Only memory refuses it.
     pub fn select(&self, alloc: Global) -> Result<Thm, Fault>
         ensures ok { IfOk result (λ theorem. theorem ≡ record { theory = self.now; hypotheses = axioms.select_hypothesis ∷ []; conclusion = axioms.select_conclusion }) }
         ensures err { IfErr result (λ fault. fault ≡ Memory) }

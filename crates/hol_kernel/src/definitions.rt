@@ -18,7 +18,11 @@ use hol_types::Ty;
 use std::alloc::Global;
 
 impl Theory {
-    /// Defines a constant; the theorem is `|- c = t`, and stands on the theory with the definition.
+    /// Defines a constant; the theorem is `|- c = t`, and stands on the theory with the definition. BadName where no constant
+    /// may have the name; then refused where the theory does not know the term, as `first_unknown` answers; NotClosed where
+    /// a variable is free in it; TypeVarsNotReflected where a type variable in it does not stand in its type; AlreadyDefined
+    /// where the name is taken; TooLarge where the theory is full or the equation is past the limits. After a refusal the
+    /// theory is as before.
     pub fn define(&mut self, alloc: Global, name: &str, term: &Term) -> Result<Thm, Fault>
         ensures outcome { Answers result (outcome.define_outcome self.old name.now term.now) }
         ensures grown { IfOk result (λ theorem. self.new ≡ theorem.theory) }
@@ -56,7 +60,8 @@ impl Theory {
         Ok(theorem)
     }
 
-    /// Declares a type.
+    /// Declares a type. BadName where no declared type may have the name; AlreadyDefined where it is taken; TooLarge where
+    /// the theory is full. After a refusal the theory is as before.
     pub fn new_type(&mut self, alloc: Global, name: &str) -> Result<(), Fault>
         ensures outcome { Answers (leaving result self.new) (outcome.new_type_outcome self.old name.now) }
         ensures kept { OnErr result (self.new ≡ self.old) }
@@ -76,7 +81,9 @@ impl Theory {
         self.grow_by_type(alloc, name, entries)
     }
 
-    /// Declares a constant of a type without type variables.
+    /// Declares a constant of a type without type variables. BadName where no constant may have the name; UnknownType where
+    /// the theory does not know the type; TypeVarsNotReflected where a type variable stands in it; AlreadyDefined where the
+    /// name is taken; TooLarge where the theory is full. After a refusal the theory is as before.
     pub fn new_const(&mut self, alloc: Global, name: &str, ty: &Ty) -> Result<(), Fault>
         ensures outcome { Answers (leaving result self.new) (outcome.new_const_outcome self.old name.now ty.now) }
         ensures kept { OnErr result (self.new ≡ self.old) }

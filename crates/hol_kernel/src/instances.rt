@@ -25,8 +25,11 @@ use hol_types::{Ty, replaces_type_variables};
 use std::alloc::Global;
 
 impl Theory {
-    /// INST: free variables replaced by terms of their types, all at once, by a list of pairs (new, old). Walks the new
-    /// terms, to see that the theory knows them; for replacements that a proof shows to be accepted, `inst_known`.
+    /// INST: free variables replaced by terms of their types, all at once, by a list of pairs (new, old). Bound variables
+    /// that would catch a variable of a new term take other names. Of all the pairs in turn: NotVariable where an old term
+    /// is no variable, TypeMismatch where a new one is not of its type, UnknownType, UnknownConst and NotInstance where the
+    /// theory does not know one; then TooLarge where a term of the answer is past the limits. Walks the new terms; for
+    /// replacements that a proof shows to be accepted, `inst_known`.
     pub fn inst(&self, alloc: Global, theta: &[(Term, Term)], theorem: &Thm) -> Result<Thm, Fault>
         requires { IsEarlier theorem.now.theory self.now }
         ensures outcome { AnswersSuch result (spec.inst_refusal self.now theta.now theorem.now) (spec.IsInst self.now theta.now theorem.now) }
@@ -38,7 +41,7 @@ impl Theory {
         self.inst_known(alloc, theta, theorem)
     }
 
-    /// INST by terms that the theory knows, for variables of their types, which are not walked for it.
+    /// INST by terms that the theory knows, for variables of their types, which are not walked for it. TooLarge as `inst`.
     pub fn inst_known(
         &self,
         alloc: Global,
@@ -53,7 +56,9 @@ impl Theory {
         changed(alloc, self.entries()?, &Change::Variables(theta), theorem)
     }
 
-    /// INST_TYPE: type variables replaced by types, all at once, by a list of pairs (new, old).
+    /// INST_TYPE: type variables replaced by types, all at once, by a list of pairs (new, old). NotVariable where an old type
+    /// is no type variable; UnknownType where the theory does not know a new one; TooLarge where a term of the answer is
+    /// past the limits.
     pub fn inst_type(&self, alloc: Global, theta: &[(Ty, Ty)], theorem: &Thm) -> Result<Thm, Fault>
         requires { IsEarlier theorem.now.theory self.now }
         ensures outcome { AnswersSuch result (spec.inst_type_refusal self.now theta.now theorem.now) (spec.IsInstType self.now theta.now theorem.now) }

@@ -9,8 +9,9 @@ use hol_terms::{Parts, Term};
 use hol_types::{Ty, TypeParts, is_instance};
 
 impl Theory {
-    /// The refusal for a term of which a type or a constant is not known: UnknownType, UnknownConst and NotInstance, the
-    /// first that applies.
+    /// The refusal for a term that the theory does not know: UnknownType where a type in it was not declared, UnknownConst
+    /// where a constant is not there, NotInstance where one has a type that is no instance of its generic type. `None` for a
+    /// term that is known, after one walk.
     pub fn first_unknown(&self, term: &Term) -> Option<Fault>
         ensures { result ≡ rules.first_unknown self.now term.now }
     {
@@ -25,7 +26,7 @@ impl Theory {
         }
     }
 
-    /// Whether the types and the constants of a term are known.
+    /// Whether each type in a term is known, and each constant there at an instance of its generic type.
     pub fn known(&self, term: &Term) -> bool
         ensures { result ≡ spec.is_known self.now term.now }
     {

@@ -1,5 +1,6 @@
 // The rules of the kernel (those of HOL Light's `fusion.ml`). A theorem handed in stands on this theory or an earlier
-// state of it.
+// state of it; the answer stands on this theory. A rule answers the first of its refusals that applies, in the order in
+// which its comment has them, or Memory where there is none left. The hypotheses of two premises are put together.
 ghost use Rattle.std.specs.Prelude.{◌≡◌, [], ◌∷◌, Some, true, IfOk};
 ghost use Rattle.hol_model.specs.Terms.HolType.{HolType};
 ghost use Rattle.hol_model.specs.Terms.NamedTerm.{type_of, equation};
@@ -9,6 +10,7 @@ ghost use Rattle.hol_model.specs.Kernel.Theorem.{IsTheorem};
 ghost use Rattle.hol_model.specs.Kernel.Rules as outcome;
 ghost use Rattle.hol_model.specs.Kernel.Outcome.{Answers};
 ghost use Rattle.hol_kernel.specs.KnownFormula.{IsKnownFormula};
+ghost use Rattle.hol_kernel.specs.Fits.{TransFits, EqMpFits};
 
 use crate::entries::Entries;
 use crate::equation::{
@@ -43,8 +45,8 @@ fn equation_theorem(
 }
 
 impl Theory {
-    /// REFL: `|- t = t`. Walks the term, to see that the theory knows it; for a term that a proof shows to be known,
-    /// `refl_known`.
+    /// REFL: `|- t = t`. Refused where the theory does not know the term, as `first_unknown` answers; TooLarge where the
+    /// equation is past the limits. Walks the term; for one that a proof shows to be known, `refl_known`.
     pub fn refl(&self, alloc: Global, term: &Term) -> Result<Thm, Fault>
         ensures outcome { Answers result (outcome.refl_outcome self.now term.now) }
         ensures stands_on { IfOk result (λ answer. answer.theory ≡ self.now) }
@@ -64,8 +66,8 @@ impl Theory {
         equation_theorem(alloc, self.entries()?, Vec::new(alloc), term, term)
     }
 
-    /// ASSUME: `p |- p`. Walks the term, to see that the theory knows it; for a formula that a proof shows to be known,
-    /// `assume_known`.
+    /// ASSUME: `p |- p`. NotBool where the term is no formula; then refused where the theory does not know it, as
+    /// `first_unknown` answers. Walks the term; for a formula that a proof shows to be known, `assume_known`.
     pub fn assume(&self, alloc: Global, term: &Term) -> Result<Thm, Fault>
         ensures outcome { Answers result (outcome.assume_outcome self.now term.now) }
         ensures stands_on { IfOk result (λ answer. answer.theory ≡ self.now) }
@@ -90,44 +92,80 @@ impl Theory {
         Thm::new(alloc, self.entries()?, hypotheses, term.copy(alloc)?)
     }
 
-    /// TRANS: from `a = b` and `b = c`, `a = c`.
+    /// TRANS: from `a = b` and `b = c`, `a = c`. NotEquation where a conclusion is no equation; NotAlpha where the middle
+    /// terms differ in more than the names of bound variables; TooLarge where the answer's equation is past the limits.
+    /// Compares the middle terms; for equations that a proof shows to fit, `trans_known`.
     pub fn trans(&self, alloc: Global, first: &Thm, second: &Thm) -> Result<Thm, Fault>
         requires first { IsEarlier first.now.theory self.now }
         requires second { IsEarlier second.now.theory self.now }
         ensures outcome { Answers result (outcome.trans_outcome self.now first.now second.now) }
         ensures stands_on { IfOk result (λ answer. answer.theory ≡ self.now) }
     {
-        let Some((left, middle)) = dest_eq(first.concl()) else {
+        let Some((_, middle)) = dest_eq(first.concl()) else {
             return Err(Fault::NotEquation);
         };
-        let Some((other, right)) = dest_eq(second.concl()) else {
+        let Some((other, _)) = dest_eq(second.concl()) else {
             return Err(Fault::NotEquation);
         };
         if !aconv(middle, other) {
             return Err(Fault::NotAlpha);
         }
+        self.trans_known(alloc, first, second)
+    }
+
+    /// TRANS of equations that fit, whose middle terms are not compared for it. TooLarge as `trans`.
+    pub fn trans_known(&self, alloc: Global, first: &Thm, second: &Thm) -> Result<Thm, Fault>
+        requires first { IsEarlier first.now.theory self.now }
+        requires second { IsEarlier second.now.theory self.now }
+        requires fits { TransFits first.now second.now }
+        ensures outcome { Answers result (outcome.trans_outcome self.now first.now second.now) }
+        ensures stands_on { IfOk result (λ answer. answer.theory ≡ self.now) }
+    {
+        let Some((left, _)) = dest_eq(first.concl()) else {
+            return Err(Fault::NotEquation);
+        };
+        let Some((_, right)) = dest_eq(second.concl()) else {
+            return Err(Fault::NotEquation);
+        };
         let hypotheses = with_hypotheses(alloc, first.hyps(), second.hyps())?;
         equation_theorem(alloc, self.entries()?, hypotheses, left, right)
     }
 
-    /// EQ_MP: from `p = q` and `p`, `q`.
+    /// EQ_MP: from `p = q` and `p`, `q`. NotEquation where the first conclusion is no equation; NotAlpha where its left side
+    /// and the second conclusion differ in more than the names of bound variables. Compares these two; for premises that a
+    /// proof shows to fit, `eq_mp_known`.
     pub fn eq_mp(&self, alloc: Global, first: &Thm, second: &Thm) -> Result<Thm, Fault>
         requires first { IsEarlier first.now.theory self.now }
         requires second { IsEarlier second.now.theory self.now }
         ensures outcome { Answers result (outcome.eq_mp_outcome self.now first.now second.now) }
         ensures stands_on { IfOk result (λ answer. answer.theory ≡ self.now) }
     {
-        let Some((left, right)) = dest_eq(first.concl()) else {
+        let Some((left, _)) = dest_eq(first.concl()) else {
             return Err(Fault::NotEquation);
         };
         if !aconv(left, second.concl()) {
             return Err(Fault::NotAlpha);
         }
+        self.eq_mp_known(alloc, first, second)
+    }
+
+    /// EQ_MP of an equation and its left side, which are not compared for it. Only memory refuses it.
+    pub fn eq_mp_known(&self, alloc: Global, first: &Thm, second: &Thm) -> Result<Thm, Fault>
+        requires first { IsEarlier first.now.theory self.now }
+        requires second { IsEarlier second.now.theory self.now }
+        requires fits { EqMpFits first.now second.now }
+        ensures outcome { Answers result (outcome.eq_mp_outcome self.now first.now second.now) }
+        ensures stands_on { IfOk result (λ answer. answer.theory ≡ self.now) }
+    {
+        let Some((_, right)) = dest_eq(first.concl()) else {
+            return Err(Fault::NotEquation);
+        };
         let hypotheses = with_hypotheses(alloc, first.hyps(), second.hyps())?;
         Thm::new(alloc, self.entries()?, hypotheses, right.copy(alloc)?)
     }
 
-    /// MK_COMB: from `f = g` and `x = y`, `f x = g y`.
+    /// MK_COMB: from `f = g` and `x = y`, `f x = g y`. NotEquation where a conclusion is no equation; TypeMismatch where `f`
+    /// takes no argument of the type of `x`; TooLarge where the answer's equation is past the limits.
     pub fn mk_comb(&self, alloc: Global, first: &Thm, second: &Thm) -> Result<Thm, Fault>
         requires first { IsEarlier first.now.theory self.now }
         requires second { IsEarlier second.now.theory self.now }
@@ -147,7 +185,9 @@ impl Theory {
         equation_theorem(alloc, entries, hypotheses, &left, &right)
     }
 
-    /// ABS: from `s = t`, `(\x. s) = (\x. t)`, where `x` is free in no hypothesis.
+    /// ABS: from `s = t`, `(\x. s) = (\x. t)`. NotVariable where the binder is no variable; NotEquation where the
+    /// conclusion is no equation; UnknownType where the theory does not know the variable's type; FreeInHypothesis where it
+    /// is free in a hypothesis; TooLarge where the answer's equation is past the limits.
     pub fn abs(&self, alloc: Global, binder: &Term, theorem: &Thm) -> Result<Thm, Fault>
         requires { IsEarlier theorem.now.theory self.now }
         ensures outcome { Answers result (outcome.abs_outcome self.now binder.now theorem.now) }
@@ -172,8 +212,9 @@ impl Theory {
         equation_theorem(alloc, entries, hypotheses, &left, &right)
     }
 
-    /// BETA: `|- (\x. t) x = t`. Walks the redex, to see that the theory knows it; for a term that a proof shows to be
-    /// known, `beta_known`.
+    /// BETA: `|- (\x. t) x = t`. NotTrivialBeta where the term is no abstraction that is applied to its own variable; then
+    /// refused where the theory does not know it, as `first_unknown` answers; TooLarge where the equation is past the
+    /// limits. Walks the redex; for a term that a proof shows to be known, `beta_known`.
     pub fn beta(&self, alloc: Global, term: &Term) -> Result<Thm, Fault>
         ensures outcome { Answers result (outcome.beta_outcome self.now term.now) }
         ensures stands_on { IfOk result (λ answer. answer.theory ≡ self.now) }
@@ -199,7 +240,8 @@ impl Theory {
         equation_theorem(alloc, self.entries()?, Vec::new(alloc), term, body)
     }
 
-    /// DEDUCT_ANTISYM_RULE: from `p` and `q`, `p = q`, each without the other's conclusion among its hypotheses.
+    /// DEDUCT_ANTISYM_RULE: from `p` and `q`, `p = q`, each without the other's conclusion among its hypotheses. TooLarge
+    /// where the equation is past the limits.
     pub fn deduct_antisym(&self, alloc: Global, first: &Thm, second: &Thm) -> Result<Thm, Fault>
         requires first { IsEarlier first.now.theory self.now }
         requires second { IsEarlier second.now.theory self.now }

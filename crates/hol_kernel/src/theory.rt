@@ -45,7 +45,7 @@ impl Model for Theory {
 impl Theory {
     ghost use Rattle.hol_model.specs.Logic.Theory.{equality_name, choice_name, equality_type, choice_type, type_a, IsLegal};
 
-    /// The theory without definitions, of which `=` and `@` are the constants.
+    /// The theory without definitions and declarations, of which `=` and `@` are the constants. Only memory refuses it.
     pub fn new(alloc: Global) -> Result<Theory, Fault>
         ensures ok { IfOk result (λ theory. theory ≡ []) }
         ensures err { IfErr result (λ fault. fault ≡ Memory) }
@@ -70,14 +70,15 @@ impl Theory {
         self.entries.copy()
     }
 
-    /// The generic type of a constant.
+    /// The generic type of a constant, or `None` where there is no constant of the name. Each constant in a theorem has an
+    /// instance of it.
     pub fn const_type(&self, name: &str) -> Option<&Ty>
         ensures { option_map (λ ty. ty.now) result ≡ generic_type self.now name.now }
     {
         self.constants.get(name)
     }
 
-    /// Whether a type of this name was declared.
+    /// Whether a type of this name was declared; `bool` and `->` are not declared.
     pub fn is_declared(&self, name: &str) -> bool
         ensures { result ≡ spec.is_declared self.now name.now }
     {

@@ -71,7 +71,7 @@ impl Thm {
         Ok(Thm { node })
     }
 
-    /// The same theorem.
+    /// The same theorem, of which the copies share one node.
     pub fn copy(&self, _alloc: Global) -> Result<Thm, Fault>
         ensures ok { IfOk result (λ thm. thm ≡ self.now) }
         ensures err { IfErr result (λ fault. fault ≡ Memory) }
@@ -81,7 +81,8 @@ impl Thm {
         })
     }
 
-    /// The hypotheses, in order. What is known of a theorem is known of these.
+    /// The hypotheses, in the order of their images, no two of them the same up to the names of bound variables. Each is a
+    /// formula that the theorem's theory knows, and the conclusion holds where all of them hold.
     pub fn hyps(&self) -> &[Term]
         ensures value { result.now ≡ self.now.hypotheses }
         ensures ordered { AreOrdered result.now }
@@ -93,7 +94,7 @@ impl Thm {
         &self.node.hypotheses
     }
 
-    /// The conclusion.
+    /// The conclusion, a formula that the theorem's theory knows. It holds where all the hypotheses hold.
     pub fn concl(&self) -> &Term
         ensures value { result.now ≡ self.now.conclusion }
         ensures theorem { IsTheorem self.now }

@@ -1,6 +1,6 @@
 use Rattle.std.proofs.Common.{◌≡◌, [], ◌∷◌}
 use Rattle.hol_kernel.proofs.KnownLemmas.{no_unknown}
-use Rattle.hol_kernel.proofs.RuleLemmas.{theorem-alike, known_is_formula, assume-theorem, assume-answers}
+use Rattle.hol_kernel.proofs.RuleLemmas.{theorem-alike, known_is_formula, assume-theorem, assume-concluded, answers-made}
 use Rattle.hol_kernel.proofs.theory.Theory.assume_known.Goals as goal
 
 pub new-requires : goal.new-requires
@@ -16,4 +16,4 @@ returns-clause-outcome c =
     let theory = c.args.self.now in
     let term = c.args.term.now in
     let items : c.push.new.self.items ≡ term ∷ [] = cc (c.new-hypotheses.ensures.items, c.in_ok-push.ensures.items, c.in_ok-copy.ensures.ok) in
-    assume-answers theory term c.requires c.new-2.result _ _ _ c.in_ok-entries.ensures.ok items c.in_ok-copy-2.ensures.ok c.new-2.ensures.ok c.new-2.ensures.err
+    answers-made c.new-2.result _ _ _ _ _ _ _ (assume-concluded theory term c.requires) c.in_ok-entries.ensures.ok items c.in_ok-copy-2.ensures.ok c.new-2.ensures.ok c.new-2.ensures.err
