@@ -7,6 +7,7 @@ ghost use Rattle.hol_model.specs.Logic.Theory.{IsLegal};
 ghost use Rattle.hol_model.specs.Logic.KnownTerm.{is_known};
 ghost use Rattle.hol_model.specs.Kernel.Rules as outcome;
 ghost use Rattle.hol_kernel.specs.KnownFormula.{IsKnownFormula};
+ghost use Rattle.hol_kernel.specs.Fits.{TransFits, EqMpFits};
 ghost use Rattle.hol_kernel.specs.Leaving.{leaving};
 ghost use Rattle.hol_model.specs.declared.fault.Fault.TheVariants.{Memory};
 ghost use Rattle.hol_journal.specs.Steps as steps;
@@ -271,7 +272,7 @@ impl Recorder {
         self.record(alloc, rule, theorem)
     }
 
-    /// TRANS: from `a = b` and `b = c`, `a = c`.
+    /// TRANS: from `a = b` and `b = c`, `a = c`. Compares the middle terms; where a proof shows that they fit, `trans_known`.
     pub fn trans(&mut self, alloc: Global, first: &Rec, second: &Rec) -> Result<Rec, Fault>
         requires first { IsMade self.old first.now }
         requires second { IsMade self.old second.now }
@@ -289,7 +290,29 @@ impl Recorder {
         self.record(alloc, Rule::Trans(first.entry, second.entry), theorem)
     }
 
-    /// EQ_MP: from `p = q` and `p`, `q`.
+    /// TRANS of equations that fit, whose middle terms are not compared for it.
+    pub fn trans_known(&mut self, alloc: Global, first: &Rec, second: &Rec) -> Result<Rec, Fault>
+        requires first { IsMade self.old first.now }
+        requires second { IsMade self.old second.now }
+        requires fits { TransFits first.now.theorem second.now.theorem }
+        ensures outcome { Answers (theorem_in result) (outcome.trans_outcome self.old.theory first.now.theorem second.now.theorem) }
+        ensures recorded { IfOk result (IsRecorded self.old self.new (steps.by_trans first.now.entry second.now.entry)) }
+        ensures kept { OnErr result (self.new ≡ self.old) }
+    {
+        let theorem = match self
+            .theory
+            .trans_known(alloc, &first.theorem, &second.theorem)
+        {
+            Ok(theorem) => theorem,
+            Err(fault) => return Err(fault),
+        };
+        within_limits(&theorem);
+        let _first = first.theorem.concl();
+        let _second = second.theorem.concl();
+        self.record(alloc, Rule::Trans(first.entry, second.entry), theorem)
+    }
+
+    /// EQ_MP: from `p = q` and `p`, `q`. Compares `p` with the left side; where a proof shows that they fit, `eq_mp_known`.
     pub fn eq_mp(&mut self, alloc: Global, first: &Rec, second: &Rec) -> Result<Rec, Fault>
         requires first { IsMade self.old first.now }
         requires second { IsMade self.old second.now }
@@ -298,6 +321,28 @@ impl Recorder {
         ensures kept { OnErr result (self.new ≡ self.old) }
     {
         let theorem = match self.theory.eq_mp(alloc, &first.theorem, &second.theorem) {
+            Ok(theorem) => theorem,
+            Err(fault) => return Err(fault),
+        };
+        within_limits(&theorem);
+        let _first = first.theorem.concl();
+        let _second = second.theorem.concl();
+        self.record(alloc, Rule::EqMp(first.entry, second.entry), theorem)
+    }
+
+    /// EQ_MP of an equation and its left side, which are not compared for it.
+    pub fn eq_mp_known(&mut self, alloc: Global, first: &Rec, second: &Rec) -> Result<Rec, Fault>
+        requires first { IsMade self.old first.now }
+        requires second { IsMade self.old second.now }
+        requires fits { EqMpFits first.now.theorem second.now.theorem }
+        ensures outcome { Answers (theorem_in result) (outcome.eq_mp_outcome self.old.theory first.now.theorem second.now.theorem) }
+        ensures recorded { IfOk result (IsRecorded self.old self.new (steps.by_eq_mp first.now.entry second.now.entry)) }
+        ensures kept { OnErr result (self.new ≡ self.old) }
+    {
+        let theorem = match self
+            .theory
+            .eq_mp_known(alloc, &first.theorem, &second.theorem)
+        {
             Ok(theorem) => theorem,
             Err(fault) => return Err(fault),
         };
