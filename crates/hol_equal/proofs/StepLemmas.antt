@@ -27,6 +27,7 @@ use Rattle.hol_model.proofs.Terms.Images.{image-typed, image-type, image-equatio
 use Rattle.hol_model.proofs.Terms.Measures.{past_limits-image}
 use Rattle.hol_model.proofs.Terms.Membership.{of_append, of_map, IsMember-map, IsMember-append_left, IsMember-append_right}
 use Rattle.hol_kernel.specs.KnownFormula.{IsKnownFormula}
+use Rattle.hol_kernel.specs.Fits.{TransFits, EqMpFits}
 use Rattle.hol_kernel.proofs.HypothesesLemmas.{with_hypotheses-same_set, image-without_hypothesis}
 use Rattle.hol_kernel.proofs.RuleLemmas.{mk_comb-concluded, abs-concluded}
 use Rattle.hol_journal.specs.Steps.{Step}
@@ -295,6 +296,12 @@ trans-names (Ok made) theory first second answers = λ left has. go left has.rig
         subst (λ (c : NamedTerm). HasLeftSide left c) (sym (ap (λ (t : Theorem). t.conclusion) made_is)) (record { right = sides.1; sides = dest-equation left sides.1 })
 trans-names (Err fault) theory first second answers = tt
 
+-- equations that show sequents with one middle term fit
+pub trans-fits : (first second : Theorem) (h k : List Nameless) (ty : HolType) (l m r : Nameless) → Shows first h (nameless_equation ty l m) → Shows second k (nameless_equation ty m r)
+    → TransFits first second
+trans-fits first second h k ty l m r shown_first shown_second =
+    record { ty = ty; left = l; middle = m; right = r; first_is = shown_first.concludes; second_is = shown_second.concludes }
+
 -- EQ_MP
 pub eq_mp-stands : (theory : Theory) (first second : Theorem) → StandsOn theory (eq_mp_outcome theory first second)
 eq_mp-stands theory first second = search standing
@@ -307,6 +314,15 @@ eq_mp-gives result theory first second is_first answers h k p q shown_first show
     ok-gives result (record { theory = theory; hypotheses = with_hypotheses first.hypotheses second.hypotheses; conclusion = e.right }) (h ++ k) q
     (record { same_set = merged h k first.hypotheses second.hypotheses shown_first.same_set shown_second.same_set; concludes = e.right_image })
     (eq_mp_outcome theory first second) (rw (e.dest, meet) refl) answers
+
+-- premises that show an equation and its left side fit
+pub eq_mp-fits : (first second : Theorem) (h k : List Nameless) (p q : Nameless) → Shows first h (nameless_equation bool_type p q) → Shows second k p → EqMpFits first second
+eq_mp-fits first second h k p q shown_first shown_second =
+    record { right = q; first_is = shown_first.concludes ∙ ap (λ (t : Nameless). nameless_equation bool_type t q) (sym shown_second.concludes) }
+
+-- so do a theorem, and the equation of its conclusion and a term
+pub equation-fits : (first second : Theorem) (right : NamedTerm) → type_of second.conclusion ≡ Some bool_type → first.conclusion ≡ equation second.conclusion right → EqMpFits first second
+equation-fits first second right typed is = record { right = image right; first_is = ap image is ∙ image-equation second.conclusion right bool_type typed }
 
 -- MK_COMB
 pub mk_comb-stands : (theory : Theory) (first second : Theorem) → StandsOn theory (mk_comb_outcome theory first second)

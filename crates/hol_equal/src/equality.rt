@@ -115,7 +115,7 @@ pub fn sym(recorder: &mut Recorder, alloc: Global, premise: &Rec) -> Result<Rec,
         Ok(congruence) => congruence,
         Err(fault) => return Err(fault),
     };
-    steps::eq_mp(recorder, alloc, &congruence, &reflexive)
+    steps::eq_mp_known(recorder, alloc, &congruence, &reflexive)
 }
 
 /// The theorem with this conclusion, which differs from its own in the names of bound variables alone, in two
@@ -182,7 +182,7 @@ pub fn cut(recorder: &mut Recorder, alloc: Global, first: &Rec, second: &Rec) ->
         Ok(equivalence) => equivalence,
         Err(fault) => return Err(fault),
     };
-    steps::eq_mp(recorder, alloc, &equivalence, first)
+    steps::eq_mp_known(recorder, alloc, &equivalence, first)
 }
 
 /// ADD_ASSUM: from `q`, `q` with the hypothesis `p`, in three steps. Refused where `p` is not of type `bool`, and then
@@ -286,5 +286,5 @@ pub fn beta_conv(recorder: &mut Recorder, alloc: Global, term: &Term) -> Result<
         Ok(same) => same,
         Err(fault) => return Err(fault),
     };
-    steps::trans(recorder, alloc, &same, &converted)
+    steps::trans_known(recorder, alloc, &same, &converted)
 }

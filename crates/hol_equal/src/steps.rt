@@ -12,6 +12,7 @@ ghost use Rattle.hol_model.specs.Logic.KnownTerm.{is_known};
 ghost use Rattle.hol_model.specs.Kernel.Theorem.{IsTheorem};
 ghost use Rattle.hol_model.specs.Derived.DerivedRules.{HasLeftSide};
 ghost use Rattle.hol_model.specs.Logic.Derivable.{NotFreeInAny, without, nameless_equation};
+ghost use Rattle.hol_kernel.specs.Fits.{TransFits, EqMpFits};
 ghost use Rattle.hol_journal.specs.Journal.{IsMade, theorem_in};
 ghost use Rattle.hol_equal.specs.Formulas.{IsFormula};
 ghost use Rattle.hol_equal.specs.Sequents.{Shows, Derives, DerivesInstance, Gives, Continues};
@@ -95,7 +96,7 @@ pub(crate) fn beta_known(recorder: &mut Recorder, alloc: Global, term: &Term) ->
     recorder.beta_known(alloc, term)
 }
 
-/// TRANS, of theorems that show sequents.
+/// TRANS, of theorems that show sequents. Compares the middle terms; for equations that a proof shows to fit, `trans_known`.
 pub fn trans(
     recorder: &mut Recorder,
     alloc: Global,
@@ -114,7 +115,28 @@ pub fn trans(
     recorder.trans(alloc, first, second)
 }
 
-/// EQ_MP, of theorems that show sequents.
+/// TRANS, of equations that fit, whose middle terms are not compared for it.
+pub fn trans_known(
+    recorder: &mut Recorder,
+    alloc: Global,
+    first: &Rec,
+    second: &Rec,
+) -> Result<Rec, Fault>
+    requires first { IsMade recorder.old first.now }
+    requires second { IsMade recorder.old second.now }
+    requires fits { TransFits first.now.theorem second.now.theorem }
+    ensures continues { Continues recorder.old recorder.new result }
+    ensures names { IfOk result (λ made. (left : NamedTerm) → HasLeftSide left first.now.theorem.conclusion → HasLeftSide left made.theorem.conclusion) }
+    ensures derives { (h k : List Nameless) (ty : HolType) (l m r : Nameless) → Shows first.now.theorem h (nameless_equation ty l m)
+        → Shows second.now.theorem k (nameless_equation ty m r) → Derives result (h ++ k) (nameless_equation ty l r) }
+{
+    let _first = recorder.thm(first).concl();
+    let _second = recorder.thm(second).concl();
+    recorder.trans_known(alloc, first, second)
+}
+
+/// EQ_MP, of theorems that show sequents. Compares the left side with the second conclusion; for premises that a proof
+/// shows to fit, `eq_mp_known`.
 pub fn eq_mp(
     recorder: &mut Recorder,
     alloc: Global,
@@ -130,6 +152,25 @@ pub fn eq_mp(
     let _first = recorder.thm(first).concl();
     let _second = recorder.thm(second).concl();
     recorder.eq_mp(alloc, first, second)
+}
+
+/// EQ_MP, of an equation and its left side, which are not compared for it.
+pub fn eq_mp_known(
+    recorder: &mut Recorder,
+    alloc: Global,
+    first: &Rec,
+    second: &Rec,
+) -> Result<Rec, Fault>
+    requires first { IsMade recorder.old first.now }
+    requires second { IsMade recorder.old second.now }
+    requires fits { EqMpFits first.now.theorem second.now.theorem }
+    ensures continues { Continues recorder.old recorder.new result }
+    ensures names { IfOk result (λ made. (sides : NamedTerm × NamedTerm) → dest_equation first.now.theorem.conclusion ≡ Some sides → made.theorem.conclusion ≡ sides.1) }
+    ensures gives { (h k : List Nameless) (p q : Nameless) → Shows first.now.theorem h (nameless_equation bool_type p q) → Shows second.now.theorem k p → Gives result (h ++ k) q }
+{
+    let _first = recorder.thm(first).concl();
+    let _second = recorder.thm(second).concl();
+    recorder.eq_mp_known(alloc, first, second)
 }
 
 // MK_COMB.

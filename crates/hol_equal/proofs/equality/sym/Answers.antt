@@ -6,7 +6,7 @@ use Rattle.hol_model.specs.Logic.Theory.{equality_type}
 use Rattle.hol_model.specs.Logic.Derivable.{nameless_equation}
 use Rattle.hol_model.specs.Derived.DerivedRules.{images}
 use Rattle.hol_journal.proofs.GrowthLemmas.{journals-grow}
-use Rattle.hol_equal.proofs.StepLemmas.{continues-twice, is_known-where}
+use Rattle.hol_equal.proofs.StepLemmas.{continues-twice, is_known-where, eq_mp-fits}
 use Rattle.hol_equal.proofs.SymLemmas.{equality_at, sym-parts-at, known_in, relation-shows, relation-within, applied-within, left-within, congruence-within, sym-past, sym-stated, sym-names}
 use Rattle.hol_equal.proofs.equality.sym.Goals as goal
 use Rattle.hol_equal.proofs.InferredEquality.{infers_sym}
@@ -117,16 +117,37 @@ returns-in-Err-mk_comb-2-clause-outcome c =
 pub returns-in-Err-mk_comb-2-clause-inferred : goal.returns-in-Err-mk_comb-2-clause-inferred
 returns-in-Err-mk_comb-2-clause-inferred c = infers_sym c.conclusion_of.ensures.legal c.conclusion_of.ensures.formula (returns-in-Err-mk_comb-2-clause-outcome c)
 
-pub eq_mp-requires-clause-second : goal.eq_mp-requires-clause-second
-eq_mp-requires-clause-second c =
+pub eq_mp_known-requires-clause-second : goal.eq_mp_known-requires-clause-second
+eq_mp_known-requires-clause-second c =
     journals-grow.stays c.refl_known-2.new.recorder c.mk_comb-2.new.recorder c.in-Ok-refl_known.reflexive c.in-Ok-mk_comb-2.ensures.continues.grown c.in-Ok-refl_known.ensures.continues.held.made
+
+pub eq_mp_known-requires-clause-fits : goal.eq_mp_known-requires-clause-fits
+eq_mp_known-requires-clause-fits c =
+    let journal = c.args.recorder.now in
+    let premise = c.args.premise.now.theorem in
+    let relation = c.in-Some.parts.relation.now in
+    let a = c.in-Some.parts.left.now in
+    let b = c.in-Some.parts.right.now in
+    let parts =
+    sym-parts-at journal c.conclusion_of.ensures.legal c.args.premise.now c.requires c.args.premise.now.theorem refl c.conclusion_of.ensures.theorem
+    c.conclusion_of.result.now relation a b c.conclusion_of.ensures.value c.in-Some.ensures.whole c.in-Some.ensures.sides in
+    let at = equality_at parts.ty in
+    let same = relation-shows journal.theory premise relation a b parts c.in-Ok.same.theorem (c.in-Ok.ensures.derives (equality_type parts.ty) parts.relation_known) in
+    let applied =
+    c.in-Ok-mk_comb.ensures.derives [] (images premise) parts.ty (function_type parts.ty bool_type) at at (image a) (image b) same parts.shows in
+    let known = known_in c.mk_comb.new.recorder.theory journal.theory (image a) parts.ty (c.in-Ok-mk_comb.ensures.continues.theory ∙ c.in-Ok.ensures.continues.theory) parts.left_known in
+    let reflexive = c.in-Ok-refl_known.ensures.derives parts.ty known in
+    let congruence = c.in-Ok-mk_comb-2.ensures.derives ([] ++ images premise) [] parts.ty bool_type (app at (image a)) (app at (image b)) (image a) (image a) applied reflexive in
+    eq_mp-fits c.in-Ok-mk_comb-2.congruence.theorem c.in-Ok-refl_known.reflexive.theorem (([] ++ images premise) ++ []) []
+    (nameless_equation parts.ty (image a) (image a)) (nameless_equation parts.ty (image b) (image a)) congruence reflexive
 
 pub returns-clause-continues : goal.returns-clause-continues
 returns-clause-continues c =
-    continues-twice c.args.recorder.now c.refl_known.new.recorder c.eq_mp.new.recorder (Ok c.in-Ok.same) c.eq_mp.result c.in-Ok.ensures.continues
-    (continues-twice c.refl_known.new.recorder c.mk_comb.new.recorder c.eq_mp.new.recorder (Ok c.in-Ok-mk_comb.applied) c.eq_mp.result c.in-Ok-mk_comb.ensures.continues
-    (continues-twice c.mk_comb.new.recorder c.refl_known-2.new.recorder c.eq_mp.new.recorder (Ok c.in-Ok-refl_known.reflexive) c.eq_mp.result c.in-Ok-refl_known.ensures.continues
-    (continues-twice c.refl_known-2.new.recorder c.mk_comb-2.new.recorder c.eq_mp.new.recorder (Ok c.in-Ok-mk_comb-2.congruence) c.eq_mp.result c.in-Ok-mk_comb-2.ensures.continues c.eq_mp.ensures.continues)))
+    continues-twice c.args.recorder.now c.refl_known.new.recorder c.eq_mp_known.new.recorder (Ok c.in-Ok.same) c.eq_mp_known.result c.in-Ok.ensures.continues
+    (continues-twice c.refl_known.new.recorder c.mk_comb.new.recorder c.eq_mp_known.new.recorder (Ok c.in-Ok-mk_comb.applied) c.eq_mp_known.result c.in-Ok-mk_comb.ensures.continues
+    (continues-twice c.mk_comb.new.recorder c.refl_known-2.new.recorder c.eq_mp_known.new.recorder (Ok c.in-Ok-refl_known.reflexive) c.eq_mp_known.result c.in-Ok-refl_known.ensures.continues
+    (continues-twice c.refl_known-2.new.recorder c.mk_comb-2.new.recorder c.eq_mp_known.new.recorder (Ok c.in-Ok-mk_comb-2.congruence)
+    c.eq_mp_known.result c.in-Ok-mk_comb-2.ensures.continues c.eq_mp_known.ensures.continues)))
 
 pub returns-clause-outcome : goal.returns-clause-outcome
 returns-clause-outcome c =
@@ -144,10 +165,10 @@ returns-clause-outcome c =
     let known = known_in c.mk_comb.new.recorder.theory journal.theory (image a) parts.ty (c.in-Ok-mk_comb.ensures.continues.theory ∙ c.in-Ok.ensures.continues.theory) parts.left_known in
     let reflexive = c.in-Ok-refl_known.ensures.derives parts.ty known in
     let congruence = c.in-Ok-mk_comb-2.ensures.derives ([] ++ images premise) [] parts.ty bool_type (app at (image a)) (app at (image b)) (image a) (image a) applied reflexive in
-    sym-stated c.eq_mp.result journal.theory premise relation a b parts
-    (c.eq_mp.ensures.gives (([] ++ images premise) ++ []) [] (nameless_equation parts.ty (image a) (image a)) (nameless_equation parts.ty (image b) (image a)) congruence reflexive)
-    (sym-names c.eq_mp.result journal.theory premise c.in-Ok.same.theorem c.in-Ok-mk_comb.applied.theorem c.in-Ok-refl_known.reflexive.theorem c.in-Ok-mk_comb-2.congruence.theorem relation a b parts
-    c.in-Ok.ensures.names c.in-Ok-mk_comb.ensures.names c.in-Ok-refl_known.ensures.names c.in-Ok-mk_comb-2.ensures.names c.eq_mp.ensures.names)
+    sym-stated c.eq_mp_known.result journal.theory premise relation a b parts
+    (c.eq_mp_known.ensures.gives (([] ++ images premise) ++ []) [] (nameless_equation parts.ty (image a) (image a)) (nameless_equation parts.ty (image b) (image a)) congruence reflexive)
+    (sym-names c.eq_mp_known.result journal.theory premise c.in-Ok.same.theorem c.in-Ok-mk_comb.applied.theorem c.in-Ok-refl_known.reflexive.theorem c.in-Ok-mk_comb-2.congruence.theorem relation a b parts
+    c.in-Ok.ensures.names c.in-Ok-mk_comb.ensures.names c.in-Ok-refl_known.ensures.names c.in-Ok-mk_comb-2.ensures.names c.eq_mp_known.ensures.names)
 
 pub returns-clause-inferred : goal.returns-clause-inferred
 returns-clause-inferred c = infers_sym c.conclusion_of.ensures.legal c.conclusion_of.ensures.formula (returns-clause-outcome c)
