@@ -1,17 +1,18 @@
 -- How a run ends.
-use Rattle.std.proofs.Common.{◌≡◌, ℕ, zero, suc, ◌≤◌, ◌<◌, List, [], ◌∷◌, length, refl, sym, ap, subst, ◌⊎◌, inl, inr, arith, Bool, true, false, Ok, Err, Result}
-use Rattle.std.specs.Prelude.{IfSome, IsErrOf, Contains}
+use Rattle.std.proofs.Common.{◌≡◌, ℕ, zero, suc, ◌≤◌, ◌<◌, List, [], ◌∷◌, length, refl, sym, ap, subst, ◌⊎◌, inl, inr, arith, Bool, true, false, Ok, Err, Result, Option}
+use Rattle.std.specs.Prelude.{IfSome, IfErr, OnOk, IsErrOf, Contains, Unit}
 use Rattle.hol_model.specs.declared.fault.Fault.{Fault}
 use Rattle.hol_model.specs.declared.fault.Fault.TheVariants.{Memory, ReadFault, TooLong, WriteFault}
 use Rattle.hol_model.specs.declared.limits.TheConstants.{TEXT_BYTES_LIMIT}
-use Rattle.hol_model_sessions.specs.ScriptSessions.{Tools, text_of_turns}
-use Rattle.hol_model_sessions.specs.Runs.{Counts, no_counts, counts_after, SourceUse, SinkUse, Tells, BreaksOff, CannotBegin, IsWhole, Ends, unread, in_output, before_log, in_log, logged, unlogged}
+use Rattle.hol_model_sessions.specs.ScriptSessions.{Tools, start, last_state, text_of_turns}
+use Rattle.hol_model_sessions.specs.Runs.{Counts, no_counts, counts_after, SourceUse, SinkUse, Tells, BreaksOff, CannotBegin, IsWhole, IsShortLog, claims_of_turns, Ends, unread, in_output, before_log, in_log, logged, unlogged}
 use Rattle.hol_device_io.specs.Bytes.{AppendsFront}
 use Rattle.hol_script_manager.specs.Managers.{state_of}
 use Rattle.hol_script.specs.declared.progress.Progress.{Progress}
-use Rattle.hol_script.specs.Runs.{counts_of, names_of, Finishes, Breaks, devices}
-use Rattle.hol_script.specs.RunLogs.{IsLogOver, IsLongLogOver, WritesLog, WritesFront, claims_listed, theory_of}
-use Rattle.hol_script.proofs.RunLogLemmas.{over-end}
+use Rattle.hol_script_manager.specs.Session.{IsAcceptedLog, IsLongLog}
+use Rattle.hol_script.specs.Runs.{counts_of, names_of, if_logged, Finishes, Breaks, devices}
+use Rattle.hol_script.specs.RunLogs.{IsLogOver, WritesLog, WritesFront, Logs, claims_listed, journal_of}
+use Rattle.hol_script.proofs.RunLogLemmas.{over-end, short-over, long-over}
 
 same_fault : (fault other : Fault) {A : Type 0} → fault ≡ other → IsErrOf {T = A} (Err fault) other
 same_fault fault other same = ap (λ (e : Fault). Err e) same
@@ -73,51 +74,76 @@ module _ (tools : Tools) (source : SourceUse) (out log : SinkUse) where
       ends-unlogged unwanted untouched =
           subst (λ (w : Bool). EndsSo (Ok (counts_of progress.summary)) w) (sym unwanted) (unlogged (record { turns = f.turns; answers = counted; whole = whole; log = untouched }))
 
-      pub ends-logged : {wants_log : Bool} → wants_log ≡ true → WritesLog (theory_of progress) (claims_listed progress) log.before log.after → EndsSo (Ok (counts_of progress.summary)) wants_log
-      ends-logged wanted writes =
-          let here = over-end progress f (λ theory claims. WritesLog theory claims log.before log.after) writes in
-          subst (λ (w : Bool). EndsSo (Ok (counts_of progress.summary)) w) (sym wanted) (logged (record {
-            turns = f.turns;
-            text = here.log;
-            answers = counted;
-            whole = whole;
-            is_log = record { is_log = here.is_log.is_log; within_limit = here.is_log.within_limit };
-            wrote = here.wrote;
-          }))
+      over : {text : List ℕ} → IsLogOver (journal_of progress).theory (claims_listed progress) text → IsLogOver (last_state start f.turns).library.theory (claims_of_turns f.turns) text
+      over {text = text} is = over-end progress f (λ theory claims. IsLogOver theory claims text) is
+
+      short : {text : List ℕ} → IsAcceptedLog (journal_of progress) (claims_listed progress) text → IsShortLog IsLogOver f.turns text
+      short is = record { is_log = over (short-over is); within_limit = is.within_limit }
+
+      logs : WritesLog (journal_of progress) (claims_listed progress) log.before log.after → EndsSo (Ok (counts_of progress.summary)) true
+      logs writes = logged (record { turns = f.turns; text = writes.log; answers = counted; whole = whole; is_log = short writes.is_log; wrote = writes.wrote })
 
       -- the log breaks off, or there is none
       log_fails : {A : Type 0} (fault : Fault) → Contains (WriteFault ∷ TooLong ∷ Memory ∷ []) fault
-          → (IsErrOf {T = A} (Err fault) WriteFault → (log.has_failed ≡ true) × WritesFront (theory_of progress) (claims_listed progress) log.before log.after)
-          → (IsErrOf {T = A} (Err fault) TooLong → IsLongLogOver (theory_of progress) (claims_listed progress))
+          → (IsErrOf {T = A} (Err fault) WriteFault → (log.has_failed ≡ true) × WritesFront (journal_of progress) (claims_listed progress) log.before log.after)
+          → (IsErrOf {T = A} (Err fault) TooLong → IsLongLog (journal_of progress) (claims_listed progress))
           → ((IsErrOf {T = A} (Err fault) TooLong ⊎ IsErrOf {T = A} (Err fault) Memory) → log.IsUntouched) → EndsSo (Err fault) true
       log_fails fault (zero, within, is) broken long untouched =
           let (failed, writes) = broken (same_fault fault WriteFault (sym is)) in
-          let here = over-end progress f (λ theory claims. WritesFront theory claims log.before log.after) writes in
           subst (λ (e : Fault). EndsSo (Err e) true) is (in_log (record {
             turns = f.turns;
-            text = here.log;
+            text = writes.log;
             answers = refl;
             whole = whole;
-            is_log = record { is_log = here.is_log.is_log; within_limit = here.is_log.within_limit };
-            breaks_off = breaks_off log here.log here.wrote failed;
+            is_log = short writes.is_log;
+            breaks_off = breaks_off log writes.log writes.wrote failed;
           }))
       log_fails fault (suc zero, within, is) broken long untouched =
-          let here = over-end progress f IsLongLogOver (long (same_fault fault TooLong (sym is))) in
+          let longer = long (same_fault fault TooLong (sym is)) in
           before_log (record {
             turns = f.turns;
             fault = fault;
             answers = refl;
             whole = whole;
-            has_none = inl (sym is, (here.log, here.is_log, here.longer));
+            has_none = inl (sym is, (longer.log, over (long-over longer), longer.longer));
             log = untouched (inl (same_fault fault TooLong (sym is)));
           })
       log_fails fault (suc (suc zero), within, is) broken long untouched =
           before_log (record { turns = f.turns; fault = fault; answers = refl; whole = whole; has_none = inr (sym is); log = untouched (inr (same_fault fault Memory (sym is))) })
       log_fails fault (suc (suc (suc place)), within, is) broken long untouched = absurd (omega (arith, within))
 
-      pub ends-in_log : {A : Type 0} {wants_log : Bool} (fault : Fault) → wants_log ≡ true → Contains (WriteFault ∷ TooLong ∷ Memory ∷ []) fault
-          → (IsErrOf {T = A} (Err fault) WriteFault → (log.has_failed ≡ true) × WritesFront (theory_of progress) (claims_listed progress) log.before log.after)
-          → (IsErrOf {T = A} (Err fault) TooLong → IsLongLogOver (theory_of progress) (claims_listed progress))
-          → ((IsErrOf {T = A} (Err fault) TooLong ⊎ IsErrOf {T = A} (Err fault) Memory) → log.IsUntouched) → EndsSo (Err fault) wants_log
-      ends-in_log fault wanted listed broken long untouched =
-          subst (λ (w : Bool). EndsSo (Err fault) w) (sym wanted) (log_fails fault listed broken long untouched)
+      log_ends : (outcome : Result Unit Fault) → OnOk outcome (WritesLog (journal_of progress) (claims_listed progress) log.before log.after)
+          → IfErr outcome (Contains (WriteFault ∷ TooLong ∷ Memory ∷ []))
+          → (IsErrOf outcome WriteFault → (log.has_failed ≡ true) × WritesFront (journal_of progress) (claims_listed progress) log.before log.after)
+          → (IsErrOf outcome TooLong → IsLongLog (journal_of progress) (claims_listed progress))
+          → ((IsErrOf outcome TooLong ⊎ IsErrOf outcome Memory) → log.IsUntouched) → EndsSo (if_logged outcome (counts_of progress.summary)) true
+      log_ends (Ok done) writes listed broken long untouched = logs writes
+      log_ends (Err fault) writes listed broken long untouched = log_fails fault listed broken long untouched
+
+      pub ends-in_log : {wants_log : Bool} (outcome : Result Unit Fault) → wants_log ≡ true
+          → OnOk outcome (WritesLog (journal_of progress) (claims_listed progress) log.before log.after)
+          → IfErr outcome (Contains (WriteFault ∷ TooLong ∷ Memory ∷ []))
+          → (IsErrOf outcome WriteFault → (log.has_failed ≡ true) × WritesFront (journal_of progress) (claims_listed progress) log.before log.after)
+          → (IsErrOf outcome TooLong → IsLongLog (journal_of progress) (claims_listed progress))
+          → ((IsErrOf outcome TooLong ⊎ IsErrOf outcome Memory) → log.IsUntouched) → EndsSo (if_logged outcome (counts_of progress.summary)) wants_log
+      ends-in_log outcome wanted writes listed broken long untouched =
+          subst (λ (w : Bool). EndsSo (if_logged outcome (counts_of progress.summary)) w) (sym wanted) (log_ends outcome writes listed broken long untouched)
+
+-- what became of the log, where its sink tells
+pub logs-told : {wants_log failed : Bool} {progress : Progress} {before after : Option (List ℕ)} (outcome : Result Unit Fault)
+    → OnOk outcome (WritesLog (journal_of progress) (claims_listed progress) before after)
+    → (IsErrOf outcome WriteFault → (failed ≡ true) × WritesFront (journal_of progress) (claims_listed progress) before after)
+    → (IsErrOf outcome TooLong → IsLongLog (journal_of progress) (claims_listed progress))
+    → Logs (journal_of progress) (claims_listed progress) before after outcome
+logs-told outcome written broken long = record { written = written; broken = λ is. (broken is).1; too_long = long }
+
+is-no-fault : (done : Unit {0}) → ◌≡◌ {A = Result Unit Fault} (Ok done) (Err WriteFault) → ⊥
+is-no-fault done same = cc
+
+is-fault : (fault : Fault) → ◌≡◌ {A = Result Unit Fault} (Err fault) (Err WriteFault) → fault ≡ WriteFault
+is-fault fault same = cc
+
+-- a sink that has failed is told by the run's answer
+pub told-so : {failed : Bool} {counts : Counts} (outcome : Result Unit Fault) → (failed ≡ true → IsErrOf outcome WriteFault) → failed ≡ true → IsErrOf (if_logged outcome counts) WriteFault
+told-so (Ok done) told has_failed = absurd (is-no-fault done (told has_failed))
+told-so (Err fault) told has_failed = ap (λ (e : Fault). Err e) (is-fault fault (told has_failed))

@@ -1,5 +1,5 @@
 -- The claims of a run are the theorems that it printed, and its log is theirs.
-use Rattle.std.proofs.Common.{◌≡◌, ℕ, List, [], ◌∷◌, ◌++◌, map, refl, sym, ap, subst, ◌∙◌, inl, inr, Option, None, Some, Ok, Err, Result, lit<}
+use Rattle.std.proofs.Common.{◌≡◌, ℕ, List, [], ◌∷◌, ◌++◌, map, refl, sym, ap, subst, ◌∙◌, inl, inr, Option, None, Some, Ok, Err, Result, lit<, arith}
 use Rattle.std.proofs.lemmas.List.{map-append}
 use Rattle.std.specs.Prelude.{true, IfErr, Contains}
 use Rattle.hol_model.specs.declared.fault.Fault.{Fault}
@@ -16,17 +16,16 @@ use Rattle.hol_model_sessions.specs.Runs.{Counts, claim_of, claims_of_turns}
 use Rattle.hol_model.proofs.Terms.Membership.{of_append}
 use Rattle.hol_laws_sessions.proofs.StoredTheorems.{printed-stay}
 use Rattle.hol_journal.specs.Steps.{sequent_of_theorem}
-use Rattle.hol_journal.specs.Journal.{Recorded}
+use Rattle.hol_journal.specs.Journal.{Journal, Recorded}
 use Rattle.hol_journal_log.specs.LogWriting.{Claimed}
 use Rattle.hol_journal_log.specs.LogAccepted.{log_claim}
 use Rattle.hol_journal_log.specs.Pruning.{HaveIdentifiers}
 use Rattle.hol_theorem_store.specs.Store.{stored_of}
-use Rattle.hol_script_manager.specs.Session.{theorem_of}
-use Rattle.hol_script_manager.specs.Session.{stored_claim, stored_claims}
+use Rattle.hol_script_manager.specs.Session.{theorem_of, stored_claim, stored_claims, IsAcceptedLog, IsLongLog}
 use Rattle.hol_script_manager.specs.Managers.{state_of}
 use Rattle.hol_script.specs.declared.progress.Progress.{Progress}
 use Rattle.hol_script.specs.Runs.{names_of, Finishes}
-use Rattle.hol_script.specs.RunLogs.{claims_stored, claims_listed, theory_of}
+use Rattle.hol_script.specs.RunLogs.{IsLogOver, claims_stored, claims_listed, theory_of}
 
 -- ---- claims of stored theorems
 
@@ -91,6 +90,23 @@ module _ {tools : Tools} {script : List ℕ} {written now : Option (List ℕ)} {
       subst (λ (state : State). Is state.library.theory (claims_of_turns f.turns)) (sym f.ends) (subst (λ (claims : List LogClaim). Is (theory_of progress) claims) claims-of_run is)
 
 -- ---- the text of a log
+
+-- a log from a journal is one over the journal's theory
+pub short-over : {journal : Journal} {claims : List LogClaim} {text : List ℕ} → IsAcceptedLog journal claims text → IsLogOver journal.theory claims text
+short-over {journal = journal} is = record {
+  journal = journal;
+  over = refl;
+  is_log = is.is_log;
+  is_accepted = λ within. record { state = is.state; accepted = is.accepted; claimed = is.claimed; entries = is.entries };
+}
+
+pub long-over : {journal : Journal} {claims : List LogClaim} (long : IsLongLog journal claims) → IsLogOver journal.theory claims long.log
+long-over {journal = journal} long = record {
+  journal = journal;
+  over = refl;
+  is_log = long.is_log;
+  is_accepted = λ within. absurd (omega (arith, within, long.longer));
+}
 
 pub write_fault-listed : {A : Type 0} (result : Result A Fault) → IfErr result (λ (fault : Fault). fault ≡ WriteFault) → IfErr result (Contains (WriteFault ∷ TooLong ∷ Memory ∷ []))
 write_fault-listed (Ok x) is = tt

@@ -1,6 +1,8 @@
 -- The log of a run: it claims the theorems that the run prints.
-use Rattle.std.specs.Prelude.{◌≡◌, ◌≤◌, ◌<◌, ℕ, List, map, length, Option, Ok}
+use Rattle.std.specs.Prelude.{◌≡◌, ◌≤◌, ℕ, List, map, length, Option, Result, Ok, Unit, OnOk, IsErrOf}
 use Rattle.std.specs.Io.KnownBytes.{Appends}
+use Rattle.hol_model.specs.declared.fault.Fault.{Fault}
+use Rattle.hol_model.specs.declared.fault.Fault.TheVariants.{TooLong, WriteFault}
 use Rattle.hol_model.specs.declared.limits.TheConstants.{TEXT_BYTES_LIMIT}
 use Rattle.hol_model.specs.Logic.Theory.{Theory}
 use Rattle.hol_model.specs.Logs.LogState.{LogState, LogClaim}
@@ -12,7 +14,7 @@ use Rattle.hol_journal_log.specs.LogAccepted.{log_claim, IsPartOf}
 use Rattle.hol_journal_log.specs.LogWriting.{Claimed}
 use Rattle.hol_script.specs.declared.progress.Progress.{Progress}
 use Rattle.hol_script.specs.Runs.{names_of}
-use Rattle.hol_script_manager.specs.Session.{IsLog}
+use Rattle.hol_script_manager.specs.Session.{IsLog, IsAcceptedLog, IsLongLog}
 use Rattle.hol_script_manager.specs.Managers as managers
 use Rattle.hol_script_manager.specs.Managers.{claims_of}
 
@@ -31,28 +33,23 @@ pub record IsLogOver (theory : Theory) (claims : List LogClaim) (text : List ℕ
   pub is_log : IsLog journal claims text
   pub is_accepted : length text ≤ TEXT_BYTES_LIMIT → IsAcceptedWith theory claims text
 
--- a log within the limit
-pub record IsShortLogOver (theory : Theory) (claims : List LogClaim) (text : List ℕ) : Type 0 where
-  pub is_log : IsLogOver theory claims text
-  pub within_limit : length text ≤ TEXT_BYTES_LIMIT
-
--- the log of these claims over the theory is past the limit on texts
-pub record IsLongLogOver (theory : Theory) (claims : List LogClaim) : Type 0 where
+-- the journal's log of these claims was written
+pub record WritesLog (journal : Journal) (claims : List LogClaim) (logged new_logged : Option (List ℕ)) : Type 0 where
   pub log : List ℕ
-  pub is_log : IsLogOver theory claims log
-  pub longer : TEXT_BYTES_LIMIT < length log
-
--- the log of these claims over the theory was written
-pub record WritesLog (theory : Theory) (claims : List LogClaim) (logged new_logged : Option (List ℕ)) : Type 0 where
-  pub log : List ℕ
-  pub is_log : IsShortLogOver theory claims log
+  pub is_log : IsAcceptedLog journal claims log
   pub wrote : Appends logged new_logged log
 
--- the front of the log of these claims over the theory was written
-pub record WritesFront (theory : Theory) (claims : List LogClaim) (logged new_logged : Option (List ℕ)) : Type 0 where
+-- the front of the journal's log of these claims was written
+pub record WritesFront (journal : Journal) (claims : List LogClaim) (logged new_logged : Option (List ℕ)) : Type 0 where
   pub log : List ℕ
-  pub is_log : IsShortLogOver theory claims log
+  pub is_log : IsAcceptedLog journal claims log
   pub wrote : AppendsFront logged new_logged log
+
+-- What became of the journal's log of these claims: it was written, or its front, or it is past the limit.
+pub record Logs (journal : Journal) (claims : List LogClaim) (logged new_logged : Option (List ℕ)) (outcome : Result Unit Fault) : Type 0 where
+  pub written : OnOk outcome (WritesLog journal claims logged new_logged)
+  pub broken : IsErrOf outcome WriteFault → WritesFront journal claims logged new_logged
+  pub too_long : IsErrOf outcome TooLong → IsLongLog journal claims
 
 -- ---- what the program claims
 

@@ -1,5 +1,5 @@
 -- What a run has come to.
-use Rattle.std.specs.Prelude.{◌≡◌, ◌+◌, ◌++◌, ℕ, List, [], Bool, map, Option, Result, Ok, Err, codes, string_bytes}
+use Rattle.std.specs.Prelude.{◌≡◌, ◌+◌, ◌++◌, ℕ, List, [], Bool, map, Option, Result, Ok, Err, Unit, codes, string_bytes}
 use Rattle.std.specs.Io.KnownBytes.{Appends}
 use Rattle.hol_model.specs.declared.fault.Fault.{Fault}
 use Rattle.hol_model_sessions.specs.ScriptSessions.{State, start, Tools, Turn, last_state, text_of_turns, as_list, theorems_in_turns}
@@ -9,6 +9,7 @@ use Rattle.hol_model_sessions.specs.Runs.{Counts, no_counts, counts_after, IsRun
 use Rattle.hol_device_io.specs.Bytes.{AppendsFront}
 use Rattle.hol_script.specs.declared.progress.Summary.{Summary}
 use Rattle.hol_script.specs.declared.progress.Progress.{Progress}
+use Rattle.hol_script.specs.declared.ended.Ended.{Ended}
 use Rattle.hol_script_manager.specs.Session.{Printed}
 use Rattle.hol_script_manager.specs.Session.{Nothing, Line, Goals}
 use Rattle.hol_script_manager.specs.Session.{Refused}
@@ -73,8 +74,13 @@ pub record Breaks (tools : Tools) (script : List ℕ) (written new_written : Opt
 
 -- ---- what a run answers, and its devices
 
-abbrev pub answer_of : Result Progress Fault → Result Counts Fault
-answer_of (Ok progress) = Ok (counts_of progress.summary)
+-- the answer, where the log was written, if one was asked for
+abbrev pub if_logged : {A : Type 0} → Result Unit Fault → A → Result A Fault
+if_logged (Ok done) answer = Ok answer
+if_logged (Err fault) answer = Err fault
+
+abbrev pub answer_of : Result Ended Fault → Result Counts Fault
+answer_of (Ok ended) = if_logged ended.logged (counts_of ended.progress.summary)
 answer_of (Err fault) = Err fault
 
 abbrev pub source_use : Option (List ℕ) → Bool → SourceUse

@@ -1,10 +1,12 @@
 //! Proof scripts: runs and their logs.
 #![tactic(auto, using(hol_model::proofs::Kernel::Refusals::refusals))]
 
+mod ended;
 pub mod execute;
 mod progress;
 mod runner;
 
+pub use ended::Ended;
 pub use hol_script_manager::{Manager, Printed, Refused};
 pub use progress::{Progress, Summary};
 pub use runner::run;

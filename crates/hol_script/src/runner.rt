@@ -6,11 +6,12 @@ ghost use Rattle.hol_model_sessions.specs.Runs.{Ends};
 ghost use Rattle.hol_model.specs.declared.fault.Fault.TheVariants.{Memory, ReadFault, WriteFault, TooLong};
 ghost use Rattle.hol_journal_log.specs.Pruning.{HaveIdentifiers};
 ghost use Rattle.hol_device_io.specs.Bytes.{AppendsFront};
-ghost use Rattle.hol_script_manager.specs.Session.{session_tools, row_bytes, answer_text};
+ghost use Rattle.hol_script_manager.specs.Session.{session_tools, row_bytes, answer_text, IsLongLog};
 ghost use Rattle.hol_script_manager.specs.Managers.{state_of, IsManager};
 ghost use Rattle.hol_script.specs.Runs.{TellsFront, refusal_of_parts, counts_of, names_of, Finishes, Breaks, Leaves, answer_of, source_use, sink_use, devices};
-ghost use Rattle.hol_script.specs.RunLogs.{claims_stored, claims_listed, theory_of, IsLogOver, IsLongLogOver, WritesLog, WritesFront};
+ghost use Rattle.hol_script.specs.RunLogs.{claims_stored, claims_listed, journal_of, IsLogOver, WritesLog, WritesFront, Logs};
 
+use crate::ended::Ended;
 use crate::progress::Progress;
 use hol_device_io::{read_all, write_all, write_pieces};
 use hol_host::Refiners;
@@ -153,12 +154,12 @@ fn write_log<L: Sink>(alloc: Global, progress: &Progress, log: &mut L) -> Result
     requires unfailed { L.has_failed log.old ≡ false }
     requires manager { IsManager progress.now.manager }
     requires named { HaveIdentifiers (claims_stored progress.now) }
-    ensures ok { OnOk result (WritesLog (theory_of progress.now) (claims_listed progress.now) (L.contents log.old) (L.contents log.new)) }
+    ensures ok { OnOk result (WritesLog (journal_of progress.now) (claims_listed progress.now) (L.contents log.old) (L.contents log.new)) }
     ensures unfailed { OnOk result (L.has_failed log.new ≡ false) }
     ensures told { L.has_failed log.new ≡ true → IsErrOf result WriteFault }
     ensures write_fault { IsErrOf result WriteFault
-        → (L.has_failed log.new ≡ true) × WritesFront (theory_of progress.now) (claims_listed progress.now) (L.contents log.old) (L.contents log.new) }
-    ensures too_long { IsErrOf result TooLong → IsLongLogOver (theory_of progress.now) (claims_listed progress.now) }
+        → (L.has_failed log.new ≡ true) × WritesFront (journal_of progress.now) (claims_listed progress.now) (L.contents log.old) (L.contents log.new) }
+    ensures too_long { IsErrOf result TooLong → IsLongLog (journal_of progress.now) (claims_listed progress.now) }
     ensures unwritten { (IsErrOf result TooLong ⊎ IsErrOf result Memory) → log.new ≡ log.old }
     ensures refusals { IfErr result (Contains (WriteFault ∷ TooLong ∷ Memory ∷ [])) }
 {
@@ -179,14 +180,15 @@ fn write_log<L: Sink>(alloc: Global, progress: &Progress, log: &mut L) -> Result
 /// the text of a sequent that reads back as itself, follows from a legal theory and holds; or a refusal with the number of the
 /// piece's own line; or the goals that are open; or that none is open, and then the goal that was set last follows and holds.
 ///
-/// Where a log is wanted, it is written after the last command: the pruned log of the theorems that were printed, over the
-/// theory at the end, which is accepted, with a claim for each line of a theorem, in order. Where none is wanted, `log` is left
-/// alone. The answer is the session as the run left it (`leaves`), with what it counted.
+/// Where a log is wanted, it is written after the last command: the pruned log of the theorems that were printed, from the
+/// journal of the session that the run left, which is accepted, with a claim for each line of a theorem, in order. Where none is
+/// wanted, `log` is left alone. The answer is the session as the run left it (`leaves`), with what it counted, and what became of
+/// the log (`own_log`).
 ///
 /// ReadFault and TooLong come before anything is written: the source failed, or the script is longer than the limit on
 /// texts. Memory comes while the script is read, or while the session is begun and the theorems of the prelude are made: a
-/// growth refused in a command refuses that command. After the last command Memory and TooLong come where the log finds no
-/// memory or is longer than the limit, and then none of it is written. WriteFault: a sink failed.
+/// growth refused in a command refuses that command. WriteFault: the writer failed. The log alone is refused, and none of it is
+/// written, Memory where it finds no memory and TooLong where it is longer than the limit; WriteFault where its sink failed.
 pub fn run<R: Source, W: Sink, L: Sink, H: Refiners>(
     alloc: Global,
     reader: &mut R,
@@ -194,7 +196,7 @@ pub fn run<R: Source, W: Sink, L: Sink, H: Refiners>(
     log: &mut L,
     wants_log: bool,
     host: &H,
-) -> Result<Progress, Fault>
+) -> Result<Ended, Fault>
     requires reader_unfailed { R.has_failed reader.old ≡ false }
     requires writer_unfailed { W.has_failed writer.old ≡ false }
     requires log_unfailed { L.has_failed log.old ≡ false }
@@ -207,12 +209,14 @@ pub fn run<R: Source, W: Sink, L: Sink, H: Refiners>(
     ensures told_front { OnErr result (TellsFront (R.remaining reader.old) (W.contents writer.old) (W.contents writer.new)) }
     ensures reader_unfailed { OnOk result (R.has_failed reader.new ≡ false) }
     ensures writer_unfailed { OnOk result (W.has_failed writer.new ≡ false) }
-    ensures log_unfailed { OnOk result (L.has_failed log.new ≡ false) }
+    ensures log_unfailed { IfOk result (λ ended. OnOk ended.logged (L.has_failed log.new ≡ false)) }
     ensures reader_told { R.has_failed reader.new ≡ true → IsErrOf result ReadFault }
     ensures writer_told { W.has_failed writer.new ≡ true → IsErrOf result WriteFault }
-    ensures log_told { L.has_failed log.new ≡ true → IsErrOf result WriteFault }
-    ensures leaves { IfOk result (Leaves (session_tools (H.refiners host.now) (H.conversions host.now)) (R.remaining reader.old) (W.contents writer.old) (W.contents writer.new)) }
-    ensures manager { IfOk result (λ progress. IsManager progress.manager) }
+    ensures log_told { L.has_failed log.new ≡ true → IsErrOf (answer_of result) WriteFault }
+    ensures own_log { wants_log ≡ true → IfOk result (λ ended. Logs (journal_of ended.progress) (claims_listed ended.progress) (L.contents log.old) (L.contents log.new) ended.logged) }
+    ensures leaves { IfOk result (λ ended. Leaves (session_tools (H.refiners host.now) (H.conversions host.now)) (R.remaining reader.old) (W.contents writer.old) (W.contents writer.new)
+        ended.progress) }
+    ensures manager { IfOk result (λ ended. IsManager ended.progress.manager) }
 {
     let script = match read_all(alloc, reader) {
         Ok(script) => script,
@@ -223,10 +227,11 @@ pub fn run<R: Source, W: Sink, L: Sink, H: Refiners>(
         Err(fault) => return Err(fault),
     };
     if !wants_log {
-        return Ok(progress);
+        return Ok(Ended {
+            progress,
+            logged: Ok(()),
+        });
     }
-    match write_log(alloc, &progress, log) {
-        Ok(()) => Ok(progress),
-        Err(fault) => Err(fault),
-    }
+    let logged = write_log(alloc, &progress, log);
+    Ok(Ended { progress, logged })
 }

@@ -20,12 +20,13 @@ pub fn run_file<H: Refiners>(rt: &HostRuntime, name: &str, host: &H) -> Result<P
     let mut output = rt.stdout();
     let writes = Box::new(alloc, move |piece: &[u8]| output.write(piece))?;
     let mut no_log = IntoWrite::new(Vec::new(alloc));
-    run(
+    let ended = run(
         alloc,
         &mut FromCall::new(reads),
         &mut IntoCall::new(writes),
         &mut no_log,
         false,
         host,
-    )
+    )?;
+    ended.whole()
 }

@@ -38,8 +38,10 @@ fn breaks_off_in_log(alloc: Global, room: usize) -> bool {
     let mut reader = FromRead::new(SCRIPT);
     let mut writer = Kept::new(alloc);
     let mut log = Narrow::new(alloc, room);
-    let answer = run(alloc, &mut reader, &mut writer, &mut log, true, &NoHost);
-    answer.err() == Some(Fault::WriteFault)
+    let Ok(ended) = run(alloc, &mut reader, &mut writer, &mut log, true, &NoHost) else {
+        return false;
+    };
+    ended.logged == Err(Fault::WriteFault)
         && writer.bytes.as_slice() == OUTPUT
         && is_front(&log.bytes, LOG, room)
 }

@@ -66,7 +66,7 @@ fn has_journal(alloc: Global, wants_log: bool) -> Result<bool, Fault> {
         wants_log,
         &NoHost,
     )?;
-    Ok(ended.manager.log_text(alloc, &[]).is_ok())
+    Ok(ended.progress.manager.log_text(alloc, &[]).is_ok())
 }
 
 #[test]
@@ -83,7 +83,8 @@ fn log_of_marked(alloc: Global, commands: &[u8], refused: u64) -> Result<Option<
     let mut writer = IntoWrite::new(Vec::new(alloc));
     let mut log = Kept::new(alloc);
     let ended = run(alloc, &mut reader, &mut writer, &mut log, true, &NoHost)?;
-    if ended.summary.refused == refused && ended.summary.printed == 2 {
+    let summary = ended.progress.summary;
+    if summary.refused == refused && summary.printed == 2 {
         Ok(Some(log.bytes))
     } else {
         Ok(None)
@@ -172,7 +173,7 @@ fn log_of_proofs(alloc: Global, script: &[u8]) -> Result<Option<Vec<u8>>, Fault>
     let mut writer = IntoWrite::new(Vec::new(alloc));
     let mut log = Kept::new(alloc);
     let ended = run(alloc, &mut reader, &mut writer, &mut log, true, &NoHost)?;
-    let summary = ended.summary;
+    let summary = ended.progress.summary;
     if summary.accepted == 6 && summary.refused == 0 && summary.printed == 4 {
         Ok(Some(log.bytes))
     } else {

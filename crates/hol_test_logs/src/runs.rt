@@ -29,7 +29,8 @@ fn log_over(alloc: Global, script: &[u8], host: &Host) -> Result<Vec<u8>, Fault>
     let mut reader = FromRead::new(script);
     let mut writer = IntoWrite::new(Vec::new(alloc));
     let mut log = Kept::new(alloc);
-    run(alloc, &mut reader, &mut writer, &mut log, true, host)?;
+    let ended = run(alloc, &mut reader, &mut writer, &mut log, true, host)?;
+    let _progress = ended.whole()?;
     Ok(log.bytes)
 }
 

@@ -105,7 +105,7 @@ pub(crate) fn summary(alloc: Global, script: &[u8]) -> Result<Summary, Fault> {
     let mut writer = IntoWrite::new(Vec::new(alloc));
     let mut log = IntoWrite::new(Vec::new(alloc));
     match run(alloc, &mut reader, &mut writer, &mut log, false, &NoHost) {
-        Ok(ended) => Ok(ended.summary),
+        Ok(ended) => Ok(ended.progress.summary),
         Err(fault) => Err(fault),
     }
 }

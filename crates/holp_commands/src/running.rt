@@ -49,7 +49,7 @@ fn run_hosted<W: Sink, L: Sink>(
     let swaps = Box::new(alloc, |alloc: Global, term: &Term| swap(alloc, term))?;
     host.conv(alloc, "swap", swaps)?;
     let mut reader = FromRead::new(script.text);
-    let ended = run(alloc, &mut reader, writer, log, wants_log, &host)?;
+    let ended = run(alloc, &mut reader, writer, log, wants_log, &host)?.whole()?;
     let refused = ended.summary.refused;
     if explains && refused > 0 {
         drop(ended);

@@ -139,7 +139,7 @@ fn run_text(alloc: Global, text: &[u8], wants_log: bool) -> Result<Written, Faul
     let mut writer = Kept::new(alloc);
     let mut log = Kept::new(alloc);
     let mut reader = FromRead::new(text);
-    run(
+    let ended = run(
         alloc,
         &mut reader,
         &mut writer,
@@ -147,6 +147,7 @@ fn run_text(alloc: Global, text: &[u8], wants_log: bool) -> Result<Written, Faul
         wants_log,
         &NoHost,
     )?;
+    let _progress = ended.whole()?;
     Ok(Written {
         output: writer.bytes,
         log: log.bytes,

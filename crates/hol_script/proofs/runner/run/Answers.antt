@@ -3,9 +3,9 @@ use Rattle.hol_model.specs.Texts.KnownText.{Tells}
 use Rattle.hol_model.specs.declared.limits.TheConstants.{TEXT_BYTES_LIMIT}
 use Rattle.hol_script_manager.specs.Session.{session_tools}
 use Rattle.hol_script.specs.Runs.{source_use, sink_use}
-use Rattle.hol_script.proofs.HeadlineLemmas.{finishes_told, front_told, breaks_told, unread_told}
+use Rattle.hol_script.proofs.HeadlineLemmas.{finishes_told, breaks_told, unread_told}
 use Rattle.hol_script.proofs.RunLogLemmas.{run-named}
-use Rattle.hol_script.proofs.EndLemmas.{ends-unread, ends-in_output, ends-unlogged, ends-logged, ends-in_log}
+use Rattle.hol_script.proofs.EndLemmas.{ends-unread, ends-in_output, ends-unlogged, ends-in_log, logs-told, told-so}
 use Rattle.hol_script.proofs.runner.run.Goals as goal
 
 pub returns-in-Err-clause-ends : goal.returns-in-Err-clause-ends
@@ -51,17 +51,6 @@ returns-then-not-wants_log-clause-ends g c =
     (sink_use (g.L.Sink.contents c.args.log.now) (g.L.Sink.contents c.args.log.now) (g.L.Sink.has_failed c.args.log.now) (c.args.log.now ≡ c.args.log.now))
     script told within c.in-Ok-run_script.progress c.in-Ok-run_script.ensures.ok c.if-not-wants_log.true refl
 
-pub returns-in-Ok-write_log-clause-ends : goal.returns-in-Ok-write_log-clause-ends
-returns-in-Ok-write_log-clause-ends g c =
-    let script = c.as_slice.result.now in
-    let told = subst (λ (bytes : List ℕ). Tells (g.R.Source.remaining c.args.reader.now) bytes) (sym c.as_slice.ensures.value) c.in-Ok.ensures.all in
-    let within = subst (λ (bytes : List ℕ). length bytes ≤ TEXT_BYTES_LIMIT) (sym c.as_slice.ensures.value) c.in-Ok.ensures.within_limit in
-    ends-logged (session_tools (g.H.Refiners.refiners c.args.host.now) (g.H.Converters.conversions c.args.host.now))
-    (source_use (g.R.Source.remaining c.args.reader.now) (g.R.Source.has_failed c.read_all.new.reader))
-    (sink_use (g.W.Sink.contents c.args.writer.now) (g.W.Sink.contents c.run_script.new.writer) (g.W.Sink.has_failed c.run_script.new.writer) (c.run_script.new.writer ≡ c.args.writer.now))
-    (sink_use (g.L.Sink.contents c.args.log.now) (g.L.Sink.contents c.write_log.new.log) (g.L.Sink.has_failed c.write_log.new.log) (c.write_log.new.log ≡ c.args.log.now))
-    script told within c.in-Ok-run_script.progress c.in-Ok-run_script.ensures.ok c.if-not-wants_log.false c.in-Ok-write_log.ensures.ok
-
 pub returns-clause-ends : goal.returns-clause-ends
 returns-clause-ends g c =
     let script = c.as_slice.result.now in
@@ -71,21 +60,22 @@ returns-clause-ends g c =
     (source_use (g.R.Source.remaining c.args.reader.now) (g.R.Source.has_failed c.read_all.new.reader))
     (sink_use (g.W.Sink.contents c.args.writer.now) (g.W.Sink.contents c.run_script.new.writer) (g.W.Sink.has_failed c.run_script.new.writer) (c.run_script.new.writer ≡ c.args.writer.now))
     (sink_use (g.L.Sink.contents c.args.log.now) (g.L.Sink.contents c.write_log.new.log) (g.L.Sink.has_failed c.write_log.new.log) (c.write_log.new.log ≡ c.args.log.now))
-    script told within c.in-Ok-run_script.progress c.in-Ok-run_script.ensures.ok c.in-Err-write_log.fault c.if-not-wants_log.false c.in-Err-write_log.ensures.refusals
-    c.in-Err-write_log.ensures.write_fault c.in-Err-write_log.ensures.too_long c.in-Err-write_log.ensures.unwritten
+    script told within c.in-Ok-run_script.progress c.in-Ok-run_script.ensures.ok c.write_log.result c.if-not-wants_log.false c.write_log.ensures.ok c.write_log.ensures.refusals
+    c.write_log.ensures.write_fault c.write_log.ensures.too_long c.write_log.ensures.unwritten
 
-pub returns-clause-told_front : goal.returns-clause-told_front
-returns-clause-told_front g c =
-    let told = subst (λ (bytes : List ℕ). Tells (g.R.Source.remaining c.args.reader.now) bytes) (sym c.as_slice.ensures.value) c.in-Ok.ensures.all in
-    front_told (finishes_told (session_tools (g.H.Refiners.refiners c.args.host.now) (g.H.Converters.conversions c.args.host.now)) c.as_slice.result.now told c.in-Ok-run_script.ensures.ok)
+pub returns-clause-own_log : goal.returns-clause-own_log
+returns-clause-own_log g c wanted = logs-told c.write_log.result c.write_log.ensures.ok c.write_log.ensures.write_fault c.write_log.ensures.too_long
+
+pub returns-clause-log_told : goal.returns-clause-log_told
+returns-clause-log_told g c = told-so c.write_log.result c.write_log.ensures.told
 
 pub returns-then-not-wants_log-clause-told : goal.returns-then-not-wants_log-clause-told
 returns-then-not-wants_log-clause-told g c =
     let told = subst (λ (bytes : List ℕ). Tells (g.R.Source.remaining c.args.reader.now) bytes) (sym c.as_slice.ensures.value) c.in-Ok.ensures.all in
     finishes_told (session_tools (g.H.Refiners.refiners c.args.host.now) (g.H.Converters.conversions c.args.host.now)) c.as_slice.result.now told c.in-Ok-run_script.ensures.ok
 
-pub returns-in-Ok-write_log-clause-told : goal.returns-in-Ok-write_log-clause-told
-returns-in-Ok-write_log-clause-told g c =
+pub returns-clause-told : goal.returns-clause-told
+returns-clause-told g c =
     let told = subst (λ (bytes : List ℕ). Tells (g.R.Source.remaining c.args.reader.now) bytes) (sym c.as_slice.ensures.value) c.in-Ok.ensures.all in
     finishes_told (session_tools (g.H.Refiners.refiners c.args.host.now) (g.H.Converters.conversions c.args.host.now)) c.as_slice.result.now told c.in-Ok-run_script.ensures.ok
 
@@ -96,8 +86,8 @@ returns-then-not-wants_log-clause-leaves g c = record {
   finishes = c.in-Ok-run_script.ensures.ok;
 }
 
-pub returns-in-Ok-write_log-clause-leaves : goal.returns-in-Ok-write_log-clause-leaves
-returns-in-Ok-write_log-clause-leaves g c = record {
+pub returns-clause-leaves : goal.returns-clause-leaves
+returns-clause-leaves g c = record {
   script = c.as_slice.result.now;
   read = subst (λ (bytes : List ℕ). Tells (g.R.Source.remaining c.args.reader.now) bytes) (sym c.as_slice.ensures.value) c.in-Ok.ensures.all;
   finishes = c.in-Ok-run_script.ensures.ok;
