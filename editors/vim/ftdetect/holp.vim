@@ -1,0 +1,1 @@
+autocmd BufRead,BufNewFile *.hol setfiletype holp

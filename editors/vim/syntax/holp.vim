@@ -1,0 +1,22 @@
+" Proof scripts of holp.
+if exists('b:current_syntax')
+  finish
+endif
+syntax case match
+syntax iskeyword @,48-57,_,'
+syntax match holpCommand /\%(^\|;;\s*\)\zs\%(thm\|show\|save\|var\|def\|newtype\|newconst\|goal\|e\|b\|p\|r\)\>/
+syntax region holpTerm start=/`/ end=/`/
+syntax match holpTactic /\<[A-Z0-9_]\+_TAC\>/
+syntax keyword holpCombinator THEN THENL ORELSE REPEAT TRY HOST THENC ORELSEC REPEATC TRY_CONV RAND_CONV RATOR_CONV
+syntax keyword holpCombinator ABS_CONV SUB_CONV DEPTH_CONV ONCE_DEPTH_CONV TOP_DEPTH_CONV ALL_CONV NO_CONV REWR_CONV
+syntax keyword holpRule REFL ASSUME BETA BETA_CONV TAUT ABS ADD_ASSUM DISCH SPEC GEN DISJ1 DISJ2 CONTR EXISTS CHOOSE SYM
+syntax keyword holpRule EQT_INTRO EQT_ELIM CONJUNCT1 CONJUNCT2 UNDISCH NOT_INTRO NOT_ELIM TRANS MK_COMB EQ_MP CONJ MP
+syntax keyword holpRule DEDUCT_ANTISYM_RULE PROVE_HYP DISJ_CASES INST INST_TYPE ETA SELECT CONV
+syntax match holpEnd /;;/
+highlight default link holpCommand Keyword
+highlight default link holpTerm String
+highlight default link holpTactic Function
+highlight default link holpCombinator Statement
+highlight default link holpRule Function
+highlight default link holpEnd Delimiter
+let b:current_syntax = 'holp'

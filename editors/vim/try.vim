@@ -1,0 +1,14 @@
+" Tries the plugin in batch: vim -N -u NONE -es -S try.vim SCRIPT
+set runtimepath^=.
+filetype plugin indent on
+syntax on
+edit
+call cursor(1, 1)
+let s:out = ['filetype ' . &filetype, 'first word ' . synIDattr(synID(1, 1, 1), 'name'), 'indent ' . HolpIndent()]
+HolpRun
+call add(s:out, len(getqflist()) . ' refused, at line ' . join(map(getqflist(), 'v:val.lnum'), ' '))
+call search('^e ')
+HolpTo
+call add(s:out, 'goals: ' . join(getbufline('holp-goals', 1, '$'), ' / '))
+call writefile(s:out, $HOLP_TOLD)
+qall!
