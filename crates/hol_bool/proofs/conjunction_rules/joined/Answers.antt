@@ -34,7 +34,8 @@ returns-in-Err-equivalence-clause-derives c h k s t room first second fits =
     let one = c.conclusion_of-p.ensures in
     let two = c.conclusion_of-q.ensures in
     let both_is = connected-is c.in-Ok.both and_name a b c.conclusion_of-p.result.now c.conclusion_of-q.result.now one.formula.typed two.formula.typed one.value two.value c.in-Ok.ensures in
-    equation-past c.in-Err-equivalence.fault b (conjunction a b) c.conclusion_of-q.result.now c.in-Ok.both two.formula.typed (connected-typed and_name a b one.formula.typed two.formula.typed) two.value both_is c.in-Err-equivalence.ensures room
+    equation-past c.in-Err-equivalence.fault b (conjunction a b) c.conclusion_of-q.result.now c.in-Ok.both two.formula.typed
+    (connected-typed and_name a b one.formula.typed two.formula.typed) two.value both_is c.in-Err-equivalence.ensures room
     (conj-fits-at room (image a) (image b) s t first.concludes second.concludes fits)
 
 pub returns-in-Err-by_theorem-clause-derives : goal.returns-in-Err-by_theorem-clause-derives
@@ -47,7 +48,8 @@ returns-in-Err-by_theorem-clause-derives c h k s t room first second fits =
     let terms = c.deref.result.now in
     let both_is = connected-is c.in-Ok.both and_name a b c.conclusion_of-p.result.now c.conclusion_of-q.result.now one.formula.typed two.formula.typed one.value two.value c.in-Ok.ensures in
     let stated_is =
-    equation-is c.in-Ok-equivalence.stated b (conjunction a b) c.conclusion_of-q.result.now c.in-Ok.both two.formula.typed (connected-typed and_name a b one.formula.typed two.formula.typed) two.value both_is c.in-Ok-equivalence.ensures in
+    equation-is c.in-Ok-equivalence.stated b (conjunction a b) c.conclusion_of-q.result.now c.in-Ok.both two.formula.typed
+    (connected-typed and_name a b one.formula.typed two.formula.typed) two.value both_is c.in-Ok-equivalence.ensures in
     let terms_are : terms ≡ at_p_q a b = c.deref.ensures.value ∙ c.in-Ok-for_p_q.ensures.ok ∙ (λ i. (one.value i, p) ∷ (two.value i, q) ∷ []) in
     let leads = conj-leads theory a b terms one.formula two.formula terms_are room (conj-fits-at room (image a) (image b) s t first.concludes second.concludes fits) in
     subst (λ (u : NamedTerm). LeadsTo theory 25 terms room (image a) (image u) → DerivesIf room (Err c.in-Err-by_theorem.fault) h (image u)) stated_is
@@ -75,7 +77,8 @@ returns-clause-names c =
     let two = c.conclusion_of-q.ensures in
     let both_is = connected-is c.in-Ok.both and_name a b c.conclusion_of-p.result.now c.conclusion_of-q.result.now one.formula.typed two.formula.typed one.value two.value c.in-Ok.ensures in
     let stated_is =
-    equation-is c.in-Ok-equivalence.stated b (conjunction a b) c.conclusion_of-q.result.now c.in-Ok.both two.formula.typed (connected-typed and_name a b one.formula.typed two.formula.typed) two.value both_is c.in-Ok-equivalence.ensures in
+    equation-is c.in-Ok-equivalence.stated b (conjunction a b) c.conclusion_of-q.result.now c.in-Ok.both two.formula.typed
+    (connected-typed and_name a b one.formula.typed two.formula.typed) two.value both_is c.in-Ok-equivalence.ensures in
     right-names c.eq_mp_known.result c.in-Ok-by_theorem.equation.theorem.conclusion b (conjunction a b) two.formula.typed (c.in-Ok-by_theorem.ensures.names ∙ stated_is) c.eq_mp_known.ensures.names
 
 pub returns-clause-derives : goal.returns-clause-derives
@@ -88,7 +91,8 @@ returns-clause-derives c h k s t room first second fits =
     let terms = c.deref.result.now in
     let both_is = connected-is c.in-Ok.both and_name a b c.conclusion_of-p.result.now c.conclusion_of-q.result.now one.formula.typed two.formula.typed one.value two.value c.in-Ok.ensures in
     let stated_is =
-    equation-is c.in-Ok-equivalence.stated b (conjunction a b) c.conclusion_of-q.result.now c.in-Ok.both two.formula.typed (connected-typed and_name a b one.formula.typed two.formula.typed) two.value both_is c.in-Ok-equivalence.ensures in
+    equation-is c.in-Ok-equivalence.stated b (conjunction a b) c.conclusion_of-q.result.now c.in-Ok.both two.formula.typed
+    (connected-typed and_name a b one.formula.typed two.formula.typed) two.value both_is c.in-Ok-equivalence.ensures in
     let terms_are : terms ≡ at_p_q a b = c.deref.ensures.value ∙ c.in-Ok-for_p_q.ensures.ok ∙ (λ i. (one.value i, p) ∷ (two.value i, q) ∷ []) in
     let leads = conj-leads theory a b terms one.formula two.formula terms_are room (conj-fits-at room (image a) (image b) s t first.concludes second.concludes fits) in
     let equation_shown : Shows c.in-Ok-by_theorem.equation.theorem h (image (equation b (conjunction a b))) =
@@ -118,6 +122,7 @@ by_theorem-requires-clause-stated c =
     let two = c.conclusion_of-q.ensures in
     let both_is = connected-is c.in-Ok.both and_name a b c.conclusion_of-p.result.now c.conclusion_of-q.result.now one.formula.typed two.formula.typed one.value two.value c.in-Ok.ensures in
     let stated_is =
-    equation-is c.in-Ok-equivalence.stated b (conjunction a b) c.conclusion_of-q.result.now c.in-Ok.both two.formula.typed (connected-typed and_name a b one.formula.typed two.formula.typed) two.value both_is c.in-Ok-equivalence.ensures in
+    equation-is c.in-Ok-equivalence.stated b (conjunction a b) c.conclusion_of-q.result.now c.in-Ok.both two.formula.typed
+    (connected-typed and_name a b one.formula.typed two.formula.typed) two.value both_is c.in-Ok-equivalence.ensures in
     made-formula journal.theory c.in-Ok-equivalence.stated (equation b (conjunction a b)) stated_is
     (equation-formula journal.theory one.legal b (conjunction a b) two.formula (connects journal c.args.logic.now c.requires.logic one.legal and_name refl a b one.formula two.formula))

@@ -76,7 +76,8 @@ returns-clause-derives c h k s room first second fits =
     subst (λ (u : NamedTerm). LeadsTo theory 26 terms room (image a) (image u) → Shows c.in-Ok-by_theorem.equation.theorem k (image u)) stated_is
     (λ l. c.in-Ok-by_theorem.ensures.derives k (image a) room l (subst (λ (u : Nameless). Shows c.args.second.now.theorem k u) (sym second.concludes) second)) leads in
     let at_images : Shows c.in-Ok-by_theorem.equation.theorem k (mp_equation s (image b)) =
-    subst (λ (u : Nameless). Shows c.in-Ok-by_theorem.equation.theorem k u) (image-equation whole b bool_type zero.formula.typed ∙ ap (λ (u : Nameless). nameless_equation bool_type u (image b)) first.concludes) equation_shown in
+    subst (λ (u : Nameless). Shows c.in-Ok-by_theorem.equation.theorem k u)
+    (image-equation whole b bool_type zero.formula.typed ∙ ap (λ (u : Nameless). nameless_equation bool_type u (image b)) first.concludes) equation_shown in
     given-derives room c.eq_mp_known.result (k ++ h) (image b)
     (c.eq_mp_known.ensures.gives k h (nameless.implication s (image b)) (image b) at_images first)
 

@@ -154,7 +154,8 @@ eq_mp_known-requires-clause-fits c =
     let later : c.by_predicate_lemma.new.recorder.theory ≡ theory = c.in-Ok.ensures.continues.theory in
     let redex_none = subst (λ (th : Theory). first_unknown th (combination (abstraction at.name at.ty body) term) ≡ None) (sym later)
     (no_unknown theory (combination (abstraction at.name at.ty body) term) bool_type
-    (subst (λ (t : Nameless). IsKnown theory (app t (image term)) bool_type) (sym (image-abstraction at.name at.ty body)) (app-known theory at.ty bool_type (closed at.name at.ty body) (image term) at.function_known term_known))) in
+    (subst (λ (t : Nameless). IsKnown theory (app t (image term)) bool_type) (sym (image-abstraction at.name at.ty body)) (app-known theory at.ty bool_type
+    (closed at.name at.ty body) (image term) at.function_known term_known))) in
     let result = specialized_body theory term premise function binder body at start.typed in
     let equation = c.in-Ok-converted_known.ensures.derives at.name at.ty bool_type body at.function_is at.binder_is at.body_typed start.typed redex_none in
     eq_mp-fits c.in-Ok-converted_known.equation.theorem c.in-Ok.redex.theorem [] (images premise) (app (closed at.name at.ty body) (image term)) result equation redex
