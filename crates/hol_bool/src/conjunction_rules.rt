@@ -115,7 +115,7 @@ pub(crate) fn joined(
         Ok(equation) => equation,
         Err(fault) => return Err(fault),
     };
-    steps::eq_mp(recorder, alloc, &equation, second)
+    steps::eq_mp_known(recorder, alloc, &equation, second)
 }
 
 /// CONJ: from `p` and `q`, `p /\ q`, in seven steps.

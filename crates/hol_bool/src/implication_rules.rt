@@ -61,7 +61,7 @@ pub fn implied(
         Ok(equation) => equation,
         Err(fault) => return Err(fault),
     };
-    steps::eq_mp(recorder, alloc, &equation, first)
+    steps::eq_mp_known(recorder, alloc, &equation, first)
 }
 
 /// MP: from `p ==> q` and `p`, `q`, in seven steps. Refused where the first conclusion is no implication, and then where

@@ -13,7 +13,7 @@ ghost use Rattle.hol_quant.specs.PredicateLemmas.{applied, over_predicate};
 
 use crate::instances::by_predicate_lemma;
 use crate::parts::quantified_parts;
-use hol_equal::{conclusion_of, converted_known, eq_mp};
+use hol_equal::{conclusion_of, converted_known, eq_mp_known};
 use hol_journal::{Rec, Recorder};
 use hol_model::Fault;
 use hol_prelude::{Bool, numbers, theorem_of};
@@ -55,7 +55,7 @@ pub(crate) fn specialized(
         Ok(equation) => equation,
         Err(fault) => return Err(fault),
     };
-    eq_mp(recorder, alloc, &equation, &redex)
+    eq_mp_known(recorder, alloc, &equation, &redex)
 }
 
 /// SPEC: from `!x. p`, `p[t/x]`, by the lemma `(!) P |- P x`, in seven steps. Refused where the conclusion is no

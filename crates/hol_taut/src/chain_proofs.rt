@@ -15,7 +15,10 @@ use hol_alpha::aconv;
 use hol_equal::{conclusion_of, eq_mp, sym};
 use hol_journal::{Rec, Recorder};
 use hol_model::Fault;
-use hol_taut_chains::{ChainLaws, commuted, exchanged, normal_form, paired, sides_of};
+use hol_taut_chains::{
+    ChainLaws, NegationLaws, commuted, exchanged, has_negated_part, negated_left, negated_right,
+    negated_twice, normal_form, paired, sides_of, without_negations,
+};
 use hol_taut_formulas::{Form, form_of};
 use hol_taut_laws::{Law, Laws, law_theorem};
 use hol_terms::Term;
@@ -157,6 +160,76 @@ fn by_normal_form(
     by_chain_laws(recorder, alloc, laws, &chain_laws, term)
 }
 
+// The laws by which negations are taken out of chains.
+#[tactic(auto, using(hol_equal::proofs::StepLemmas::still_made, hol_equal::proofs::StepLemmas::now_made, hol_taut_chains::proofs::ChainLemmas::continued_twice, crate::proofs::LawLemmas::still_lawful))]
+fn without_negated(
+    recorder: &mut Recorder,
+    alloc: Global,
+    laws: &Laws,
+    term: &Term,
+) -> Result<Rec, Fault>
+    requires laws { HasLaws recorder.old laws.now }
+    ensures continues { Continues recorder.old recorder.new result }
+{
+    let left = match chain_law(recorder, alloc, laws, negated_left(alloc)) {
+        Ok(law) => law,
+        Err(fault) => return Err(fault),
+    };
+    let right = match chain_law(recorder, alloc, laws, negated_right(alloc)) {
+        Ok(law) => law,
+        Err(fault) => return Err(fault),
+    };
+    let twice = match chain_law(recorder, alloc, laws, negated_twice(alloc)) {
+        Ok(law) => law,
+        Err(fault) => return Err(fault),
+    };
+    without_negations(recorder, alloc, &NegationLaws { left, right, twice }, term)
+}
+
+// From `formula <=> rest`, the formula, by the rest's normal form.
+#[tactic(auto, using(hol_equal::proofs::StepLemmas::still_made, hol_equal::proofs::StepLemmas::now_made, hol_taut_chains::proofs::ChainLemmas::continued_twice, crate::proofs::LawLemmas::still_lawful))]
+fn from_positive(
+    recorder: &mut Recorder,
+    alloc: Global,
+    laws: &Laws,
+    positive: &Rec,
+) -> Result<Rec, Fault>
+    requires laws { HasLaws recorder.old laws.now }
+    requires positive { IsMade recorder.old positive.now }
+    ensures continues { Continues recorder.old recorder.new result }
+{
+    let Some((_, rest)) = sides_of(conclusion_of(recorder, positive)) else {
+        return Err(Fault::BadShape);
+    };
+    let made = match by_normal_form(recorder, alloc, laws, rest) {
+        Ok(made) => made,
+        Err(fault) => return Err(fault),
+    };
+    let back = match sym(recorder, alloc, positive) {
+        Ok(back) => back,
+        Err(fault) => return Err(fault),
+    };
+    eq_mp(recorder, alloc, &back, &made)
+}
+
+// A formula, from what it is equal to without negated parts of chains.
+#[tactic(auto, using(hol_equal::proofs::StepLemmas::now_made, hol_taut_chains::proofs::ChainLemmas::continued_twice, crate::proofs::LawLemmas::still_lawful))]
+fn by_positive(
+    recorder: &mut Recorder,
+    alloc: Global,
+    laws: &Laws,
+    term: &Term,
+) -> Result<Rec, Fault>
+    requires laws { HasLaws recorder.old laws.now }
+    ensures continues { Continues recorder.old recorder.new result }
+{
+    let positive = match without_negated(recorder, alloc, laws, term) {
+        Ok(positive) => positive,
+        Err(fault) => return Err(fault),
+    };
+    from_positive(recorder, alloc, laws, &positive)
+}
+
 /// A formula with long chains: by splits over its chains and its atoms, or else by normal forms. A search whose answer is to be
 /// judged.
 #[tactic(auto, using(hol_taut_chains::proofs::ChainLemmas::continued_twice, crate::proofs::LawLemmas::still_lawful))]
@@ -172,6 +245,12 @@ pub(crate) fn shortened(
     match generally(recorder, alloc, laws, term) {
         Ok(made) => Ok(made),
         Err(Fault::Memory) => Err(Fault::Memory),
-        Err(_) => by_normal_form(recorder, alloc, laws, term),
+        Err(_) => {
+            if has_negated_part(term) {
+                by_positive(recorder, alloc, laws, term)
+            } else {
+                by_normal_form(recorder, alloc, laws, term)
+            }
+        }
     }
 }

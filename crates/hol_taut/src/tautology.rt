@@ -15,20 +15,19 @@ ghost use Rattle.hol_taut.specs.Refuted.{IsAlwaysTrue};
 ghost use Rattle.hol_model.specs.Propositional.Tautologies.{tautology_outcome};
 ghost use Rattle.hol_taut.specs.Ways.{IsSmallIf};
 
-use crate::chain_proofs::{judged, shortened};
+use crate::chain_proofs::judged;
 use crate::formula_terms::{equivalence, false_formula, pass_formula};
+use crate::search::searched;
 use crate::splits::split;
 use hol_equal::named;
 use hol_journal::{Rec, Recorder};
 use hol_model::Fault;
-use hol_taut_chains::has_long_chain;
 use hol_taut_formulas::atoms_of_tautology;
 use hol_taut_laws::Laws;
 use hol_terms::Term;
 use std::alloc::Global;
 
-/// A tautology, from its denial, which is handed in: where long chains of `<=>` stand in it, by a search that shortens them, if
-/// that gives its theorem, and else by splits.
+/// A tautology, from its denial, which is handed in: by the search for its theorem, if that gives it, and else by splits.
 pub(crate) fn proved(
     recorder: &mut Recorder,
     alloc: Global,
@@ -46,10 +45,7 @@ pub(crate) fn proved(
     ensures continues { Continues recorder.old recorder.new result }
     ensures proves { (room : Room) → IsSmallIf room (image term.now) → ProvesIf room result [] (image term.now) }
 {
-    if !has_long_chain(term) {
-        return split(recorder, alloc, laws, term, denial, atoms);
-    }
-    let tried = shortened(recorder, alloc, laws, term);
+    let tried = searched(recorder, alloc, laws, term);
     if let Some(answer) = judged(recorder, tried, term) {
         return answer;
     }
@@ -63,7 +59,7 @@ pub(crate) fn proved(
 /// implies its last, 619 for fourteen atoms each of which implies the next. Chains of `<=>` take about the square of their
 /// length instead, where one of at least eight parts stands in the formula, or of five that differ: 500 for ten atoms against
 /// their mirror, 700 against the same backwards, 518 and 718 where `r` implies these, and 610 for ten atoms with another one
-/// before the same backwards.
+/// before the same backwards. A part that stands at several places is taken for an atom, where the formula holds whatever it is.
 #[tactic(none)]
 pub fn taut(recorder: &mut Recorder, alloc: Global, laws: &Laws, term: &Term) -> Result<Rec, Fault>
     requires laws { HasLaws recorder.old laws.now }

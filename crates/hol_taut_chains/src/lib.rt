@@ -10,6 +10,7 @@ mod negations;
 mod pairs;
 mod parts;
 mod pulled;
+mod shared;
 mod sorted;
 mod variables;
 
@@ -20,4 +21,5 @@ pub use law_terms::{commuted, exchanged, negated_left, negated_right, negated_tw
 pub use negations::{NegationLaws, has_negated_part, without_negations};
 pub use parts::normal_form;
 pub use pulled::ChainLaws;
+pub use shared::without_shared;
 pub use variables::without_chains;

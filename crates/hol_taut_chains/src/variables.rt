@@ -1,4 +1,4 @@
-// Formulas with variables for the chains of `<=>` that stand in them.
+// Formulas with variables for parts of them, as for the chains of `<=>` that stand in them.
 use crate::chains::is_chain;
 use hol_alpha::aconv;
 use hol_model::Fault;
@@ -6,47 +6,52 @@ use hol_taut_formulas::{Form, form_of};
 use hol_terms::Term;
 use std::alloc::Global;
 
-// The variable that stands for a chain.
-fn variable_at<'a>(chains: &'a [(Term, Term)], chain: &Term) -> Option<&'a Term> {
-    let Some((first, rest)) = chains.split_first() else {
+// The variable that stands for a part.
+fn variable_at<'a>(parts: &'a [(Term, Term)], part: &Term) -> Option<&'a Term> {
+    let Some((first, rest)) = parts.split_first() else {
         return None;
     };
-    if aconv(&first.0, chain) {
+    if aconv(&first.0, part) {
         return Some(&first.1);
     }
-    variable_at(rest, chain)
+    variable_at(rest, part)
 }
 
-// A new variable that stands for a chain, which is put to the list.
-fn new_variable(
-    alloc: Global,
-    chain: &Term,
-    chains: &mut Vec<(Term, Term)>,
-) -> Result<Term, Fault> {
-    let name = format!(in alloc; "chain{}", chains.len())?;
-    let variable = Term::mk_var(alloc, &name, chain.ty())?;
-    chains.push((chain.copy(alloc)?, variable.copy(alloc)?))?;
+// A new variable that stands for a part, which is put to the list.
+fn new_variable(alloc: Global, part: &Term, parts: &mut Vec<(Term, Term)>) -> Result<Term, Fault> {
+    let name = format!(in alloc; "chain{}", parts.len())?;
+    let variable = Term::mk_var(alloc, &name, part.ty())?;
+    parts.push((part.copy(alloc)?, variable.copy(alloc)?))?;
     Ok(variable)
 }
 
-// The variable of a chain, the same for equal chains.
-fn variable_of(alloc: Global, chain: &Term, chains: &mut Vec<(Term, Term)>) -> Result<Term, Fault> {
-    match variable_at(chains, chain) {
+/// The variable of a part, the same for equal parts.
+pub(crate) fn variable_of(
+    alloc: Global,
+    part: &Term,
+    parts: &mut Vec<(Term, Term)>,
+) -> Result<Term, Fault> {
+    match variable_at(parts, part) {
         Some(variable) => variable.copy(alloc),
-        None => new_variable(alloc, chain, chains),
+        None => new_variable(alloc, part, parts),
     }
 }
 
-// A function applied to an argument, with another one in its place.
-fn at_other(alloc: Global, term: &Term, argument: &Term) -> Result<Term, Fault> {
+/// A function applied to an argument, with another one in its place.
+pub(crate) fn at_other(alloc: Global, term: &Term, argument: &Term) -> Result<Term, Fault> {
     match term.dest_comb() {
         Some((function, _)) => Term::mk_comb(alloc, function, argument),
         None => Err(Fault::BadShape),
     }
 }
 
-// A connective between other sides.
-fn between(alloc: Global, term: &Term, left: &Term, right: &Term) -> Result<Term, Fault> {
+/// A connective between other sides.
+pub(crate) fn between(
+    alloc: Global,
+    term: &Term,
+    left: &Term,
+    right: &Term,
+) -> Result<Term, Fault> {
     match term.dest_comb() {
         Some((function, _)) => Term::mk_comb(alloc, &at_other(alloc, function, left)?, right),
         None => Err(Fault::BadShape),

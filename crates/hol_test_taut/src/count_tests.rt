@@ -1,6 +1,6 @@
 // How many inferences TAUT takes, where HOL Light's TAUT takes 2,639, 3,741 and 114,085 for the first three of these formulas.
 use crate::answers::inferences;
-use crate::formulas::{joined, variable};
+use crate::formulas::{joined, negated, variable};
 use hol_model::Fault;
 use hol_terms::Term;
 use std::alloc::Global;
@@ -94,6 +94,27 @@ fn chain_as_premise(alloc: Global) -> Result<Term, Fault> {
     joined(alloc, "==>", &premises, &right)
 }
 
+// A conjunction of so many variables that implies itself.
+fn implies_itself(alloc: Global, count: usize) -> Result<Term, Fault> {
+    let Some(names) = NAMES.get(..count) else {
+        return Err(Fault::BadShape);
+    };
+    let part = in_order(alloc, "/\\", names)?;
+    joined(alloc, "==>", &part, &part)
+}
+
+// `(~a <=> .. <=> ~j) <=> ((j <=> ..) <=> a)`.
+fn negated_chain(alloc: Global) -> Result<Term, Fault> {
+    let names = &NAMES[..10];
+    let mut left = negated(alloc, &variable(alloc, "j")?)?;
+    for at in 1..10usize {
+        let part = negated(alloc, &variable(alloc, names[9 - at])?)?;
+        left = joined(alloc, "=", &part, &left)?;
+    }
+    let right = mirrored(alloc, "=", names)?;
+    joined(alloc, "=", &left, &right)
+}
+
 // Whether TAUT proves the formula by fewer inferences.
 fn takes_fewer(alloc: Global, formula: Result<Term, Fault>, than: usize) -> bool {
     let Ok(formula) = formula else {
@@ -102,6 +123,17 @@ fn takes_fewer(alloc: Global, formula: Result<Term, Fault>, than: usize) -> bool
     match inferences(alloc, &formula) {
         Ok(count) => count < than,
         Err(_) => false,
+    }
+}
+
+// Whether TAUT proves both formulas by as many inferences.
+fn takes_as_many(alloc: Global, first: Result<Term, Fault>, second: Result<Term, Fault>) -> bool {
+    let (Ok(first), Ok(second)) = (first, second) else {
+        return false;
+    };
+    match (inferences(alloc, &first), inferences(alloc, &second)) {
+        (Ok(first), Ok(second)) => first == second,
+        _ => false,
     }
 }
 
@@ -118,6 +150,21 @@ fn implications_of_fourteen(rt: HostRuntime) {
 #[test]
 fn chain_of_ten(rt: HostRuntime) {
     assert!(rt; takes_fewer(rt.alloc(), chain(rt.alloc()), 501));
+}
+
+// A part that stands at two places takes no inferences, however large it is.
+#[test]
+fn parts_that_stand_twice(rt: HostRuntime) {
+    let alloc = rt.alloc();
+    let small = implies_itself(alloc, 2);
+    let large = implies_itself(alloc, 14);
+    assert!(rt; takes_as_many(alloc, small, large));
+}
+
+// HOL Light's number for the chain without negations is the bound.
+#[test]
+fn negated_chain_of_ten(rt: HostRuntime) {
+    assert!(rt; takes_fewer(rt.alloc(), negated_chain(rt.alloc()), 114_085));
 }
 
 // HOL Light's number for the chain alone is the bound of the second.

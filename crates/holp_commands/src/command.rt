@@ -2,6 +2,7 @@
 
 use crate::checking::{check_file, check_file_with_theory, migrate_file};
 use crate::ending::tell;
+use crate::options::Options;
 use crate::running::{run_scripts, run_scripts_with_log};
 use crate::words::{command_line, value};
 use anyhow::ensure;
@@ -33,10 +34,13 @@ fn run(rt: &HostRuntime, matches: &ArgMatches<'_>) -> anyhow::Result<u8> {
         !names_input_twice(names),
         "- is standard input, and may stand once"
     );
-    let explains = matches.get_flag("explain");
+    let options = Options {
+        explains: matches.get_flag("explain"),
+        shows_goals: matches.get_flag("goals"),
+    };
     let answer = match matches.get_str("log") {
-        Some(log) => run_scripts_with_log(rt, names, explains, log),
-        None => run_scripts(rt, names, explains),
+        Some(log) => run_scripts_with_log(rt, names, options, log),
+        None => run_scripts(rt, names, options),
     };
     Ok(tell(rt, answer))
 }

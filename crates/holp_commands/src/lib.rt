@@ -7,6 +7,7 @@ mod checking;
 mod command;
 mod ending;
 mod laws;
+mod options;
 mod output;
 mod refusals;
 mod running;

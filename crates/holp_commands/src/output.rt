@@ -4,27 +4,51 @@ ghost use Rattle.std.specs.Prelude.{◌≡◌, false};
 use crate::refusals::Refusals;
 use hol_explain::Origin;
 use hol_model::{DeviceFail, Sink};
+use holp_goals::View;
+use std::alloc::Global;
 use std::io::Write;
 use std::rt::Stdout;
 
-/// Standard output, as a sink. What it takes is watched for refusals.
+/// Standard output, as a sink. What it takes is watched for refusals, and shown by a view, where there is one.
 #[derive(Drop)]
 pub(crate) struct Output<'a> {
     stdout: Stdout,
     refusals: Refusals<'a>,
+    view: Option<View>,
+    alloc: Global,
     failed: bool,
 }
 
 impl Output<'_> {
-    /// The standard output of a run whose lines come from these scripts; of no scripts, no refusal is told.
-    pub(crate) fn new<'a>(rt: &HostRuntime, origins: &'a [Origin<'a>]) -> Output<'a>
+    /// The standard output of a run whose lines come from these scripts, through this view; of no scripts, no refusal is told.
+    pub(crate) fn new<'a>(
+        rt: &HostRuntime,
+        origins: &'a [Origin<'a>],
+        view: Option<View>,
+    ) -> Output<'a>
         ensures { result.failed ≡ false }
     {
         Output {
             stdout: rt.stdout(),
             refusals: Refusals::new(rt, origins),
+            view,
+            alloc: rt.alloc(),
             failed: false,
         }
+    }
+
+    // Writes what a view shows of a piece, where there is one, or the piece, and answers how much of the piece was taken. None: the
+    // output has failed, or there is no memory.
+    fn write(&mut self, piece: &[u8]) -> Option<usize>
+        ensures { self.new.failed ≡ self.old.failed }
+    {
+        let Some(view) = &mut self.view else {
+            return self.stdout.write(piece).ok();
+        };
+        let mut shown = Vec::new(self.alloc);
+        view.show(self.alloc, piece, &mut shown).ok()?;
+        self.stdout.write_all(&shown).ok()?;
+        Some(piece.len())
     }
 }
 
@@ -32,20 +56,16 @@ impl Sink for Output<'_> {
     ghost has_failed = { λ s. s.failed };
 
     fn emit(&mut self, piece: &[u8]) -> Result<usize, DeviceFail> {
-        match self.stdout.write(piece) {
-            Ok(count) => {
-                if count == 0 && !piece.is_empty() {
-                    self.failed = true;
-                    return Err(DeviceFail);
-                }
-                self.refusals.watch(&piece[..count]);
-                Ok(count)
-            }
-            Err(_) => {
-                self.failed = true;
-                Err(DeviceFail)
-            }
+        let taken = match self.write(piece) {
+            Some(taken) => taken,
+            None => 0,
+        };
+        if taken == 0 && !piece.is_empty() {
+            self.failed = true;
+            return Err(DeviceFail);
         }
+        self.refusals.watch(&piece[..taken]);
+        Ok(taken)
     }
 
     fn failed(&self) -> bool {

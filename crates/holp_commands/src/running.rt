@@ -1,8 +1,9 @@
-// Runs scripts over a host with the sample refiners and conversions.
+// Runs scripts over a host with the sample refiners and conversions, and those of `hol_tactics`.
 ghost use Rattle.std.specs.Prelude.{◌≡◌, false};
 
 use crate::laws::logs_are_checked;
 use crate::output::Output;
+use crate::options::Options;
 use crate::scripts::{Scripts, open_scripts, read_scripts};
 use hol_device_adapters::{FromRead, IntoCall, IntoWrite};
 use hol_explain::{Script, explain};
@@ -11,7 +12,9 @@ use hol_host_samples::{liar, liar2, peel, swap};
 use hol_just::Goal;
 use hol_model::{Fault, Sink};
 use hol_script::run;
+use hol_tactics::{NAMES, store};
 use hol_terms::Term;
+use holp_goals::View;
 use std::alloc::Global;
 use std::fs::{self, File};
 use std::io::Write;
@@ -25,12 +28,25 @@ fn create(rt: &HostRuntime, name: &str) -> Result<File, Fault> {
     }
 }
 
-// Runs a script over a host with the sample refiners and conversions, and answers how many of its commands were refused. Where
-// these are to be explained, what is said of them is written to standard error behind the run, and takes no part in how it ends.
+// Stores the sample refiners and conversions.
+fn store_samples(alloc: Global, host: &mut Host) -> Result<(), Fault> {
+    let peels = Box::new(alloc, |alloc: Global, goal: &Goal| peel(alloc, goal))?;
+    host.refiner(alloc, "peel", peels)?;
+    let lies = Box::new(alloc, |alloc: Global, goal: &Goal| liar(alloc, goal))?;
+    host.refiner(alloc, "liar", lies)?;
+    let lies_twice = Box::new(alloc, |alloc: Global, goal: &Goal| liar2(alloc, goal))?;
+    host.refiner(alloc, "liar2", lies_twice)?;
+    let swaps = Box::new(alloc, |alloc: Global, term: &Term| swap(alloc, term))?;
+    host.conv(alloc, "swap", swaps)
+}
+
+// Runs a script over a host with the sample refiners and conversions and those of `hol_tactics`, and answers how many of its
+// commands were refused. Where these are to be explained, what is said of them is written to standard error behind the run, and
+// takes no part in how it ends.
 fn run_hosted<W: Sink, L: Sink>(
     rt: &HostRuntime,
     script: &Script<'_>,
-    explains: bool,
+    options: Options,
     writer: &mut W,
     log: &mut L,
     wants_log: bool,
@@ -40,18 +56,12 @@ fn run_hosted<W: Sink, L: Sink>(
 {
     let alloc = rt.alloc();
     let mut host = Host::new(alloc);
-    let peels = Box::new(alloc, |alloc: Global, goal: &Goal| peel(alloc, goal))?;
-    host.refiner(alloc, "peel", peels)?;
-    let lies = Box::new(alloc, |alloc: Global, goal: &Goal| liar(alloc, goal))?;
-    host.refiner(alloc, "liar", lies)?;
-    let lies_twice = Box::new(alloc, |alloc: Global, goal: &Goal| liar2(alloc, goal))?;
-    host.refiner(alloc, "liar2", lies_twice)?;
-    let swaps = Box::new(alloc, |alloc: Global, term: &Term| swap(alloc, term))?;
-    host.conv(alloc, "swap", swaps)?;
+    store_samples(alloc, &mut host)?;
+    store(alloc, &mut host)?;
     let mut reader = FromRead::new(script.text);
     let ended = run(alloc, &mut reader, writer, log, wants_log, &host)?.whole()?;
     let refused = ended.summary.refused;
-    if explains && refused > 0 {
+    if options.explains && refused > 0 {
         drop(ended);
         let mut output = rt.stderr();
         if let Ok(writes) = Box::new(alloc, move |piece: &[u8]| output.write(piece)) {
@@ -70,6 +80,9 @@ fn host_names(alloc: Global) -> Result<Vec<String>, Fault> {
     for name in ["peel", "liar", "liar2", "swap"] {
         names.push(String::from_str(alloc, name)?)?;
     }
+    for name in NAMES {
+        names.push(String::from_str(alloc, name)?)?;
+    }
     Ok(names)
 }
 
@@ -78,7 +91,7 @@ fn host_names(alloc: Global) -> Result<Vec<String>, Fault> {
 fn run_over<L: Sink>(
     rt: &HostRuntime,
     scripts: &Scripts<'_>,
-    explains: bool,
+    options: Options,
     log: &mut L,
     wants_log: bool,
 ) -> Result<u64, Fault>
@@ -90,16 +103,21 @@ fn run_over<L: Sink>(
         text: scripts.text.as_slice(),
         host_names: &host_names,
     };
-    let mut writer = Output::new(rt, scripts.told(explains));
-    run_hosted(rt, &script, explains, &mut writer, log, wants_log)
+    let view = if options.shows_goals {
+        Some(View::new(rt.alloc(), &scripts.text)?)
+    } else {
+        None
+    };
+    let mut writer = Output::new(rt, scripts.told(options.explains), view);
+    run_hosted(rt, &script, options, &mut writer, log, wants_log)
 }
 
 /// Runs scripts as one, and answers how many of their commands were refused.
-pub(crate) fn run_scripts(rt: &HostRuntime, names: &[&str], explains: bool) -> Result<u64, Fault> {
-    let opened = open_scripts(rt, names, explains)?;
+pub(crate) fn run_scripts(rt: &HostRuntime, names: &[&str], options: Options) -> Result<u64, Fault> {
+    let opened = open_scripts(rt, names, options.explains)?;
     let scripts = read_scripts(rt, names, opened)?;
     let mut no_log = IntoWrite::new(Vec::new(rt.alloc()));
-    run_over(rt, &scripts, explains, &mut no_log, false)
+    run_over(rt, &scripts, options, &mut no_log, false)
 }
 
 /// Runs scripts as one and writes their log, and answers how many of their commands were refused. The log's file is made once
@@ -107,13 +125,13 @@ pub(crate) fn run_scripts(rt: &HostRuntime, names: &[&str], explains: bool) -> R
 pub(crate) fn run_scripts_with_log(
     rt: &HostRuntime,
     names: &[&str],
-    explains: bool,
+    options: Options,
     log: &str,
 ) -> Result<u64, Fault> {
     logs_are_checked();
-    let opened = open_scripts(rt, names, explains)?;
+    let opened = open_scripts(rt, names, options.explains)?;
     let mut file = create(rt, log)?;
     let scripts = read_scripts(rt, names, opened)?;
     let logs = Box::new(rt.alloc(), move |piece: &[u8]| file.write(piece))?;
-    run_over(rt, &scripts, explains, &mut IntoCall::new(logs), true)
+    run_over(rt, &scripts, options, &mut IntoCall::new(logs), true)
 }

@@ -37,6 +37,12 @@ pub(crate) fn command_line<'a>(alloc: Global) -> Result<Command<'a>, Fault> {
                 .long("explain")
                 .help("Explains each refusal on standard error")
                 .action(ArgAction::SetTrue),
+        )?
+        .arg(
+            Arg::new(alloc, "goals")
+                .long("goals")
+                .help("Lays open goals out in lines")
+                .action(ArgAction::SetTrue),
         )?;
     let check = Command::new(alloc, "check")
         .about("Checks a proof log and lists its claims")

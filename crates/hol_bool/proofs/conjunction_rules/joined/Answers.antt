@@ -9,6 +9,7 @@ use Rattle.hol_model.proofs.Terms.Images.{image-equation}
 use Rattle.hol_prelude.specs.Prelude.{p, q}
 use Rattle.hol_equal.specs.Sequents.{Shows, DerivesIf}
 use Rattle.hol_bool.specs.PreludeInstances.{LeadsTo, at_p_q}
+use Rattle.hol_equal.proofs.StepLemmas.{equation-fits}
 use Rattle.hol_equal.proofs.CutLemmas.{right-names, given-derives}
 use Rattle.hol_bool.proofs.RoomLemmas.{equation-is, equation-past, connected-is, connected-past, connected-typed}
 use Rattle.hol_bool.proofs.ConjunctionAnswers.{conj_equation, conj-fits-at, conj-both-fits, conj-leads}
@@ -54,6 +55,20 @@ returns-in-Err-by_theorem-clause-derives c h k s t room first second fits =
     subst (λ (u : NamedTerm). LeadsTo theory 25 terms room (image a) (image u) → DerivesIf room (Err c.in-Err-by_theorem.fault) h (image u)) stated_is
     (λ l. c.in-Err-by_theorem.ensures.derives h (image a) room l (subst (λ (u : Nameless). Shows c.args.first.now.theorem h u) (sym first.concludes) first)) leads
 
+pub eq_mp_known-requires-clause-fits : goal.eq_mp_known-requires-clause-fits
+eq_mp_known-requires-clause-fits c =
+    let a = c.args.first.now.theorem.conclusion in
+    let b = c.args.second.now.theorem.conclusion in
+    let one = c.conclusion_of-p.ensures in
+    let two = c.conclusion_of-q.ensures in
+    let both_is =
+    connected-is c.in-Ok.both and_name a b c.conclusion_of-p.result.now c.conclusion_of-q.result.now one.formula.typed two.formula.typed one.value two.value
+    c.in-Ok.ensures in
+    let stated_is =
+    equation-is c.in-Ok-equivalence.stated b (conjunction a b) c.conclusion_of-q.result.now c.in-Ok.both two.formula.typed
+    (connected-typed and_name a b one.formula.typed two.formula.typed) two.value both_is c.in-Ok-equivalence.ensures in
+    equation-fits c.in-Ok-by_theorem.equation.theorem c.args.second.now.theorem (conjunction a b) two.formula.typed (c.in-Ok-by_theorem.ensures.names ∙ stated_is)
+
 pub returns-clause-names : goal.returns-clause-names
 returns-clause-names c =
     let a = c.args.first.now.theorem.conclusion in
@@ -64,7 +79,7 @@ returns-clause-names c =
     let stated_is =
     equation-is c.in-Ok-equivalence.stated b (conjunction a b) c.conclusion_of-q.result.now c.in-Ok.both two.formula.typed
     (connected-typed and_name a b one.formula.typed two.formula.typed) two.value both_is c.in-Ok-equivalence.ensures in
-    right-names c.eq_mp.result c.in-Ok-by_theorem.equation.theorem.conclusion b (conjunction a b) two.formula.typed (c.in-Ok-by_theorem.ensures.names ∙ stated_is) c.eq_mp.ensures.names
+    right-names c.eq_mp_known.result c.in-Ok-by_theorem.equation.theorem.conclusion b (conjunction a b) two.formula.typed (c.in-Ok-by_theorem.ensures.names ∙ stated_is) c.eq_mp_known.ensures.names
 
 pub returns-clause-derives : goal.returns-clause-derives
 returns-clause-derives c h k s t room first second fits =
@@ -86,8 +101,8 @@ returns-clause-derives c h k s t room first second fits =
     let at_images : Shows c.in-Ok-by_theorem.equation.theorem h (conj_equation (image a) (image b)) =
     subst (λ (u : Nameless). Shows c.in-Ok-by_theorem.equation.theorem h u) (image-equation b (conjunction a b) bool_type two.formula.typed) equation_shown in
     let path : conj_equation (image a) (image b) ≡ conj_equation s t = λ i. conj_equation (first.concludes i) (second.concludes i) in
-    given-derives room c.eq_mp.result (h ++ k) (nameless.conjunction s t)
-    (c.eq_mp.ensures.gives h k t (nameless.conjunction s t) (subst (λ (u : Nameless). Shows c.in-Ok-by_theorem.equation.theorem h u) path at_images) second)
+    given-derives room c.eq_mp_known.result (h ++ k) (nameless.conjunction s t)
+    (c.eq_mp_known.ensures.gives h k t (nameless.conjunction s t) (subst (λ (u : Nameless). Shows c.in-Ok-by_theorem.equation.theorem h u) path at_images) second)
 
 pub by_theorem-requires-clause-known : goal.by_theorem-requires-clause-known
 by_theorem-requires-clause-known c =

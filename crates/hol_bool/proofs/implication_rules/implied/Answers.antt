@@ -8,6 +8,7 @@ use Rattle.hol_model.proofs.Terms.Images.{image-equation}
 use Rattle.hol_equal.specs.Room.{FitsIf}
 use Rattle.hol_equal.specs.Sequents.{Shows, DerivesIf}
 use Rattle.hol_bool.specs.PreludeInstances.{LeadsTo, at_p_q}
+use Rattle.hol_equal.proofs.StepLemmas.{equation-fits}
 use Rattle.hol_equal.proofs.CutLemmas.{right-names, given-derives}
 use Rattle.hol_bool.proofs.RoomLemmas.{equation-is, equation-past}
 use Rattle.hol_bool.proofs.ConjunctionAnswers.{mp_equation, mp-leads}
@@ -40,13 +41,22 @@ returns-in-Err-by_theorem-clause-derives c h k s room first second fits =
     subst (λ (u : NamedTerm). LeadsTo theory 26 terms room (image a) (image u) → DerivesIf room (Err c.in-Err-by_theorem.fault) k (image u)) stated_is
     (λ l. c.in-Err-by_theorem.ensures.derives k (image a) room l (subst (λ (u : Nameless). Shows c.args.second.now.theorem k u) (sym second.concludes) second)) leads
 
+pub eq_mp_known-requires-clause-fits : goal.eq_mp_known-requires-clause-fits
+eq_mp_known-requires-clause-fits c =
+    let whole = c.args.first.now.theorem.conclusion in
+    let b = c.args.consequent.now in
+    let zero = c.conclusion_of-whole.ensures in
+    let stated_is =
+    equation-is c.in-Ok.stated whole b c.conclusion_of-whole.result.now b zero.formula.typed c.requires.consequent.typed zero.value refl c.in-Ok.ensures in
+    equation-fits c.in-Ok-by_theorem.equation.theorem c.args.first.now.theorem b zero.formula.typed (c.in-Ok-by_theorem.ensures.names ∙ stated_is)
+
 pub returns-clause-names : goal.returns-clause-names
 returns-clause-names c =
     let whole = c.args.first.now.theorem.conclusion in
     let b = c.args.consequent.now in
     let zero = c.conclusion_of-whole.ensures in
     let stated_is = equation-is c.in-Ok.stated whole b c.conclusion_of-whole.result.now b zero.formula.typed c.requires.consequent.typed zero.value refl c.in-Ok.ensures in
-    right-names c.eq_mp.result c.in-Ok-by_theorem.equation.theorem.conclusion whole b zero.formula.typed (c.in-Ok-by_theorem.ensures.names ∙ stated_is) c.eq_mp.ensures.names
+    right-names c.eq_mp_known.result c.in-Ok-by_theorem.equation.theorem.conclusion whole b zero.formula.typed (c.in-Ok-by_theorem.ensures.names ∙ stated_is) c.eq_mp_known.ensures.names
 
 pub returns-clause-derives : goal.returns-clause-derives
 returns-clause-derives c h k s room first second fits =
@@ -67,10 +77,9 @@ returns-clause-derives c h k s room first second fits =
     (λ l. c.in-Ok-by_theorem.ensures.derives k (image a) room l (subst (λ (u : Nameless). Shows c.args.second.now.theorem k u) (sym second.concludes) second)) leads in
     let at_images : Shows c.in-Ok-by_theorem.equation.theorem k (mp_equation s (image b)) =
     subst (λ (u : Nameless). Shows c.in-Ok-by_theorem.equation.theorem k u)
-    (image-equation whole b bool_type zero.formula.typed
-    ∙ ap (λ (u : Nameless). nameless_equation bool_type u (image b)) first.concludes) equation_shown in
-    given-derives room c.eq_mp.result (k ++ h) (image b)
-    (c.eq_mp.ensures.gives k h (nameless.implication s (image b)) (image b) at_images first)
+    (image-equation whole b bool_type zero.formula.typed ∙ ap (λ (u : Nameless). nameless_equation bool_type u (image b)) first.concludes) equation_shown in
+    given-derives room c.eq_mp_known.result (k ++ h) (image b)
+    (c.eq_mp_known.ensures.gives k h (nameless.implication s (image b)) (image b) at_images first)
 
 pub by_theorem-requires-clause-known : goal.by_theorem-requires-clause-known
 by_theorem-requires-clause-known c =

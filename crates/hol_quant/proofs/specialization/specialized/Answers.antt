@@ -13,7 +13,7 @@ use Rattle.hol_kernel.proofs.RuleLemmas.{known_term}
 use Rattle.hol_journal.proofs.GrowthLemmas.{journals-grow}
 use Rattle.hol_equal.specs.Sequents.{Shows}
 use Rattle.hol_equal.specs.Conversions.{closed, conversion_fits}
-use Rattle.hol_equal.proofs.StepLemmas.{no_unknown}
+use Rattle.hol_equal.proofs.StepLemmas.{no_unknown, eq_mp-fits}
 use Rattle.hol_equal.proofs.Sizes.{past-room}
 use Rattle.hol_equal.proofs.CutLemmas.{shows-itself, given-derives}
 use Rattle.hol_quant.specs.PredicateLemmas.{applied, over_predicate, lemma_fits}
@@ -126,9 +126,39 @@ returns-in-Err-converted_known-clause-outcome c =
     (c.in-Err-converted_known.ensures.derives at.name at.ty bool_type body at.function_is at.binder_is at.body_typed start.typed redex_none)
     (spec-conversion-within theory term premise function binder body at start.typed))
 
-pub eq_mp-requires-clause-second : goal.eq_mp-requires-clause-second
-eq_mp-requires-clause-second c =
+pub eq_mp_known-requires-clause-second : goal.eq_mp_known-requires-clause-second
+eq_mp_known-requires-clause-second c =
     journals-grow.stays c.by_predicate_lemma.new.recorder c.converted_known.new.recorder c.in-Ok.redex c.in-Ok-converted_known.ensures.continues.grown c.in-Ok.ensures.continues.held.made
+
+pub eq_mp_known-requires-clause-fits : goal.eq_mp_known-requires-clause-fits
+eq_mp_known-requires-clause-fits c =
+    let journal = c.args.recorder.now in
+    let theory = journal.theory in
+    let term = c.args.term.now in
+    let premise = c.args.premise.now.theorem in
+    let function = c.in-Some.parts.predicate.now in
+    let binder = c.in-Some.parts.binder.now in
+    let body = c.in-Some.parts.body.now in
+    let start =
+    spec-start journal c.theory_is_legal.ensures c.args.premise.now c.requires.premise c.thm.result.now c.thm.ensures c.concl-formula.ensures.theorem c.requires.generic term c.concl-formula.result.now
+    c.in-Some.parts.quantifier.now function binder body c.concl-formula.ensures.value c.in-Some.ensures.whole c.in-Some.ensures.named c.in-Some.ensures.abstraction
+    c.ty.result.now c.ty-2.result.now c.ty.ensures c.ty-2.ensures (c.eq.ensures.same.0 c.if-not-eq.false) in
+    let at = start.at in
+    let none = sym (rw c.theory.ensures at c.in-None.ensures) in
+    let fits = list_all is_roomy (small theory term premise function binder body at start.typed) in
+    let term_known = known_term theory term at.ty none start.typed in
+    let function_known = subst (λ (t : Nameless). IsKnown theory t (predicate at.ty)) (sym (function_image theory term premise function binder body at start.typed)) at.function_known in
+    let premise_shows = subst (λ (t : Nameless). Shows premise (images premise) t) (sym (premise-at theory term premise function binder body at start.typed)) (shows-itself premise) in
+    let redex = subst (λ (t : Nameless). Shows c.in-Ok.redex.theorem (images premise) t) (redex-at theory term premise function binder body at start.typed)
+    (c.in-Ok.ensures.derives at.ty function_known term_known (images premise) (over_predicate forall_name) applied c.requires.shows premise_shows) in
+    let later : c.by_predicate_lemma.new.recorder.theory ≡ theory = c.in-Ok.ensures.continues.theory in
+    let redex_none = subst (λ (th : Theory). first_unknown th (combination (abstraction at.name at.ty body) term) ≡ None) (sym later)
+    (no_unknown theory (combination (abstraction at.name at.ty body) term) bool_type
+    (subst (λ (t : Nameless). IsKnown theory (app t (image term)) bool_type) (sym (image-abstraction at.name at.ty body)) (app-known theory at.ty bool_type
+    (closed at.name at.ty body) (image term) at.function_known term_known))) in
+    let result = specialized_body theory term premise function binder body at start.typed in
+    let equation = c.in-Ok-converted_known.ensures.derives at.name at.ty bool_type body at.function_is at.binder_is at.body_typed start.typed redex_none in
+    eq_mp-fits c.in-Ok-converted_known.equation.theorem c.in-Ok.redex.theorem [] (images premise) (app (closed at.name at.ty body) (image term)) result equation redex
 
 pub returns-clause-outcome : goal.returns-clause-outcome
 returns-clause-outcome c =
@@ -158,5 +188,5 @@ returns-clause-outcome c =
     (app-known theory at.ty bool_type (closed at.name at.ty body) (image term) at.function_known term_known))) in
     let result = specialized_body theory term premise function binder body at start.typed in
     let equation = c.in-Ok-converted_known.ensures.derives at.name at.ty bool_type body at.function_is at.binder_is at.body_typed start.typed redex_none in
-    spec-answers theory term premise function binder body at start.typed c.eq_mp.result none
-    (given-derives fits c.eq_mp.result (images premise) result (c.eq_mp.ensures.gives [] (images premise) (app (closed at.name at.ty body) (image term)) result equation redex))
+    spec-answers theory term premise function binder body at start.typed c.eq_mp_known.result none
+    (given-derives fits c.eq_mp_known.result (images premise) result (c.eq_mp_known.ensures.gives [] (images premise) (app (closed at.name at.ty body) (image term)) result equation redex))

@@ -1,0 +1,141 @@
+// Formulas taken apart and put together.
+
+use hol_model::Fault;
+use hol_terms::Term;
+use hol_types::Ty;
+use std::alloc::Global;
+
+/// The outermost connective of a formula and what it joins, from left to right; a quantifier with its variable, which is free in
+/// the body that stands behind it.
+#[derive(Clone, Copy)]
+pub enum Formula<'a> {
+    Not(&'a Term),
+    And(&'a Term, &'a Term),
+    Or(&'a Term, &'a Term),
+    Implies(&'a Term, &'a Term),
+    /// An equation of two formulas.
+    Iff(&'a Term, &'a Term),
+    ForAll(&'a Term, &'a Term),
+    Exists(&'a Term, &'a Term),
+    /// Every other term; also a quantifier of what is no abstraction.
+    Atom,
+}
+
+/// The formula by its outermost connective.
+pub fn dest_formula(term: &Term) -> Formula<'_> {
+    let Some((function, argument)) = term.dest_comb() else {
+        return Formula::Atom;
+    };
+    if let Some((name, _)) = function.dest_const() {
+        return applied(name, argument);
+    }
+    let Some((head, left)) = function.dest_comb() else {
+        return Formula::Atom;
+    };
+    match head.dest_const() {
+        Some((name, _)) => joined(name, left, argument),
+        None => Formula::Atom,
+    }
+}
+
+// A constant applied to one argument.
+fn applied<'a>(name: &str, argument: &'a Term) -> Formula<'a> {
+    if name == "~" {
+        return Formula::Not(argument);
+    }
+    match argument.dest_abs() {
+        Some((variable, body)) => quantified(name, variable, body),
+        None => Formula::Atom,
+    }
+}
+
+// A constant applied to an abstraction.
+fn quantified<'a>(name: &str, variable: &'a Term, body: &'a Term) -> Formula<'a> {
+    match name {
+        "!" => Formula::ForAll(variable, body),
+        "?" => Formula::Exists(variable, body),
+        _ => Formula::Atom,
+    }
+}
+
+// A constant applied to two arguments.
+fn joined<'a>(name: &str, left: &'a Term, right: &'a Term) -> Formula<'a> {
+    match name {
+        "/\\" => Formula::And(left, right),
+        "\\/" => Formula::Or(left, right),
+        "==>" => Formula::Implies(left, right),
+        "=" if left.ty().is_bool() => Formula::Iff(left, right),
+        _ => Formula::Atom,
+    }
+}
+
+/// The sides of `p ==> q`.
+pub fn dest_imp(term: &Term) -> Option<(&Term, &Term)> {
+    dest_infix(term, "==>")
+}
+
+/// The sides of `s = t`, also of an equation of formulas.
+pub fn dest_eq(term: &Term) -> Option<(&Term, &Term)> {
+    dest_infix(term, "=")
+}
+
+// What this constant joins.
+fn dest_infix<'a>(term: &'a Term, infix: &str) -> Option<(&'a Term, &'a Term)> {
+    let (function, right) = term.dest_comb()?;
+    let (head, left) = function.dest_comb()?;
+    let (name, _) = head.dest_const()?;
+    if name == infix {
+        Some((left, right))
+    } else {
+        None
+    }
+}
+
+/// `F`. Refused: Memory.
+pub fn falsity(alloc: Global) -> Result<Term, Fault> {
+    Term::mk_const(alloc, "F", &Ty::boolean(alloc)?)
+}
+
+/// `~p`. Refused: TypeMismatch unless `p` is a formula, TooLarge, Memory.
+pub fn mk_neg(alloc: Global, p: &Term) -> Result<Term, Fault> {
+    let boolean = Ty::boolean(alloc)?;
+    let not = Term::mk_const(alloc, "~", &Ty::fun(alloc, &boolean, &boolean)?)?;
+    Term::mk_comb(alloc, &not, p)
+}
+
+/// `p /\ q`. Refused: TypeMismatch unless both are formulas, TooLarge, Memory.
+pub fn mk_conj(alloc: Global, p: &Term, q: &Term) -> Result<Term, Fault> {
+    mk_infix(alloc, "/\\", p, q)
+}
+
+/// `p ==> q`. Refused: TypeMismatch unless both are formulas, TooLarge, Memory.
+pub fn mk_imp(alloc: Global, p: &Term, q: &Term) -> Result<Term, Fault> {
+    mk_infix(alloc, "==>", p, q)
+}
+
+// Two formulas joined by a constant.
+fn mk_infix(alloc: Global, infix: &str, p: &Term, q: &Term) -> Result<Term, Fault> {
+    let boolean = Ty::boolean(alloc)?;
+    let unary = Ty::fun(alloc, &boolean, &boolean)?;
+    let head = Term::mk_const(alloc, infix, &Ty::fun(alloc, &boolean, &unary)?)?;
+    let applied = Term::mk_comb(alloc, &head, p)?;
+    Term::mk_comb(alloc, &applied, q)
+}
+
+/// `!x. p`. Refused: NotVariable, TypeMismatch unless `p` is a formula, TooLarge, Memory.
+pub fn mk_forall(alloc: Global, variable: &Term, body: &Term) -> Result<Term, Fault> {
+    mk_binder(alloc, "!", variable, body)
+}
+
+/// `?x. p`. Refused: NotVariable, TypeMismatch unless `p` is a formula, TooLarge, Memory.
+pub fn mk_exists(alloc: Global, variable: &Term, body: &Term) -> Result<Term, Fault> {
+    mk_binder(alloc, "?", variable, body)
+}
+
+// A quantifier of a variable over a formula.
+fn mk_binder(alloc: Global, binder: &str, variable: &Term, body: &Term) -> Result<Term, Fault> {
+    let boolean = Ty::boolean(alloc)?;
+    let predicate = Ty::fun(alloc, variable.ty(), &boolean)?;
+    let head = Term::mk_const(alloc, binder, &Ty::fun(alloc, &predicate, &boolean)?)?;
+    Term::mk_comb(alloc, &head, &Term::mk_abs(alloc, variable, body)?)
+}

@@ -1,0 +1,89 @@
+// MESON_TAC.
+
+use crate::rebuilding::rebuilt;
+use crate::splitting::split;
+use hol_host::HostFail;
+use hol_just::{Goal, Just, Step, named, splice};
+use hol_tactics_forms::{assume, ccontr, falsity, goal_frees, mk_neg, refute, to_none};
+use hol_tactics_search::{Problem, Symbol, TRIES, add_equality, find_refutation};
+use hol_terms::Term;
+use hol_types::Ty;
+use std::alloc::Global;
+
+/// ASM_MESON_TAC: no subgoal, where the goal follows from its assumptions by first-order reasoning with equality. Theorems are brought
+/// into the goal by MP_TAC. The goal is split into as many as 300. Of each the assumptions and the denied conclusion are made to clauses,
+/// in which a witness stands for what there is, and refuted by model elimination: by a first clause without affirmed literals, and each
+/// subgoal by one above it or by a clause, with iterative deepening over 1 to 59 inferences, and 4,000,000 tries for all goals. Terms are
+/// first order: what is applied or abstracted is matched as it stands. Where nothing is found it fails.
+pub fn meson(alloc: Global, goal: &Goal) -> Result<Step, HostFail> {
+    let Step { goals, just } = split(alloc, goal)?;
+    let mut parts = Vec::new(alloc);
+    let mut tries = TRIES;
+    for goal in &goals {
+        let just = refuted(alloc, goal, &mut tries)?;
+        parts.push(to_none(alloc, just))?;
+    }
+    Ok(to_none(alloc, splice(alloc, &just, &parts)?))
+}
+
+// The justification of a goal without subgoals.
+fn refuted(alloc: Global, goal: &Goal, tries: &mut u32) -> Result<Just, HostFail> {
+    let mut problem = Problem::new(alloc);
+    give_goal(alloc, &mut problem, goal)?;
+    let falsity = falsity_of(alloc, &problem, goal, tries)?;
+    Ok(ccontr(alloc, &goal.concl, falsity)?)
+}
+
+// Adds the assumptions and the denied conclusion, with what holds of equality, of `T` and of `F`.
+fn give_goal(alloc: Global, problem: &mut Problem, goal: &Goal) -> Result<(), HostFail> {
+    for assumption in &goal.asms {
+        problem.give(alloc, assumption.copy(alloc)?, None)?;
+    }
+    problem.give(alloc, mk_neg(alloc, &goal.concl)?, None)?;
+    add_equality(alloc, problem)?;
+    add_constants(alloc, problem)
+}
+
+// `F`, from the assumptions and the denied conclusion.
+fn falsity_of(
+    alloc: Global,
+    problem: &Problem,
+    goal: &Goal,
+    tries: &mut u32,
+) -> Result<Just, HostFail> {
+    let found = find_refutation(alloc, problem, tries)?;
+    rebuilt(alloc, problem, &found, goal_frees(alloc, goal)?)
+}
+
+// Adds that `T` holds and `F` does not, where they occur.
+fn add_constants(alloc: Global, problem: &mut Problem) -> Result<(), HostFail> {
+    if occurs(problem, "T") {
+        let truth = Term::mk_const(alloc, "T", &Ty::boolean(alloc)?)?;
+        problem.give(alloc, truth, Some(named(alloc, "TRUTH")?))?;
+    }
+    if occurs(problem, "F") {
+        let falsity = falsity(alloc)?;
+        let proof = refute(alloc, &falsity, assume(alloc, &falsity)?)?;
+        problem.give(alloc, mk_neg(alloc, &falsity)?, Some(proof))?;
+    }
+    Ok(())
+}
+
+// Whether the constant of this name is a symbol of the problem.
+fn occurs(problem: &Problem, name: &str) -> bool {
+    for symbol in problem.terms.symbols() {
+        if let Symbol::Known { term, .. } = symbol {
+            if is_constant(term, name) {
+                return true;
+            }
+        }
+    }
+    false
+}
+
+fn is_constant(term: &Term, name: &str) -> bool {
+    match term.dest_const() {
+        Some((other, _)) => other == name,
+        None => false,
+    }
+}

@@ -1,0 +1,308 @@
+// Variables that stand for witnesses, and why there are such values.
+
+use hol_alpha::aconv;
+use hol_host::HostFail;
+use hol_just::{Just, Rule, step};
+use hol_model::Fault;
+use hol_subst::vsubst;
+use hol_tactics_forms::{
+    assume, ccontr, contradiction, disch, excluded_middle, exists, fresh, mk_exists, mk_imp, mk_neg,
+};
+use hol_terms::{Term, free_in};
+use hol_types::Ty;
+use std::alloc::Global;
+
+/// `?x. p` or `!x. p`, with x and p.
+#[derive(Clone, Copy)]
+pub(crate) struct Quantified<'a> {
+    pub(crate) formula: &'a Term,
+    pub(crate) variable: &'a Term,
+    pub(crate) body: &'a Term,
+}
+
+impl<'a> Quantified<'a> {
+    /// p at a value of x.
+    pub(crate) fn body_at(&self, alloc: Global, value: &Term) -> Result<Term, Fault> {
+        let theta = [(value.copy(alloc)?, self.variable.copy(alloc)?)];
+        vsubst(alloc, &theta, self.body)
+    }
+}
+
+/// What is supposed of a witness v: `(?x. p) ==> p[v/x]`, or `p[v/x] ==> !x. p`.
+#[derive(Drop)]
+pub(crate) struct Supposed {
+    witness: usize,
+    variable: Term,
+    formula: Term,
+    is_existential: bool,
+    /// `p[v/x]`, and all of it.
+    pub(crate) body_at: Term,
+    pub(crate) hypothesis: Term,
+}
+
+// A symbol for a witness with values of its parameters, and the variable that stands for this.
+#[derive(Drop)]
+struct Witness {
+    symbol: usize,
+    parameters: Vec<Term>,
+    variable: Term,
+}
+
+/// The witnesses of a refutation.
+#[derive(Drop)]
+pub(crate) struct Witnesses {
+    all: Vec<Witness>,
+    supposed: Vec<Supposed>,
+    // The variables that are used.
+    avoid: Vec<Term>,
+    // A variable for each type at which any value serves.
+    free: Vec<Term>,
+}
+
+impl Witness {
+    fn is_of(&self, symbol: usize, parameters: &[Term]) -> bool {
+        self.symbol == symbol && are_aconv(&self.parameters, parameters)
+    }
+}
+
+// Whether the lists are the same up to the names of bound variables.
+fn are_aconv(first: &[Term], second: &[Term]) -> bool {
+    first.len() == second.len() && first.iter().zip(second).all(|(a, b)| aconv(a, b))
+}
+
+impl Witnesses {
+    /// None yet; their variables will be none of these.
+    pub(crate) fn new(alloc: Global, avoid: Vec<Term>) -> Witnesses {
+        Witnesses {
+            all: Vec::new(alloc),
+            supposed: Vec::new(alloc),
+            avoid,
+            free: Vec::new(alloc),
+        }
+    }
+
+    /// A variable for any value of a type, for each type one.
+    pub(crate) fn any(&mut self, alloc: Global, ty: &Ty) -> Result<Term, HostFail> {
+        for variable in &self.free {
+            if variable.ty().eq(ty) {
+                return Ok(variable.copy(alloc)?);
+            }
+        }
+        let named = Term::mk_var(alloc, "any", ty)?;
+        let variable = fresh(alloc, &mut self.avoid, &named)?;
+        self.free.push(variable.copy(alloc)?)?;
+        Ok(variable)
+    }
+
+    /// The number of the witness of this symbol for these parameters. Its variable has this one's name, or one with primes.
+    pub(crate) fn number(
+        &mut self,
+        alloc: Global,
+        symbol: usize,
+        parameters: Vec<Term>,
+        named: &Term,
+    ) -> Result<usize, HostFail> {
+        for (number, witness) in self.all.iter().enumerate() {
+            if witness.is_of(symbol, &parameters) {
+                return Ok(number);
+            }
+        }
+        let variable = fresh(alloc, &mut self.avoid, named)?;
+        let number = self.all.len();
+        self.all.push(Witness {
+            symbol,
+            parameters,
+            variable,
+        })?;
+        Ok(number)
+    }
+
+    /// The variable of the witness of this number.
+    pub(crate) fn variable(&self, alloc: Global, number: usize) -> Result<Term, HostFail> {
+        match self.all.get(number) {
+            Some(witness) => Ok(witness.variable.copy(alloc)?),
+            None => Err(HostFail),
+        }
+    }
+
+    /// The place of what is supposed of a witness for a quantified formula.
+    pub(crate) fn suppose(
+        &mut self,
+        alloc: Global,
+        witness: usize,
+        of: Quantified<'_>,
+        is_existential: bool,
+    ) -> Result<usize, HostFail> {
+        if let Some(place) = self.place_of(witness) {
+            return Ok(place);
+        }
+        let variable = self.variable(alloc, witness)?;
+        let place = self.supposed.len();
+        self.supposed.push(Supposed::new(alloc, witness, variable, of, is_existential)?)?;
+        Ok(place)
+    }
+
+    /// What is supposed at a place.
+    pub(crate) fn supposed(&self, place: usize) -> Option<&Supposed> {
+        self.supposed.get(place)
+    }
+
+    fn place_of(&self, witness: usize) -> Option<usize> {
+        self.supposed
+            .iter()
+            .position(|supposed| supposed.witness == witness)
+    }
+
+    /// The justification of a formula without what is supposed of the witnesses: first of one that no other supposition names.
+    pub(crate) fn discharged(&self, alloc: Global, of: Just) -> Result<Just, HostFail> {
+        let mut just = of;
+        let mut is_left = Vec::new(alloc);
+        for _ in &self.supposed {
+            is_left.push(true)?;
+        }
+        for _ in 0..self.supposed.len() {
+            let Some(last) = self.last(&is_left) else {
+                return Err(HostFail);
+            };
+            just = self.without(alloc, last, just)?;
+            if let Some(flag) = is_left.get_mut(last) {
+                *flag = false;
+            }
+        }
+        Ok(just)
+    }
+
+    // The place of a supposition that is left whose witness no other that is left names.
+    fn last(&self, is_left: &[bool]) -> Option<usize> {
+        for (at, supposed) in self.supposed.iter().enumerate() {
+            if is_at(is_left, at) && !self.is_named(is_left, at, &supposed.variable) {
+                return Some(at);
+            }
+        }
+        None
+    }
+
+    // Whether a supposition that is left, but this one, names the variable.
+    fn is_named(&self, is_left: &[bool], but: usize, variable: &Term) -> bool {
+        for (at, supposed) in self.supposed.iter().enumerate() {
+            if at != but && is_at(is_left, at) && free_in(variable, &supposed.hypothesis) {
+                return true;
+            }
+        }
+        false
+    }
+
+    // The justification without the supposition at this place.
+    fn without(&self, alloc: Global, at: usize, just: Just) -> Result<Just, HostFail> {
+        let Some(supposed) = self.supposed.get(at) else {
+            return Err(HostFail);
+        };
+        let some = supposed.witnessed(alloc)?;
+        let variable = supposed.variable.copy(alloc)?;
+        Ok(step(alloc, Rule::Choose(variable), &[some, just])?)
+    }
+}
+
+fn is_at(flags: &[bool], at: usize) -> bool {
+    match flags.get(at) {
+        Some(flag) => *flag,
+        None => false,
+    }
+}
+
+impl Supposed {
+    fn new(
+        alloc: Global,
+        witness: usize,
+        variable: Term,
+        of: Quantified<'_>,
+        is_existential: bool,
+    ) -> Result<Supposed, Fault> {
+        let body_at = of.body_at(alloc, &variable)?;
+        let formula = of.formula.copy(alloc)?;
+        let hypothesis = if is_existential {
+            mk_imp(alloc, &formula, &body_at)?
+        } else {
+            mk_imp(alloc, &body_at, &formula)?
+        };
+        Ok(Supposed {
+            witness,
+            variable,
+            formula,
+            is_existential,
+            body_at,
+            hypothesis,
+        })
+    }
+
+    // That there is a value for which it holds.
+    fn witnessed(&self, alloc: Global) -> Result<Just, Fault> {
+        let claim = mk_exists(alloc, &self.variable, &self.hypothesis)?;
+        if self.is_existential {
+            self.for_existential(alloc, &claim)
+        } else {
+            self.for_universal(alloc, &claim)
+        }
+    }
+
+    // The claim, of the supposition at v itself.
+    fn claimed(&self, alloc: Global, claim: &Term, supposition: Just) -> Result<Just, Fault> {
+        exists(alloc, claim, &self.variable, supposition)
+    }
+
+    // `?v. (?x. p) ==> p[v/x]`: by cases of `?x. p`.
+    fn for_existential(&self, alloc: Global, claim: &Term) -> Result<Just, Fault> {
+        let holds = self.claim_if_some(alloc, claim)?;
+        let fails = self.claim_if_none(alloc, claim)?;
+        let middle = excluded_middle(alloc, &self.formula)?;
+        step(alloc, Rule::DisjCases, &[middle, holds, fails])
+    }
+
+    // The claim, from `?x. p`.
+    fn claim_if_some(&self, alloc: Global, claim: &Term) -> Result<Just, Fault> {
+        let implies = disch(alloc, &self.formula, assume(alloc, &self.body_at)?)?;
+        let claimed = self.claimed(alloc, claim, implies)?;
+        let some = assume(alloc, &self.formula)?;
+        step(
+            alloc,
+            Rule::Choose(self.variable.copy(alloc)?),
+            &[some, claimed],
+        )
+    }
+
+    // The claim, from `~(?x. p)`.
+    fn claim_if_none(&self, alloc: Global, claim: &Term) -> Result<Just, Fault> {
+        let denied = assume(alloc, &mk_neg(alloc, &self.formula)?)?;
+        let absurd = contradiction(alloc, denied, assume(alloc, &self.formula)?)?;
+        let absurd = step(alloc, Rule::Contr(self.body_at.copy(alloc)?), &[absurd])?;
+        let implies = disch(alloc, &self.formula, absurd)?;
+        self.claimed(alloc, claim, implies)
+    }
+
+    // `?v. p[v/x] ==> !x. p`: if it were denied, `!x. p` would hold, and any value would do.
+    fn for_universal(&self, alloc: Global, claim: &Term) -> Result<Just, Fault> {
+        let denied = mk_neg(alloc, claim)?;
+        let all = self.all_if_denied(alloc, claim, &denied)?;
+        let implies = disch(alloc, &self.body_at, all)?;
+        let claimed = self.claimed(alloc, claim, implies)?;
+        let clash = contradiction(alloc, assume(alloc, &denied)?, claimed)?;
+        ccontr(alloc, claim, clash)
+    }
+
+    // `!x. p`, from the denied claim.
+    fn all_if_denied(&self, alloc: Global, claim: &Term, denied: &Term) -> Result<Just, Fault> {
+        let claimed = self.claim_if_not(alloc, claim)?;
+        let clash = contradiction(alloc, assume(alloc, denied)?, claimed)?;
+        let each = ccontr(alloc, &self.body_at, clash)?;
+        step(alloc, Rule::Gen(self.variable.copy(alloc)?), &[each])
+    }
+
+    // The claim, from `~p[v/x]`.
+    fn claim_if_not(&self, alloc: Global, claim: &Term) -> Result<Just, Fault> {
+        let denied = assume(alloc, &mk_neg(alloc, &self.body_at)?)?;
+        let absurd = contradiction(alloc, denied, assume(alloc, &self.body_at)?)?;
+        let absurd = step(alloc, Rule::Contr(self.formula.copy(alloc)?), &[absurd])?;
+        let implies = disch(alloc, &self.body_at, absurd)?;
+        self.claimed(alloc, claim, implies)
+    }
+}

@@ -1,0 +1,4 @@
+use Rattle.hol_taut_chains.proofs.shared.Parts.«+generalized».Given as goal
+
+abbrev pub decreases-generalized : goal.decreases-generalized
+decreases-generalized l = l.at
