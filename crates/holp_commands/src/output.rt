@@ -1,5 +1,5 @@
 // The standard output of a run.
-ghost use Rattle.std.specs.Prelude.{◌≡◌, false};
+ghost use Rattle.std.specs.Prelude.{◌≡◌, ◌≤◌, length, false, IfSome};
 
 use crate::refusals::Refusals;
 use hol_explain::Origin;
@@ -40,7 +40,8 @@ impl Output<'_> {
     // Writes what a view shows of a piece, where there is one, or the piece, and answers how much of the piece was taken. None: the
     // output has failed, or there is no memory.
     fn write(&mut self, piece: &[u8]) -> Option<usize>
-        ensures { self.new.failed ≡ self.old.failed }
+        ensures failed { self.new.failed ≡ self.old.failed }
+        ensures bound { IfSome result (λ taken. taken ≤ length piece.now) }
     {
         let Some(view) = &mut self.view else {
             return self.stdout.write(piece).ok();

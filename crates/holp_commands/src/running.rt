@@ -2,8 +2,8 @@
 ghost use Rattle.std.specs.Prelude.{◌≡◌, false};
 
 use crate::laws::logs_are_checked;
-use crate::output::Output;
 use crate::options::Options;
+use crate::output::Output;
 use crate::scripts::{Scripts, open_scripts, read_scripts};
 use hol_device_adapters::{FromRead, IntoCall, IntoWrite};
 use hol_explain::{Script, explain};
@@ -113,7 +113,11 @@ fn run_over<L: Sink>(
 }
 
 /// Runs scripts as one, and answers how many of their commands were refused.
-pub(crate) fn run_scripts(rt: &HostRuntime, names: &[&str], options: Options) -> Result<u64, Fault> {
+pub(crate) fn run_scripts(
+    rt: &HostRuntime,
+    names: &[&str],
+    options: Options,
+) -> Result<u64, Fault> {
     let opened = open_scripts(rt, names, options.explains)?;
     let scripts = read_scripts(rt, names, opened)?;
     let mut no_log = IntoWrite::new(Vec::new(rt.alloc()));
