@@ -1,12 +1,13 @@
-//! Messages that explain the refusals of a script, by a second walk over it: what is said is worked out in `hol_explain_hints`. They take
-//! no part in any promise: what a run prints, and how it ends, is told by `hol_script` alone.
+//! Messages that explain the refusals of a script, and records of its commands, by a walk of their own over it: what is said is worked
+//! out in `hol_explain_hints`. They take no part in any promise: what a run prints, and how it ends, is told by `hol_script` alone.
 #![tactic(auto)]
 
 mod message;
 mod origins;
+mod records;
 mod search;
 mod walk;
 
 pub use hol_script::Refused;
 pub use origins::{Origin, origin_of};
-pub use walk::{Script, explain, explain_refusal};
+pub use walk::{Script, explain, explain_refusal, write_records};

@@ -1,17 +1,18 @@
-// A script is run once more, and each refusal is explained.
+// A script is run once more, and each refusal is explained, or each command told.
 ghost use Rattle.std.specs.Prelude.{◌≡◌, ◌∷◌, [], false, IfErr, Contains, OnOk};
 ghost use Rattle.hol_model.specs.declared.fault.Fault.TheVariants.{Memory, WriteFault};
 ghost use Rattle.hol_script.specs.Managers.{IsManager};
 
 use crate::message::message_of;
 use crate::origins::{Origin, located};
+use crate::records::{Told, accepted_line, refused_line};
 use crate::search::Trial;
 use hol_device_io::write_all;
-use hol_explain_hints::{Known, NoMemory, Piece, Place, between, told, unfinished};
+use hol_explain_hints::{Known, NoMemory, Piece, Place, between, told, unended, unfinished};
 use hol_host::Refiners;
 use hol_model::{Fault, Sink};
 use hol_script::execute::execute;
-use hol_script::{Manager, Refused};
+use hol_script::{Manager, Printed, Refused};
 use hol_script_commands::cut::{cut, is_blank_text};
 use std::alloc::Global;
 
@@ -23,12 +24,32 @@ pub struct Script<'a> {
     pub host_names: &'a [String],
 }
 
-// A walk over a script, with the functions of a host.
+// A walk over a script, with the functions of a host: whether it tells each command by a record, or refused ones by a message.
 #[derive(Drop)]
 struct Walk<'a, H> {
     alloc: Global,
     script: &'a Script<'a>,
     host: &'a H,
+    makes_records: bool,
+}
+
+// What is written of a command, and whether it was refused.
+#[derive(Drop)]
+struct Answer {
+    text: Option<String>,
+    is_refused: bool,
+}
+
+impl<H> Walk<'_, H> {
+    // A command, as records tell it.
+    fn told<'a>(&'a self, piece: &'a Piece<'a>, place: &Place, mark: &'a [u8]) -> Told<'a> {
+        Told {
+            origins: self.script.origins,
+            piece,
+            place: *place,
+            mark,
+        }
+    }
 }
 
 // What is said of a refused command that begins at a place.
@@ -49,31 +70,61 @@ fn explained<H: Refiners>(
         piece,
     };
     let message = message_of(&trial, walk.script.host_names, known, manager, refused)?;
+    if walk.makes_records {
+        return refused_line(
+            walk.alloc,
+            &walk.told(piece, place, b";;"),
+            refused,
+            &message,
+        );
+    }
     let place = place.behind(between(piece.bytes, 0, message.at));
     let (file, here) = located(walk.script.origins, &place);
     told(walk.alloc, file, &here, &refused.fault, &message)
 }
 
-// Runs a command, and answers what is said of its refusal, if it is refused.
+// What is written of a command that is accepted, which is noted.
+fn noted<H: Refiners>(
+    walk: &Walk<'_, H>,
+    known: &mut Known,
+    piece: &Piece<'_>,
+    place: &Place,
+    printed: &Printed,
+) -> Result<Option<String>, NoMemory> {
+    known.learn(walk.alloc, piece)?;
+    if !walk.makes_records {
+        return Ok(None);
+    }
+    let line = accepted_line(walk.alloc, &walk.told(piece, place, b";;"), printed)?;
+    Ok(Some(line))
+}
+
+// Runs a command, and answers what is written of it.
 fn answer<H: Refiners>(
     walk: &Walk<'_, H>,
     known: &mut Known,
     manager: &mut Manager,
     bytes: &[u8],
     place: &Place,
-) -> Result<Option<String>, NoMemory>
+) -> Result<Answer, NoMemory>
     requires { IsManager manager.old }
     ensures { OnOk result (IsManager manager.new) }
 {
     let piece = Piece::new(walk.alloc, bytes)?;
     match execute(manager, walk.alloc, walk.host, bytes) {
-        Ok(_) => {
-            known.learn(walk.alloc, &piece)?;
-            Ok(None)
+        Ok(printed) => {
+            let text = noted(walk, known, &piece, place, &printed)?;
+            Ok(Answer {
+                text,
+                is_refused: false,
+            })
         }
         Err(refused) => {
             let text = explained(walk, known, manager, &piece, place, &refused)?;
-            Ok(Some(text))
+            Ok(Answer {
+                text: Some(text),
+                is_refused: true,
+            })
         }
     }
 }
@@ -107,7 +158,19 @@ fn write_told<W: Sink>(writer: &mut W, told: Result<String, NoMemory>) -> Result
     }
 }
 
-// Runs a command, and writes what is said of its refusal, if it is refused.
+// Writes a text, where there is one.
+fn write_any<W: Sink>(writer: &mut W, text: Option<String>) -> Result<(), Fault>
+    requires { W.has_failed writer.old ≡ false }
+    ensures unfailed { OnOk result (W.has_failed writer.new ≡ false) }
+    ensures refusals { IfErr result (Contains (WriteFault ∷ Memory ∷ [])) }
+{
+    match text {
+        Some(text) => write_told(writer, Ok(text)),
+        None => Ok(()),
+    }
+}
+
+// Runs a command, and writes what is told of it. Answers whether it was refused.
 fn explain_piece<W: Sink, H: Refiners>(
     walk: &Walk<'_, H>,
     writer: &mut W,
@@ -115,7 +178,7 @@ fn explain_piece<W: Sink, H: Refiners>(
     manager: &mut Manager,
     piece: &[u8],
     place: &Place,
-) -> Result<(), Fault>
+) -> Result<bool, Fault>
     requires unfailed { W.has_failed writer.old ≡ false }
     requires manager { IsManager manager.old }
     ensures unfailed { OnOk result (W.has_failed writer.new ≡ false) }
@@ -123,8 +186,10 @@ fn explain_piece<W: Sink, H: Refiners>(
     ensures refusals { IfErr result (Contains (WriteFault ∷ Memory ∷ [])) }
 {
     match answer(walk, known, manager, piece, place) {
-        Ok(Some(text)) => write_told(writer, Ok(text)),
-        Ok(None) => Ok(()),
+        Ok(Answer { text, is_refused }) => match write_any(writer, text) {
+            Ok(()) => Ok(is_refused),
+            Err(fault) => Err(fault),
+        },
         Err(_) => Err(Fault::Memory),
     }
 }
@@ -135,39 +200,54 @@ fn unfinished_rest<H: Refiners>(
     rest: &[u8],
     place: &Place,
 ) -> Result<String, NoMemory> {
-    let start = Piece::new(walk.alloc, rest)?.start(0);
+    let piece = Piece::new(walk.alloc, rest)?;
+    let start = piece.start(0);
+    if walk.makes_records {
+        let message = unended(walk.alloc, start)?;
+        let refused = Refused::plain(Fault::Syntax);
+        return refused_line(
+            walk.alloc,
+            &walk.told(&piece, place, b""),
+            &refused,
+            &message,
+        );
+    }
     let begin = place.behind(between(rest, 0, start));
     let (file, here) = located(walk.script.origins, &begin);
     unfinished(walk.alloc, file, between(rest, start, rest.len()), &here)
 }
 
-// Writes what is said of a rest without a mark behind it, where it holds more than white space.
+// Writes what is told of a rest without a mark behind it, where it holds more than white space. Answers whether it does.
 fn explain_rest<W: Sink, H: Refiners>(
     walk: &Walk<'_, H>,
     writer: &mut W,
     rest: &[u8],
     place: &Place,
-) -> Result<(), Fault>
+) -> Result<bool, Fault>
     requires { W.has_failed writer.old ≡ false }
     ensures { IfErr result (Contains (WriteFault ∷ Memory ∷ [])) }
 {
     if is_blank_text(rest) {
-        return Ok(());
+        return Ok(false);
     }
-    write_told(writer, unfinished_rest(walk, rest, place))
+    match write_told(writer, unfinished_rest(walk, rest, place)) {
+        Ok(()) => Ok(true),
+        Err(fault) => Err(fault),
+    }
 }
 
-// Runs the commands of a script, and writes what is said of each that is refused.
+// Runs the commands of a script, and writes what is told of each. Answers how many were refused.
 fn explain_pieces<W: Sink, H: Refiners>(
     walk: &Walk<'_, H>,
     writer: &mut W,
     known: &mut Known,
     manager: &mut Manager,
-) -> Result<(), Fault>
+) -> Result<u64, Fault>
     requires unfailed { W.has_failed writer.old ≡ false }
     requires manager { IsManager manager.old }
     ensures { IfErr result (Contains (WriteFault ∷ Memory ∷ [])) }
 {
+    let mut refused = 0u64;
     let mut rest = walk.script.text;
     let mut place = Place::start();
     for _ in 0..walk.script.text.len() {
@@ -176,14 +256,31 @@ fn explain_pieces<W: Sink, H: Refiners>(
         };
         if !is_blank_text(piece) {
             match explain_piece(walk, writer, known, manager, piece, &place) {
-                Ok(()) => {}
+                Ok(is_refused) => refused = refused.saturating_add(is_refused as u64),
                 Err(fault) => return Err(fault),
             }
         }
         place = place.behind(piece).behind(b";;");
         rest = behind;
     }
-    explain_rest(walk, writer, rest, &place)
+    match explain_rest(walk, writer, rest, &place) {
+        Ok(is_refused) => Ok(refused.saturating_add(is_refused as u64)),
+        Err(fault) => Err(fault),
+    }
+}
+
+// Walks over a script, over a proof manager of its own.
+fn walk_over<W: Sink, H: Refiners>(walk: &Walk<'_, H>, writer: &mut W) -> Result<u64, Fault>
+    requires { W.has_failed writer.old ≡ false }
+    ensures { IfErr result (Contains (WriteFault ∷ Memory ∷ [])) }
+{
+    let Ok(mut known) = Known::new(walk.alloc) else {
+        return Err(Fault::Memory);
+    };
+    let Ok(mut manager) = Manager::new(walk.alloc) else {
+        return Err(Fault::Memory);
+    };
+    explain_pieces(walk, writer, &mut known, &mut manager)
 }
 
 /// Runs the commands of a script once more, over a proof manager of its own, and writes a message for each that is refused:
@@ -198,18 +295,38 @@ pub fn explain<W: Sink, H: Refiners>(
     requires { W.has_failed writer.old ≡ false }
     ensures { IfErr result (Contains (WriteFault ∷ Memory ∷ [])) }
 {
-    let Ok(mut known) = Known::new(alloc) else {
-        return Err(Fault::Memory);
-    };
-    let Ok(mut manager) = Manager::new(alloc) else {
-        return Err(Fault::Memory);
-    };
     let walk = Walk {
         alloc,
         script,
         host,
+        makes_records: false,
     };
-    explain_pieces(&walk, writer, &mut known, &mut manager)
+    match walk_over(&walk, writer) {
+        Ok(_refused) => Ok(()),
+        Err(fault) => Err(fault),
+    }
+}
+
+/// Runs the commands of a script over a proof manager of its own, and writes a line of JSON for each: its file, where it begins and
+/// where it ends (lines and columns from 1, columns in bytes), its first word, what a run prints for it (`text`), the open goals
+/// where it shows them, and its refusal with number, name, place and message. Answers how many were refused. Refused: Memory, and
+/// WriteFault where the sink failed.
+pub fn write_records<W: Sink, H: Refiners>(
+    alloc: Global,
+    script: &Script<'_>,
+    host: &H,
+    writer: &mut W,
+) -> Result<u64, Fault>
+    requires { W.has_failed writer.old ≡ false }
+    ensures { IfErr result (Contains (WriteFault ∷ Memory ∷ [])) }
+{
+    let walk = Walk {
+        alloc,
+        script,
+        host,
+        makes_records: true,
+    };
+    walk_over(&walk, writer)
 }
 
 /// What is said of the first command of a script, where that is refused so when a script begins. Refused: Memory.
@@ -223,6 +340,7 @@ pub fn explain_refusal<H: Refiners>(
         alloc,
         script,
         host,
+        makes_records: false,
     };
     match explained_first(&walk, refused) {
         Ok(text) => Ok(text),

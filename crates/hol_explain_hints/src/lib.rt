@@ -28,5 +28,5 @@ pub use goals::{Part, count_of_goals, of_part};
 pub use hol_explain_words::{Known, Message, NoMemory, Piece, between, given, no_command};
 pub use place::Place;
 pub use refused::{of_case, plain};
-pub use report::{told, unfinished};
+pub use report::{told, unended, unfinished};
 pub use span::Span;

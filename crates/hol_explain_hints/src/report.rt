@@ -22,6 +22,15 @@ pub fn told(
     Ok(text)
 }
 
+/// That no mark stands behind a rest, whose first word begins at a place.
+pub fn unended(alloc: Global, at: usize) -> Result<Message, NoMemory> {
+    Message::new(
+        alloc,
+        at,
+        "a command ends with `;;`, and here the script ends before one",
+    )
+}
+
 /// What is said of a rest without a mark behind it, which begins at a place.
 pub fn unfinished(
     alloc: Global,
@@ -31,10 +40,6 @@ pub fn unfinished(
 ) -> Result<String, NoMemory> {
     let piece = Piece::new(alloc, rest)?;
     let here = place.behind(between(rest, 0, piece.start(0)));
-    let message = Message::new(
-        alloc,
-        0,
-        "a command ends with `;;`, and here the script ends before one",
-    )?;
+    let message = unended(alloc, 0)?;
     told(alloc, file, &here, &Fault::Syntax, &message)
 }

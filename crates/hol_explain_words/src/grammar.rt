@@ -8,6 +8,7 @@ use std::alloc::Global;
 // Each line has a symbol and a word that may stand at it, and behind them the symbols that are wanted next. `#name`, `#number`,
 // `#quote`, `#unclosed` and `#end` are any word of that kind, and `#any` takes no word, where none of the others stands there.
 // What is expected at a symbol stands behind `#part`, or behind `#choice` where a message lists the words that may stand there.
+// A symbol whose words were passed over before stands behind `#also`.
 const GRAMMAR: &str = "\
 command #choice a command
 command thm name is_rule rule end
@@ -127,14 +128,17 @@ refiners ORELSE refiner refiners
 refiners THENL list refiners
 refiners #any
 closing_refiners #part `THEN`, `THENL`, `ORELSE` or `)`
+closing_refiners #also refiners
 closing_refiners )
 end_of_refiners #part `THEN`, `THENL`, `ORELSE` or the end of the command
+end_of_refiners #also refiners
 end_of_refiners #end
 list #part `[` and a list of refiners
 list [ members_or_none
 members_or_none ]
 members_or_none #any refiner refiners further_members
 further_members #part `THEN`, `THENL`, `ORELSE`, `;` or `]`
+further_members #also refiners
 further_members ; refiner refiners further_members
 further_members ]
 conversion #choice a conversion
@@ -296,6 +300,14 @@ pub(crate) fn expected(symbol: &str) -> &'static str {
 /// Whether a message lists the words that may stand at a symbol.
 pub(crate) fn is_choice(symbol: &str) -> bool {
     behind(symbol, "#choice").is_some()
+}
+
+/// The symbol whose words could stand at a symbol too.
+pub(crate) fn also_at(symbol: &str) -> &'static str {
+    match behind(symbol, "#also") {
+        Some(also) => also,
+        None => "",
+    }
 }
 
 /// Puts the words that may stand at a symbol at the end.

@@ -8,7 +8,7 @@ use hol_types::Ty;
 use std::alloc::Global;
 use strsim::osa_distance;
 
-/// What names stand for, and all names of each kind.
+/// What names stand for, all names of each kind, and those that refused commands would have made: each with the place behind it.
 #[derive(Drop)]
 pub struct Known {
     pub scope: Scope,
@@ -16,6 +16,8 @@ pub struct Known {
     pub constants: Vec<String>,
     pub variables: Vec<String>,
     pub types: Vec<String>,
+    pub lost_theorems: Vec<String>,
+    pub lost_names: Vec<String>,
 }
 
 // The theorems that are stored when a script begins.
@@ -57,6 +59,18 @@ pub(crate) fn push_name(
     Ok(())
 }
 
+// Puts a name, in two parts, and a place behind it at the end.
+fn push_lost(
+    alloc: Global,
+    lost: &mut Vec<String>,
+    name: (&str, &str),
+    place: &str,
+) -> Result<(), NoMemory> {
+    let (first, second) = name;
+    lost.push(format!(in alloc; "{first}{second} {place}")?)?;
+    Ok(())
+}
+
 /// Whether a name is one of these.
 pub fn is_among(names: &[String], name: &str) -> bool {
     for known in names {
@@ -79,6 +93,8 @@ impl Known {
             constants: Vec::new(alloc),
             variables: Vec::new(alloc),
             types: Vec::new(alloc),
+            lost_theorems: Vec::new(alloc),
+            lost_names: Vec::new(alloc),
         };
         known.learn_first(alloc)?;
         Ok(known)
@@ -152,6 +168,22 @@ impl Known {
         }
     }
 
+    /// A refused command, which stands at a place, would have made its names known.
+    pub fn miss(&mut self, alloc: Global, piece: &Piece<'_>, place: &str) -> Result<(), NoMemory> {
+        let name = piece.text(1);
+        match piece.text(0) {
+            "thm" | "save" => push_lost(alloc, &mut self.lost_theorems, (name, ""), place),
+            "var" | "newconst" | "newtype" => {
+                push_lost(alloc, &mut self.lost_names, (name, ""), place)
+            }
+            "def" => {
+                push_lost(alloc, &mut self.lost_names, (name, ""), place)?;
+                push_lost(alloc, &mut self.lost_theorems, (name, "_def"), place)
+            }
+            _ => Ok(()),
+        }
+    }
+
     /// Whether a name stands for a type.
     pub fn is_type(&self, name: &str) -> bool {
         is_type_variable(name.as_bytes()) || is_among(&self.types, name)
@@ -166,6 +198,22 @@ pub(crate) fn is_type_variable(name: &[u8]) -> bool {
     }
 }
 
+/// The place of the first command that would have made a name, where it was refused.
+pub(crate) fn place_lost<'a>(lost: &'a [String], name: &str) -> Option<&'a str> {
+    for line in lost {
+        let (known, place) = front(line.as_str());
+        if known == name {
+            return Some(place);
+        }
+    }
+    None
+}
+
+// Whether two names differ in the case of letters alone, and are longer than a letter.
+fn is_same_word(name: &str, other: &str) -> bool {
+    name.len() > 1 && name.eq_ignore_ascii_case(other)
+}
+
 // How far a name may be from another that is near to it.
 fn reach(name: &str) -> usize {
     match name.len() {
@@ -175,7 +223,7 @@ fn reach(name: &str) -> usize {
     }
 }
 
-/// The first of the names that are nearest to a name, where one is near.
+/// The first of the names that differ from a name in case alone, or of those that are nearest to it, where one is near.
 pub fn nearest<'a>(
     alloc: Global,
     first: &'a [String],
@@ -189,6 +237,9 @@ pub fn nearest<'a>(
     let mut least = reach(name).saturating_add(1);
     for known in first.iter().chain(second) {
         let candidate = known.as_str();
+        if is_same_word(name, candidate) {
+            return Ok(Some(candidate));
+        }
         if candidate.len() <= NAME_LENGTH {
             let distance = osa_distance(alloc, name, candidate)?;
             if distance < least {

@@ -14,8 +14,9 @@ mod stops;
 mod tables;
 
 pub use grammar::{end_of_conversion, is_before_theorem, is_refiner};
+pub use habits::absent;
 pub use known::{Known, given, is_among};
-pub use messages::{Message, Unknown, unknown_name};
+pub use messages::{Message, Unknown, push_unknown};
 pub use no_memory::NoMemory;
 pub use piece::{Piece, between, text_of};
 pub use scanner::{Kind, Word};

@@ -1,5 +1,5 @@
 // Messages, and the sentences that tell of names.
-use crate::known::nearest;
+use crate::known::{nearest, place_lost};
 use crate::no_memory::NoMemory;
 use std::alloc::Global;
 
@@ -11,6 +11,14 @@ pub struct Message {
 }
 
 impl Message {
+    /// A message that says nothing yet.
+    pub fn empty(alloc: Global) -> Message {
+        Message {
+            at: 0,
+            text: String::new(alloc),
+        }
+    }
+
     /// A sentence on what stands at an offset.
     pub fn new(alloc: Global, at: usize, text: &str) -> Result<Message, NoMemory> {
         Ok(Message {
@@ -36,18 +44,37 @@ pub struct Unknown<'a> {
     pub name: &'a str,
     pub first: &'a [String],
     pub second: &'a [String],
+    /// The names that refused commands would have made.
+    pub lost: &'a [String],
     /// What is said where no known name is near.
     pub otherwise: &'a str,
 }
 
-/// That a name is unknown, and the nearest that is known.
-pub fn unknown_name(alloc: Global, at: usize, unknown: &Unknown<'_>) -> Result<Message, NoMemory> {
+// What is said behind an unknown name, in three parts.
+fn behind<'a>(
+    alloc: Global,
+    unknown: &Unknown<'a>,
+) -> Result<(&'a str, &'a str, &'static str), NoMemory> {
+    if let Some(place) = place_lost(unknown.lost, unknown.name) {
+        return Ok((": ", place, ", which would have made it, was refused"));
+    }
+    Ok(
+        match nearest(alloc, unknown.first, unknown.second, unknown.name)? {
+            Some(known) => ("; the nearest known name is `", known, "`"),
+            None => (unknown.otherwise, "", ""),
+        },
+    )
+}
+
+/// Puts at the end that a name is unknown, and the refused command that would have made it, or the nearest name that is known.
+pub fn push_unknown(
+    alloc: Global,
+    text: &mut String,
+    unknown: &Unknown<'_>,
+) -> Result<(), NoMemory> {
     let said = unknown.said;
     let name = unknown.name;
-    let (lead, known, end) = match nearest(alloc, unknown.first, unknown.second, name)? {
-        Some(known) => ("; the nearest known name is `", known, "`"),
-        None => (unknown.otherwise, "", ""),
-    };
-    let text = format!(in alloc; "{said} `{name}`{lead}{known}{end}")?;
-    Ok(Message { at, text })
+    let (lead, known, end) = behind(alloc, unknown)?;
+    write!(text, "{said} `{name}`{lead}{known}{end}")?;
+    Ok(())
 }

@@ -9,6 +9,7 @@ pub struct Piece<'a> {
     pub bytes: &'a [u8],
     pub words: Vec<Word>,
     pub called: &'static str,
+    pub is_quote: bool,
 }
 
 /// The bytes as text, where they are one.
@@ -35,6 +36,7 @@ impl Piece<'_> {
             bytes,
             words,
             called: "command",
+            is_quote: false,
         })
     }
 
@@ -45,6 +47,7 @@ impl Piece<'_> {
             bytes,
             words,
             called: "quoted text",
+            is_quote: true,
         })
     }
 

@@ -1,6 +1,6 @@
 // Where a text stops being a command.
-use crate::grammar::{Reading, expected, is_choice, push_words, read};
-use crate::habits::written_for;
+use crate::grammar::{also_at, expected, is_choice, push_words, read};
+use crate::habits::{absent, written_for};
 use crate::known::{Known, is_type_variable, nearest, push_name};
 use crate::messages::Message;
 use crate::no_memory::NoMemory;
@@ -33,20 +33,44 @@ fn words_at(alloc: Global, known: &Known, symbol: &str) -> Result<Vec<String>, N
         }
     }
     push_words(alloc, &mut words, symbol)?;
+    push_words(alloc, &mut words, also_at(symbol))?;
     Ok(words)
 }
 
-// What is better than a word that stands at a symbol, in three parts.
+// What is said of a word that does not stand at a symbol for a mistake.
+fn remark(piece: &Piece<'_>, at: usize, symbol: &str) -> Option<&'static str> {
+    match piece.kind(at) {
+        Kind::Mark if symbol == "command" && piece.text(at) == "(" => {
+            Some("; a script has no comments")
+        }
+        Kind::Number if piece.is_quote => absent("#number"),
+        Kind::Mark | Kind::Odd if piece.is_quote => absent(piece.text(at)),
+        _ => None,
+    }
+}
+
+// What is written in the place of a word of HOL Light at a symbol where a message lists words.
+fn written_at(symbol: &str, word: &str) -> Option<&'static str> {
+    if is_choice(symbol) {
+        written_for(word)
+    } else {
+        None
+    }
+}
+
+// What is better than the word at a place in the list, which stands at a symbol, in three parts.
 fn better<'a>(
     alloc: Global,
     words: &'a [String],
+    piece: &Piece<'_>,
+    at: usize,
     symbol: &str,
-    word: &str,
 ) -> Result<(&'static str, &'a str, &'static str), NoMemory> {
-    if symbol == "command" && word == "(" {
-        return Ok(("; a script has no comments", "", ""));
+    if let Some(said) = remark(piece, at, symbol) {
+        return Ok((said, "", ""));
     }
-    if let Some(written) = written_for(word) {
+    let word = piece.text(at);
+    if let Some(written) = written_at(symbol, word) {
         return Ok(("; in its place is written ", written, ""));
     }
     Ok(match nearest(alloc, words, &[], word)? {
@@ -54,21 +78,27 @@ fn better<'a>(
         None => ("", "", ""),
     })
 }
-
-// What is better than a word that stands at a symbol, and all words that may stand there.
-fn choices(alloc: Global, words: &[String], symbol: &str, word: &str) -> Result<String, NoMemory> {
-    let (lead, better, end) = better(alloc, words, symbol, word)?;
-    let list = words.join(alloc, "`, `")?;
-    Ok(format!(in alloc; "{lead}{better}{end}; the words that could stand here are `{list}`")?)
-}
-
-// What may stand in the place of a word at a symbol, where a message lists it.
-fn advice(alloc: Global, known: &Known, symbol: &str, word: &str) -> Result<String, NoMemory> {
+// The words that may stand at a symbol, where a message lists them.
+fn list_of(alloc: Global, words: &[String], symbol: &str) -> Result<String, NoMemory> {
     if !is_choice(symbol) {
         return Ok(String::new(alloc));
     }
+    let list = words.join(alloc, "`, `")?;
+    Ok(format!(in alloc; "; the words that could stand here are `{list}`")?)
+}
+
+// What is better than the word at a place in the list, which stands at a symbol, and what may stand there.
+fn advice(
+    alloc: Global,
+    known: &Known,
+    piece: &Piece<'_>,
+    at: usize,
+    symbol: &str,
+) -> Result<String, NoMemory> {
     let words = words_at(alloc, known, symbol)?;
-    choices(alloc, &words, symbol, word)
+    let list = list_of(alloc, &words, symbol)?;
+    let (lead, better, end) = better(alloc, &words, piece, at, symbol)?;
+    Ok(format!(in alloc; "{lead}{better}{end}{list}")?)
 }
 
 // What could stand at a place in the list, and what stands there.
@@ -81,7 +111,7 @@ fn missing(
 ) -> Result<Message, NoMemory> {
     let expected = expected(symbol);
     let (lead, found, end) = found(piece, at);
-    let advice = advice(alloc, known, symbol, piece.text(at))?;
+    let advice = advice(alloc, known, piece, at, symbol)?;
     Ok(Message {
         at: piece.start(at),
         text: format!(in alloc; "expected {expected}, found {lead}{found}{end}{advice}")?,
