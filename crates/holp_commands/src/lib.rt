@@ -6,6 +6,7 @@
 mod checking;
 mod command;
 mod ending;
+mod hosting;
 mod laws;
 mod options;
 mod output;

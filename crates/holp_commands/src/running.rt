@@ -1,21 +1,16 @@
 // Runs scripts over a host with the sample refiners and conversions, and those of `hol_tactics`.
 ghost use Rattle.std.specs.Prelude.{◌≡◌, false};
 
+use crate::hosting::{host, host_names};
 use crate::laws::logs_are_checked;
 use crate::options::Options;
 use crate::output::Output;
 use crate::scripts::{Scripts, open_scripts, read_scripts};
 use hol_device_adapters::{FromRead, IntoCall, IntoWrite};
-use hol_explain::{Script, explain};
-use hol_host::Host;
-use hol_host_samples::{liar, liar2, peel, swap};
-use hol_just::Goal;
+use hol_explain::{Script, explain, write_records};
 use hol_model::{Fault, Sink};
 use hol_script::run;
-use hol_tactics::{NAMES, store};
-use hol_terms::Term;
 use holp_goals::View;
-use std::alloc::Global;
 use std::fs::{self, File};
 use std::io::Write;
 use std::mem::forget;
@@ -26,18 +21,6 @@ fn create(rt: &HostRuntime, name: &str) -> Result<File, Fault> {
         Ok(file) => Ok(file),
         Err(_) => Err(Fault::WriteFault),
     }
-}
-
-// Stores the sample refiners and conversions.
-fn store_samples(alloc: Global, host: &mut Host) -> Result<(), Fault> {
-    let peels = Box::new(alloc, |alloc: Global, goal: &Goal| peel(alloc, goal))?;
-    host.refiner(alloc, "peel", peels)?;
-    let lies = Box::new(alloc, |alloc: Global, goal: &Goal| liar(alloc, goal))?;
-    host.refiner(alloc, "liar", lies)?;
-    let lies_twice = Box::new(alloc, |alloc: Global, goal: &Goal| liar2(alloc, goal))?;
-    host.refiner(alloc, "liar2", lies_twice)?;
-    let swaps = Box::new(alloc, |alloc: Global, term: &Term| swap(alloc, term))?;
-    host.conv(alloc, "swap", swaps)
 }
 
 // Runs a script over a host with the sample refiners and conversions and those of `hol_tactics`, and answers how many of its
@@ -55,9 +38,7 @@ fn run_hosted<W: Sink, L: Sink>(
     requires log_unfailed { L.has_failed log.old ≡ false }
 {
     let alloc = rt.alloc();
-    let mut host = Host::new(alloc);
-    store_samples(alloc, &mut host)?;
-    store(alloc, &mut host)?;
+    let host = host(alloc)?;
     let mut reader = FromRead::new(script.text);
     let ended = run(alloc, &mut reader, writer, log, wants_log, &host)?.whole()?;
     let refused = ended.summary.refused;
@@ -72,18 +53,6 @@ fn run_hosted<W: Sink, L: Sink>(
         forget(ended);
     }
     Ok(refused)
-}
-
-// The names of the functions of the host.
-fn host_names(alloc: Global) -> Result<Vec<String>, Fault> {
-    let mut names = Vec::new(alloc);
-    for name in ["peel", "liar", "liar2", "swap"] {
-        names.push(String::from_str(alloc, name)?)?;
-    }
-    for name in NAMES {
-        names.push(String::from_str(alloc, name)?)?;
-    }
-    Ok(names)
 }
 
 // Runs scripts as one, and answers how many of their commands were refused. Standard error tells where these stand, or, where it
@@ -138,4 +107,21 @@ pub(crate) fn run_scripts_with_log(
     let scripts = read_scripts(rt, names, opened)?;
     let logs = Box::new(rt.alloc(), move |piece: &[u8]| file.write(piece))?;
     run_over(rt, &scripts, options, &mut IntoCall::new(logs), true)
+}
+
+/// Runs scripts as one, tells each of their commands on standard output by a line of JSON, and answers how many were refused.
+pub(crate) fn tell_scripts(rt: &HostRuntime, names: &[&str]) -> Result<u64, Fault> {
+    let alloc = rt.alloc();
+    let opened = open_scripts(rt, names, false)?;
+    let scripts = read_scripts(rt, names, opened)?;
+    let host_names = host_names(alloc)?;
+    let script = Script {
+        origins: scripts.origins.as_slice(),
+        text: scripts.text.as_slice(),
+        host_names: &host_names,
+    };
+    let host = host(alloc)?;
+    let mut output = rt.stdout();
+    let writes = Box::new(alloc, move |piece: &[u8]| output.write(piece))?;
+    write_records(alloc, &script, &host, &mut IntoCall::new(writes))
 }

@@ -43,6 +43,15 @@ pub(crate) fn command_line<'a>(alloc: Global) -> Result<Command<'a>, Fault> {
                 .long("goals")
                 .help("Lays open goals out in lines")
                 .action(ArgAction::SetTrue),
+        )?
+        .arg(
+            Arg::new(alloc, "json")
+                .long("json")
+                .help("Tells each command by a line of JSON, with its message")
+                .conflicts_with("log")?
+                .conflicts_with("explain")?
+                .conflicts_with("goals")?
+                .action(ArgAction::SetTrue),
         )?;
     let check = Command::new(alloc, "check")
         .about("Checks a proof log and lists its claims")
