@@ -209,7 +209,8 @@ impl View {
             out.extend_from_slice(RULE)?;
         }
         self.push_laid_out(alloc, line, b"", conclusion, b"", out)?;
-        out.push(b'\n')
+        out.push(b'\n')?;
+        Ok(())
     }
 
     // Puts what is shown of a line at the end of a text.
@@ -225,7 +226,8 @@ impl View {
         }
         self.goals = goals_behind(line);
         out.extend_from_slice(line)?;
-        out.push(b'\n')
+        out.push(b'\n')?;
+        Ok(())
     }
 
     /// Reads what stands next in the output, and puts what is shown of it, line by line, at the end of a text.
