@@ -1,8 +1,7 @@
 #!/usr/bin/env python3
 """lists.py: the lists of the pages against what they list. Each difference is told, and the status is then 1.
 
-    docs/ARCHITECTURE.md   the crates, in the order of crates.txt; the names of the laws; the folders of definitions
-    docs/HOSTS.md          the rules, those of crates/hol_just/src/rule.rt
+    docs/ARCHITECTURE.md   the crates, in the order of crates.txt; the folders of definitions
     docs/LOGS.md           the causes, those of crates/hol_model/src/fault.rt
     docs/REFERENCE.md      the refusals, with their numbers, those of the same file
     all pages              each path that begins with a crate's name or a folder of the repository, and each `crate::name`
@@ -50,15 +49,9 @@ PAGES = ["README.md", *sorted(glob.glob("docs/*.md"))]
 
 architecture = "docs/ARCHITECTURE.md"
 compare(f"{architecture}, crates", re.findall(r"(?m)^(\w+) ", part(architecture, "```text\n", "```")), CRATES)
-sources = sources_of("*")
-laws = [it for line in part(architecture, "## The laws", "\n## ").splitlines() if line.startswith("- ") for it in backquoted(line)]
-compare(f"{architecture}, laws", laws, [it for it in laws if re.search(rf"pub fn {it}\b", sources)])
 folders = sorted(os.path.basename(it) for it in glob.glob("crates/hol_model/specs/*") if os.path.isdir(it))
 told = re.findall(r"(?m)^\| `(\w+)` \|", part(architecture, "## The definitions", "\n## "))
 compare(f"{architecture}, definitions", sorted(told), folders)
-
-rules = part("docs/HOSTS.md", "| of the kernel |", "\n\n")
-compare("docs/HOSTS.md, rules", re.findall(r"`([A-Z]\w*)[(`]", rules.replace("`Vec`", "")), re.findall(r"(?m)^    ([A-Z]\w*)[,(]", part("crates/hol_just/src/rule.rt", "pub enum Rule {", "\n}")))
 
 faults = text("crates/hol_model/src/fault.rt")
 causes = re.findall(r"(?m)^\| `(\w+)` \|", part("docs/LOGS.md", "## Why a log is refused", "\n## "))
