@@ -84,6 +84,7 @@ def plain(shown):
     return re.sub(r"\[([A-Za-z][\w']*)\]", r"\1", re.sub(rf"\[([^\s:\]]+):{ty}\]", r"[\1]", shown))
 
 
+counts, total = dict(re.findall(r"(?m)^\| `(\w+)\.hol` \|.*\| (\d+) \|", text("library/README.md"))), 0
 printed = dict(re.findall(r"(?m)^(\w+): ((?:.* )?\|- .*)$", text("crates/holp_library/stdout")))
 page = text("library/README.md")
 chapters = re.split(r"(?m)^## .*\(`library/(\w+)\.hol`\).*$", page)
@@ -91,10 +92,18 @@ for name, chapter in zip(chapters[1::2], chapters[2::2]):
     stored = dict.fromkeys(re.findall(r"(?m)^(?:thm|save) (\w+)", text(f"library/{name}.hol")))
     told = dict(re.findall(r"(?m)^- `(\w+)`(?: \*)?: `(.*)`$", chapter))
     compare(f"library/README.md, {name}", sorted(told), sorted(it for it in stored if not re.match(r"(lg|ch|fn|rl|st|od|nm)_", it)))
+    compare(f"library/README.md, {name}: the number of theorems", [counts.get(name)], [str(len(told))])
+    total += len(told)
     for theorem, said in told.items():
         shown = plain(printed.get(theorem, ""))
         shown = shown.removeprefix("|- ")
         if said != shown:
             wrong.append(f"library/README.md: {theorem}: {said}\n    is printed as {shown}")
+compare("README.md: the number of theorems", re.findall(r"(\d+) theorems of", text("README.md")), [str(total)])
+told, is_so = re.findall(r"(?m)^(\| `\w+` \| [\d,]+ \| [\d,]+ \|)", text("library/developments/README.md")), []
+for name in re.findall(r"`(\w+)`", "".join(told)):
+    script = " ".join(text(f"library/developments/{name}.hol").split())
+    is_so.append(f"| `{name}` | {script.count(';;'):,} | {len(script):,} |")
+compare("library/developments", told, is_so)
 print("\n".join(wrong) if wrong else "all lists are as what they list")
 sys.exit(1 if wrong else 0)
