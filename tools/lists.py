@@ -6,6 +6,7 @@
     docs/REFERENCE.md      the refusals, with their numbers, those of the same file
     all pages              each path that begins with a crate's name or a folder of the repository, and each `crate::name`
     bench/README.md        the works
+    README.md              the seconds of works, which stand in docs/BENCHMARKS.md; the number of theorems
     library/README.md      the theorems, with what holp_library prints of them, and their numbers
     library/developments   the numbers of commands and characters
 """
@@ -99,6 +100,9 @@ for name, chapter in zip(chapters[1::2], chapters[2::2]):
         shown = shown.removeprefix("|- ")
         if said != shown:
             wrong.append(f"library/README.md: {theorem}: {said}\n    is printed as {shown}")
+figures = re.findall(r"(?m)^\| .*? \| ([\d.]+) \| ([\d.]+) \|$", text("README.md"))
+rows = [row.split(" | ") for row in text("docs/BENCHMARKS.md").splitlines()]
+compare("README.md: seconds", figures, [it for it in figures if any(set(it) <= set(row) for row in rows)])
 compare("README.md: the number of theorems", re.findall(r"(\d+) theorems of", text("README.md")), [str(total)])
 told, is_so = re.findall(r"(?m)^(\| `\w+` \| [\d,]+ \| [\d,]+ \|)", text("library/developments/README.md")), []
 for name in re.findall(r"`(\w+)`", "".join(told)):
