@@ -3,7 +3,7 @@
 
     docs/ARCHITECTURE.md   the crates, in the order of crates.txt; the folders of definitions
     docs/LOGS.md           the causes, those of crates/hol_model/src/fault.rt
-    docs/REFERENCE.md      the refusals, with their numbers, those of the same file
+    docs/REFERENCE.md      the refusals, with their numbers, those of the same file; a row for each word of the grammar
     all pages              each path that begins with a crate's name or a folder of the repository, and each `crate::name`
     bench/README.md        the works
     README.md              the seconds of works, which stand in docs/BENCHMARKS.md; the number of theorems
@@ -58,6 +58,10 @@ faults = text("crates/hol_model/src/fault.rt")
 causes = re.findall(r"(?m)^\| `(\w+)` \|", part("docs/LOGS.md", "## Why a log is refused", "\n## "))
 compare("docs/LOGS.md, causes", causes, re.findall(r'#\[error\("([a-z]+)"\)\]', faults))
 compare("docs/REFERENCE.md, refusals", re.findall(r"(?m)^\| (E\d+ \w+) \|", text("docs/REFERENCE.md")), re.findall(r'#\[error\("(E\d+ \w+)', faults))
+
+words = re.findall(r'"([A-Z][A-Z0-9_]+)"', part("docs/REFERENCE.md", "\ncommand     =", "```"))
+cells = " ".join(re.findall(r"(?m)^\| (.*?) \|", part("docs/REFERENCE.md", "## 5. Rules", "\n## 8.").replace("\\|", "")))
+compare("docs/REFERENCE.md, tables beside the grammar", sorted(set(re.findall(r"\b[A-Z][A-Z0-9_]+\b", cells))), sorted(set(words)))
 
 for page in PAGES:
     for path in backquoted(text(page)):
