@@ -1,11 +1,11 @@
 #!/usr/bin/env python3
 """Measures the works of this folder and writes one table: `table.py PROGRAM [--hol-light PEER] [--only WORD] [--runs 5]
-[--write FILE]`.
+[--limit 60] [--write FILE]`.
 
-PROGRAM is a built `holp`, PEER what `hol_light.sh` builds. Each figure is the least of five runs (of fewer, where these take
-ten seconds), in seconds of the processor, without the start, which is a row of its own; a peak of memory is the most of the
-runs. A run may take 60 seconds of the processor and 3 GB. With --write the tables go into FILE, between its lines `<!-- table -->` and
-`<!-- end -->`. It wants /usr/bin/time."""
+PROGRAM is a built `holp`, PEER what `hol_light.sh` builds. Each figure is the least of some runs (--runs, or fewer, where these
+take ten seconds), in seconds of the processor, without the start, which is a row of its own; a peak of memory is the most of
+the runs. A run may take so many seconds of the processor (--limit), and 3 GB. With --write the table goes into FILE, between
+its lines `<!-- table -->` and `<!-- end -->`. It wants /usr/bin/time."""
 import argparse
 import datetime
 import os
@@ -173,7 +173,8 @@ def machine():
 def tables(options):
     """All lines of the tables."""
     commit = subprocess.run(["git", "-C", str(BENCH), "rev-parse", "--short", "HEAD"], capture_output=True, text=True, check=False).stdout.strip()
-    yield f"{datetime.date.today()}, {machine()}, sources at {commit}."
+    load = f"{os.getloadavg()[0] / os.cpu_count():.1f}"
+    yield f"{datetime.date.today()}, {machine()}, sources at {commit}; up to {options.runs} runs of at most {LIMIT} s, beside a load of {load} for each processor."
     yield ""
     yield "| work | `holp`, s | half | peak, MB | HOL Light, s | ratio | it prints, s | ratio |"
     yield "|---|---|---|---|---|---|---|---|"
@@ -201,13 +202,16 @@ def tables(options):
 
 
 def main():
+    global LIMIT
     parser = argparse.ArgumentParser(description=__doc__, formatter_class=argparse.RawDescriptionHelpFormatter)
     parser.add_argument("program", type=os.path.realpath)
     parser.add_argument("--hol-light", type=os.path.realpath)
     parser.add_argument("--only", help="rows whose title or generator has this word")
     parser.add_argument("--runs", type=int, default=5)
+    parser.add_argument("--limit", type=int, default=LIMIT, help="seconds of the processor that a run may take")
     parser.add_argument("--write", type=pathlib.Path, help="the page that gets the tables")
     options = parser.parse_args()
+    LIMIT = options.limit
     os.nice(10)
     lines = []
     for line in tables(options):

@@ -2,6 +2,7 @@
 # proved.sh: proves each library that the program needs, lowest first and one at a time, then `holp` itself, and builds crates/holp/out/holp.
 # What stands already is not proved again. A library that fails ends it.
 set -eu
+command -v rt > /dev/null || { echo "proved.sh: the command rt of the Rattle kit is not found" >&2; exit 1; }
 cd "$(dirname "$0")/.."
 python3 - <<'P' | while read -r crate; do (cd "crates/$crate" && rt lib --jobs 1 < /dev/null); done
 import re
