@@ -19,18 +19,8 @@ const LINES: usize = 20000;
 /// fails otherwise, and where there are more than 400 terms.
 pub fn eq(alloc: Global, goal: &Goal) -> Result<Step, HostFail> {
     let closure = Closure::of_goal(alloc, goal)?;
-    if let Some((left, right)) = dest_eq(&goal.concl) {
-        if let Some(equal) = closure.equation(alloc, left, right)? {
-            return Ok(to_none(alloc, equal));
-        }
-    }
-    for assumption in &goal.asms {
-        if let Some(falsity) = closure.refutation(alloc, assumption)? {
-            let just = step(alloc, Rule::Contr(goal.concl.copy(alloc)?), &[falsity])?;
-            return Ok(to_none(alloc, just));
-        }
-    }
-    Err(HostFail)
+    let just = closure.proved(alloc, goal)?;
+    Ok(to_none(alloc, just))
 }
 
 // Why two terms are equal.
@@ -88,21 +78,32 @@ impl<'a> Closure<'a> {
             assumptions: &goal.asms,
             entries: Vec::new(alloc),
         };
-        closure.add_sides(alloc, &goal.concl)?;
+        closure.add_goal(alloc, goal)?;
+        closure.close();
+        Ok(closure)
+    }
+
+    // Adds the terms of a goal, and joins the sides of the equations that it assumes.
+    fn add_goal(&mut self, alloc: Global, goal: &Goal) -> Result<(), HostFail> {
+        self.add_sides(alloc, &goal.concl)?;
         for assumption in &goal.asms {
             if let Formula::Not(denied) = dest_formula(assumption) {
-                closure.add_sides(alloc, denied)?;
+                self.add_sides(alloc, denied)?;
             }
         }
-        for (number, assumption) in goal.asms.iter().enumerate() {
-            closure.assume(alloc, number, assumption)?;
+        for number in 0..goal.asms.len() {
+            self.assume(alloc, number, &goal.asms[number])?;
         }
+        Ok(())
+    }
+
+    // Joins terms whose parts are joined, until there are no more. Each time there is a class less.
+    fn close(&mut self) {
         for _ in 0..TERMS {
-            if !closure.join_congruent() {
+            if !self.join_congruent() {
                 break;
             }
         }
-        Ok(closure)
     }
 
     // Adds the sides of an equation.
@@ -132,19 +133,28 @@ impl<'a> Closure<'a> {
         if depth == 0 {
             return Err(HostFail);
         }
-        let operands = match term.dest_comb() {
-            Some((function, argument)) => Some(Operands {
-                function: self.add(alloc, function, depth - 1)?,
-                argument: self.add(alloc, argument, depth - 1)?,
-            }),
-            None => None,
+        let Some((function, argument)) = term.dest_comb() else {
+            return self.push(alloc, term, None);
         };
+        let function = self.add(alloc, function, depth - 1)?;
+        let argument = self.add(alloc, argument, depth - 1)?;
+        self.push(alloc, term, Some(Operands { function, argument }))
+    }
+
+    // Adds a term, in a class of its own.
+    fn push(
+        &mut self,
+        alloc: Global,
+        term: &Term,
+        operands: Option<Operands>,
+    ) -> Result<usize, HostFail> {
         let number = self.entries.len();
         if number >= TERMS {
             return Err(HostFail);
         }
+        let term = term.copy(alloc)?;
         self.entries.push(Entry {
-            term: term.copy(alloc)?,
+            term,
             operands,
             class: number,
             edge: None,
@@ -240,6 +250,21 @@ impl<'a> Closure<'a> {
         before
     }
 
+    // The goal's conclusion, as an equation that follows, or of an assumption that denies one.
+    fn proved(&self, alloc: Global, goal: &Goal) -> Result<Just, HostFail> {
+        if let Some((left, right)) = dest_eq(&goal.concl) {
+            if let Some(equal) = self.equation(alloc, left, right)? {
+                return Ok(equal);
+            }
+        }
+        for assumption in &goal.asms {
+            if let Some(falsity) = self.refutation(alloc, assumption)? {
+                return Ok(step(alloc, Rule::Contr(goal.concl.copy(alloc)?), &[falsity])?);
+            }
+        }
+        Err(HostFail)
+    }
+
     // `s = t`, where it follows.
     fn equation(&self, alloc: Global, s: &Term, t: &Term) -> Result<Option<Just>, HostFail> {
         let (Some(left), Some(right)) = (self.find(s), self.find(t)) else {
@@ -297,7 +322,7 @@ impl<'a> Closure<'a> {
         }
         let left = self.path(alloc, first)?;
         let right = self.path(alloc, second)?;
-        let Some(meeting) = left.iter().copied().find(|number| right.contains(number)) else {
+        let Some(meeting) = first_shared(&left, &right) else {
             return Err(HostFail);
         };
         let forth = self.along(alloc, &left, meeting, depth - 1)?;
@@ -387,4 +412,14 @@ impl<'a> Closure<'a> {
         let arguments = self.explained(alloc, left.argument, right.argument, depth)?;
         Ok(step(alloc, Rule::MkComb, &[functions, arguments])?)
     }
+}
+
+// The first of these numbers that is one of the others.
+fn first_shared(numbers: &[usize], others: &[usize]) -> Option<usize> {
+    for number in numbers {
+        if others.contains(number) {
+            return Some(*number);
+        }
+    }
+    None
 }

@@ -309,8 +309,11 @@ fn exists_simp(
 
 // REFL_CLAUSE.
 fn refl_clause(alloc: Global, term: &Term) -> Result<Option<Changed>, Fault> {
-    match dest_eq(term) {
-        Some((left, right)) if aconv(left, right) => becomes_true(alloc, refl(alloc, left)?),
-        _ => Ok(None),
+    let Some((left, right)) = dest_eq(term) else {
+        return Ok(None);
+    };
+    if aconv(left, right) {
+        return becomes_true(alloc, refl(alloc, left)?);
     }
+    Ok(None)
 }

@@ -94,14 +94,17 @@ impl Unwound<'_> {
     // The formula, of the rest at the value.
     fn back(&self, alloc: Global, term: &Term, made: &Term) -> Result<Just, Fault> {
         let same = refl(alloc, self.value)?;
-        let rest = assume(alloc, made)?;
-        let sides = if self.is_first {
-            [same, rest]
-        } else {
-            [rest, same]
-        };
-        let both = step(alloc, Rule::Conj, &sides)?;
+        let both = self.conj(alloc, same, assume(alloc, made)?)?;
         exists(alloc, term, self.value, both)
+    }
+
+    // CONJ of the equation and the rest, in their order.
+    fn conj(&self, alloc: Global, equation: Just, rest: Just) -> Result<Just, Fault> {
+        if self.is_first {
+            step(alloc, Rule::Conj, &[equation, rest])
+        } else {
+            step(alloc, Rule::Conj, &[rest, equation])
+        }
     }
 
     // The rest at the value, of the formula.
@@ -139,9 +142,17 @@ impl Unwound<'_> {
 // `v = t`, of an equation of `v` and `t`.
 fn value_equation(alloc: Global, some: &Term, equation: &Term) -> Result<Just, Fault> {
     let assumed = assume(alloc, equation)?;
+    if is_left(some, equation) {
+        return Ok(assumed);
+    }
+    step(alloc, Rule::Sym, &[assumed])
+}
+
+// Whether a term is the left side of an equation.
+fn is_left(term: &Term, equation: &Term) -> bool {
     match dest_eq(equation) {
-        Some((left, _)) if aconv(left, some) => Ok(assumed),
-        _ => step(alloc, Rule::Sym, &[assumed]),
+        Some((left, _)) => aconv(left, term),
+        None => false,
     }
 }
 

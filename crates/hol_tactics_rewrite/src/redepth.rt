@@ -1,7 +1,7 @@
 // REDEPTH_CONV: a term converted from the inside out, as long as there is something to convert.
 
 use crate::basic::{basic, beta_conv};
-use crate::changed::{Changed, abs, mk_comb, or_same, trans};
+use crate::changed::{Changed, abs, combined, trans};
 use crate::rules::{Rewrite, first_instance};
 use hol_host::HostFail;
 use hol_subst::{variant, vsubst};
@@ -65,19 +65,28 @@ impl Redepth {
         if depth == 0 {
             return Err(HostFail);
         }
-        let inner = self.parts_converted(alloc, term, depth - 1)?;
-        let whole = match &inner {
-            Some(changed) => changed.term.copy(alloc)?,
-            None => term.copy(alloc)?,
-        };
-        let Some(outer) = self.whole_converted(alloc, &whole)? else {
-            return Ok(inner);
-        };
-        let made = trans(alloc, inner, outer)?;
-        match self.converted(alloc, &made.term, depth - 1)? {
-            Some(further) => Ok(Some(trans(alloc, Some(made), further)?)),
-            None => Ok(Some(made)),
+        match self.parts_converted(alloc, term, depth - 1)? {
+            Some(inner) => {
+                let behind = self.whole_converted(alloc, &inner.term, depth - 1)?;
+                Ok(Some(trans(alloc, inner, behind)?))
+            }
+            None => self.whole_converted(alloc, term, depth - 1),
         }
+    }
+
+    // The term converted as a whole, and what it becomes converted again.
+    #[cycle(converting)]
+    fn whole_converted(
+        &mut self,
+        alloc: Global,
+        term: &Term,
+        depth: u32,
+    ) -> Result<Option<Changed>, HostFail> {
+        let Some(made) = self.first_counted(alloc, term)? else {
+            return Ok(None);
+        };
+        let behind = self.converted(alloc, &made.term, depth)?;
+        Ok(Some(trans(alloc, made, behind)?))
     }
 
     // The parts converted, unless nothing changes.
@@ -127,16 +136,11 @@ impl Redepth {
     ) -> Result<Option<Changed>, HostFail> {
         let left = self.converted(alloc, function, depth)?;
         let right = self.converted(alloc, argument, depth)?;
-        if left.is_none() && right.is_none() {
-            return Ok(None);
-        }
-        let function = or_same(alloc, function, left)?;
-        let argument = or_same(alloc, argument, right)?;
-        Ok(Some(mk_comb(alloc, function, argument)?))
+        Ok(combined(alloc, function, left, argument, right)?)
     }
 
-    // The term converted as a whole, which is counted.
-    fn whole_converted(&mut self, alloc: Global, term: &Term) -> Result<Option<Changed>, HostFail> {
+    // The term by the first conversion of it as a whole, which is counted.
+    fn first_counted(&mut self, alloc: Global, term: &Term) -> Result<Option<Changed>, HostFail> {
         let Some(changed) = self.first_conversion(alloc, term)? else {
             return Ok(None);
         };

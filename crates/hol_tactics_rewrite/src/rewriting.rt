@@ -16,9 +16,7 @@ use std::alloc::Global;
 /// applies, and where more than 2,000 rewrites are wanted.
 pub fn asm_rewrite(alloc: Global, goal: &Goal) -> Result<Step, HostFail> {
     let mut rules = Rules::new(alloc, goal)?;
-    for assumption in &goal.asms {
-        rules.add(alloc, assumption)?;
-    }
+    rules.add_all(alloc, &goal.asms)?;
     rewritten(alloc, goal, &goal.concl, rules)
 }
 
@@ -29,9 +27,7 @@ pub fn rewrite(alloc: Global, goal: &Goal) -> Result<Step, HostFail> {
     };
     let mut rules = Rules::new(alloc, goal)?;
     rules.add(alloc, brought)?;
-    for assumption in &goal.asms {
-        rules.add(alloc, assumption)?;
-    }
+    rules.add_all(alloc, &goal.asms)?;
     let Step { goals, just } = rewritten(alloc, goal, wanted, rules)?;
     let just = disch(alloc, brought, just)?;
     Ok(Step { goals, just })

@@ -63,6 +63,14 @@ impl Rules {
         (rewrites, fixed)
     }
 
+    /// Adds the rules of formulas of the goal.
+    pub(crate) fn add_all(&mut self, alloc: Global, formulas: &[Term]) -> Result<(), HostFail> {
+        for formula in formulas {
+            self.add(alloc, formula)?;
+        }
+        Ok(())
+    }
+
     /// Adds the rules of a formula of the goal: those of both sides of a conjunction, those of the body of `!x. p` for any x; by
     /// `s = t` the left side becomes the right one, by `~p` the formula `p` becomes `F`, by another formula `p` it becomes `T`.
     pub(crate) fn add(&mut self, alloc: Global, formula: &Term) -> Result<(), HostFail> {
@@ -176,22 +184,32 @@ impl Rewrite {
         fixed: &[Term],
         term: &Term,
     ) -> Result<Option<Changed>, HostFail> {
-        let Ok(found) = term_match(alloc, fixed, &self.left, term) else {
+        let Some(terms) = self.matched(alloc, fixed, term) else {
             return Ok(None);
         };
-        let Match { types, terms } = found;
-        if !types.is_empty() {
-            return Ok(None);
-        }
         let right = vsubst(alloc, &terms, &self.right)?;
         if aconv(term, &right) {
             return Ok(None);
         }
+        let just = self.inst(alloc, terms)?;
+        Ok(Some(Changed { term: right, just }))
+    }
+
+    // What is put for variables, where this makes the left side the term.
+    fn matched(&self, alloc: Global, fixed: &[Term], term: &Term) -> Option<Vec<(Term, Term)>> {
+        let Ok(found) = term_match(alloc, fixed, &self.left, term) else {
+            return None;
+        };
+        let Match { types, terms } = found;
+        if types.is_empty() { Some(terms) } else { None }
+    }
+
+    // INST of the equation.
+    fn inst(&self, alloc: Global, terms: Vec<(Term, Term)>) -> Result<Just, Fault> {
         let just = self.just.copy(alloc)?;
         if terms.is_empty() {
-            return Ok(Some(Changed { term: right, just }));
+            return Ok(just);
         }
-        let just = step(alloc, Rule::Inst(terms), &[just])?;
-        Ok(Some(Changed { term: right, just }))
+        step(alloc, Rule::Inst(terms), &[just])
     }
 }

@@ -1,4 +1,4 @@
-// Runs scripts over a host with the sample refiners and conversions.
+// Runs scripts over a host with the sample refiners and conversions, and those of `hol_tactics`.
 ghost use Rattle.std.specs.Prelude.{◌≡◌, false};
 
 use crate::laws::logs_are_checked;
@@ -11,6 +11,7 @@ use hol_host_samples::{liar, liar2, peel, swap};
 use hol_just::Goal;
 use hol_model::{Fault, Sink};
 use hol_script::run;
+use hol_tactics::{NAMES, store};
 use hol_terms::Term;
 use std::alloc::Global;
 use std::fs::{self, File};
@@ -25,8 +26,21 @@ fn create(rt: &HostRuntime, name: &str) -> Result<File, Fault> {
     }
 }
 
-// Runs a script over a host with the sample refiners and conversions, and answers how many of its commands were refused. Where
-// these are to be explained, what is said of them is written to standard error behind the run, and takes no part in how it ends.
+// Stores the sample refiners and conversions.
+fn store_samples(alloc: Global, host: &mut Host) -> Result<(), Fault> {
+    let peels = Box::new(alloc, |alloc: Global, goal: &Goal| peel(alloc, goal))?;
+    host.refiner(alloc, "peel", peels)?;
+    let lies = Box::new(alloc, |alloc: Global, goal: &Goal| liar(alloc, goal))?;
+    host.refiner(alloc, "liar", lies)?;
+    let lies_twice = Box::new(alloc, |alloc: Global, goal: &Goal| liar2(alloc, goal))?;
+    host.refiner(alloc, "liar2", lies_twice)?;
+    let swaps = Box::new(alloc, |alloc: Global, term: &Term| swap(alloc, term))?;
+    host.conv(alloc, "swap", swaps)
+}
+
+// Runs a script over a host with the sample refiners and conversions and those of `hol_tactics`, and answers how many of its
+// commands were refused. Where these are to be explained, what is said of them is written to standard error behind the run, and
+// takes no part in how it ends.
 fn run_hosted<W: Sink, L: Sink>(
     rt: &HostRuntime,
     script: &Script<'_>,
@@ -40,14 +54,8 @@ fn run_hosted<W: Sink, L: Sink>(
 {
     let alloc = rt.alloc();
     let mut host = Host::new(alloc);
-    let peels = Box::new(alloc, |alloc: Global, goal: &Goal| peel(alloc, goal))?;
-    host.refiner(alloc, "peel", peels)?;
-    let lies = Box::new(alloc, |alloc: Global, goal: &Goal| liar(alloc, goal))?;
-    host.refiner(alloc, "liar", lies)?;
-    let lies_twice = Box::new(alloc, |alloc: Global, goal: &Goal| liar2(alloc, goal))?;
-    host.refiner(alloc, "liar2", lies_twice)?;
-    let swaps = Box::new(alloc, |alloc: Global, term: &Term| swap(alloc, term))?;
-    host.conv(alloc, "swap", swaps)?;
+    store_samples(alloc, &mut host)?;
+    store(alloc, &mut host)?;
     let mut reader = FromRead::new(script.text);
     let ended = run(alloc, &mut reader, writer, log, wants_log, &host)?;
     let refused = ended.summary.refused;
@@ -68,6 +76,9 @@ fn run_hosted<W: Sink, L: Sink>(
 fn host_names(alloc: Global) -> Result<Vec<String>, Fault> {
     let mut names = Vec::new(alloc);
     for name in ["peel", "liar", "liar2", "swap"] {
+        names.push(String::from_str(alloc, name)?)?;
+    }
+    for name in NAMES {
         names.push(String::from_str(alloc, name)?)?;
     }
     Ok(names)

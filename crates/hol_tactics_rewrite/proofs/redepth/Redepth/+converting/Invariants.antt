@@ -4,6 +4,9 @@ use Rattle.hol_tactics_rewrite.proofs.redepth.Redepth.«+converting».Given as g
 abbrev pub decreases-converted : goal.decreases-converted
 decreases-converted l = 3 * l.depth
 
+abbrev pub decreases-whole_converted : goal.decreases-whole_converted
+decreases-whole_converted l = 3 * l.depth + 1
+
 abbrev pub decreases-parts_converted : goal.decreases-parts_converted
 decreases-parts_converted l = 3 * l.depth + 2
 

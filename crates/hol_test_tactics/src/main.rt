@@ -1,0 +1,29 @@
+//! Runs the scripts of data/ over a host with the refiners and conversions of `hol_tactics` alone: each function on goals that it
+//! refines and on goals that it does not, and Pelletier's problems 18 to 46, 48, 50, 56, 57, 59 and 60. What they print stands in
+//! stdout, by hand.
+#![tactic(auto)]
+
+use hol_host::Host;
+use hol_model::Fault;
+use hol_script_files::run_file;
+use hol_tactics::store;
+use std::process::ExitCode;
+
+const SCRIPTS: [&str; 3] = ["refiners.hol", "conversions.hol", "pelletier.hol"];
+
+fn run_scripts(rt: &HostRuntime) -> Result<(), Fault> {
+    let alloc = rt.alloc();
+    let mut host = Host::new(alloc);
+    store(alloc, &mut host)?;
+    for name in SCRIPTS {
+        run_file(rt, name, &host)?;
+    }
+    Ok(())
+}
+
+fn main(rt: HostRuntime) -> ExitCode {
+    match run_scripts(&rt) {
+        Ok(()) => ExitCode::SUCCESS,
+        Err(_) => ExitCode::from(2),
+    }
+}
