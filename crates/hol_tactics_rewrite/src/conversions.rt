@@ -111,19 +111,37 @@ impl Unwound<'_> {
     fn forth(&self, alloc: Global, term: &Term) -> Result<Just, Fault> {
         let mut avoid = frees(alloc, term)?;
         let (some, equation) = open_binder(alloc, &mut avoid, self.variable, self.equation)?;
-        let rest = self.at(alloc, self.rest, &some)?;
-        let both = if self.is_first {
-            mk_conj(alloc, &equation, &rest)?
-        } else {
-            mk_conj(alloc, &rest, &equation)?
-        };
-        let chain = self.same_rest(alloc, &some, &equation)?;
-        let just = step(alloc, Rule::EqMp, &[chain, assume(alloc, &rest)?])?;
-        let first = step(alloc, Rule::Conjunct1, &[assume(alloc, &both)?])?;
-        let second = step(alloc, Rule::Conjunct2, &[assume(alloc, &both)?])?;
-        let just = prove_hyp(alloc, first, just)?;
-        let just = prove_hyp(alloc, second, just)?;
+        let just = self.from_witness(alloc, &some, &equation)?;
         step(alloc, Rule::Choose(some), &[assume(alloc, term)?, just])
+    }
+
+    // The rest at the value, of the equation and the rest at some term.
+    fn from_witness(&self, alloc: Global, some: &Term, equation: &Term) -> Result<Just, Fault> {
+        let rest = self.at(alloc, self.rest, some)?;
+        let just = self.from_sides(alloc, some, equation, &rest)?;
+        let both = self.mk_both(alloc, equation, &rest)?;
+        from_conjunction(alloc, &both, just)
+    }
+
+    // The rest at the value, where an equation and the rest at some term are assumed.
+    fn from_sides(
+        &self,
+        alloc: Global,
+        some: &Term,
+        equation: &Term,
+        rest: &Term,
+    ) -> Result<Just, Fault> {
+        let chain = self.same_rest(alloc, some, equation)?;
+        step(alloc, Rule::EqMp, &[chain, assume(alloc, rest)?])
+    }
+
+    // The conjunction of an equation and the rest, in their order.
+    fn mk_both(&self, alloc: Global, equation: &Term, rest: &Term) -> Result<Term, Fault> {
+        if self.is_first {
+            mk_conj(alloc, equation, rest)
+        } else {
+            mk_conj(alloc, rest, equation)
+        }
     }
 
     // That the rest at some term is the rest at the value, where an equation says that the two are equal.
@@ -137,6 +155,17 @@ impl Unwound<'_> {
         let chain = step(alloc, Rule::Trans, &[before, middle])?;
         step(alloc, Rule::Trans, &[chain, behind])
     }
+}
+
+// The same, from a conjunction in place of its sides.
+fn from_conjunction(alloc: Global, both: &Term, just: Just) -> Result<Just, Fault> {
+    let just = prove_hyp(alloc, conjunct(alloc, Rule::Conjunct1, both)?, just)?;
+    prove_hyp(alloc, conjunct(alloc, Rule::Conjunct2, both)?, just)
+}
+
+// A side of a conjunction that is assumed.
+fn conjunct(alloc: Global, rule: Rule, both: &Term) -> Result<Just, Fault> {
+    step(alloc, rule, &[assume(alloc, both)?])
 }
 
 // `v = t`, of an equation of `v` and `t`.
