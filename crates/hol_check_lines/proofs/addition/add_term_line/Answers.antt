@@ -1,0 +1,5 @@
+use Rattle.hol_check_lines.proofs.AdditionLemmas.{added-line}
+use Rattle.hol_check_lines.proofs.addition.add_term_line.Goals as goal
+
+pub returns-in-Ok-clause-added : goal.returns-in-Ok-clause-added
+returns-in-Ok-clause-added c = λ table is stands. added-line table c.args.contents.now _ c.args.line is stands c.in-Ok.ensures.items
