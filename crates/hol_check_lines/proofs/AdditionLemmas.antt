@@ -82,6 +82,19 @@ added-line table contents terms line is stands pushed = record {
   };
 }
 
+-- a line that found no room
+pub kept-line : (table : TermTable) (contents : Contents) (terms : Vec Written Global) → IsContents table contents → terms.items ≡ contents.terms.items → IsContents table (record contents { terms = terms })
+kept-line table contents terms is same = record {
+  types = is.types;
+  terms = subst (AreWritten table) (sym same) is.terms;
+  made = subst (λ l. AreMade table l contents.made.entries) (sym same) is.made;
+  theorems = is.theorems;
+  entries = is.entries;
+  room = is.room;
+  knows = is.knows;
+  claims = is.claims;
+}
+
 -- claims keep their theorems as theorems are added
 module _ (table : TermTable) (theorems now : List Theorem) (theorem : Theorem) (pushed : now ≡ theorems ++ theorem ∷ []) where
   sequents-pushed : map (sequent_in table.terms) now ≡ map (sequent_in table.terms) theorems ++ sequent_in table.terms theorem ∷ []

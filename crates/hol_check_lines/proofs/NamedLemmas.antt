@@ -39,10 +39,10 @@ same-terms t0 t1 c0 c1 makes = ap (λ (c : Contents). c.terms.items) makes.same
 
 -- what was made stays made
 pub line-stays : (t0 t1 : TermTable) (c0 c1 : Contents) → Makes t0 t1 c0 c1 → (line : ℕ) → IsMadeLine c0 line → IsMadeLine c1 line
-line-stays t0 t1 c0 c1 makes line made = λ within. makes.stays.stays line (made (subst (λ l. line < length l) (same-terms t0 t1 c0 c1 makes) within))
+line-stays t0 t1 c0 c1 makes line made = record { is_made = λ within. makes.stays.stays line (made.is_made (subst (λ l. line < length l) (same-terms t0 t1 c0 c1 makes) within)) }
 
 pub pair-stays : (t0 t1 : TermTable) (c0 c1 : Contents) → Makes t0 t1 c0 c1 → (pair : ℕ × ℕ) → IsMadePair c0 pair → IsMadePair c1 pair
-pair-stays t0 t1 c0 c1 makes pair made = (line-stays t0 t1 c0 c1 makes pair.0 made.0, line-stays t0 t1 c0 c1 makes pair.1 made.1)
+pair-stays t0 t1 c0 c1 makes pair made = record { new = line-stays t0 t1 c0 c1 makes pair.0 made.new; old = line-stays t0 t1 c0 c1 makes pair.1 made.old }
 
 -- the state stays as it is
 pub state-made : (t0 t1 : TermTable) (c0 c1 : Contents) → Makes t0 t1 c0 c1 → IsContents t0 c0 → state_of t1 c1 ≡ state_of t0 c0
@@ -97,7 +97,7 @@ so-far-done IsMade elements index t0 t1 c0 c1 so_far past = λ k d within. so_fa
 -- two after one another
 
 pub made_both : (result : Result (Unit {0}) Fault) (t1 t2 : TermTable) (c1 c2 : Contents) (first second : ℕ) → Makes t1 t2 c1 c2 → IsMadeLine c1 first → OnOk result (IsMadeLine c2 second) → OnOk result (IsMadePair c2 (first, second))
-made_both (Ok done) t1 t2 c1 c2 first second makes one two = (line-stays t1 t2 c1 c2 makes first one, two)
+made_both (Ok done) t1 t2 c1 c2 first second makes one two = record { new = line-stays t1 t2 c1 c2 makes first one; old = two }
 made_both (Err fault) t1 t2 c1 c2 first second makes one two = tt
 
 pub made_claim : (result : Result (Unit {0}) Fault) (t1 t2 : TermTable) (c1 c2 : Contents) (conclusion : ℕ) (hypotheses : List ℕ) → Makes t1 t2 c1 c2 → All (IsMadeLine c1) hypotheses → OnOk result (IsMadeLine c2 conclusion)
@@ -107,7 +107,12 @@ made_claim (Err fault) t1 t2 c1 c2 conclusion hypotheses makes all one = tt
 
 -- a line that is not there
 pub no_line_made : (contents : Contents) (line : ℕ) → nat_le (length contents.terms.items) line ≡ true → IsMadeLine contents line
-no_line_made contents line past = λ within. absurd (go (length contents.terms.items) line past within)
+no_line_made contents line past = record { is_made = λ within. absurd (go (length contents.terms.items) line past within) }
   where
     go : (n i : ℕ) → nat_le n i ≡ true → i < n → ⊥
     go n i past within = grind (arith, past, within)
+
+-- a line that is there
+pub there-made : (result : Result (Unit {0}) Fault) (contents : Contents) (line : ℕ) → OnOk result (HasEntry contents.made.entries line) → OnOk result (IsMadeLine contents line)
+there-made (Ok done) contents line there = record { is_made = λ within. there }
+there-made (Err fault) contents line there = tt

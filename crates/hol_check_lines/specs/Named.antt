@@ -10,8 +10,9 @@ use Rattle.hol_check_rules.specs.State.{IsContents}
 use Rattle.hol_check_rules.specs.Judged.{IsMadeLine}
 use Rattle.hol_check_rules.specs.declared.state.Contents.{Contents}
 
-abbrev pub IsMadePair : Contents → ℕ × ℕ → Type 0
-IsMadePair contents pair = IsMadeLine contents pair.0 × IsMadeLine contents pair.1
+pub record IsMadePair (contents : Contents) (pair : ℕ × ℕ) : Type 0 where
+  pub new : IsMadeLine contents pair.0
+  pub old : IsMadeLine contents pair.1
 
 -- each term that the rule names is made, where its line is there
 abbrev pub AreRuleMade : Contents → LogRule → Type 0

@@ -80,7 +80,7 @@ module _ (table : TermTable) (contents : Contents) (is : IsContents table conten
     where
       go : (test : Bool) → nat_le (length contents.terms.items) line ≡ test → is_no_term (state_of table contents) line ≡ true
       go true past = ap (λ n. nat_le n line) terms-length ∙ past
-      go false within = let entry = made (below (length contents.terms.items) line within) in absurd (lookup-none line entry.0 contents.made.entries none entry.1)
+      go false within = let entry = made.is_made (below (length contents.terms.items) line within) in absurd (lookup-none line entry.0 contents.made.entries none entry.1)
         where
           below : (n i : ℕ) → nat_le n i ≡ false → i < n
           below n i fails = grind (arith, fails)

@@ -54,8 +54,8 @@ pub record NamesWritten (table : TermTable) (contents : Contents) (line : ℕ) (
   pub writes : Writes table (named_at (named_terms table.terms contents.terms.items) line) written
 
 -- a line's term is made, where the line is there
-abbrev pub IsMadeLine : Contents → ℕ → Type 0
-IsMadeLine contents line = line < length contents.terms.items → HasEntry contents.made.entries line
+pub record IsMadeLine (contents : Contents) (line : ℕ) : Type 0 where
+  pub is_made : line < length contents.terms.items → HasEntry contents.made.entries line
 
 abbrev pub FindsWritten : TermTable → Contents → ℕ → Option Written → Type 0
 FindsWritten table contents line None = is_no_term (state_of table contents) line ≡ true

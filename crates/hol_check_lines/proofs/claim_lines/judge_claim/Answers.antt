@@ -17,3 +17,6 @@ returns-in-Ok-name c =
     (ap (λ l. is_sequent (term_at c.args.terms.now.terms c.in-Some-term_at.concluded) (terms_in c.args.terms.now.terms l) (sequent_in c.args.terms.now.terms c.in-Some.proved.now)) (sym c.deref-2.ensures.value)
     ∙ (sym c.concludes.ensures ∙ c.if-not-concludes.false))
     c.in-Ok-name.ensures.number c.in-Ok-name.ensures.grows
+
+pub concludes-requires-clause-conclusion : goal.concludes-requires-clause-conclusion
+concludes-requires-clause-conclusion c = (c.in-Some-term_at.ensures c.args.terms.now c.requires.contents c.requires.conclusion).fits
