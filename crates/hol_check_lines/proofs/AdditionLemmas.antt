@@ -8,7 +8,7 @@ use Rattle.hol_model.specs.declared.fault.Fault.{Fault}
 use Rattle.hol_model.specs.Terms.Nameless.{image}
 use Rattle.hol_model.specs.Logs.LogState.{no_sequent}
 use Rattle.hol_logtext.specs.Lines.{version_of}
-use Rattle.hol_check_terms.specs.Terms.{TermTable, name_at, type_at, term_at}
+use Rattle.hol_check_terms.specs.Terms.{TermTable, name_at, type_at}
 use Rattle.hol_check_rules.specs.Known.{GivesConstant}
 use Rattle.hol_check_rules.specs.Hypotheses.{terms_in, AreOrdered}
 use Rattle.hol_check_rules.specs.State.{sequent_in, entry_in, theory_in, claim_in, state_of, IsFittingTheorem, HasEntryParts, IsClaim, IsContents}

@@ -1,5 +1,5 @@
 -- The terms that are made before a line is judged.
-use Rattle.std.proofs.Common.{◌≡◌, ℕ, ◌+◌, ◌<◌, ◌≤◌, List, [], ◌∷◌, length, get_or, Bool, true, false, refl, sym, ◌∙◌, ap, subst, Some, Result, Ok, Err, arith, nat_le}
+use Rattle.std.proofs.Common.{◌≡◌, ℕ, ◌+◌, ◌<◌, ◌≤◌, List, length, get_or, Bool, true, false, refl, sym, ◌∙◌, ap, subst, Some, Result, Ok, Err, arith, nat_le}
 use Rattle.std.specs.Prelude.{slice_get, nat_lt, OnOk}
 use Rattle.std.proofs.lemmas.Option.{slice_get-get_or, get_or_from_slice_get}
 use Rattle.hol_model.specs.declared.fault.Fault.{Fault}

@@ -1,5 +1,5 @@
 -- The terms that a line of a step or a claim names.
-use Rattle.std.specs.Prelude.{◌≡◌, ℕ, List, Result, IfErr}
+use Rattle.std.specs.Prelude.{◌≡◌, ℕ}
 use Rattle.std.specs.List.{All}
 use Rattle.hol_model.specs.Logs.LogLine.{LogRule, LogLine}
 use Rattle.hol_model.specs.Logs.LogLine.LogRule.{refl_step, abs_step, beta_step, assume_step, inst_step, definition_step}

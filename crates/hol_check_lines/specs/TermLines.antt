@@ -1,11 +1,11 @@
 -- What is answered for a line that adds a term.
-use Rattle.std.specs.Prelude.{◌≡◌, length, false, Result, Ok, Err, IfOk, IfErr}
+use Rattle.std.specs.Prelude.{◌≡◌, false, Result, Ok, Err, IfOk, IfErr}
 use Rattle.hol_model.specs.declared.fault.Fault.{Fault}
 use Rattle.hol_model.specs.declared.fault.Fault.TheVariants.{Memory}
 use Rattle.hol_model.specs.declared.fault.Cause.{Cause}
 use Rattle.hol_model.specs.declared.fault.Cause.TheVariants.{Large}
 use Rattle.hol_model.specs.Terms.NamedTerm.{NamedTerm, is_within_limits}
-use Rattle.hol_check_terms.specs.Terms.{TermTable, IsGrown}
+use Rattle.hol_check_terms.specs.Terms.{TermTable}
 use Rattle.hol_check_written.specs.Written.{Writes}
 use Rattle.hol_check_written.specs.declared.written.Written.{Written}
 use Rattle.hol_check_written.specs.declared.written.WrittenShape.{WrittenShape}

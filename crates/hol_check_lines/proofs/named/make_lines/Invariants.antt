@@ -1,4 +1,3 @@
-use Rattle.std.specs.Prelude.{take}
 use Rattle.hol_check_lines.proofs.NamedLemmas.{AreMadeSoFar}
 use Rattle.hol_check_rules.specs.Judged.{IsMadeLine}
 use Rattle.hol_check_lines.proofs.named.make_lines.Given as goal

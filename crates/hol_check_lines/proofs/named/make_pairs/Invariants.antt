@@ -1,4 +1,3 @@
-use Rattle.std.specs.Prelude.{take}
 use Rattle.hol_check_lines.proofs.NamedLemmas.{AreMadeSoFar}
 use Rattle.hol_check_lines.specs.Named.{IsMadePair}
 use Rattle.hol_check_lines.proofs.named.make_pairs.Given as goal
