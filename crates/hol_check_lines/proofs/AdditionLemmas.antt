@@ -5,9 +5,10 @@ use Rattle.std.specs.List.{All, slice_index_or}
 use Rattle.std.proofs.lemmas.List.{length-map, map_push}
 use Rattle.std.proofs.lemmas.List.Elements.{All-push}
 use Rattle.hol_model.specs.declared.fault.Fault.{Fault}
+use Rattle.hol_model.specs.Terms.Nameless.{image}
 use Rattle.hol_model.specs.Logs.LogState.{no_sequent}
 use Rattle.hol_logtext.specs.Lines.{version_of}
-use Rattle.hol_check_terms.specs.Terms.{TermTable, name_at, type_at, term_at}
+use Rattle.hol_check_terms.specs.Terms.{TermTable, name_at, type_at}
 use Rattle.hol_check_rules.specs.Known.{GivesConstant}
 use Rattle.hol_check_rules.specs.Hypotheses.{terms_in, AreOrdered}
 use Rattle.hol_check_rules.specs.State.{sequent_in, entry_in, theory_in, claim_in, state_of, IsFittingTheorem, HasEntryParts, IsClaim, IsContents}
@@ -17,8 +18,13 @@ use Rattle.hol_check_rules.specs.declared.state.Theorem.{Theorem}
 use Rattle.hol_check_rules.specs.declared.state.TheoryEntry.TheVariants.{Definition}
 use Rattle.hol_check_rules.specs.declared.state.ListedClaim.{ListedClaim}
 use Rattle.hol_check_rules.specs.declared.state.Contents.{Contents}
-use Rattle.hol_check_rules.specs.declared.state.Addition.TheVariants.{TypeNumber, TermNumber, Proved, Defined, Claimed}
+use Rattle.hol_check_rules.specs.declared.state.Addition.TheVariants.{TypeNumber, TermLine, Proved, Defined, Claimed}
 use Rattle.hol_check_changes.specs.Forming.{IsFitting}
+use Rattle.hol_check_written.specs.Written.{named_of, named_terms, AreWritten}
+use Rattle.hol_check_written.specs.Making.{AreMade}
+use Rattle.hol_check_written.specs.declared.written.Written.{Written}
+use Rattle.hol_check_written.proofs.NamedLemmas.{named-push, written-push}
+use Rattle.hol_check_written.proofs.MakingLemmas.{made-push}
 use Rattle.hol_check_terms.proofs.TableLemmas.{get_or-longer}
 use Rattle.hol_check_rules.proofs.StateLemmas.{map-same, All-weaker}
 
@@ -32,6 +38,7 @@ added-type table contents types number is within pushed = record {
   is_contents = record {
     types = subst (All (λ n. n < length table.types)) (sym pushed) (All-push (λ n. n < length table.types) contents.types.items number is.types within);
     terms = is.terms;
+    made = is.made;
     theorems = is.theorems;
     entries = is.entries;
     room = is.room;
@@ -49,12 +56,13 @@ added-type table contents types number is within pushed = record {
   };
 }
 
-pub added-term : (table : TermTable) (contents : Contents) (terms : Vec ℕ Global) (number : ℕ) → IsContents table contents → IsFitting table.terms number → terms.items ≡ contents.terms.items ++ number ∷ []
-    → IsAdded table contents (TermNumber number) (record contents { terms = terms })
-added-term table contents terms number is fitting pushed = record {
+pub added-line : (table : TermTable) (contents : Contents) (terms : Vec Written Global) (line : Written) → IsContents table contents → CanBeAdded table contents (TermLine line) → terms.items ≡ contents.terms.items ++ line ∷ []
+    → IsAdded table contents (TermLine line) (record contents { terms = terms })
+added-line table contents terms line is stands pushed = record {
   is_contents = record {
     types = is.types;
-    terms = subst (All (IsFitting table.terms)) (sym pushed) (All-push (IsFitting table.terms) contents.terms.items number is.terms fitting);
+    terms = subst (AreWritten table) (sym pushed) (written-push table contents.terms.items line is.terms stands.0 stands.1);
+    made = subst (λ l. AreMade table l contents.made.entries) (sym pushed) (made-push table contents.terms.items line contents.made.entries is.made);
     theorems = is.theorems;
     entries = is.entries;
     room = is.room;
@@ -64,12 +72,27 @@ added-term table contents terms number is fitting pushed = record {
   state = λ i. record {
     version = version_of contents.version;
     types = sym (append-nil (state_of table contents).types) i;
-    terms = (ap (map (term_at table.terms)) pushed ∙ map_push (term_at table.terms) contents.terms.items number) i;
+    terms =
+        (ap (λ l. map image (named_terms table.terms l)) pushed
+        ∙ (ap (map image) (named-push table.terms contents.terms.items line) ∙ map_push image (named_terms table.terms contents.terms.items) (named_of table.terms (named_terms table.terms contents.terms.items) line))) i;
     theorems = sym (append-nil (state_of table contents).theorems) i;
     theory = (state_of table contents).theory;
     claims = sym (append-nil (state_of table contents).claims) i;
     is_ended = sym (either contents.is_ended) i;
   };
+}
+
+-- a line that found no room
+pub kept-line : (table : TermTable) (contents : Contents) (terms : Vec Written Global) → IsContents table contents → terms.items ≡ contents.terms.items → IsContents table (record contents { terms = terms })
+kept-line table contents terms is same = record {
+  types = is.types;
+  terms = subst (AreWritten table) (sym same) is.terms;
+  made = subst (λ l. AreMade table l contents.made.entries) (sym same) is.made;
+  theorems = is.theorems;
+  entries = is.entries;
+  room = is.room;
+  knows = is.knows;
+  claims = is.claims;
 }
 
 -- claims keep their theorems as theorems are added
@@ -100,6 +123,7 @@ added-theorem table contents theorems theorem is fitting pushed = record {
   is_contents = record {
     types = is.types;
     terms = is.terms;
+    made = is.made;
     theorems = subst (All (IsFittingTheorem table.terms)) (sym pushed) (All-push (IsFittingTheorem table.terms) contents.theorems.items theorem is.theorems fitting);
     entries = is.entries;
     room = is.room;
@@ -123,6 +147,7 @@ added-claim table contents claims claim is stands pushed = record {
   is_contents = record {
     types = is.types;
     terms = is.terms;
+    made = is.made;
     theorems = is.theorems;
     entries = is.entries;
     room = is.room;

@@ -9,3 +9,4 @@ pub mod ClaimLineLemmas
 pub mod StepPairLemmas
 pub mod TakeLemmas
 pub mod JudgedDefinitions
+pub mod NamedLemmas

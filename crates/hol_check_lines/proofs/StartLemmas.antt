@@ -14,6 +14,10 @@ use Rattle.hol_model.specs.Logic.Theory.{generic_type, equality_name, choice_nam
 use Rattle.hol_check_terms.specs.Growth.{IsLonger}
 use Rattle.hol_check_terms.specs.Terms.{TermTable, name_at, type_at, IsGrown}
 use Rattle.hol_check_terms.specs.Entries.{IsEntry}
+use Rattle.hol_check_written.specs.Written.{AreWritten}
+use Rattle.hol_check_written.specs.Making.{AreMade}
+use Rattle.hol_check_written.specs.declared.written.Written.{Written}
+use Rattle.hol_check_written.proofs.MakingLemmas.{none-numbered}
 use Rattle.hol_check_rules.specs.Known.{IsGiven, IsListed, Knows}
 use Rattle.hol_check_terms.proofs.TableLemmas.{is_within}
 use Rattle.hol_check_rules.proofs.StateLemmas.{longer-place}
@@ -137,3 +141,14 @@ knows-first t1 t2 t3 t4 equality equality_ty choice choice_ty is_equality one is
     (longer-place t3.types t4.types equality_ty (equality_type type_a) three.types (longer-place t2.types t3.types equality_ty (equality_type type_a) two.types is_equality_ty))
     (longer-place t3.names t4.names choice choice_name three.names is_choice)
     is_choice_ty
+
+-- no lines of terms yet
+
+pub none_written : (table : TermTable) (written : List Written) → written ≡ [] → AreWritten table written
+none_written table written none = subst (AreWritten table) (sym none) (λ place one there. absurd (no-place place one there))
+  where
+    no-place : (place : ℕ) (one : Written) → slice_get {X = Written} [] place ≡ Some one → ⊥
+    no-place place one there = cc
+
+pub none_made : (table : TermTable) (written : List Written) (entries : List (ℕ × ℕ)) → entries ≡ [] → AreMade table written entries
+none_made table written entries none = none-numbered table written [] entries none

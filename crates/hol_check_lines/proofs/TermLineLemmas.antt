@@ -1,35 +1,44 @@
 -- The lines of terms.
-use Rattle.std.proofs.Common.{◌≡◌, ℕ, ◌+◌, ◌<◌, List, [], ◌∷◌, length, Bool, true, false, not, ◌&&◌, refl, sym, ◌∙◌, ap, subst, Some, None, Result, Ok, Err, IfOk, IfErr, inl}
+use Rattle.std.proofs.Common.{◌≡◌, ℕ, ◌+◌, List, [], ◌∷◌, length, Bool, true, false, not, ◌&&◌, refl, sym, ◌∙◌, ap, subst, Some, None, Result, Ok, Err, if◌then◌else◌}
 use Rattle.std.specs.Prelude.{slice_get, nat_le}
 use Rattle.std.specs.List.{list_all}
+use Rattle.std.specs.Option.{option_map}
 use Rattle.std.proofs.lemmas.Option.{get_or_from_slice_get}
 use Rattle.hol_model.specs.declared.fault.Fault.{Fault}
-use Rattle.hol_model.specs.declared.fault.Fault.TheVariants.{Memory}
 use Rattle.hol_model.specs.declared.fault.Cause.{Cause}
 use Rattle.hol_model.specs.declared.fault.Cause.TheVariants.{Kind, Const, Large}
 use Rattle.hol_model.specs.declared.limits.TheConstants.{DEFINITIONS_LIMIT}
 use Rattle.hol_model.specs.Terms.Name.{is_identifier, is_constant_name}
-use Rattle.hol_model.specs.Terms.HolType.{HolType}
-use Rattle.hol_model.specs.Terms.NamedTerm.{type_fits}
-use Rattle.hol_model.specs.Terms.Nameless.{Nameless, free, const, app, nameless_type}
+use Rattle.hol_model.specs.Terms.HolType.{HolType, type_variable, bool_type, function_type, declared_type, codomain_of}
+use Rattle.hol_model.specs.Terms.NamedTerm.{NamedTerm, variable, combination, abstraction, type_of, application_type, answer_type, type_fits}
+use Rattle.hol_model.specs.Terms.Nameless.{Nameless, free, const, bound, app, lam, nameless_type, image}
 use Rattle.hol_model.specs.Terms.Measures.{nameless_within_limits}
 use Rattle.hol_model.specs.Logic.Checks.{knows_constant}
 use Rattle.hol_model.specs.Logs.LogLine.{LogLine, variable_line, constant_line, combination_line, abstraction_line}
 use Rattle.hol_model.specs.Logs.LogState as given
-use Rattle.hol_model.specs.Logs.LogState.{LogState}
-use Rattle.hol_model.specs.Logs.LogSequents.{new_types, new_terms, new_theorems, new_entries, new_claims, ends, is_free_variable, abstraction_over}
+use Rattle.hol_model.specs.Logs.LogState.{LogState, term_type}
+use Rattle.hol_model.specs.Logs.LogSequents.{new_types, new_terms, new_theorems, new_entries, new_claims, ends, is_free_variable, abstraction_over, variable_name}
 use Rattle.hol_model.specs.Logs.LogFaults.{has_shape_fault, has_number_fault, has_name_fault, has_type_fault, has_constant_fault, has_rule_fault, has_claim_fault, has_size_fault, takes, sequent_fits, is_no_type, is_no_term}
+use Rattle.hol_model.proofs.Terms.Images.{image-typed, image-abstraction}
+use Rattle.hol_model.proofs.Terms.Measures.{past_limits-image}
+use Rattle.hol_model.proofs.Terms.Typing.{nameless_type-is}
+use Rattle.hol_model.proofs.Terms.WithinLimits.{within_limits-image}
 use Rattle.hol_check_terms.specs.Terms.{TermTable, name_at, type_at, term_at, IsGrown}
-use Rattle.hol_check_changes.specs.Change.{IsMade}
+use Rattle.hol_check_written.specs.Written.{named_constant, named_at, named_of_shape, named_of, named_terms, IsFree, PartsAreEarlier, Writes}
+use Rattle.hol_check_written.specs.declared.written.Written.{Written}
+use Rattle.hol_check_written.specs.declared.written.WrittenShape.{WrittenShape}
+use Rattle.hol_check_written.specs.declared.written.WrittenShape.TheVariants.{Variable, Constant, Application, Abstraction}
+use Rattle.hol_check_written.proofs.NamedLemmas.{free-grown, free-still, named-still}
+use Rattle.hol_check_lines.proofs.NamedLemmas.{IsGrown-same}
+use Rattle.hol_check_written.proofs.WritesLemmas.{within-limits}
 use Rattle.hol_check_rules.specs.State.{theory_in, state_of, IsContents}
-use Rattle.hol_check_rules.specs.Judged.{NamesType, NamesTerm, Judges, first_fault}
+use Rattle.hol_check_rules.specs.Judged.{NamesType, NamesWritten, Judges, first_fault}
 use Rattle.hol_check_lines.specs.TermLines.{AnswersTerm}
 use Rattle.hol_check_rules.specs.declared.state.Contents.{Contents}
 use Rattle.hol_check_rules.specs.declared.state.Addition.{Addition}
-use Rattle.hol_check_terms.proofs.TableLemmas.{is_within}
 use Rattle.hol_check_lines.proofs.FaultLemmas.{no-fault, type-fault, constant-fault, size-fault, room, all-fit, terms-large}
 use Rattle.hol_check_lines.proofs.TypeLineLemmas.{neither}
-use Rattle.hol_check_terms.proofs.GrowthLemmas.{type-grown, type-there, type-place, term-grown, term-there, IsGrown-trans}
+use Rattle.hol_check_terms.proofs.GrowthLemmas.{type-grown, term-there, place-grown, IsGrown-trans}
 
 -- a line that adds the term, and that no cause before `large` refuses
 pub record AddsOneTerm (state : LogState) (line : LogLine) (wanted : Nameless) : Type 0 where
@@ -65,30 +74,49 @@ module _ (state : LogState) (line : LogLine) (wanted : Nameless) (adds : AddsOne
       size-fault state line adds.shape adds.number adds.name adds.type_fits adds.constant adds.rule adds.claim
       (size ∙ terms-large true (nameless_within_limits wanted && true) true (nat_le (0 + length state.theory) DEFINITIONS_LIMIT) refl (and_true (nameless_within_limits wanted) false past))
 
-pub judged-term : (line : LogLine) (contents : Contents) (earlier now : TermTable) (wanted : Nameless) (result : Result (Result Addition Cause) Fault) → AddsOneTerm (state_of earlier contents) line wanted → IsContents earlier contents
-    → AnswersTerm wanted result now.terms → IsGrown earlier now → Judges line contents earlier result now
-judged-term line contents earlier now wanted (Ok (Ok addition)) adds is answers grown =
-    let term = answers.answered in
-    subst (λ a. Judges line contents earlier (Ok (Ok a)) now) (sym term.is_added) (record {
+-- a line of the shape of a term within the limits adds it
+pub judged-term : (line : LogLine) (contents : Contents) (earlier now : TermTable) (term : NamedTerm) (ty : HolType) (shape : WrittenShape) (result : Result (Result Addition Cause) Fault) → AddsOneTerm (state_of earlier contents) line (image term) → IsContents earlier contents
+    → type_of term ≡ Some ty → PartsAreEarlier now.terms (length contents.terms.items) shape → named_of_shape now.terms (named_terms now.terms contents.terms.items) shape ≡ term
+    → AnswersTerm term shape result now → IsGrown earlier now → Judges line contents earlier result now
+judged-term line contents earlier now term ty shape (Ok (Ok addition)) adds is typed parts shape_is answers grown =
+    let added = answers.answered in
+    let written_is : named_of now.terms (named_terms now.terms contents.terms.items) added.written ≡ term = ap (named_of_shape now.terms (named_terms now.terms contents.terms.items)) added.is_shape ∙ shape_is in
+    subst (λ a. Judges line contents earlier (Ok (Ok a)) now) (sym added.is_added) (record {
       judged = record {
-        accepted = term-accepted (state_of earlier contents) line wanted adds (room earlier contents is) term.fits;
-        denotes = record { types = adds.types; terms = adds.terms ∙ ap (λ t. t ∷ []) (sym (term-there now.terms term.number wanted term.is_term)); theorems = adds.theorems; entries = adds.entries; claims = adds.claims; ends = adds.ends };
-        added = record { within = is_within now.terms term.number wanted term.is_term; fits = ap nameless_within_limits (term-there now.terms term.number wanted term.is_term) ∙ term.fits };
+        accepted = term-accepted (state_of earlier contents) line (image term) adds (room earlier contents is) (within_limits-image term ty typed (within-limits now term added.written added.writes));
+        denotes = record { types = adds.types; terms = adds.terms ∙ ap (λ t. image t ∷ []) (sym written_is); theorems = adds.theorems; entries = adds.entries; claims = adds.claims; ends = adds.ends };
+        added = (subst (PartsAreEarlier now.terms (length contents.terms.items)) (sym added.is_shape) parts, subst (λ t. Writes now t added.written) (sym written_is) added.writes);
       };
       refused = tt;
       grows = grown;
     })
-judged-term line contents earlier now wanted (Ok (Err cause)) adds is answers grown = record {
-  judged = term-large (state_of earlier contents) line wanted adds (room earlier contents is) answers.answered.is_past ∙ ap Some (sym answers.answered.is_cause);
+judged-term line contents earlier now term ty shape (Ok (Err cause)) adds is typed parts shape_is answers grown = record {
+  judged = term-large (state_of earlier contents) line (image term) adds (room earlier contents is) (past_limits-image term ty typed answers.answered.is_past) ∙ ap Some (sym answers.answered.is_cause);
   refused = tt;
   grows = grown;
 }
-judged-term line contents earlier now wanted (Err fault) adds is answers grown = record { judged = tt; refused = answers.refused; grows = grown }
+judged-term line contents earlier now term ty shape (Err fault) adds is typed parts shape_is answers grown = record { judged = tt; refused = answers.refused; grows = grown }
 
--- the number of what was made stands in the table
-pub made-within : (wanted : Nameless) (result : Result ℕ Fault) (terms : List Nameless) → IsMade wanted result terms → IfOk result (λ number. number < length terms)
-made-within wanted (Ok number) terms made = is_within terms number wanted made.number
-made-within wanted (Err fault) terms made = tt
+-- a variable, and a constant, by their numbers
+
+pub judged-variable : (line : LogLine) (contents : Contents) (t0 t1 t2 : TermTable) (name : List ℕ) (ty : HolType) (number : ℕ) (result : Result (Result Addition Cause) Fault) → AddsOneTerm (state_of t0 contents) line (free name ty) → IsContents t0 contents
+    → IsGrown t0 t1 → IsGrown t1 t2 → slice_get t1.terms number ≡ Some (free name ty)
+    → AnswersTerm (variable (variable_name (term_at t1.terms number)) (term_type (term_at t1.terms number))) (Variable number) result t2 → Judges line contents t0 result t2
+judged-variable line contents t0 t1 t2 name ty number result adds is first second there answers =
+    let is_free : IsFree t1.terms number = record { name = name; ty = ty; is_variable = there } in
+    let same = term-there t1.terms number (free name ty) there in
+    judged-term line contents t0 t2 (variable (variable_name (term_at t1.terms number)) (term_type (term_at t1.terms number))) (term_type (term_at t1.terms number)) (Variable number) result
+    (subst (λ u. AddsOneTerm (state_of t0 contents) line (image (variable (variable_name u) (term_type u)))) (sym same) adds) is refl
+    (free-grown t1 t2 second number is_free) (ap (λ u. variable (variable_name u) (term_type u)) (free-still t1 t2 second number is_free)) answers (IsGrown-trans t0 t1 t2 first second)
+
+pub judged-constant : (line : LogLine) (contents : Contents) (t0 t1 t2 : TermTable) (name : List ℕ) (ty : HolType) (number : ℕ) (result : Result (Result Addition Cause) Fault) → AddsOneTerm (state_of t0 contents) line (const name ty) → IsContents t0 contents
+    → IsGrown t0 t1 → IsGrown t1 t2 → slice_get t1.terms number ≡ Some (const name ty) → AnswersTerm (named_constant (term_at t1.terms number)) (Constant number) result t2 → Judges line contents t0 result t2
+judged-constant line contents t0 t1 t2 name ty number result adds is first second there answers =
+    let same = term-there t1.terms number (const name ty) there in
+    let later = place-grown t1 t2 number (const name ty) second there in
+    judged-term line contents t0 t2 (named_constant (term_at t1.terms number)) ty (Constant number) result
+    (subst (λ u. AddsOneTerm (state_of t0 contents) line (image (named_constant u))) (sym same) adds) is (ap (λ u. type_of (named_constant u)) same)
+    (record { name = name; ty = ty; is_constant = later }) (ap named_constant (term-there t2.terms number (const name ty) later ∙ sym same)) answers (IsGrown-trans t0 t1 t2 first second)
 
 pub adds-variable : (state : LogState) (name : List ℕ) (line : ℕ) (ty : HolType) → is_no_type state line ≡ false → is_identifier name ≡ true → given.type_at state line ≡ ty → AddsOneTerm state (variable_line name line) (free name ty)
 adds-variable state name line ty there legal named = record {
@@ -161,43 +189,91 @@ adds-abstraction state binder body v b first second binder_is body_is is = recor
   ends = refl;
 }
 
--- a combination's parts, while the tables grow
-module _ (t0 t1 t2 : TermTable) (contents : Contents) (function argument f a function_ty argument_ty : ℕ) (first : NamesTerm (state_of t0 contents) function t0.terms f) (second : NamesTerm (state_of t0 contents) argument t0.terms a) (one : IsGrown t0 t1) (two : IsGrown t1 t2)
-    (function_typed : slice_get t1.types function_ty ≡ Some (nameless_type [] (term_at t0.terms f))) (argument_typed : slice_get t2.types argument_ty ≡ Some (nameless_type [] (term_at t1.terms a))) where
-  both-grown : IsGrown t0 t2
-  both-grown = IsGrown-trans t0 t1 t2 one two
+-- the type of what a line writes
+type-is-of : (table : TermTable) (term : NamedTerm) (written : Written) → Writes table term written → nameless_type [] (image term) ≡ type_at table.types written.ty
+type-is-of table term written writes = nameless_type-is (image term) [] (type_at table.types written.ty) (image-typed term (type_at table.types written.ty) writes.typed)
 
-  pub function-is : given.term_at (state_of t0 contents) function ≡ term_at t2.terms f
-  function-is = first.named ∙ sym (term-grown t0 t2 f both-grown first.fits.within)
+answers-function : (f a : HolType) → takes f a ≡ true → answer_type f a ≡ Some (codomain_of f)
+answers-function (type_variable name) a is = cc
+answers-function bool_type a is = cc
+answers-function (function_type domain codomain) a is = ap (λ b. if b then Some codomain else None) is
+answers-function (declared_type name) a is = cc
 
-  pub argument-is : given.term_at (state_of t0 contents) argument ≡ term_at t2.terms a
-  argument-is = second.named ∙ sym (term-grown t0 t2 a both-grown second.fits.within)
+-- a combination of lines
+module _ (table : TermTable) (contents : Contents) (function argument : ℕ) (f a : Written) (first : NamesWritten table contents function f) (second : NamesWritten table contents argument a) where
+  abbrev left : NamedTerm
+  left = named_at (named_terms table.terms contents.terms.items) function
 
-  function-type : type_at t2.types function_ty ≡ nameless_type [] (term_at t2.terms f)
-  function-type = type-there t2.types function_ty _ (type-place t1.types t2.types function_ty _ two.types function_typed) ∙ ap (nameless_type []) (sym (term-grown t0 t2 f both-grown first.fits.within))
+  abbrev right : NamedTerm
+  right = named_at (named_terms table.terms contents.terms.items) argument
 
-  argument-type : type_at t2.types argument_ty ≡ nameless_type [] (term_at t2.terms a)
-  argument-type = type-there t2.types argument_ty _ argument_typed ∙ ap (nameless_type []) (term-grown t0 t1 a one second.fits.within ∙ sym (term-grown t0 t2 a both-grown second.fits.within))
+  takes-is : takes (nameless_type [] (image left)) (nameless_type [] (image right)) ≡ takes (type_at table.types f.ty) (type_at table.types a.ty)
+  takes-is = λ i. takes (type-is-of table left f first.writes i) (type-is-of table right a second.writes i)
 
-  same-types : takes (nameless_type [] (term_at t2.terms f)) (nameless_type [] (term_at t2.terms a)) ≡ takes (type_at t2.types function_ty) (type_at t2.types argument_ty)
-  same-types = sym (λ i. takes (function-type i) (argument-type i))
-
-  pub adds-grown-combination : takes (type_at t2.types function_ty) (type_at t2.types argument_ty) ≡ true → AddsOneTerm (state_of t0 contents) (combination_line function argument) (app (term_at t2.terms f) (term_at t2.terms a))
-  adds-grown-combination fits =
-      adds-combination (state_of t0 contents) function argument (term_at t2.terms f) (term_at t2.terms a) first.is_there second.is_there function-is argument-is (same-types ∙ fits)
-
-  pub no-combination : takes (type_at t2.types function_ty) (type_at t2.types argument_ty) ≡ false → Judges (combination_line function argument) contents t0 (Ok (Err Kind)) t2
+  pub no-combination : takes (type_at table.types f.ty) (type_at table.types a.ty) ≡ false → Judges (combination_line function argument) contents table (Ok (Err Kind)) table
   no-combination unfit = record {
-    judged = type-fault (state_of t0 contents) (combination_line function argument) refl (neither _ _ first.is_there second.is_there) refl
-        (ap not ((λ i. takes (nameless_type [] (function-is i)) (nameless_type [] (argument-is i))) ∙ (same-types ∙ unfit)));
+    judged = type-fault (state_of table contents) (combination_line function argument) refl (neither _ _ first.is_there second.is_there) refl
+        (ap not ((λ i. takes (nameless_type [] (first.named i)) (nameless_type [] (second.named i))) ∙ (takes-is ∙ unfit)));
     refused = tt;
-    grows = both-grown;
+    grows = IsGrown-same table;
   }
 
--- what only memory that is used up refuses
-pub memory-made : (wanted : Nameless) (result : Result ℕ Fault) (terms : List Nameless) → IfOk result (λ number. slice_get terms number ≡ Some wanted) → IfErr result (λ fault. fault ≡ Memory) → IsMade wanted result terms
-memory-made wanted (Ok number) terms made refused = record { number = made; refused = tt }
-memory-made wanted (Err fault) terms made refused = record { number = tt; refused = inl refused }
+  pub judged-combination : (result : Result (Result Addition Cause) Fault) → IsContents table contents → takes (type_at table.types f.ty) (type_at table.types a.ty) ≡ true
+      → AnswersTerm (combination left right) (Application function argument) result table → Judges (combination_line function argument) contents table result table
+  judged-combination result is fits answers =
+      judged-term (combination_line function argument) contents table table (combination left right) (codomain_of (type_at table.types f.ty)) (Application function argument) result
+      (adds-combination (state_of table contents) function argument (image left) (image right) first.is_there second.is_there first.named second.named (takes-is ∙ fits)) is
+      ((λ i. application_type (first.writes.typed i) (second.writes.typed i)) ∙ answers-function (type_at table.types f.ty) (type_at table.types a.ty) fits)
+      (first.within, second.within) refl answers (IsGrown-same table)
+
+-- an abstraction of a line
+module _ (t0 : TermTable) (contents : Contents) (binder body : ℕ) (v b : Written) (first : NamesWritten t0 contents binder v) (second : NamesWritten t0 contents body b) where
+  binder-is : (shape : WrittenShape) → v.shape ≡ shape → given.term_at (state_of t0 contents) binder ≡ image (named_of_shape t0.terms (named_terms t0.terms contents.terms.items) shape)
+  binder-is shape is = first.named ∙ ap image (first.is_shape ∙ ap (named_of_shape t0.terms (named_terms t0.terms contents.terms.items)) is)
+
+  no-abstraction : (shape : WrittenShape) → v.shape ≡ shape → is_free_variable (image (named_of_shape t0.terms (named_terms t0.terms contents.terms.items) shape)) ≡ false → Judges (abstraction_line binder body) contents t0 (Ok (Err Kind)) t0
+  no-abstraction shape is other = record {
+    judged = type-fault (state_of t0 contents) (abstraction_line binder body) refl (neither _ _ first.is_there second.is_there) refl (ap not (ap is_free_variable (binder-is shape is) ∙ other));
+    refused = tt;
+    grows = IsGrown-same t0;
+  }
+
+  pub constant-binder : (number : ℕ) → v.shape ≡ Constant number → Judges (abstraction_line binder body) contents t0 (Ok (Err Kind)) t0
+  constant-binder number is = no-abstraction (Constant number) is (go (term_at t0.terms number))
+    where
+      go : (t : Nameless) → is_free_variable (image (named_constant t)) ≡ false
+      go (free name ty) = refl
+      go (const name ty) = refl
+      go (bound index) = refl
+      go (app f x) = refl
+      go (lam ty t) = refl
+
+  pub application-binder : (f x : ℕ) → v.shape ≡ Application f x → Judges (abstraction_line binder body) contents t0 (Ok (Err Kind)) t0
+  application-binder f x is = no-abstraction (Application f x) is refl
+
+  pub abstraction-binder : (other inner : ℕ) → v.shape ≡ Abstraction other inner → Judges (abstraction_line binder body) contents t0 (Ok (Err Kind)) t0
+  abstraction-binder other inner is = no-abstraction (Abstraction other inner) is refl
+
+  pub free-binder : (number : ℕ) → v.shape ≡ Variable number → IsFree t0.terms number
+  free-binder number is = subst (PartsAreEarlier t0.terms binder) is first.parts
+
+  module _ (t1 : TermTable) (number : ℕ) (is : v.shape ≡ Variable number) (grown : IsGrown t0 t1) (holds : IsContents t0 contents) where
+    abbrev term : NamedTerm
+    term = abstraction (variable_name (term_at t0.terms number)) (term_type (term_at t0.terms number)) (named_at (named_terms t0.terms contents.terms.items) body)
+
+    abbrev bound_variable : Nameless
+    bound_variable = free (variable_name (term_at t0.terms number)) (term_type (term_at t0.terms number))
+
+    pub judged-abstraction : (result : Result (Result Addition Cause) Fault) → AnswersTerm term (Abstraction number body) result t1 → Judges (abstraction_line binder body) contents t0 result t1
+    judged-abstraction result answers =
+        let is_free = free-binder number is in
+        judged-term (abstraction_line binder body) contents t0 t1 term (function_type (term_type (term_at t0.terms number)) (type_at t0.types b.ty)) (Abstraction number body) result
+        (subst (AddsOneTerm (state_of t0 contents) (abstraction_line binder body))
+        (sym (image-abstraction (variable_name (term_at t0.terms number)) (term_type (term_at t0.terms number)) (named_at (named_terms t0.terms contents.terms.items) body)))
+        (adds-abstraction (state_of t0 contents) binder body bound_variable (image (named_at (named_terms t0.terms contents.terms.items) body)) first.is_there second.is_there (binder-is (Variable number) is) second.named refl))
+        holds (ap (option_map (function_type (term_type (term_at t0.terms number)))) second.writes.typed)
+        (free-grown t0 t1 grown number is_free, second.within)
+        (λ i. abstraction (variable_name (free-still t0 t1 grown number is_free i)) (term_type (free-still t0 t1 grown number is_free i)) (named_at (named-still t0 t1 grown contents.terms.items holds.terms i) body)) answers grown
 
 -- a constant, while the tables grow
 module _ (t0 t1 : TermTable) (contents : Contents) (name : List ℕ) (line number ty : ℕ) (type_named : NamesType (state_of t0 contents) line t0.types ty) (grown : IsGrown t0 t1) (named : slice_get t1.names number ≡ Some name) where

@@ -15,7 +15,7 @@ with_addition table contents addition =
     record {
       version = state.version;
       types = state.types ++ added_types table addition;
-      terms = state.terms ++ added_terms table addition;
+      terms = state.terms ++ added_terms table contents.terms.items addition;
       theorems = state.theorems ++ added_theorems table addition;
       theory = added_entries table addition ++ state.theory;
       claims = state.claims ++ added_claims table contents.theorems.items addition;

@@ -4,3 +4,4 @@ pub mod ClaimLines
 pub mod Taken
 pub mod LogCode
 pub mod Log
+pub mod Named

@@ -11,6 +11,7 @@ ghost use Rattle.hol_check_rules.specs.declared.state.Addition.TheVariants as ad
 
 use hol_check_rules::known::{add_constant, add_type};
 use hol_check_rules::state::{Addition, Contents, ListedClaim, Theorem, TheoryEntry};
+use hol_check_written::written::Written;
 use hol_model::Fault;
 use std::alloc::Global;
 
@@ -22,7 +23,7 @@ pub(crate) fn add(alloc: Global, contents: &mut Contents, addition: Addition) ->
 {
     match addition {
         Addition::TypeNumber(number) => add_type_number(contents, number),
-        Addition::TermNumber(number) => add_term_number(contents, number),
+        Addition::TermLine(line) => add_term_line(contents, line),
         Addition::Proved(theorem) => add_theorem(contents, theorem),
         Addition::Defined(name, ty, body, conclusion) => {
             let hypotheses = Vec::new(alloc);
@@ -54,15 +55,15 @@ fn add_type_number(contents: &mut Contents, number: usize) -> Result<(), Fault>
     }
 }
 
-fn add_term_number(contents: &mut Contents, number: usize) -> Result<(), Fault>
-    ensures added { OnOk result ((table : TermTable) → IsContents table contents.old → CanBeAdded table contents.old (addition.TermNumber number)
-        → IsAdded table contents.old (addition.TermNumber number) contents.new) }
+fn add_term_line(contents: &mut Contents, line: Written) -> Result<(), Fault>
+    ensures added { OnOk result ((table : TermTable) → IsContents table contents.old → CanBeAdded table contents.old (addition.TermLine line)
+        → IsAdded table contents.old (addition.TermLine line) contents.new) }
     ensures refused { IfErr result (λ fault. fault ≡ Memory) }
-    ensures kept { OnErr result ((table : TermTable) → IsContents table contents.old → CanBeAdded table contents.old (addition.TermNumber number) → IsContents table contents.new) }
+    ensures kept { OnErr result ((table : TermTable) → IsContents table contents.old → CanBeAdded table contents.old (addition.TermLine line) → IsContents table contents.new) }
 {
-    match contents.terms.push(number) {
+    match contents.terms.push(line) {
         Ok(()) => Ok(()),
-        Err(_number) => Err(Fault::Memory),
+        Err(_line) => Err(Fault::Memory),
     }
 }
 

@@ -6,7 +6,7 @@ ghost use Rattle.hol_model.specs.Logs.LogLine.{claim_line};
 ghost use Rattle.hol_model.specs.Logs.LogState.{same_terms};
 ghost use Rattle.hol_check_rules.specs.Hypotheses.{terms_in};
 ghost use Rattle.hol_check_rules.specs.State.{sequent_in, state_of, IsContents, IsFittingTheorem};
-ghost use Rattle.hol_check_rules.specs.Judged.{Judges};
+ghost use Rattle.hol_check_rules.specs.Judged.{Judges, IsMadeLine};
 ghost use Rattle.hol_check_terms.specs.Terms.{term_at};
 ghost use Rattle.hol_check_lines.specs.ClaimLines.{AreNamed, is_sequent};
 ghost use Rattle.hol_check_changes.specs.Forming.{IsFitting};
@@ -28,7 +28,9 @@ pub(crate) fn judge_claim(
     conclusion: u32,
     hypotheses: &[u32],
 ) -> Result<Result<Addition, Cause>, Fault>
-    requires { IsContents terms.old contents.now }
+    requires contents { IsContents terms.old contents.now }
+    requires conclusion { IsMadeLine contents.now conclusion }
+    requires hypotheses { All (IsMadeLine contents.now) hypotheses.now }
     ensures { Judges (claim_line name.now theorem conclusion hypotheses.now) contents.now terms.old result terms.new }
 {
     let Some(proved) = theorem_at(contents, theorem) else {
@@ -89,7 +91,8 @@ fn terms_named(
     contents: &Contents,
     lines: &[u32],
 ) -> Result<Option<Vec<usize>>, Fault>
-    requires { IsContents terms.now contents.now }
+    requires contents { IsContents terms.now contents.now }
+    requires made { All (IsMadeLine contents.now) lines.now }
     ensures named { IfOk result (AreNamed (state_of terms.now contents.now) lines.now terms.now.terms) }
     ensures refused { IfErr result (λ fault. fault ≡ Memory) }
 {

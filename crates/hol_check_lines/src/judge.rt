@@ -3,6 +3,7 @@ ghost use Rattle.std.specs.Prelude.{◌≡◌};
 ghost use Rattle.hol_logtext.specs.Lines.{line_of};
 ghost use Rattle.hol_check_rules.specs.State.{IsContents};
 ghost use Rattle.hol_check_rules.specs.Judged.{Judges};
+ghost use Rattle.hol_check_lines.specs.Named.{AreNamedMade};
 
 use crate::claim_lines::judge_claim;
 use crate::entry_lines::{judge_new_constant, judge_new_type};
@@ -24,7 +25,8 @@ pub(crate) fn judge(
     contents: &Contents,
     line: &Line<'_>,
 ) -> Result<Result<Addition, Cause>, Fault>
-    requires { IsContents terms.old contents.now }
+    requires contents { IsContents terms.old contents.now }
+    requires made { AreNamedMade contents.now (line_of line.now) }
     ensures { Judges (line_of line.now) contents.now terms.old result terms.new }
 {
     match line {
@@ -35,8 +37,8 @@ pub(crate) fn judge(
         Line::DeclaredType(name) => judge_declared_type(alloc, terms, contents, name.as_bytes()),
         Line::Variable(name, ty) => judge_variable(alloc, terms, contents, name.as_bytes(), *ty),
         Line::Constant(name, ty) => judge_constant(alloc, terms, contents, name.as_bytes(), *ty),
-        Line::Combination(f, a) => judge_combination(alloc, terms, contents, *f, *a),
-        Line::Abstraction(v, t) => judge_abstraction(alloc, terms, contents, *v, *t),
+        Line::Combination(f, a) => judge_combination(terms, contents, *f, *a),
+        Line::Abstraction(v, t) => judge_abstraction(terms, contents, *v, *t),
         Line::NewType(name) => judge_new_type(alloc, terms, contents, name.as_bytes()),
         Line::NewConstant(name, ty) => {
             judge_new_constant(alloc, terms, contents, name.as_bytes(), *ty)

@@ -6,6 +6,7 @@ mod claim_lines;
 mod entry_lines;
 mod judge;
 pub mod log;
+mod named;
 mod start;
 mod step;
 mod step_pairs;

@@ -10,6 +10,7 @@ use hol_check_rules::state::Contents;
 use hol_check_terms::terms::Terms;
 use hol_logtext::Version;
 use hol_model::Fault;
+use indexmap::IndexMap;
 use std::alloc::Global;
 use std::marker::Model;
 
@@ -37,6 +38,7 @@ impl Model for Log {
 
 impl Log {
     /// The state after the header.
+    #[tactic(auto, using(crate::proofs::StartLemmas::none_written, crate::proofs::StartLemmas::none_made))]
     pub fn new(alloc: Global, version: Version) -> Result<Log, Fault>
         ensures log { IfOk result (λ log. log ≡ first_state (version_of version)) }
         ensures refused { IfErr result (λ fault. fault ≡ Memory) }
@@ -47,6 +49,7 @@ impl Log {
             version,
             types: Vec::new(alloc),
             terms: Vec::new(alloc),
+            made: IndexMap::new(alloc),
             theorems: Vec::new(alloc),
             entries: Vec::new(alloc),
             known,

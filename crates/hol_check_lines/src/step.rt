@@ -7,7 +7,9 @@ ghost use Rattle.hol_model.specs.Logs.LogLine.LogRule.{refl_step, trans_step, mk
 ghost use Rattle.hol_logtext.specs.Lines.{rule_of};
 ghost use Rattle.hol_check_terms.specs.Terms.{TermTable, IsGrown};
 ghost use Rattle.hol_check_rules.specs.State.{state_of, IsContents};
-ghost use Rattle.hol_check_rules.specs.Judged.{Judges};
+ghost use Rattle.hol_check_rules.specs.Judged.{Judges, IsMadeLine};
+ghost use Rattle.hol_check_lines.specs.Named.{AreRuleMade, IsMadePair};
+ghost use Rattle.std.specs.List.{All};
 ghost use Rattle.hol_check_rules.specs.declared.state.Contents as state;
 ghost use Rattle.hol_check_rules.specs.Steps.{Step, IsStep, Takes};
 
@@ -32,7 +34,8 @@ pub(crate) fn judge_step(
     contents: &Contents,
     rule: &Rule<'_>,
 ) -> Result<Result<Addition, Cause>, Fault>
-    requires { IsContents terms.old contents.now }
+    requires contents { IsContents terms.old contents.now }
+    requires made { AreRuleMade contents.now (rule_of rule.now) }
     ensures { Judges (theorem_line (rule_of rule.now)) contents.now terms.old result terms.new }
 {
     match rule {
@@ -72,7 +75,8 @@ fn judge_refl(
     contents: &Contents,
     term: u32,
 ) -> Result<Result<Addition, Cause>, Fault>
-    requires { IsContents terms.old contents.now }
+    requires contents { IsContents terms.old contents.now }
+    requires made { IsMadeLine contents.now term }
     ensures { Judges (theorem_line (refl_step term)) contents.now terms.old result terms.new }
 {
     match term_at(contents, term) {
@@ -120,7 +124,8 @@ fn judge_abs(
     variable: u32,
     premise: u32,
 ) -> Result<Result<Addition, Cause>, Fault>
-    requires { IsContents terms.old contents.now }
+    requires contents { IsContents terms.old contents.now }
+    requires made { IsMadeLine contents.now variable }
     ensures { Judges (theorem_line (abs_step variable premise)) contents.now terms.old result terms.new }
 {
     match (term_at(contents, variable), theorem_at(contents, premise)) {
@@ -135,7 +140,8 @@ fn judge_beta(
     contents: &Contents,
     term: u32,
 ) -> Result<Result<Addition, Cause>, Fault>
-    requires { IsContents terms.old contents.now }
+    requires contents { IsContents terms.old contents.now }
+    requires made { IsMadeLine contents.now term }
     ensures { Judges (theorem_line (beta_step term)) contents.now terms.old result terms.new }
 {
     match term_at(contents, term) {
@@ -150,7 +156,8 @@ fn judge_assume(
     contents: &Contents,
     term: u32,
 ) -> Result<Result<Addition, Cause>, Fault>
-    requires { IsContents terms.old contents.now }
+    requires contents { IsContents terms.old contents.now }
+    requires made { IsMadeLine contents.now term }
     ensures { Judges (theorem_line (assume_step term)) contents.now terms.old result terms.new }
 {
     match term_at(contents, term) {
@@ -222,7 +229,8 @@ fn judge_inst(
     premise: u32,
     pairs: &[(u32, u32)],
 ) -> Result<Result<Addition, Cause>, Fault>
-    requires { IsContents terms.old contents.now }
+    requires contents { IsContents terms.old contents.now }
+    requires made { All (IsMadePair contents.now) pairs.now }
     ensures { Judges (theorem_line (inst_step premise pairs.now)) contents.now terms.old result terms.new }
 {
     let Some(premise) = theorem_at(contents, premise) else {
@@ -262,7 +270,8 @@ fn judge_definition(
     name: &[u8],
     body: u32,
 ) -> Result<Result<Addition, Cause>, Fault>
-    requires { IsContents terms.old contents.now }
+    requires contents { IsContents terms.old contents.now }
+    requires made { IsMadeLine contents.now body }
     ensures { Judges (theorem_line (definition_step name.now body)) contents.now terms.old result terms.new }
 {
     let Some(body) = term_at(contents, body) else {

@@ -2,6 +2,8 @@
 ghost use Rattle.std.specs.Prelude.{◌≡◌, IfOk, IfErr};
 ghost use Rattle.hol_model.specs.declared.fault.Fault.TheVariants.{Memory};
 ghost use Rattle.hol_check_rules.specs.State.{state_of, IsContents};
+ghost use Rattle.std.specs.List.{All};
+ghost use Rattle.hol_check_lines.specs.Named.{IsMadePair};
 ghost use Rattle.hol_check_rules.specs.StepPairs.{FindsTermPairs, FindsTypePairs};
 
 use hol_check_rules::state::{Contents, term_at, type_at};
@@ -16,7 +18,8 @@ pub(crate) fn term_pairs(
     contents: &Contents,
     lines: &[(u32, u32)],
 ) -> Result<Option<Vec<(usize, usize)>>, Fault>
-    requires { IsContents terms.now contents.now }
+    requires contents { IsContents terms.now contents.now }
+    requires made { All (IsMadePair contents.now) lines.now }
     ensures found { IfOk result (FindsTermPairs (state_of terms.now contents.now) lines.now terms.now.terms) }
     ensures refused { IfErr result (λ fault. fault ≡ Memory) }
 {

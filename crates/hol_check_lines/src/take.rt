@@ -10,16 +10,22 @@ ghost use Rattle.hol_check_lines.specs.Taken.{IsTaken};
 use crate::addition::add;
 use crate::judge::judge;
 use crate::log::Log;
+use crate::named::make_named;
 use hol_check_rules::state::Contents;
 use hol_logtext::Line;
 use hol_model::{Cause, Fault};
 use std::alloc::Global;
 
-/// Takes a line, or answers the first cause for which it is refused. After a refusal the log has no use.
+/// Takes a line, or answers the first cause for which it is refused. After a refusal the log has no use. Terms are made
+/// where a step or a claim names them, so memory may be used up there in place of at their own lines.
 pub fn take(alloc: Global, log: &mut Log, line: &Line<'_>) -> Result<Result<(), Cause>, Fault>
     ensures taken { IfOk result (IsTaken log.old (line_of line.now) log.new) }
     ensures refused { IfErr result (λ fault. fault ≡ Memory) }
 {
+    match make_named(alloc, &mut log.table, &mut log.contents, line) {
+        Ok(()) => {}
+        Err(fault) => return Err(fault),
+    }
     let addition = match judge(alloc, &mut log.table, &log.contents, line) {
         Ok(Ok(addition)) => addition,
         Ok(Err(cause)) => return Ok(Err(cause)),

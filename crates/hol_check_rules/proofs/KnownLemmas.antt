@@ -15,7 +15,7 @@ use Rattle.hol_check_terms.specs.Entries.{IsEntry}
 use Rattle.hol_check_terms.specs.Numbers.{IsNoted}
 use Rattle.hol_check_rules.specs.Known.{IsGiven, Knows}
 
-lookup-entry : (key value : ℕ) (entries : List (ℕ × ℕ)) → Some value ≡ lookup (nat_eq key) entries → IsEntry entries key value
+pub lookup-entry : (key value : ℕ) (entries : List (ℕ × ℕ)) → Some value ≡ lookup (nat_eq key) entries → IsEntry entries key value
 lookup-entry key value [] found = cc
 lookup-entry key value (first ∷ rest) found = go (nat_eq key first.0) refl found (lookup-entry key value rest)
   where
@@ -26,7 +26,7 @@ lookup-entry key value (first ∷ rest) found = go (nat_eq key first.0) refl fou
         (0, λ i. Some (sym keys i, sym values i))
     go false is found deeper = let later = deeper found in (suc later.0, later.1)
 
-lookup-none : (key value : ℕ) (entries : List (ℕ × ℕ)) → None ≡ lookup (nat_eq key) entries → IsEntry entries key value → ⊥
+pub lookup-none : (key value : ℕ) (entries : List (ℕ × ℕ)) → None ≡ lookup (nat_eq key) entries → IsEntry entries key value → ⊥
 lookup-none key value [] found (i, there) = cc
 lookup-none key value (first ∷ rest) found (i, there) = go (nat_eq key first.0) refl found i there (λ none later. lookup-none key value rest none later)
   where

@@ -7,3 +7,4 @@ pub mod StepLemmas
 pub mod AxiomLemmas
 pub mod InstanceLemmas
 pub mod DefinitionLemmas
+pub mod LineLemmas

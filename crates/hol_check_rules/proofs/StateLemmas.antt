@@ -2,6 +2,7 @@
 use Rattle.std.proofs.Common.{◌≡◌, ℕ, suc, ◌<◌, List, [], ◌∷◌, ◌++◌, length, length-append, refl, arith, sym, ◌∙◌, ap, subst, Some}
 use Rattle.std.specs.Prelude.{slice_get, map, reverse}
 use Rattle.std.specs.List.{All, slice_index_or}
+use Rattle.hol_model.specs.Terms.Nameless.{image}
 use Rattle.hol_model.specs.Terms.Measures.{nameless_within_limits}
 use Rattle.hol_model.specs.Logic.Theory.{Theory, definition, declaration_of_type, declaration_of_constant, generic_type}
 use Rattle.hol_model.specs.Logic.KnownTerm.{is_declared}
@@ -18,6 +19,8 @@ use Rattle.hol_check_rules.specs.declared.state.TheoryEntry.TheVariants.{Definit
 use Rattle.hol_check_rules.specs.declared.state.ListedClaim.{ListedClaim}
 use Rattle.hol_check_rules.specs.declared.state.Contents.{Contents}
 use Rattle.hol_check_changes.specs.Forming.{IsFitting}
+use Rattle.hol_check_written.proofs.NamedLemmas.{named-still, written-grown}
+use Rattle.hol_check_written.proofs.MakingLemmas.{numbered-grown}
 use Rattle.hol_check_terms.proofs.TableLemmas.{slice_get-longer, get_or-longer}
 use Rattle.hol_check_terms.proofs.GrowthLemmas.{type-within, type-grown, within-grown, term-grown}
 
@@ -137,7 +140,8 @@ module _ (earlier now : TermTable) (grown : IsGrown earlier now) where
   pub contents-grown : (contents : Contents) → IsContents earlier contents → IsContents now contents
   contents-grown contents is = record {
     types = All-weaker (λ n. n < length earlier.types) (λ n. n < length now.types) (λ n within. type-within earlier.types now.types n grown.types within) contents.types.items is.types;
-    terms = All-weaker (IsFitting earlier.terms) (IsFitting now.terms) fitting-grown contents.terms.items is.terms;
+    terms = written-grown earlier now grown contents.terms.items is.terms;
+    made = numbered-grown earlier now grown contents.terms.items is.terms [] contents.made.entries is.made;
     theorems = All-weaker (IsFittingTheorem earlier.terms) (IsFittingTheorem now.terms) theorem-grown contents.theorems.items is.theorems;
     entries = All-weaker (HasEntryParts earlier) (HasEntryParts now) parts-grown contents.entries.items is.entries;
     room = is.room;
@@ -150,7 +154,7 @@ module _ (earlier now : TermTable) (grown : IsGrown earlier now) where
   state-still contents is = λ i. record {
     version = version_of contents.version;
     types = map-same (λ n. n < length earlier.types) (type_at now.types) (type_at earlier.types) (λ n within. type-grown earlier.types now.types n grown.types within) contents.types.items is.types i;
-    terms = terms-still contents.terms.items is.terms i;
+    terms = map image (named-still earlier now grown contents.terms.items is.terms i);
     theorems = sequents-still contents.theorems.items is.theorems i;
     theory = theory-still contents.entries.items is.entries i;
     claims = map-same (IsClaim earlier contents.theorems.items) (claim_in now contents.theorems.items) (claim_in earlier contents.theorems.items) (claim-still contents.theorems.items is.theorems) contents.claims.items is.claims i;

@@ -7,7 +7,7 @@ use Rattle.hol_model.specs.declared.fault.Fault.TheVariants.{Memory}
 use Rattle.hol_model.specs.declared.fault.Cause.{Cause}
 use Rattle.hol_model.specs.declared.fault.Cause.TheVariants.{Shape, Number, Name, Kind, Const, Rule, Claim, Large}
 use Rattle.hol_model.specs.Terms.HolType.{HolType}
-use Rattle.hol_model.specs.Terms.Nameless.{Nameless}
+use Rattle.hol_model.specs.Terms.Nameless.{Nameless, image}
 use Rattle.hol_model.specs.Logic.Theory.{Theory, generic_type, definition, declaration_of_type, declaration_of_constant}
 use Rattle.hol_model.specs.Goals.Goals.{Sequent}
 use Rattle.hol_model.specs.Logs.LogLine.{LogLine}
@@ -20,8 +20,11 @@ use Rattle.hol_check_rules.specs.State.{sequent_in, theory_in, claim_in, state_o
 use Rattle.hol_check_rules.specs.declared.state.Theorem.{Theorem}
 use Rattle.hol_check_rules.specs.declared.state.Contents.{Contents}
 use Rattle.hol_check_rules.specs.declared.state.Addition.{Addition}
-use Rattle.hol_check_rules.specs.declared.state.Addition.TheVariants.{TypeNumber, TermNumber, Proved, Defined, NewType, NewConstant, Claimed, Ended}
+use Rattle.hol_check_rules.specs.declared.state.Addition.TheVariants.{TypeNumber, TermLine, Proved, Defined, NewType, NewConstant, Claimed, Ended}
 use Rattle.hol_check_changes.specs.Forming.{IsFitting}
+use Rattle.hol_check_written.specs.Written.{named_at, named_of, named_terms, PartsAreEarlier, Writes}
+use Rattle.hol_check_written.specs.Making.{HasEntry}
+use Rattle.hol_check_written.specs.declared.written.Written.{Written}
 
 -- what numbers of lines name
 
@@ -41,6 +44,23 @@ pub record NamesTheorem (state : LogState) (line : ℕ) (terms : List Nameless) 
   pub named : given.theorem_at state line ≡ sequent_in terms theorem
   pub fits : IsFittingTheorem terms theorem
 
+-- the line is kept so, after earlier lines
+pub record NamesWritten (table : TermTable) (contents : Contents) (line : ℕ) (written : Written) : Type 0 where
+  pub is_there : is_no_term (state_of table contents) line ≡ false
+  pub within : line < length contents.terms.items
+  pub named : given.term_at (state_of table contents) line ≡ image (named_at (named_terms table.terms contents.terms.items) line)
+  pub is_shape : named_at (named_terms table.terms contents.terms.items) line ≡ named_of table.terms (named_terms table.terms contents.terms.items) written
+  pub parts : PartsAreEarlier table.terms line written.shape
+  pub writes : Writes table (named_at (named_terms table.terms contents.terms.items) line) written
+
+-- a line's term is made, where the line is there
+pub record IsMadeLine (contents : Contents) (line : ℕ) : Type 0 where
+  pub is_made : line < length contents.terms.items → HasEntry contents.made.entries line
+
+abbrev pub FindsWritten : TermTable → Contents → ℕ → Option Written → Type 0
+FindsWritten table contents line None = is_no_term (state_of table contents) line ≡ true
+FindsWritten table contents line (Some written) = NamesWritten table contents line written
+
 abbrev pub FindsType : LogState → ℕ → List HolType → Option ℕ → Type 0
 FindsType state line types None = is_no_type state line ≡ true
 FindsType state line types (Some number) = NamesType state line types number
@@ -59,9 +79,9 @@ abbrev pub added_types : TermTable → Addition → List HolType
 added_types table (TypeNumber number) = type_at table.types number ∷ []
 added_types table _ = []
 
-abbrev pub added_terms : TermTable → Addition → List Nameless
-added_terms table (TermNumber number) = term_at table.terms number ∷ []
-added_terms table _ = []
+abbrev pub added_terms : TermTable → List Written → Addition → List Nameless
+added_terms table written (TermLine line) = image (named_of table.terms (named_terms table.terms written) line) ∷ []
+added_terms table written _ = []
 
 abbrev pub added_theorems : TermTable → Addition → List Sequent
 added_theorems table (Proved theorem) = sequent_in table.terms theorem ∷ []
@@ -96,7 +116,8 @@ pub record IsNewConstant (table : TermTable) (contents : Contents) (name ty : �
 -- the numbers of an addition stand in the tables, what it adds is within the limits, and there is room for it
 abbrev pub CanBeAdded : TermTable → Contents → Addition → Type 0
 CanBeAdded table contents (TypeNumber number) = number < length table.types
-CanBeAdded table contents (TermNumber number) = IsFitting table.terms number
+CanBeAdded table contents (TermLine line) =
+    PartsAreEarlier table.terms (length contents.terms.items) line.shape × Writes table (named_of table.terms (named_terms table.terms contents.terms.items) line) line
 CanBeAdded table contents (Proved theorem) = IsFittingTheorem table.terms theorem
 CanBeAdded table contents (Defined name ty body conclusion) = IsNewConstant table contents name ty × (body < length table.terms) × IsFitting table.terms conclusion
 CanBeAdded table contents (NewType name) = (name < length table.names) × HasRoom contents
@@ -107,7 +128,7 @@ CanBeAdded table contents Ended = Unit {0}
 -- the addition is what the line adds
 pub record Denotes (state : LogState) (line : LogLine) (table : TermTable) (contents : Contents) (addition : Addition) : Type 0 where
   pub types : new_types state line ≡ added_types table addition
-  pub terms : new_terms state line ≡ added_terms table addition
+  pub terms : new_terms state line ≡ added_terms table contents.terms.items addition
   pub theorems : new_theorems state line ≡ added_theorems table addition
   pub entries : new_entries state line ≡ added_entries table addition
   pub claims : new_claims state line ≡ added_claims table contents.theorems.items addition

@@ -2,7 +2,7 @@
 use Rattle.std.specs.Prelude.{◌<◌, ◌≤◌, List, map, reverse, length}
 use Rattle.std.specs.List.{All, slice_index_or}
 use Rattle.hol_model.specs.declared.limits.TheConstants.{DEFINITIONS_LIMIT}
-use Rattle.hol_model.specs.Terms.Nameless.{Nameless}
+use Rattle.hol_model.specs.Terms.Nameless.{Nameless, image}
 use Rattle.hol_model.specs.Logic.Theory.{Theory, Entry, definition, declaration_of_type, declaration_of_constant}
 use Rattle.hol_model.specs.Goals.Goals.{Sequent}
 use Rattle.hol_model.specs.Logs.LogState.{LogState, LogClaim, no_sequent}
@@ -16,6 +16,8 @@ use Rattle.hol_check_rules.specs.declared.state.TheoryEntry.TheVariants.{Definit
 use Rattle.hol_check_rules.specs.declared.state.ListedClaim.{ListedClaim}
 use Rattle.hol_check_rules.specs.declared.state.Contents.{Contents}
 use Rattle.hol_check_changes.specs.Forming.{IsFitting}
+use Rattle.hol_check_written.specs.Written.{named_terms, AreWritten}
+use Rattle.hol_check_written.specs.Making.{AreMade}
 
 -- what numbers denote
 
@@ -41,7 +43,7 @@ abbrev pub state_of : TermTable → Contents → LogState
 state_of table contents = record {
   version = version_of contents.version;
   types = map (type_at table.types) contents.types.items;
-  terms = map (term_at table.terms) contents.terms.items;
+  terms = map image (named_terms table.terms contents.terms.items);
   theorems = map (sequent_in table.terms) contents.theorems.items;
   theory = theory_in table contents.entries.items;
   claims = map (claim_in table contents.theorems.items) contents.claims.items;
@@ -65,10 +67,12 @@ pub record IsClaim (table : TermTable) (theorems : List Theorem) (claim : Listed
   pub name : claim.name < length table.names
   pub theorem : claim.theorem < length theorems
 
--- each number stands in its table, what terms and theorems have is within the limits, and the theory is what is known
+-- each number stands in its table, what is kept of terms is true, what theorems have is within the limits, and the theory
+-- is what is known
 pub record IsContents (table : TermTable) (contents : Contents) : Type 0 where
   pub types : All (λ number. number < length table.types) contents.types.items
-  pub terms : All (IsFitting table.terms) contents.terms.items
+  pub terms : AreWritten table contents.terms.items
+  pub made : AreMade table contents.terms.items contents.made.entries
   pub theorems : All (IsFittingTheorem table.terms) contents.theorems.items
   pub entries : All (HasEntryParts table) contents.entries.items
   pub room : length contents.entries.items ≤ DEFINITIONS_LIMIT

@@ -5,11 +5,13 @@ ghost use Rattle.hol_model.specs.Logs.LogFaults.{is_first_version};
 ghost use Rattle.hol_logtext.specs.Lines.{version_of};
 ghost use Rattle.hol_check_terms.specs.Terms.{TermTable};
 ghost use Rattle.hol_check_rules.specs.State.{state_of, IsContents};
-ghost use Rattle.hol_check_rules.specs.Judged.{FindsType, FindsTerm, FindsTheorem};
+ghost use Rattle.hol_check_rules.specs.Judged.{FindsType, FindsWritten, FindsTerm, FindsTheorem, IsMadeLine};
 
 use crate::known::Known;
+use hol_check_written::written::Written;
 use hol_logtext::Version;
 use hol_model::DEFINITIONS_LIMIT;
+use indexmap::IndexMap;
 
 /// A theorem: its hypotheses in the order of terms, each once, and its conclusion, by the numbers of terms.
 #[derive(Debug, Drop)]
@@ -35,13 +37,15 @@ pub struct ListedClaim {
     pub theorem: usize,
 }
 
-/// What the lines have given, each kind in the order of its lines. Types and terms are given by their numbers in the
-/// tables, and the entries of the theory with the oldest first.
+/// What the lines have given, each kind in the order of its lines. Types are given by their numbers in the tables, terms
+/// as they are written, and the entries of the theory with the oldest first. The tables have the terms that steps and
+/// claims have named: `made` has their numbers there by those of their lines.
 #[derive(Drop)]
 pub struct Contents {
     pub version: Version,
     pub types: Vec<usize>,
-    pub terms: Vec<usize>,
+    pub terms: Vec<Written>,
+    pub made: IndexMap<usize, usize>,
     pub theorems: Vec<Theorem>,
     pub entries: Vec<TheoryEntry>,
     pub known: Known,
@@ -53,7 +57,7 @@ pub struct Contents {
 #[derive(Debug, Drop)]
 pub enum Addition {
     TypeNumber(usize),
-    TermNumber(usize),
+    TermLine(Written),
     Proved(Theorem),
     /// A definition's name, type and body, and its theorem's conclusion.
     Defined(usize, usize, usize, usize),
@@ -91,11 +95,21 @@ pub fn type_at(contents: &Contents, number: u32) -> Option<usize>
     }
 }
 
-/// The number in the tables of the term that a line names.
-pub fn term_at(contents: &Contents, number: u32) -> Option<usize>
-    ensures { (table : TermTable) → IsContents table contents.now → FindsTerm (state_of table contents.now) number table.terms result }
+/// The term that a line names, as it is written.
+pub fn written_at(contents: &Contents, number: u32) -> Option<Written>
+    ensures { (table : TermTable) → IsContents table contents.now → FindsWritten table contents.now number result }
 {
     match contents.terms.get(number as usize) {
+        Some(found) => Some(*found),
+        None => None,
+    }
+}
+
+/// The number in the tables of the term that a line names, which was made.
+pub fn term_at(contents: &Contents, number: u32) -> Option<usize>
+    ensures { (table : TermTable) → IsContents table contents.now → IsMadeLine contents.now number → FindsTerm (state_of table contents.now) number table.terms result }
+{
+    match contents.made.get(&(number as usize)) {
         Some(found) => Some(*found),
         None => None,
     }

@@ -9,6 +9,6 @@ pub returns-in-Some : goal.returns-in-Some
 returns-in-Some c =
     let t0 = c.args.terms.now in
     let state = state_of t0 c.args.contents.now in
-    let named = c.in-Some.ensures t0 c.requires in
-    c.judged.ensures (assume_step c.args.term) c.args.contents.now t0 c.assume.new.terms (steps.assume_step (term_at t0.terms c.in-Some.term)) c.requires.room c.assume.ensures.grows
+    let named = c.in-Some.ensures t0 c.requires.contents c.requires.made in
+    c.judged.ensures (assume_step c.args.term) c.args.contents.now t0 c.assume.new.terms (steps.assume_step (term_at t0.terms c.in-Some.term)) c.requires.contents.room c.assume.ensures.grows
     (assume-step state t0.terms c.args.term c.in-Some.term named) c.assume.ensures.taken

@@ -1,16 +1,28 @@
-use Rattle.std.proofs.Common.{sym, ◌∙◌}
-use Rattle.hol_check_lines.proofs.TermLineLemmas.{judged-term, adds-abstraction, made-within}
+use Rattle.hol_check_lines.proofs.TermLineLemmas.{judged-abstraction, free-binder, constant-binder, application-binder, abstraction-binder}
 use Rattle.hol_check_lines.proofs.term_lines.judge_abstraction.Goals as goal
-use Rattle.hol_check_terms.proofs.GrowthLemmas.{IsGrown-trans}
 
-pub judge_term-requires : goal.judge_term-requires
-judge_term-requires c = made-within _ c.abstraction_over-made.result c.abstraction_over-made.new.terms.terms c.abstraction_over-made.ensures.made
+pub write_abstraction-requires-clause-binder : goal.write_abstraction-requires-clause-binder
+write_abstraction-requires-clause-binder c =
+    free-binder c.args.terms.now c.args.contents.now c.args.binder c.args.body c.in-Some.v c.in-Some-written_at.b (c.in-Some.ensures c.args.terms.now c.requires) (c.in-Some-written_at.ensures c.args.terms.now c.requires) c.in-Variable.number c.in-Variable.is
 
-pub returns : goal.returns
-returns c =
-    let binder = c.in-Some.ensures c.args.terms.now c.requires in
-    let body = c.in-Some-term_at.ensures c.args.terms.now c.requires in
-    judged-term _ c.args.contents.now c.args.terms.now c.judge_term.new.terms _ c.judge_term.result
-    (adds-abstraction _ c.args.binder c.args.body _ _ binder.is_there body.is_there binder.named body.named (sym c.is_free_variable.ensures ∙ c.if-not-is_free_variable.false)) c.requires
-    (c.judge_term.ensures.answers _ c.abstraction_over-made.ensures.made)
-    (IsGrown-trans c.args.terms.now c.abstraction_over-made.new.terms c.judge_term.new.terms c.abstraction_over-made.ensures.grows c.judge_term.ensures.grows)
+pub write_abstraction-requires-clause-body : goal.write_abstraction-requires-clause-body
+write_abstraction-requires-clause-body c = record { term = _; writes = (c.in-Some-written_at.ensures c.args.terms.now c.requires).writes }
+
+pub returns-in-Variable : goal.returns-in-Variable
+returns-in-Variable c =
+    let first = c.in-Some.ensures c.args.terms.now c.requires in
+    let second = c.in-Some-written_at.ensures c.args.terms.now c.requires in
+    judged-abstraction c.args.terms.now c.args.contents.now c.args.binder c.args.body c.in-Some.v c.in-Some-written_at.b first second c.write_abstraction.new.terms c.in-Variable.number c.in-Variable.is
+    (c.write_abstraction.ensures _ second.writes).grows c.requires c.judge_written.result (c.judge_written.ensures _ _ c.write_abstraction.new.terms (c.write_abstraction.ensures _ second.writes).answered)
+
+pub returns-in-Constant : goal.returns-in-Constant
+returns-in-Constant c =
+    constant-binder c.args.terms.now c.args.contents.now c.args.binder c.args.body c.in-Some.v c.in-Some-written_at.b (c.in-Some.ensures c.args.terms.now c.requires) (c.in-Some-written_at.ensures c.args.terms.now c.requires) c.in-Constant._number c.in-Constant.is
+
+pub returns-in-Application : goal.returns-in-Application
+returns-in-Application c =
+    application-binder c.args.terms.now c.args.contents.now c.args.binder c.args.body c.in-Some.v c.in-Some-written_at.b (c.in-Some.ensures c.args.terms.now c.requires) (c.in-Some-written_at.ensures c.args.terms.now c.requires) c.in-Application._function c.in-Application._argument c.in-Application.is
+
+pub returns-in-Abstraction : goal.returns-in-Abstraction
+returns-in-Abstraction c =
+    abstraction-binder c.args.terms.now c.args.contents.now c.args.binder c.args.body c.in-Some.v c.in-Some-written_at.b (c.in-Some.ensures c.args.terms.now c.requires) (c.in-Some-written_at.ensures c.args.terms.now c.requires) c.in-Abstraction._binder c.in-Abstraction._body c.in-Abstraction.is

@@ -1,7 +1,7 @@
 use Rattle.std.proofs.Common.{sym, ◌∙◌}
 use Rattle.hol_check_terms.proofs.TableLemmas.{is_within}
 use Rattle.hol_check_rules.proofs.StateLemmas.{knows-grown}
-use Rattle.hol_check_lines.proofs.TermLineLemmas.{judged-term, adds-grown-constant, no-constant, memory-made, made-within}
+use Rattle.hol_check_lines.proofs.TermLineLemmas.{judged-constant, adds-grown-constant, no-constant}
 use Rattle.hol_check_lines.proofs.term_lines.judge_constant.Goals as goal
 use Rattle.hol_check_terms.proofs.GrowthLemmas.{type-within, IsGrown-trans}
 
@@ -14,19 +14,16 @@ knows_constant-requires-clause-known c = record { theory = _; knows = knows-grow
 pub returns-then-not-knows_constant : goal.returns-then-not-knows_constant
 returns-then-not-knows_constant c = no-constant c.args.terms.now c.name.new.self c.args.contents.now c.args.name.now c.args.ty c.in-Ok.number c.in-Some.named (c.in-Some.ensures c.args.terms.now c.requires) c.in-Ok.ensures.grows c.in-Ok.ensures.number (sym c.is_constant_name.ensures ∙ c.if-not-is_constant_name.false) (sym (c.knows_constant.ensures _ (knows-grown c.args.terms.now c.name.new.self c.in-Ok.ensures.grows _ _ _ c.requires.knows)) ∙ c.if-not-knows_constant.true)
 
-pub constant-made-requires-clause-name : goal.constant-made-requires-clause-name
-constant-made-requires-clause-name c = is_within c.name.new.self.names c.in-Ok.number _ c.in-Ok.ensures.number
+pub constant-requires-clause-name : goal.constant-requires-clause-name
+constant-requires-clause-name c = is_within c.name.new.self.names c.in-Ok.number _ c.in-Ok.ensures.number
 
-pub constant-made-requires-clause-ty : goal.constant-made-requires-clause-ty
-constant-made-requires-clause-ty c = type-within c.args.terms.now.types c.name.new.self.types c.in-Some.named c.in-Ok.ensures.grows.types (c.in-Some.ensures c.args.terms.now c.requires).within
+pub constant-requires-clause-ty : goal.constant-requires-clause-ty
+constant-requires-clause-ty c = type-within c.args.terms.now.types c.name.new.self.types c.in-Some.named c.in-Ok.ensures.grows.types (c.in-Some.ensures c.args.terms.now c.requires).within
 
-pub judge_term-requires : goal.judge_term-requires
-judge_term-requires c = made-within _ c.constant-made.result c.constant-made.new.self.terms (memory-made _ c.constant-made.result c.constant-made.new.self.terms c.constant-made.ensures.number c.constant-made.ensures.refused)
-
-pub returns : goal.returns
-returns c =
-    judged-term _ c.args.contents.now c.args.terms.now c.judge_term.new.terms _ c.judge_term.result
+pub returns-in-Ok-constant : goal.returns-in-Ok-constant
+returns-in-Ok-constant c =
+    judged-constant _ c.args.contents.now c.args.terms.now c.constant.new.self c.write_constant.new.terms _ _ c.in-Ok-constant.number c.judge_written.result
     (adds-grown-constant c.args.terms.now c.name.new.self c.args.contents.now c.args.name.now c.args.ty c.in-Ok.number c.in-Some.named (c.in-Some.ensures c.args.terms.now c.requires) c.in-Ok.ensures.grows c.in-Ok.ensures.number (sym c.is_constant_name.ensures ∙ c.if-not-is_constant_name.false)
     (sym (c.knows_constant.ensures _ (knows-grown c.args.terms.now c.name.new.self c.in-Ok.ensures.grows _ _ _ c.requires.knows)) ∙ c.if-not-knows_constant.false)) c.requires
-    (c.judge_term.ensures.answers _ (memory-made _ c.constant-made.result c.constant-made.new.self.terms c.constant-made.ensures.number c.constant-made.ensures.refused))
-    (IsGrown-trans c.args.terms.now c.name.new.self c.judge_term.new.terms c.in-Ok.ensures.grows (IsGrown-trans c.name.new.self c.constant-made.new.self c.judge_term.new.terms c.constant-made.ensures.grows c.judge_term.ensures.grows))
+    (IsGrown-trans c.args.terms.now c.name.new.self c.constant.new.self c.in-Ok.ensures.grows c.in-Ok-constant.ensures.grows) c.write_constant.ensures.grows c.in-Ok-constant.ensures.number
+    (c.judge_written.ensures _ _ c.write_constant.new.terms c.write_constant.ensures.answered)
