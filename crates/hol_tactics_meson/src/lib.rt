@@ -3,11 +3,9 @@
 //! Nothing is claimed of what it answers: what refines a goal with it tests the answer before it is used. It is safe and ends.
 #![tactic(auto)]
 
-mod facts;
-mod meson;
+mod meson_tac;
 mod rebuilding;
 mod splitting;
 mod values;
-mod witnesses;
 
-pub use meson::meson;
+pub use meson_tac::meson;

@@ -14,5 +14,5 @@ mod unification;
 pub use equality::add_equality;
 pub use first_order::{DEPTH, Node, Symbol, Terms, place_of};
 pub use problem::{Clause, Given, Literal, Part, Problem, Route};
-pub use search::{Extension, Move, Refutation, TRIES, find_refutation};
+pub use search::{COMPARISONS, Extension, Move, Refutation, find_refutation};
 pub use unification::{Bindings, Instance};

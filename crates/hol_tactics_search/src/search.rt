@@ -9,11 +9,16 @@ use std::alloc::Global;
 /// How many inferences a refutation may have.
 pub const INFERENCES: usize = 59;
 
-/// How many inferences are tried in all for one goal of a script.
-pub const TRIES: u32 = 4_000_000;
+/// How many pairs of nodes are compared in all for one goal of a script.
+pub const COMPARISONS: u32 = 30_000_000;
 
-// How many turns one search may take: each spends a try, or goes back to where one was spent.
-const TURNS: u32 = 2 * TRIES;
+// How many turns one search may take: each compares nodes, cuts a group in two, or goes back to where one of these was done.
+const TURNS: u32 = 8 * COMPARISONS;
+
+// With how much room for further subgoals a group is halved, and which part of it the one half has.
+const ROOM: usize = 5;
+
+const PARTS: usize = 4;
 
 /// An inference of a refutation. They stand in the order in which the subgoals are met, that of each clause from left to right.
 #[derive(Clone, Copy)]
@@ -41,13 +46,39 @@ pub struct Refutation {
     pub bindings: Bindings,
 }
 
-// A literal of an instance of a clause that is to be contradicted, the subgoal above it, and the one that is met after it.
+// Where a literal stands: the number of the move that brought its clause, none for the first one, and its place in this.
+#[derive(Clone, Copy)]
+struct Place {
+    under: Option<usize>,
+    literal: usize,
+}
+
+// A literal of an instance of a clause that is to be contradicted, and the subgoal above it.
 #[derive(Clone, Copy)]
 struct Subgoal {
     literal: Literal,
+    place: Place,
     base: usize,
     parent: Option<usize>,
+}
+
+// Subgoals one behind another, how many subgoals there may be when all of them are met, and the group that is met after them.
+#[derive(Clone, Copy)]
+struct Group {
+    first: usize,
+    count: usize,
+    limit: usize,
     next: Option<usize>,
+}
+
+// A group of one subgoal, with their numbers.
+#[derive(Clone, Copy)]
+struct Open {
+    group: usize,
+    limit: usize,
+    next: Option<usize>,
+    number: usize,
+    subgoal: Subgoal,
 }
 
 impl Subgoal {
@@ -59,59 +90,64 @@ impl Subgoal {
     }
 }
 
-// The ways to meet a subgoal that are not tried yet.
+// The ways to meet a group that are not tried yet.
 #[derive(Clone, Copy)]
 enum Untried {
     All,
+    // Its second half first.
+    Second,
     // By the subgoals above it, from this one on, and by all literals of clauses.
     Above(Option<usize>),
     // By the literals of clauses from this place on.
     Literals(usize),
 }
 
-// What there was when a way was taken to meet a subgoal, and the ways that were left.
+// What there was when a way was taken to meet a group, and the ways that were left.
 #[derive(Clone, Copy)]
 struct Choice {
-    subgoal: usize,
+    group: usize,
     untried: Untried,
-    open: usize,
+    groups: usize,
     subgoals: usize,
     moves: usize,
     mark: Mark,
+}
+
+// A move, and the literal that it meets.
+#[derive(Clone, Copy)]
+struct Met {
+    place: Place,
+    by: Move,
 }
 
 #[derive(Drop)]
 struct Search<'a> {
     problem: &'a Problem,
     index: &'a Index,
-    // How many inferences there may be, and how many more are tried.
+    // How many inferences and how many comparisons there may be.
     size: usize,
-    tries: u32,
+    comparisons: u32,
     subgoals: Vec<Subgoal>,
-    moves: Vec<Move>,
+    groups: Vec<Group>,
+    moves: Vec<Met>,
     choices: Vec<Choice>,
     bindings: Bindings,
-    // The subgoal that is met next, and how many are left.
+    // The group that is met next.
     first: Option<usize>,
-    open: usize,
 }
 
-/// A refutation of the clauses. Each inference that is tried is taken from the tries. It fails where none is found, or none is left.
+/// A refutation of the clauses. What is compared is taken from the comparisons. It fails where none is found, or none is left.
 pub fn find_refutation(
     alloc: Global,
     problem: &Problem,
-    tries: &mut u32,
+    comparisons: &mut u32,
 ) -> Result<Refutation, HostFail> {
     let index = Index::of(alloc, problem)?;
-    let mut search = Search::new(alloc, problem, &index, *tries);
+    let mut search = Search::new(alloc, problem, &index, *comparisons);
     let start = search.deepened()?;
-    let Search {
-        moves,
-        bindings,
-        tries: left,
-        ..
-    } = search;
-    *tries = left;
+    let moves = search.in_order(alloc, start)?;
+    let Search { bindings, .. } = search;
+    *comparisons = comparisons.saturating_sub(bindings.spent());
     Ok(Refutation {
         start,
         moves,
@@ -128,18 +164,18 @@ fn is_start(problem: &Problem, clause: usize) -> bool {
 }
 
 impl<'a> Search<'a> {
-    fn new(alloc: Global, problem: &'a Problem, index: &'a Index, tries: u32) -> Search<'a> {
+    fn new(alloc: Global, problem: &'a Problem, index: &'a Index, comparisons: u32) -> Search<'a> {
         Search {
             problem,
             index,
             size: 0,
-            tries,
+            comparisons,
             subgoals: Vec::new(alloc),
+            groups: Vec::new(alloc),
             moves: Vec::new(alloc),
             choices: Vec::new(alloc),
             bindings: Bindings::new(alloc),
             first: None,
-            open: 0,
         }
     }
 
@@ -151,7 +187,7 @@ impl<'a> Search<'a> {
                 if is_start(self.problem, start) && self.run(start)? {
                     return Ok(start);
                 }
-                if self.tries == 0 {
+                if self.is_spent() {
                     return Err(HostFail);
                 }
             }
@@ -159,21 +195,25 @@ impl<'a> Search<'a> {
         Err(HostFail)
     }
 
+    fn is_spent(&self) -> bool {
+        self.bindings.spent() >= self.comparisons
+    }
+
     // Whether there is a refutation that begins with a clause.
     fn run(&mut self, start: usize) -> Result<bool, HostFail> {
         self.begin(start)?;
-        if self.open > self.size {
+        if self.subgoals.len() > self.size {
             return Ok(false);
         }
         let mut untried = Untried::All;
         for _ in 0..TURNS {
-            let Some(subgoal) = self.first else {
+            let Some(group) = self.first else {
                 return Ok(true);
             };
-            if self.tries == 0 {
+            if self.is_spent() {
                 return Ok(false);
             }
-            if self.meet(subgoal, untried)? {
+            if self.meet(group, untried)? {
                 untried = Untried::All;
             } else {
                 let Some(choice) = self.choices.pop() else {
@@ -188,21 +228,23 @@ impl<'a> Search<'a> {
 
     fn begin(&mut self, start: usize) -> Result<(), HostFail> {
         self.subgoals.clear();
+        self.groups.clear();
         self.moves.clear();
         self.choices.clear();
         self.bindings.clear();
         self.first = None;
-        self.open = 0;
         let base = self.instance(start)?;
-        self.add_subgoals(start, None, base, None)
+        self.add_subgoals(start, base, None)?;
+        let count = self.subgoals.len();
+        self.add_group(0, count, self.size)
     }
 
     fn go_back(&mut self, choice: Choice) {
         self.bindings.undo(choice.mark);
         self.subgoals.truncate(choice.subgoals);
+        self.groups.truncate(choice.groups);
         self.moves.truncate(choice.moves);
-        self.first = Some(choice.subgoal);
-        self.open = choice.open;
+        self.first = Some(choice.group);
     }
 
     // Where the values of the variables of a new instance of a clause begin.
@@ -213,30 +255,46 @@ impl<'a> Search<'a> {
         }
     }
 
-    // Puts the literals of a clause but the used one before the open subgoals.
+    // Adds the literals of a clause as subgoals, without the one that a subgoal above them was met by.
     fn add_subgoals(
         &mut self,
         clause: usize,
-        used: Option<usize>,
         base: usize,
-        parent: Option<usize>,
+        used: Option<(usize, usize)>,
     ) -> Result<(), HostFail> {
         let Some(clause) = self.problem.clause(clause) else {
             return Err(HostFail);
         };
-        for (place, literal) in clause.literals.iter().enumerate().rev() {
-            if Some(place) != used {
-                let number = self.subgoals.len();
+        let under = self.moves.len().checked_sub(1);
+        for (place, literal) in clause.literals.iter().enumerate() {
+            if !is_used(used, place) {
                 self.subgoals.push(Subgoal {
                     literal: *literal,
+                    place: Place {
+                        under,
+                        literal: place,
+                    },
                     base,
-                    parent,
-                    next: self.first,
+                    parent: parent_of(used),
                 })?;
-                self.first = Some(number);
-                self.open = self.open.saturating_add(1);
             }
         }
+        Ok(())
+    }
+
+    // Puts a group, unless it is empty, before what is to be met.
+    fn add_group(&mut self, first: usize, count: usize, limit: usize) -> Result<(), HostFail> {
+        if count == 0 {
+            return Ok(());
+        }
+        let number = self.groups.len();
+        self.groups.push(Group {
+            first,
+            count,
+            limit,
+            next: self.first,
+        })?;
+        self.first = Some(number);
         Ok(())
     }
 
@@ -244,21 +302,69 @@ impl<'a> Search<'a> {
         self.subgoals.get(number?).copied()
     }
 
-    // Meets the first open subgoal in a way that is not tried yet; false where none serves.
+    // Meets the first group in a way that is not tried yet; false where none serves.
     fn meet(&mut self, number: usize, untried: Untried) -> Result<bool, HostFail> {
-        let Some(subgoal) = self.subgoal(Some(number)) else {
+        let Some(group) = self.groups.get(number).copied() else {
             return Ok(false);
         };
+        if group.count > 1 {
+            return self.halved(number, group, untried);
+        }
+        let Some(subgoal) = self.subgoal(Some(group.first)) else {
+            return Ok(false);
+        };
+        let open = Open {
+            group: number,
+            limit: group.limit,
+            next: group.next,
+            number: group.first,
+            subgoal,
+        };
         match untried {
-            Untried::All => {
+            Untried::All | Untried::Second => {
                 if self.is_repeated(subgoal)? {
                     return Ok(false);
                 }
-                self.meet_above(number, subgoal, subgoal.parent)
+                self.meet_above(open, subgoal.parent)
             }
-            Untried::Above(above) => self.meet_above(number, subgoal, above),
-            Untried::Literals(from) => self.extended(number, subgoal, from),
+            Untried::Above(above) => self.meet_above(open, above),
+            Untried::Literals(from) => self.extended(open, from),
         }
+    }
+
+    // Puts two groups in place of one. Where there is much room, the first one has a quarter of it: one half of the subgoals can be met
+    // with less than the other, and whether this is the first or the second is a choice.
+    fn halved(&mut self, number: usize, group: Group, untried: Untried) -> Result<bool, HostFail> {
+        let room = group.limit.saturating_sub(self.subgoals.len());
+        let is_second = matches!(untried, Untried::Second);
+        if room >= ROOM && !is_second {
+            let choice = self.choice(number, Untried::Second);
+            self.choices.push(choice)?;
+        }
+        self.first = group.next;
+        let Group {
+            first,
+            count,
+            limit,
+            ..
+        } = group;
+        if room < ROOM {
+            self.add_group(first.saturating_add(1), count.saturating_sub(1), limit)?;
+            self.add_group(first, 1, limit)?;
+            return Ok(true);
+        }
+        let half = count / 2;
+        let second = first.saturating_add(half);
+        let others = count.saturating_sub(half);
+        let less = self.subgoals.len().saturating_add(room / PARTS);
+        if is_second {
+            self.add_group(first, half, limit)?;
+            self.add_group(second, others, less)?;
+        } else {
+            self.add_group(second, others, limit)?;
+            self.add_group(first, half, less)?;
+        }
+        Ok(true)
     }
 
     // Whether a subgoal is the same literal as one above it.
@@ -282,58 +388,46 @@ impl<'a> Search<'a> {
     }
 
     // Meets a subgoal by one above it, from this one on, or else by a literal of a clause.
-    fn meet_above(
-        &mut self,
-        number: usize,
-        subgoal: Subgoal,
-        from: Option<usize>,
-    ) -> Result<bool, HostFail> {
+    fn meet_above(&mut self, open: Open, from: Option<usize>) -> Result<bool, HostFail> {
         let mut above = from;
         for _ in 0..self.subgoals.len() {
             let Some(ancestor) = self.subgoal(above) else {
                 break;
             };
-            if ancestor.literal.positive != subgoal.literal.positive
-                && self.reduce(number, subgoal, ancestor)?
+            if ancestor.literal.positive != open.subgoal.literal.positive
+                && self.reduce(open, ancestor)?
             {
                 return Ok(true);
             }
             above = ancestor.parent;
         }
-        self.extended(number, subgoal, 0)
+        self.extended(open, 0)
     }
 
     // Meets a subgoal by a literal of a clause, from this place on, among those that fit the symbol at its head.
-    fn extended(&mut self, number: usize, subgoal: Subgoal, from: usize) -> Result<bool, HostFail> {
+    fn extended(&mut self, open: Open, from: usize) -> Result<bool, HostFail> {
         let index = self.index;
-        let head = self.problem.terms.head(subgoal.literal.atom);
-        let entries = index.against(head, subgoal.literal.positive);
+        let literal = open.subgoal.literal;
+        let head = self.problem.terms.head(literal.atom);
+        let entries = index.against(head, literal.positive);
         for place in from..entries.len() {
             let entry = entries[place];
             // The later ones bring no fewer new subgoals.
-            if self.wanted(entry) > self.size {
+            if self.subgoals.len().saturating_add(entry.others) > open.limit {
                 return Ok(false);
             }
-            if self.extend(number, subgoal, entry, place)? {
+            if self.extend(open, entry, place)? {
                 return Ok(true);
             }
         }
         Ok(false)
     }
 
-    // How many inferences there are with one more by this literal, if each subgoal then takes one.
-    fn wanted(&self, entry: Entry) -> usize {
-        self.moves
-            .len()
-            .saturating_add(self.open)
-            .saturating_add(entry.others)
-    }
-
-    fn choice(&self, subgoal: usize, untried: Untried) -> Choice {
+    fn choice(&self, group: usize, untried: Untried) -> Choice {
         Choice {
-            subgoal,
+            group,
             untried,
-            open: self.open,
+            groups: self.groups.len(),
             subgoals: self.subgoals.len(),
             moves: self.moves.len(),
             mark: self.bindings.mark(),
@@ -342,7 +436,6 @@ impl<'a> Search<'a> {
 
     // Makes two atoms equal; where they cannot be, all is as it was at the mark.
     fn unify(&mut self, a: Instance, b: Instance, mark: Mark) -> Result<bool, HostFail> {
-        self.tries = self.tries.saturating_sub(1);
         let problem = self.problem;
         let are_unified = self.bindings.unify(&problem.terms, a, b)?;
         if !are_unified {
@@ -352,39 +445,28 @@ impl<'a> Search<'a> {
     }
 
     // Meets a subgoal by one above it, if the two contradict each other.
-    fn reduce(
-        &mut self,
-        number: usize,
-        subgoal: Subgoal,
-        ancestor: Subgoal,
-    ) -> Result<bool, HostFail> {
-        let choice = self.choice(number, Untried::Above(ancestor.parent));
-        if !self.unify(subgoal.atom(), ancestor.atom(), choice.mark)? {
+    fn reduce(&mut self, open: Open, ancestor: Subgoal) -> Result<bool, HostFail> {
+        let choice = self.choice(open.group, Untried::Above(ancestor.parent));
+        if !self.unify(open.subgoal.atom(), ancestor.atom(), choice.mark)? {
             return Ok(false);
         }
         // Where nothing was set, no other way serves better.
         if self.bindings.has_set_since(choice.mark) {
             self.choices.push(choice)?;
         }
-        self.close(subgoal, Move::Reduce)?;
+        self.close(open, Move::Reduce)?;
         Ok(true)
     }
 
     // Meets a subgoal by the literal at this place, if the two contradict each other.
-    fn extend(
-        &mut self,
-        number: usize,
-        subgoal: Subgoal,
-        entry: Entry,
-        place: usize,
-    ) -> Result<bool, HostFail> {
-        let choice = self.choice(number, Untried::Literals(place.saturating_add(1)));
+    fn extend(&mut self, open: Open, entry: Entry, place: usize) -> Result<bool, HostFail> {
+        let choice = self.choice(open.group, Untried::Literals(place.saturating_add(1)));
         let base = self.instance(entry.clause)?;
         let atom = Instance {
             node: entry.atom,
             base,
         };
-        if !self.unify(subgoal.atom(), atom, choice.mark)? {
+        if !self.unify(open.subgoal.atom(), atom, choice.mark)? {
             return Ok(false);
         }
         if entry.others > 0 || self.bindings.has_set_since(choice.mark) {
@@ -395,16 +477,83 @@ impl<'a> Search<'a> {
             literal: entry.literal,
             base,
         };
-        self.close(subgoal, Move::Extend(extension))?;
-        self.add_subgoals(entry.clause, Some(entry.literal), base, Some(number))?;
+        self.close(open, Move::Extend(extension))?;
+        let first = self.subgoals.len();
+        self.add_subgoals(entry.clause, base, Some((open.number, entry.literal)))?;
+        self.add_group(first, entry.others, open.limit)?;
         Ok(true)
     }
 
-    // Notes how the first subgoal was met.
-    fn close(&mut self, subgoal: Subgoal, by: Move) -> Result<(), HostFail> {
-        self.moves.push(by)?;
-        self.first = subgoal.next;
-        self.open = self.open.saturating_sub(1);
+    // Notes how a subgoal was met.
+    fn close(&mut self, open: Open, by: Move) -> Result<(), HostFail> {
+        let place = open.subgoal.place;
+        self.moves.push(Met { place, by })?;
+        self.first = open.next;
         Ok(())
+    }
+
+    // The moves in the order of the literals that they meet, from left to right, those below a literal behind its own.
+    fn in_order(&self, alloc: Global, start: usize) -> Result<Vec<Move>, HostFail> {
+        let mut moves = Vec::new(alloc);
+        let mut pending = Vec::new(alloc);
+        self.add_places(start, None, None, &mut pending)?;
+        for _ in 0..self.moves.len() {
+            let Some(place) = pending.pop() else {
+                break;
+            };
+            let Some((number, by)) = self.met(place) else {
+                return Err(HostFail);
+            };
+            moves.push(by)?;
+            if let Move::Extend(extension) = by {
+                let used = Some(extension.literal);
+                self.add_places(extension.clause, Some(number), used, &mut pending)?;
+            }
+        }
+        Ok(moves)
+    }
+
+    // Adds the places of a clause's literals but the used one, the last one first.
+    fn add_places(
+        &self,
+        clause: usize,
+        under: Option<usize>,
+        used: Option<usize>,
+        pending: &mut Vec<Place>,
+    ) -> Result<(), HostFail> {
+        let Some(clause) = self.problem.clause(clause) else {
+            return Err(HostFail);
+        };
+        for (literal, _) in clause.literals.iter().enumerate().rev() {
+            if Some(literal) != used {
+                pending.push(Place { under, literal })?;
+            }
+        }
+        Ok(())
+    }
+
+    // The number of the move that met a literal, and this move.
+    fn met(&self, place: Place) -> Option<(usize, Move)> {
+        for (number, met) in self.moves.iter().enumerate() {
+            if met.place.under == place.under && met.place.literal == place.literal {
+                return Some((number, met.by));
+            }
+        }
+        None
+    }
+}
+
+// Whether the literal at a place is the used one, which stands behind the subgoal that was met by it.
+fn is_used(used: Option<(usize, usize)>, place: usize) -> bool {
+    match used {
+        Some((_, literal)) => literal == place,
+        None => false,
+    }
+}
+
+fn parent_of(used: Option<(usize, usize)>) -> Option<usize> {
+    match used {
+        Some((parent, _)) => Some(parent),
+        None => None,
     }
 }

@@ -32,6 +32,8 @@ pub struct Bindings {
     // What is still to be compared, and still to be searched for a variable.
     pairs: Vec<(Instance, Instance)>,
     parts: Vec<Instance>,
+    // How many pairs and parts were looked at.
+    spent: u32,
 }
 
 /// How far the values had come.
@@ -70,6 +72,7 @@ impl Bindings {
             trail: Vec::new(alloc),
             pairs: Vec::new(alloc),
             parts: Vec::new(alloc),
+            spent: 0,
         }
     }
 
@@ -80,6 +83,15 @@ impl Bindings {
             self.values.push(None)?;
         }
         Ok(base)
+    }
+
+    /// How many pairs of nodes were compared, and nodes searched for a variable.
+    pub(crate) fn spent(&self) -> u32 {
+        self.spent
+    }
+
+    fn spend(&mut self) {
+        self.spent = self.spent.saturating_add(1);
     }
 
     pub(crate) fn mark(&self) -> Mark {
@@ -197,6 +209,7 @@ impl Bindings {
 
     // Compares two nodes at their heads. The parts of two applications are left to be compared.
     fn compared(&mut self, terms: &Terms, a: Instance, b: Instance) -> Result<Heads, HostFail> {
+        self.spend();
         let a = self.resolved(terms, a);
         let b = self.resolved(terms, b);
         let (left, right) = (terms.node(a.node), terms.node(b.node));
@@ -255,6 +268,7 @@ impl Bindings {
             let Some(part) = self.parts.pop() else {
                 return Ok(false);
             };
+            self.spend();
             let part = self.resolved(terms, part);
             match terms.node(part.node) {
                 Node::Variable(number) => {

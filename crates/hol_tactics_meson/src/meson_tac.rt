@@ -5,7 +5,7 @@ use crate::splitting::split;
 use hol_host::HostFail;
 use hol_just::{Goal, Just, Step, named, splice};
 use hol_tactics_forms::{assume, ccontr, falsity, goal_frees, mk_neg, refute, to_none};
-use hol_tactics_search::{Problem, Symbol, TRIES, add_equality, find_refutation};
+use hol_tactics_search::{COMPARISONS, Problem, Symbol, add_equality, find_refutation};
 use hol_terms::Term;
 use hol_types::Ty;
 use std::alloc::Global;
@@ -13,24 +13,24 @@ use std::alloc::Global;
 /// ASM_MESON_TAC: no subgoal, where the goal follows from its assumptions by first-order reasoning with equality. Theorems are brought
 /// into the goal by MP_TAC. The goal is split into as many as 300. Of each the assumptions and the denied conclusion are made to clauses,
 /// in which a witness stands for what there is, and refuted by model elimination: by a first clause without affirmed literals, and each
-/// subgoal by one above it or by a clause, with iterative deepening over 1 to 59 inferences, and 4,000,000 tries for all goals. Terms are
+/// subgoal by one above it or by a clause, with iterative deepening over 1 to 59 inferences, and 30,000,000 comparisons for all goals. Terms are
 /// first order: what is applied or abstracted is matched as it stands. Where nothing is found it fails.
 pub fn meson(alloc: Global, goal: &Goal) -> Result<Step, HostFail> {
     let Step { goals, just } = split(alloc, goal)?;
     let mut parts = Vec::new(alloc);
-    let mut tries = TRIES;
+    let mut comparisons = COMPARISONS;
     for goal in &goals {
-        let just = refuted(alloc, goal, &mut tries)?;
+        let just = refuted(alloc, goal, &mut comparisons)?;
         parts.push(to_none(alloc, just))?;
     }
     Ok(to_none(alloc, splice(alloc, &just, &parts)?))
 }
 
 // The justification of a goal without subgoals.
-fn refuted(alloc: Global, goal: &Goal, tries: &mut u32) -> Result<Just, HostFail> {
+fn refuted(alloc: Global, goal: &Goal, comparisons: &mut u32) -> Result<Just, HostFail> {
     let mut problem = Problem::new(alloc);
     give_goal(alloc, &mut problem, goal)?;
-    let falsity = falsity_of(alloc, &problem, goal, tries)?;
+    let falsity = falsity_of(alloc, &problem, goal, comparisons)?;
     Ok(ccontr(alloc, &goal.concl, falsity)?)
 }
 
@@ -49,9 +49,9 @@ fn falsity_of(
     alloc: Global,
     problem: &Problem,
     goal: &Goal,
-    tries: &mut u32,
+    comparisons: &mut u32,
 ) -> Result<Just, HostFail> {
-    let found = find_refutation(alloc, problem, tries)?;
+    let found = find_refutation(alloc, problem, comparisons)?;
     rebuilt(alloc, problem, &found, goal_frees(alloc, goal)?)
 }
 

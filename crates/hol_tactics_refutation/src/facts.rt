@@ -13,10 +13,10 @@ use std::alloc::Global;
 
 /// A formula that is proved if it is positive; else its negation is.
 #[derive(Drop)]
-pub(crate) struct Fact {
-    pub(crate) just: Just,
-    pub(crate) formula: Term,
-    pub(crate) positive: bool,
+pub struct Fact {
+    pub just: Just,
+    pub formula: Term,
+    pub positive: bool,
 }
 
 // The formula, or its negation.
@@ -37,13 +37,13 @@ impl Fact {
     }
 
     /// What is assumed.
-    pub(crate) fn assumed(alloc: Global, formula: &Term, positive: bool) -> Result<Fact, HostFail> {
+    pub fn assumed(alloc: Global, formula: &Term, positive: bool) -> Result<Fact, HostFail> {
         let just = assume(alloc, &literal(alloc, formula, positive)?)?;
         Fact::new(alloc, just, formula, positive)
     }
 
     /// `F`, of the fact and an assumption of the opposite.
-    pub(crate) fn against_assumed(self, alloc: Global) -> Result<Just, HostFail> {
+    pub fn against_assumed(self, alloc: Global) -> Result<Just, HostFail> {
         let Fact {
             just,
             formula,
@@ -57,7 +57,7 @@ impl Fact {
     }
 
     /// Of `~p`, that p fails; of `~ ~p`, that it holds.
-    pub(crate) fn negated(self, alloc: Global, p: &Term) -> Result<Fact, HostFail> {
+    pub fn negated(self, alloc: Global, p: &Term) -> Result<Fact, HostFail> {
         let Fact {
             just,
             formula,
@@ -72,7 +72,7 @@ impl Fact {
     }
 
     /// Of `!x. p`, or of `~(?x. p)`, what it says of a value.
-    pub(crate) fn at_value(
+    pub fn at_value(
         self,
         alloc: Global,
         of: Quantified<'_>,
@@ -93,7 +93,7 @@ impl Fact {
     }
 
     /// Of `?x. p`, or of `~(!x. p)`, what it says of a witness.
-    pub(crate) fn at_witness(self, alloc: Global, supposed: &Supposed) -> Result<Fact, HostFail> {
+    pub fn at_witness(self, alloc: Global, supposed: &Supposed) -> Result<Fact, HostFail> {
         let Fact { just, positive, .. } = self;
         let just = if positive {
             of_some(alloc, just, supposed)
@@ -104,7 +104,7 @@ impl Fact {
     }
 
     /// The first or the second of the facts that a conjunction, a denied disjunction or a denied implication is.
-    pub(crate) fn side(self, alloc: Global, is_first: bool) -> Result<Fact, HostFail> {
+    pub fn side(self, alloc: Global, is_first: bool) -> Result<Fact, HostFail> {
         let Fact {
             just,
             formula,
@@ -216,7 +216,7 @@ fn no_consequent(alloc: Global, denied: Just, p: &Term, q: &Term) -> Result<Fact
 /// A formula, affirmed or denied, of which one of two alternatives holds. An equivalence has two such pairs: this is its first one or
 /// its second one.
 #[derive(Drop)]
-pub(crate) struct Alternatives {
+pub struct Alternatives {
     fact: Fact,
     is_first: bool,
 }
@@ -232,12 +232,12 @@ fn sides(formula: &Term) -> Option<(&Term, &Term)> {
 }
 
 impl Alternatives {
-    pub(crate) fn new(fact: Fact, is_first: bool) -> Alternatives {
+    pub fn new(fact: Fact, is_first: bool) -> Alternatives {
         Alternatives { fact, is_first }
     }
 
     /// The first alternative, assumed.
-    pub(crate) fn first(&self, alloc: Global) -> Result<Fact, HostFail> {
+    pub fn first(&self, alloc: Global) -> Result<Fact, HostFail> {
         let Some((p, _)) = sides(&self.fact.formula) else {
             return Err(HostFail);
         };
@@ -246,7 +246,7 @@ impl Alternatives {
     }
 
     /// The second one.
-    pub(crate) fn second(&self, alloc: Global) -> Result<Fact, HostFail> {
+    pub fn second(&self, alloc: Global) -> Result<Fact, HostFail> {
         let Some((_, q)) = sides(&self.fact.formula) else {
             return Err(HostFail);
         };
@@ -269,7 +269,7 @@ impl Alternatives {
     }
 
     /// `F`, of `F` from each alternative.
-    pub(crate) fn refuted(self, alloc: Global, left: Just, right: Just) -> Result<Just, HostFail> {
+    pub fn refuted(self, alloc: Global, left: Just, right: Just) -> Result<Just, HostFail> {
         let Alternatives {
             fact: Fact {
                 just,

@@ -14,15 +14,15 @@ use std::alloc::Global;
 
 /// `?x. p` or `!x. p`, with x and p.
 #[derive(Clone, Copy)]
-pub(crate) struct Quantified<'a> {
-    pub(crate) formula: &'a Term,
-    pub(crate) variable: &'a Term,
-    pub(crate) body: &'a Term,
+pub struct Quantified<'a> {
+    pub formula: &'a Term,
+    pub variable: &'a Term,
+    pub body: &'a Term,
 }
 
 impl<'a> Quantified<'a> {
     /// p at a value of x.
-    pub(crate) fn body_at(&self, alloc: Global, value: &Term) -> Result<Term, Fault> {
+    pub fn body_at(&self, alloc: Global, value: &Term) -> Result<Term, Fault> {
         let theta = [(value.copy(alloc)?, self.variable.copy(alloc)?)];
         vsubst(alloc, &theta, self.body)
     }
@@ -30,14 +30,14 @@ impl<'a> Quantified<'a> {
 
 /// What is supposed of a witness v: `(?x. p) ==> p[v/x]`, or `p[v/x] ==> !x. p`.
 #[derive(Drop)]
-pub(crate) struct Supposed {
+pub struct Supposed {
     witness: usize,
     variable: Term,
     formula: Term,
     is_existential: bool,
     /// `p[v/x]`, and all of it.
-    pub(crate) body_at: Term,
-    pub(crate) hypothesis: Term,
+    pub body_at: Term,
+    pub hypothesis: Term,
 }
 
 // A symbol for a witness with values of its parameters, and the variable that stands for this.
@@ -50,7 +50,7 @@ struct Witness {
 
 /// The witnesses of a refutation.
 #[derive(Drop)]
-pub(crate) struct Witnesses {
+pub struct Witnesses {
     all: Vec<Witness>,
     supposed: Vec<Supposed>,
     // The variables that are used.
@@ -72,7 +72,7 @@ fn are_aconv(first: &[Term], second: &[Term]) -> bool {
 
 impl Witnesses {
     /// None yet; their variables will be none of these.
-    pub(crate) fn new(alloc: Global, avoid: Vec<Term>) -> Witnesses {
+    pub fn new(alloc: Global, avoid: Vec<Term>) -> Witnesses {
         Witnesses {
             all: Vec::new(alloc),
             supposed: Vec::new(alloc),
@@ -82,7 +82,7 @@ impl Witnesses {
     }
 
     /// A variable for any value of a type, for each type one.
-    pub(crate) fn any(&mut self, alloc: Global, ty: &Ty) -> Result<Term, HostFail> {
+    pub fn any(&mut self, alloc: Global, ty: &Ty) -> Result<Term, HostFail> {
         for variable in &self.free {
             if variable.ty().eq(ty) {
                 return Ok(variable.copy(alloc)?);
@@ -95,7 +95,7 @@ impl Witnesses {
     }
 
     /// The number of the witness of this symbol for these parameters. Its variable has this one's name, or one with primes.
-    pub(crate) fn number(
+    pub fn number(
         &mut self,
         alloc: Global,
         symbol: usize,
@@ -118,7 +118,7 @@ impl Witnesses {
     }
 
     /// The variable of the witness of this number.
-    pub(crate) fn variable(&self, alloc: Global, number: usize) -> Result<Term, HostFail> {
+    pub fn variable(&self, alloc: Global, number: usize) -> Result<Term, HostFail> {
         match self.all.get(number) {
             Some(witness) => Ok(witness.variable.copy(alloc)?),
             None => Err(HostFail),
@@ -126,7 +126,7 @@ impl Witnesses {
     }
 
     /// The place of what is supposed of a witness for a quantified formula.
-    pub(crate) fn suppose(
+    pub fn suppose(
         &mut self,
         alloc: Global,
         witness: usize,
@@ -143,7 +143,7 @@ impl Witnesses {
     }
 
     /// What is supposed at a place.
-    pub(crate) fn supposed(&self, place: usize) -> Option<&Supposed> {
+    pub fn supposed(&self, place: usize) -> Option<&Supposed> {
         self.supposed.get(place)
     }
 
@@ -154,7 +154,7 @@ impl Witnesses {
     }
 
     /// The justification of a formula without what is supposed of the witnesses: first of one that no other supposition names.
-    pub(crate) fn discharged(&self, alloc: Global, of: Just) -> Result<Just, HostFail> {
+    pub fn discharged(&self, alloc: Global, of: Just) -> Result<Just, HostFail> {
         let mut just = of;
         let mut is_left = Vec::new(alloc);
         for _ in &self.supposed {
