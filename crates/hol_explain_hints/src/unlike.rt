@@ -13,13 +13,14 @@ struct Side<'a> {
     term: &'a Term,
 }
 
-// Two terms that have to be alike, and the first parts in which they differ.
+// Says that two terms have to be alike, and the first parts in which they differ.
 fn differ(
     case: &Case<'_>,
+    message: &mut Message,
     at: usize,
     first: Side<'_>,
     second: Side<'_>,
-) -> Result<Option<Message>, NoMemory> {
+) -> Result<bool, NoMemory> {
     let alike = [
         Text(first.said),
         Shown(first.term),
@@ -27,8 +28,9 @@ fn differ(
         Shown(second.term),
         Text(" have to be alike"),
     ];
+    let said = case.say(message, at, &alike)?;
     let Some((part, other)) = differing(first.term, second.term) else {
-        return case.say(at, &alike);
+        return Ok(said);
     };
     let parts = [
         Text("; they differ first at "),
@@ -36,34 +38,44 @@ fn differ(
         Text(" and "),
         Shown(other),
     ];
-    let mut message = case.teller().say(case.piece.start(at), &alike)?;
-    case.teller().push(&mut message.text, &parts)?;
-    Ok(Some(message))
+    case.push(message, &parts)?;
+    Ok(said)
 }
 
-// The body of the formula that `EXISTS` is to prove, at its witness, and the conclusion of its theorem.
-fn no_witness(case: &Case<'_>) -> Result<Option<Message>, NoMemory> {
+// Says how the body of the formula that `EXISTS` is to prove, at its witness, and the conclusion of its theorem differ.
+fn unlike_body(
+    case: &Case<'_>,
+    message: &mut Message,
+    wanted: &Term,
+    premise: &Premise,
+) -> Result<bool, NoMemory> {
+    differ(
+        case,
+        message,
+        premise.at,
+        Side {
+            said: "the body of the first term at the witness, ",
+            term: wanted,
+        },
+        Side {
+            said: " and the conclusion of the theorem, ",
+            term: &premise.conclusion,
+        },
+    )
+}
+
+// The same of the formula and the witness that it is given.
+fn no_witness(case: &Case<'_>, message: &mut Message) -> Result<bool, NoMemory> {
     let (Some(formula), Some(witness), Some(premise)) = (
         case.term(0),
         case.term(1),
         case.theorem(0),
     ) else {
-        return Ok(None);
+        return Ok(false);
     };
     match body_at(case.alloc, &formula.term, &witness.term)? {
-        Some(wanted) => differ(
-            case,
-            premise.at,
-            Side {
-                said: "the body of the first term at the witness, ",
-                term: &wanted,
-            },
-            Side {
-                said: " and the conclusion of the theorem, ",
-                term: &premise.conclusion,
-            },
-        ),
-        None => Ok(None),
+        Some(wanted) => unlike_body(case, message, &wanted, premise),
+        None => Ok(false),
     }
 }
 
@@ -110,18 +122,18 @@ fn sides_of<'a>(
     ))
 }
 
-/// The terms of a rule that have to be alike.
-pub(crate) fn not_alpha(case: &Case<'_>) -> Result<Option<Message>, NoMemory> {
+/// Says which terms of a rule have to be alike.
+pub(crate) fn not_alpha(case: &Case<'_>, message: &mut Message) -> Result<bool, NoMemory> {
     let rule = case.rule();
     if rule == "EXISTS" {
-        return no_witness(case);
+        return no_witness(case, message);
     }
     let from = if rule == "DISJ_CASES" { 1 } else { 0 };
     let (Some(first), Some(second)) = (case.theorem(from), case.theorem(from + 1)) else {
-        return Ok(None);
+        return Ok(false);
     };
     match sides_of(rule, first, second) {
-        Some((wanted, found)) => differ(case, second.at, wanted, found),
-        None => Ok(None),
+        Some((wanted, found)) => differ(case, message, second.at, wanted, found),
+        None => Ok(false),
     }
 }
