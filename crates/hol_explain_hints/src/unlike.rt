@@ -79,47 +79,67 @@ fn no_witness(case: &Case<'_>, message: &mut Message) -> Result<bool, NoMemory> 
     }
 }
 
-// The parts of the conclusions of two theorems that a rule wants to be alike.
-fn sides_of<'a>(
-    rule: &str,
-    first: &'a Premise,
-    second: &'a Premise,
-) -> Option<(Side<'a>, Side<'a>)> {
-    let one = &first.conclusion;
-    let other = &second.conclusion;
-    let (said, wanted, behind, found) = match rule {
+// What is said before the parts of two conclusions that a rule wants to be alike.
+fn leads(rule: &str) -> (&'static str, &'static str) {
+    match rule {
         "DISJ_CASES" => (
             "the conclusion of the second theorem, ",
-            one,
             " and that of the third, ",
-            other,
         ),
         "TRANS" => (
             "the right side of the first theorem, ",
-            sides(one)?.1,
             " and the left side of the second, ",
-            sides(other)?.0,
         ),
         "MP" => (
             "the antecedent of the first theorem, ",
-            infix_parts(one, "==>")?.0,
             " and the conclusion of the second, ",
-            other,
         ),
         _ => (
             "the left side of the first theorem, ",
-            sides(one)?.0,
             " and the conclusion of the second, ",
-            other,
         ),
+    }
+}
+
+// The part of the first conclusion that a rule compares.
+fn wanted_part<'a>(rule: &str, conclusion: &'a Term) -> Option<&'a Term> {
+    match rule {
+        "DISJ_CASES" => Some(conclusion),
+        "TRANS" => Some(sides(conclusion)?.1),
+        "MP" => Some(infix_parts(conclusion, "==>")?.0),
+        _ => Some(sides(conclusion)?.0),
+    }
+}
+
+// The part of the second conclusion that a rule compares.
+fn found_part<'a>(rule: &str, conclusion: &'a Term) -> Option<&'a Term> {
+    if rule == "TRANS" {
+        Some(sides(conclusion)?.0)
+    } else {
+        Some(conclusion)
+    }
+}
+
+// Says which parts of two conclusions have to be alike.
+fn unlike_conclusions(
+    case: &Case<'_>,
+    message: &mut Message,
+    first: &Premise,
+    second: &Premise,
+) -> Result<bool, NoMemory> {
+    let rule = case.rule();
+    let (Some(wanted), Some(found)) = (
+        wanted_part(rule, &first.conclusion),
+        found_part(rule, &second.conclusion),
+    ) else {
+        return Ok(false);
     };
-    Some((
-        Side { said, term: wanted },
-        Side {
-            said: behind,
-            term: found,
-        },
-    ))
+    let (said, behind) = leads(rule);
+    let other = Side {
+        said: behind,
+        term: found,
+    };
+    differ(case, message, second.at, Side { said, term: wanted }, other)
 }
 
 /// Says which terms of a rule have to be alike.
@@ -129,11 +149,8 @@ pub(crate) fn not_alpha(case: &Case<'_>, message: &mut Message) -> Result<bool, 
         return no_witness(case, message);
     }
     let from = if rule == "DISJ_CASES" { 1 } else { 0 };
-    let (Some(first), Some(second)) = (case.theorem(from), case.theorem(from + 1)) else {
-        return Ok(false);
-    };
-    match sides_of(rule, first, second) {
-        Some((wanted, found)) => differ(case, message, second.at, wanted, found),
-        None => Ok(false),
+    match (case.theorem(from), case.theorem(from + 1)) {
+        (Some(first), Some(second)) => unlike_conclusions(case, message, first, second),
+        _ => Ok(false),
     }
 }
