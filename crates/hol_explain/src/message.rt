@@ -2,10 +2,10 @@
 ghost use Rattle.std.specs.Prelude.{OnOk};
 ghost use Rattle.hol_script.specs.Managers.{IsManager};
 
-use crate::search::{Trial, refused_part};
+use crate::search::{Trial, open_goals, refused_part};
 use hol_explain_hints::{
-    Arguments, Case, Known, Message, NoMemory, Piece, Premise, Span, given, is_looked_up,
-    no_command, of_case, of_part, plain, span_of,
+    Arguments, Case, Known, Message, NoMemory, Piece, Premise, Span, first_goal, given,
+    is_looked_up, no_command, of_case, of_part, plain, span_of,
 };
 use hol_host::Refiners;
 use hol_model::Fault;
@@ -63,12 +63,13 @@ fn arguments_in(
     Ok(arguments)
 }
 
-// What is said of the part of an `e` that is refused.
+// Says what is known of the part of an `e` that is refused.
 fn of_expression<H: Refiners>(
     trial: &Trial<'_, H>,
     manager: &mut Manager,
     case: &Case<'_>,
-) -> Result<Message, NoMemory>
+    message: &mut Message,
+) -> Result<bool, NoMemory>
     requires { IsManager manager.old }
     ensures { OnOk result (IsManager manager.new) }
 {
@@ -79,29 +80,64 @@ fn of_expression<H: Refiners>(
         known: case.known,
         host_names: case.host_names,
         piece: case.piece,
+        goal: case.goal,
         arguments: &arguments,
         fault: case.fault,
         row: case.row,
     };
-    of_part(&inner, &part)
+    of_part(&inner, &part, message)
 }
 
-// What is said of a case, an `e` by its part that is refused.
+// Says what is known of a case, of an `e` by its part that is refused.
 fn of_refusal<H: Refiners>(
     trial: &Trial<'_, H>,
     manager: &mut Manager,
     case: &Case<'_>,
-) -> Result<Message, NoMemory>
+    message: &mut Message,
+) -> Result<bool, NoMemory>
     requires { IsManager manager.old }
     ensures { OnOk result (IsManager manager.new) }
 {
-    if let Some(message) = of_case(case)? {
-        return Ok(message);
+    if of_case(case, message)? {
+        return Ok(true);
     }
     if trial.piece.text(0) == "e" {
-        return of_expression(trial, manager, case);
+        return of_expression(trial, manager, case, message);
     }
-    plain(case)
+    plain(case, message)
+}
+
+// Says what is known of a command that is refused in this state, whose first goal is a text.
+fn of_command<H: Refiners>(
+    trial: &Trial<'_, H>,
+    host_names: &[String],
+    known: &Known,
+    manager: &mut Manager,
+    refused: &Refused,
+    goal: &str,
+    message: &mut Message,
+) -> Result<bool, NoMemory>
+    requires { IsManager manager.old }
+    ensures { OnOk result (IsManager manager.new) }
+{
+    let alloc = trial.alloc;
+    let piece = trial.piece;
+    let goal = Piece::of_quote(alloc, goal.as_bytes())?;
+    let arguments = arguments_in(alloc, known, manager, piece, span_of(piece))?;
+    let case = Case {
+        alloc,
+        known,
+        host_names,
+        piece,
+        goal: &goal,
+        arguments: &arguments,
+        fault: &refused.fault,
+        row: match &refused.row {
+            Some(row) => Some(row.as_str()),
+            None => None,
+        },
+    };
+    of_refusal(trial, manager, &case, message)
 }
 
 /// What is said of a command that is refused in this state, which stays but for what `b` can take back.
@@ -116,22 +152,20 @@ pub(crate) fn message_of<H: Refiners>(
     ensures { OnOk result (IsManager manager.new) }
 {
     let alloc = trial.alloc;
-    let piece = trial.piece;
     if refused.fault == Fault::Syntax {
-        return no_command(alloc, known, piece);
+        return no_command(alloc, known, trial.piece);
     }
-    let arguments = arguments_in(alloc, known, manager, piece, span_of(piece))?;
-    let case = Case {
-        alloc,
-        known,
+    let goals = open_goals(alloc, manager)?;
+    let goal = first_goal(goals.as_str());
+    let mut message = Message::empty(alloc);
+    of_command(
+        trial,
         host_names,
-        piece,
-        arguments: &arguments,
-        fault: &refused.fault,
-        row: match &refused.row {
-            Some(row) => Some(row.as_str()),
-            None => None,
-        },
-    };
-    of_refusal(trial, manager, &case)
+        known,
+        manager,
+        refused,
+        goal,
+        &mut message,
+    )?;
+    Ok(message)
 }

@@ -29,8 +29,8 @@ struct Inside {
     is_last: bool,
 }
 
-// The text of the open goals.
-fn open_goals(alloc: Global, manager: &Manager) -> Result<String, NoMemory>
+/// The text of the open goals; nothing where there is none.
+pub(crate) fn open_goals(alloc: Global, manager: &Manager) -> Result<String, NoMemory>
     requires { IsManager manager.now }
 {
     match given(manager.print(alloc))? {

@@ -99,6 +99,26 @@ fn noted<H: Refiners>(
     Ok(Some(line))
 }
 
+// The names of a refused command that stands behind a place are told by its line.
+fn miss(
+    alloc: Global,
+    origins: &[Origin<'_>],
+    known: &mut Known,
+    piece: &Piece<'_>,
+    place: &Place,
+) -> Result<(), NoMemory> {
+    let begin = place.behind(between(piece.bytes, 0, piece.start(0)));
+    let (file, here) = located(origins, &begin);
+    let line = here.line;
+    let (lead, file, end) = if origins.len() > 1 {
+        (" of `", file, "`")
+    } else {
+        ("", "", "")
+    };
+    let text = format!(in alloc; "line {line}{lead}{file}{end}")?;
+    known.miss(alloc, piece, text.as_str())
+}
+
 // Runs a command, and answers what is written of it.
 fn answer<H: Refiners>(
     walk: &Walk<'_, H>,
@@ -121,6 +141,7 @@ fn answer<H: Refiners>(
         }
         Err(refused) => {
             let text = explained(walk, known, manager, &piece, place, &refused)?;
+            miss(walk.alloc, walk.script.origins, known, &piece, place)?;
             Ok(Answer {
                 text: Some(text),
                 is_refused: true,

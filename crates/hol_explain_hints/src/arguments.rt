@@ -1,6 +1,7 @@
 // The terms that a command quotes, and the stored theorems that it names.
+use crate::names::is_theorem_place;
 use crate::span::Span;
-use hol_explain_words::{Kind, Known, NoMemory, Piece, between, given, is_before_theorem, text_of};
+use hol_explain_words::{Kind, Known, NoMemory, Piece, between, given, text_of};
 use hol_syntax::{read_sequent, read_term};
 use hol_terms::Term;
 use std::alloc::Global;
@@ -63,8 +64,7 @@ impl Premise {
 
 /// Whether the name at a place in the list is looked up: any in a `thm`, and else those of theorems.
 pub fn is_looked_up(piece: &Piece<'_>, at: usize) -> bool {
-    piece.kind(at) == Kind::Name
-        && (piece.text(0) == "thm" || is_before_theorem(piece.text(at.saturating_sub(1))))
+    piece.kind(at) == Kind::Name && (piece.text(0) == "thm" || is_theorem_place(piece, at))
 }
 
 /// Where the arguments of a command stand: those of a `thm` behind its rule, and those of an `e` are read with the part that is
@@ -98,6 +98,22 @@ fn quoted_at(
     }
 }
 
+// Puts the terms at the end that a part of a command quotes.
+fn push_terms(
+    alloc: Global,
+    known: &Known,
+    piece: &Piece<'_>,
+    span: Span,
+    terms: &mut Vec<Option<Quotation>>,
+) -> Result<(), NoMemory> {
+    for at in span.from..span.to {
+        if piece.kind(at) == Kind::Quote {
+            terms.push(quoted_at(alloc, known, piece, at)?)?;
+        }
+    }
+    Ok(())
+}
+
 impl Arguments {
     /// The terms that a part of a command quotes, and no theorem yet.
     pub fn new(
@@ -106,15 +122,11 @@ impl Arguments {
         piece: &Piece<'_>,
         span: Span,
     ) -> Result<Arguments, NoMemory> {
-        let mut terms = Vec::new(alloc);
-        for at in span.from..span.to {
-            if piece.kind(at) == Kind::Quote {
-                terms.push(quoted_at(alloc, known, piece, at)?)?;
-            }
-        }
-        Ok(Arguments {
-            terms,
+        let mut arguments = Arguments {
+            terms: Vec::new(alloc),
             theorems: Vec::new(alloc),
-        })
+        };
+        push_terms(alloc, known, piece, span, &mut arguments.terms)?;
+        Ok(arguments)
     }
 }

@@ -12,6 +12,8 @@ pub struct Case<'a> {
     pub known: &'a Known,
     pub host_names: &'a [String],
     pub piece: &'a Piece<'a>,
+    /// The line of the first open goal.
+    pub goal: &'a Piece<'a>,
     pub arguments: &'a Arguments,
     pub fault: &'a Fault,
     /// The row of values that makes a formula false.
@@ -23,13 +25,25 @@ impl<'a> Case<'a> {
         Teller {
             alloc: self.alloc,
             known: self.known,
+            goal: self.goal,
         }
     }
 
-    /// The message of parts on the word at a place in the list.
-    pub(crate) fn say(&self, at: usize, parts: &[Said<'_>]) -> Result<Option<Message>, NoMemory> {
-        let message = self.teller().say(self.piece.start(at), parts)?;
-        Ok(Some(message))
+    /// Says parts on the word at a place in the list.
+    pub(crate) fn say(
+        &self,
+        message: &mut Message,
+        at: usize,
+        parts: &[Said<'_>],
+    ) -> Result<bool, NoMemory> {
+        message.at = self.piece.start(at);
+        self.push(message, parts)?;
+        Ok(true)
+    }
+
+    /// Puts parts at the end of what is said.
+    pub(crate) fn push(&self, message: &mut Message, parts: &[Said<'_>]) -> Result<(), NoMemory> {
+        self.teller().push(&mut message.text, parts)
     }
 
     /// The word of the rule of a `thm`.

@@ -1,11 +1,10 @@
 // Which conversion of an expression does not apply, and to which term.
 use crate::case::Case;
-use crate::said::Said::{Quoted, Shown, Text, Theorem};
+use crate::said::Said::{Quoted, Shown, Text};
 use crate::shapes::wanted;
 use crate::span::{Span, next_outside};
-use hol_explain_words::{
-    Message, NoMemory, Piece, between, end_of_conversion, is_before_theorem, text_of,
-};
+use crate::taken::push_given;
+use hol_explain_words::{Message, NoMemory, Piece, between, end_of_conversion, text_of};
 use hol_terms::{Parts, Term};
 
 // What joins two conversions.
@@ -56,6 +55,27 @@ fn innermost<'a>(piece: &Piece<'_>, whole: Applied<'a>) -> Applied<'a> {
     applied
 }
 
+// Puts a conversion at the end, what it wants, and the term that it is applied to.
+fn push_applied<'a>(
+    case: &Case<'a>,
+    message: &mut Message,
+    applied: Applied<'a>,
+) -> Result<(), NoMemory> {
+    let (lead, wanted, joint) = match wanted(case.piece.text(applied.span.from)) {
+        Some(wanted) => (" wants ", wanted, ", and is applied to "),
+        None => ("", "", " is applied to "),
+    };
+    let parts = [
+        Text(": "),
+        Quoted(text_within(case.piece, applied.span)),
+        Text(lead),
+        Text(wanted),
+        Text(joint),
+        Shown(applied.term),
+    ];
+    case.push(message, &parts)
+}
+
 /// Puts the conversion that does not apply at the end, what it wants, and the term that it is applied to: that of the expression
 /// from a word on, or what `RAND_CONV`, `RATOR_CONV` and `ABS_CONV` make of both. The message is on that conversion then.
 pub(crate) fn push_conversion<'a>(
@@ -67,31 +87,7 @@ pub(crate) fn push_conversion<'a>(
     let to = end_of_conversion(case.alloc, case.piece, from)?;
     let span = Span { from, to };
     let applied = innermost(case.piece, Applied { span, term });
-    let at = applied.span.from;
-    let word = case.piece.text(at);
-    let (lead, wanted) = match wanted(word) {
-        Some(wanted) => (" wants ", wanted),
-        None => ("", ""),
-    };
-    let parts = [
-        Text(": "),
-        Quoted(text_within(case.piece, applied.span)),
-        Text(lead),
-        Text(wanted),
-        Text(if wanted.is_empty() {
-            " is applied to "
-        } else {
-            ", and is applied to "
-        }),
-        Shown(applied.term),
-    ];
-    message.at = case.piece.start(at);
-    case.teller().push(&mut message.text, &parts)?;
-    match case.theorem_at(at.saturating_add(1)) {
-        Some(premise) if is_before_theorem(word) => {
-            case.teller()
-                .push(&mut message.text, &[Text(", and "), Theorem(premise)])
-        }
-        _ => Ok(()),
-    }
+    push_applied(case, message, applied)?;
+    message.at = case.piece.start(applied.span.from);
+    push_given(case, applied.span.from, ", and ", message)
 }

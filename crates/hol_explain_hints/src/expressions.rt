@@ -9,11 +9,17 @@ const MEMBER_ENDS: (&str, &str) = (";", "]");
 
 const CLOSING: (&str, &str) = (")", ")");
 
+// Puts the command `e` of a part at the end.
+fn push_command(text: &mut Vec<u8>, piece: &Piece<'_>, span: Span) -> Result<(), NoMemory> {
+    text.extend_from_slice(b"e ")?;
+    text.extend_from_slice(between(piece.bytes, piece.start(span.from), piece.start(span.to)))?;
+    Ok(())
+}
+
 /// The command `e` of a part.
 pub fn command_of(alloc: Global, piece: &Piece<'_>, span: Span) -> Result<Vec<u8>, NoMemory> {
     let mut text = Vec::new(alloc);
-    text.extend_from_slice(b"e ")?;
-    text.extend_from_slice(between(piece.bytes, piece.start(span.from), piece.start(span.to)))?;
+    push_command(&mut text, piece, span)?;
     Ok(text)
 }
 

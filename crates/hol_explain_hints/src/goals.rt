@@ -1,13 +1,13 @@
 // What is said of refused commands of goals.
 use crate::case::Case;
 use crate::conversions::push_conversion;
-use crate::said::Said::{Misfit, Quoted, Text, Theorem, Typed};
+use crate::said::Said::{Bare, Quoted, Text, Typed};
 use crate::shapes::wanted;
 use crate::span::{Span, next_outside};
-use hol_explain_words::{Known, Message, NoMemory, given, is_before_theorem, is_refiner, sentence};
+use crate::taken::{push_given, push_untaken};
+use hol_explain_words::{Known, Message, NoMemory, given, is_refiner, sentence};
 use hol_model::Fault;
-use hol_syntax::read_term;
-use hol_syntax_print::text_of_term;
+use hol_syntax::read_sequent;
 use hol_taut_formulas::atoms;
 use hol_terms::Term;
 use std::alloc::Global;
@@ -22,7 +22,7 @@ pub struct Part {
     pub span: Span,
     subgoals: usize,
     goals: String,
-    conclusion: Option<Term>,
+    goal: Option<(Vec<Term>, Term)>,
 }
 
 /// How many goals the text of the open goals has: a line each, behind the first.
@@ -30,22 +30,27 @@ pub fn count_of_goals(goals: &str) -> usize {
     goals.lines().count().saturating_sub(1)
 }
 
-// The line of the first goal in the text of the open goals: the second line.
-fn first_goal(goals: &str) -> Option<&str> {
+/// The line of the first goal in the text of the open goals: the second line.
+pub fn first_goal(goals: &str) -> &str {
     let mut lines = goals.lines();
     let _count = lines.next();
-    lines.next()
+    match lines.next() {
+        Some(goal) => goal,
+        None => "",
+    }
 }
 
-// The conclusion of the first goal in the text of the open goals.
-fn conclusion(alloc: Global, known: &Known, goals: &str) -> Result<Option<Term>, NoMemory> {
-    let Some(goal) = first_goal(goals) else {
+// The assumptions and the conclusion in the line of a goal.
+fn sequent(
+    alloc: Global,
+    known: &Known,
+    goal: &str,
+) -> Result<Option<(Vec<Term>, Term)>, NoMemory> {
+    let Some((assumptions, conclusion)) = goal.split_once("?- ") else {
         return Ok(None);
     };
-    match goal.split_once("?- ") {
-        Some((_, text)) => given(read_term(alloc, &known.scope, text.as_bytes())),
-        None => Ok(None),
-    }
+    let text = format!(in alloc; "{assumptions}|- {conclusion}")?;
+    given(read_sequent(alloc, &known.scope, text.as_bytes()))
 }
 
 impl Part {
@@ -57,77 +62,81 @@ impl Part {
         subgoals: usize,
         goals: String,
     ) -> Result<Part, NoMemory> {
-        let conclusion = conclusion(alloc, known, goals.as_str())?;
+        let goal = sequent(alloc, known, first_goal(goals.as_str()))?;
         Ok(Part {
             span,
             subgoals,
             goals,
-            conclusion,
+            goal,
         })
     }
 }
 
-/// What is said of a `goal` that is refused, whose term is no formula.
-pub(crate) fn at_new_goal(case: &Case<'_>) -> Result<Option<Message>, NoMemory> {
+/// Says what is wrong with a `goal` whose term is no formula.
+pub(crate) fn at_new_goal(case: &Case<'_>, message: &mut Message) -> Result<bool, NoMemory> {
     match case.term(0) {
-        Some(found) if *case.fault == Fault::NotBool => case.say(
-            found.at,
-            &[
+        Some(found) if *case.fault == Fault::NotBool => {
+            let parts = [
                 Text("a goal is a formula, of type `bool`, and "),
                 Typed(&found.term),
-            ],
-        ),
-        _ => Ok(None),
+            ];
+            case.say(message, found.at, &parts)
+        }
+        _ => Ok(false),
     }
 }
 
-// Puts what a refiner wants at the end, and the theorem that it was given, where it is one of a theorem.
+// Puts what a refiner wants at the end, with the theorem that it was given, and why it does not take one.
 fn push_wanted<'a>(
     case: &Case<'a>,
-    from: usize,
-    parts: (&'a str, &'a str),
-    text: &mut String,
+    part: &Part,
+    span: Span,
+    words: (&'a str, &'a str),
+    message: &mut Message,
 ) -> Result<(), NoMemory> {
-    let word = case.piece.text(from);
-    let said = [Text(parts.0), Quoted(word), Text(" wants "), Text(parts.1)];
-    case.teller().push(text, &said)?;
-    match case.theorem_at(from.saturating_add(1)) {
-        Some(premise) if is_before_theorem(word) => {
-            case.teller().push(text, &[Text(", "), Theorem(premise)])
+    let word = case.piece.text(span.from);
+    let parts = [Text(words.0), Quoted(word), Text(" wants "), Text(words.1)];
+    case.push(message, &parts)?;
+    push_given(case, span.from, ", ", message)?;
+    match &part.goal {
+        Some((assumptions, conclusion)) if *case.fault == Fault::RefineFails => {
+            push_untaken(case, (assumptions.as_slice(), conclusion), span, message)
         }
         _ => Ok(()),
     }
 }
 
 // Puts what the alternatives of a part want at the end, a part without alternatives being its only one.
-fn push_alternatives(case: &Case<'_>, span: Span, text: &mut String) -> Result<(), NoMemory> {
+fn push_alternatives(case: &Case<'_>, part: &Part, message: &mut Message) -> Result<(), NoMemory> {
     let mut lead = ": ";
-    let mut rest = span;
+    let mut from = part.span.from;
+    let to = part.span.to;
     for _ in 0..case.piece.words.len() {
-        if let Some(wanted) = wanted(case.piece.text(rest.from)) {
-            push_wanted(case, rest.from, (lead, wanted), text)?;
+        let joint = next_outside(case.piece, Span { from, to }, ALTERNATIVES);
+        if let Some(wanted) = wanted(case.piece.text(from)) {
+            let span = Span { from, to: joint };
+            push_wanted(case, part, span, (lead, wanted), message)?;
             lead = "; ";
         }
-        let joint = next_outside(case.piece, rest, ALTERNATIVES);
-        if joint >= rest.to {
+        if joint >= to {
             break;
         }
-        rest.from = joint.saturating_add(1);
+        from = joint.saturating_add(1);
     }
     Ok(())
 }
 
-// Puts an atom and its value at the end.
-fn push_value(
+// Puts values at the end, each with its atom.
+fn push_values(
     case: &Case<'_>,
-    lead: &str,
-    atom: &Term,
-    value: bool,
-    text: &mut String,
+    atoms: &[Term],
+    row: &[bool],
+    message: &mut Message,
 ) -> Result<(), NoMemory> {
-    let value = if value { "T" } else { "F" };
-    if let Some(atom) = given(text_of_term(case.alloc, &case.known.scope, atom))? {
-        write!(text, "{lead}{atom}={value}")?;
+    for at in 0..atoms.len().min(row.len()) {
+        let lead = if at == 0 { ": " } else { ", " };
+        let value = if row[at] { "=T" } else { "=F" };
+        case.push(message, &[Text(lead), Bare(&atoms[at]), Text(value)])?;
     }
     Ok(())
 }
@@ -137,35 +146,31 @@ fn push_row(
     case: &Case<'_>,
     formula: &Term,
     row: &[bool],
-    text: &mut String,
+    message: &mut Message,
 ) -> Result<(), NoMemory> {
-    let Some(atoms) = given(atoms(case.alloc, formula))? else {
-        return Ok(());
-    };
-    for at in 0..atoms.len().min(row.len()) {
-        let lead = if at == 0 { ": " } else { ", " };
-        push_value(case, lead, &atoms[at], row[at], text)?;
+    match given(atoms(case.alloc, formula))? {
+        Some(atoms) => push_values(case, &atoms, row, message),
+        None => Ok(()),
     }
-    Ok(())
 }
 
 // Puts what a refiner without parts wants at the end, and what stands there. The message is on the word in question then.
-fn push_reason(case: &Case<'_>, part: &Part, message: &mut Message) -> Result<(), NoMemory> {
-    let Some(conclusion) = &part.conclusion else {
-        return Ok(());
-    };
-    let inside = part.span.from.saturating_add(1);
-    let word = case.piece.text(part.span.from);
+fn push_reason(
+    case: &Case<'_>,
+    from: usize,
+    conclusion: &Term,
+    message: &mut Message,
+) -> Result<(), NoMemory> {
+    let inside = from.saturating_add(1);
+    let word = case.piece.text(from);
     if word == "CONV_TAC" {
         return push_conversion(case, inside, conclusion, message);
     }
     match (case.fault, case.term_at(inside)) {
-        (Fault::NotTautology { row, .. }, _) => {
-            push_row(case, conclusion, row, &mut message.text)
-        }
+        (Fault::NotTautology { row, .. }, _) => push_row(case, conclusion, row, message),
         (_, Some(witness)) if word == "EXISTS_TAC" => {
             case.teller()
-                .push(&mut message.text, &[Misfit(conclusion, &witness.term)])
+                .push_misfit(&mut message.text, conclusion, &witness.term)
         }
         _ => Ok(()),
     }
@@ -177,32 +182,32 @@ fn is_leaf(case: &Case<'_>, span: Span) -> bool {
         && is_refiner(case.piece.text(span.from))
 }
 
+// Puts how many subgoals there are at the end.
+fn push_count(subgoals: usize, message: &mut Message) -> Result<(), NoMemory> {
+    write!(message.text, "; the number of subgoals is {subgoals}")?;
+    Ok(())
+}
+
 // Puts what is known of a refused part at the end.
 fn push_part(case: &Case<'_>, part: &Part, message: &mut Message) -> Result<(), NoMemory> {
-    match case.fault {
-        Fault::LengthMismatch => {
-            let subgoals = part.subgoals;
-            write!(message.text, "; the number of subgoals is {subgoals}")?;
-            Ok(())
+    match (case.fault, &part.goal) {
+        (Fault::LengthMismatch, _) => push_count(part.subgoals, message),
+        (Fault::BadShape | Fault::RefineFails, _) => push_alternatives(case, part, message),
+        (_, Some((_, conclusion))) if is_leaf(case, part.span) => {
+            push_reason(case, part.span.from, conclusion, message)
         }
-        Fault::BadShape | Fault::RefineFails => {
-            push_alternatives(case, part.span, &mut message.text)
-        }
-        _ if is_leaf(case, part.span) => push_reason(case, part, message),
         _ => Ok(()),
     }
 }
 
-/// What is said of a part of a refiner expression that is refused: what is wanted there, and its first goal.
-pub fn of_part(case: &Case<'_>, part: &Part) -> Result<Message, NoMemory> {
-    let at = case.piece.start(part.span.from);
-    let mut message = Message::new(case.alloc, at, sentence(case.fault))?;
-    push_part(case, part, &mut message)?;
-    if let Some(goal) = first_goal(part.goals.as_str()) {
-        case.teller().push(
-            &mut message.text,
-            &[Text("; the first goal there is "), Quoted(goal)],
-        )?;
+/// Says what is known of a part of a refiner expression that is refused: what is wanted there, and its first goal.
+pub fn of_part(case: &Case<'_>, part: &Part, message: &mut Message) -> Result<bool, NoMemory> {
+    let said = case.say(message, part.span.from, &[Text(sentence(case.fault))])?;
+    push_part(case, part, message)?;
+    let goal = first_goal(part.goals.as_str());
+    if goal.is_empty() {
+        return Ok(said);
     }
-    Ok(message)
+    case.push(message, &[Text("; the first goal there is "), Quoted(goal)])?;
+    Ok(said)
 }

@@ -16,15 +16,17 @@ mod refused;
 mod report;
 mod rules;
 mod said;
+mod seen;
 mod shapes;
 mod span;
 mod steps;
+mod taken;
 mod unlike;
 
 pub use arguments::{Arguments, Premise, is_looked_up, span_of};
 pub use case::Case;
 pub use expressions::{command_of, first_member, has_misfit, next_joint, next_member, unwrapped};
-pub use goals::{Part, count_of_goals, of_part};
+pub use goals::{Part, count_of_goals, first_goal, of_part};
 pub use hol_explain_words::{Known, Message, NoMemory, Piece, between, given, no_command};
 pub use place::Place;
 pub use refused::{of_case, plain};

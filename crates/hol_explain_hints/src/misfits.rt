@@ -1,7 +1,8 @@
 // What is said of rules whose types do not fit.
+use crate::arguments::Quotation;
 use crate::case::Case;
 use crate::parts::sides;
-use crate::said::Said::{Misfit, Quoted, Text, Typed};
+use crate::said::Said::{Quoted, Text, Typed};
 use hol_explain_words::{Message, NoMemory};
 use hol_terms::Term;
 
@@ -15,85 +16,95 @@ fn left_side<'a>(case: &Case<'a>, number: usize) -> Option<&'a Term> {
     }
 }
 
-// The left sides of the equations that `MK_COMB` applies to one another, which do not fit.
-fn misapplied(case: &Case<'_>) -> Result<Option<Message>, NoMemory> {
+// Says that the types do not fit, and no more.
+fn unfit(case: &Case<'_>, message: &mut Message, at: usize) -> Result<bool, NoMemory> {
+    case.say(message, at, &[Quoted(case.rule()), Text(UNFIT)])
+}
+
+// Says the left sides of the equations that `MK_COMB` applies to one another, which do not fit.
+fn misapplied(case: &Case<'_>, message: &mut Message) -> Result<bool, NoMemory> {
+    let said = unfit(case, message, 4)?;
     let (Some(function), Some(argument)) = (left_side(case, 0), left_side(case, 1)) else {
-        return case.say(4, &[Quoted(case.rule()), Text(UNFIT)]);
+        return Ok(said);
     };
-    case.say(
-        4,
-        &[
-            Quoted(case.rule()),
-            Text(UNFIT),
-            Text(": the function "),
-            Typed(function),
-            Text(", and its argument "),
-            Typed(argument),
-        ],
-    )
+    let parts = [
+        Text(": the function "),
+        Typed(function),
+        Text(", and its argument "),
+        Typed(argument),
+    ];
+    case.push(message, &parts)?;
+    Ok(said)
+}
+
+// The pair of a number of `INST`, where its terms have different types.
+fn unequal_at<'a>(case: &Case<'a>, pair: usize) -> Option<(&'a Quotation, &'a Quotation)> {
+    let at = pair.saturating_mul(2);
+    let new = case.term(at)?;
+    let old = case.term(at.saturating_add(1))?;
+    if new.term.ty().eq(old.term.ty()) {
+        None
+    } else {
+        Some((new, old))
+    }
 }
 
 // The first pair of `INST` whose terms have different types.
-fn unequal_pair(case: &Case<'_>) -> Result<Option<Message>, NoMemory> {
+fn first_unequal<'a>(case: &Case<'a>) -> Option<(&'a Quotation, &'a Quotation)> {
     for pair in 0..case.arguments.terms.len() / 2 {
-        let at = pair.saturating_mul(2);
-        let (Some(new), Some(old)) = (case.term(at), case.term(at.saturating_add(1))) else {
-            continue;
-        };
-        if !new.term.ty().eq(old.term.ty()) {
-            return case.say(
-                4,
-                &[
-                    Quoted(case.rule()),
-                    Text(UNFIT),
-                    Text(": "),
-                    Typed(&new.term),
-                    Text(", and "),
-                    Typed(&old.term),
-                ],
-            );
+        if let Some(found) = unequal_at(case, pair) {
+            return Some(found);
         }
     }
-    case.say(4, &[Quoted(case.rule()), Text(UNFIT)])
+    None
 }
 
-// The types of a term, and of the variable that it is to stand for.
-fn unlike_variable<'a>(
-    case: &Case<'a>,
-    number: usize,
-    formula: Option<&'a Term>,
-) -> Result<Option<Message>, NoMemory> {
-    match (case.term(number), formula) {
-        (Some(quotation), Some(formula)) => case.say(
-            quotation.at,
-            &[
-                Quoted(case.rule()),
-                Text(UNFIT),
-                Misfit(formula, &quotation.term),
-            ],
-        ),
-        _ => Ok(None),
+// Says the first pair of `INST` whose terms have different types.
+fn unequal_pair(case: &Case<'_>, message: &mut Message) -> Result<bool, NoMemory> {
+    let said = unfit(case, message, 4)?;
+    let Some((new, old)) = first_unequal(case) else {
+        return Ok(said);
+    };
+    let parts = [
+        Text(": "),
+        Typed(&new.term),
+        Text(", and "),
+        Typed(&old.term),
+    ];
+    case.push(message, &parts)?;
+    Ok(said)
+}
+
+// Says the types of a term, and of the variable of a formula that it is to stand for.
+fn unlike_variable(
+    case: &Case<'_>,
+    message: &mut Message,
+    quotation: &Quotation,
+    formula: &Term,
+) -> Result<bool, NoMemory> {
+    let said = unfit(case, message, quotation.at)?;
+    case.teller()
+        .push_misfit(&mut message.text, formula, &quotation.term)?;
+    Ok(said)
+}
+
+// The term of `EXISTS`, or of another rule, that is to stand for the variable of a formula.
+fn stand_in<'a>(case: &Case<'a>) -> Option<(&'a Quotation, &'a Term)> {
+    if case.rule() == "EXISTS" {
+        Some((case.term(1)?, &case.term(0)?.term))
+    } else {
+        Some((case.term(0)?, &case.theorem(0)?.conclusion))
     }
 }
 
-/// The two types that do not fit, of the terms and the theorems of a rule.
-pub(crate) fn mistyped(case: &Case<'_>) -> Result<Option<Message>, NoMemory> {
+/// Says the two types that do not fit, of the terms and the theorems of a rule.
+pub(crate) fn mistyped(case: &Case<'_>, message: &mut Message) -> Result<bool, NoMemory> {
     match case.rule() {
-        "MK_COMB" => misapplied(case),
-        "INST" => unequal_pair(case),
-        "EXISTS" => {
-            let formula = match case.term(0) {
-                Some(quotation) => Some(&quotation.term),
-                None => None,
-            };
-            unlike_variable(case, 1, formula)
-        }
-        _ => {
-            let formula = match case.theorem(0) {
-                Some(premise) => Some(&premise.conclusion),
-                None => None,
-            };
-            unlike_variable(case, 0, formula)
-        }
+        "MK_COMB" => misapplied(case, message),
+        "INST" => unequal_pair(case, message),
+        _ => match stand_in(case) {
+            Some((quotation, formula)) => unlike_variable(case, message, quotation, formula),
+            None => Ok(false),
+        },
     }
 }

@@ -1,11 +1,11 @@
 // Names that are unknown, or that a command may not make known.
 use crate::case::Case;
 use crate::said::Said::{Quoted, Text};
+use crate::said::Teller;
 use hol_explain_words::{
     Kind, Known, Message, NoMemory, Piece, Unknown, is_among, is_before_theorem, line_of_pair,
-    unknown_name,
+    push_unknown,
 };
-use std::alloc::Global;
 
 // Whether the name at a place in the list is that of a host's function.
 fn is_host_place(piece: &Piece<'_>, at: usize) -> bool {
@@ -27,8 +27,8 @@ fn word_before_list(piece: &Piece<'_>, at: usize) -> usize {
     before
 }
 
-// Whether the name at a place in the list is that of a theorem.
-fn is_theorem_place(piece: &Piece<'_>, at: usize) -> bool {
+/// Whether the name at a place in the list is that of a theorem.
+pub(crate) fn is_theorem_place(piece: &Piece<'_>, at: usize) -> bool {
     if at > 0 && is_before_theorem(piece.text(at.saturating_sub(1))) {
         return true;
     }
@@ -42,13 +42,19 @@ fn is_theorem_place(piece: &Piece<'_>, at: usize) -> bool {
 
 // The name at a place in the list, where it is that of a theorem or of a host's function and is unknown.
 fn unknown_at<'a>(case: &Case<'a>, at: usize) -> Option<Unknown<'a>> {
-    let (said, names) = if is_host_place(case.piece, at) {
+    let known = case.known;
+    let (said, names, lost) = if is_host_place(case.piece, at) {
         (
             "the host has no function of this kind under",
             case.host_names,
+            &[][..],
         )
     } else if is_theorem_place(case.piece, at) {
-        ("no theorem is stored under", case.known.theorems.as_slice())
+        (
+            "no theorem is stored under",
+            known.theorems.as_slice(),
+            known.lost_theorems.as_slice(),
+        )
     } else {
         return None;
     };
@@ -61,21 +67,31 @@ fn unknown_at<'a>(case: &Case<'a>, at: usize) -> Option<Unknown<'a>> {
         name,
         first: names,
         second: &[],
+        lost,
         otherwise: "",
     })
 }
 
-/// The first name of a theorem or of a host's function that is unknown.
-pub(crate) fn in_names(case: &Case<'_>) -> Result<Option<Message>, NoMemory> {
+// The first name of a theorem or of a host's function that is unknown, and its place in the list.
+fn first_unknown<'a>(case: &Case<'a>) -> Option<(usize, Unknown<'a>)> {
     for at in 1..case.piece.words.len() {
         if case.piece.kind(at) == Kind::Name {
             if let Some(unknown) = unknown_at(case, at) {
-                let message = unknown_name(case.alloc, case.piece.start(at), &unknown)?;
-                return Ok(Some(message));
+                return Some((at, unknown));
             }
         }
     }
-    Ok(None)
+    None
+}
+
+/// Says the first name of a theorem or of a host's function that is unknown.
+pub(crate) fn in_names(case: &Case<'_>, message: &mut Message) -> Result<bool, NoMemory> {
+    let Some((at, unknown)) = first_unknown(case) else {
+        return Ok(false);
+    };
+    message.at = case.piece.start(at);
+    push_unknown(case.alloc, &mut message.text, &unknown)?;
+    Ok(true)
 }
 
 /// How many parentheses are open in a type behind a word, with one for the colon before it; none outside of types.
@@ -89,31 +105,43 @@ pub(crate) fn type_depth(before: usize, word: &str) -> usize {
     }
 }
 
-/// The first name in the types of a text that stands for none, from a word on; where `in_type`, the text is a type itself.
-pub(crate) fn unknown_type(
-    alloc: Global,
-    known: &Known,
-    piece: &Piece<'_>,
-    from: usize,
-    in_type: bool,
-) -> Result<Option<Message>, NoMemory> {
+// The place of the first name in the types of a text that stands for none, from a word on.
+fn first_untyped(known: &Known, piece: &Piece<'_>, from: usize, in_type: bool) -> Option<usize> {
     let mut depth = 0usize;
     for at in from..piece.words.len() {
         let name = piece.text(at);
         let is_type = in_type || depth > 0;
         if is_type && piece.kind(at) == Kind::Name && !known.is_type(name) {
-            let unknown = Unknown {
-                said: "no type is named",
-                name,
-                first: &known.types,
-                second: &[],
-                otherwise: "; `newtype` declares one, and a type variable begins with a capital letter",
-            };
-            return Ok(Some(unknown_name(alloc, piece.start(at), &unknown)?));
+            return Some(at);
         }
         depth = type_depth(depth, name);
     }
-    Ok(None)
+    None
+}
+
+/// Says the first name in the types of a text that stands for none, from a word on; where `in_type`, the text is a type itself.
+pub(crate) fn unknown_type(
+    teller: Teller<'_>,
+    message: &mut Message,
+    piece: &Piece<'_>,
+    from: usize,
+    in_type: bool,
+) -> Result<bool, NoMemory> {
+    let known = teller.known;
+    let Some(at) = first_untyped(known, piece, from, in_type) else {
+        return Ok(false);
+    };
+    let unknown = Unknown {
+        said: "no type is named",
+        name: piece.text(at),
+        first: &known.types,
+        second: &[],
+        lost: &known.lost_names,
+        otherwise: "; `newtype` declares one, and a type variable begins with a capital letter",
+    };
+    message.at = piece.start(at);
+    push_unknown(teller.alloc, &mut message.text, &unknown)?;
+    Ok(true)
 }
 
 // What is said behind a name that a command may not make known: by the refusal and the word of the command, or any word.
@@ -128,15 +156,18 @@ NameTaken #any  is taken, or a theorem is stored under it with `_def` behind it
 AlreadyDefined #any  is the name of a constant or a type already
 TypeVarsNotReflected newconst  is declared at a type with type variables, and a declared constant has none";
 
-/// What is said of a name that a command makes, where that is refused.
-pub(crate) fn at_new_name(case: &Case<'_>) -> Result<Option<Message>, NoMemory> {
-    let fault = case.fault.name();
-    let said = match line_of_pair(NEW_NAMES, fault, case.piece.text(0)) {
-        Some(said) => said,
-        None => match line_of_pair(NEW_NAMES, fault, "#any") {
-            Some(said) => said,
-            None => return Ok(None),
-        },
-    };
-    case.say(1, &[Quoted(case.piece.text(1)), Text(said)])
+// What is said behind the name that a command of this word makes, where that is refused so.
+fn behind_name(fault: &str, word: &str) -> Option<&'static str> {
+    match line_of_pair(NEW_NAMES, fault, word) {
+        Some(said) => Some(said),
+        None => line_of_pair(NEW_NAMES, fault, "#any"),
+    }
+}
+
+/// Says what is wrong with a name that a command makes.
+pub(crate) fn at_new_name(case: &Case<'_>, message: &mut Message) -> Result<bool, NoMemory> {
+    match behind_name(case.fault.name(), case.piece.text(0)) {
+        Some(said) => case.say(message, 1, &[Quoted(case.piece.text(1)), Text(said)]),
+        None => Ok(false),
+    }
 }

@@ -4,6 +4,7 @@ use hol_explain_words::{NoMemory, given};
 use hol_model::TERM_HEIGHT_LIMIT;
 use hol_subst::vsubst;
 use hol_terms::{Parts, Term};
+use hol_types::Ty;
 use std::alloc::Global;
 
 /// The operands of an infix of this name.
@@ -31,6 +32,12 @@ pub(crate) fn dest_quantified(term: &Term) -> Option<(&Term, &Term)> {
         Some((_, abstraction)) => abstraction.dest_abs(),
         None => None,
     }
+}
+
+/// The name and the type of the variable that a quantified formula binds.
+pub(crate) fn bound_variable(formula: &Term) -> Option<(&str, &Ty)> {
+    let (variable, _) = dest_quantified(formula)?;
+    variable.dest_var()
 }
 
 /// The body of a quantified formula at a term.

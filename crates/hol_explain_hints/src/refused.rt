@@ -8,40 +8,44 @@ use crate::said::Said::Text;
 use hol_explain_words::{Kind, Message, NoMemory, Piece, sentence};
 use hol_model::Fault;
 
-// What is said of the text between backquotes at a place in the list.
-fn at_quote(case: &Case<'_>, at: usize) -> Result<Option<Message>, NoMemory> {
-    let inside = Piece::of_quote(case.alloc, case.piece.quoted(at))?;
-    let found = if case.rule() == "INST_TYPE" {
-        unknown_type(case.alloc, case.known, &inside, 0, true)?
+// Says what is at fault in a text that stands between backquotes.
+fn in_text(case: &Case<'_>, message: &mut Message, inside: &Piece<'_>) -> Result<bool, NoMemory> {
+    if case.rule() == "INST_TYPE" {
+        unknown_type(case.teller(), message, inside, 0, true)
     } else {
-        in_quote(case.teller(), &inside, case.fault)?
-    };
-    Ok(match found {
-        Some(message) => Some(message.in_quote_at(case.piece.start(at))),
-        None => None,
-    })
+        in_quote(case.teller(), message, inside, case.fault)
+    }
 }
 
-// What is said of the first quoted text that is refused so.
-fn in_quotes(case: &Case<'_>) -> Result<Option<Message>, NoMemory> {
+// The same of the text between backquotes at a place in the list.
+fn at_quote(case: &Case<'_>, message: &mut Message, at: usize) -> Result<bool, NoMemory> {
+    let inside = Piece::of_quote(case.alloc, case.piece.quoted(at))?;
+    in_text(case, message, &inside)
+}
+
+// Says what is at fault in the first quoted text that is refused so.
+fn in_quotes(case: &Case<'_>, message: &mut Message) -> Result<bool, NoMemory> {
     for at in 0..case.piece.words.len() {
-        if case.piece.kind(at) == Kind::Quote {
-            if let Some(message) = at_quote(case, at)? {
-                return Ok(Some(message));
-            }
+        if case.piece.kind(at) != Kind::Quote {
+            continue;
+        }
+        if at_quote(case, message, at)? {
+            let start = case.piece.start(at).saturating_add(1);
+            message.at = start.saturating_add(message.at);
+            return Ok(true);
         }
     }
-    Ok(None)
+    Ok(false)
 }
 
 // What is said behind a row of values in which a quantified formula has one.
 const QUANTIFIED: &str =
     "; a formula under `!` or `?` counts as one letter here, and what it says of its instances does not: take it apart by `SPEC` or `EXISTS`";
 
-// What is said of the row of values that makes a formula false.
-fn at_row(case: &Case<'_>) -> Result<Option<Message>, NoMemory> {
+// Says the row of values that makes a formula false.
+fn at_row(case: &Case<'_>, message: &mut Message) -> Result<bool, NoMemory> {
     let Some(row) = case.row else {
-        return Ok(None);
+        return Ok(false);
     };
     let behind = if row.contains('!') || row.contains('?') {
         QUANTIFIED
@@ -49,39 +53,45 @@ fn at_row(case: &Case<'_>) -> Result<Option<Message>, NoMemory> {
         ""
     };
     case.say(
+        message,
         4,
         &[Text("the formula is false where"), Text(row), Text(behind)],
     )
 }
 
-// What the names of a command say of its refusal.
-fn in_words(case: &Case<'_>) -> Result<Option<Message>, NoMemory> {
+// Says what the names of a command tell of its refusal.
+fn in_words(case: &Case<'_>, message: &mut Message) -> Result<bool, NoMemory> {
     match case.fault {
-        Fault::UnknownName => in_names(case),
-        Fault::UnknownType => unknown_type(case.alloc, case.known, case.piece, 3, true),
-        Fault::NotTautology { .. } => at_row(case),
-        _ => at_new_name(case),
+        Fault::UnknownName => in_names(case, message),
+        Fault::UnknownType => unknown_type(case.teller(), message, case.piece, 3, true),
+        Fault::NotTautology { .. } => at_row(case, message),
+        _ => at_new_name(case, message),
     }
 }
 
-/// What is said of a refused command by its words, its terms and its theorems, where they tell.
-pub fn of_case(case: &Case<'_>) -> Result<Option<Message>, NoMemory> {
-    if let Some(message) = in_quotes(case)? {
-        return Ok(Some(message));
-    }
-    if let Some(message) = in_words(case)? {
-        return Ok(Some(message));
-    }
+// Says what the terms and the theorems of a command tell of its refusal.
+fn in_arguments(case: &Case<'_>, message: &mut Message) -> Result<bool, NoMemory> {
     match case.piece.text(0) {
-        "thm" => at_rule(case),
-        "def" => at_definition(case),
-        "goal" => at_new_goal(case),
-        _ => Ok(None),
+        "thm" => at_rule(case, message),
+        "def" => at_definition(case, message),
+        "goal" => at_new_goal(case, message),
+        _ => Ok(false),
     }
 }
 
-/// What is said of a refused command of which no more is known.
-pub fn plain(case: &Case<'_>) -> Result<Message, NoMemory> {
+/// Says what the words, the terms and the theorems of a refused command tell; whether they do.
+pub fn of_case(case: &Case<'_>, message: &mut Message) -> Result<bool, NoMemory> {
+    if in_quotes(case, message)? {
+        return Ok(true);
+    }
+    if in_words(case, message)? {
+        return Ok(true);
+    }
+    in_arguments(case, message)
+}
+
+/// Says the sentence of a refused command of which no more is known.
+pub fn plain(case: &Case<'_>, message: &mut Message) -> Result<bool, NoMemory> {
     let at = if case.piece.text(0) == "thm" { 3 } else { 0 };
-    Message::new(case.alloc, case.piece.start(at), sentence(case.fault))
+    case.say(message, at, &[Text(sentence(case.fault))])
 }

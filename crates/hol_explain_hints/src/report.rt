@@ -17,9 +17,13 @@ pub fn told(
     let number = fault.number();
     let name = fault.name();
     let said = message.text.as_str();
-    let mut text = String::new(alloc);
-    write!(text, "{file}:{line}:{column}: E{number} {name}: {said}\n")?;
-    Ok(text)
+    Ok(format!(in alloc; "{file}:{line}:{column}: E{number} {name}: {said}\n")?)
+}
+
+// How far behind its begin the first word of a text stands.
+fn first_start(alloc: Global, text: &[u8]) -> Result<usize, NoMemory> {
+    let piece = Piece::new(alloc, text)?;
+    Ok(piece.start(0))
 }
 
 /// That no mark stands behind a rest, whose first word begins at a place.
@@ -38,8 +42,8 @@ pub fn unfinished(
     rest: &[u8],
     place: &Place,
 ) -> Result<String, NoMemory> {
-    let piece = Piece::new(alloc, rest)?;
-    let here = place.behind(between(rest, 0, piece.start(0)));
+    let start = first_start(alloc, rest)?;
+    let here = place.behind(between(rest, 0, start));
     let message = unended(alloc, 0)?;
     told(alloc, file, &here, &Fault::Syntax, &message)
 }

@@ -4,6 +4,7 @@ use crate::case::Case;
 use crate::conversions::push_conversion;
 use crate::misfits::mistyped;
 use crate::parts::{body_at, sides};
+use crate::said::Said;
 use crate::said::Said::{Quoted, Shown, Text, Theorem, Type, Typed};
 use crate::shapes::wanted;
 use crate::unlike::not_alpha;
@@ -11,56 +12,59 @@ use hol_alpha::aconv;
 use hol_explain_words::{Message, NoMemory, given, sentence};
 use hol_model::Fault;
 use hol_terms::{Parts, Term, free_in, frees, type_vars};
+use hol_types::Ty;
 
-// What the rule wants, and the first theorem or the first term that it was given.
-fn bad_shape(case: &Case<'_>) -> Result<Option<Message>, NoMemory> {
+// The first theorem or the first term that a rule was given, its place in the list, and what is said behind it.
+fn first_given<'a>(case: &Case<'a>) -> Option<(usize, Said<'a>, &'static str)> {
     let rule = case.rule();
-    let Some(wanted) = wanted(rule) else {
-        return Ok(None);
-    };
-    let lead = [Quoted(rule), Text(" wants "), Text(wanted), Text(", and ")];
     if rule == "BETA_CONV" || rule == "EXISTS" {
-        return match case.term(0) {
-            Some(found) => case.say(
-                found.at,
-                &[
-                    lead[0],
-                    lead[1],
-                    lead[2],
-                    lead[3],
-                    Shown(&found.term),
-                    Text(" stands there"),
-                ],
-            ),
-            None => Ok(None),
-        };
+        let found = case.term(0)?;
+        return Some((found.at, Shown(&found.term), " stands there"));
     }
-    match case.theorem(0) {
-        Some(found) => case.say(
-            found.at,
-            &[lead[0], lead[1], lead[2], lead[3], Theorem(found)],
-        ),
-        None => Ok(None),
-    }
+    let found = case.theorem(0)?;
+    Some((found.at, Theorem(found), ""))
+}
+
+// Says what the rule wants, and what it was given.
+fn bad_shape(case: &Case<'_>, message: &mut Message) -> Result<bool, NoMemory> {
+    let rule = case.rule();
+    let (Some(wanted), Some((at, found, end))) = (wanted(rule), first_given(case)) else {
+        return Ok(false);
+    };
+    let parts = [
+        Quoted(rule),
+        Text(" wants "),
+        Text(wanted),
+        Text(", and "),
+        found,
+        Text(end),
+    ];
+    case.say(message, at, &parts)
 }
 
 // The first theorem that is no equation.
-fn no_equation(case: &Case<'_>) -> Result<Option<Message>, NoMemory> {
+fn first_no_equation<'a>(case: &Case<'a>) -> Option<&'a Premise> {
     for number in 0..case.arguments.theorems.len() {
         if let Some(found) = case.theorem(number) {
             if sides(&found.conclusion).is_none() {
-                return case.say(
-                    found.at,
-                    &[
-                        Quoted(case.rule()),
-                        Text(" wants an equation here, and "),
-                        Theorem(found),
-                    ],
-                );
+                return Some(found);
             }
         }
     }
-    Ok(None)
+    None
+}
+
+// Says which theorem is no equation.
+fn no_equation(case: &Case<'_>, message: &mut Message) -> Result<bool, NoMemory> {
+    let Some(found) = first_no_equation(case) else {
+        return Ok(false);
+    };
+    let parts = [
+        Quoted(case.rule()),
+        Text(" wants an equation here, and "),
+        Theorem(found),
+    ];
+    case.say(message, found.at, &parts)
 }
 
 // What a term is.
@@ -83,29 +87,35 @@ fn is_right(case: &Case<'_>, number: usize, term: &Term) -> bool {
 }
 
 // The first quoted term that is no variable, or no formula.
-fn at_term(case: &Case<'_>) -> Result<Option<Message>, NoMemory> {
+fn first_wrong<'a>(case: &Case<'a>) -> Option<&'a Quotation> {
     for number in 0..case.arguments.terms.len() {
-        let Some(found) = case.term(number) else {
-            continue;
-        };
-        if !is_right(case, number, &found.term) {
-            return wrong_term(case, found);
+        if let Some(found) = case.term(number) {
+            if !is_right(case, number, &found.term) {
+                return Some(found);
+            }
         }
     }
-    Ok(None)
+    None
 }
 
-// That a term is no variable, or no formula.
-fn wrong_term(case: &Case<'_>, found: &Quotation) -> Result<Option<Message>, NoMemory> {
-    let said = Text(sentence(case.fault));
+// Says which quoted term is no variable, or no formula.
+fn at_term(case: &Case<'_>, message: &mut Message) -> Result<bool, NoMemory> {
+    let Some(found) = first_wrong(case) else {
+        return Ok(false);
+    };
     let term = &found.term;
-    if *case.fault == Fault::NotVariable {
-        return case.say(
-            found.at,
-            &[said, Text(", and "), Shown(term), Text(kind_of(term))],
-        );
-    }
-    case.say(found.at, &[said, Text(", and "), Typed(term)])
+    let (shown, kind) = if *case.fault == Fault::NotVariable {
+        (Shown(term), kind_of(term))
+    } else {
+        (Typed(term), "")
+    };
+    let parts = [
+        Text(sentence(case.fault)),
+        Text(", and "),
+        shown,
+        Text(kind),
+    ];
+    case.say(message, found.at, &parts)
 }
 
 // The first hypothesis in which a variable is free, but for one.
@@ -136,142 +146,166 @@ fn chosen(case: &Case<'_>, variable: &Term) -> Result<Option<Term>, NoMemory> {
     }
 }
 
-// That a variable is free in the conclusion of a theorem.
+// Says that a variable is free in the conclusion of a theorem.
 fn free_in_conclusion<'a>(
     case: &Case<'a>,
+    message: &mut Message,
     variable: &'a Quotation,
     premise: &'a Premise,
-) -> Result<Option<Message>, NoMemory> {
-    case.say(
-        variable.at,
-        &[
-            Text("the variable "),
-            Shown(&variable.term),
-            Text(" is free in the conclusion of "),
-            Quoted(premise.name()),
-        ],
-    )
+) -> Result<bool, NoMemory> {
+    let parts = [
+        Text("the variable "),
+        Shown(&variable.term),
+        Text(" is free in the conclusion of "),
+        Quoted(premise.name()),
+    ];
+    case.say(message, variable.at, &parts)
 }
 
-// The variable, and the first hypothesis of the last theorem in which it is free, or the conclusion.
-fn free_in_hypothesis(case: &Case<'_>) -> Result<Option<Message>, NoMemory> {
+// Says the first hypothesis of a theorem in which a variable is free, but for one, or else that it is free in a conclusion.
+fn free_in_one<'a>(
+    case: &Case<'a>,
+    message: &mut Message,
+    variable: &'a Quotation,
+    premises: (&'a Premise, &'a Premise),
+    but: &Option<Term>,
+) -> Result<bool, NoMemory> {
+    let (first, last) = premises;
+    let Some(hypothesis) = hypothesis_with(last, &variable.term, but) else {
+        return free_in_conclusion(case, message, variable, first);
+    };
+    let parts = [
+        Text("the variable "),
+        Shown(&variable.term),
+        Text(" is free in the hypothesis "),
+        Shown(hypothesis),
+        Text(" of "),
+        Quoted(last.name()),
+    ];
+    case.say(message, variable.at, &parts)
+}
+
+// Says where the variable is free: in a hypothesis of the last theorem, or in the conclusion.
+fn free_in_hypothesis(case: &Case<'_>, message: &mut Message) -> Result<bool, NoMemory> {
     let last = case.arguments.theorems.len().saturating_sub(1);
     let (Some(variable), Some(first), Some(premise)) = (
         case.term(0),
         case.theorem(0),
         case.theorem(last),
     ) else {
-        return Ok(None);
+        return Ok(false);
     };
     if free_in(&variable.term, &premise.conclusion) && case.rule() == "CHOOSE" {
-        return free_in_conclusion(case, variable, premise);
+        return free_in_conclusion(case, message, variable, premise);
     }
     let chosen = chosen(case, &variable.term)?;
-    match hypothesis_with(premise, &variable.term, &chosen) {
-        Some(hypothesis) => case.say(
-            variable.at,
-            &[
-                Text("the variable "),
-                Shown(&variable.term),
-                Text(" is free in the hypothesis "),
-                Shown(hypothesis),
-                Text(" of "),
-                Quoted(premise.name()),
-            ],
-        ),
-        None => free_in_conclusion(case, variable, first),
-    }
+    free_in_one(case, message, variable, (first, premise), &chosen)
 }
 
-// That a variable is free in the term of a definition.
-fn not_closed_by(case: &Case<'_>, at: usize, variable: &Term) -> Result<Option<Message>, NoMemory> {
-    let said = sentence(case.fault);
+// Says the first of the variables that are free in the term of a definition.
+fn not_closed_by(
+    case: &Case<'_>,
+    message: &mut Message,
+    at: usize,
+    variables: &[Term],
+) -> Result<bool, NoMemory> {
+    let Some(variable) = variables.first() else {
+        return Ok(false);
+    };
     let parts = [
-        Text(said),
+        Text(sentence(case.fault)),
         Text(", and "),
         Shown(variable),
         Text(" is free in it"),
     ];
-    case.say(at, &parts)
+    case.say(message, at, &parts)
 }
 
-// The first variable that is free in the term of a definition.
-fn not_closed(case: &Case<'_>, found: &Quotation) -> Result<Option<Message>, NoMemory> {
-    let Some(variables) = given(frees(case.alloc, &found.term))? else {
-        return Ok(None);
-    };
-    match variables.first() {
-        Some(variable) => not_closed_by(case, found.at, variable),
-        None => Ok(None),
+// Says the first variable that is free in the term of a definition.
+fn not_closed(case: &Case<'_>, message: &mut Message, found: &Quotation) -> Result<bool, NoMemory> {
+    match given(frees(case.alloc, &found.term))? {
+        Some(variables) => not_closed_by(case, message, found.at, &variables),
+        None => Ok(false),
     }
 }
 
-// The type of the term of a definition, and the type variables in its body.
-fn not_reflected(case: &Case<'_>, found: &Quotation) -> Result<Option<Message>, NoMemory> {
-    let Some(variables) = given(type_vars(case.alloc, &found.term))? else {
-        return Ok(None);
-    };
+// Says the type of the term of a definition, and type variables in its body.
+fn not_reflected_in(
+    case: &Case<'_>,
+    message: &mut Message,
+    found: &Quotation,
+    variables: &[Ty],
+) -> Result<bool, NoMemory> {
     let lead = [
         Text(sentence(case.fault)),
         Text(": the type is "),
         Type(found.term.ty()),
         Text(", and in the body stand"),
     ];
-    let mut message = case.teller().say(case.piece.start(found.at), &lead)?;
-    for variable in &variables {
-        case.teller()
-            .push(&mut message.text, &[Text(" "), Type(variable)])?;
+    let said = case.say(message, found.at, &lead)?;
+    for variable in variables {
+        case.push(message, &[Text(" "), Type(variable)])?;
     }
-    Ok(Some(message))
+    Ok(said)
 }
 
-/// What is said of a refused definition.
-pub(crate) fn at_definition(case: &Case<'_>) -> Result<Option<Message>, NoMemory> {
+// Says the type of the term of a definition, and the type variables in its body.
+fn not_reflected(
+    case: &Case<'_>,
+    message: &mut Message,
+    found: &Quotation,
+) -> Result<bool, NoMemory> {
+    match given(type_vars(case.alloc, &found.term))? {
+        Some(variables) => not_reflected_in(case, message, found, &variables),
+        None => Ok(false),
+    }
+}
+
+/// Says what is wrong with a refused definition.
+pub(crate) fn at_definition(case: &Case<'_>, message: &mut Message) -> Result<bool, NoMemory> {
     match (case.fault, case.term(0)) {
-        (Fault::NotClosed, Some(found)) => not_closed(case, found),
-        (Fault::TypeVarsNotReflected, Some(found)) => not_reflected(case, found),
-        _ => Ok(None),
+        (Fault::NotClosed, Some(found)) => not_closed(case, message, found),
+        (Fault::TypeVarsNotReflected, Some(found)) => not_reflected(case, message, found),
+        _ => Ok(false),
     }
 }
 
-// The conversion that does not apply, and the term that it is applied to.
-fn at_conversion(case: &Case<'_>) -> Result<Option<Message>, NoMemory> {
+// Says the conversion that does not apply, and the term that it is applied to.
+fn at_conversion(case: &Case<'_>, message: &mut Message) -> Result<bool, NoMemory> {
     let Some(found) = case.term(0) else {
-        return Ok(None);
+        return Ok(false);
     };
-    let mut message = Message::new(case.alloc, 0, sentence(case.fault))?;
-    push_conversion(case, 4, &found.term, &mut message)?;
-    Ok(Some(message))
+    let said = case.say(message, 4, &[Text(sentence(case.fault))])?;
+    push_conversion(case, 4, &found.term, message)?;
+    Ok(said)
 }
 
-// The term that a rule was given, behind the sentence of the refusal.
-fn at_quoted_term(case: &Case<'_>) -> Result<Option<Message>, NoMemory> {
-    match case.term(0) {
-        Some(found) => case.say(
-            found.at,
-            &[
-                Text(sentence(case.fault)),
-                Text(", and the term is "),
-                Shown(&found.term),
-            ],
-        ),
-        None => Ok(None),
-    }
+// Says the term that a rule was given, behind the sentence of the refusal.
+fn at_quoted_term(case: &Case<'_>, message: &mut Message) -> Result<bool, NoMemory> {
+    let Some(found) = case.term(0) else {
+        return Ok(false);
+    };
+    let parts = [
+        Text(sentence(case.fault)),
+        Text(", and the term is "),
+        Shown(&found.term),
+    ];
+    case.say(message, found.at, &parts)
 }
 
-/// What is said of a refused rule, where something is known.
-pub(crate) fn at_rule(case: &Case<'_>) -> Result<Option<Message>, NoMemory> {
+/// Says what is wrong with a refused rule, where something is known.
+pub(crate) fn at_rule(case: &Case<'_>, message: &mut Message) -> Result<bool, NoMemory> {
     if case.rule() == "CONV" {
-        return at_conversion(case);
+        return at_conversion(case, message);
     }
     match case.fault {
-        Fault::BadShape => bad_shape(case),
-        Fault::NotEquation => no_equation(case),
-        Fault::NotAlpha => not_alpha(case),
-        Fault::FreeInHypothesis => free_in_hypothesis(case),
-        Fault::TypeMismatch => mistyped(case),
-        Fault::NotVariable | Fault::NotBool => at_term(case),
-        Fault::NotTrivialBeta | Fault::TooManyAtoms => at_quoted_term(case),
-        _ => Ok(None),
+        Fault::BadShape => bad_shape(case, message),
+        Fault::NotEquation => no_equation(case, message),
+        Fault::NotAlpha => not_alpha(case, message),
+        Fault::FreeInHypothesis => free_in_hypothesis(case, message),
+        Fault::TypeMismatch => mistyped(case, message),
+        Fault::NotVariable | Fault::NotBool => at_term(case, message),
+        Fault::NotTrivialBeta | Fault::TooManyAtoms => at_quoted_term(case, message),
+        _ => Ok(false),
     }
 }

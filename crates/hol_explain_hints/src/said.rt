@@ -1,7 +1,9 @@
 // Messages in parts.
 use crate::arguments::Premise;
-use crate::parts::dest_quantified;
-use hol_explain_words::{Known, Message, NoMemory, between, given, text_of};
+use crate::parts::bound_variable;
+use crate::seen::type_in;
+use hol_explain_words::{Known, Message, NoMemory, Piece, between, given, text_of};
+use hol_syntax::read_type;
 use hol_syntax_print::{text_of_term, text_of_type};
 use hol_terms::Term;
 use hol_types::Ty;
@@ -14,6 +16,8 @@ pub(crate) enum Said<'a> {
     Text(&'a str),
     /// A text between backquotes, cut where it is long.
     Quoted(&'a str),
+    /// A term as it is.
+    Bare(&'a Term),
     /// A term between backquotes.
     Shown(&'a Term),
     /// A type between backquotes.
@@ -22,8 +26,6 @@ pub(crate) enum Said<'a> {
     Typed(&'a Term),
     /// The name of a theorem, and its text.
     Theorem(&'a Premise),
-    /// The types of the variable that a formula binds, and of a term that is to stand for it.
-    Misfit(&'a Term, &'a Term),
 }
 
 // The longest text that is shown of a term or a type.
@@ -44,17 +46,25 @@ fn push_quoted(out: &mut String, text: &str) -> Result<(), NoMemory> {
     Ok(())
 }
 
-/// Who tells: what names stand for, and where texts are made.
+/// Who tells: what names stand for, what the first open goal is, and where texts are made.
 #[derive(Clone, Copy)]
 pub(crate) struct Teller<'a> {
     pub(crate) alloc: Global,
     pub(crate) known: &'a Known,
+    pub(crate) goal: &'a Piece<'a>,
 }
 
 impl Teller<'_> {
     fn push_term(&self, out: &mut String, term: &Term) -> Result<(), NoMemory> {
         match given(text_of_term(self.alloc, &self.known.scope, term))? {
             Some(text) => push_quoted(out, text.as_str()),
+            None => Ok(()),
+        }
+    }
+
+    fn push_bare(&self, out: &mut String, term: &Term) -> Result<(), NoMemory> {
+        match given(text_of_term(self.alloc, &self.known.scope, term))? {
+            Some(text) => push_text(out, text.as_str()),
             None => Ok(()),
         }
     }
@@ -69,30 +79,37 @@ impl Teller<'_> {
     fn push_typed(&self, out: &mut String, term: &Term) -> Result<(), NoMemory> {
         self.push_term(out, term)?;
         push_text(out, " has the type ")?;
-        self.push_type(out, term.ty())
+        self.push_type(out, term.ty())?;
+        self.push_other(out, term)
     }
 
-    fn push_misfit(&self, out: &mut String, formula: &Term, term: &Term) -> Result<(), NoMemory> {
-        let Some((variable, _)) = dest_quantified(formula) else {
+    // Whether a text is that of another type.
+    fn is_of_another(&self, text: &str, ty: &Ty) -> Result<bool, NoMemory> {
+        match given(read_type(self.alloc, &self.known.scope, text.as_bytes()))? {
+            Some(found) => Ok(!found.eq(ty)),
+            None => Ok(false),
+        }
+    }
+
+    // Puts the goal's variable of the same name at the end, where that has another type.
+    fn push_other(&self, out: &mut String, term: &Term) -> Result<(), NoMemory> {
+        let Some((name, ty)) = term.dest_var() else {
             return Ok(());
         };
-        let Some((name, ty)) = variable.dest_var() else {
+        let Some(text) = type_in(self.goal, name) else {
             return Ok(());
         };
-        push_text(out, ": the bound variable ")?;
-        push_quoted(out, name)?;
-        push_text(out, " of ")?;
-        self.push_term(out, formula)?;
-        push_text(out, " has the type ")?;
-        self.push_type(out, ty)?;
-        push_text(out, ", and ")?;
-        self.push_typed(out, term)
+        if self.is_of_another(text, ty)? {
+            write!(out, " (the goal has `({name}:{text})`)")?;
+        }
+        Ok(())
     }
 
     fn push_part(&self, out: &mut String, part: Said<'_>) -> Result<(), NoMemory> {
         match part {
             Said::Text(text) => push_text(out, text),
             Said::Quoted(text) => push_quoted(out, text),
+            Said::Bare(term) => self.push_bare(out, term),
             Said::Shown(term) => self.push_term(out, term),
             Said::Type(ty) => self.push_type(out, ty),
             Said::Typed(term) => self.push_typed(out, term),
@@ -101,7 +118,6 @@ impl Teller<'_> {
                 push_text(out, " is ")?;
                 push_quoted(out, theorem.text())
             }
-            Said::Misfit(formula, term) => self.push_misfit(out, formula, term),
         }
     }
 
@@ -113,10 +129,40 @@ impl Teller<'_> {
         Ok(())
     }
 
-    /// The message of parts on what stands at an offset.
-    pub(crate) fn say(&self, at: usize, parts: &[Said<'_>]) -> Result<Message, NoMemory> {
-        let mut text = String::new(self.alloc);
-        self.push(&mut text, parts)?;
-        Ok(Message { at, text })
+    /// Puts the types at the end of the variable that a formula binds, and of a term that is to stand for it.
+    pub(crate) fn push_misfit<'b>(
+        &self,
+        out: &mut String,
+        formula: &'b Term,
+        term: &'b Term,
+    ) -> Result<(), NoMemory> {
+        let Some((name, ty)) = bound_variable(formula) else {
+            return Ok(());
+        };
+        self.push(
+            out,
+            &[
+                Said::Text(": the bound variable "),
+                Said::Quoted(name),
+                Said::Text(" of "),
+                Said::Shown(formula),
+                Said::Text(" has the type "),
+                Said::Type(ty),
+                Said::Text(", and "),
+                Said::Typed(term),
+            ],
+        )
+    }
+
+    /// Says parts on what stands at an offset.
+    pub(crate) fn say(
+        &self,
+        message: &mut Message,
+        at: usize,
+        parts: &[Said<'_>],
+    ) -> Result<bool, NoMemory> {
+        message.at = at;
+        self.push(&mut message.text, parts)?;
+        Ok(true)
     }
 }

@@ -59,25 +59,51 @@ pub(crate) fn last_term(
     }
 }
 
+// How many terms are wanted and how many scopes are open, from the back.
+#[derive(Clone, Copy)]
+struct Wanted {
+    terms: usize,
+    scopes: usize,
+}
+
+// What is wanted before a step, of what is wanted behind it.
+fn before_step(step: &TermStep<'_>, behind: Wanted) -> Wanted {
+    let Wanted { terms, scopes } = behind;
+    match step {
+        TermStep::Bare(_) | TermStep::Variable(_, _) | TermStep::Constant(_, _) => Wanted {
+            terms: terms.saturating_sub(1),
+            scopes,
+        },
+        TermStep::Apply | TermStep::Join(_) => Wanted {
+            terms: terms.saturating_add(1),
+            scopes,
+        },
+        TermStep::Enter(_, _) => Wanted {
+            terms,
+            scopes: scopes.saturating_sub(1),
+        },
+        TermStep::Leave(_) => Wanted {
+            terms,
+            scopes: scopes.saturating_add(1),
+        },
+        TermStep::Not => behind,
+    }
+}
+
 /// How many steps stand before those that make the last term of the first steps, so many.
 pub(crate) fn begin_of_last(steps: &[TermStep<'_>], count: usize) -> usize {
-    let mut wanted = 1usize;
-    let mut opens = 0usize;
+    let mut wanted = Wanted {
+        terms: 1,
+        scopes: 0,
+    };
     let mut at = count;
     for _ in 0..count {
-        if wanted == 0 && opens == 0 {
+        if wanted.terms == 0 && wanted.scopes == 0 {
             break;
         }
         at = at.saturating_sub(1);
-        match steps.get(at) {
-            Some(TermStep::Bare(_) | TermStep::Variable(_, _) | TermStep::Constant(_, _)) => {
-                wanted = wanted.saturating_sub(1);
-            }
-            Some(TermStep::Apply | TermStep::Join(_)) => wanted = wanted.saturating_add(1),
-            Some(TermStep::Enter(_, _)) => opens = opens.saturating_sub(1),
-            Some(TermStep::Leave(_)) => opens = opens.saturating_add(1),
-            Some(TermStep::Not) => {}
-            None => {}
+        if let Some(step) = steps.get(at) {
+            wanted = before_step(step, wanted);
         }
     }
     at

@@ -13,13 +13,14 @@ struct Side<'a> {
     term: &'a Term,
 }
 
-// Two terms that have to be alike, and the first parts in which they differ.
+// Says that two terms have to be alike, and the first parts in which they differ.
 fn differ(
     case: &Case<'_>,
+    message: &mut Message,
     at: usize,
     first: Side<'_>,
     second: Side<'_>,
-) -> Result<Option<Message>, NoMemory> {
+) -> Result<bool, NoMemory> {
     let alike = [
         Text(first.said),
         Shown(first.term),
@@ -27,8 +28,9 @@ fn differ(
         Shown(second.term),
         Text(" have to be alike"),
     ];
+    let said = case.say(message, at, &alike)?;
     let Some((part, other)) = differing(first.term, second.term) else {
-        return case.say(at, &alike);
+        return Ok(said);
     };
     let parts = [
         Text("; they differ first at "),
@@ -36,92 +38,119 @@ fn differ(
         Text(" and "),
         Shown(other),
     ];
-    let mut message = case.teller().say(case.piece.start(at), &alike)?;
-    case.teller().push(&mut message.text, &parts)?;
-    Ok(Some(message))
+    case.push(message, &parts)?;
+    Ok(said)
 }
 
-// The body of the formula that `EXISTS` is to prove, at its witness, and the conclusion of its theorem.
-fn no_witness(case: &Case<'_>) -> Result<Option<Message>, NoMemory> {
+// Says how the body of the formula that `EXISTS` is to prove, at its witness, and the conclusion of its theorem differ.
+fn unlike_body(
+    case: &Case<'_>,
+    message: &mut Message,
+    wanted: &Term,
+    premise: &Premise,
+) -> Result<bool, NoMemory> {
+    differ(
+        case,
+        message,
+        premise.at,
+        Side {
+            said: "the body of the first term at the witness, ",
+            term: wanted,
+        },
+        Side {
+            said: " and the conclusion of the theorem, ",
+            term: &premise.conclusion,
+        },
+    )
+}
+
+// The same of the formula and the witness that it is given.
+fn no_witness(case: &Case<'_>, message: &mut Message) -> Result<bool, NoMemory> {
     let (Some(formula), Some(witness), Some(premise)) = (
         case.term(0),
         case.term(1),
         case.theorem(0),
     ) else {
-        return Ok(None);
+        return Ok(false);
     };
     match body_at(case.alloc, &formula.term, &witness.term)? {
-        Some(wanted) => differ(
-            case,
-            premise.at,
-            Side {
-                said: "the body of the first term at the witness, ",
-                term: &wanted,
-            },
-            Side {
-                said: " and the conclusion of the theorem, ",
-                term: &premise.conclusion,
-            },
-        ),
-        None => Ok(None),
+        Some(wanted) => unlike_body(case, message, &wanted, premise),
+        None => Ok(false),
     }
 }
 
-// The parts of the conclusions of two theorems that a rule wants to be alike.
-fn sides_of<'a>(
-    rule: &str,
-    first: &'a Premise,
-    second: &'a Premise,
-) -> Option<(Side<'a>, Side<'a>)> {
-    let one = &first.conclusion;
-    let other = &second.conclusion;
-    let (said, wanted, behind, found) = match rule {
+// What is said before the parts of two conclusions that a rule wants to be alike.
+fn leads(rule: &str) -> (&'static str, &'static str) {
+    match rule {
         "DISJ_CASES" => (
             "the conclusion of the second theorem, ",
-            one,
             " and that of the third, ",
-            other,
         ),
         "TRANS" => (
             "the right side of the first theorem, ",
-            sides(one)?.1,
             " and the left side of the second, ",
-            sides(other)?.0,
         ),
         "MP" => (
             "the antecedent of the first theorem, ",
-            infix_parts(one, "==>")?.0,
             " and the conclusion of the second, ",
-            other,
         ),
         _ => (
             "the left side of the first theorem, ",
-            sides(one)?.0,
             " and the conclusion of the second, ",
-            other,
         ),
-    };
-    Some((
-        Side { said, term: wanted },
-        Side {
-            said: behind,
-            term: found,
-        },
-    ))
+    }
 }
 
-/// The terms of a rule that have to be alike.
-pub(crate) fn not_alpha(case: &Case<'_>) -> Result<Option<Message>, NoMemory> {
+// The part of the first conclusion that a rule compares.
+fn wanted_part<'a>(rule: &str, conclusion: &'a Term) -> Option<&'a Term> {
+    match rule {
+        "DISJ_CASES" => Some(conclusion),
+        "TRANS" => Some(sides(conclusion)?.1),
+        "MP" => Some(infix_parts(conclusion, "==>")?.0),
+        _ => Some(sides(conclusion)?.0),
+    }
+}
+
+// The part of the second conclusion that a rule compares.
+fn found_part<'a>(rule: &str, conclusion: &'a Term) -> Option<&'a Term> {
+    if rule == "TRANS" {
+        Some(sides(conclusion)?.0)
+    } else {
+        Some(conclusion)
+    }
+}
+
+// Says which parts of two conclusions have to be alike.
+fn unlike_conclusions(
+    case: &Case<'_>,
+    message: &mut Message,
+    first: &Premise,
+    second: &Premise,
+) -> Result<bool, NoMemory> {
+    let rule = case.rule();
+    let (Some(wanted), Some(found)) = (
+        wanted_part(rule, &first.conclusion),
+        found_part(rule, &second.conclusion),
+    ) else {
+        return Ok(false);
+    };
+    let (said, behind) = leads(rule);
+    let other = Side {
+        said: behind,
+        term: found,
+    };
+    differ(case, message, second.at, Side { said, term: wanted }, other)
+}
+
+/// Says which terms of a rule have to be alike.
+pub(crate) fn not_alpha(case: &Case<'_>, message: &mut Message) -> Result<bool, NoMemory> {
     let rule = case.rule();
     if rule == "EXISTS" {
-        return no_witness(case);
+        return no_witness(case, message);
     }
     let from = if rule == "DISJ_CASES" { 1 } else { 0 };
-    let (Some(first), Some(second)) = (case.theorem(from), case.theorem(from + 1)) else {
-        return Ok(None);
-    };
-    match sides_of(rule, first, second) {
-        Some((wanted, found)) => differ(case, second.at, wanted, found),
-        None => Ok(None),
+    match (case.theorem(from), case.theorem(from + 1)) {
+        (Some(first), Some(second)) => unlike_conclusions(case, message, first, second),
+        _ => Ok(false),
     }
 }

@@ -4,7 +4,8 @@ use hol_explain::Origin;
 use hol_model::Fault;
 use hol_test_sample_devices::push_times;
 use hol_test_sample_scripts::messages::{
-    COMMANDS, FURTHER_NAMES, GOALS, LIMITS, MISFITS, NAMES, QUOTES, RULES, SHAPES, TERMS,
+    ABSENT, COMMANDS, FURTHER_NAMES, GOALS, LIMITS, LOST, MISFITS, NAMES, QUOTES, RULES, SEEN,
+    SHAPES, TERMS, WORDS,
 };
 use std::alloc::Global;
 
@@ -57,6 +58,26 @@ fn names_are_explained(rt: HostRuntime) {
 #[test]
 fn nearest_names_are_told(rt: HostRuntime) {
     assert!(rt; first_wrong(rt.alloc(), FURTHER_NAMES) == Ok(6));
+}
+
+#[test]
+fn words_of_others_are_told(rt: HostRuntime) {
+    assert!(rt; first_wrong(rt.alloc(), WORDS) == Ok(6));
+}
+
+#[test]
+fn absent_words_are_told(rt: HostRuntime) {
+    assert!(rt; first_wrong(rt.alloc(), ABSENT) == Ok(4));
+}
+
+#[test]
+fn lost_names_are_told(rt: HostRuntime) {
+    assert!(rt; first_wrong(rt.alloc(), LOST) == Ok(3));
+}
+
+#[test]
+fn variables_of_the_goal_are_told(rt: HostRuntime) {
+    assert!(rt; first_wrong(rt.alloc(), SEEN) == Ok(2));
 }
 
 #[test]

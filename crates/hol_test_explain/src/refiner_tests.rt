@@ -2,7 +2,7 @@
 use crate::rows::{first_wrong, says_of};
 use hol_model::Fault;
 use hol_test_sample_devices::Row;
-use hol_test_sample_scripts::refiner_messages::{PARTS, REFINERS};
+use hol_test_sample_scripts::refiner_messages::{PARTS, REFINERS, TAKEN};
 
 const RULE_WITHOUT_MEMORY: Row<'static> = Row {
     title: "a rule",
@@ -24,6 +24,11 @@ fn parts_are_found(rt: HostRuntime) {
 #[test]
 fn refiners_are_explained(rt: HostRuntime) {
     assert!(rt; first_wrong(rt.alloc(), REFINERS) == Ok(5));
+}
+
+#[test]
+fn theorems_not_taken_are_told(rt: HostRuntime) {
+    assert!(rt; first_wrong(rt.alloc(), TAKEN) == Ok(2));
 }
 
 #[test]

@@ -456,7 +456,7 @@ thm h = ASSUME `(q:bool)` ;;
 goal `(p:bool)` ;;
 e MP_TAC h ;;
 --
-s:3:3: E18 RefineFails: the refiner does not apply to the goal: `MP_TAC` wants a theorem whose hypotheses are assumptions of the goal, `h` is `(q:bool) |- (q:bool)`; the first goal there is `?- (p:bool)`
+s:3:3: E18 RefineFails: the refiner does not apply to the goal: `MP_TAC` wants a theorem whose hypotheses are assumptions of the goal, `h` is `(q:bool) |- (q:bool)`; the hypothesis `(q:bool)` of `h` is not assumed; the first goal there is `?- (p:bool)`
 
 == CHOOSE of a variable of the conclusion
 thm e = ASSUME `?x:A. (P:A->bool) x` ;;
@@ -492,4 +492,133 @@ s:2:13: E34 NoMatch: the left side of no equation of the theorem matches the ter
 thm a = TAUT `(a:bool) /\ (b:bool) /\ (c:bool) /\ (d:bool) /\ (e:bool) /\ (f:bool) /\ (g:bool) /\ (h:bool) /\ (i:bool) /\ (j:bool) /\ (k:bool) /\ (l:bool) /\ (m:bool) /\ (n:bool) /\ (o:bool)` ;;
 --
 s:1:14: E27 TooManyAtoms: the formula has more atoms than tautologies may have, and the term is `(a:bool) /\ (b:bool) /\ (c:bool) /\ (d:bool) /\ (e:bool) /\ (f:bool) /\ (g:bool) /\ (h:bool) /\ (i:bool) /\ (j:bool) /\ (k:bool) /\ (l:bool) /\ (m:bool) /\ (n:bool) /\ (o:bool)`
+";
+
+/// Words of HOL Light, and words in another case or number.
+pub const WORDS: &str = r"
+== refiners
+e MATCH_MP_TAC a ;;
+e GEN_TAC THEN SUBGOAL_THEN ;;
+--
+s:1:3: E28 Syntax: expected a refiner, found `MATCH_MP_TAC`; in its place is written `MP_TAC NAME THEN HOST back`; the words that could stand here are `ALL_TAC`, `NO_TAC`, `ACCEPT_TAC`, `ASSUMPTION_TAC`, `ASSUME_TAC`, `REFL_TAC`, `CONJ_TAC`, `EQ_TAC`, `DISJ1_TAC`, `DISJ2_TAC`, `DISCH_TAC`, `GEN_TAC`, `EXISTS_TAC`, `MP_TAC`, `DISJ_CASES_TAC`, `CHOOSE_TAC`, `UNDISCH_TAC`, `CONV_TAC`, `REWRITE_TAC`, `TAUT_TAC`, `HOST`, `REPEAT`, `TRY`, `(`
+s:2:16: E28 Syntax: expected a refiner, found `SUBGOAL_THEN`; in its place is written `MP_TAC NAME THEN HOST cut`, behind ``thm NAME = REFL `p` ``; the words that could stand here are `ALL_TAC`, `NO_TAC`, `ACCEPT_TAC`, `ASSUMPTION_TAC`, `ASSUME_TAC`, `REFL_TAC`, `CONJ_TAC`, `EQ_TAC`, `DISJ1_TAC`, `DISJ2_TAC`, `DISCH_TAC`, `GEN_TAC`, `EXISTS_TAC`, `MP_TAC`, `DISJ_CASES_TAC`, `CHOOSE_TAC`, `UNDISCH_TAC`, `CONV_TAC`, `REWRITE_TAC`, `TAUT_TAC`, `HOST`, `REPEAT`, `TRY`, `(`
+
+== a rule
+thm a = SPEC_ALL TRUTH ;;
+--
+s:1:9: E28 Syntax: expected a rule, found `SPEC_ALL`; in its place is written `SPEC`, one variable after another; in a goal `MP_TAC NAME THEN HOST spec_all`; the words that could stand here are `REFL`, `ASSUME`, `BETA`, `ABS`, `TRANS`, `MK_COMB`, `EQ_MP`, `DEDUCT_ANTISYM_RULE`, `INST`, `INST_TYPE`, `ETA`, `SELECT`, `SYM`, `ADD_ASSUM`, `PROVE_HYP`, `BETA_CONV`, `EQT_INTRO`, `EQT_ELIM`, `CONJ`, `CONJUNCT1`, `CONJUNCT2`, `DISCH`, `UNDISCH`, `MP`, `SPEC`, `GEN`, `DISJ1`, `DISJ2`, `DISJ_CASES`, `CONTR`, `NOT_INTRO`, `NOT_ELIM`, `EXISTS`, `CHOOSE`, `TAUT`, `CONV`
+
+== files
+loads ;;
+--
+s:1:1: E28 Syntax: expected a command, found `loads`; in its place is written the name of the file before this one: `holp run FIRST.hol SECOND.hol`; the words that could stand here are `thm`, `show`, `var`, `def`, `newtype`, `newconst`, `goal`, `e`, `b`, `r`, `p`, `save`
+
+== commands
+THM a = REFL `T` ;;
+goals `T` ;;
+--
+s:1:1: E28 Syntax: expected a command, found `THM`; the nearest known word is `thm`; the words that could stand here are `thm`, `show`, `var`, `def`, `newtype`, `newconst`, `goal`, `e`, `b`, `r`, `p`, `save`
+s:2:1: E28 Syntax: expected a command, found `goals`; the nearest known word is `goal`; the words that could stand here are `thm`, `show`, `var`, `def`, `newtype`, `newconst`, `goal`, `e`, `b`, `r`, `p`, `save`
+
+== what joins refiners
+e GEN_TAC then DISCH_TAC ;;
+e (GEN_TAC THENC DISCH_TAC) ;;
+e GEN_TAC THENL [ALL_TAC orelse DISCH_TAC] ;;
+e GEN_TAC STRIP_TAC ;;
+--
+s:1:11: E28 Syntax: expected `THEN`, `THENL`, `ORELSE` or the end of the command, found `then`; the nearest known word is `THEN`
+s:2:12: E28 Syntax: expected `THEN`, `THENL`, `ORELSE` or `)`, found `THENC`; the nearest known word is `THEN`
+s:3:26: E28 Syntax: expected `THEN`, `THENL`, `ORELSE`, `;` or `]`, found `orelse`; the nearest known word is `ORELSE`
+s:4:11: E28 Syntax: expected `THEN`, `THENL`, `ORELSE` or the end of the command, found `STRIP_TAC`
+
+== theorems
+show truth ;;
+--
+s:1:6: E21 UnknownName: no theorem is stored under `truth`; the nearest known name is `TRUTH`
+";
+
+/// What terms do not have.
+pub const ABSENT: &str = r"
+== if
+thm a = REFL `if T then T else F` ;;
+--
+s:1:15: E21 UnknownName: no binder, constant or declared variable is named `if`; there is no `if`: what holds in each case is stated, as `(b ==> x = s) /\ (~b ==> x = t)`
+
+== let
+thm a = REFL `let x = T in x` ;;
+--
+s:1:15: E21 UnknownName: no binder, constant or declared variable is named `let`; there is no `let`: the term stands in the place of the name, or `(\x:ty. b) t` binds it
+
+== numbers
+newtype num ;;
+thm a = REFL `SUC (n:num)` ;;
+thm b = REFL `(n:num) = 1` ;;
+--
+s:2:15: E21 UnknownName: no binder, constant or declared variable is named `SUC`; there are no numbers but those that a script makes known, as `suc n` in `library/numbers.hol`
+s:3:25: E28 Syntax: expected an operand (a name, `(`, `[` or `~`; a binder inside a term stands in parentheses), found `1`, and there are no numerals: a number is a name that a script makes known, as `zero` in `library/numbers.hol`
+
+== signs
+thm a = REFL `T + T` ;;
+thm b = REFL `(T, T)` ;;
+--
+s:1:17: E28 Syntax: expected an infix (`<=>`, `==>`, `\/`, `/\` or `=`), an argument (a name, `(` or `[`) or the end of the term, found `+`, which begins no word; a function stands before its arguments, as `add m n`
+s:2:17: E28 Syntax: expected an infix (`<=>`, `==>`, `\/`, `/\` or `=`), an argument (a name, `(` or `[`) or `)`, found `,`; there are no pairs
+";
+
+/// Names that a refused command would have made.
+pub const LOST: &str = r"
+== theorems
+thm a = SYM TRUTH ;;
+thm b = SYM a ;;
+show
+ b ;;
+thm a = TRUTH ;;
+thm a = REFL `T` ;;
+show a ;;
+--
+s:1:13: E8 NotEquation: `SYM` wants an equation here, and `TRUTH` is `|- T`
+s:2:13: E21 UnknownName: no theorem is stored under `a`: line 1, which would have made it, was refused
+s:4:2: E21 UnknownName: no theorem is stored under `b`: line 2, which would have made it, was refused
+s:5:9: E28 Syntax: expected a rule, found `TRUTH`; the words that could stand here are `REFL`, `ASSUME`, `BETA`, `ABS`, `TRANS`, `MK_COMB`, `EQ_MP`, `DEDUCT_ANTISYM_RULE`, `INST`, `INST_TYPE`, `ETA`, `SELECT`, `SYM`, `ADD_ASSUM`, `PROVE_HYP`, `BETA_CONV`, `EQT_INTRO`, `EQT_ELIM`, `CONJ`, `CONJUNCT1`, `CONJUNCT2`, `DISCH`, `UNDISCH`, `MP`, `SPEC`, `GEN`, `DISJ1`, `DISJ2`, `DISJ_CASES`, `CONTR`, `NOT_INTRO`, `NOT_ELIM`, `EXISTS`, `CHOOSE`, `TAUT`, `CONV`
+
+== a definition
+def k = `(p:bool)` ;;
+show k_def ;;
+thm a = REFL `k` ;;
+thm b = REFL `[k:bool]` ;;
+--
+s:1:9: E13 NotClosed: the body of a definition may have no free variable, and `(p:bool)` is free in it
+s:2:6: E21 UnknownName: no theorem is stored under `k_def`: line 1, which would have made it, was refused
+s:3:15: E21 UnknownName: no binder, constant or declared variable is named `k`: line 1, which would have made it, was refused
+s:4:15: E5 UnknownConst: no constant is named `k`: line 1, which would have made it, was refused
+
+== a type
+newtype Num ;;
+var x : Num->num ;;
+thm a = REFL `x` ;;
+--
+s:1:9: E3 BadName: `Num` is no name of a declared type, which begins with a small letter and is not `bool`
+s:2:14: E35 UnknownType: no type is named `num`; `newtype` declares one, and a type variable begins with a capital letter
+s:3:15: E21 UnknownName: no binder, constant or declared variable is named `x`: line 2, which would have made it, was refused
+";
+
+/// Variables that the goal has.
+pub const SEEN: &str = r"
+== a variable without its type
+goal `!y:A->bool. T /\ (x:B) = (x:B)` ;;
+e EXISTS_TAC `x` ;;
+e GEN_TAC THEN EXISTS_TAC `y` ;;
+thm a = REFL `z` ;;
+--
+s:2:15: E21 UnknownName: no binder, constant or declared variable is named `x`; the goal has `(x:B)`: write it with its type, or declare `var x : B`
+s:3:28: E21 UnknownName: no binder, constant or declared variable is named `y`; the goal has `(y:A->bool)`: write it with its type, or declare `var y : A->bool`
+s:4:15: E21 UnknownName: no binder, constant or declared variable is named `z`; a free variable is written `(name:type)` at each place, or declared by `var`
+
+== a variable of another type
+goal `?x:A. (P:A->bool) x /\ (Q:A->bool) (y:A)` ;;
+e EXISTS_TAC `(y:B)` ;;
+e UNDISCH_TAC `(P:A->bool) (y:B)` ;;
+--
+s:2:3: E4 TypeMismatch: the types of two parts do not fit: the bound variable `x` of `?x:A. (P:A->bool) x /\ (Q:A->bool) (y:A)` has the type `A`, and `(y:B)` has the type `B` (the goal has `(y:A)`); the first goal there is `?- ?x:A. (P:A->bool) x /\ (Q:A->bool) (y:A)`
+s:3:28: E4 TypeMismatch: the function `(P:A->bool)` has the type `A->bool`, and its argument `(y:B)` has the type `B` (the goal has `(y:A)`)
 ";

@@ -62,7 +62,7 @@ e EQ_TAC ;;
 --
 s:2:3: E18 RefineFails: the refiner does not apply to the goal: `ASSUMPTION_TAC` wants a goal that is one of its assumptions; the first goal there is `?- (p:bool)`
 s:3:3: E18 RefineFails: the refiner does not apply to the goal: `UNDISCH_TAC` wants an assumption of the goal; the first goal there is `?- (p:bool)`
-s:4:3: E18 RefineFails: the refiner does not apply to the goal: `ACCEPT_TAC` wants a theorem of the goal itself, whose hypotheses are assumptions of the goal, `TRUTH` is `|- T`; the first goal there is `?- (p:bool)`
+s:4:3: E18 RefineFails: the refiner does not apply to the goal: `ACCEPT_TAC` wants a theorem of the goal itself, whose hypotheses are assumptions of the goal, `TRUTH` is `|- T`; the conclusion of `TRUTH` is not the goal; the first goal there is `?- (p:bool)`
 s:5:3: E16 BadShape: a formula does not have the form that is wanted here: `DISJ_CASES_TAC` wants a theorem `p \/ q` whose hypotheses are assumptions of the goal, `TRUTH` is `|- T`; the first goal there is `?- (p:bool)`
 s:6:3: E16 BadShape: a formula does not have the form that is wanted here: `CHOOSE_TAC` wants a theorem `?x:ty. p` whose hypotheses are assumptions of the goal, `TRUTH` is `|- T`; the first goal there is `?- (p:bool)`
 s:7:3: E16 BadShape: a formula does not have the form that is wanted here: `GEN_TAC` wants a goal `!x:ty. p`; the first goal there is `?- (p:bool)`
@@ -74,8 +74,8 @@ goal `(p:bool)` ;;
 e REWRITE_TAC [h] ;;
 e CONV_TAC (REWR_CONV h) ;;
 --
-s:3:3: E18 RefineFails: the refiner does not apply to the goal: `REWRITE_TAC` wants theorems whose hypotheses are assumptions of the goal; the first goal there is `?- (p:bool)`
-s:4:3: E18 RefineFails: the refiner does not apply to the goal: `CONV_TAC` wants a conversion whose equation has no other hypotheses than assumptions of the goal; the first goal there is `?- (p:bool)`
+s:3:3: E18 RefineFails: the refiner does not apply to the goal: `REWRITE_TAC` wants theorems whose hypotheses are assumptions of the goal; the hypothesis `(p:bool) <=> T` of `h` is not assumed; the first goal there is `?- (p:bool)`
+s:4:3: E18 RefineFails: the refiner does not apply to the goal: `CONV_TAC` wants a conversion whose equation has no other hypotheses than assumptions of the goal; the hypothesis `(p:bool) <=> T` of `h` is not assumed; the first goal there is `?- (p:bool)`
 
 == conversions
 goal `~T` ;;
@@ -86,4 +86,22 @@ e CONV_TAC (ABS_CONV NO_CONV) ;;
 s:2:23: E17 ConvFails: the conversion does not apply to the term: `BETA_CONV` wants a term `(\x:ty. b) t`, and is applied to `T`; the first goal there is `?- ~T`
 s:3:23: E17 ConvFails: the conversion does not apply to the term: `(BETA_CONV THENC NO_CONV)` is applied to `T`; the first goal there is `?- ~T`
 s:4:13: E17 ConvFails: the conversion does not apply to the term: `ABS_CONV NO_CONV` wants an abstraction, and is applied to `~T`; the first goal there is `?- ~T`
+";
+
+/// Theorems that refiners do not take: by their conclusion, or by a hypothesis.
+pub const TAKEN: &str = r"
+== ACCEPT_TAC
+thm h = ASSUME `(p:bool)` ;;
+goal `(p:bool)` ;;
+e ACCEPT_TAC h ;;
+--
+s:3:3: E18 RefineFails: the refiner does not apply to the goal: `ACCEPT_TAC` wants a theorem of the goal itself, whose hypotheses are assumptions of the goal, `h` is `(p:bool) |- (p:bool)`; the hypothesis `(p:bool)` of `h` is not assumed; the first goal there is `?- (p:bool)`
+
+== a hypothesis of a theorem of a list
+thm g = ASSUME `(p:bool) <=> T` ;;
+thm h = ADD_ASSUM `(r:bool)` g ;;
+goal `((p:bool) <=> T) ==> (p:bool)` ;;
+e DISCH_TAC THEN REWRITE_TAC [AND_DEF; h; g] ;;
+--
+s:4:18: E18 RefineFails: the refiner does not apply to the goal: `REWRITE_TAC` wants theorems whose hypotheses are assumptions of the goal; the hypothesis `(r:bool)` of `h` is not assumed; the first goal there is `(p:bool) <=> T ?- (p:bool)`
 ";
