@@ -1,13 +1,15 @@
-//! Runs the scripts of the library (library/README.md) and the developments over them, each behind the scripts that it needs, as one
-//! script. Prints what each writes of its own, and how many claims its log has, which the checker accepts.
+//! Runs the scripts of the library (library/README.md), the problems and the developments over them, each behind the scripts that it
+//! needs, as one script, over a host with the refiners and conversions of `hol_tactics`. Prints what each writes of its own, and how
+//! many claims its log has, which the checker accepts.
 #![tactic(auto)]
 
 use hol_check::check;
 use hol_device_adapters::{FromCall, FromRead, IntoCall};
 use hol_device_io::{read_all, write_all};
-use hol_host::NoHost;
+use hol_host::Host;
 use hol_model::Fault;
 use hol_script::run;
+use hol_tactics::store;
 use hol_test_sample_devices::Kept;
 use std::alloc::Global;
 use std::fs;
@@ -21,7 +23,7 @@ struct Run {
     name: &'static str,
 }
 
-const RUNS: [Run; 21] = [
+const RUNS: [Run; 22] = [
     Run {
         needed: "",
         name: "logic.hol",
@@ -51,6 +53,10 @@ const RUNS: [Run; 21] = [
         name: "numbers.hol",
     },
     Run {
+        needed: "",
+        name: "problems.hol",
+    },
+    Run {
         needed: "logic.hol",
         name: "developments/fulladder.hol",
     },
@@ -59,23 +65,23 @@ const RUNS: [Run; 21] = [
         name: "developments/mutex.hol",
     },
     Run {
-        needed: "logic.hol",
+        needed: "",
         name: "developments/groups.hol",
     },
     Run {
-        needed: "logic.hol",
+        needed: "",
         name: "developments/lattice.hol",
     },
     Run {
-        needed: "logic.hol sets.hol",
+        needed: "logic.hol",
         name: "developments/tarski.hol",
     },
     Run {
-        needed: "logic.hol",
+        needed: "",
         name: "developments/relations.hol",
     },
     Run {
-        needed: "logic.hol",
+        needed: "",
         name: "developments/twophase.hol",
     },
     Run {
@@ -134,19 +140,12 @@ fn print(rt: &HostRuntime, bytes: &[u8]) -> Result<(), Fault> {
     write_all(&mut IntoCall::new(writes), bytes)
 }
 
-// Runs a text as a script, with its log where one is wanted.
-fn run_text(alloc: Global, text: &[u8], wants_log: bool) -> Result<Written, Fault> {
+// Runs a text as a script over a host, with its log where one is wanted.
+fn run_text(alloc: Global, host: &Host, text: &[u8], wants_log: bool) -> Result<Written, Fault> {
     let mut writer = Kept::new(alloc);
     let mut log = Kept::new(alloc);
     let mut reader = FromRead::new(text);
-    let ended = run(
-        alloc,
-        &mut reader,
-        &mut writer,
-        &mut log,
-        wants_log,
-        &NoHost,
-    )?;
+    let ended = run(alloc, &mut reader, &mut writer, &mut log, wants_log, host)?;
     let _progress = ended.whole()?;
     Ok(Written {
         output: writer.bytes,
@@ -161,9 +160,14 @@ fn count_claims(alloc: Global, log: &[u8]) -> Result<usize, Fault> {
 }
 
 // Prints what a run writes behind what it wrote for the scripts before the last, and counts the claims of its log.
-fn print_run(rt: &HostRuntime, text: &[u8], written_before: usize) -> Result<(), Fault> {
+fn print_run(
+    rt: &HostRuntime,
+    host: &Host,
+    text: &[u8],
+    written_before: usize,
+) -> Result<(), Fault> {
     let alloc = rt.alloc();
-    let written = run_text(alloc, text, true)?;
+    let written = run_text(alloc, host, text, true)?;
     if let Some(own) = written.output.get(written_before..) {
         print(rt, own)?;
     }
@@ -173,23 +177,26 @@ fn print_run(rt: &HostRuntime, text: &[u8], written_before: usize) -> Result<(),
 }
 
 // Runs a script behind those that it needs.
-fn run_behind(rt: &HostRuntime, needed: &str, name: &str) -> Result<(), Fault> {
+fn run_behind(rt: &HostRuntime, host: &Host, needed: &str, name: &str) -> Result<(), Fault> {
     let alloc = rt.alloc();
     let mut text = Vec::new(alloc);
     for before in needed.split_whitespace() {
         append_file(rt, &mut text, before)?;
     }
-    let before = run_text(alloc, &text, false)?;
+    let before = run_text(alloc, host, &text, false)?;
     append_file(rt, &mut text, name)?;
     let title = format!(in alloc; "== {name}\n")?;
     print(rt, title.as_bytes())?;
-    print_run(rt, &text, before.output.len())
+    print_run(rt, host, &text, before.output.len())
 }
 
 fn run_all(rt: &HostRuntime) -> Result<(), Fault> {
+    let alloc = rt.alloc();
+    let mut host = Host::new(alloc);
+    store(alloc, &mut host)?;
     for at in 0..RUNS.len() {
         let run = &RUNS[at];
-        run_behind(rt, run.needed, run.name)?;
+        run_behind(rt, &host, run.needed, run.name)?;
     }
     Ok(())
 }
