@@ -94,6 +94,8 @@ printed = dict(re.findall(r"(?m)^(\w+): ((?:.* )?\|- .*)$", text("crates/holp_li
 page = text("library/README.md")
 chapters = re.split(r"(?m)^## .*\(`library/(\w+)\.hol`\).*$", page)
 for name, chapter in zip(chapters[1::2], chapters[2::2]):
+    if name not in counts:
+        continue
     stored = dict.fromkeys(re.findall(r"(?m)^(?:thm|save) (\w+)", text(f"library/{name}.hol")))
     told = dict(re.findall(r"(?m)^- `(\w+)`(?: \*)?: `(.*)`$", chapter))
     compare(f"library/README.md, {name}", sorted(told), sorted(it for it in stored if not re.match(r"(lg|ch|fn|rl|st|od|nm)_", it)))
@@ -108,10 +110,11 @@ figures = re.findall(r"(?m)^\| .*? \| ([\d.]+) \| ([\d.]+) \|$", text("README.md
 rows = [row.split(" | ") for row in text("docs/BENCHMARKS.md").splitlines()]
 compare("README.md: seconds", figures, [it for it in figures if any(set(it) <= set(row) for row in rows)])
 compare("README.md: the number of theorems", re.findall(r"(\d+) theorems of", text("README.md")), [str(total)])
-told, is_so = re.findall(r"(?m)^(\| `\w+` \| [\d,]+ \| [\d,]+ \|)", text("library/developments/README.md")), []
-for name in re.findall(r"`(\w+)`", "".join(told)):
+ROW = r"(?m)^\| `(\w+)` \| [\d,]+ \| ([\d,]+) \| [\d-]+ \| [\d,]+ \| ([\d,]+) \|"
+told, is_so = re.findall(ROW, text("library/developments/README.md")), []
+for name, _, _ in told:
     script = " ".join(text(f"library/developments/{name}.hol").split())
-    is_so.append(f"| `{name}` | {script.count(';;'):,} | {len(script):,} |")
+    is_so.append((name, f"{script.count(';;'):,}", f"{len(script):,}"))
 compare("library/developments", told, is_so)
 print("\n".join(wrong) if wrong else "all lists are as what they list")
 sys.exit(1 if wrong else 0)
