@@ -1,6 +1,6 @@
 -- How a run ends.
 use Rattle.std.proofs.Common.{◌≡◌, ℕ, zero, suc, ◌≤◌, ◌<◌, List, [], ◌∷◌, length, refl, sym, ap, subst, ◌⊎◌, inl, inr, arith, Bool, true, false, Ok, Err, Result, Option}
-use Rattle.std.specs.Prelude.{IfSome, IfErr, OnOk, IsErrOf, Contains, Unit}
+use Rattle.std.specs.Prelude.{IfSome, IfErr, OnOk, IsErrOf, Contains}
 use Rattle.hol_model.specs.declared.fault.Fault.{Fault}
 use Rattle.hol_model.specs.declared.fault.Fault.TheVariants.{Memory, ReadFault, TooLong, WriteFault}
 use Rattle.hol_model.specs.declared.limits.TheConstants.{TEXT_BYTES_LIMIT}
@@ -130,12 +130,12 @@ module _ (tools : Tools) (source : SourceUse) (out log : SinkUse) where
           subst (λ (w : Bool). EndsSo (if_logged outcome (counts_of progress.summary)) w) (sym wanted) (log_ends outcome writes listed broken long untouched)
 
 -- what became of the log, where its sink tells
-pub logs-told : {wants_log failed : Bool} {progress : Progress} {before after : Option (List ℕ)} (outcome : Result Unit Fault)
+pub logs-told : {failed : Bool} (progress : Progress) {before after : Option (List ℕ)} (outcome : Result Unit Fault)
     → OnOk outcome (WritesLog (journal_of progress) (claims_listed progress) before after)
     → (IsErrOf outcome WriteFault → (failed ≡ true) × WritesFront (journal_of progress) (claims_listed progress) before after)
     → (IsErrOf outcome TooLong → IsLongLog (journal_of progress) (claims_listed progress))
     → Logs (journal_of progress) (claims_listed progress) before after outcome
-logs-told outcome written broken long = record { written = written; broken = λ is. (broken is).1; too_long = long }
+logs-told progress outcome written broken long = record { written = written; broken = λ is. (broken is).1; too_long = long }
 
 is-no-fault : (done : Unit {0}) → ◌≡◌ {A = Result Unit Fault} (Ok done) (Err WriteFault) → ⊥
 is-no-fault done same = cc
@@ -144,6 +144,6 @@ is-fault : (fault : Fault) → ◌≡◌ {A = Result Unit Fault} (Err fault) (Er
 is-fault fault same = cc
 
 -- a sink that has failed is told by the run's answer
-pub told-so : {failed : Bool} {counts : Counts} (outcome : Result Unit Fault) → (failed ≡ true → IsErrOf outcome WriteFault) → failed ≡ true → IsErrOf (if_logged outcome counts) WriteFault
-told-so (Ok done) told has_failed = absurd (is-no-fault done (told has_failed))
-told-so (Err fault) told has_failed = ap (λ (e : Fault). Err e) (is-fault fault (told has_failed))
+pub told-so : {failed : Bool} (counts : Counts) (outcome : Result Unit Fault) → (failed ≡ true → IsErrOf outcome WriteFault) → failed ≡ true → IsErrOf (if_logged outcome counts) WriteFault
+told-so counts (Ok done) told has_failed = absurd (is-no-fault done (told has_failed))
+told-so counts (Err fault) told has_failed = ap (λ (e : Fault). Err e) (is-fault fault (told has_failed))

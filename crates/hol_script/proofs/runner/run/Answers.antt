@@ -2,7 +2,7 @@ use Rattle.std.proofs.Common.{◌≡◌, List, ℕ, sym, subst, refl, length, �
 use Rattle.hol_model.specs.Texts.KnownText.{Tells}
 use Rattle.hol_model.specs.declared.limits.TheConstants.{TEXT_BYTES_LIMIT}
 use Rattle.hol_script_manager.specs.Session.{session_tools}
-use Rattle.hol_script.specs.Runs.{source_use, sink_use}
+use Rattle.hol_script.specs.Runs.{source_use, sink_use, counts_of}
 use Rattle.hol_script.proofs.HeadlineLemmas.{finishes_told, breaks_told, unread_told}
 use Rattle.hol_script.proofs.RunLogLemmas.{run-named}
 use Rattle.hol_script.proofs.EndLemmas.{ends-unread, ends-in_output, ends-unlogged, ends-in_log, logs-told, told-so}
@@ -37,8 +37,8 @@ returns-in-Err-run_script-clause-told_front g c =
     let told = subst (λ (bytes : List ℕ). Tells (g.R.Source.remaining c.args.reader.now) bytes) (sym c.as_slice.ensures.value) c.in-Ok.ensures.all in
     breaks_told (session_tools (g.H.Refiners.refiners c.args.host.now) (g.H.Converters.conversions c.args.host.now)) c.as_slice.result.now told c.in-Err-run_script.ensures.err
 
-pub write_log-requires-clause-named : goal.write_log-requires-clause-named
-write_log-requires-clause-named g c = run-named c.in-Ok-run_script.progress c.in-Ok-run_script.ensures.ok
+pub write_log-logged-requires-clause-named : goal.write_log-logged-requires-clause-named
+write_log-logged-requires-clause-named g c = run-named c.in-Ok-run_script.progress c.in-Ok-run_script.ensures.ok
 
 pub returns-then-not-wants_log-clause-ends : goal.returns-then-not-wants_log-clause-ends
 returns-then-not-wants_log-clause-ends g c =
@@ -59,15 +59,15 @@ returns-clause-ends g c =
     ends-in_log (session_tools (g.H.Refiners.refiners c.args.host.now) (g.H.Converters.conversions c.args.host.now))
     (source_use (g.R.Source.remaining c.args.reader.now) (g.R.Source.has_failed c.read_all.new.reader))
     (sink_use (g.W.Sink.contents c.args.writer.now) (g.W.Sink.contents c.run_script.new.writer) (g.W.Sink.has_failed c.run_script.new.writer) (c.run_script.new.writer ≡ c.args.writer.now))
-    (sink_use (g.L.Sink.contents c.args.log.now) (g.L.Sink.contents c.write_log.new.log) (g.L.Sink.has_failed c.write_log.new.log) (c.write_log.new.log ≡ c.args.log.now))
-    script told within c.in-Ok-run_script.progress c.in-Ok-run_script.ensures.ok c.write_log.result c.if-not-wants_log.false c.write_log.ensures.ok c.write_log.ensures.refusals
-    c.write_log.ensures.write_fault c.write_log.ensures.too_long c.write_log.ensures.unwritten
+    (sink_use (g.L.Sink.contents c.args.log.now) (g.L.Sink.contents c.write_log-logged.new.log) (g.L.Sink.has_failed c.write_log-logged.new.log) (c.write_log-logged.new.log ≡ c.args.log.now))
+    script told within c.in-Ok-run_script.progress c.in-Ok-run_script.ensures.ok c.write_log-logged.result c.if-not-wants_log.false c.write_log-logged.ensures.ok c.write_log-logged.ensures.refusals
+    c.write_log-logged.ensures.write_fault c.write_log-logged.ensures.too_long c.write_log-logged.ensures.unwritten
 
 pub returns-clause-own_log : goal.returns-clause-own_log
-returns-clause-own_log g c wanted = logs-told c.write_log.result c.write_log.ensures.ok c.write_log.ensures.write_fault c.write_log.ensures.too_long
+returns-clause-own_log g c wanted = logs-told c.in-Ok-run_script.progress c.write_log-logged.result c.write_log-logged.ensures.ok c.write_log-logged.ensures.write_fault c.write_log-logged.ensures.too_long
 
 pub returns-clause-log_told : goal.returns-clause-log_told
-returns-clause-log_told g c = told-so c.write_log.result c.write_log.ensures.told
+returns-clause-log_told g c = told-so (counts_of c.in-Ok-run_script.progress.summary) c.write_log-logged.result c.write_log-logged.ensures.told
 
 pub returns-then-not-wants_log-clause-told : goal.returns-then-not-wants_log-clause-told
 returns-then-not-wants_log-clause-told g c =
