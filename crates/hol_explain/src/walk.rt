@@ -35,7 +35,7 @@ struct Walk<'a, H> {
 
 // What is written of a command, and whether it was refused.
 #[derive(Drop)]
-struct Answer {
+struct Written {
     text: Option<String>,
     is_refused: bool,
 }
@@ -126,7 +126,7 @@ fn answer<H: Refiners>(
     manager: &mut Manager,
     bytes: &[u8],
     place: &Place,
-) -> Result<Answer, NoMemory>
+) -> Result<Written, NoMemory>
     requires { IsManager manager.old }
     ensures { OnOk result (IsManager manager.new) }
 {
@@ -134,7 +134,7 @@ fn answer<H: Refiners>(
     match execute(manager, walk.alloc, walk.host, bytes) {
         Ok(printed) => {
             let text = noted(walk, known, &piece, place, &printed)?;
-            Ok(Answer {
+            Ok(Written {
                 text,
                 is_refused: false,
             })
@@ -142,7 +142,7 @@ fn answer<H: Refiners>(
         Err(refused) => {
             let text = explained(walk, known, manager, &piece, place, &refused)?;
             miss(walk.alloc, walk.script.origins, known, &piece, place)?;
-            Ok(Answer {
+            Ok(Written {
                 text: Some(text),
                 is_refused: true,
             })
@@ -207,7 +207,7 @@ fn explain_piece<W: Sink, H: Refiners>(
     ensures refusals { IfErr result (Contains (WriteFault ∷ Memory ∷ [])) }
 {
     match answer(walk, known, manager, piece, place) {
-        Ok(Answer { text, is_refused }) => match write_any(writer, text) {
+        Ok(Written { text, is_refused }) => match write_any(writer, text) {
             Ok(()) => Ok(is_refused),
             Err(fault) => Err(fault),
         },
