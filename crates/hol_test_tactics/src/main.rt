@@ -1,6 +1,6 @@
 //! Runs the scripts of data/ over a host with the refiners and conversions of `hol_tactics` alone: each function on goals that it
-//! refines and on goals that it does not, and Pelletier's problems 18 to 46, 48, 50, 56, 57, 59 and 60. What they print stands in
-//! stdout, by hand.
+//! refines and on goals that it does not, Pelletier's problems 18 to 52, 56, 57, 59 and 60, and one of Los. What they print stands in
+//! stdout.
 #![tactic(auto)]
 
 use hol_host::Host;
