@@ -136,6 +136,37 @@ pub(crate) fn accepted_line(
     }
 }
 
+// What a run prints for a refusal whose command begins on this line.
+fn printed_refusal(alloc: Global, line: usize, refused: &Refused) -> Result<String, NoMemory> {
+    let number = refused.fault.number();
+    let name = refused.fault.name();
+    let row = match &refused.row {
+        Some(row) => row.as_str(),
+        None => "",
+    };
+    Ok(format!(in alloc; "line {line}: E{number} {name}{row}\n")?)
+}
+
+// The line of a refused command, for which a run prints this text.
+fn line_of_refused<'a>(
+    alloc: Global,
+    told: &'a Told<'a>,
+    text: &'a str,
+    refused: &'a Refused,
+    message: &'a Message,
+) -> Result<String, NoMemory> {
+    let place = told.place.behind(between(told.piece.bytes, 0, message.at));
+    let (_file, here) = located(told.origins, &place);
+    let refusal = Refusal {
+        number: refused.fault.number(),
+        name: refused.fault.name(),
+        line: here.line,
+        column: here.column,
+        message: &message.text,
+    };
+    line_of(alloc, &told.record(text, None, Some(refusal)))
+}
+
 /// The line of a command that is refused, with what is said of it.
 pub(crate) fn refused_line(
     alloc: Global,
@@ -143,21 +174,6 @@ pub(crate) fn refused_line(
     refused: &Refused,
     message: &Message,
 ) -> Result<String, NoMemory> {
-    let number = refused.fault.number();
-    let name = refused.fault.name();
-    let row = match &refused.row {
-        Some(row) => row.as_str(),
-        None => "",
-    };
-    let text = format!(in alloc; "line {}: E{number} {name}{row}\n", told.begin().line)?;
-    let place = told.place.behind(between(told.piece.bytes, 0, message.at));
-    let (_file, here) = located(told.origins, &place);
-    let refusal = Refusal {
-        number,
-        name,
-        line: here.line,
-        column: here.column,
-        message: &message.text,
-    };
-    line_of(alloc, &told.record(&text, None, Some(refusal)))
+    let text = printed_refusal(alloc, told.begin().line, refused)?;
+    line_of_refused(alloc, told, &text, refused, message)
 }
