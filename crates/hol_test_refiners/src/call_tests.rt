@@ -68,7 +68,7 @@ fn answers(calls: &Cell<u32>) -> bool {
 // A refiner and a conversion that count their calls, under the name `f`.
 fn counting_host(alloc: Global, calls: &Rc<Cell<u32>>) -> Result<Host, Fault> {
     let mut host = Host::new(alloc);
-    let refiner_calls = calls.clone();
+    let refiner_calls = calls.clone()?;
     let refiner = Box::new(alloc, move |alloc: Global, goal: &Goal| {
         if answers(&refiner_calls) {
             unchanged(alloc, goal)
@@ -77,7 +77,7 @@ fn counting_host(alloc: Global, calls: &Rc<Cell<u32>>) -> Result<Host, Fault> {
         }
     })?;
     host.refiner(alloc, "f", refiner)?;
-    let conversion_calls = calls.clone();
+    let conversion_calls = calls.clone()?;
     let conversion = Box::new(alloc, move |alloc: Global, term: &Term| {
         if answers(&conversion_calls) {
             same(alloc, term)

@@ -14,7 +14,7 @@ const SCRIPTS: [&str; 3] = ["refiners.hol", "conversions.hol", "pelletier.hol"];
 fn run_scripts(rt: &HostRuntime) -> Result<(), Fault> {
     let alloc = rt.alloc();
     let mut host = Host::new(alloc);
-    store(alloc, &mut host)?;
+    store!(alloc, host);
     for name in SCRIPTS {
         run_file(rt, name, &host)?;
     }

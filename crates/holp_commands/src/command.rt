@@ -3,7 +3,7 @@
 use crate::checking::{check_file, check_file_with_theory, migrate_file};
 use crate::ending::tell;
 use crate::options::Options;
-use crate::running::{run_scripts, run_scripts_with_log, tell_scripts};
+use crate::running::{run_scripts, run_scripts_with_log};
 use crate::words::{command_line, value};
 use anyhow::ensure;
 use clap::ArgMatches;
@@ -34,12 +34,10 @@ fn run(rt: &HostRuntime, matches: &ArgMatches<'_>) -> anyhow::Result<u8> {
         !names_input_twice(names),
         "- is standard input, and may stand once"
     );
-    if matches.get_flag("json") {
-        return Ok(tell(rt, tell_scripts(rt, names)));
-    }
     let options = Options {
         explains: matches.get_flag("explain"),
         shows_goals: matches.get_flag("goals"),
+        tells_records: matches.get_flag("json"),
     };
     let answer = match matches.get_str("log") {
         Some(log) => run_scripts_with_log(rt, names, options, log),

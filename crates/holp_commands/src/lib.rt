@@ -6,7 +6,6 @@
 mod checking;
 mod command;
 mod ending;
-mod hosting;
 mod laws;
 mod options;
 mod output;

@@ -1,16 +1,21 @@
 // Runs scripts over a host with the sample refiners and conversions, and those of `hol_tactics`.
 ghost use Rattle.std.specs.Prelude.{◌≡◌, false};
 
-use crate::hosting::{host, host_names};
 use crate::laws::logs_are_checked;
 use crate::options::Options;
 use crate::output::Output;
 use crate::scripts::{Scripts, open_scripts, read_scripts};
 use hol_device_adapters::{FromRead, IntoCall, IntoWrite};
 use hol_explain::{Script, explain, write_records};
+use hol_host::Host;
+use hol_host_samples::{liar, liar2, peel, swap};
+use hol_just::Goal;
 use hol_model::{Fault, Sink};
 use hol_script::run;
+use hol_tactics::{NAMES, store};
+use hol_terms::Term;
 use holp_goals::View;
+use std::alloc::Global;
 use std::fs::{self, File};
 use std::io::Write;
 use std::mem::forget;
@@ -23,9 +28,42 @@ fn create(rt: &HostRuntime, name: &str) -> Result<File, Fault> {
     }
 }
 
+// Runs a script over a host, and answers how many of its commands were refused. Where these are to be explained, what is said of
+// them is written to standard error behind the run, and takes no part in how it ends.
+fn run_with<W: Sink, L: Sink>(
+    rt: &HostRuntime,
+    host: &Host,
+    script: &Script<'_>,
+    options: Options,
+    writer: &mut W,
+    log: &mut L,
+    wants_log: bool,
+) -> Result<u64, Fault>
+    requires writer_unfailed { W.has_failed writer.old ≡ false }
+    requires log_unfailed { L.has_failed log.old ≡ false }
+{
+    let alloc = rt.alloc();
+    if options.tells_records {
+        return write_records(alloc, script, host, writer);
+    }
+    let mut reader = FromRead::new(script.text);
+    let ended = run(alloc, &mut reader, writer, log, wants_log, host)?.whole()?;
+    let refused = ended.summary.refused;
+    if options.explains && refused > 0 {
+        drop(ended);
+        let mut output = rt.stderr();
+        if let Ok(writes) = Box::new(alloc, move |piece: &[u8]| output.write(piece)) {
+            let _ = explain(alloc, script, host, &mut IntoCall::new(writes));
+        }
+    } else {
+        // The program ends, and the session goes with its memory, as one.
+        forget(ended);
+    }
+    Ok(refused)
+}
+
 // Runs a script over a host with the sample refiners and conversions and those of `hol_tactics`, and answers how many of its
-// commands were refused. Where these are to be explained, what is said of them is written to standard error behind the run, and
-// takes no part in how it ends.
+// commands were refused.
 fn run_hosted<W: Sink, L: Sink>(
     rt: &HostRuntime,
     script: &Script<'_>,
@@ -38,21 +76,29 @@ fn run_hosted<W: Sink, L: Sink>(
     requires log_unfailed { L.has_failed log.old ≡ false }
 {
     let alloc = rt.alloc();
-    let host = host(alloc)?;
-    let mut reader = FromRead::new(script.text);
-    let ended = run(alloc, &mut reader, writer, log, wants_log, &host)?.whole()?;
-    let refused = ended.summary.refused;
-    if options.explains && refused > 0 {
-        drop(ended);
-        let mut output = rt.stderr();
-        if let Ok(writes) = Box::new(alloc, move |piece: &[u8]| output.write(piece)) {
-            let _ = explain(alloc, script, &host, &mut IntoCall::new(writes));
-        }
-    } else {
-        // The program ends, and the session goes with its memory, as one.
-        forget(ended);
+    let mut host = Host::new(alloc);
+    let peels = Box::new(alloc, |alloc: Global, goal: &Goal| peel(alloc, goal))?;
+    host.refiner(alloc, "peel", peels)?;
+    let lies = Box::new(alloc, |alloc: Global, goal: &Goal| liar(alloc, goal))?;
+    host.refiner(alloc, "liar", lies)?;
+    let lies_twice = Box::new(alloc, |alloc: Global, goal: &Goal| liar2(alloc, goal))?;
+    host.refiner(alloc, "liar2", lies_twice)?;
+    let swaps = Box::new(alloc, |alloc: Global, term: &Term| swap(alloc, term))?;
+    host.conv(alloc, "swap", swaps)?;
+    store!(alloc, host);
+    run_with(rt, &host, script, options, writer, log, wants_log)
+}
+
+// The names of the functions of the host.
+fn host_names(alloc: Global) -> Result<Vec<String>, Fault> {
+    let mut names = Vec::new(alloc);
+    for name in ["peel", "liar", "liar2", "swap"] {
+        names.push(String::from_str(alloc, name)?)?;
     }
-    Ok(refused)
+    for name in NAMES {
+        names.push(String::from_str(alloc, name)?)?;
+    }
+    Ok(names)
 }
 
 // Runs scripts as one, and answers how many of their commands were refused. Standard error tells where these stand, or, where it
@@ -77,7 +123,8 @@ fn run_over<L: Sink>(
     } else {
         None
     };
-    let mut writer = Output::new(rt, scripts.told(options.explains), view);
+    let is_told = options.explains || options.tells_records;
+    let mut writer = Output::new(rt, scripts.told(is_told), view);
     run_hosted(rt, &script, options, &mut writer, log, wants_log)
 }
 
@@ -107,21 +154,4 @@ pub(crate) fn run_scripts_with_log(
     let scripts = read_scripts(rt, names, opened)?;
     let logs = Box::new(rt.alloc(), move |piece: &[u8]| file.write(piece))?;
     run_over(rt, &scripts, options, &mut IntoCall::new(logs), true)
-}
-
-/// Runs scripts as one, tells each of their commands on standard output by a line of JSON, and answers how many were refused.
-pub(crate) fn tell_scripts(rt: &HostRuntime, names: &[&str]) -> Result<u64, Fault> {
-    let alloc = rt.alloc();
-    let opened = open_scripts(rt, names, false)?;
-    let scripts = read_scripts(rt, names, opened)?;
-    let host_names = host_names(alloc)?;
-    let script = Script {
-        origins: scripts.origins.as_slice(),
-        text: scripts.text.as_slice(),
-        host_names: &host_names,
-    };
-    let host = host(alloc)?;
-    let mut output = rt.stdout();
-    let writes = Box::new(alloc, move |piece: &[u8]| output.write(piece))?;
-    write_records(alloc, &script, &host, &mut IntoCall::new(writes))
 }

@@ -193,7 +193,7 @@ fn run_behind(rt: &HostRuntime, host: &Host, needed: &str, name: &str) -> Result
 fn run_all(rt: &HostRuntime) -> Result<(), Fault> {
     let alloc = rt.alloc();
     let mut host = Host::new(alloc);
-    store(alloc, &mut host)?;
+    store!(alloc, host);
     for at in 0..RUNS.len() {
         let run = &RUNS[at];
         run_behind(rt, &host, run.needed, run.name)?;
