@@ -34,6 +34,7 @@ enum Sketch {
 
 // An expression, how many steps it spends before the first that is spent on `f`, and how many it spends on `f`, each call of which
 // is answered, but every second.
+#[derive(Clone, Copy)]
 struct Row(Sketch, u32, u32);
 
 const ROWS: [Row; 5] = [
