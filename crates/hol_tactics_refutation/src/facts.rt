@@ -232,7 +232,6 @@ fn sides(formula: &Term) -> Option<(&Term, &Term)> {
 }
 
 impl Alternatives {
-    /// The alternatives of a fact, of an equivalence its first pair or its second one.
     pub fn new(fact: Fact, is_first: bool) -> Alternatives {
         Alternatives { fact, is_first }
     }
