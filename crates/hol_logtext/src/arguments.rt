@@ -5,7 +5,7 @@ ghost use Rattle.std.specs.Option.{option_map, is_some};
 ghost use Rattle.hol_logtext.specs.LineReading as reading;
 ghost use Rattle.hol_logtext.specs.Lines.{fields_in, text_in, name_and_number_in, numbers_in, number_and_pairs_in};
 
-use crate::field::{read_name, read_number};
+use crate::field::{name_in, number_in};
 use std::alloc::{AllocError, Global};
 
 /// Whether a field is this word.
@@ -30,7 +30,7 @@ pub(crate) fn one_name<'a>(fields: &[&'a [u8]]) -> Option<&'a str>
     ensures { text_in result ≡ reading.one_name (fields_in fields.now) }
 {
     match fields {
-        [name] => read_name(*name),
+        [name] => name_in(*name),
         _ => None,
     }
 }
@@ -40,7 +40,7 @@ pub(crate) fn one_number(fields: &[&[u8]]) -> Option<u32>
     ensures { result ≡ reading.one_number (fields_in fields.now) }
 {
     match fields {
-        [number] => read_number(*number),
+        [number] => number_in(*number),
         _ => None,
     }
 }
@@ -49,7 +49,7 @@ pub(crate) fn one_number(fields: &[&[u8]]) -> Option<u32>
 fn both_numbers(first: &[u8], second: &[u8]) -> Option<(u32, u32)>
     ensures { result ≡ reading.both_numbers first.now second.now }
 {
-    match (read_number(first), read_number(second)) {
+    match (number_in(first), number_in(second)) {
         (Some(first), Some(second)) => Some((first, second)),
         _ => None,
     }
@@ -69,7 +69,7 @@ pub(crate) fn two_numbers(fields: &[&[u8]]) -> Option<(u32, u32)>
 pub(crate) fn both<'a>(name: &'a [u8], number: &[u8]) -> Option<(&'a str, u32)>
     ensures { name_and_number_in result ≡ reading.both_kinds name.now number.now }
 {
-    match (read_name(name), read_number(number)) {
+    match (name_in(name), number_in(number)) {
         (Some(name), Some(number)) => Some((name, number)),
         _ => None,
     }
@@ -92,7 +92,7 @@ pub(crate) fn numbers(alloc: Global, fields: &[&[u8]]) -> Result<Option<Vec<u32>
     let mut numbers = Vec::new(alloc);
     let mut at = 0;
     while at < fields.len() {
-        let Some(number) = read_number(fields[at]) else {
+        let Some(number) = number_in(fields[at]) else {
             return Ok(None);
         };
         numbers.push(number)?;
@@ -131,7 +131,7 @@ pub(crate) fn number_and_pairs(
     let Some((number, rest)) = fields.split_first() else {
         return Ok(None);
     };
-    let Some(number) = read_number(*number) else {
+    let Some(number) = number_in(*number) else {
         return Ok(None);
     };
     match pairs(alloc, rest) {

@@ -1,11 +1,13 @@
 // The fields of a line.
-ghost use Rattle.std.specs.Prelude.{◌≡◌, ◌+◌, ◌≤◌, ◌<◌, ◌++◌, ◌∷◌, false, length, IfOk, MatchOption};
+ghost use Rattle.std.specs.Prelude.{◌≡◌, ◌+◌, ◌≤◌, ◌<◌, ◌++◌, ◌∷◌, false, length, Some, None, IfOk, IfErr, MatchOption};
 ghost use Rattle.std.specs.List.{list_any};
 ghost use Rattle.std.specs.Option.{option_map};
+ghost use Rattle.hol_model.specs.declared.fault.Cause.TheVariants.{Shape};
 ghost use Rattle.hol_logtext.specs.Fields.{IsCut, has_space, split_fields, number_of, name_of};
 ghost use Rattle.hol_logtext.specs.Fields as fields;
 ghost use Rattle.hol_logtext.specs.Lines.{fields_in, text_in};
 
+use hol_model::Cause;
 use itoa::Buffer;
 use std::alloc::{AllocError, Global};
 
@@ -37,8 +39,8 @@ pub(crate) fn split_fields(alloc: Global, text: &[u8]) -> Result<Vec<&[u8]>, All
     Ok(fields)
 }
 
-/// The number that a field writes: digits without leading zeros, up to 4,294,967,295.
-pub fn read_number(field: &[u8]) -> Option<u32>
+/// The number that a field writes, where it writes one.
+pub(crate) fn number_in(field: &[u8]) -> Option<u32>
     ensures { result ≡ number_of field.now }
 {
     let Ok(text) = str::from_utf8(field) else {
@@ -77,8 +79,8 @@ fn is_log_name(field: &[u8]) -> bool
     }
 }
 
-/// The name that a field is: a run of bytes 33 to 126, at least one.
-pub fn read_name(field: &[u8]) -> Option<&str>
+/// The name that a field is, where it is one.
+pub(crate) fn name_in(field: &[u8]) -> Option<&str>
     ensures { text_in result ≡ name_of field.now }
 {
     if !is_log_name(field) {
@@ -88,4 +90,20 @@ pub fn read_name(field: &[u8]) -> Option<&str>
         Ok(text) => Some(text),
         Err(_) => None,
     }
+}
+
+/// The number that a field writes: digits without leading zeros, up to 4,294,967,295. Any other field is refused as Shape.
+pub fn read_number(field: &[u8]) -> Result<u32, Cause>
+    ensures ok { IfOk result (λ number. number_of field.now ≡ Some number) }
+    ensures err { IfErr result (λ cause. (cause ≡ Shape) × (number_of field.now ≡ None)) }
+{
+    number_in(field).ok_or(Cause::Shape)
+}
+
+/// The name that a field is: a run of bytes 33 to 126, at least one. Any other field is refused as Shape.
+pub fn read_name(field: &[u8]) -> Result<&str, Cause>
+    ensures ok { IfOk result (λ name. name_of field.now ≡ Some name.now) }
+    ensures err { IfErr result (λ cause. (cause ≡ Shape) × (name_of field.now ≡ None)) }
+{
+    name_in(field).ok_or(Cause::Shape)
 }

@@ -8,7 +8,7 @@ ghost use Rattle.hol_logtext.specs.Lines.{fields_in, line_in, IsLineRead, IsExac
 use crate::arguments::{
     both, is_word, name_and_number, no_field, numbers, one_name, one_number, two_numbers,
 };
-use crate::field::{read_number, split_fields};
+use crate::field::{number_in, split_fields};
 use crate::line::{Line, Version};
 use crate::rules::rule;
 use hol_model::Cause;
@@ -101,7 +101,7 @@ fn claim_of<'a>(
     let Some((name, theorem)) = both(name, theorem) else {
         return Ok(None);
     };
-    let Some(conclusion) = read_number(conclusion) else {
+    let Some(conclusion) = number_in(conclusion) else {
         return Ok(None);
     };
     match numbers(alloc, hypotheses) {

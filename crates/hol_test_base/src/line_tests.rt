@@ -190,19 +190,19 @@ fn lines_are_written(rt: HostRuntime) {
 
 // Whether a name is a run of bytes 33 to 126.
 fn names_are_runs_of_bytes() -> bool {
-    read_name(b"!~") == Some("!~")
-        && read_name(b"").is_none()
-        && read_name(b"a b").is_none()
-        && read_name(b"a\x7f").is_none()
-        && read_name(b"\xc3\xa9").is_none()
+    read_name(b"!~") == Ok("!~")
+        && read_name(b"") == Err(Cause::Shape)
+        && read_name(b"a b") == Err(Cause::Shape)
+        && read_name(b"a\x7f") == Err(Cause::Shape)
+        && read_name(b"\xc3\xa9") == Err(Cause::Shape)
 }
 
 fn numbers_have_32_bits() -> bool {
-    read_number(b"0") == Some(0)
-        && read_number(b"4294967295") == Some(4_294_967_295)
-        && read_number(b"4294967296").is_none()
-        && read_number(b"01").is_none()
-        && read_number(b"").is_none()
+    read_number(b"0") == Ok(0)
+        && read_number(b"4294967295") == Ok(4_294_967_295)
+        && read_number(b"4294967296") == Err(Cause::Shape)
+        && read_number(b"01") == Err(Cause::Shape)
+        && read_number(b"") == Err(Cause::Shape)
 }
 
 #[test]

@@ -2,7 +2,7 @@ use Rattle.std.proofs.Common.{◌≡◌, sym, ◌∙◌, ap, arith}
 use Rattle.std.specs.Prelude.{decimal}
 use Rattle.std.proofs.lemmas.Slice.Eq.{bytes_eq-Decides}
 use Rattle.hol_logtext.proofs.FieldLemmas.{decimal-utf8, parsed, number_of-none, number_of-written}
-use Rattle.hol_logtext.proofs.field.read_number.Goals as goal
+use Rattle.hol_logtext.proofs.field.number_in.Goals as goal
 
 pub returns-in_default : goal.returns-in_default
 returns-in_default c = number_of-none c.args.field.now (λ number small same. c.in_default.ensures.cases.0 (decimal-utf8 number c.args.field.now small same))
