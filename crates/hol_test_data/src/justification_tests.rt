@@ -156,9 +156,19 @@ fn tests_the_numbers_of_subgoals(alloc: Global) -> Result<bool, Fault> {
     )
 }
 
+// A copy of a step has its goals and the lines of its justification.
+fn copies_a_step(alloc: Global) -> Result<bool, Fault> {
+    let step = step_to(alloc, 2, conjunction(alloc, 1, 0)?)?;
+    let copy = step.copy(alloc)?;
+    let lines = [Wanted::Sub(1), Wanted::Sub(0), Wanted::Conj(0, 1)];
+    let is_x = |goal: &Goal| matches!(goal.concl.dest_var(), Some(("x", _ty)));
+    Ok(copy.goals.len() == 2 && copy.goals.iter().all(is_x) && has_lines(&copy.just, &lines))
+}
+
 #[test]
 fn justifications_are_made(rt: HostRuntime) {
     assert!(rt; makes_lines(rt.alloc()) == Ok(true));
+    assert!(rt; copies_a_step(rt.alloc()) == Ok(true));
     assert!(rt; reaches_the_greatest_depth(rt.alloc()) == Ok(true));
     assert!(rt; refuses_a_greater_depth(rt.alloc()) == Ok(true));
 }
