@@ -1,5 +1,5 @@
 -- Lemmas on runs of refiner expressions.
-use Rattle.std.proofs.Common.{◌≡◌, ℕ, zero, suc, ◌+◌, ◌<◌, List, [], ◌∷◌, ◌++◌, length, drop, get_or, Bool, true, false, Some, None, Result, Ok, Err, Contains, inl, inr, refl, sym}
+use Rattle.std.proofs.Common.{◌≡◌, ℕ, zero, suc, ◌+◌, ◌<◌, ◌≤◌, List, [], ◌∷◌, ◌++◌, length, drop, get_or, Bool, true, false, Some, None, Result, Ok, Err, Contains, inl, inr, refl, sym}
 use Rattle.std.proofs.Common.{ap, ◌∙◌, arith, append_assoc, append-nil, add-one, ◌==◌, eqb-true}
 use Rattle.std.specs.Prelude.{IfOk, IfErr}
 use Rattle.std.proofs.lemmas.List.{nil_from_length, length-map}
@@ -18,7 +18,7 @@ use Rattle.hol_model.specs.Refining.Combinators.{Tactic, Tactics, Link, Links, S
 use Rattle.hol_model.specs.Refining.Combinators.{paired, with_step, Runs, RunsOn, RunsEach, no_step_is_left, host_is_unknown, host_fails, host_refines, first_answers}
 use Rattle.hol_model.specs.Refining.Combinators.{first_is_not_caught, last_is_refused, first_is_caught, runs_as_defined, ends, lengths_differ, next_is_refused, splice_is_too_deep}
 use Rattle.hol_model.specs.Refining.Combinators.{next_goes_on, goes_on_without_memory, none_is_left, one_is_refused, one_is_done, each_finds_no_memory, finds_no_memory}
-use Rattle.hol_laws_refiners.proofs.Later.{later-same, later-step, runs-later, runs_each-later}
+use Rattle.hol_laws_refiners.proofs.Later.{later-same, runs-later, runs_each-later}
 use Rattle.hol_tactic_exprs.specs.Expressions.{tactic_of, tactics_of, link_of, links_of}
 use Rattle.hol_model.specs.Terms.NamedTerm.{NamedTerm}
 use Rattle.hol_tactic_exprs.specs.declared.tac.Tac.{Tac}
@@ -43,7 +43,9 @@ module _ (theory : Theory) (host : Host) where
   host-fails name goal spent there fails = rw spent (host_fails there fails)
 
   pub host-starved : {store : Store} {steps left : ℕ} (name : List ℕ) (goal : Goal) → steps ≡ suc left → Runs theory host (at store steps) (host_tac name) goal (Err Memory) (at store left)
-  host-starved {store} {left} name goal spent = rw spent (finds_no_memory (later-step theory store left))
+  host-starved {store} {left} name goal spent =
+      let falls : left ≤ suc left = omega arith in
+      rw spent (finds_no_memory (record { steps = falls; named = refl; added = []; lemmas = sym (append-nil store.lemmas); proved = λ theorem member. absurd member }))
 
   -- the test takes the step, or refuses it
   pub host-refines : {store : Store} {steps left : ℕ} (name : List ℕ) (goal : Goal) (answered : Step) → steps ≡ suc left → Contains host.refiners name → host.refines name goal (Some answered)

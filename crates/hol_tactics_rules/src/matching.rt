@@ -131,11 +131,7 @@ impl Opened {
     }
 
     // What is put for the variables that were taken off, where this makes the result the wanted formula.
-    fn matched(
-        &self,
-        alloc: Global,
-        wanted: &Term,
-    ) -> Result<Option<Vec<(Term, Term)>>, HostFail> {
+    fn matched(&self, alloc: Global, wanted: &Term) -> Result<Option<Vec<(Term, Term)>>, HostFail> {
         let found = match term_match(alloc, &self.fixed, &self.result, wanted) {
             Ok(found) => found,
             Err(Fault::Memory) => return Err(HostFail::Memory),

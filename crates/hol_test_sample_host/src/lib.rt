@@ -6,6 +6,6 @@
 mod host_functions;
 
 pub use host_functions::{
-    circular, deep, foreign, guess, mute, nameless, presuming, renamed, shapeless, shared,
-    starved, starved_conv, stranger, twin, twisted, vast, without_lemma, wrong,
+    circular, deep, foreign, guess, mute, nameless, presuming, renamed, shapeless, shared, starved,
+    starved_conv, stranger, twin, twisted, vast, without_lemma, wrong,
 };

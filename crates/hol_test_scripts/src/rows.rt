@@ -8,8 +8,8 @@ use hol_script::{Summary, run};
 use hol_terms::Term;
 use hol_test_sample_devices::{Compared, Rows};
 use hol_test_sample_host::{
-    circular, deep, foreign, guess, mute, nameless, presuming, renamed, shapeless, shared,
-    starved, starved_conv, stranger, twin, twisted, vast, without_lemma, wrong,
+    circular, deep, foreign, guess, mute, nameless, presuming, renamed, shapeless, shared, starved,
+    starved_conv, stranger, twin, twisted, vast, without_lemma, wrong,
 };
 use std::alloc::Global;
 
