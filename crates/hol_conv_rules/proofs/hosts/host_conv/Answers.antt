@@ -1,4 +1,4 @@
-use Rattle.std.proofs.Common.{refl, ◌≡◌, true, false, arith}
+use Rattle.std.proofs.Common.{refl, ◌≡◌, true, false, arith, rules}
 use Rattle.hol_model.specs.Refining.HostFunctions.{HostEquation}
 use Rattle.hol_model.specs.Refining.Conversions.{host_is_unknown, host_fails, host_converts, finds_no_memory}
 use Rattle.hol_just.specs.Steps.{tree_of}
@@ -8,7 +8,7 @@ pub returns-in-None-clause-converts : goal.returns-in-None-clause-converts
 returns-in-None-clause-converts g c depth left = host_is_unknown (λ listed. let no : false ≡ true = c.in-None.ensures.there.1 listed in cc)
 
 pub returns-in-Some-Err-Failed-clause-converts : goal.returns-in-Some-Err-Failed-clause-converts
-returns-in-Some-Err-Failed-clause-converts g c depth left = host_fails (c.in-Some-Err-Failed.ensures.there.0 refl) (rw c.in-Some-Err-Failed.field-0-is at c.in-Some-Err-Failed.ensures.answer)
+returns-in-Some-Err-Failed-clause-converts g c depth left = host_fails (c.in-Some-Err-Failed.ensures.there.0 refl) (search rules)
 
 pub returns-in-Some-Err-Memory-clause-converts : goal.returns-in-Some-Err-Memory-clause-converts
 returns-in-Some-Err-Memory-clause-converts g c depth left = finds_no_memory (omega arith)
