@@ -1,5 +1,5 @@
 -- Lemmas on runs of refiner expressions.
-use Rattle.std.proofs.Common.{◌≡◌, ℕ, zero, suc, ◌+◌, ◌<◌, List, [], ◌∷◌, ◌++◌, length, drop, get_or, Bool, true, false, Some, None, Result, Ok, Err, Contains, inl, inr, refl, sym}
+use Rattle.std.proofs.Common.{◌≡◌, ℕ, zero, suc, ◌+◌, ◌<◌, ◌≤◌, List, [], ◌∷◌, ◌++◌, length, drop, get_or, Bool, true, false, Some, None, Result, Ok, Err, Contains, inl, inr, refl, sym}
 use Rattle.std.proofs.Common.{ap, ◌∙◌, arith, append_assoc, append-nil, add-one, ◌==◌, eqb-true}
 use Rattle.std.specs.Prelude.{IfOk, IfErr}
 use Rattle.std.proofs.lemmas.List.{nil_from_length, length-map}
@@ -41,6 +41,11 @@ module _ (theory : Theory) (host : Host) where
   pub host-fails : {store : Store} {steps left : ℕ} (name : List ℕ) (goal : Goal) → steps ≡ suc left → Contains host.refiners name → host.refines name goal None
       → Runs theory host (at store steps) (host_tac name) goal (Err RefineFails) (at store left)
   host-fails name goal spent there fails = rw spent (host_fails there fails)
+
+  pub host-starved : {store : Store} {steps left : ℕ} (name : List ℕ) (goal : Goal) → steps ≡ suc left → Runs theory host (at store steps) (host_tac name) goal (Err Memory) (at store left)
+  host-starved {store} {left} name goal spent =
+      let falls : left ≤ suc left = omega arith in
+      rw spent (finds_no_memory (record { steps = falls; named = refl; added = []; lemmas = sym (append-nil store.lemmas); proved = λ theorem member. absurd member }))
 
   -- the test takes the step, or refuses it
   pub host-refines : {store : Store} {steps left : ℕ} (name : List ℕ) (goal : Goal) (answered : Step) → steps ≡ suc left → Contains host.refiners name → host.refines name goal (Some answered)

@@ -11,7 +11,7 @@ ghost use Rattle.hol_combine.specs.Repeating.{OnceRefines};
 use crate::frames::{Frame, begin, descend, pop, resume, take_goal};
 use crate::leaves::Leaves;
 use crate::splicing::{bounded, keep, spliced};
-use hol_host::Refiners;
+use hol_host::{HostFail, Refiners};
 use hol_just::{Goal, Step};
 use hol_model::Fault;
 use hol_tactic_exprs::{Fuel, Leaf, Link, Tac, is_caught};
@@ -39,8 +39,10 @@ fn run_host<H: Refiners, L: Leaves>(
     let Some(answer) = host.refine(alloc, name, goal) else {
         return Err(Fault::UnknownName);
     };
-    let Ok(step) = answer else {
-        return Err(Fault::RefineFails);
+    let step = match answer {
+        Ok(step) => step,
+        Err(HostFail::Failed) => return Err(Fault::RefineFails),
+        Err(HostFail::Memory) => return Err(Fault::Memory),
     };
     match leaves.accept(alloc, goal, &step) {
         Ok(()) => bounded(alloc, step),

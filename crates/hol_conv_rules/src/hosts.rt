@@ -91,7 +91,8 @@ pub fn host_conv<H: Converters>(
 {
     match hosts.convert(alloc, name, term) {
         None => Err(Fault::UnknownName),
-        Some(Err(HostFail)) => Err(Fault::ConvFails),
+        Some(Err(HostFail::Failed)) => Err(Fault::ConvFails),
+        Some(Err(HostFail::Memory)) => Err(Fault::Memory),
         Some(Ok((other, just))) => equation_of(library, alloc, term, &other, &just),
     }
 }

@@ -5,6 +5,7 @@ use Rattle.std.specs.Str.{bytes_eq}
 use Rattle.std.proofs.Common.{Bor}
 use Rattle.hol_model.specs.declared.fault.Fault.{Fault}
 use Rattle.hol_model.specs.declared.fault.Fault.TheVariants.{BadName, NameTaken, TooLong}
+use Rattle.hol_model.specs.declared.fault.Fault.TheVariants as faults
 use Rattle.hol_model.specs.declared.limits.TheConstants.{HOST_FUNCTIONS_LIMIT}
 use Rattle.hol_model.specs.Terms.Name.{is_identifier}
 use Rattle.hol_model.specs.Terms.NamedTerm.{NamedTerm}
@@ -16,16 +17,24 @@ use Rattle.hol_just.specs.declared.just.Just.{Just}
 use Rattle.hol_just.specs.declared.goal.Step as code_step
 use Rattle.hol_just.specs.Steps.{step_of, tree_of}
 use Rattle.hol_host.specs.declared.functions.HostFail.{HostFail}
+use Rattle.hol_host.specs.declared.functions.HostFail.TheVariants.{Failed, Memory}
 
--- ---- answers; none where the function fails
+-- ---- answers: what a function's result tells, none where it fails; nothing is told where it finds no memory
 
-abbrev pub step_answered : Result code_step.Step HostFail → Option Step
-step_answered (Ok step) = Some (step_of step)
-step_answered (Err fail) = None
+abbrev pub step_answered : Result code_step.Step HostFail → Option (Option Step)
+step_answered (Ok step) = Some (Some (step_of step))
+step_answered (Err Failed) = Some None
+step_answered (Err Memory) = None
 
-abbrev pub equation_answered : Result (NamedTerm × Just) HostFail → Option HostEquation
-equation_answered (Ok answer) = Some (record { term = answer.0; justification = tree_of answer.1 })
-equation_answered (Err fail) = None
+abbrev pub equation_answered : Result (NamedTerm × Just) HostFail → Option (Option HostEquation)
+equation_answered (Ok answer) = Some (Some (record { term = answer.0; justification = tree_of answer.1 }))
+equation_answered (Err Failed) = Some None
+equation_answered (Err Memory) = None
+
+-- what a refused call makes a function fail with
+abbrev pub fail_of : Fault → HostFail
+fail_of faults.Memory = Memory
+fail_of _ = Failed
 
 -- the refiners of a host: their names, and what the one of a name may answer for a goal
 pub record HostRefiners : Type 1 where
@@ -40,14 +49,14 @@ abbrev pub host_of : HostRefiners → HostConversions → Host
 host_of refiners conversions = record { refiners = refiners.names; refines = refiners.refines; conversions = conversions }
 
 -- a call that gives its results by `post` may answer so, where its argument and its result are read in this way
-pub record MayAnswer {Alloc Given Asked Gives Answer : Type 0} (post : Alloc → Bor Given → Gives → Type 0) (reads : Given → Asked) (means : Gives → Answer)
+pub record MayAnswer {Alloc Given Asked Gives Answer : Type 0} (post : Alloc → Bor Given → Gives → Type 0) (reads : Given → Asked) (tells : Gives → Option Answer)
     (asked : Asked) (answer : Answer) : Type 0 where
   pub alloc : Alloc
   pub given : Bor Given
   pub gives : Gives
   pub asks : reads given.now ≡ asked
   pub may : post alloc given gives
-  pub is : means gives ≡ answer
+  pub is : tells gives ≡ Some answer
 
 -- an entry of this name may answer so
 pub record IsAnswerOfOne {Entry : Type 0} (entries : List Entry) (name_of : Entry → List ℕ) (answers : Entry → Type 0) (name : List ℕ) : Type 0 where

@@ -9,25 +9,48 @@ use hol_model::Fault;
 use hol_terms::Term;
 use std::alloc::{AllocError, AllocFailed, Global};
 
-/// A host's function fails. Each fault inside of it is such a failure, so that it may pass them on by `?`.
+/// Why a host's function gives no answer. It is made of each fault of the library, so `?` passes want of memory on as such.
 #[derive(Clone, Copy, Debug, PartialEq, Eq)]
-pub struct HostFail;
+pub enum HostFail {
+    /// The function fails. ORELSE, TRY and REPEAT catch this.
+    Failed,
+    /// It finds no memory. The command is refused.
+    Memory,
+}
 
 impl From<Fault> for HostFail {
-    fn from(_fault: Fault) -> HostFail {
-        HostFail
+    ghost use Rattle.std.specs.Prelude.{◌≡◌};
+    ghost use Rattle.hol_host.specs.Host.{fail_of};
+
+    ghost from_gives = { λ fault fail. fail ≡ fail_of fault };
+
+    fn from(fault: Fault) -> HostFail {
+        match fault {
+            Fault::Memory => HostFail::Memory,
+            _ => HostFail::Failed,
+        }
     }
 }
 
 impl From<AllocError> for HostFail {
+    ghost use Rattle.std.specs.Prelude.{◌≡◌};
+    ghost use Rattle.hol_host.specs.declared.functions.HostFail.TheVariants.{Memory};
+
+    ghost from_gives = { λ error fail. fail ≡ Memory };
+
     fn from(_error: AllocError) -> HostFail {
-        HostFail
+        HostFail::Memory
     }
 }
 
 impl<T: Drop> From<AllocFailed<T>> for HostFail {
+    ghost use Rattle.std.specs.Prelude.{◌≡◌};
+    ghost use Rattle.hol_host.specs.declared.functions.HostFail.TheVariants.{Memory};
+
+    ghost from_gives = { λ error fail. fail ≡ Memory };
+
     fn from(_error: AllocFailed<T>) -> HostFail {
-        HostFail
+        HostFail::Memory
     }
 }
 
@@ -44,7 +67,7 @@ pub trait Converters {
         term: &Term,
     ) -> Option<Result<(Term, Just), HostFail>>
         ensures there { IsSome result ↔ Contains (conversions self.now).names name.now }
-        ensures answer { IfSome result (λ answer. (conversions self.now).converts name.now term.now (equation_answered answer)) };
+        ensures answer { IfSome result (λ answer. IfSome (equation_answered answer) ((conversions self.now).converts name.now term.now)) };
 }
 
 /// Refiners and conversions under names. They may answer anything, and equal calls may answer differently.
@@ -55,7 +78,7 @@ pub trait Refiners: Converters {
     /// What the refiner of this name answers for the goal, where there is one.
     fn refine(&self, alloc: Global, name: &str, goal: &Goal) -> Option<Result<Step, HostFail>>
         ensures there { IsSome result ↔ Contains (refiners self.now).names name.now }
-        ensures answer { IfSome result (λ answer. (refiners self.now).refines name.now (goal_of goal.now) (step_answered answer)) };
+        ensures answer { IfSome result (λ answer. IfSome (step_answered answer) ((refiners self.now).refines name.now (goal_of goal.now))) };
 }
 
 /// No functions.

@@ -10,7 +10,7 @@ use std::alloc::Global;
 /// `a = b` becomes `b = a`. Else it fails.
 pub fn swap(alloc: Global, term: &Term) -> Result<(Term, Just), HostFail> {
     let Some(sides) = dest_binary(term, "=") else {
-        return Err(HostFail);
+        return Err(HostFail::Failed);
     };
     let turned = mk_eq(alloc, sides.right, sides.left)?;
     let from_turned = turned_of(alloc, &turned)?;

@@ -17,7 +17,7 @@ pub fn peel(alloc: Global, goal: &Goal) -> Result<Step, HostFail> {
     if let Some(sides) = dest_binary(&goal.concl, "==>") {
         return Ok(discharged(alloc, goal, sides.left, sides.right)?);
     }
-    Err(HostFail)
+    Err(HostFail::Failed)
 }
 
 /// No subgoals, by CONTR of the goal over the assumption of `F`: no step of the goal, unless it assumes `F`.

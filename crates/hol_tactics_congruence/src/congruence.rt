@@ -131,7 +131,7 @@ impl<'a> Closure<'a> {
             return Ok(number);
         }
         if depth == 0 {
-            return Err(HostFail);
+            return Err(HostFail::Failed);
         }
         let Some((function, argument)) = term.dest_comb() else {
             return self.push(alloc, term, None);
@@ -150,7 +150,7 @@ impl<'a> Closure<'a> {
     ) -> Result<usize, HostFail> {
         let number = self.entries.len();
         if number >= TERMS {
-            return Err(HostFail);
+            return Err(HostFail::Failed);
         }
         let term = term.copy(alloc)?;
         self.entries.push(Entry {
@@ -262,7 +262,7 @@ impl<'a> Closure<'a> {
                 return Ok(step(alloc, Rule::Contr(goal.concl.copy(alloc)?), &[falsity])?);
             }
         }
-        Err(HostFail)
+        Err(HostFail::Failed)
     }
 
     // `s = t`, where it follows.
@@ -301,7 +301,7 @@ impl<'a> Closure<'a> {
             };
             at = edge.to;
         }
-        Err(HostFail)
+        Err(HostFail::Failed)
     }
 
     fn edge(&self, number: usize) -> Option<Edge> {
@@ -318,19 +318,19 @@ impl<'a> Closure<'a> {
         depth: u32,
     ) -> Result<Just, HostFail> {
         if depth == 0 {
-            return Err(HostFail);
+            return Err(HostFail::Failed);
         }
         let left = self.path(alloc, first)?;
         let right = self.path(alloc, second)?;
         let Some(meeting) = first_shared(&left, &right) else {
-            return Err(HostFail);
+            return Err(HostFail::Failed);
         };
         let forth = self.along(alloc, &left, meeting, depth - 1)?;
         let back = self.along(alloc, &right, meeting, depth - 1)?;
         let back = step(alloc, Rule::Sym, &[back])?;
         let just = step(alloc, Rule::Trans, &[forth, back])?;
         if just.steps() > LINES {
-            return Err(HostFail);
+            return Err(HostFail::Failed);
         }
         Ok(just)
     }
@@ -350,7 +350,7 @@ impl<'a> Closure<'a> {
                 break;
             }
             let Some(edge) = self.edge(*number) else {
-                return Err(HostFail);
+                return Err(HostFail::Failed);
             };
             let equal = self.by_reason(alloc, *number, edge, depth)?;
             just = step(alloc, Rule::Trans, &[just, equal])?;
@@ -361,11 +361,11 @@ impl<'a> Closure<'a> {
     // `s = s`, where `s` is the first term of a path.
     fn reflexivity(&self, alloc: Global, path: &[usize]) -> Result<Just, HostFail> {
         let Some(first) = path.first().copied() else {
-            return Err(HostFail);
+            return Err(HostFail::Failed);
         };
         match self.entries.get(first) {
             Some(entry) => Ok(refl(alloc, &entry.term)?),
-            None => Err(HostFail),
+            None => Err(HostFail::Failed),
         }
     }
 
@@ -382,7 +382,7 @@ impl<'a> Closure<'a> {
             Reason::Assumed(assumption, is_turned) => { self.assumed(alloc, assumption, is_turned) }
             Reason::Congruent => match (self.operands(number), self.operands(edge.to)) {
                 (Some(left), Some(right)) => { self.congruence(alloc, left, right, depth) }
-                _ => Err(HostFail),
+                _ => Err(HostFail::Failed),
             },
         }
     }
@@ -390,7 +390,7 @@ impl<'a> Closure<'a> {
     // An equation that is assumed, turned round or not.
     fn assumed(&self, alloc: Global, number: usize, is_turned: bool) -> Result<Just, HostFail> {
         let Some(equation) = self.assumptions.get(number) else {
-            return Err(HostFail);
+            return Err(HostFail::Failed);
         };
         let just = assume(alloc, equation)?;
         if is_turned {

@@ -108,7 +108,7 @@ impl<'a> Rebuilding<'a> {
                 },
             };
         }
-        Err(HostFail)
+        Err(HostFail::Failed)
     }
 
     // Begins with an instance of a clause: its formula is to be followed.
@@ -120,10 +120,10 @@ impl<'a> Rebuilding<'a> {
     ) -> Result<Turn, HostFail> {
         let problem = self.problem;
         let Some(clause) = problem.clause(of.clause) else {
-            return Err(HostFail);
+            return Err(HostFail::Failed);
         };
         let Some(given) = problem.givens.get(clause.given) else {
-            return Err(HostFail);
+            return Err(HostFail::Failed);
         };
         self.levels.push(Level { of, next: 0, used })?;
         let fact = Fact::assumed(alloc, &given.formula, true)?;
@@ -167,7 +167,7 @@ impl<'a> Rebuilding<'a> {
             Some(Route::Through(Part::Side(is_first), inner)) => {
                 self.alternatives(alloc, Alternatives::new(fact, is_first), inner)
             }
-            _ => Err(HostFail),
+            _ => Err(HostFail::Failed),
         }
     }
 
@@ -179,7 +179,7 @@ impl<'a> Rebuilding<'a> {
         route: usize,
     ) -> Result<Turn, HostFail> {
         let Some(Route::Both(left, right)) = self.problem.route(route) else {
-            return Err(HostFail);
+            return Err(HostFail::Failed);
         };
         let first = of.first(alloc)?;
         self.frames.push(Frame::First(of, right))?;
@@ -208,7 +208,7 @@ impl<'a> Rebuilding<'a> {
             return Ok(Turn::Refuted(fact.against_assumed(alloc)?));
         }
         let Some(next) = self.found.moves.get(self.next).copied() else {
-            return Err(HostFail);
+            return Err(HostFail::Failed);
         };
         self.next = self.next.saturating_add(1);
         match next {
@@ -227,7 +227,7 @@ impl<'a> Rebuilding<'a> {
     // Whether the next literal of the last level contradicts its subgoal. It is passed.
     fn is_used(&mut self) -> Result<bool, HostFail> {
         let Some(level) = self.levels.last_mut() else {
-            return Err(HostFail);
+            return Err(HostFail::Failed);
         };
         let place = level.next;
         level.next = place.saturating_add(1);
@@ -243,7 +243,7 @@ impl<'a> Rebuilding<'a> {
         route: usize,
     ) -> Result<Turn, HostFail> {
         let Some(instance) = self.last_instance() else {
-            return Err(HostFail);
+            return Err(HostFail::Failed);
         };
         match self.problem.route(route) {
             Some(Route::Through(Part::Instance(number), inner)) => {
@@ -254,7 +254,7 @@ impl<'a> Rebuilding<'a> {
                 let witness = self.values.witness(alloc, instance, symbol)?;
                 Ok(Turn::Follow(self.at_witness(alloc, fact, of, witness)?, inner))
             }
-            _ => Err(HostFail),
+            _ => Err(HostFail::Failed),
         }
     }
 
@@ -277,7 +277,7 @@ impl<'a> Rebuilding<'a> {
         let place = witnesses.suppose(alloc, witness, of, fact.positive)?;
         match witnesses.supposed(place) {
             Some(supposed) => Ok(fact.at_witness(alloc, supposed)?),
-            None => Err(HostFail),
+            None => Err(HostFail::Failed),
         }
     }
 }

@@ -46,7 +46,7 @@ impl<'a> Values<'a> {
     ) -> Result<Term, HostFail> {
         let problem = self.problem;
         let Some(variable) = problem.quantified.get(number) else {
-            return Err(HostFail);
+            return Err(HostFail::Failed);
         };
         match self.node_of(of, number) {
             Some(at) => self.term_of(alloc, at, DEPTH),
@@ -76,7 +76,7 @@ impl<'a> Values<'a> {
             },
         ) = problem.terms.symbol(symbol)
         else {
-            return Err(HostFail);
+            return Err(HostFail::Failed);
         };
         let mut values = Vec::new(alloc);
         for parameter in parameters {
@@ -88,7 +88,7 @@ impl<'a> Values<'a> {
     // The term that a node stands for. Where no value was set any serves.
     fn term_of(&mut self, alloc: Global, at: Instance, depth: u32) -> Result<Term, HostFail> {
         if depth == 0 {
-            return Err(HostFail);
+            return Err(HostFail::Failed);
         }
         let mut reversed = Vec::new(alloc);
         let head = self.spine(at, &mut reversed)?;
@@ -110,7 +110,7 @@ impl<'a> Values<'a> {
             arguments.push(head.part(argument))?;
             head = self.bindings.resolved(terms, head.part(function));
         }
-        Err(HostFail)
+        Err(HostFail::Failed)
     }
 
     fn head_applied(
@@ -123,7 +123,7 @@ impl<'a> Values<'a> {
         match problem.terms.node(head.node) {
             Node::Variable(_) => match problem.terms.ty(head.node) {
                 Some(ty) => self.any_applied(alloc, ty, arguments),
-                None => Err(HostFail),
+                None => Err(HostFail::Failed),
             },
             Node::Symbol(number) => match problem.terms.symbol(number) {
                 Some(Symbol::Known { term, parameters }) => {
@@ -138,9 +138,9 @@ impl<'a> Values<'a> {
                     let count = parameters.len();
                     self.witness_applied(alloc, number, variable, count, arguments)
                 }
-                None => Err(HostFail),
+                None => Err(HostFail::Failed),
             },
-            Node::Apply(_, _) => Err(HostFail),
+            Node::Apply(_, _) => Err(HostFail::Failed),
         }
     }
 
@@ -205,7 +205,7 @@ fn known_applied(
 // The body of an abstraction at a value.
 fn body_at(alloc: Global, abstraction: &Term, value: &Term) -> Result<Term, HostFail> {
     let Some((variable, body)) = abstraction.dest_abs() else {
-        return Err(HostFail);
+        return Err(HostFail::Failed);
     };
     let theta = [(value.copy(alloc)?, variable.copy(alloc)?)];
     Ok(vsubst(alloc, &theta, body)?)

@@ -119,7 +119,7 @@ impl Fact {
                 }
                 no_consequent(alloc, just, p, q)
             }
-            _ => Err(HostFail),
+            _ => Err(HostFail::Failed),
         }
     }
 }
@@ -239,7 +239,7 @@ impl Alternatives {
     /// The first alternative, assumed.
     pub fn first(&self, alloc: Global) -> Result<Fact, HostFail> {
         let Some((p, _)) = sides(&self.fact.formula) else {
-            return Err(HostFail);
+            return Err(HostFail::Failed);
         };
         let (is_left, _) = self.signs();
         Fact::assumed(alloc, p, is_left)
@@ -248,7 +248,7 @@ impl Alternatives {
     /// The second one.
     pub fn second(&self, alloc: Global) -> Result<Fact, HostFail> {
         let Some((_, q)) = sides(&self.fact.formula) else {
-            return Err(HostFail);
+            return Err(HostFail::Failed);
         };
         let (_, is_right) = self.signs();
         Fact::assumed(alloc, q, is_right)
@@ -294,7 +294,7 @@ impl Alternatives {
                 }
                 both_hold(alloc, just, p, left, q, right)
             }
-            _ => Err(HostFail),
+            _ => Err(HostFail::Failed),
         }
     }
 }

@@ -121,7 +121,7 @@ impl Witnesses {
     pub fn variable(&self, alloc: Global, number: usize) -> Result<Term, HostFail> {
         match self.all.get(number) {
             Some(witness) => Ok(witness.variable.copy(alloc)?),
-            None => Err(HostFail),
+            None => Err(HostFail::Failed),
         }
     }
 
@@ -162,7 +162,7 @@ impl Witnesses {
         }
         for _ in 0..self.supposed.len() {
             let Some(last) = self.last(&is_left) else {
-                return Err(HostFail);
+                return Err(HostFail::Failed);
             };
             just = self.without(alloc, last, just)?;
             if let Some(flag) = is_left.get_mut(last) {
@@ -195,7 +195,7 @@ impl Witnesses {
     // The justification without the supposition at this place.
     fn without(&self, alloc: Global, at: usize, just: Just) -> Result<Just, HostFail> {
         let Some(supposed) = self.supposed.get(at) else {
-            return Err(HostFail);
+            return Err(HostFail::Failed);
         };
         let some = supposed.witnessed(alloc)?;
         let variable = supposed.variable.copy(alloc)?;

@@ -18,7 +18,7 @@ pub fn beta(alloc: Global, term: &Term) -> Result<(Term, Just), HostFail> {
     let mut reducing = Redepth::by_beta(alloc);
     match reducing.convert(alloc, term)? {
         Some(Changed { term, just }) => Ok((term, just)),
-        None => Err(HostFail),
+        None => Err(HostFail::Failed),
     }
 }
 
@@ -26,7 +26,7 @@ pub fn beta(alloc: Global, term: &Term) -> Result<(Term, Just), HostFail> {
 /// Else it fails.
 pub fn unwind(alloc: Global, term: &Term) -> Result<(Term, Just), HostFail> {
     let Some(unwound) = dest_unwound(term) else {
-        return Err(HostFail);
+        return Err(HostFail::Failed);
     };
     let made = unwound.at(alloc, unwound.rest, unwound.value)?;
     let back = unwound.back(alloc, term, &made)?;

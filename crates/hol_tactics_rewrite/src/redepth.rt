@@ -63,7 +63,7 @@ impl Redepth {
         depth: u32,
     ) -> Result<Option<Changed>, HostFail> {
         if depth == 0 {
-            return Err(HostFail);
+            return Err(HostFail::Failed);
         }
         match self.parts_converted(alloc, term, depth - 1)? {
             Some(inner) => {
@@ -145,7 +145,7 @@ impl Redepth {
             return Ok(None);
         };
         if self.left == 0 {
-            return Err(HostFail);
+            return Err(HostFail::Failed);
         }
         self.left -= 1;
         Ok(Some(changed))

@@ -23,7 +23,7 @@ pub fn asm_rewrite(alloc: Global, goal: &Goal) -> Result<Step, HostFail> {
 /// ASM_REWRITE_TAC of what MP_TAC brought: on `p ==> g` the goal `g` rewritten by `p`, by the assumptions and as `asm_rewrite` does.
 pub fn rewrite(alloc: Global, goal: &Goal) -> Result<Step, HostFail> {
     let Some((brought, wanted)) = dest_imp(&goal.concl) else {
-        return Err(HostFail);
+        return Err(HostFail::Failed);
     };
     let mut rules = Rules::new(alloc, goal)?;
     rules.add(alloc, brought)?;
@@ -38,7 +38,7 @@ fn rewritten(alloc: Global, goal: &Goal, concl: &Term, rules: Rules) -> Result<S
     let (rewrites, fixed) = rules.into_parts();
     let mut rewriting = Redepth::by_rules(rewrites, fixed);
     let Some(changed) = rewriting.convert(alloc, concl)? else {
-        return Err(HostFail);
+        return Err(HostFail::Failed);
     };
     let Changed { term, just } = changed;
     if is_truth(&term) {

@@ -85,7 +85,7 @@ impl Rules {
             };
             self.add_fact(alloc, fact, &mut pending)?;
         }
-        Err(HostFail)
+        Err(HostFail::Failed)
     }
 
     // Adds the rule of a fact, or puts its parts at the end of what is pending, the first one last.
@@ -184,7 +184,7 @@ impl Rewrite {
         fixed: &[Term],
         term: &Term,
     ) -> Result<Option<Changed>, HostFail> {
-        let Some(terms) = self.matched(alloc, fixed, term) else {
+        let Some(terms) = self.matched(alloc, fixed, term)? else {
             return Ok(None);
         };
         let right = vsubst(alloc, &terms, &self.right)?;
@@ -196,12 +196,23 @@ impl Rewrite {
     }
 
     // What is put for variables, where this makes the left side the term.
-    fn matched(&self, alloc: Global, fixed: &[Term], term: &Term) -> Option<Vec<(Term, Term)>> {
-        let Ok(found) = term_match(alloc, fixed, &self.left, term) else {
-            return None;
+    fn matched(
+        &self,
+        alloc: Global,
+        fixed: &[Term],
+        term: &Term,
+    ) -> Result<Option<Vec<(Term, Term)>>, HostFail> {
+        let found = match term_match(alloc, fixed, &self.left, term) {
+            Ok(found) => found,
+            Err(Fault::Memory) => return Err(HostFail::Memory),
+            Err(_) => return Ok(None),
         };
         let Match { types, terms } = found;
-        if types.is_empty() { Some(terms) } else { None }
+        if types.is_empty() {
+            Ok(Some(terms))
+        } else {
+            Ok(None)
+        }
     }
 
     // INST of the equation.

@@ -13,10 +13,10 @@ use std::alloc::Global;
 /// SUBGOAL_THEN ASSUME_TAC: on `(p <=> p) ==> g` the subgoals `p`, and `g` with `p` assumed. Else it fails.
 pub fn cut(alloc: Global, goal: &Goal) -> Result<Step, HostFail> {
     let Some((carrier, wanted)) = dest_imp(&goal.concl) else {
-        return Err(HostFail);
+        return Err(HostFail::Failed);
     };
     let Some(p) = carried(carrier) else {
-        return Err(HostFail);
+        return Err(HostFail::Failed);
     };
     let mut goals = Vec::new(alloc);
     goals.push(goal.with_concl(alloc, p)?)?;
@@ -30,7 +30,7 @@ pub fn cut(alloc: Global, goal: &Goal) -> Result<Step, HostFail> {
 /// `p` and with `q`. Else it fails.
 pub fn cases(alloc: Global, goal: &Goal) -> Result<Step, HostFail> {
     let Some((carrier, wanted)) = dest_imp(&goal.concl) else {
-        return Err(HostFail);
+        return Err(HostFail::Failed);
     };
     if let Formula::Or(left, right) = dest_formula(carrier) {
         let goals = both_cases(alloc, goal, left, right, wanted)?;
@@ -38,7 +38,7 @@ pub fn cases(alloc: Global, goal: &Goal) -> Result<Step, HostFail> {
         return Ok(Step { goals, just });
     }
     let Some(p) = carried(carrier) else {
-        return Err(HostFail);
+        return Err(HostFail::Failed);
     };
     let goals = both_cases(alloc, goal, p, &mk_neg(alloc, p)?, wanted)?;
     let just = by_cases(alloc, excluded_middle(alloc, p)?, carrier)?;
@@ -97,10 +97,10 @@ pub fn undisch(alloc: Global, goal: &Goal) -> Result<Step, HostFail> {
 /// is no quantifier it fails.
 pub fn spec_all(alloc: Global, goal: &Goal) -> Result<Step, HostFail> {
     let Some((rule, wanted)) = dest_imp(&goal.concl) else {
-        return Err(HostFail);
+        return Err(HostFail::Failed);
     };
     let Formula::ForAll(_, _) = dest_formula(rule) else {
-        return Err(HostFail);
+        return Err(HostFail::Failed);
     };
     let mut body = rule;
     let mut spec = assume(alloc, rule)?;

@@ -22,7 +22,7 @@ const ANTECEDENTS: u32 = 100;
 /// one antecedent is taken off, and no more than it needs. Else it fails.
 pub fn back(alloc: Global, goal: &Goal) -> Result<Step, HostFail> {
     let Some((rule, wanted)) = dest_imp(&goal.concl) else {
-        return Err(HostFail);
+        return Err(HostFail::Failed);
     };
     let Step { goals, just } = match_mp_tac(alloc, goal, rule, wanted)?;
     let just = disch(alloc, rule, just)?;
@@ -33,21 +33,22 @@ pub fn back(alloc: Global, goal: &Goal) -> Result<Step, HostFail> {
 /// assumption stays. Where there is none, it fails.
 pub fn asm_back(alloc: Global, goal: &Goal) -> Result<Step, HostFail> {
     for rule in goal.asms.iter().rev() {
-        if let Ok(step) = match_mp_tac(alloc, goal, rule, &goal.concl) {
-            return Ok(step);
+        match match_mp_tac(alloc, goal, rule, &goal.concl) {
+            Err(HostFail::Failed) => {}
+            answer => return answer,
         }
     }
-    Err(HostFail)
+    Err(HostFail::Failed)
 }
 
 /// MATCH_ACCEPT_TAC: on `(!x.. p) ==> g`, where `g` is `p` at some terms for the variables, no subgoal. Else it fails.
 pub fn accept(alloc: Global, goal: &Goal) -> Result<Step, HostFail> {
     let Some((rule, wanted)) = dest_imp(&goal.concl) else {
-        return Err(HostFail);
+        return Err(HostFail::Failed);
     };
     let opened = Opened::new(alloc, goal, rule)?;
-    let Some(terms) = opened.matched(alloc, wanted) else {
-        return Err(HostFail);
+    let Some(terms) = opened.matched(alloc, wanted)? else {
+        return Err(HostFail::Failed);
     };
     let Applied { just, .. } = opened.applied(alloc, rule, &terms, false)?;
     Ok(to_none(alloc, disch(alloc, rule, just)?))
@@ -58,11 +59,11 @@ fn match_mp_tac(alloc: Global, goal: &Goal, rule: &Term, wanted: &Term) -> Resul
     let mut opened = Opened::new(alloc, goal, rule)?;
     for _ in 0..ANTECEDENTS {
         opened.take_antecedent(alloc)?;
-        if let Some(terms) = opened.matched(alloc, wanted) {
+        if let Some(terms) = opened.matched(alloc, wanted)? {
             return by_antecedents(alloc, goal, rule, &opened, &terms);
         }
     }
-    Err(HostFail)
+    Err(HostFail::Failed)
 }
 
 #[derive(Drop)]
@@ -122,7 +123,7 @@ impl Opened {
     fn take_antecedent(&mut self, alloc: Global) -> Result<(), HostFail> {
         let formula = self.result.copy(alloc)?;
         let Some((p, q)) = dest_imp(&formula) else {
-            return Err(HostFail);
+            return Err(HostFail::Failed);
         };
         self.taken.push(Taken::Antecedent(p.copy(alloc)?))?;
         self.result = q.copy(alloc)?;
@@ -130,12 +131,18 @@ impl Opened {
     }
 
     // What is put for the variables that were taken off, where this makes the result the wanted formula.
-    fn matched(&self, alloc: Global, wanted: &Term) -> Option<Vec<(Term, Term)>> {
-        let Ok(found) = term_match(alloc, &self.fixed, &self.result, wanted) else {
-            return None;
+    fn matched(&self, alloc: Global, wanted: &Term) -> Result<Option<Vec<(Term, Term)>>, HostFail> {
+        let found = match term_match(alloc, &self.fixed, &self.result, wanted) {
+            Ok(found) => found,
+            Err(Fault::Memory) => return Err(HostFail::Memory),
+            Err(_) => return Ok(None),
         };
         let Match { types, terms } = found;
-        if types.is_empty() { Some(terms) } else { None }
+        if types.is_empty() {
+            Ok(Some(terms))
+        } else {
+            Ok(None)
+        }
     }
 
     // The variables that were taken off, and for which nothing is put.
@@ -232,7 +239,7 @@ struct Reduced {
 fn from_all(alloc: Global, premises: &[Term], just: Just) -> Result<Reduced, HostFail> {
     let mut rest = premises.iter().rev();
     let Some(last) = rest.next() else {
-        return Err(HostFail);
+        return Err(HostFail::Failed);
     };
     let mut reduced = Reduced {
         formula: last.copy(alloc)?,

@@ -32,7 +32,7 @@ pub fn strip(alloc: Global, goal: &Goal) -> Result<Step, HostFail> {
             let just = refute(alloc, p, just)?;
             Ok(Step { goals, just })
         }
-        _ => Err(HostFail),
+        _ => Err(HostFail::Failed),
     }
 }
 
@@ -98,7 +98,7 @@ impl Stripping {
     #[cycle(assuming)]
     fn assume_next(&mut self, alloc: Global, open: Open, depth: u32) -> Result<Just, HostFail> {
         if depth == 0 {
-            return Err(HostFail);
+            return Err(HostFail::Failed);
         }
         let Open {
             mut goal,
@@ -128,7 +128,7 @@ impl Stripping {
     fn subgoal(&mut self, alloc: Global, goal: Goal) -> Result<Just, HostFail> {
         let number = self.goals.len();
         if number == GOALS {
-            return Err(HostFail);
+            return Err(HostFail::Failed);
         }
         self.goals.push(goal)?;
         Ok(sub(alloc, number)?)

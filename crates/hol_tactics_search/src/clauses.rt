@@ -48,7 +48,7 @@ impl Problem {
     // Adds the clause of a route, unless an atom is both affirmed and denied in it.
     fn add_clause(&mut self, alloc: Global, given: usize, route: usize) -> Result<(), HostFail> {
         if self.clauses.len() >= CLAUSES {
-            return Err(HostFail);
+            return Err(HostFail::Failed);
         }
         let leaves = self.leaves(alloc, route)?;
         if self.is_trivial(&leaves) {
@@ -120,7 +120,7 @@ impl Problem {
         depth: u32,
     ) -> Result<(), HostFail> {
         if depth == 0 {
-            return Err(HostFail);
+            return Err(HostFail::Failed);
         }
         match self.route(route) {
             Some(Route::Leaf(literal)) => Ok(leaves.push(literal)?),
@@ -129,7 +129,7 @@ impl Problem {
                 self.add_leaves(left, leaves, depth - 1)?;
                 self.add_leaves(right, leaves, depth - 1)
             }
-            None => Err(HostFail),
+            None => Err(HostFail::Failed),
         }
     }
 
@@ -149,7 +149,7 @@ impl Problem {
         depth: u32,
     ) -> Result<Vec<usize>, HostFail> {
         if depth == 0 {
-            return Err(HostFail);
+            return Err(HostFail::Failed);
         }
         let below = depth - 1;
         let Signed { formula, positive } = of;
@@ -214,7 +214,7 @@ impl Problem {
         depth: u32,
     ) -> Result<Vec<usize>, HostFail> {
         if depth == 0 {
-            return Err(HostFail);
+            return Err(HostFail::Failed);
         }
         let left = self.routes_of(alloc, p, scope, depth - 1)?;
         let right = self.routes_of(alloc, q, scope, depth - 1)?;
@@ -237,7 +237,7 @@ impl Problem {
         depth: u32,
     ) -> Result<Vec<usize>, HostFail> {
         if depth == 0 {
-            return Err(HostFail);
+            return Err(HostFail::Failed);
         }
         let below = depth - 1;
         let first = self.routes_of_two(
@@ -270,7 +270,7 @@ impl Problem {
         depth: u32,
     ) -> Result<Vec<usize>, HostFail> {
         if depth == 0 {
-            return Err(HostFail);
+            return Err(HostFail::Failed);
         }
         let number = self.quantified.len();
         self.quantified.push(variable.copy(alloc)?)?;
@@ -291,7 +291,7 @@ impl Problem {
         depth: u32,
     ) -> Result<Vec<usize>, HostFail> {
         if depth == 0 {
-            return Err(HostFail);
+            return Err(HostFail::Failed);
         }
         let (symbol, node) = self.witness(alloc, formula, variable, scope)?;
         let inner = self.routes_under(alloc, variable, node, body, scope, depth - 1)?;
@@ -310,7 +310,7 @@ impl Problem {
         depth: u32,
     ) -> Result<Vec<usize>, HostFail> {
         if depth == 0 {
-            return Err(HostFail);
+            return Err(HostFail::Failed);
         }
         scope.push(Scoped {
             variable: variable.copy(alloc)?,
@@ -355,7 +355,7 @@ impl Problem {
         let mut nodes = Vec::new(alloc);
         for number in numbers {
             let Some(variable) = self.quantified.get(*number) else {
-                return Err(HostFail);
+                return Err(HostFail::Failed);
             };
             nodes.push(self.terms.variable(alloc, *number, variable.ty())?)?;
         }
@@ -408,7 +408,7 @@ impl Problem {
         right: &[usize],
     ) -> Result<Vec<usize>, HostFail> {
         if left.len().saturating_mul(right.len()) > CLAUSES {
-            return Err(HostFail);
+            return Err(HostFail::Failed);
         }
         let mut routes = Vec::new(alloc);
         for first in left {

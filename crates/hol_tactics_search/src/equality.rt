@@ -115,7 +115,7 @@ impl Applied {
         let mut result = head.ty();
         for _ in 0..count {
             let Some((argument, rest)) = result.dest_fun() else {
-                return Err(HostFail);
+                return Err(HostFail::Failed);
             };
             arguments.push(argument.copy(alloc)?)?;
             result = rest;

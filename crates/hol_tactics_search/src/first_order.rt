@@ -259,7 +259,7 @@ impl Terms {
         depth: u32,
     ) -> Result<(), HostFail> {
         if depth == 0 {
-            return Err(HostFail);
+            return Err(HostFail::Failed);
         }
         match self.node(node) {
             Node::Variable(number) => {
@@ -285,12 +285,12 @@ impl Terms {
         depth: u32,
     ) -> Result<usize, HostFail> {
         if depth == 0 {
-            return Err(HostFail);
+            return Err(HostFail::Failed);
         }
         match self.node(node) {
             Node::Variable(number) => match place_of(order, number) {
                 Some(place) => self.push(Node::Variable(place), self.type_number(node)),
-                None => Err(HostFail),
+                None => Err(HostFail::Failed),
             },
             Node::Symbol(_) => Ok(node),
             Node::Apply(function, argument) => {

@@ -188,11 +188,11 @@ impl<'a> Search<'a> {
                     return Ok(start);
                 }
                 if self.is_spent() {
-                    return Err(HostFail);
+                    return Err(HostFail::Failed);
                 }
             }
         }
-        Err(HostFail)
+        Err(HostFail::Failed)
     }
 
     fn is_spent(&self) -> bool {
@@ -251,7 +251,7 @@ impl<'a> Search<'a> {
     fn instance(&mut self, clause: usize) -> Result<usize, HostFail> {
         match self.problem.clause(clause) {
             Some(clause) => self.bindings.instance(clause.variables.len()),
-            None => Err(HostFail),
+            None => Err(HostFail::Failed),
         }
     }
 
@@ -263,7 +263,7 @@ impl<'a> Search<'a> {
         used: Option<(usize, usize)>,
     ) -> Result<(), HostFail> {
         let Some(clause) = self.problem.clause(clause) else {
-            return Err(HostFail);
+            return Err(HostFail::Failed);
         };
         let under = self.moves.len().checked_sub(1);
         for (place, literal) in clause.literals.iter().enumerate() {
@@ -502,7 +502,7 @@ impl<'a> Search<'a> {
                 break;
             };
             let Some((number, by)) = self.met(place) else {
-                return Err(HostFail);
+                return Err(HostFail::Failed);
             };
             moves.push(by)?;
             if let Move::Extend(extension) = by {
@@ -522,7 +522,7 @@ impl<'a> Search<'a> {
         pending: &mut Vec<Place>,
     ) -> Result<(), HostFail> {
         let Some(clause) = self.problem.clause(clause) else {
-            return Err(HostFail);
+            return Err(HostFail::Failed);
         };
         for (literal, _) in clause.literals.iter().enumerate().rev() {
             if Some(literal) != used {

@@ -32,21 +32,15 @@ fn goal(alloc: Global, assumptions: usize) -> Result<Goal, Fault> {
 
 // A step without subgoals, by a lemma.
 fn step_by(alloc: Global, number: usize) -> Result<Step, HostFail> {
-    match lemma(alloc, number) {
-        Ok(just) => Ok(Step {
-            goals: Vec::new(alloc),
-            just,
-        }),
-        Err(_) => Err(HostFail),
-    }
+    Ok(Step {
+        goals: Vec::new(alloc),
+        just: lemma(alloc, number)?,
+    })
 }
 
 // A term, equal by a lemma.
 fn equal_by(alloc: Global, term: &Term, number: usize) -> Result<(Term, Just), HostFail> {
-    match (term.copy(alloc), lemma(alloc, number)) {
-        (Ok(term), Ok(just)) => Ok((term, just)),
-        _ => Err(HostFail),
-    }
+    Ok((term.copy(alloc)?, lemma(alloc, number)?))
 }
 
 // The lemma that a justification names.
@@ -64,11 +58,11 @@ fn last_answer(alloc: Global, names: &[(Kind, &str)]) -> Result<(), Fault> {
     for (kind, name) in names {
         answer = match kind {
             Kind::Refiner => {
-                let fails = Box::new(alloc, |_alloc: Global, _goal: &Goal| Err(HostFail))?;
+                let fails = Box::new(alloc, |_alloc: Global, _goal: &Goal| Err(HostFail::Failed))?;
                 host.refiner(alloc, name, fails)
             }
             Kind::Conversion => {
-                let fails = Box::new(alloc, |_alloc: Global, _term: &Term| Err(HostFail))?;
+                let fails = Box::new(alloc, |_alloc: Global, _term: &Term| Err(HostFail::Failed))?;
                 host.conv(alloc, name, fails)
             }
         };
@@ -133,20 +127,20 @@ fn answer_to_one_more(
 ) -> Result<(), Fault> {
     let mut host = Host::new(alloc);
     for number in 0..refiners {
-        let fails = Box::new(alloc, |_alloc: Global, _goal: &Goal| Err(HostFail))?;
+        let fails = Box::new(alloc, |_alloc: Global, _goal: &Goal| Err(HostFail::Failed))?;
         host.refiner(alloc, format!(in alloc; "f{number}")?.as_str(), fails)?;
     }
     for number in 0..conversions {
-        let fails = Box::new(alloc, |_alloc: Global, _term: &Term| Err(HostFail))?;
+        let fails = Box::new(alloc, |_alloc: Global, _term: &Term| Err(HostFail::Failed))?;
         host.conv(alloc, format!(in alloc; "f{number}")?.as_str(), fails)?;
     }
     match kind {
         Kind::Refiner => {
-            let fails = Box::new(alloc, |_alloc: Global, _goal: &Goal| Err(HostFail))?;
+            let fails = Box::new(alloc, |_alloc: Global, _goal: &Goal| Err(HostFail::Failed))?;
             host.refiner(alloc, name, fails)
         }
         Kind::Conversion => {
-            let fails = Box::new(alloc, |_alloc: Global, _term: &Term| Err(HostFail))?;
+            let fails = Box::new(alloc, |_alloc: Global, _term: &Term| Err(HostFail::Failed))?;
             host.conv(alloc, name, fails)
         }
     }
@@ -197,10 +191,10 @@ fn sixty_four_functions_stand_together(rt: HostRuntime) {
 fn answer_to_one_more_alone(alloc: Global, count: usize) -> Result<(), Fault> {
     let mut host = HostConvs::new(alloc);
     for number in 0..count {
-        let fails = Box::new(alloc, |_alloc: Global, _term: &Term| Err(HostFail))?;
+        let fails = Box::new(alloc, |_alloc: Global, _term: &Term| Err(HostFail::Failed))?;
         host.add(alloc, format!(in alloc; "f{number}")?.as_str(), fails)?;
     }
-    let fails = Box::new(alloc, |_alloc: Global, _term: &Term| Err(HostFail))?;
+    let fails = Box::new(alloc, |_alloc: Global, _term: &Term| Err(HostFail::Failed))?;
     host.add(alloc, "g", fails)
 }
 
@@ -299,21 +293,36 @@ fn is_given_the_goal(alloc: Global) -> Result<bool, Fault> {
     }
 }
 
-// Whether a refiner's failure is answered as such.
-fn fails_as_it_does(alloc: Global) -> Result<bool, Fault> {
+// Whether what a refiner fails with is answered as such.
+fn fails_as_it_does(alloc: Global, fail: HostFail) -> Result<bool, Fault> {
     let mut host = Host::new(alloc);
-    let fails = Box::new(alloc, |_alloc: Global, _goal: &Goal| Err(HostFail))?;
+    let fails = Box::new(alloc, move |_alloc: Global, _goal: &Goal| Err(fail))?;
     host.refiner(alloc, "f", fails)?;
-    Ok(matches!(
-        host.refine(alloc, "f", &goal(alloc, 0)?),
-        Some(Err(HostFail))
-    ))
+    match host.refine(alloc, "f", &goal(alloc, 0)?) {
+        Some(Err(told)) => Ok(told == fail),
+        _ => Ok(false),
+    }
 }
 
 #[test]
 fn a_refiner_is_given_the_goal_and_may_fail(rt: HostRuntime) {
-    assert_eq!(rt; is_given_the_goal(rt.alloc()), Ok(true));
-    assert_eq!(rt; fails_as_it_does(rt.alloc()), Ok(true));
+    let alloc = rt.alloc();
+    assert_eq!(rt; is_given_the_goal(alloc), Ok(true));
+    assert_eq!(rt; fails_as_it_does(alloc, HostFail::Failed), Ok(true));
+    assert_eq!(rt; fails_as_it_does(alloc, HostFail::Memory), Ok(true));
+}
+
+// What a refused call makes a function fail with that passes it on.
+fn passed_on(refused: Result<(), Fault>) -> Result<(), HostFail> {
+    refused?;
+    Ok(())
+}
+
+#[test]
+fn want_of_memory_is_passed_on_as_such(rt: HostRuntime) {
+    assert_eq!(rt; passed_on(Err(Fault::Memory)), Err(HostFail::Memory));
+    assert_eq!(rt; passed_on(Err(Fault::TooLarge)), Err(HostFail::Failed));
+    assert_eq!(rt; passed_on(Ok(())), Ok(()));
 }
 
 // Whether a host without functions has none of a name.

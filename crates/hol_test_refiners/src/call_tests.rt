@@ -74,7 +74,7 @@ fn counting_host(alloc: Global, calls: &Rc<Cell<u32>>) -> Result<Host, Fault> {
         if answers(&refiner_calls) {
             unchanged(alloc, goal)
         } else {
-            Err(HostFail)
+            Err(HostFail::Failed)
         }
     })?;
     host.refiner(alloc, "f", refiner)?;
@@ -83,7 +83,7 @@ fn counting_host(alloc: Global, calls: &Rc<Cell<u32>>) -> Result<Host, Fault> {
         if answers(&conversion_calls) {
             same(alloc, term)
         } else {
-            Err(HostFail)
+            Err(HostFail::Failed)
         }
     })?;
     host.conv(alloc, "f", conversion)?;

@@ -21,11 +21,11 @@ use std::alloc::Global;
 // On `p /\ p` the subgoal `p`, once for both sides.
 fn twin(alloc: Global, goal: &Goal) -> Result<Step, HostFail> {
     let Some((_, half)) = goal.concl.dest_comb() else {
-        return Err(HostFail);
+        return Err(HostFail::Failed);
     };
     match halved(alloc, half) {
         Ok(step) => Ok(step),
-        Err(_) => Err(HostFail),
+        Err(fault) => Err(HostFail::from(fault)),
     }
 }
 

@@ -8,11 +8,11 @@ use std::alloc::Global;
 /// On `p /\ p` without assumptions the subgoal `p`, once for both sides. Of other applications the step is wrong.
 pub fn twin(alloc: Global, goal: &Goal) -> Result<Step, HostFail> {
     let Some((_, half)) = goal.concl.dest_comb() else {
-        return Err(HostFail);
+        return Err(HostFail::Failed);
     };
     match halved(alloc, half) {
         Ok(step) => Ok(step),
-        Err(_) => Err(HostFail),
+        Err(fault) => Err(HostFail::from(fault)),
     }
 }
 
@@ -29,7 +29,12 @@ fn halved(alloc: Global, half: &Term) -> Result<Step, Fault> {
 
 /// No step of any goal.
 pub fn mute(_alloc: Global, _goal: &Goal) -> Result<Step, HostFail> {
-    Err(HostFail)
+    Err(HostFail::Failed)
+}
+
+/// No step of any goal, for want of memory.
+pub fn starved(_alloc: Global, _goal: &Goal) -> Result<Step, HostFail> {
+    Err(HostFail::Memory)
 }
 
 /// The step of the goal `T`, whatever the goal.
@@ -41,7 +46,7 @@ pub fn stranger(alloc: Global, _goal: &Goal) -> Result<Step, HostFail> {
 pub fn shapeless(alloc: Global, goal: &Goal) -> Result<Step, HostFail> {
     match to_a_predicate(alloc, &goal.concl) {
         Ok(step) => Ok(step),
-        Err(_) => Err(HostFail),
+        Err(fault) => Err(HostFail::from(fault)),
     }
 }
 
@@ -64,7 +69,7 @@ pub fn deep(alloc: Global, _goal: &Goal) -> Result<Step, HostFail> {
 pub fn presuming(alloc: Global, goal: &Goal) -> Result<Step, HostFail> {
     match from_p(alloc, &goal.concl) {
         Ok(step) => Ok(step),
-        Err(_) => Err(HostFail),
+        Err(fault) => Err(HostFail::from(fault)),
     }
 }
 
@@ -72,7 +77,7 @@ pub fn presuming(alloc: Global, goal: &Goal) -> Result<Step, HostFail> {
 pub fn foreign(alloc: Global, goal: &Goal) -> Result<Step, HostFail> {
     match beside_unknown(alloc, &goal.concl) {
         Ok(step) => Ok(step),
-        Err(_) => Err(HostFail),
+        Err(fault) => Err(HostFail::from(fault)),
     }
 }
 
@@ -98,7 +103,7 @@ fn proved(alloc: Global, made: Result<Just, Fault>) -> Result<Step, HostFail> {
             goals: Vec::new(alloc),
             just,
         }),
-        Err(_) => Err(HostFail),
+        Err(fault) => Err(HostFail::from(fault)),
     }
 }
 
@@ -184,10 +189,12 @@ fn around(alloc: Global, layer: &Just, just: Just) -> Result<Just, Fault> {
 
 /// The term itself, by a theorem that is no equation of the two.
 pub fn wrong(alloc: Global, term: &Term) -> Result<(Term, Just), HostFail> {
-    match (term.copy(alloc), named(alloc, "TRUTH")) {
-        (Ok(term), Ok(just)) => Ok((term, just)),
-        _ => Err(HostFail),
-    }
+    Ok((term.copy(alloc)?, named(alloc, "TRUTH")?))
+}
+
+/// No equation of any term, for want of memory.
+pub fn starved_conv(_alloc: Global, _term: &Term) -> Result<(Term, Just), HostFail> {
+    Err(HostFail::Memory)
 }
 
 /// `T`, by the theorem that the formula equals itself.
@@ -204,8 +211,8 @@ pub fn guess(alloc: Global, term: &Term) -> Result<(Term, Just), HostFail> {
 pub fn renamed(alloc: Global, term: &Term) -> Result<(Term, Just), HostFail> {
     match identity_renamed(alloc, term) {
         Ok(Some(equal)) => Ok(equal),
-        Ok(None) => Err(HostFail),
-        Err(_) => Err(HostFail),
+        Ok(None) => Err(HostFail::Failed),
+        Err(fault) => Err(HostFail::from(fault)),
     }
 }
 
@@ -235,7 +242,7 @@ fn is_named_x(variable: &Term) -> bool {
 fn converted(made: Result<(Term, Just), Fault>) -> Result<(Term, Just), HostFail> {
     match made {
         Ok(equal) => Ok(equal),
-        Err(_) => Err(HostFail),
+        Err(fault) => Err(HostFail::from(fault)),
     }
 }
 

@@ -1,4 +1,4 @@
-//! Functions of the host of tests: what no step is, what proves something else or too much, and what shares or nests as far as it may.
+//! Functions of the host of tests: what no step is, what finds no memory, what proves something else or too much, and what shares or nests as far as it may.
 //!
 //! Nothing is claimed of their answers: what refines a goal with them tests each answer before it is used.
 #![tactic(auto)]
@@ -6,6 +6,6 @@
 mod host_functions;
 
 pub use host_functions::{
-    circular, deep, foreign, guess, mute, nameless, presuming, renamed, shapeless, shared,
-    stranger, twin, twisted, vast, without_lemma, wrong,
+    circular, deep, foreign, guess, mute, nameless, presuming, renamed, shapeless, shared, starved,
+    starved_conv, stranger, twin, twisted, vast, without_lemma, wrong,
 };

@@ -80,3 +80,81 @@ b: |- (\x:A. x) = (\y:A. y)
 c: |- (f:(A->A)->bool) (\x:A. x) <=> (f:(A->A)->bool) (\x:A. x)
 d: |- (f:(A->A)->bool) (\x:A. x) <=> (f:(A->A)->bool) (\y:A. y)
 ";
+
+/// Functions that find no memory, and such that fail.
+pub const STARVED: &str = r"
+== a refiner that finds no memory is not caught, and the proof stays as it was
+goal `T /\ T` ;;
+e CONJ_TAC ;;
+e TRY (HOST starved) ;;
+e HOST starved ORELSE ALL_TAC ;;
+e REPEAT (HOST starved) ;;
+e ALL_TAC THEN TRY (HOST starved) ;;
+p ;;
+b ;;
+
+--
+1 subgoal
+?- T /\ T
+2 subgoals
+?- T
+?- T
+line 3: E1 Memory
+line 4: E1 Memory
+line 5: E1 Memory
+line 6: E1 Memory
+2 subgoals
+?- T
+?- T
+1 subgoal
+?- T /\ T
+
+== a refiner that fails is caught
+goal `T /\ T` ;;
+e TRY (HOST mute) ;;
+e HOST mute ORELSE CONJ_TAC ;;
+e REPEAT (HOST mute) ;;
+e HOST mute ;;
+
+--
+1 subgoal
+?- T /\ T
+1 subgoal
+?- T /\ T
+2 subgoals
+?- T
+?- T
+2 subgoals
+?- T
+?- T
+line 5: E18 RefineFails
+
+== a conversion that finds no memory is not caught, and one that fails is
+goal `T /\ T` ;;
+e CONV_TAC (TRY_CONV (HOST starved)) ;;
+e CONV_TAC (HOST starved ORELSEC ALL_CONV) ;;
+e CONV_TAC (REPEATC (HOST starved)) ;;
+e CONV_TAC (DEPTH_CONV (HOST starved)) ;;
+e TRY (CONV_TAC (HOST starved)) ;;
+e CONV_TAC (HOST swap ORELSEC ALL_CONV) ;;
+b ;;
+b ;;
+thm a = CONV (TRY_CONV (HOST starved)) `T` ;;
+thm a = CONV (TRY_CONV (HOST swap)) `T` ;;
+
+--
+1 subgoal
+?- T /\ T
+line 2: E1 Memory
+line 3: E1 Memory
+line 4: E1 Memory
+line 5: E1 Memory
+line 6: E1 Memory
+1 subgoal
+?- T /\ T
+1 subgoal
+?- T /\ T
+line 9: E24 NothingToUndo
+line 10: E1 Memory
+a: |- T <=> T
+";

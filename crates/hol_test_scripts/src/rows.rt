@@ -8,8 +8,8 @@ use hol_script::{Summary, run};
 use hol_terms::Term;
 use hol_test_sample_devices::{Compared, Rows};
 use hol_test_sample_host::{
-    circular, deep, foreign, guess, mute, nameless, presuming, renamed, shapeless, shared,
-    stranger, twin, twisted, vast, without_lemma, wrong,
+    circular, deep, foreign, guess, mute, nameless, presuming, renamed, shapeless, shared, starved,
+    starved_conv, stranger, twin, twisted, vast, without_lemma, wrong,
 };
 use std::alloc::Global;
 
@@ -56,6 +56,7 @@ fn host_of_tests(alloc: Global) -> Result<Host, Fault> {
     host.conv(alloc, "wrong", errs)?;
     misbehaving(alloc, &mut host)?;
     overreaching(alloc, &mut host)?;
+    starving(alloc, &mut host)?;
     Ok(host)
 }
 
@@ -96,6 +97,17 @@ fn overreaching(alloc: Global, host: &mut Host) -> Result<(), Fault> {
     host.refiner(alloc, "vast", to_the_limit)?;
     let renames = Box::new(alloc, |alloc: Global, term: &Term| renamed(alloc, term))?;
     host.conv(alloc, "renamed", renames)?;
+    Ok(())
+}
+
+// A refiner and a conversion that find no memory.
+fn starving(alloc: Global, host: &mut Host) -> Result<(), Fault> {
+    let starves = Box::new(alloc, |alloc: Global, goal: &Goal| starved(alloc, goal))?;
+    host.refiner(alloc, "starved", starves)?;
+    let starves = Box::new(alloc, |alloc: Global, term: &Term| {
+        starved_conv(alloc, term)
+    })?;
+    host.conv(alloc, "starved", starves)?;
     Ok(())
 }
 

@@ -14,23 +14,24 @@ pub(crate) fn back(alloc: Global, goal: &Goal) -> Result<Step, HostFail> {
     let count = goal.asms.len();
     for i in 0..count {
         if let Some(assumption) = goal.asms.get(count - 1 - i) {
-            if let Ok(found) = back_by(alloc, goal, assumption) {
-                return Ok(found);
+            match back_by(alloc, goal, assumption) {
+                Err(HostFail::Failed) => {}
+                answer => return answer,
             }
         }
     }
-    Err(HostFail)
+    Err(HostFail::Failed)
 }
 
 // The same from this assumption.
 fn back_by(alloc: Global, goal: &Goal, assumption: &Term) -> Result<Step, HostFail> {
     let Some(rule) = dest_implication(alloc, assumption)? else {
-        return Err(HostFail);
+        return Err(HostFail::Failed);
     };
     let fixed = frees(alloc, assumption)?;
     let found = term_match(alloc, &fixed, &rule.result, &goal.concl)?;
     if found.types.len() > 0 {
-        return Err(HostFail);
+        return Err(HostFail::Failed);
     }
     let mut just = step(alloc, Rule::Assume(assumption.copy(alloc)?), &[])?;
     for variable in &rule.bound {

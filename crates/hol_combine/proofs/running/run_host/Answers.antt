@@ -1,6 +1,6 @@
 use Rattle.std.proofs.Common.{rules}
 use Rattle.std.proofs.lemmas.List.{length-map}
-use Rattle.hol_combine.proofs.Runs.{host-starves, host-unknown, host-fails, host-bounded, host-rejected}
+use Rattle.hol_combine.proofs.Runs.{host-starves, host-unknown, host-fails, host-starved, host-bounded, host-rejected}
 use Rattle.hol_combine.proofs.Accepted.{accepted-below}
 use Rattle.hol_just.specs.Steps.{goal_of, step_of}
 use Rattle.hol_combine.proofs.running.run_host.Goals as goal
@@ -11,8 +11,11 @@ returns-then-not-spend-clause-outcome g c = host-starves _ _ c.args.name.now (go
 pub returns-in_default-clause-outcome : goal.returns-in_default-clause-outcome
 returns-in_default-clause-outcome g c = host-unknown _ _ c.args.name.now (goal_of c.args.goal.now) c.if-not-spend.ensures.spent (search rules)
 
-pub returns-in_default-answer-clause-outcome : goal.returns-in_default-answer-clause-outcome
-returns-in_default-answer-clause-outcome g c = host-fails _ _ c.args.name.now (goal_of c.args.goal.now) c.if-not-spend.ensures.spent (search rules) (search rules)
+pub returns-in-Err-Failed-clause-outcome : goal.returns-in-Err-Failed-clause-outcome
+returns-in-Err-Failed-clause-outcome g c = host-fails _ _ c.args.name.now (goal_of c.args.goal.now) c.if-not-spend.ensures.spent (search rules) (search rules)
+
+pub returns-in-Err-Memory-clause-outcome : goal.returns-in-Err-Memory-clause-outcome
+returns-in-Err-Memory-clause-outcome g c = host-starved _ _ c.args.name.now (goal_of c.args.goal.now) c.if-not-spend.ensures.spent
 
 pub bounded-requires : goal.bounded-requires
 bounded-requires g c = let below = accepted-below c.in-Ok-accept.ensures.outcome in rw (length-map c.in-Ok.step.goals.items goal_of) at below

@@ -1,14 +1,17 @@
-use Rattle.std.proofs.Common.{refl, ◌≡◌, true, false}
+use Rattle.std.proofs.Common.{refl, ◌≡◌, true, false, arith, rules}
 use Rattle.hol_model.specs.Refining.HostFunctions.{HostEquation}
-use Rattle.hol_model.specs.Refining.Conversions.{host_is_unknown, host_fails, host_converts}
+use Rattle.hol_model.specs.Refining.Conversions.{host_is_unknown, host_fails, host_converts, finds_no_memory}
 use Rattle.hol_just.specs.Steps.{tree_of}
 use Rattle.hol_conv_rules.proofs.hosts.host_conv.Goals as goal
 
 pub returns-in-None-clause-converts : goal.returns-in-None-clause-converts
 returns-in-None-clause-converts g c depth left = host_is_unknown (λ listed. let no : false ≡ true = c.in-None.ensures.there.1 listed in cc)
 
-pub returns-in-Some-Err-clause-converts : goal.returns-in-Some-Err-clause-converts
-returns-in-Some-Err-clause-converts g c depth left = host_fails (c.in-Some-Err.ensures.there.0 refl) (rw c.in-Some-Err.field-0-is at c.in-Some-Err.ensures.answer)
+pub returns-in-Some-Err-Failed-clause-converts : goal.returns-in-Some-Err-Failed-clause-converts
+returns-in-Some-Err-Failed-clause-converts g c depth left = host_fails (c.in-Some-Err-Failed.ensures.there.0 refl) (search rules)
+
+pub returns-in-Some-Err-Memory-clause-converts : goal.returns-in-Some-Err-Memory-clause-converts
+returns-in-Some-Err-Memory-clause-converts g c depth left = finds_no_memory (omega arith)
 
 pub returns-in-Some-Ok-clause-converts : goal.returns-in-Some-Ok-clause-converts
 returns-in-Some-Ok-clause-converts g c depth left =
