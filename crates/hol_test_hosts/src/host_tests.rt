@@ -1,5 +1,5 @@
 // Functions of a host. Which one answered is told by the lemma that its answer names.
-use hol_host::{Converters, Host, HostConvs, HostFail, NoHost, Refiners};
+use hol_host::{Beside, Converters, Host, HostConvs, HostFail, NoHost, Refiners};
 use hol_just::{Goal, Just, Line, Step, lemma};
 use hol_model::{Fault, HOST_FUNCTIONS_LIMIT};
 use hol_terms::Term;
@@ -254,6 +254,39 @@ fn the_conversion_of_the_name_is_called(rt: HostRuntime) {
     assert_eq!(rt; converted_under(alloc, "one"), Ok(Some(1)));
     assert_eq!(rt; converted_under(alloc, "two"), Ok(Some(2)));
     assert_eq!(rt; converted_under(alloc, "three"), Ok(None));
+}
+
+// A host with refiners of these names, which go by this lemma.
+fn host_by(alloc: Global, names: &[&str], number: usize) -> Result<Host, Fault> {
+    let mut host = Host::new(alloc);
+    for name in names {
+        let refiner = Box::new(
+            alloc,
+            move |alloc: Global, _goal: &Goal| step_by(alloc, number),
+        )?;
+        host.refiner(alloc, name, refiner)?;
+    }
+    Ok(host)
+}
+
+// What two hosts side by side answer under a name: the lemma, 1 from the first and 2 from the second.
+fn refined_beside(alloc: Global, name: &str) -> Result<Option<usize>, Fault> {
+    let first = host_by(alloc, &["one", "both"], 1)?;
+    let second = host_by(alloc, &["both", "two"], 2)?;
+    let host = Beside { first, second };
+    match host.refine(alloc, name, &goal(alloc, 0)?) {
+        Some(Ok(step)) => Ok(lemma_of(&step.just)),
+        _ => Ok(None),
+    }
+}
+
+#[test]
+fn of_two_hosts_the_first_that_has_the_name_answers(rt: HostRuntime) {
+    let alloc = rt.alloc();
+    assert_eq!(rt; refined_beside(alloc, "one"), Ok(Some(1)));
+    assert_eq!(rt; refined_beside(alloc, "both"), Ok(Some(1)));
+    assert_eq!(rt; refined_beside(alloc, "two"), Ok(Some(2)));
+    assert_eq!(rt; refined_beside(alloc, "three"), Ok(None));
 }
 
 // Whether a host with a refiner and a conversion of one name, that go by the lemmas 0 and 1, calls the one of the kind that is asked for.
