@@ -76,8 +76,9 @@ fn equation_of(
 }
 
 /// A host's conversion. The justification that it answers is replayed at once. Refused, in this order: no conversion has
-/// the name (`UnknownName`); it fails (`ConvFails`); the justification is not one of `|- t = t'` without hypotheses, for
-/// the term and what it answered (`InvalidStep`). `TooLarge` may come in their place only where the replay has no room.
+/// the name (`UnknownName`); it fails (`ConvFails`) or finds no memory (`Memory`); the justification is not one of
+/// `|- t = t'` without hypotheses, for the term and what it answered (`InvalidStep`). `TooLarge` may come in their place
+/// only where the replay has no room.
 pub fn host_conv<H: Converters>(
     library: &mut Library,
     alloc: Global,

@@ -1,5 +1,5 @@
 -- A host's functions in front of their callers: what may be answered, and what storing a name comes to.
-use Rattle.std.specs.Prelude.{ℕ, suc, ◌+◌, ◌<◌, ◌≡◌, List, [], ◌∷◌, ◌++◌, length, Bool, not, Contains, Option, Some, None, Result, Ok, Err, nat_le, slice_index_or}
+use Rattle.std.specs.Prelude.{ℕ, suc, ◌+◌, ◌<◌, ◌≡◌, List, [], ◌∷◌, ◌++◌, length, Bool, not, Contains, Option, Some, None, Result, Ok, Err, nat_le, slice_index_or, ◌⊎◌}
 use Rattle.std.specs.List.{list_any}
 use Rattle.std.specs.Str.{bytes_eq}
 use Rattle.std.proofs.Common.{Bor}
@@ -47,6 +47,22 @@ no_host_refiners = record { names = []; refines = λ name goal answer. ⊥ }
 -- the functions of a host
 abbrev pub host_of : HostRefiners → HostConversions → Host
 host_of refiners conversions = record { refiners = refiners.names; refines = refiners.refines; conversions = conversions }
+
+-- two hosts side by side: where the first has the name it may answer, and else the second
+abbrev pub FirstThatHas : List (List ℕ) → List ℕ → Type 0 → Type 0 → Type 0
+FirstThatHas names name First Second = (Contains names name × First) ⊎ ((¬ (Contains names name)) × Second)
+
+abbrev pub refiners_beside : HostRefiners → HostRefiners → HostRefiners
+refiners_beside first second = record {
+  names = first.names ++ second.names;
+  refines = λ name goal answer. FirstThatHas first.names name (first.refines name goal answer) (second.refines name goal answer);
+}
+
+abbrev pub conversions_beside : HostConversions → HostConversions → HostConversions
+conversions_beside first second = record {
+  names = first.names ++ second.names;
+  converts = λ name term answer. FirstThatHas first.names name (first.converts name term answer) (second.converts name term answer);
+}
 
 -- a call that gives its results by `post` may answer so, where its argument and its result are read in this way
 pub record MayAnswer {Alloc Given Asked Gives Answer : Type 0} (post : Alloc → Bor Given → Gives → Type 0) (reads : Given → Asked) (tells : Gives → Option Answer)

@@ -3,20 +3,16 @@
 //! stdout.
 #![tactic(auto)]
 
-use hol_host::Host;
 use hol_model::Fault;
 use hol_script_files::run_file;
-use hol_tactics::store;
+use hol_tactics::Tactics;
 use std::process::ExitCode;
 
 const SCRIPTS: [&str; 3] = ["refiners.hol", "conversions.hol", "pelletier.hol"];
 
 fn run_scripts(rt: &HostRuntime) -> Result<(), Fault> {
-    let alloc = rt.alloc();
-    let mut host = Host::new(alloc);
-    store!(alloc, host);
     for name in SCRIPTS {
-        run_file(rt, name, &host)?;
+        run_file(rt, name, &Tactics)?;
     }
     Ok(())
 }

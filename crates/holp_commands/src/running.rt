@@ -7,12 +7,12 @@ use crate::output::Output;
 use crate::scripts::{Scripts, open_scripts, read_scripts};
 use hol_device_adapters::{FromRead, IntoCall, IntoWrite};
 use hol_explain::{Script, explain, write_records};
-use hol_host::Host;
+use hol_host::{Beside, Host};
 use hol_host_samples::{liar, liar2, peel, swap};
 use hol_just::Goal;
 use hol_model::{Fault, Sink};
 use hol_script::run;
-use hol_tactics::{NAMES, store};
+use hol_tactics::{CONVERSIONS, REFINERS, Tactics};
 use hol_terms::Term;
 use holp_goals::View;
 use std::alloc::Global;
@@ -32,7 +32,7 @@ fn create(rt: &HostRuntime, name: &str) -> Result<File, Fault> {
 // them is written to standard error behind the run, and takes no part in how it ends.
 fn run_with<W: Sink, L: Sink>(
     rt: &HostRuntime,
-    host: &Host,
+    host: &Beside<Host, Tactics>,
     script: &Script<'_>,
     options: Options,
     writer: &mut W,
@@ -76,16 +76,19 @@ fn run_hosted<W: Sink, L: Sink>(
     requires log_unfailed { L.has_failed log.old ≡ false }
 {
     let alloc = rt.alloc();
-    let mut host = Host::new(alloc);
+    let mut samples = Host::new(alloc);
     let peels = Box::new(alloc, |alloc: Global, goal: &Goal| peel(alloc, goal))?;
-    host.refiner(alloc, "peel", peels)?;
+    samples.refiner(alloc, "peel", peels)?;
     let lies = Box::new(alloc, |alloc: Global, goal: &Goal| liar(alloc, goal))?;
-    host.refiner(alloc, "liar", lies)?;
+    samples.refiner(alloc, "liar", lies)?;
     let lies_twice = Box::new(alloc, |alloc: Global, goal: &Goal| liar2(alloc, goal))?;
-    host.refiner(alloc, "liar2", lies_twice)?;
+    samples.refiner(alloc, "liar2", lies_twice)?;
     let swaps = Box::new(alloc, |alloc: Global, term: &Term| swap(alloc, term))?;
-    host.conv(alloc, "swap", swaps)?;
-    store!(alloc, host);
+    samples.conv(alloc, "swap", swaps)?;
+    let host = Beside {
+        first: samples,
+        second: Tactics,
+    };
     run_with(rt, &host, script, options, writer, log, wants_log)
 }
 
@@ -95,7 +98,10 @@ fn host_names(alloc: Global) -> Result<Vec<String>, Fault> {
     for name in ["peel", "liar", "liar2", "swap"] {
         names.push(String::from_str(alloc, name)?)?;
     }
-    for name in NAMES {
+    for (name, _) in REFINERS {
+        names.push(String::from_str(alloc, name)?)?;
+    }
+    for (name, _) in CONVERSIONS {
         names.push(String::from_str(alloc, name)?)?;
     }
     Ok(names)

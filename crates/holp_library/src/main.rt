@@ -6,10 +6,9 @@
 use hol_check::check;
 use hol_device_adapters::{FromCall, FromRead, IntoCall};
 use hol_device_io::{read_all, write_all};
-use hol_host::Host;
 use hol_model::Fault;
 use hol_script::run;
-use hol_tactics::store;
+use hol_tactics::Tactics;
 use hol_test_sample_devices::Kept;
 use std::alloc::Global;
 use std::fs;
@@ -140,12 +139,19 @@ fn print(rt: &HostRuntime, bytes: &[u8]) -> Result<(), Fault> {
     write_all(&mut IntoCall::new(writes), bytes)
 }
 
-// Runs a text as a script over a host, with its log where one is wanted.
-fn run_text(alloc: Global, host: &Host, text: &[u8], wants_log: bool) -> Result<Written, Fault> {
+// Runs a text as a script over the host, with its log where one is wanted.
+fn run_text(alloc: Global, text: &[u8], wants_log: bool) -> Result<Written, Fault> {
     let mut writer = Kept::new(alloc);
     let mut log = Kept::new(alloc);
     let mut reader = FromRead::new(text);
-    let ended = run(alloc, &mut reader, &mut writer, &mut log, wants_log, host)?;
+    let ended = run(
+        alloc,
+        &mut reader,
+        &mut writer,
+        &mut log,
+        wants_log,
+        &Tactics,
+    )?;
     let _progress = ended.whole()?;
     Ok(Written {
         output: writer.bytes,
@@ -160,14 +166,9 @@ fn count_claims(alloc: Global, log: &[u8]) -> Result<usize, Fault> {
 }
 
 // Prints what a run writes behind what it wrote for the scripts before the last, and counts the claims of its log.
-fn print_run(
-    rt: &HostRuntime,
-    host: &Host,
-    text: &[u8],
-    written_before: usize,
-) -> Result<(), Fault> {
+fn print_run(rt: &HostRuntime, text: &[u8], written_before: usize) -> Result<(), Fault> {
     let alloc = rt.alloc();
-    let written = run_text(alloc, host, text, true)?;
+    let written = run_text(alloc, text, true)?;
     if let Some(own) = written.output.get(written_before..) {
         print(rt, own)?;
     }
@@ -177,26 +178,23 @@ fn print_run(
 }
 
 // Runs a script behind those that it needs.
-fn run_behind(rt: &HostRuntime, host: &Host, needed: &str, name: &str) -> Result<(), Fault> {
+fn run_behind(rt: &HostRuntime, needed: &str, name: &str) -> Result<(), Fault> {
     let alloc = rt.alloc();
     let mut text = Vec::new(alloc);
     for before in needed.split_whitespace() {
         append_file(rt, &mut text, before)?;
     }
-    let before = run_text(alloc, host, &text, false)?;
+    let before = run_text(alloc, &text, false)?;
     append_file(rt, &mut text, name)?;
     let title = format!(in alloc; "== {name}\n")?;
     print(rt, title.as_bytes())?;
-    print_run(rt, host, &text, before.output.len())
+    print_run(rt, &text, before.output.len())
 }
 
 fn run_all(rt: &HostRuntime) -> Result<(), Fault> {
-    let alloc = rt.alloc();
-    let mut host = Host::new(alloc);
-    store!(alloc, host);
     for at in 0..RUNS.len() {
         let run = &RUNS[at];
-        run_behind(rt, &host, run.needed, run.name)?;
+        run_behind(rt, run.needed, run.name)?;
     }
     Ok(())
 }
