@@ -9,7 +9,8 @@ use hol_match::{Match, term_match};
 use hol_model::Fault;
 use hol_subst::vsubst;
 use hol_tactics_forms::{
-    Formula, assume, copy_terms, dest_eq, dest_formula, falsity, goal_frees, open_binder,
+    Formula, assume, copy_terms, dest_eq, dest_formula, falsity, goal_frees, keeps_types,
+    open_binder,
 };
 use hol_terms::Term;
 use std::alloc::Global;
@@ -201,7 +202,11 @@ impl Rewrite {
             return None;
         };
         let Match { types, terms } = found;
-        if types.is_empty() { Some(terms) } else { None }
+        if keeps_types(&types) {
+            Some(terms)
+        } else {
+            None
+        }
     }
 
     // INST of the equation.
