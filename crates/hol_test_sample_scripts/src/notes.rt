@@ -13,9 +13,9 @@ s:3:16: note: this is a free variable, and not the constant `id`, which is writt
 
 == a rewriting that changes nothing
 thm nn = TAUT `~~(p:bool) <=> (p:bool)` ;;
-goal `T /\ T` ;;
+goal `(T \/ F) /\ (T \/ F)` ;;
 e REWRITE_TAC [nn] ;;
-e CONJ_TAC THEN REWRITE_TAC [nn] THEN ACCEPT_TAC TRUTH ;;
+e CONJ_TAC THEN REWRITE_TAC [nn] THEN TAUT_TAC ;;
 save both ;;
 goal `~~T` ;;
 e REWRITE_TAC [nn] THEN ACCEPT_TAC TRUTH THEN REWRITE_TAC [nn] ;;
