@@ -134,8 +134,6 @@ struct Search<'a> {
     bindings: Bindings,
     // The group that is met next.
     first: Option<usize>,
-    // Whether more inferences would have given further ways to meet a subgoal.
-    is_cut: bool,
 }
 
 /// A refutation of the clauses. What is compared is taken from the comparisons. It fails where none is found, or none is left.
@@ -178,15 +176,13 @@ impl<'a> Search<'a> {
             choices: Vec::new(alloc),
             bindings: Bindings::new(alloc),
             first: None,
-            is_cut: false,
         }
     }
 
-    // The first clause of a refutation that has as few inferences as can be. Where more inferences give no further way, there is none.
+    // The first clause of a refutation that has as few inferences as can be.
     fn deepened(&mut self) -> Result<usize, HostFail> {
         for below in 0..INFERENCES {
             self.size = below + 1;
-            self.is_cut = false;
             for start in 0..self.problem.clauses.len() {
                 if is_start(self.problem, start) && self.run(start)? {
                     return Ok(start);
@@ -194,9 +190,6 @@ impl<'a> Search<'a> {
                 if self.is_spent() {
                     return Err(HostFail);
                 }
-            }
-            if !self.is_cut {
-                break;
             }
         }
         Err(HostFail)
@@ -210,7 +203,6 @@ impl<'a> Search<'a> {
     fn run(&mut self, start: usize) -> Result<bool, HostFail> {
         self.begin(start)?;
         if self.subgoals.len() > self.size {
-            self.is_cut = true;
             return Ok(false);
         }
         let mut untried = Untried::All;
@@ -422,7 +414,6 @@ impl<'a> Search<'a> {
             let entry = entries[place];
             // The later ones bring no fewer new subgoals.
             if self.subgoals.len().saturating_add(entry.others) > open.limit {
-                self.is_cut = true;
                 return Ok(false);
             }
             if self.extend(open, entry, place)? {
