@@ -1,8 +1,10 @@
-//! Messages that explain the refusals of a script, and records of its commands, by a walk of their own over it: what is said is worked
-//! out in `hol_explain_hints`. They take no part in any promise: what a run prints, and how it ends, is told by `hol_script` alone.
+//! Messages that explain the refusals of a script, notes on what is accepted and suspicious, and records of its commands, by a walk
+//! of their own over it: what is said is worked out in `hol_explain_hints`. They take no part in any promise: what a run prints, and
+//! how it ends, is told by `hol_script` alone.
 #![tactic(auto)]
 
 mod message;
+mod notes;
 mod origins;
 mod records;
 mod search;

@@ -48,8 +48,8 @@ fn push_premises(
     Ok(())
 }
 
-// The arguments in a part of a command.
-fn arguments_in(
+/// The arguments in a part of a command.
+pub(crate) fn arguments_in(
     alloc: Global,
     known: &Known,
     manager: &Manager,

@@ -195,8 +195,8 @@ fn look_inside<H: Refiners>(
     }
 }
 
-// Takes back so many commands.
-fn take_back<H: Refiners>(trial: &Trial<'_, H>, manager: &mut Manager, steps: usize)
+/// Takes back so many commands.
+pub(crate) fn take_back<H: Refiners>(trial: &Trial<'_, H>, manager: &mut Manager, steps: usize)
     requires { IsManager manager.old }
     ensures { IsManager manager.new }
 {

@@ -1,14 +1,17 @@
-// A script is run once more, and each refusal is explained, or each command told.
+// A script is run once more, and each refusal is explained and what is suspicious noted, or each command told.
 ghost use Rattle.std.specs.Prelude.{◌≡◌, ◌∷◌, [], false, IfErr, Contains, OnOk};
 ghost use Rattle.hol_model.specs.declared.fault.Fault.TheVariants.{Memory, WriteFault};
 ghost use Rattle.hol_script.specs.Managers.{IsManager};
 
 use crate::message::message_of;
+use crate::notes::notes_on;
 use crate::origins::{Origin, located};
 use crate::records::{Told, accepted_line, refused_line};
 use crate::search::Trial;
 use hol_device_io::write_all;
-use hol_explain_hints::{Known, NoMemory, Piece, Place, between, told, unended, unfinished};
+use hol_explain_hints::{
+    Known, Message, NoMemory, Piece, Place, between, first_kept, noted, told, unended, unfinished,
+};
 use hol_host::Refiners;
 use hol_model::{Fault, Sink};
 use hol_script::execute::execute;
@@ -24,7 +27,8 @@ pub struct Script<'a> {
     pub host_names: &'a [String],
 }
 
-// A walk over a script, with the functions of a host: whether it tells each command by a record, or refused ones by a message.
+// A walk over a script, with the functions of a host: whether it tells each command by a record, or refused ones by a message and
+// suspicious ones by notes.
 #[derive(Drop)]
 struct Walk<'a, H> {
     alloc: Global,
@@ -83,20 +87,87 @@ fn explained<H: Refiners>(
     told(walk.alloc, file, &here, &refused.fault, &message)
 }
 
-// What is written of a command that is accepted, which is noted.
-fn noted<H: Refiners>(
+// The lines of notes on a command that begins at a place; nothing where there is none.
+fn note_lines<H: Refiners>(
     walk: &Walk<'_, H>,
+    piece: &Piece<'_>,
+    place: &Place,
+    notes: &[Message],
+) -> Result<Option<String>, NoMemory> {
+    if notes.is_empty() {
+        return Ok(None);
+    }
+    let mut lines = String::new(walk.alloc);
+    for at in 0..notes.len() {
+        let here = place.behind(between(piece.bytes, 0, notes[at].at));
+        let (file, here) = located(walk.script.origins, &here);
+        let line = noted(walk.alloc, file, &here, &notes[at])?;
+        lines.push_str(line.as_str())?;
+    }
+    Ok(Some(lines))
+}
+
+// What is written of a command that is accepted.
+fn accepted<H: Refiners>(
+    walk: &Walk<'_, H>,
+    known: &Known,
+    manager: &mut Manager,
+    piece: &Piece<'_>,
+    place: &Place,
+    printed: &Printed,
+) -> Result<Option<String>, NoMemory>
+    requires { IsManager manager.old }
+    ensures { OnOk result (IsManager manager.new) }
+{
+    if walk.makes_records {
+        let line = accepted_line(walk.alloc, &walk.told(piece, place, b";;"), printed)?;
+        return Ok(Some(line));
+    }
+    let trial = Trial {
+        alloc: walk.alloc,
+        host: walk.host,
+        piece,
+    };
+    let notes = notes_on(&trial, known, manager)?;
+    note_lines(walk, piece, place, &notes)
+}
+
+// What is known behind a command that is accepted, which stands behind a place.
+fn learn(
+    alloc: Global,
+    origins: &[Origin<'_>],
     known: &mut Known,
     piece: &Piece<'_>,
     place: &Place,
     printed: &Printed,
-) -> Result<Option<String>, NoMemory> {
-    known.learn(walk.alloc, piece)?;
-    if !walk.makes_records {
-        return Ok(None);
+) -> Result<(), NoMemory> {
+    if let Some(at) = first_kept(known, piece) {
+        known.forget_kept(piece.text(at));
     }
-    let line = accepted_line(walk.alloc, &walk.told(piece, place, b";;"), printed)?;
-    Ok(Some(line))
+    known.learn(alloc, piece)?;
+    if let Printed::Goals(goals) = printed {
+        let line = line_of(alloc, origins, piece, place)?;
+        known.learn_goals(alloc, piece, goals.as_str(), line.as_str())?;
+    }
+    Ok(())
+}
+
+// The line of a command that stands behind a place, and its file, where there are several.
+fn line_of(
+    alloc: Global,
+    origins: &[Origin<'_>],
+    piece: &Piece<'_>,
+    place: &Place,
+) -> Result<String, NoMemory> {
+    let begin = place.behind(between(piece.bytes, 0, piece.start(0)));
+    let (file, here) = located(origins, &begin);
+    let line = here.line;
+    let (lead, file, end) = if origins.len() > 1 {
+        (" of `", file, "`")
+    } else {
+        ("", "", "")
+    };
+    Ok(format!(in alloc; "line {line}{lead}{file}{end}")?)
 }
 
 // The names of a refused command that stands behind a place are told by its line.
@@ -107,16 +178,8 @@ fn miss(
     piece: &Piece<'_>,
     place: &Place,
 ) -> Result<(), NoMemory> {
-    let begin = place.behind(between(piece.bytes, 0, piece.start(0)));
-    let (file, here) = located(origins, &begin);
-    let line = here.line;
-    let (lead, file, end) = if origins.len() > 1 {
-        (" of `", file, "`")
-    } else {
-        ("", "", "")
-    };
-    let text = format!(in alloc; "line {line}{lead}{file}{end}")?;
-    known.miss(alloc, piece, text.as_str())
+    let line = line_of(alloc, origins, piece, place)?;
+    known.miss(alloc, piece, line.as_str())
 }
 
 // Runs a command, and answers what is written of it.
@@ -133,7 +196,15 @@ fn answer<H: Refiners>(
     let piece = Piece::new(walk.alloc, bytes)?;
     match execute(manager, walk.alloc, walk.host, bytes) {
         Ok(printed) => {
-            let text = noted(walk, known, &piece, place, &printed)?;
+            let text = accepted(walk, known, manager, &piece, place, &printed)?;
+            learn(
+                walk.alloc,
+                walk.script.origins,
+                known,
+                &piece,
+                place,
+                &printed,
+            )?;
             Ok(Written {
                 text,
                 is_refused: false,
@@ -306,7 +377,8 @@ fn walk_over<W: Sink, H: Refiners>(walk: &Walk<'_, H>, writer: &mut W) -> Result
 
 /// Runs the commands of a script once more, over a proof manager of its own, and writes a message for each that is refused:
 /// the file, and in it the line and the column of the part in question, the refusal, and what was expected and what stands there.
-/// What the messages say takes part in no promise. Refused: Memory, and WriteFault where the sink failed.
+/// Of one that is accepted and suspicious it writes a note: the place, and what it does that may not be meant.
+/// What the messages and notes say takes part in no promise. Refused: Memory, and WriteFault where the sink failed.
 pub fn explain<W: Sink, H: Refiners>(
     alloc: Global,
     script: &Script<'_>,

@@ -1,11 +1,12 @@
 // What is said of refused commands of goals.
 use crate::case::Case;
 use crate::conversions::push_conversion;
+use crate::endless::push_endless;
 use crate::said::Said::{Bare, Quoted, Text, Typed};
 use crate::shapes::wanted;
 use crate::span::{Span, next_outside};
 use crate::taken::{push_given, push_untaken};
-use hol_explain_words::{Known, Message, NoMemory, given, is_refiner, sentence};
+use hol_explain_words::{Known, Message, NoMemory, Piece, given, is_refiner, sentence};
 use hol_model::Fault;
 use hol_syntax::read_sequent;
 use hol_taut_formulas::atoms;
@@ -166,6 +167,9 @@ fn push_reason(
     if word == "CONV_TAC" {
         return push_conversion(case, inside, conclusion, message);
     }
+    if word == "REWRITE_TAC" {
+        return push_endless(case, message);
+    }
     match (case.fault, case.term_at(inside)) {
         (Fault::NotTautology { row, .. }, _) => push_row(case, conclusion, row, message),
         (_, Some(witness)) if word == "EXISTS_TAC" => {
@@ -176,10 +180,14 @@ fn push_reason(
     }
 }
 
+/// Whether a part has alternatives.
+pub(crate) fn has_alternatives(piece: &Piece<'_>, span: Span) -> bool {
+    next_outside(piece, span, ALTERNATIVES) < span.to
+}
+
 // Whether a part is a refiner without parts.
 fn is_leaf(case: &Case<'_>, span: Span) -> bool {
-    next_outside(case.piece, span, ALTERNATIVES) >= span.to
-        && is_refiner(case.piece.text(span.from))
+    !has_alternatives(case.piece, span) && is_refiner(case.piece.text(span.from))
 }
 
 // Puts how many subgoals there are at the end.

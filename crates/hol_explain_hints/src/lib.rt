@@ -1,14 +1,16 @@
-//! What is said of a refused command, from its words, terms, theorems and goals, and where in the script: `hol_explain` asks
-//! the proof manager for them. No promise stands on it.
+//! What is said of a command that is refused, or accepted and suspicious, from its words, terms, theorems and goals, and where in the
+//! script: `hol_explain` asks the proof manager for them. No promise stands on it.
 #![tactic(auto)]
 
 mod arguments;
 mod case;
 mod conversions;
+mod endless;
 mod expressions;
 mod goals;
 mod misfits;
 mod names;
+mod notes;
 mod parts;
 mod place;
 mod quoted;
@@ -28,7 +30,8 @@ pub use case::Case;
 pub use expressions::{command_of, first_member, has_misfit, next_joint, next_member, unwrapped};
 pub use goals::{Part, count_of_goals, first_goal, of_part};
 pub use hol_explain_words::{Known, Message, NoMemory, Piece, between, given, no_command};
+pub use notes::{Accepted, first_kept, has_pairs, next_rewriting, push_notes, unchanged};
 pub use place::Place;
 pub use refused::{of_case, plain};
-pub use report::{told, unended, unfinished};
+pub use report::{noted, told, unended, unfinished};
 pub use span::Span;

@@ -1,4 +1,4 @@
-// Lines that tell what is said of a refusal, and where.
+// Lines that tell what is said of a refusal, or noted, and where.
 use crate::place::Place;
 use hol_explain_words::{Message, NoMemory, Piece, between};
 use hol_model::Fault;
@@ -18,6 +18,14 @@ pub fn told(
     let name = fault.name();
     let said = message.text.as_str();
     Ok(format!(in alloc; "{file}:{line}:{column}: E{number} {name}: {said}\n")?)
+}
+
+/// The place in the script of an accepted command, and what is noted of it.
+pub fn noted(alloc: Global, file: &str, place: &Place, note: &Message) -> Result<String, NoMemory> {
+    let line = place.line;
+    let column = place.column;
+    let said = note.text.as_str();
+    Ok(format!(in alloc; "{file}:{line}:{column}: note: {said}\n")?)
 }
 
 // How far behind its begin the first word of a text stands.

@@ -18,6 +18,10 @@ pub struct Known {
     pub types: Vec<String>,
     pub lost_theorems: Vec<String>,
     pub lost_names: Vec<String>,
+    /// Names of stored theorems under which a refused command would have stored another one.
+    pub kept_theorems: Vec<String>,
+    /// Where the last goal was proved, as long as its theorem is not stored.
+    pub unsaved: Option<String>,
 }
 
 // The theorems that are stored when a script begins.
@@ -59,15 +63,14 @@ pub(crate) fn push_name(
     Ok(())
 }
 
-// Puts a name, in two parts, and a place behind it at the end.
+// Puts a name and a place behind it at the end.
 fn push_lost(
     alloc: Global,
     lost: &mut Vec<String>,
-    name: (&str, &str),
+    name: &str,
     place: &str,
 ) -> Result<(), NoMemory> {
-    let (first, second) = name;
-    lost.push(format!(in alloc; "{first}{second} {place}")?)?;
+    lost.push(format!(in alloc; "{name} {place}")?)?;
     Ok(())
 }
 
@@ -95,6 +98,8 @@ impl Known {
             types: Vec::new(alloc),
             lost_theorems: Vec::new(alloc),
             lost_names: Vec::new(alloc),
+            kept_theorems: Vec::new(alloc),
+            unsaved: None,
         };
         known.learn_first(alloc)?;
         Ok(known)
@@ -154,8 +159,11 @@ impl Known {
         push_name(alloc, &mut self.types, name)
     }
 
-    /// An accepted command makes its names known.
+    /// An accepted command makes its names known. A new goal, or a stored theorem, leaves no theorem to be stored.
     pub fn learn(&mut self, alloc: Global, piece: &Piece<'_>) -> Result<(), NoMemory> {
+        if matches!(piece.text(0), "goal" | "save") {
+            self.unsaved = None;
+        }
         let name = piece.text(1);
         let behind = between(piece.bytes, piece.start(3), piece.bytes.len());
         match piece.text(0) {
@@ -168,17 +176,51 @@ impl Known {
         }
     }
 
+    /// An accepted command, which stands at a place, leaves the open goals of a text.
+    pub fn learn_goals(
+        &mut self,
+        alloc: Global,
+        piece: &Piece<'_>,
+        goals: &str,
+        place: &str,
+    ) -> Result<(), NoMemory> {
+        if !goals.starts_with("No subgoals") {
+            self.unsaved = None;
+        } else if piece.text(0) == "e" {
+            self.unsaved = Some(String::from_str(alloc, place)?);
+        }
+        Ok(())
+    }
+
+    // A refused command would have stored a theorem of a name; there may be one already.
+    fn miss_theorem(&mut self, alloc: Global, name: &str, place: &str) -> Result<(), NoMemory> {
+        if is_among(&self.theorems, name) {
+            push_lost(alloc, &mut self.kept_theorems, name, place)?;
+        }
+        push_lost(alloc, &mut self.lost_theorems, name, place)
+    }
+
+    /// The place of the first refused command that would have stored another theorem under the name of a stored one.
+    pub fn place_kept(&self, name: &str) -> Option<&str> {
+        place_lost(&self.kept_theorems, name)
+    }
+
+    /// No more is said of the refused commands that would have stored another theorem under a name.
+    pub fn forget_kept(&mut self, name: &str) {
+        self.kept_theorems
+            .retain(|line| front(line.as_str()).0 != name);
+    }
+
     /// A refused command, which stands at a place, would have made its names known.
     pub fn miss(&mut self, alloc: Global, piece: &Piece<'_>, place: &str) -> Result<(), NoMemory> {
         let name = piece.text(1);
         match piece.text(0) {
-            "thm" | "save" => push_lost(alloc, &mut self.lost_theorems, (name, ""), place),
-            "var" | "newconst" | "newtype" => {
-                push_lost(alloc, &mut self.lost_names, (name, ""), place)
-            }
+            "thm" | "save" => self.miss_theorem(alloc, name, place),
+            "var" | "newconst" | "newtype" => push_lost(alloc, &mut self.lost_names, name, place),
             "def" => {
-                push_lost(alloc, &mut self.lost_names, (name, ""), place)?;
-                push_lost(alloc, &mut self.lost_theorems, (name, "_def"), place)
+                push_lost(alloc, &mut self.lost_names, name, place)?;
+                let theorem = format!(in alloc; "{name}_def")?;
+                self.miss_theorem(alloc, theorem.as_str(), place)
             }
             _ => Ok(()),
         }

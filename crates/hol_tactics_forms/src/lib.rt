@@ -6,6 +6,7 @@
 
 mod forms;
 mod goals;
+mod matches;
 mod proving;
 
 pub use forms::{
@@ -13,6 +14,8 @@ pub use forms::{
     mk_neg,
 };
 pub use goals::{copy_terms, fresh, goal_frees, open_binder, to_none, to_one};
+pub use matches::keeps_types;
 pub use proving::{
-    assume, ccontr, contradiction, disch, excluded_middle, exists, mp, prove_hyp, refl, refute,
+    assume, ccontr, contradiction, disch, excluded_middle, exists, from_conjunction, mp, prove_hyp,
+    refl, refute,
 };

@@ -30,6 +30,17 @@ pub fn prove_hyp(alloc: Global, proved: Just, just: Just) -> Result<Just, Fault>
     step(alloc, Rule::ProveHyp, &[proved, just])
 }
 
+/// What follows from both sides of a conjunction, from the conjunction.
+pub fn from_conjunction(alloc: Global, both: &Term, just: Just) -> Result<Just, Fault> {
+    let just = prove_hyp(alloc, conjunct(alloc, Rule::Conjunct2, both)?, just)?;
+    prove_hyp(alloc, conjunct(alloc, Rule::Conjunct1, both)?, just)
+}
+
+// A side of a conjunction that is assumed.
+fn conjunct(alloc: Global, rule: Rule, both: &Term) -> Result<Just, Fault> {
+    step(alloc, rule, &[assume(alloc, both)?])
+}
+
 /// EXISTS: this formula, `?x. p`, of `p` at the witness.
 pub fn exists(alloc: Global, formula: &Term, witness: &Term, just: Just) -> Result<Just, Fault> {
     let rule = Rule::Exists(formula.copy(alloc)?, witness.copy(alloc)?);

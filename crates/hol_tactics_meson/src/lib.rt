@@ -5,6 +5,7 @@
 
 mod meson_tac;
 mod rebuilding;
+mod reducing;
 mod splitting;
 mod values;
 

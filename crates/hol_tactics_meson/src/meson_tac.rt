@@ -1,6 +1,7 @@
 // MESON_TAC.
 
 use crate::rebuilding::rebuilt;
+use crate::reducing::reduce;
 use crate::splitting::split;
 use hol_host::HostFail;
 use hol_just::{Goal, Just, Step, named, splice};
@@ -11,11 +12,21 @@ use hol_types::Ty;
 use std::alloc::Global;
 
 /// ASM_MESON_TAC: no subgoal, where the goal follows from its assumptions by first-order reasoning with equality. Theorems are brought
-/// into the goal by MP_TAC. The goal is split into as many as 300. Of each the assumptions and the denied conclusion are made to clauses,
+/// into the goal by MP_TAC. Redexes are reduced, as many as 2,000 in a formula. The goal is split into as many as 300. Of each the assumptions and the denied conclusion are made to clauses,
 /// in which a witness stands for what there is, and refuted by model elimination: by a first clause without affirmed literals, and each
 /// subgoal by one above it or by a clause, with iterative deepening over 1 to 59 inferences, and 30,000,000 comparisons for all goals. Terms are
 /// first order: what is applied or abstracted is matched as it stands. Where nothing is found it fails.
 pub fn meson(alloc: Global, goal: &Goal) -> Result<Step, HostFail> {
+    let Step { goals, just } = reduce(alloc, goal)?;
+    let mut parts = Vec::new(alloc);
+    for goal in &goals {
+        parts.push(proved(alloc, goal)?)?;
+    }
+    Ok(to_none(alloc, splice(alloc, &just, &parts)?))
+}
+
+// The step of a goal without redexes to none.
+fn proved(alloc: Global, goal: &Goal) -> Result<Step, HostFail> {
     let Step { goals, just } = split(alloc, goal)?;
     let mut parts = Vec::new(alloc);
     let mut comparisons = COMPARISONS;

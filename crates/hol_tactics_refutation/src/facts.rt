@@ -232,6 +232,7 @@ fn sides(formula: &Term) -> Option<(&Term, &Term)> {
 }
 
 impl Alternatives {
+    /// The pair of alternatives of a fact, of an equivalence the first pair or the second.
     pub fn new(fact: Fact, is_first: bool) -> Alternatives {
         Alternatives { fact, is_first }
     }

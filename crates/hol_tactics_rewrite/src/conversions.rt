@@ -8,17 +8,39 @@ use hol_just::{Just, Rule, step};
 use hol_model::Fault;
 use hol_subst::vsubst;
 use hol_tactics_forms::{
-    Formula, assume, dest_eq, dest_formula, exists, mk_conj, open_binder, prove_hyp, refl,
+    Formula, assume, dest_eq, dest_formula, exists, from_conjunction, mk_conj, open_binder, refl,
 };
-use hol_terms::{Term, free_in, frees};
+use hol_terms::{Parts, Term, free_in, frees};
 use std::alloc::Global;
 
 /// REDEPTH_CONV BETA_CONV: the beta normal form. It fails where there is no redex, and where more than 2,000 are reduced.
 pub fn beta(alloc: Global, term: &Term) -> Result<(Term, Just), HostFail> {
+    match beta_normal(alloc, term)? {
+        Some(reduced) => Ok(reduced),
+        None => Err(HostFail::Failed),
+    }
+}
+
+/// The same; nothing where there is no redex.
+pub fn beta_normal(alloc: Global, term: &Term) -> Result<Option<(Term, Just)>, HostFail> {
+    if !has_redex(term) {
+        return Ok(None);
+    }
     let mut reducing = Redepth::by_beta(alloc);
     match reducing.convert(alloc, term)? {
-        Some(Changed { term, just }) => Ok((term, just)),
-        None => Err(HostFail::Failed),
+        Some(Changed { term, just }) => Ok(Some((term, just))),
+        None => Ok(None),
+    }
+}
+
+// Whether an abstraction is applied in the term.
+fn has_redex(term: &Term) -> bool {
+    match term.parts() {
+        Parts::Variable(_, _) | Parts::Constant(_, _) => false,
+        Parts::Combination(function, argument) => function.dest_abs().is_some()
+            || has_redex(function)
+            || has_redex(argument),
+        Parts::Abstraction(_, _, body) => has_redex(body),
     }
 }
 
@@ -155,17 +177,6 @@ impl Unwound<'_> {
         let chain = step(alloc, Rule::Trans, &[before, middle])?;
         step(alloc, Rule::Trans, &[chain, behind])
     }
-}
-
-// The same, from a conjunction in place of its sides.
-fn from_conjunction(alloc: Global, both: &Term, just: Just) -> Result<Just, Fault> {
-    let just = prove_hyp(alloc, conjunct(alloc, Rule::Conjunct1, both)?, just)?;
-    prove_hyp(alloc, conjunct(alloc, Rule::Conjunct2, both)?, just)
-}
-
-// A side of a conjunction that is assumed.
-fn conjunct(alloc: Global, rule: Rule, both: &Term) -> Result<Just, Fault> {
-    step(alloc, rule, &[assume(alloc, both)?])
 }
 
 // `v = t`, of an equation of `v` and `t`.

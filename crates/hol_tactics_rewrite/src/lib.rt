@@ -11,5 +11,5 @@ mod redepth;
 mod rewriting;
 mod rules;
 
-pub use conversions::{beta, unwind};
+pub use conversions::{beta, beta_normal, unwind};
 pub use rewriting::{asm_rewrite, rewrite};

@@ -9,7 +9,8 @@ use hol_match::{Match, term_match};
 use hol_model::Fault;
 use hol_subst::vsubst;
 use hol_tactics_forms::{
-    Formula, assume, copy_terms, dest_eq, dest_formula, falsity, goal_frees, open_binder,
+    Formula, assume, copy_terms, dest_eq, dest_formula, falsity, goal_frees, keeps_types,
+    open_binder,
 };
 use hol_terms::Term;
 use std::alloc::Global;
@@ -208,7 +209,7 @@ impl Rewrite {
             Err(_) => return Ok(None),
         };
         let Match { types, terms } = found;
-        if types.is_empty() {
+        if keeps_types(&types) {
             Ok(Some(terms))
         } else {
             Ok(None)

@@ -1,6 +1,5 @@
 // MATCH_MP_TAC and MATCH_ACCEPT_TAC of the theorem that MP_TAC brought, and of assumptions.
 
-use crate::stripping::from_conjunction;
 use hol_alpha::aconv;
 use hol_host::HostFail;
 use hol_just::{Goal, Just, Rule, Step, step, sub};
@@ -8,8 +7,8 @@ use hol_match::{Match, term_match};
 use hol_model::Fault;
 use hol_subst::vsubst;
 use hol_tactics_forms::{
-    Formula, assume, copy_terms, dest_formula, dest_imp, disch, goal_frees, mk_conj, mk_exists, mp,
-    open_binder, prove_hyp, to_none, to_one,
+    Formula, assume, copy_terms, dest_formula, dest_imp, disch, from_conjunction, goal_frees,
+    keeps_types, mk_conj, mk_exists, mp, open_binder, prove_hyp, to_none, to_one,
 };
 use hol_terms::Term;
 use std::alloc::Global;
@@ -138,7 +137,7 @@ impl Opened {
             Err(_) => return Ok(None),
         };
         let Match { types, terms } = found;
-        if types.is_empty() {
+        if keeps_types(&types) {
             Ok(Some(terms))
         } else {
             Ok(None)

@@ -2,10 +2,9 @@
 
 use hol_host::HostFail;
 use hol_just::{Goal, Just, Rule, Step, step, sub};
-use hol_model::Fault;
 use hol_tactics_forms::{
-    Formula, assume, copy_terms, dest_formula, disch, falsity, goal_frees, open_binder, prove_hyp,
-    refute, to_one,
+    Formula, assume, copy_terms, dest_formula, disch, falsity, from_conjunction, goal_frees,
+    open_binder, refute, to_one,
 };
 use hol_terms::Term;
 use std::alloc::Global;
@@ -186,15 +185,4 @@ impl Stripping {
         let just = self.assume_next(alloc, open, depth)?;
         Ok(step(alloc, Rule::Choose(fresh), &[assume(alloc, p)?, just])?)
     }
-}
-
-/// The same, from a conjunction in place of its sides.
-pub(crate) fn from_conjunction(alloc: Global, both: &Term, just: Just) -> Result<Just, Fault> {
-    let just = prove_hyp(alloc, conjunct(alloc, Rule::Conjunct2, both)?, just)?;
-    prove_hyp(alloc, conjunct(alloc, Rule::Conjunct1, both)?, just)
-}
-
-// A side of a conjunction that is assumed.
-fn conjunct(alloc: Global, rule: Rule, both: &Term) -> Result<Just, Fault> {
-    step(alloc, rule, &[assume(alloc, both)?])
 }

@@ -2,7 +2,7 @@
 use crate::rows::{first_wrong, says_of};
 use hol_model::Fault;
 use hol_test_sample_devices::Row;
-use hol_test_sample_scripts::refiner_messages::{PARTS, REFINERS, TAKEN};
+use hol_test_sample_scripts::refiner_messages::{ENDLESS, PARTS, REFINERS, TAKEN};
 
 const RULE_WITHOUT_MEMORY: Row<'static> = Row {
     title: "a rule",
@@ -29,6 +29,11 @@ fn refiners_are_explained(rt: HostRuntime) {
 #[test]
 fn theorems_not_taken_are_told(rt: HostRuntime) {
     assert!(rt; first_wrong(rt.alloc(), TAKEN) == Ok(2));
+}
+
+#[test]
+fn endless_rules_are_told(rt: HostRuntime) {
+    assert!(rt; first_wrong(rt.alloc(), ENDLESS) == Ok(2));
 }
 
 #[test]

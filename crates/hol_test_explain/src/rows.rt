@@ -4,7 +4,7 @@ use hol_host::{Host, NoHost};
 use hol_host_samples::liar;
 use hol_just::Goal;
 use hol_model::Fault;
-use hol_test_sample_devices::{Compared, Row, Rows};
+use hol_test_sample_devices::{Compared, Kept, Row, Rows};
 use std::alloc::Global;
 
 // The file of a row's script.
@@ -64,4 +64,37 @@ pub(crate) fn says_of(alloc: Global, row: &Row<'_>, fault: Fault) -> Result<bool
     };
     let text = explain_refusal(alloc, &script, &NoHost, &Refused::plain(fault))?;
     Ok(text.as_str() == row.expected)
+}
+
+// How many notes there are on a script.
+fn notes_on(alloc: Global, script: &str) -> Result<usize, Fault> {
+    let host_names = Vec::new(alloc);
+    let script = Script {
+        origins: &ORIGINS,
+        text: script.as_bytes(),
+        host_names: &host_names,
+    };
+    let mut writer = Kept::new(alloc);
+    explain(alloc, &script, &NoHost, &mut writer)?;
+    let Ok(told) = str::from_utf8(&writer.bytes) else {
+        return Err(Fault::Syntax);
+    };
+    Ok(
+        told.lines()
+            .filter(|line| line.contains(": note: "))
+            .count(),
+    )
+}
+
+/// How many notes there are on the scripts of a text's rows.
+pub(crate) fn notes_in(alloc: Global, text: &str) -> Result<usize, Fault> {
+    let mut rows = Rows::new(text);
+    let mut notes = 0usize;
+    for _ in 0..text.len() {
+        let Some(row) = rows.next() else {
+            return Ok(notes);
+        };
+        notes = notes.saturating_add(notes_on(alloc, row.script)?);
+    }
+    Ok(notes)
 }

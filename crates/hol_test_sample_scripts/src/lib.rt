@@ -7,6 +7,7 @@ pub mod goals;
 pub mod hosts;
 pub mod kernel;
 pub mod messages;
+pub mod notes;
 pub mod refiner_messages;
 pub mod refiners;
 pub mod refusals;

@@ -105,3 +105,21 @@ e DISCH_TAC THEN REWRITE_TAC [AND_DEF; h; g] ;;
 --
 s:4:18: E18 RefineFails: the refiner does not apply to the goal: `REWRITE_TAC` wants theorems whose hypotheses are assumptions of the goal; the hypothesis `(r:bool)` of `h` is not assumed; the first goal there is `(p:bool) <=> T ?- (p:bool)`
 ";
+
+/// Rewritings without an end, by a rule of a list.
+pub const ENDLESS: &str = r"
+== that goes round
+thm nn = TAUT `~~(p:bool) <=> (p:bool)` ;;
+thm swap = TAUT `(p:bool) /\ (q:bool) <=> (q:bool) /\ (p:bool)` ;;
+goal `T ==> T /\ F` ;;
+e DISCH_TAC THEN REWRITE_TAC [nn; swap] ;;
+--
+s:4:18: E20 StepLimit: the command would take more than 100,000 steps: a repetition or a rewriting may have no end; `swap` applies to what it makes, as its left side matches a part of its right side: `CONV_TAC (ONCE_DEPTH_CONV (REWR_CONV swap))` uses it once; the first goal there is `T ?- T /\ F`
+
+== that grows
+thm grow = TAUT `(p:bool) <=> (p:bool) /\ T` ;;
+goal `F` ;;
+e REWRITE_TAC [grow] ;;
+--
+s:3:3: E2 TooLarge: a term, a type or a justification would pass the limits on its size (a rewriting that makes terms grow has no end); `grow` applies to what it makes, as its left side matches a part of its right side: `CONV_TAC (ONCE_DEPTH_CONV (REWR_CONV grow))` uses it once; the first goal there is `?- F`
+";

@@ -29,7 +29,7 @@ fn create(rt: &HostRuntime, name: &str) -> Result<File, Fault> {
 }
 
 // Runs a script over a host, and answers how many of its commands were refused. Where these are to be explained, what is said of
-// them is written to standard error behind the run, and takes no part in how it ends.
+// them, and noted of others, is written to standard error behind the run, and takes no part in how it ends.
 fn run_with<W: Sink, L: Sink>(
     rt: &HostRuntime,
     host: &Beside<Host, Tactics>,
@@ -49,7 +49,7 @@ fn run_with<W: Sink, L: Sink>(
     let mut reader = FromRead::new(script.text);
     let ended = run(alloc, &mut reader, writer, log, wants_log, host)?.whole()?;
     let refused = ended.summary.refused;
-    if options.explains && refused > 0 {
+    if options.explains {
         drop(ended);
         let mut output = rt.stderr();
         if let Ok(writes) = Box::new(alloc, move |piece: &[u8]| output.write(piece)) {
