@@ -42,6 +42,10 @@ leads-shows theory number terms room premise conclusion leads theorem is =
     let same : shown (leads.hypothesis ∷ []) leads.stated ≡ theorem = cc in
     subst (λ (t : Theorem). Shows t (image leads.hypothesis ∷ []) (image leads.stated)) same (record { same_set = record { to = λ x m. m; back = λ x m. m }; concludes = refl })
 
+-- where there is no room, nothing has to fit
+pub where-no-room : (term : Nameless) → FitsIf false term
+where-no-room term is = cc
+
 -- what has to fit on the way does
 
 pub equation-fits : (room : Bool) (p q : Nameless) → FitsIf room p → FitsIf room q → room ≡ true → nameless_within_limits (nameless_equation bool_type p q) ≡ true

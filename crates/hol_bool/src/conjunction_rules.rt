@@ -14,7 +14,7 @@ ghost use Rattle.hol_equal.specs.Sequents.{Shows, DerivesIf, Continues};
 ghost use Rattle.hol_equal.specs.Inferred.{Infers};
 
 use crate::formula_terms::{connect, equivalence, for_p_q};
-use crate::prelude_rules::{by_theorem, sides_of};
+use crate::prelude_rules::{by_leading_theorem, by_theorem, sides_of};
 use hol_equal::steps::{self, conclusion_of};
 use hol_journal::{Rec, Recorder};
 use hol_model::Fault;
@@ -111,7 +111,7 @@ pub(crate) fn joined(
         Ok(terms) => terms,
         Err(fault) => return Err(fault),
     };
-    let equation = match by_theorem(recorder, alloc, logic, CONJ, &terms, &stated, first) {
+    let equation = match by_leading_theorem(recorder, alloc, logic, CONJ, &terms, &stated, first) {
         Ok(equation) => equation,
         Err(fault) => return Err(fault),
     };

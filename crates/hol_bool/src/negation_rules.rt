@@ -9,7 +9,7 @@ ghost use Rattle.hol_equal.specs.Sequents.{Continues};
 ghost use Rattle.hol_equal.specs.Inferred.{Infers};
 
 use crate::formula_terms::{connect, falsity, for_p, is_named, negate};
-use crate::prelude_rules::{by_theorem, negated_of, pass_formula, sides_of};
+use crate::prelude_rules::{by_leading_theorem, by_theorem, negated_of, pass_formula, sides_of};
 use hol_equal::conclusion_of;
 use hol_journal::{Rec, Recorder};
 use hol_model::Fault;
@@ -111,5 +111,5 @@ pub fn contr(
         Ok(terms) => terms,
         Err(fault) => return Err(fault),
     };
-    by_theorem(recorder, alloc, logic, CONTR, &terms, p, premise)
+    by_leading_theorem(recorder, alloc, logic, CONTR, &terms, p, premise)
 }

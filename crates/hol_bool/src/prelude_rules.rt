@@ -1,5 +1,5 @@
 // Steps by the theorems of the prelude.
-ghost use Rattle.std.specs.Prelude.{◌≡◌, ◌<◌, List, [], IfOk, IfErr, OnOk, IfSome, Some, None, length};
+ghost use Rattle.std.specs.Prelude.{◌≡◌, ◌<◌, List, [], IfOk, IfErr, OnOk, IfSome, Some, None, false, length};
 ghost use Rattle.std.specs.Option.{option_map};
 ghost use Rattle.hol_model.specs.Logic.Theory.{IsLegal, generic_type};
 ghost use Rattle.hol_model.specs.Logic.Logic.{logical_definitions, binary};
@@ -15,7 +15,7 @@ ghost use Rattle.hol_equal.specs.Sequents.{Shows, DerivesIf, Continues};
 ghost use Rattle.hol_bool.specs.PreludeInstances.{LeadsTo, Says};
 
 use crate::formula_terms::{Sides, connected_sides, negated_part};
-use hol_equal::{by_lemma_known, conclusion_of, instance_known, named_known};
+use hol_equal::{by_lemma_known, conclusion_of, instance_known, named_known, named_same};
 use hol_journal::{Rec, Recorder};
 use hol_model::Fault;
 use hol_prelude::{Bool, theorem_of};
@@ -49,6 +49,35 @@ pub(crate) fn by_theorem(
         Err(fault) => return Err(fault),
     };
     named_known(recorder, alloc, stated, &answer)
+}
+
+/// The same, where a proof shows that the theorem of the prelude leads from the premise to what is stated: its conclusion at
+/// the terms is not compared with it.
+pub(crate) fn by_leading_theorem(
+    recorder: &mut Recorder,
+    alloc: Global,
+    logic: &Bool,
+    number: usize,
+    terms: &[(Term, Term)],
+    stated: &Term,
+    premise: &Rec,
+) -> Result<Rec, Fault>
+    requires logic { HasLogic recorder.old logic.now }
+    requires number { number < length prelude_theorems }
+    requires premise { IsMade recorder.old premise.now }
+    requires stated { IsFormula recorder.old.theory stated.now }
+    requires leads { LeadsTo recorder.old.theory number terms.now false (image premise.now.theorem.conclusion) (image stated.now) }
+    ensures continues { Continues recorder.old recorder.new result }
+    ensures names { IfOk result (λ made. made.theorem.conclusion ≡ stated.now) }
+    ensures derives { (h : List Nameless) (p : Nameless) (room : Room) → LeadsTo recorder.old.theory number terms.now room p (image stated.now)
+        → Shows premise.now.theorem h p → DerivesIf room result h (image stated.now) }
+{
+    let lemma = theorem_of(recorder, logic, number);
+    let answer = match by_lemma_known(recorder, alloc, &[], terms, lemma, premise) {
+        Ok(answer) => answer,
+        Err(fault) => return Err(fault),
+    };
+    named_same(recorder, alloc, stated, &answer)
 }
 
 /// A theorem of the prelude without hypotheses, at these terms and with these names, in four steps. The theory knows the

@@ -167,6 +167,32 @@ pub fn named_known(
     steps::eq_mp(recorder, alloc, &reflexive, premise)
 }
 
+/// The theorem with this conclusion, as `named_known`, where a proof shows that its own differs in the names of bound
+/// variables alone: the two are not compared for it.
+pub fn named_same(
+    recorder: &mut Recorder,
+    alloc: Global,
+    term: &Term,
+    premise: &Rec,
+) -> Result<Rec, Fault>
+    requires premise { IsMade recorder.old premise.now }
+    requires formula { IsFormula recorder.old.theory term.now }
+    requires same { image premise.now.theorem.conclusion ≡ image term.now }
+    ensures continues { Continues recorder.old recorder.new result }
+    ensures names { IfOk result (λ made. made.theorem.conclusion ≡ term.now) }
+    ensures derives { (h : List Nameless) → Shows premise.now.theorem h (image term.now)
+        → DerivesIf (nameless_within_limits (nameless_equation bool_type (image term.now) (image term.now))) result h (image term.now) }
+{
+    let _premise = recorder.thm(premise).concl();
+    let _type = term.ty();
+    recorder.theory_is_legal();
+    let reflexive = match steps::refl_known(recorder, alloc, term) {
+        Ok(reflexive) => reflexive,
+        Err(fault) => return Err(fault),
+    };
+    steps::eq_mp_known(recorder, alloc, &reflexive, premise)
+}
+
 /// From `p` and `q`, `q`, with the hypotheses of the first, and those of the second but `p`, in two steps.
 pub fn cut(recorder: &mut Recorder, alloc: Global, first: &Rec, second: &Rec) -> Result<Rec, Fault>
     requires first { IsMade recorder.old first.now }

@@ -19,12 +19,13 @@ use Rattle.hol_model.specs.Kernel.Outcome.{Answers}
 use Rattle.hol_model.specs.Kernel.Rules.{is_free_in_hypotheses, abstraction_outcome}
 use Rattle.hol_model.specs.Derived.DerivedRules.{Stated, AnswersStated, named, images, terms_of_theorem, terms_of_stated, is_roomy, is_free_in_some, gen_outcome}
 use Rattle.hol_model.proofs.Terms.TypeTests.{knows_type-Decides}
-use Rattle.hol_model.proofs.Terms.Images.{image-abstraction, occurs_free-image}
+use Rattle.hol_model.proofs.Terms.Images.{image-abstraction, image-type, occurs_free-image}
 use Rattle.hol_model.proofs.Terms.Membership.{IsMember-append_right}
 use Rattle.hol_model.proofs.Tests.{first_of_both, second_of_both, first_of_neither, second_of_neither}
 use Rattle.hol_journal.specs.Journal.{Journal, Recorded, IsMade, theorem_in}
 use Rattle.hol_journal.proofs.Showing.{formula_of}
-use Rattle.hol_equal.specs.Sequents.{DerivesIf, IsPast}
+use Rattle.hol_equal.specs.Formulas.{IsFormula}
+use Rattle.hol_equal.specs.Sequents.{Shows, DerivesIf, IsPast}
 use Rattle.hol_equal.specs.Conversions.{closed}
 use Rattle.hol_equal.proofs.CutLemmas.{answers-stated, conclusion-known, formulas-within}
 use Rattle.hol_equal.proofs.Sizes.{IsSized, leaves_room, sized-more, sized-within, past-room}
@@ -167,3 +168,10 @@ module _ (theory : Theory) (premise : Theorem) (binder : NamedTerm) (name : List
   names-within all =
       let roomy = first_of_both (is_roomy (image formula)) true (second_of_both (is_roomy p) (list_all is_roomy (image formula ∷ [])) all) in
       formulas-within (image formula) (image formula) (rw roomy refl)
+
+-- what a formula that is known differs from in the names of bound variables alone is known
+pub formula-shown : (theory : Theory) (theorem : Theorem) (hypotheses : List Nameless) (term : NamedTerm) → Shows theorem hypotheses (image term)
+    → IsFormula theory theorem.conclusion → IsFormula theory term
+formula-shown theory theorem hypotheses term shown is =
+    let known : IsKnown theory (image term) bool_type = subst (λ (t : Nameless). IsKnown theory t bool_type) shown.concludes is.known in
+    record { typed = image-type term bool_type known.typed; known = known }

@@ -20,7 +20,7 @@ ghost use Rattle.hol_quant.specs.PredicateLemmas.{is_always, over_predicate};
 ghost use Rattle.hol_quant.specs.Universals.{for_all, MayGeneralize, FitsForAll};
 
 use crate::instances::by_predicate_lemma;
-use hol_equal::{abs, by_lemma, conclusion_of, named};
+use hol_equal::{abs, by_lemma_known, conclusion_of, named_same};
 use hol_journal::{Rec, Recorder};
 use hol_model::Fault;
 use hol_prelude::{Bool, numbers, theorem_of};
@@ -59,7 +59,7 @@ pub(crate) fn equal_to_truth(
         Err(fault) => return Err(fault),
     };
     let terms = [of_formula];
-    by_lemma(recorder, alloc, &[], &terms, lemma, premise)
+    by_lemma_known(recorder, alloc, &[], &terms, lemma, premise)
 }
 
 // `!x. p`, from `\x. p`.
@@ -206,7 +206,8 @@ fn generalized(
         Ok(answer) => answer,
         Err(fault) => return Err(fault),
     };
-    named(recorder, alloc, &formula, &answer)
+    let _answer = conclusion_of(recorder, &answer);
+    named_same(recorder, alloc, &formula, &answer)
 }
 
 /// GEN: from `p`, `!x. p`, by the lemmas `p |- p <=> T` and `P = (\x. T) |- (!) P`, in eleven steps. Refused where the

@@ -5,5 +5,6 @@ pub mod Fitting
 pub mod Instances
 pub mod TakenNames
 pub mod Primes
+pub mod NameSums
 pub mod FreshAnswers
 pub mod KnownGoals

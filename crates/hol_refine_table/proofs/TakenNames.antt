@@ -1,6 +1,6 @@
 -- Names that are taken are not longer than the longest.
-use Rattle.std.proofs.Common.{◌≡◌, ℕ, ◌≤◌, max, List, [], ◌∷◌, Bool, true, false, ◌||◌, refl, sym, ◌∙◌, ap, length, arith, Option, Some, None, if◌then◌else◌}
-use Rattle.std.specs.Prelude.{bit_and}
+use Rattle.std.proofs.Common.{◌≡◌, ℕ, zero, suc, ◌≤◌, max, List, [], ◌∷◌, Bool, true, false, ◌||◌, refl, sym, ◌∙◌, ap, length, arith, Option, Some, None, if◌then◌else◌}
+use Rattle.std.specs.Prelude.{bit_and, slice_get}
 use Rattle.std.specs.List.{list_any}
 use Rattle.std.specs.Option.{is_some, option_map_or}
 use Rattle.std.specs.Str.{bytes_eq}
@@ -121,3 +121,50 @@ pub taken_beside_is_bounded : (theory : Theory) (goal : Goal) (ty : HolType) (co
 taken_beside_is_bounded theory goal ty conclusion name is =
     either_bound (is_taken theory goal name) (occurs_free name ty (image conclusion)) (length name) (longest_taken theory goal) (longest_free (image conclusion))
     (taken_is_bounded theory goal name) (free_is_bounded (image conclusion) name ty) is
+
+-- ---- the tests of a name, assumptions first
+
+some_is_true : (constant target assumed : Bool) → assumed ≡ true → (constant || (target || assumed)) ≡ true
+some_is_true true target assumed is = refl
+some_is_true false true assumed is = refl
+some_is_true false false assumed is = is
+
+first_is_true : (constant target assumed : Bool) → target ≡ true → (constant || (target || assumed)) ≡ true
+first_is_true true target assumed is = refl
+first_is_true false target assumed is = rw is refl
+
+constant_alone : (constant target assumed : Bool) → target ≡ false → assumed ≡ false → (constant || (target || assumed)) ≡ constant
+constant_alone true target assumed not_target not_assumed = refl
+constant_alone false target assumed not_target not_assumed = rw (not_target, not_assumed) refl
+
+pub taken_by_assumption : (theory : Theory) (goal : Goal) (name : List ℕ) → list_any (λ term. has_free_name name (image term)) goal.assumptions ≡ true
+    → is_taken theory goal name ≡ true
+taken_by_assumption theory goal name is =
+    some_is_true (is_some (generic_type theory name)) (has_free_name name (image goal.target)) (list_any (λ term. has_free_name name (image term)) goal.assumptions) is
+
+pub taken_by_target : (theory : Theory) (goal : Goal) (name : List ℕ) → has_free_name name (image goal.target) ≡ true → is_taken theory goal name ≡ true
+taken_by_target theory goal name is =
+    first_is_true (is_some (generic_type theory name)) (has_free_name name (image goal.target)) (list_any (λ term. has_free_name name (image term)) goal.assumptions) is
+
+pub taken_by_constant : (theory : Theory) (goal : Goal) (name : List ℕ) (test : Bool) → test ≡ is_some (generic_type theory name)
+    → list_any (λ term. has_free_name name (image term)) goal.assumptions ≡ false → has_free_name name (image goal.target) ≡ false
+    → test ≡ is_taken theory goal name
+taken_by_constant theory goal name test is not_assumed not_target =
+    is ∙ sym (constant_alone (is_some (generic_type theory name)) (has_free_name name (image goal.target)) (list_any (λ term. has_free_name name (image term)) goal.assumptions) not_target not_assumed)
+
+-- what is free in the term at a place is free in one of them
+pub found_at : (name : List ℕ) (terms : List NamedTerm) (place : ℕ) (term : NamedTerm) → slice_get terms place ≡ Some term → has_free_name name (image term) ≡ true
+    → list_any (λ t. has_free_name name (image t)) terms ≡ true
+found_at name [] place term is found = cc
+found_at name (first ∷ terms) zero term is found =
+    let same : first ≡ term = cc in
+    first_passes (has_free_name name (image first)) (list_any (λ t. has_free_name name (image t)) terms) (ap (λ t. has_free_name name (image t)) same ∙ found)
+  where
+    first_passes : (p q : Bool) → p ≡ true → (p || q) ≡ true
+    first_passes p q is = rw is refl
+found_at name (first ∷ terms) (suc place) term is found =
+    rest_passes (has_free_name name (image first)) (list_any (λ t. has_free_name name (image t)) terms) (found_at name terms place term is found)
+  where
+    rest_passes : (p q : Bool) → q ≡ true → (p || q) ≡ true
+    rest_passes true q is = refl
+    rest_passes false q is = is

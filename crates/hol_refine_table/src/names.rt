@@ -1,5 +1,5 @@
 // Names that nothing in a goal has.
-ghost use Rattle.std.specs.Prelude.{◌≡◌, IfOk, IfErr, IsTrue};
+ghost use Rattle.std.specs.Prelude.{◌≡◌, ℕ, List, true, IfOk, IfErr, IsTrue};
 ghost use Rattle.std.specs.List.{list_any};
 ghost use Rattle.std.specs.Option.{is_some};
 ghost use Rattle.std.specs.String.{string_bytes};
@@ -11,6 +11,7 @@ ghost use Rattle.hol_model.specs.Refining.Refiners as refiners;
 ghost use Rattle.hol_terms.specs.Classes.{class_of_name};
 ghost use Rattle.hol_just.specs.Steps.{goal_of};
 ghost use Rattle.hol_refine_table.specs.Scope.{binders_of};
+ghost use Rattle.hol_refine_table.specs.Sums.{name_sum, primed_sum};
 
 use hol_just::Goal;
 use hol_kernel::Theory;
@@ -77,14 +78,97 @@ fn is_free_name_in_some(name: &str, class: NameClasses, terms: &[Term]) -> bool
         .any(|term| has_free_name(name, class, term, &Scope::Outermost))
 }
 
-// Whether a free variable of the goal or a constant has the name.
-fn is_taken(theory: &Theory, goal: &Goal, name: &str) -> bool
-    ensures { result ≡ refiners.is_taken theory.now (goal_of goal.now) name.now }
+// The place from which on the first term stands in which a variable of the name is free, or one past all. A hint alone.
+fn place_from(name: &str, class: NameClasses, terms: &[Term], from: usize) -> usize
+    requires { class.bits ≡ class_of_name name.now }
 {
-    let class = NameClasses::of_name(name);
-    theory.const_type(name).is_some()
+    for at in from..terms.len() {
+        if has_free_name(name, class, &terms[at], &Scope::Outermost) {
+            return at;
+        }
+    }
+    usize::MAX
+}
+
+// Whether a variable of the name is free in the term at a place, where there is one.
+#[tactic(auto, using(crate::proofs::TakenNames::found_at))]
+fn is_free_name_at(name: &str, class: NameClasses, terms: &[Term], place: usize) -> bool
+    requires { class.bits ≡ class_of_name name.now }
+    ensures { IsTrue result → list_any (λ term. refiners.has_free_name name.now (image term)) terms.now ≡ true }
+{
+    match terms.get(place) {
+        Some(term) => has_free_name(name, class, term, &Scope::Outermost),
+        None => false,
+    }
+}
+
+// Whether a variable of this name, whose class is given, is free in one of the terms. Those from a place on are tried first,
+// and the place becomes that of the term; past all, none is tried first.
+fn is_free_name_from(name: &str, class: NameClasses, terms: &[Term], place: &mut usize) -> bool
+    requires { class.bits ≡ class_of_name name.now }
+    ensures { result ≡ list_any (λ term. refiners.has_free_name name.now (image term)) terms.now }
+{
+    *place = place_from(name, class, terms, *place);
+    if is_free_name_at(name, class, terms, *place) {
+        return true;
+    }
+    *place = 0;
+    is_free_name_in_some(name, class, terms)
+}
+
+// What is kept from one name to the next, which has one prime more: the sum that the name's class is made of, and the place
+// from which assumptions are tried first. Often the next name is free behind the assumption in which this one is.
+#[derive(Clone, Copy)]
+struct Trying {
+    sum: u8,
+    place: usize,
+}
+
+impl Trying {
+    // To begin with a name.
+    fn of(name: &str) -> Trying
+        ensures { result.sum ≡ name_sum name.now }
+    {
+        Trying {
+            sum: name
+                .as_bytes()
+                .iter()
+                .fold(0u8, |sum, byte| sum.wrapping_mul(37).wrapping_add(*byte)),
+            place: usize::MAX,
+        }
+    }
+
+    // To go on with one prime more.
+    fn with_prime(self) -> Trying
+        ensures { result.sum ≡ primed_sum self.sum }
+    {
+        Trying {
+            sum: self.sum.wrapping_mul(37).wrapping_add(b'\''),
+            place: self.place,
+        }
+    }
+
+    // The class of the name.
+    fn class(self) -> NameClasses
+        ensures { (name : List ℕ) → self.sum ≡ name_sum name → result.bits ≡ class_of_name name }
+    {
+        NameClasses {
+            bits: 1 << (self.sum % 64),
+        }
+    }
+}
+
+// Whether a free variable of the goal or a constant has the name.
+#[tactic(auto, using(crate::proofs::TakenNames::taken_by_assumption, crate::proofs::TakenNames::taken_by_target, crate::proofs::TakenNames::taken_by_constant))]
+fn is_taken(theory: &Theory, goal: &Goal, trying: &mut Trying, name: &str) -> bool
+    requires { trying.old.sum ≡ name_sum name.now }
+    ensures taken { result ≡ refiners.is_taken theory.now (goal_of goal.now) name.now }
+    ensures sum { trying.new.sum ≡ trying.old.sum }
+{
+    let class = trying.class();
+    is_free_name_from(name, class, &goal.asms, &mut trying.place)
         || has_free_name(name, class, &goal.concl, &Scope::Outermost)
-        || is_free_name_in_some(name, class, &goal.asms)
+        || theory.const_type(name).is_some()
 }
 
 /// The name with so many primes that it is not taken.
@@ -101,8 +185,10 @@ pub(crate) fn fresh_name(
     ensures err { IfErr result (λ fault. fault ≡ Memory) }
 {
     let mut fresh = String::from_str(alloc, name)?;
-    while is_taken(theory, goal, fresh.as_str()) {
+    let mut trying = Trying::of(name);
+    while is_taken(theory, goal, &mut trying, fresh.as_str()) {
         fresh.push_str("'")?;
+        trying = trying.with_prime();
     }
     Ok(fresh)
 }
@@ -116,10 +202,19 @@ fn is_free_in(term: &Term, name: &str, ty: &Ty) -> bool
 }
 
 // Whether the name is taken, or a variable of this name and type is free in the conclusion.
-fn is_taken_beside(theory: &Theory, goal: &Goal, ty: &Ty, conclusion: &Term, name: &str) -> bool
-    ensures { result ≡ refiners.is_taken_beside theory.now (goal_of goal.now) ty.now conclusion.now name.now }
+fn is_taken_beside(
+    theory: &Theory,
+    goal: &Goal,
+    ty: &Ty,
+    conclusion: &Term,
+    trying: &mut Trying,
+    name: &str,
+) -> bool
+    requires { trying.old.sum ≡ name_sum name.now }
+    ensures taken { result ≡ refiners.is_taken_beside theory.now (goal_of goal.now) ty.now conclusion.now name.now }
+    ensures sum { trying.new.sum ≡ trying.old.sum }
 {
-    is_taken(theory, goal, name) || is_free_in(conclusion, name, ty)
+    is_taken(theory, goal, trying, name) || is_free_in(conclusion, name, ty)
 }
 
 /// The name with so many primes that it is not taken, nor free at this type in the conclusion.
@@ -138,8 +233,10 @@ pub(crate) fn fresh_name_beside(
     ensures err { IfErr result (λ fault. fault ≡ Memory) }
 {
     let mut fresh = String::from_str(alloc, name)?;
-    while is_taken_beside(theory, goal, ty, conclusion, fresh.as_str()) {
+    let mut trying = Trying::of(name);
+    while is_taken_beside(theory, goal, ty, conclusion, &mut trying, fresh.as_str()) {
         fresh.push_str("'")?;
+        trying = trying.with_prime();
     }
     Ok(fresh)
 }

@@ -1,4 +1,4 @@
-use Rattle.std.proofs.Common.{◌≡◌, ◌∙◌, [], ◌∷◌, ◌++◌, Err, refl, sym, subst}
+use Rattle.std.proofs.Common.{◌≡◌, ◌∙◌, [], ◌∷◌, ◌++◌, Err, false, refl, sym, subst}
 use Rattle.hol_model.specs.Terms.HolType.{bool_type}
 use Rattle.hol_model.specs.Terms.NamedTerm.{NamedTerm, equation}
 use Rattle.hol_model.specs.Terms.Nameless.{Nameless, image}
@@ -13,7 +13,7 @@ use Rattle.hol_equal.proofs.StepLemmas.{equation-fits}
 use Rattle.hol_equal.proofs.CutLemmas.{right-names, given-derives}
 use Rattle.hol_bool.proofs.RoomLemmas.{equation-is, equation-past, connected-is, connected-past, connected-typed}
 use Rattle.hol_bool.proofs.ConjunctionAnswers.{conj_equation, conj-fits-at, conj-both-fits, conj-leads}
-use Rattle.hol_bool.proofs.PreludeSteps.{p_q-known}
+use Rattle.hol_bool.proofs.PreludeSteps.{where-no-room}
 use Rattle.hol_bool.proofs.FormulaLemmas.{equation-formula, connects, made-formula}
 use Rattle.hol_bool.proofs.conjunction_rules.joined.Goals as goal
 
@@ -38,8 +38,8 @@ returns-in-Err-equivalence-clause-derives c h k s t room first second fits =
     (connected-typed and_name a b one.formula.typed two.formula.typed) two.value both_is c.in-Err-equivalence.ensures room
     (conj-fits-at room (image a) (image b) s t first.concludes second.concludes fits)
 
-pub returns-in-Err-by_theorem-clause-derives : goal.returns-in-Err-by_theorem-clause-derives
-returns-in-Err-by_theorem-clause-derives c h k s t room first second fits =
+pub returns-in-Err-by_leading_theorem-clause-derives : goal.returns-in-Err-by_leading_theorem-clause-derives
+returns-in-Err-by_leading_theorem-clause-derives c h k s t room first second fits =
     let a = c.args.first.now.theorem.conclusion in
     let b = c.args.second.now.theorem.conclusion in
     let one = c.conclusion_of-p.ensures in
@@ -52,8 +52,8 @@ returns-in-Err-by_theorem-clause-derives c h k s t room first second fits =
     (connected-typed and_name a b one.formula.typed two.formula.typed) two.value both_is c.in-Ok-equivalence.ensures in
     let terms_are : terms ≡ at_p_q a b = c.deref.ensures.value ∙ c.in-Ok-for_p_q.ensures.ok ∙ (λ i. (one.value i, p) ∷ (two.value i, q) ∷ []) in
     let leads = conj-leads theory a b terms one.formula two.formula terms_are room (conj-fits-at room (image a) (image b) s t first.concludes second.concludes fits) in
-    subst (λ (u : NamedTerm). LeadsTo theory 25 terms room (image a) (image u) → DerivesIf room (Err c.in-Err-by_theorem.fault) h (image u)) stated_is
-    (λ l. c.in-Err-by_theorem.ensures.derives h (image a) room l (subst (λ (u : Nameless). Shows c.args.first.now.theorem h u) (sym first.concludes) first)) leads
+    subst (λ (u : NamedTerm). LeadsTo theory 25 terms room (image a) (image u) → DerivesIf room (Err c.in-Err-by_leading_theorem.fault) h (image u)) stated_is
+    (λ l. c.in-Err-by_leading_theorem.ensures.derives h (image a) room l (subst (λ (u : Nameless). Shows c.args.first.now.theorem h u) (sym first.concludes) first)) leads
 
 pub eq_mp_known-requires-clause-fits : goal.eq_mp_known-requires-clause-fits
 eq_mp_known-requires-clause-fits c =
@@ -67,7 +67,7 @@ eq_mp_known-requires-clause-fits c =
     let stated_is =
     equation-is c.in-Ok-equivalence.stated b (conjunction a b) c.conclusion_of-q.result.now c.in-Ok.both two.formula.typed
     (connected-typed and_name a b one.formula.typed two.formula.typed) two.value both_is c.in-Ok-equivalence.ensures in
-    equation-fits c.in-Ok-by_theorem.equation.theorem c.args.second.now.theorem (conjunction a b) two.formula.typed (c.in-Ok-by_theorem.ensures.names ∙ stated_is)
+    equation-fits c.in-Ok-by_leading_theorem.equation.theorem c.args.second.now.theorem (conjunction a b) two.formula.typed (c.in-Ok-by_leading_theorem.ensures.names ∙ stated_is)
 
 pub returns-clause-names : goal.returns-clause-names
 returns-clause-names c =
@@ -79,7 +79,7 @@ returns-clause-names c =
     let stated_is =
     equation-is c.in-Ok-equivalence.stated b (conjunction a b) c.conclusion_of-q.result.now c.in-Ok.both two.formula.typed
     (connected-typed and_name a b one.formula.typed two.formula.typed) two.value both_is c.in-Ok-equivalence.ensures in
-    right-names c.eq_mp_known.result c.in-Ok-by_theorem.equation.theorem.conclusion b (conjunction a b) two.formula.typed (c.in-Ok-by_theorem.ensures.names ∙ stated_is) c.eq_mp_known.ensures.names
+    right-names c.eq_mp_known.result c.in-Ok-by_leading_theorem.equation.theorem.conclusion b (conjunction a b) two.formula.typed (c.in-Ok-by_leading_theorem.ensures.names ∙ stated_is) c.eq_mp_known.ensures.names
 
 pub returns-clause-derives : goal.returns-clause-derives
 returns-clause-derives c h k s t room first second fits =
@@ -95,26 +95,33 @@ returns-clause-derives c h k s t room first second fits =
     (connected-typed and_name a b one.formula.typed two.formula.typed) two.value both_is c.in-Ok-equivalence.ensures in
     let terms_are : terms ≡ at_p_q a b = c.deref.ensures.value ∙ c.in-Ok-for_p_q.ensures.ok ∙ (λ i. (one.value i, p) ∷ (two.value i, q) ∷ []) in
     let leads = conj-leads theory a b terms one.formula two.formula terms_are room (conj-fits-at room (image a) (image b) s t first.concludes second.concludes fits) in
-    let equation_shown : Shows c.in-Ok-by_theorem.equation.theorem h (image (equation b (conjunction a b))) =
-    subst (λ (u : NamedTerm). LeadsTo theory 25 terms room (image a) (image u) → Shows c.in-Ok-by_theorem.equation.theorem h (image u)) stated_is
-    (λ l. c.in-Ok-by_theorem.ensures.derives h (image a) room l (subst (λ (u : Nameless). Shows c.args.first.now.theorem h u) (sym first.concludes) first)) leads in
-    let at_images : Shows c.in-Ok-by_theorem.equation.theorem h (conj_equation (image a) (image b)) =
-    subst (λ (u : Nameless). Shows c.in-Ok-by_theorem.equation.theorem h u) (image-equation b (conjunction a b) bool_type two.formula.typed) equation_shown in
+    let equation_shown : Shows c.in-Ok-by_leading_theorem.equation.theorem h (image (equation b (conjunction a b))) =
+    subst (λ (u : NamedTerm). LeadsTo theory 25 terms room (image a) (image u) → Shows c.in-Ok-by_leading_theorem.equation.theorem h (image u)) stated_is
+    (λ l. c.in-Ok-by_leading_theorem.ensures.derives h (image a) room l (subst (λ (u : Nameless). Shows c.args.first.now.theorem h u) (sym first.concludes) first)) leads in
+    let at_images : Shows c.in-Ok-by_leading_theorem.equation.theorem h (conj_equation (image a) (image b)) =
+    subst (λ (u : Nameless). Shows c.in-Ok-by_leading_theorem.equation.theorem h u) (image-equation b (conjunction a b) bool_type two.formula.typed) equation_shown in
     let path : conj_equation (image a) (image b) ≡ conj_equation s t = λ i. conj_equation (first.concludes i) (second.concludes i) in
     given-derives room c.eq_mp_known.result (h ++ k) (nameless.conjunction s t)
-    (c.eq_mp_known.ensures.gives h k t (nameless.conjunction s t) (subst (λ (u : Nameless). Shows c.in-Ok-by_theorem.equation.theorem h u) path at_images) second)
+    (c.eq_mp_known.ensures.gives h k t (nameless.conjunction s t) (subst (λ (u : Nameless). Shows c.in-Ok-by_leading_theorem.equation.theorem h u) path at_images) second)
 
-pub by_theorem-requires-clause-known : goal.by_theorem-requires-clause-known
-by_theorem-requires-clause-known c =
+pub by_leading_theorem-requires-clause-leads : goal.by_leading_theorem-requires-clause-leads
+by_leading_theorem-requires-clause-leads c =
     let a = c.args.first.now.theorem.conclusion in
     let b = c.args.second.now.theorem.conclusion in
     let one = c.conclusion_of-p.ensures in
     let two = c.conclusion_of-q.ensures in
-    let terms_are : c.deref.result.now ≡ at_p_q a b = c.deref.ensures.value ∙ c.in-Ok-for_p_q.ensures.ok ∙ (λ i. (one.value i, p) ∷ (two.value i, q) ∷ []) in
-    p_q-known c.args.recorder.now.theory a b c.deref.result.now terms_are one.formula two.formula
+    let theory = c.args.recorder.now.theory in
+    let terms = c.deref.result.now in
+    let both_is = connected-is c.in-Ok.both and_name a b c.conclusion_of-p.result.now c.conclusion_of-q.result.now one.formula.typed two.formula.typed one.value two.value c.in-Ok.ensures in
+    let stated_is =
+    equation-is c.in-Ok-equivalence.stated b (conjunction a b) c.conclusion_of-q.result.now c.in-Ok.both two.formula.typed
+    (connected-typed and_name a b one.formula.typed two.formula.typed) two.value both_is c.in-Ok-equivalence.ensures in
+    let terms_are : terms ≡ at_p_q a b = c.deref.ensures.value ∙ c.in-Ok-for_p_q.ensures.ok ∙ (λ i. (one.value i, p) ∷ (two.value i, q) ∷ []) in
+    subst (λ (u : NamedTerm). LeadsTo theory 25 terms false (image a) (image u)) (sym stated_is)
+    (conj-leads theory a b terms one.formula two.formula terms_are false (where-no-room (conj_equation (image a) (image b))))
 
-pub by_theorem-requires-clause-stated : goal.by_theorem-requires-clause-stated
-by_theorem-requires-clause-stated c =
+pub by_leading_theorem-requires-clause-stated : goal.by_leading_theorem-requires-clause-stated
+by_leading_theorem-requires-clause-stated c =
     let journal = c.args.recorder.now in
     let a = c.args.first.now.theorem.conclusion in
     let b = c.args.second.now.theorem.conclusion in

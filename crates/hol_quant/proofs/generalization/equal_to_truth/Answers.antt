@@ -33,9 +33,20 @@ returns-clause-derives c room fits =
     let d = nameless_equation bool_type proposition truth in
     derives-where
     (list_all nameless_within_limits (d ∷ proposition ∷ nameless_equation bool_type p truth ∷ p ∷ nameless_equation bool_type p (nameless_equation bool_type p truth) ∷ []))
-    room c.by_lemma.result (images premise) (nameless_equation bool_type p truth) (truth-fits room p fits)
+    room c.by_lemma_known.result (images premise) (nameless_equation bool_type p truth) (truth-fits room p fits)
     (subst (λ (l : List (NamedTerm × NamedTerm)).
     DerivesIf (list_all nameless_within_limits
     (instantiate_all [] d ∷ instantiate_all [] proposition ∷ instance_of [] l d ∷ instance_of [] l proposition ∷ nameless_equation bool_type
-    (instance_of [] l proposition) (instance_of [] l d) ∷ [])) c.by_lemma.result (images premise) (instance_of [] l d)) theta_is
-    (c.by_lemma.ensures.derives refl passes (images premise) proposition d c.requires.shows shows))
+    (instance_of [] l proposition) (instance_of [] l d) ∷ [])) c.by_lemma_known.result (images premise) (instance_of [] l d)) theta_is
+    (c.by_lemma_known.ensures.derives refl passes (images premise) proposition d c.requires.shows shows))
+
+pub by_lemma_known-requires-clause-known : goal.by_lemma_known-requires-clause-known
+by_lemma_known-requires-clause-known c =
+    let premise = c.args.premise.now.theorem in
+    let theory = c.args.recorder.now.theory in
+    let is_theorem = rw c.thm.ensures at c.concl.ensures.theorem in
+    let typed = formula_of premise is_theorem in
+    let known = conclusion-known c.args.recorder.now c.theory_is_legal.ensures c.args.premise.now c.requires.premise is_theorem in
+    let conclusion_is : c.concl.result.now ≡ premise.conclusion = c.concl.ensures.value ∙ ap (λ (t : Theorem). t.conclusion) c.thm.ensures in
+    let pair_is : c.in-Ok.of_formula ≡ (premise.conclusion, variable (codes "p") bool_type) = c.in-Ok.ensures.ok ∙ (λ i. (conclusion_is i, variable (codes "p") bool_type)) in
+    subst (λ (l : List (NamedTerm × NamedTerm)). replacements_refusal theory l ≡ None) (sym (λ i. pair_is i ∷ [])) (formula-passes theory premise.conclusion typed known)

@@ -15,7 +15,7 @@ use Rattle.hol_model.specs.Derived.DerivedRules.{images, is_roomy, terms_of_theo
 use Rattle.hol_equal.specs.Sequents.{Shows, DerivesIf, IsPast}
 use Rattle.hol_equal.proofs.CutLemmas.{derives-where}
 use Rattle.hol_quant.proofs.GenAnswers.{gen-free, gen-start, function, formula, formula_image, small, function_typed, gen-answers, gen-past, gen-fits}
-use Rattle.hol_quant.proofs.GenAnswers.{may-generalize, abstraction-past, abstraction-made, formula-within, names-within}
+use Rattle.hol_quant.proofs.GenAnswers.{may-generalize, abstraction-past, abstraction-made, formula-within, names-within, formula-shown}
 use Rattle.hol_quant.proofs.generalization.generalized.Goals as goal
 
 pub returns-then-is_free_in_some-clause-outcome : goal.returns-then-is_free_in_some-clause-outcome
@@ -117,9 +117,59 @@ returns-clause-outcome c =
     let stated = c.in-Ok-over_all.ensures.derives name ty room (may-generalize theory premise binder name ty at) made_is (gen-fits theory premise binder name ty at) in
     let shown = subst (λ (t : Nameless). Shows c.in-Ok-over_all.answer.theorem (images premise) t) (sym (formula_image theory premise binder name ty at) ∙ ap image (sym formula_is)) stated in
     let derives = subst (λ (t : NamedTerm).
-    DerivesIf (nameless_within_limits (nameless_equation bool_type (image t) (image t))) c.named.result (images premise) (image t)) formula_is
-    (c.named.ensures.derives (images premise) shown) in
-    gen-answers theory premise binder name ty at c.named.result
-    (derives-where (nameless_within_limits (nameless_equation bool_type (image whole) (image whole))) room c.named.result (images premise)
+    DerivesIf (nameless_within_limits (nameless_equation bool_type (image t) (image t))) c.named_same.result (images premise) (image t)) formula_is
+    (c.named_same.ensures.derives (images premise) shown) in
+    gen-answers theory premise binder name ty at c.named_same.result
+    (derives-where (nameless_within_limits (nameless_equation bool_type (image whole) (image whole))) room c.named_same.result (images premise)
     (image whole) (names-within theory premise binder name ty at) derives)
-    (subst (λ (t : NamedTerm). IfOk c.named.result (λ made. made.theorem.conclusion ≡ t)) formula_is c.named.ensures.names)
+    (subst (λ (t : NamedTerm). IfOk c.named_same.result (λ made. made.theorem.conclusion ≡ t)) formula_is c.named_same.ensures.names)
+
+pub named_same-requires-clause-formula : goal.named_same-requires-clause-formula
+named_same-requires-clause-formula c =
+    let journal = c.args.recorder.now in
+    let theory = journal.theory in
+    let premise = c.args.premise.now.theorem in
+    let binder = c.args.binder.now in
+    let name = c.in-Some.name.now in
+    let ty = c.in-Some.ty.now in
+    let dest = sym c.in-Some.ensures.parts in
+    let hypotheses_are : c.hyps.result.now ≡ premise.hypotheses = c.hyps.ensures.value ∙ ap (λ (t : Theorem). t.hypotheses) c.thm-theorem.ensures in
+    let tested = ap (is_free_in_hypotheses name ty) (sym hypotheses_are) ∙ sym c.is_free_in_some.ensures ∙ c.if-is_free_in_some.false in
+    let known = ap (λ (th : Theory). is_known th binder) (sym c.theory.ensures) ∙ sym c.known.ensures ∙ c.if-not-known.false in
+    let is_theorem = rw c.thm-theorem.ensures at c.concl.ensures.theorem in
+    let at = gen-start journal c.theory_is_legal.ensures c.args.premise.now c.requires.premise is_theorem binder name ty dest known tested in
+    let conclusion_is : c.concl.result.now ≡ premise.conclusion = c.concl.ensures.value ∙ ap (λ (t : Theorem). t.conclusion) c.thm-theorem.ensures in
+    let made_is : c.in-Ok.function ≡ function theory premise binder name ty at = abstraction-made theory premise binder name ty at c.in-Ok.function
+    (ap (abstraction_outcome binder) (sym conclusion_is) ∙ c.in-Ok.ensures.outcome) in
+    let room = list_all is_roomy (small theory premise binder name ty at) in
+    let made_typed = ap type_of made_is ∙ function_typed theory premise binder name ty at in
+    let whole = formula theory premise binder name ty at in
+    let formula_is : c.in-Ok-universal.formula ≡ whole = c.in-Ok-universal.ensures.ok ty made_typed ∙ ap (combination (constant forall_name (quantifier ty))) made_is in
+    let stated = c.in-Ok-over_all.ensures.derives name ty room (may-generalize theory premise binder name ty at) made_is (gen-fits theory premise binder name ty at) in
+    let shown = subst (λ (t : Nameless). Shows c.in-Ok-over_all.answer.theorem (images premise) t) (sym (formula_image theory premise binder name ty at) ∙ ap image (sym formula_is)) stated in
+    formula-shown c.over_all.new.recorder.theory c.in-Ok-over_all.answer.theorem (images premise) c.in-Ok-universal.formula shown c.conclusion_of-answer.ensures.formula
+
+pub named_same-requires-clause-same : goal.named_same-requires-clause-same
+named_same-requires-clause-same c =
+    let journal = c.args.recorder.now in
+    let theory = journal.theory in
+    let premise = c.args.premise.now.theorem in
+    let binder = c.args.binder.now in
+    let name = c.in-Some.name.now in
+    let ty = c.in-Some.ty.now in
+    let dest = sym c.in-Some.ensures.parts in
+    let hypotheses_are : c.hyps.result.now ≡ premise.hypotheses = c.hyps.ensures.value ∙ ap (λ (t : Theorem). t.hypotheses) c.thm-theorem.ensures in
+    let tested = ap (is_free_in_hypotheses name ty) (sym hypotheses_are) ∙ sym c.is_free_in_some.ensures ∙ c.if-is_free_in_some.false in
+    let known = ap (λ (th : Theory). is_known th binder) (sym c.theory.ensures) ∙ sym c.known.ensures ∙ c.if-not-known.false in
+    let is_theorem = rw c.thm-theorem.ensures at c.concl.ensures.theorem in
+    let at = gen-start journal c.theory_is_legal.ensures c.args.premise.now c.requires.premise is_theorem binder name ty dest known tested in
+    let conclusion_is : c.concl.result.now ≡ premise.conclusion = c.concl.ensures.value ∙ ap (λ (t : Theorem). t.conclusion) c.thm-theorem.ensures in
+    let made_is : c.in-Ok.function ≡ function theory premise binder name ty at = abstraction-made theory premise binder name ty at c.in-Ok.function
+    (ap (abstraction_outcome binder) (sym conclusion_is) ∙ c.in-Ok.ensures.outcome) in
+    let room = list_all is_roomy (small theory premise binder name ty at) in
+    let made_typed = ap type_of made_is ∙ function_typed theory premise binder name ty at in
+    let whole = formula theory premise binder name ty at in
+    let formula_is : c.in-Ok-universal.formula ≡ whole = c.in-Ok-universal.ensures.ok ty made_typed ∙ ap (combination (constant forall_name (quantifier ty))) made_is in
+    let stated = c.in-Ok-over_all.ensures.derives name ty room (may-generalize theory premise binder name ty at) made_is (gen-fits theory premise binder name ty at) in
+    let shown = subst (λ (t : Nameless). Shows c.in-Ok-over_all.answer.theorem (images premise) t) (sym (formula_image theory premise binder name ty at) ∙ ap image (sym formula_is)) stated in
+    shown.concludes
