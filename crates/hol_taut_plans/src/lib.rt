@@ -4,6 +4,7 @@
 #![tactic(auto)]
 
 mod cubes;
+mod denials;
 mod parts;
 mod planner;
 mod plans;

@@ -99,8 +99,8 @@ impl Planner {
         Ok(self.values.told(self.parts.shape(at)?))
     }
 
-    // What shows a part by itself.
-    fn fact(&self, at: usize) -> Option<Shown> {
+    /// What shows a part by itself.
+    pub(crate) fn fact(&self, at: usize) -> Option<Shown> {
         match self.facts.get(at) {
             Some(fact) => *fact,
             None => None,
@@ -201,8 +201,8 @@ impl Planner {
         self.easier(left, right)
     }
 
-    // How a part whose value is known follows.
-    fn way(&self, at: usize) -> Result<Way, Fault> {
+    /// How a part whose value is known follows: of two sides the one that takes less is chosen.
+    pub(crate) fn way(&self, at: usize) -> Result<Way, Fault> {
         let shape = self.parts.shape(at)?;
         let Some(value) = self.values.known(at) else {
             return Ok(Way::Nowhere);

@@ -1,65 +1,29 @@
 // Steps that show a part by splits over its atoms: they refute its denial.
 use crate::cubes::Cube;
+use crate::denials::{Denial, concluded, denied, valued};
 use crate::planner::{Planner, Shown};
-use crate::steps::{Formula, Law, Step};
+use crate::steps::{Formula, Step};
 use crate::values::Fact;
 use hol_model::{ATOMS_LIMIT, Fault};
 use std::alloc::Global;
-
-// A part that always has this value, and the step that assumes the opposite.
-#[derive(Clone, Copy)]
-struct Goal {
-    at: usize,
-    value: bool,
-    denial: usize,
-}
-
-// The opposite of a part of this value: a true one is equal to `F`, and a false one holds.
-fn opposite(at: usize, value: bool) -> Formula {
-    if value {
-        Formula::Denied(at)
-    } else {
-        Formula::Part(at)
-    }
-}
-
-// What gives `F` gives that a formula is equal to `F`.
-fn denied(planner: &mut Planner, formula: Formula, absurd: usize) -> Result<usize, Fault> {
-    let given = planner.put(Step::Instance(Law::Contr, formula, formula))?;
-    planner.put(Step::Deduced(given, absurd))
-}
-
-// `F`, from a part that has its value and the assumption that it has not.
-fn contradiction(planner: &mut Planner, goal: Goal) -> Result<Shown, Fault> {
-    let shown = planner.show(goal.at)?;
-    let step = if goal.value {
-        Step::Led(goal.denial, shown.step)
-    } else {
-        Step::Led(shown.step, goal.denial)
-    };
-    Ok(Shown {
-        step: planner.put(step)?,
-        cube: shown.cube,
-    })
-}
 
 // Assumes the value of an atom, and answers what is left unknown.
 fn entered(
     planner: &mut Planner,
     alloc: Global,
-    goal: Goal,
+    whole: usize,
     unknown: &[usize],
     fact: Fact,
     cube: Cube,
 ) -> Result<Vec<usize>, Fault> {
-    let step = planner.put(Step::Assumed(opposite(fact.at, !fact.value)))?;
+    let step = planner.put(Step::Assumed(valued(fact.at, fact.value)))?;
     planner.set_fact(fact.at, Shown { step, cube });
     let level = planner.cubes.len();
     let now = planner.now();
     planner.cubes.push(now.with(cube))?;
     planner
         .values
-        .enter(alloc, &planner.parts, goal.at, unknown, Some(fact), level)
+        .enter(alloc, &planner.parts, whole, unknown, Some(fact), level)
 }
 
 // Takes the assumption back.
@@ -78,31 +42,30 @@ fn cut(
 ) -> Result<Shown, Fault> {
     let fact = denied(planner, Formula::Part(at), when_true.step)?;
     let equation = planner.put(Step::Deduced(fact, when_false.step))?;
+    let cube = when_true.cube.with(when_false.cube);
     Ok(Shown {
         step: planner.put(Step::Led(equation, fact))?,
-        cube: when_true
-            .cube
-            .with(when_false.cube)
-            .without(Cube::both(atom)),
+        cube: cube.without(Cube::both(atom)),
     })
 }
 
-// `F`, from the denial of a goal, by at most so many more splits.
+// `F`, from a denial, by at most so many more splits.
 fn refuted(
     planner: &mut Planner,
     alloc: Global,
-    goal: Goal,
+    denial: &mut Denial,
     unknown: &[usize],
     most: usize,
 ) -> Result<Shown, Fault> {
-    if planner.values.known(goal.at).is_some() {
-        return contradiction(planner, goal);
+    let whole = denial.at;
+    if planner.values.known(whole).is_some() {
+        return denial.refuted(planner);
     }
     if most == 0 {
         return Err(Fault::BadShape);
     }
     planner.spend(unknown.len().saturating_mul(most))?;
-    let next = planner.values.next_atom(&planner.parts, goal.at, unknown)?;
+    let next = planner.values.next_atom(&planner.parts, whole, unknown)?;
     let Some((at, atom)) = next else {
         return Err(Fault::BadShape);
     };
@@ -110,12 +73,12 @@ fn refuted(
     let rest = entered(
         planner,
         alloc,
-        goal,
+        whole,
         unknown,
         Fact { at, value: true },
         truth,
     )?;
-    let when_true = refuted(planner, alloc, goal, &rest, most - 1)?;
+    let when_true = refuted(planner, alloc, denial, &rest, most - 1)?;
     left(planner, unknown);
     if !truth.is_within(when_true.cube) {
         return Ok(when_true);
@@ -124,12 +87,12 @@ fn refuted(
     let rest = entered(
         planner,
         alloc,
-        goal,
+        whole,
         unknown,
         Fact { at, value: false },
         falsity,
     )?;
-    let when_false = refuted(planner, alloc, goal, &rest, most - 1)?;
+    let when_false = refuted(planner, alloc, denial, &rest, most - 1)?;
     left(planner, unknown);
     if !falsity.is_within(when_false.cube) {
         return Ok(when_false);
@@ -145,18 +108,12 @@ pub(crate) fn settle(
     at: usize,
     value: bool,
 ) -> Result<(), Fault> {
-    let opposite = opposite(at, value);
-    let denial = planner.put(Step::Assumed(opposite))?;
-    let goal = Goal { at, value, denial };
+    let mut denial = Denial::assumed(planner, alloc, at, value)?;
     let needed = planner
         .values
         .enter(alloc, &planner.parts, at, unknown, None, 0)?;
-    let absurd = refuted(planner, alloc, goal, &needed, ATOMS_LIMIT)?;
-    let mut step = denied(planner, opposite, absurd.step)?;
-    if value {
-        let part = Formula::Part(at);
-        step = planner.by_instance(Law::NotFalseElim, part, part, step)?;
-    }
+    let absurd = refuted(planner, alloc, &mut denial, &needed, ATOMS_LIMIT)?;
+    let step = concluded(planner, at, value, absurd.step)?;
     planner.values.set(at, Some(value), 0);
     planner.set_fact(
         at,
