@@ -12,7 +12,7 @@ use std::alloc::Global;
 const MOST_STEPS: usize = 400_000;
 
 // The most parts that are looked at as values are told.
-const MOST_WORK: usize = 200_000_000;
+const MOST_WORK: usize = 50_000_000;
 
 /// The step that shows a part, and the values of atoms that it assumes.
 #[derive(Clone, Copy)]
