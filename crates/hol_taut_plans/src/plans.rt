@@ -69,6 +69,13 @@ fn mark(used: &mut [bool], at: usize) {
     }
 }
 
+fn is_marked(used: &[bool], at: usize) -> bool {
+    match used.get(at) {
+        Some(mark) => *mark,
+        None => false,
+    }
+}
+
 // For each step up to the last whether that takes it, or what it takes does.
 fn used(alloc: Global, steps: &[Step], last: usize) -> Result<Vec<bool>, Fault> {
     let mut used = Vec::new(alloc);
@@ -78,7 +85,7 @@ fn used(alloc: Global, steps: &[Step], last: usize) -> Result<Vec<bool>, Fault> 
     mark(&mut used, last);
     for behind in 0..steps.len() {
         let at = steps.len() - 1 - behind;
-        if used[at] {
+        if is_marked(&used, at) {
             if let Some((first, second)) = taken_by(steps[at]) {
                 mark(&mut used, first);
                 mark(&mut used, second);
@@ -95,11 +102,7 @@ fn only_used(alloc: Global, steps: &[Step], last: usize) -> Result<Vec<Step>, Fa
     let mut kept = Vec::new(alloc);
     for at in 0..steps.len() {
         numbers.push(kept.len())?;
-        let is_used = match used.get(at) {
-            Some(is_used) => *is_used,
-            None => false,
-        };
-        if is_used {
+        if is_marked(&used, at) {
             kept.push(renumbered(steps[at], &numbers))?;
         }
     }

@@ -92,7 +92,7 @@ fn constant(table: &[u64]) -> Option<bool> {
 /// For each part the value that it has in all rows, where there is one. Refused: TooLarge for too many rows of too many parts; Memory.
 pub(crate) fn constants(alloc: Global, parts: &Parts) -> Result<Vec<Option<bool>>, Fault> {
     let words = words_of(parts.atoms());
-    if parts.len() > MOST_WORDS / words {
+    if parts.len().saturating_mul(words) > MOST_WORDS {
         return Err(Fault::TooLarge);
     }
     let mut tables = Vec::new(alloc);
