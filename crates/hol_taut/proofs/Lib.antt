@@ -12,3 +12,4 @@ mod TautologyLemmas
 mod SmallLemmas
 mod TautAnswers
 mod NextLemmas
+mod PlanLemmas

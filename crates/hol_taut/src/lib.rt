@@ -12,6 +12,7 @@ mod general;
 mod known;
 mod leaves;
 mod next;
+mod planned;
 mod refuted;
 mod search;
 mod shown;

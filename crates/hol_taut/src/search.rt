@@ -3,6 +3,7 @@ ghost use Rattle.hol_equal.specs.Sequents.{Continues};
 ghost use Rattle.hol_taut_laws.specs.HasLaws.{HasLaws};
 
 use crate::chain_proofs::shortened;
+use crate::planned::by_planned_steps;
 use crate::splits::by_splits;
 use hol_journal::{Rec, Recorder};
 use hol_model::Fault;
@@ -67,8 +68,8 @@ fn by_shared(recorder: &mut Recorder, alloc: Global, laws: &Laws, term: &Term) -
     by_general(recorder, alloc, laws, &general, &parts)
 }
 
-/// A tautology by its parts that stand in it several times, or else by its long chains of `<=>`. A search whose answer is to be
-/// judged.
+/// A tautology by its parts that stand in it several times, or else by its long chains of `<=>`, or where it has none, by a plan. A
+/// search whose answer is to be judged.
 #[tactic(auto, using(hol_taut_chains::proofs::ChainLemmas::continued_twice, crate::proofs::LawLemmas::still_lawful))]
 pub(crate) fn searched(
     recorder: &mut Recorder,
@@ -82,11 +83,11 @@ pub(crate) fn searched(
     match by_shared(recorder, alloc, laws, term) {
         Ok(made) => Ok(made),
         Err(Fault::Memory) => Err(Fault::Memory),
-        Err(fault) => {
+        Err(_) => {
             if has_long_chain(term) {
                 shortened(recorder, alloc, laws, term)
             } else {
-                Err(fault)
+                by_planned_steps(recorder, alloc, laws, term)
             }
         }
     }

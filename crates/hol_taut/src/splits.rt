@@ -15,6 +15,7 @@ ghost use Rattle.hol_taut.specs.Ways.{IsSmallIf};
 use crate::denial::denied_by;
 use crate::facts::Facts;
 use crate::formula_terms::{equivalence, false_formula, pass_formula};
+use crate::planned::by_planned_steps;
 use crate::refuted::refuted;
 use crate::steps::by_one;
 use hol_equal::assume;
@@ -67,9 +68,9 @@ pub(crate) fn split(
     )
 }
 
-/// A formula by splits, where it is a tautology: what a longer proof takes on its way.
+// A formula by splits, where it is a tautology.
 #[tactic(none)]
-pub(crate) fn by_splits(
+fn by_own_splits(
     recorder: &mut Recorder,
     alloc: Global,
     laws: &Laws,
@@ -96,4 +97,22 @@ pub(crate) fn by_splits(
         Err(fault) => return Err(fault),
     };
     split(recorder, alloc, laws, term, &denial, &atoms)
+}
+
+/// A formula by a plan, or else by splits, where it is a tautology: what a longer proof takes on its way.
+#[tactic(auto, using(hol_taut_chains::proofs::ChainLemmas::continued_twice, crate::proofs::LawLemmas::still_lawful))]
+pub(crate) fn by_splits(
+    recorder: &mut Recorder,
+    alloc: Global,
+    laws: &Laws,
+    term: &Term,
+) -> Result<Rec, Fault>
+    requires laws { HasLaws recorder.old laws.now }
+    ensures continues { Continues recorder.old recorder.new result }
+{
+    match by_planned_steps(recorder, alloc, laws, term) {
+        Ok(made) => Ok(made),
+        Err(Fault::Memory) => Err(Fault::Memory),
+        Err(_) => by_own_splits(recorder, alloc, laws, term),
+    }
 }

@@ -60,13 +60,103 @@ fn conjunction(alloc: Global) -> Result<Term, Fault> {
     joined(alloc, "==>", &all, &last)
 }
 
-// `(a ==> b) /\ .. /\ (m ==> n) ==> a ==> n`.
-fn implications(alloc: Global) -> Result<Term, Fault> {
-    let steps = steps(alloc, &NAMES)?;
-    let first = variable(alloc, "a")?;
-    let last = variable(alloc, "n")?;
+// `(a ==> b) /\ .. /\ (m ==> n) ==> a ==> n`, over some of the variables.
+fn implications_of(alloc: Global, names: &[&str], first: &str, last: &str) -> Result<Term, Fault> {
+    let steps = steps(alloc, names)?;
+    let first = variable(alloc, first)?;
+    let last = variable(alloc, last)?;
     let whole = joined(alloc, "==>", &first, &last)?;
     joined(alloc, "==>", &steps, &whole)
+}
+
+// The same over all of them.
+fn implications(alloc: Global) -> Result<Term, Fault> {
+    implications_of(alloc, &NAMES, "a", "n")
+}
+
+// The digits of two numbers, the lowest first, and the carries.
+const DIGITS: [(&str, &str); 4] = [("a", "e"), ("b", "f"), ("c", "g"), ("d", "h")];
+
+const CARRIES: [&str; 5] = ["i", "j", "k", "l", "m"];
+
+// A connective between two digits.
+fn digits(alloc: Global, connective: &str, names: &(&str, &str)) -> Result<Term, Fault> {
+    let left = variable(alloc, names.0)?;
+    let right = variable(alloc, names.1)?;
+    joined(alloc, connective, &left, &right)
+}
+
+// `a /\ e \/ carry /\ (a \/ e)`.
+fn carried(alloc: Global, carry: &str, names: &(&str, &str)) -> Result<Term, Fault> {
+    let both = digits(alloc, "/\\", names)?;
+    let either = digits(alloc, "\\/", names)?;
+    let carry = variable(alloc, carry)?;
+    let kept = joined(alloc, "/\\", &carry, &either)?;
+    joined(alloc, "\\/", &both, &kept)
+}
+
+// Each carry from the one before it, behind this one.
+fn rippled(
+    alloc: Global,
+    carry: &str,
+    later: &[&str],
+    names: &[(&str, &str)],
+) -> Result<Term, Fault> {
+    let (Some((first, others)), Some((next, carries))) = (names.split_first(), later.split_first())
+    else {
+        return Err(Fault::BadShape);
+    };
+    let sum = carried(alloc, carry, first)?;
+    let step = joined(alloc, "=", &variable(alloc, next)?, &sum)?;
+    if others.is_empty() {
+        return Ok(step);
+    }
+    let rest = rippled(alloc, next, carries, others)?;
+    joined(alloc, "/\\", &step, &rest)
+}
+
+// A carry that goes through all these digits.
+fn through(alloc: Global, carry: &Term, names: &[(&str, &str)]) -> Result<Term, Fault> {
+    let Some((first, rest)) = names.split_first() else {
+        return carry.copy(alloc);
+    };
+    let either = digits(alloc, "\\/", first)?;
+    let kept = joined(alloc, "/\\", carry, &either)?;
+    through(alloc, &kept, rest)
+}
+
+// The last carry by these digits alone, where this one comes in.
+fn ahead(alloc: Global, carry: &Term, names: &[(&str, &str)]) -> Result<Term, Fault> {
+    let Some((first, rest)) = names.split_first() else {
+        return carry.copy(alloc);
+    };
+    let kept = through(alloc, carry, names)?;
+    let both = digits(alloc, "/\\", first)?;
+    let later = ahead(alloc, &both, rest)?;
+    joined(alloc, "\\/", &kept, &later)
+}
+
+// An adder of four digits whose carries ripple has the last carry of one that looks ahead.
+fn adder(alloc: Global) -> Result<Term, Fault> {
+    let rippled = rippled(alloc, "i", &CARRIES[1..], &DIGITS)?;
+    let ahead = ahead(alloc, &variable(alloc, "i")?, &DIGITS)?;
+    let last = joined(alloc, "=", &variable(alloc, "m")?, &ahead)?;
+    joined(alloc, "==>", &rippled, &last)
+}
+
+// Whether TAUT proves two formulas together by at most ten inferences more than each by itself.
+fn takes_the_sum(
+    alloc: Global,
+    left: Result<Term, Fault>,
+    right: Result<Term, Fault>,
+) -> Result<bool, Fault> {
+    let left = left?;
+    let right = right?;
+    let both = joined(alloc, "/\\", &left, &right)?;
+    let left = inferences(alloc, &left)?;
+    let right = inferences(alloc, &right)?;
+    let both = inferences(alloc, &both)?;
+    Ok(both <= left.saturating_add(right).saturating_add(10))
 }
 
 // `(a <=> .. <=> j) <=> ((j <=> ..) <=> a)`.
@@ -172,4 +262,19 @@ fn negated_chain_of_ten(rt: HostRuntime) {
 fn chains_of_ten_as_parts(rt: HostRuntime) {
     assert!(rt; takes_fewer(rt.alloc(), chain_as_part(rt.alloc()), 519));
     assert!(rt; takes_fewer(rt.alloc(), chain_as_premise(rt.alloc()), 114_085));
+}
+
+// The bound is the number of rows of thirteen variables.
+#[test]
+fn adder_of_four_digits(rt: HostRuntime) {
+    assert!(rt; takes_fewer(rt.alloc(), adder(rt.alloc()), 8_192));
+}
+
+// Each of two formulas of a conjunction is proved over its own variables.
+#[test]
+fn conjunction_of_tautologies(rt: HostRuntime) {
+    let alloc = rt.alloc();
+    let left = implications_of(alloc, &NAMES[..7], "a", "g");
+    let right = implications_of(alloc, &NAMES[7..], "h", "n");
+    assert!(rt; takes_the_sum(alloc, left, right) == Ok(true));
 }

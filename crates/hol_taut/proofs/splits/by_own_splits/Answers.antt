@@ -3,7 +3,7 @@ use Rattle.hol_model.specs.Logic.NamedLogic.{false_term}
 use Rattle.hol_bool.proofs.RoomLemmas.{equation-is}
 use Rattle.hol_taut.proofs.AtomLemmas.{accepted-true}
 use Rattle.hol_taut.proofs.TautAnswers.{continues-unchanged, denial-formula}
-use Rattle.hol_taut.proofs.splits.by_splits.Goals as goal
+use Rattle.hol_taut.proofs.splits.by_own_splits.Goals as goal
 
 pub returns-in-Err : goal.returns-in-Err
 returns-in-Err c = record { continues = continues-unchanged c.args.recorder.now c.in-Err.fault }

@@ -1,0 +1,287 @@
+// Tautologies by plans, whose steps are taken one after another.
+ghost use Rattle.std.specs.Prelude.{◌≡◌, ◌∷◌, ◌++◌, [], IfOk, IfErr, OnOk};
+ghost use Rattle.hol_model.specs.declared.fault.Fault.TheVariants.{Memory};
+ghost use Rattle.hol_journal.specs.Journal.{IsMade};
+ghost use Rattle.hol_journal.specs.Growth.{IsGrown};
+ghost use Rattle.hol_prelude_derivations.specs.Derivations.{AreMade};
+ghost use Rattle.hol_equal.specs.Sequents.{Continues};
+ghost use Rattle.hol_taut_laws.specs.HasLaws.{HasLaws};
+
+use crate::formula_terms::{equivalence, false_formula, for_p_q};
+use crate::leaves::constantly;
+use hol_equal::steps::deduct_antisym;
+use hol_equal::{assume, eq_mp, trans};
+use hol_journal::{Rec, Recorder};
+use hol_model::Fault;
+use hol_taut_chains::{instance, reflexive};
+use hol_taut_laws::{Law, Laws, law_theorem};
+use hol_taut_plans as plans;
+use hol_taut_plans::{Formula, Plan, Step, planned};
+use hol_terms::Term;
+use std::alloc::Global;
+
+// The law of a step.
+fn law_of(law: plans::Law) -> Law {
+    match law {
+        plans::Law::Contr => Law::Contr,
+        plans::Law::Conj => Law::Conj,
+        plans::Law::Mp => Law::Mp,
+        plans::Law::Disj1 => Law::Disj1,
+        plans::Law::Disj2 => Law::Disj2,
+        plans::Law::AndFalseLeft => Law::AndFalseLeft,
+        plans::Law::AndFalseRight => Law::AndFalseRight,
+        plans::Law::ImpFalseLeft => Law::ImpFalseLeft,
+        plans::Law::ImpTrueRight => Law::ImpTrueRight,
+        plans::Law::NotTrue => Law::NotTrue,
+        plans::Law::NotFalse => Law::NotFalse,
+        plans::Law::IffTrueLeft => Law::IffTrueLeft,
+        plans::Law::IffTrueRight => Law::IffTrueRight,
+        plans::Law::IffFalseLeft => Law::IffFalseLeft,
+        plans::Law::OrFalseLeft => Law::OrFalseLeft,
+        plans::Law::NotFalseElim => Law::NotFalseElim,
+    }
+}
+
+// A part of the formula.
+fn part_of(plan: &Plan, number: usize) -> Result<&Term, Fault> {
+    match plan.part(number) {
+        Some(part) => Ok(part),
+        None => Err(Fault::BadShape),
+    }
+}
+
+// A formula of the plan.
+fn formula_of(alloc: Global, plan: &Plan, formula: Formula) -> Result<Term, Fault> {
+    match formula {
+        Formula::Part(number) => part_of(plan, number)?.copy(alloc),
+        Formula::Denied(number) => {
+            let falsity = false_formula(alloc)?;
+            equivalence(alloc, part_of(plan, number)?, &falsity)
+        }
+    }
+}
+
+// Two formulas of the plan for the variables `p` and `q`.
+fn formulas_for(
+    alloc: Global,
+    plan: &Plan,
+    p: Formula,
+    q: Formula,
+) -> Result<Vec<(Term, Term)>, Fault> {
+    let p = formula_of(alloc, plan, p)?;
+    let q = formula_of(alloc, plan, q)?;
+    for_p_q(alloc, &p, &q)
+}
+
+// An earlier theorem.
+fn earlier<'a>(recorder: &Recorder, made: &'a [Rec], number: usize) -> Result<&'a Rec, Fault>
+    requires { AreMade recorder.now made.now }
+    ensures { IfOk result (λ theorem. IsMade recorder.now theorem.now) }
+{
+    let _entries = recorder.entries();
+    match made.get(number) {
+        Some(theorem) => Ok(theorem),
+        None => Err(Fault::BadShape),
+    }
+}
+
+// REFL.
+fn same(recorder: &mut Recorder, alloc: Global, plan: &Plan, formula: Formula) -> Result<Rec, Fault>
+    ensures continues { Continues recorder.old recorder.new result }
+{
+    match formula_of(alloc, plan, formula) {
+        Ok(formula) => reflexive(recorder, alloc, &formula),
+        Err(fault) => Err(fault),
+    }
+}
+
+// ASSUME.
+fn assumed(
+    recorder: &mut Recorder,
+    alloc: Global,
+    plan: &Plan,
+    formula: Formula,
+) -> Result<Rec, Fault>
+    ensures continues { Continues recorder.old recorder.new result }
+{
+    match formula_of(alloc, plan, formula) {
+        Ok(formula) => assume(recorder, alloc, &formula),
+        Err(fault) => Err(fault),
+    }
+}
+
+// A law at formulas.
+fn law_at(
+    recorder: &mut Recorder,
+    alloc: Global,
+    laws: &Laws,
+    law: Law,
+    formulas: Result<Vec<(Term, Term)>, Fault>,
+) -> Result<Rec, Fault>
+    requires laws { HasLaws recorder.old laws.now }
+    ensures continues { Continues recorder.old recorder.new result }
+{
+    let formulas = match formulas {
+        Ok(formulas) => formulas,
+        Err(fault) => return Err(fault),
+    };
+    let lemma = law_theorem(recorder, laws, law);
+    instance(recorder, alloc, &formulas, lemma)
+}
+
+// DEDUCT_ANTISYM_RULE.
+fn deduced(
+    recorder: &mut Recorder,
+    alloc: Global,
+    made: &[Rec],
+    first: usize,
+    second: usize,
+) -> Result<Rec, Fault>
+    requires made { AreMade recorder.old made.now }
+    ensures continues { Continues recorder.old recorder.new result }
+{
+    let first = match earlier(recorder, made, first) {
+        Ok(first) => first,
+        Err(fault) => return Err(fault),
+    };
+    let second = match earlier(recorder, made, second) {
+        Ok(second) => second,
+        Err(fault) => return Err(fault),
+    };
+    deduct_antisym(recorder, alloc, first, second)
+}
+
+// EQ_MP.
+fn led(
+    recorder: &mut Recorder,
+    alloc: Global,
+    made: &[Rec],
+    first: usize,
+    second: usize,
+) -> Result<Rec, Fault>
+    requires made { AreMade recorder.old made.now }
+    ensures continues { Continues recorder.old recorder.new result }
+{
+    let first = match earlier(recorder, made, first) {
+        Ok(first) => first,
+        Err(fault) => return Err(fault),
+    };
+    let second = match earlier(recorder, made, second) {
+        Ok(second) => second,
+        Err(fault) => return Err(fault),
+    };
+    eq_mp(recorder, alloc, first, second)
+}
+
+// TRANS.
+fn joined(
+    recorder: &mut Recorder,
+    alloc: Global,
+    made: &[Rec],
+    first: usize,
+    second: usize,
+) -> Result<Rec, Fault>
+    requires made { AreMade recorder.old made.now }
+    ensures continues { Continues recorder.old recorder.new result }
+{
+    let first = match earlier(recorder, made, first) {
+        Ok(first) => first,
+        Err(fault) => return Err(fault),
+    };
+    let second = match earlier(recorder, made, second) {
+        Ok(second) => second,
+        Err(fault) => return Err(fault),
+    };
+    trans(recorder, alloc, first, second)
+}
+
+// The theorem of a step, by those of the earlier ones.
+fn taken(
+    recorder: &mut Recorder,
+    alloc: Global,
+    laws: &Laws,
+    plan: &Plan,
+    made: &[Rec],
+    step: Step,
+) -> Result<Rec, Fault>
+    requires laws { HasLaws recorder.old laws.now }
+    requires made { AreMade recorder.old made.now }
+    ensures continues { Continues recorder.old recorder.new result }
+{
+    match step {
+        Step::Truth => constantly(recorder, alloc, laws, true),
+        Step::Same(formula) => same(recorder, alloc, plan, formula),
+        Step::Assumed(formula) => assumed(recorder, alloc, plan, formula),
+        Step::Instance(law, p, q) => {
+            let formulas = formulas_for(alloc, plan, p, q);
+            law_at(recorder, alloc, laws, law_of(law), formulas)
+        }
+        Step::Deduced(first, second) => deduced(recorder, alloc, made, first, second),
+        Step::Led(first, second) => led(recorder, alloc, made, first, second),
+        Step::Joined(first, second) => joined(recorder, alloc, made, first, second),
+    }
+}
+
+// One theorem more.
+fn pushed(made: &mut Vec<Rec>, theorem: Rec) -> Result<(), Fault>
+    ensures ok { OnOk result (made.new.items ≡ made.old.items ++ theorem ∷ []) }
+    ensures err { IfErr result (λ fault. fault ≡ Memory) }
+{
+    made.push(theorem)?;
+    Ok(())
+}
+
+// The theorems of all steps.
+fn all_taken(
+    recorder: &mut Recorder,
+    alloc: Global,
+    laws: &Laws,
+    plan: &Plan,
+    steps: &[Step],
+) -> Result<Vec<Rec>, Fault>
+    requires laws { HasLaws recorder.old laws.now }
+    ensures grown { IsGrown recorder.old recorder.new }
+    ensures theory { recorder.new.theory ≡ recorder.old.theory }
+    ensures made { IfOk result (λ all. AreMade recorder.new all.items) }
+{
+    let mut made = Vec::new(alloc);
+    for step in steps {
+        let theorem = match taken(recorder, alloc, laws, plan, &made, *step) {
+            Ok(theorem) => theorem,
+            Err(fault) => return Err(fault),
+        };
+        pushed(&mut made, theorem)?;
+    }
+    Ok(made)
+}
+
+// The theorem of the last step.
+fn by_plan(recorder: &mut Recorder, alloc: Global, laws: &Laws, plan: &Plan) -> Result<Rec, Fault>
+    requires laws { HasLaws recorder.old laws.now }
+    ensures continues { Continues recorder.old recorder.new result }
+{
+    let Some((last, steps)) = plan.steps().split_last() else {
+        return Err(Fault::BadShape);
+    };
+    let made = match all_taken(recorder, alloc, laws, plan, steps) {
+        Ok(made) => made,
+        Err(fault) => return Err(fault),
+    };
+    taken(recorder, alloc, laws, plan, &made, *last)
+}
+
+/// A formula by the steps of a plan. A search whose answer is to be judged.
+pub(crate) fn by_planned_steps(
+    recorder: &mut Recorder,
+    alloc: Global,
+    laws: &Laws,
+    term: &Term,
+) -> Result<Rec, Fault>
+    requires laws { HasLaws recorder.old laws.now }
+    ensures continues { Continues recorder.old recorder.new result }
+{
+    match planned(alloc, term) {
+        Ok(plan) => by_plan(recorder, alloc, laws, &plan),
+        Err(fault) => Err(fault),
+    }
+}
