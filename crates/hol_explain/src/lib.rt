@@ -2,12 +2,14 @@
 //! out in `hol_explain_hints`. They take no part in any promise: what a run prints, and how it ends, is told by `hol_script` alone.
 #![tactic(auto)]
 
+mod follow;
 mod message;
 mod origins;
 mod records;
 mod search;
 mod walk;
 
+pub use follow::Follower;
 pub use hol_script::Refused;
 pub use origins::{Origin, origin_of};
 pub use walk::{Script, explain, explain_refusal, write_records};
