@@ -3,6 +3,7 @@
 //! how it ends, is told by `hol_script` alone.
 #![tactic(auto)]
 
+mod follow;
 mod message;
 mod notes;
 mod origins;
@@ -10,6 +11,7 @@ mod records;
 mod search;
 mod walk;
 
+pub use follow::Follower;
 pub use hol_script::Refused;
 pub use origins::{Origin, origin_of};
 pub use walk::{Script, explain, explain_refusal, write_records};

@@ -27,10 +27,10 @@ pub struct Script<'a> {
     pub host_names: &'a [String],
 }
 
-// A walk over a script, with the functions of a host: whether it tells each command by a record, or refused ones by a message and
-// suspicious ones by notes.
+/// A walk over a script, with the functions of a host: whether it tells each command by a record, or refused ones by a message and
+/// suspicious ones by notes.
 #[derive(Drop)]
-struct Walk<'a, H> {
+pub(crate) struct Walk<'a, H> {
     alloc: Global,
     script: &'a Script<'a>,
     host: &'a H,
@@ -44,7 +44,17 @@ struct Written {
     is_refused: bool,
 }
 
-impl<H> Walk<'_, H> {
+impl<'s, H> Walk<'s, H> {
+    /// A walk that tells refused commands by messages.
+    pub(crate) fn new(alloc: Global, script: &'s Script<'s>, host: &'s H) -> Walk<'s, H> {
+        Walk {
+            alloc,
+            script,
+            host,
+            makes_records: false,
+        }
+    }
+
     // A command, as records tell it.
     fn told<'a>(&'a self, piece: &'a Piece<'a>, place: &Place, mark: &'a [u8]) -> Told<'a> {
         Told {
@@ -262,8 +272,8 @@ fn write_any<W: Sink>(writer: &mut W, text: Option<String>) -> Result<(), Fault>
     }
 }
 
-// Runs a command, and writes what is told of it. Answers whether it was refused.
-fn explain_piece<W: Sink, H: Refiners>(
+/// Runs a command, and writes what is told of it. Answers whether it was refused.
+pub(crate) fn explain_piece<W: Sink, H: Refiners>(
     walk: &Walk<'_, H>,
     writer: &mut W,
     known: &mut Known,
@@ -309,8 +319,8 @@ fn unfinished_rest<H: Refiners>(
     unfinished(walk.alloc, file, between(rest, start, rest.len()), &here)
 }
 
-// Writes what is told of a rest without a mark behind it, where it holds more than white space. Answers whether it does.
-fn explain_rest<W: Sink, H: Refiners>(
+/// Writes what is told of a rest without a mark behind it, where it holds more than white space. Answers whether it does.
+pub(crate) fn explain_rest<W: Sink, H: Refiners>(
     walk: &Walk<'_, H>,
     writer: &mut W,
     rest: &[u8],
@@ -388,12 +398,7 @@ pub fn explain<W: Sink, H: Refiners>(
     requires { W.has_failed writer.old ≡ false }
     ensures { IfErr result (Contains (WriteFault ∷ Memory ∷ [])) }
 {
-    let walk = Walk {
-        alloc,
-        script,
-        host,
-        makes_records: false,
-    };
+    let walk = Walk::new(alloc, script, host);
     match walk_over(&walk, writer) {
         Ok(_refused) => Ok(()),
         Err(fault) => Err(fault),
@@ -429,12 +434,7 @@ pub fn explain_refusal<H: Refiners>(
     host: &H,
     refused: &Refused,
 ) -> Result<String, Fault> {
-    let walk = Walk {
-        alloc,
-        script,
-        host,
-        makes_records: false,
-    };
+    let walk = Walk::new(alloc, script, host);
     match explained_first(&walk, refused) {
         Ok(text) => Ok(text),
         Err(_) => Err(Fault::Memory),

@@ -11,19 +11,30 @@ use Rattle.hol_script_manager.specs.Managers.{state_of}
 use Rattle.hol_script.specs.declared.progress.Progress.{Progress}
 use Rattle.hol_script_manager.specs.Session.{IsAcceptedLog, IsLongLog}
 use Rattle.hol_script.specs.Runs.{counts_of, names_of, if_logged, Finishes, Breaks, devices}
+use Rattle.hol_script.specs.Conversations.{EndsWhole, without_log, in_written_log, with_log, unasked}
 use Rattle.hol_script.specs.RunLogs.{IsLogOver, WritesLog, WritesFront, Logs, claims_listed, journal_of}
 use Rattle.hol_script.proofs.RunLogLemmas.{over-end, short-over, long-over}
 
-same_fault : (fault other : Fault) {A : Type 0} → fault ≡ other → IsErrOf {T = A} (Err fault) other
+pub same_fault : (fault other : Fault) {A : Type 0} → fault ≡ other → IsErrOf {T = A} (Err fault) other
 same_fault fault other same = ap (λ (e : Fault). Err e) same
 
 -- the front of the text, as a broken sink has it
-breaks_off : (sink : SinkUse) (text : List ℕ) → AppendsFront sink.before sink.after text → sink.has_failed ≡ true → BreaksOff sink text
+pub breaks_off : (sink : SinkUse) (text : List ℕ) → AppendsFront sink.before sink.after text → sink.has_failed ≡ true → BreaksOff sink text
 breaks_off sink text front failed = record { front = front.front; rest = front.rest; whole = front.whole; wrote = front.taken; failed = failed }
 
 module _ (tools : Tools) (source : SourceUse) (out log : SinkUse) where
   abbrev EndsSo : Result Counts Fault → Bool → Type 0
   EndsSo answer wants_log = Ends tools IsLogOver (devices source out log) answer wants_log
+
+  abbrev EndsWholeSo : Result Counts Fault → Bool → Type 0
+  EndsWholeSo answer wants_log = EndsWhole tools IsLogOver (devices source out log) answer wants_log
+
+  -- a run whose output is whole ends as a run
+  ends-as_run : {answer : Result Counts Fault} {wants_log : Bool} → EndsWholeSo answer wants_log → EndsSo answer wants_log
+  ends-as_run (without_log e) = before_log e
+  ends-as_run (in_written_log e) = in_log e
+  ends-as_run (with_log e) = logged e
+  ends-as_run (unasked e) = unlogged e
 
   -- ---- nothing is run
 
@@ -70,9 +81,9 @@ module _ (tools : Tools) (source : SourceUse) (out log : SinkUse) where
       counted : ◌≡◌ {A = Result Counts Fault} (Ok (counts_of progress.summary)) (Ok (counts_after no_counts f.turns))
       counted = ap (λ (counts : Counts). Ok counts) f.counted
 
-      pub ends-unlogged : {wants_log : Bool} → wants_log ≡ false → log.IsUntouched → EndsSo (Ok (counts_of progress.summary)) wants_log
-      ends-unlogged unwanted untouched =
-          subst (λ (w : Bool). EndsSo (Ok (counts_of progress.summary)) w) (sym unwanted) (unlogged (record { turns = f.turns; answers = counted; whole = whole; log = untouched }))
+      pub whole-unlogged : {wants_log : Bool} → wants_log ≡ false → log.IsUntouched → EndsWholeSo (Ok (counts_of progress.summary)) wants_log
+      whole-unlogged unwanted untouched =
+          subst (λ (w : Bool). EndsWholeSo (Ok (counts_of progress.summary)) w) (sym unwanted) (unasked (record { turns = f.turns; answers = counted; whole = whole; log = untouched }))
 
       over : {text : List ℕ} → IsLogOver (journal_of progress).theory (claims_listed progress) text → IsLogOver (last_state start f.turns).library.theory (claims_of_turns f.turns) text
       over {text = text} is = over-end progress f (λ theory claims. IsLogOver theory claims text) is
@@ -80,17 +91,17 @@ module _ (tools : Tools) (source : SourceUse) (out log : SinkUse) where
       short : {text : List ℕ} → IsAcceptedLog (journal_of progress) (claims_listed progress) text → IsShortLog IsLogOver f.turns text
       short is = record { is_log = over (short-over is); within_limit = is.within_limit }
 
-      logs : WritesLog (journal_of progress) (claims_listed progress) log.before log.after → EndsSo (Ok (counts_of progress.summary)) true
-      logs writes = logged (record { turns = f.turns; text = writes.log; answers = counted; whole = whole; is_log = short writes.is_log; wrote = writes.wrote })
+      logs : WritesLog (journal_of progress) (claims_listed progress) log.before log.after → EndsWholeSo (Ok (counts_of progress.summary)) true
+      logs writes = with_log (record { turns = f.turns; text = writes.log; answers = counted; whole = whole; is_log = short writes.is_log; wrote = writes.wrote })
 
       -- the log breaks off, or there is none
       log_fails : {A : Type 0} (fault : Fault) → Contains (WriteFault ∷ TooLong ∷ Memory ∷ []) fault
           → (IsErrOf {T = A} (Err fault) WriteFault → (log.has_failed ≡ true) × WritesFront (journal_of progress) (claims_listed progress) log.before log.after)
           → (IsErrOf {T = A} (Err fault) TooLong → IsLongLog (journal_of progress) (claims_listed progress))
-          → ((IsErrOf {T = A} (Err fault) TooLong ⊎ IsErrOf {T = A} (Err fault) Memory) → log.IsUntouched) → EndsSo (Err fault) true
+          → ((IsErrOf {T = A} (Err fault) TooLong ⊎ IsErrOf {T = A} (Err fault) Memory) → log.IsUntouched) → EndsWholeSo (Err fault) true
       log_fails fault (zero, within, is) broken long untouched =
           let (failed, writes) = broken (same_fault fault WriteFault (sym is)) in
-          subst (λ (e : Fault). EndsSo (Err e) true) is (in_log (record {
+          subst (λ (e : Fault). EndsWholeSo (Err e) true) is (in_written_log (record {
             turns = f.turns;
             text = writes.log;
             answers = refl;
@@ -100,7 +111,7 @@ module _ (tools : Tools) (source : SourceUse) (out log : SinkUse) where
           }))
       log_fails fault (suc zero, within, is) broken long untouched =
           let longer = long (same_fault fault TooLong (sym is)) in
-          before_log (record {
+          without_log (record {
             turns = f.turns;
             fault = fault;
             answers = refl;
@@ -109,16 +120,29 @@ module _ (tools : Tools) (source : SourceUse) (out log : SinkUse) where
             log = untouched (inl (same_fault fault TooLong (sym is)));
           })
       log_fails fault (suc (suc zero), within, is) broken long untouched =
-          before_log (record { turns = f.turns; fault = fault; answers = refl; whole = whole; has_none = inr (sym is); log = untouched (inr (same_fault fault Memory (sym is))) })
+          without_log (record { turns = f.turns; fault = fault; answers = refl; whole = whole; has_none = inr (sym is); log = untouched (inr (same_fault fault Memory (sym is))) })
       log_fails fault (suc (suc (suc place)), within, is) broken long untouched = absurd (omega (arith, within))
 
       log_ends : (outcome : Result Unit Fault) → OnOk outcome (WritesLog (journal_of progress) (claims_listed progress) log.before log.after)
           → IfErr outcome (Contains (WriteFault ∷ TooLong ∷ Memory ∷ []))
           → (IsErrOf outcome WriteFault → (log.has_failed ≡ true) × WritesFront (journal_of progress) (claims_listed progress) log.before log.after)
           → (IsErrOf outcome TooLong → IsLongLog (journal_of progress) (claims_listed progress))
-          → ((IsErrOf outcome TooLong ⊎ IsErrOf outcome Memory) → log.IsUntouched) → EndsSo (if_logged outcome (counts_of progress.summary)) true
+          → ((IsErrOf outcome TooLong ⊎ IsErrOf outcome Memory) → log.IsUntouched) → EndsWholeSo (if_logged outcome (counts_of progress.summary)) true
       log_ends (Ok done) writes listed broken long untouched = logs writes
       log_ends (Err fault) writes listed broken long untouched = log_fails fault listed broken long untouched
+
+      pub whole-in_log : {wants_log : Bool} (outcome : Result Unit Fault) → wants_log ≡ true
+          → OnOk outcome (WritesLog (journal_of progress) (claims_listed progress) log.before log.after)
+          → IfErr outcome (Contains (WriteFault ∷ TooLong ∷ Memory ∷ []))
+          → (IsErrOf outcome WriteFault → (log.has_failed ≡ true) × WritesFront (journal_of progress) (claims_listed progress) log.before log.after)
+          → (IsErrOf outcome TooLong → IsLongLog (journal_of progress) (claims_listed progress))
+          → ((IsErrOf outcome TooLong ⊎ IsErrOf outcome Memory) → log.IsUntouched) → EndsWholeSo (if_logged outcome (counts_of progress.summary)) wants_log
+      whole-in_log outcome wanted writes listed broken long untouched =
+          subst (λ (w : Bool). EndsWholeSo (if_logged outcome (counts_of progress.summary)) w) (sym wanted) (log_ends outcome writes listed broken long untouched)
+
+      -- as a run ends
+      pub ends-unlogged : {wants_log : Bool} → wants_log ≡ false → log.IsUntouched → EndsSo (Ok (counts_of progress.summary)) wants_log
+      ends-unlogged unwanted untouched = ends-as_run (whole-unlogged unwanted untouched)
 
       pub ends-in_log : {wants_log : Bool} (outcome : Result Unit Fault) → wants_log ≡ true
           → OnOk outcome (WritesLog (journal_of progress) (claims_listed progress) log.before log.after)
@@ -126,8 +150,7 @@ module _ (tools : Tools) (source : SourceUse) (out log : SinkUse) where
           → (IsErrOf outcome WriteFault → (log.has_failed ≡ true) × WritesFront (journal_of progress) (claims_listed progress) log.before log.after)
           → (IsErrOf outcome TooLong → IsLongLog (journal_of progress) (claims_listed progress))
           → ((IsErrOf outcome TooLong ⊎ IsErrOf outcome Memory) → log.IsUntouched) → EndsSo (if_logged outcome (counts_of progress.summary)) wants_log
-      ends-in_log outcome wanted writes listed broken long untouched =
-          subst (λ (w : Bool). EndsSo (if_logged outcome (counts_of progress.summary)) w) (sym wanted) (log_ends outcome writes listed broken long untouched)
+      ends-in_log outcome wanted writes listed broken long untouched = ends-as_run (whole-in_log outcome wanted writes listed broken long untouched)
 
 -- what became of the log, where its sink tells
 pub logs-told : {failed : Bool} (progress : Progress) {before after : Option (List ℕ)} (outcome : Result Unit Fault)

@@ -4,3 +4,5 @@ pub mod RunLogLemmas
 pub mod HeadlineLemmas
 pub mod EndLemmas
 pub mod DeviceLemmas
+pub mod CourseLemmas
+pub mod ConversationLemmas

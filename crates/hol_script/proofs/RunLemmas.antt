@@ -33,7 +33,7 @@ answer-lines n Nothing counts same = omega (arith, same)
 answer-lines n (Line line) counts same = omega (arith, same)
 answer-lines n (Goals text) counts same = omega (arith, same)
 
-answer-counts : (scope : Scope) (counts : Counts) (reply : Reply) (answer : Result Printed Refused) → Says answer scope reply → counting_answer counts answer ≡ counting counts reply
+pub answer-counts : (scope : Scope) (counts : Counts) (reply : Reply) (answer : Result Printed Refused) → Says answer scope reply → counting_answer counts answer ≡ counting counts reply
 answer-counts scope counts (Ok message) (Ok printed) says =
     let lines : (counting_answer counts (Ok printed)).theorem_lines ≡ counts.theorem_lines + one_of (theorem_in_message message) =
     answer-lines counts.theorem_lines printed counts refl ∙ ap (λ n. counts.theorem_lines + n) (one-same (theorem_in_message message) (printed_name printed) says.named) in
@@ -52,7 +52,7 @@ listed-same : (found : Option NamedTheorem) (name : Option (List ℕ)) → name 
 listed-same None name same = ap (λ (n : Option (List ℕ)). as_list n) same
 listed-same (Some shown) name same = ap (λ (n : Option (List ℕ)). as_list n) same
 
-answer-names : (scope : Scope) (reply : Reply) (answer : Result Printed Refused) → Says answer scope reply → names_in_answer answer ≡ map (λ shown. shown.name) (as_list (theorem_in reply))
+pub answer-names : (scope : Scope) (reply : Reply) (answer : Result Printed Refused) → Says answer scope reply → names_in_answer answer ≡ map (λ shown. shown.name) (as_list (theorem_in reply))
 answer-names scope (Ok message) (Ok printed) says = listed-same (theorem_in_message message) (printed_name printed) says.named
 answer-names scope (Ok message) (Err refused) says = absurd says
 answer-names scope (Err refusal) (Ok printed) says = absurd says
@@ -60,10 +60,10 @@ answer-names scope (Err refusal) (Err refused) says = refl
 
 -- ---- one more turn
 
-text-more : (turns : List Turn) (turn : Turn) → text_of_turns (turns ++ turn ∷ []) ≡ text_of_turns turns ++ text_of_turn turn
+pub text-more : (turns : List Turn) (turn : Turn) → text_of_turns (turns ++ turn ∷ []) ≡ text_of_turns turns ++ text_of_turn turn
 text-more turns turn = turns-add.text turns (turn ∷ []) ∙ ap (λ text. text_of_turns turns ++ text) (append-nil (text_of_turn turn))
 
-names-more : (turns : List Turn) (turn : Turn) → printed_names (turns ++ turn ∷ []) ≡ printed_names turns ++ map (λ shown. shown.name) (as_list (theorem_in turn.reply))
+pub names-more : (turns : List Turn) (turn : Turn) → printed_names (turns ++ turn ∷ []) ≡ printed_names turns ++ map (λ shown. shown.name) (as_list (theorem_in turn.reply))
 names-more turns turn =
     ap (λ (theorems : List NamedTheorem). map (λ shown. shown.name) theorems) (turns-add.theorems turns (turn ∷ []) ∙ ap (λ theorems. theorems_in_turns turns ++ theorems)
     (append-nil (as_list (theorem_in turn.reply))))
@@ -79,88 +79,6 @@ module _ (tools : Tools) (script : List ℕ) where
     pub wrote : Appends written now (text_of_turns turns)
     pub counted : counts ≡ counts_after no_counts turns
     pub named : names ≡ printed_names turns
-
-  pub underway-begun : (written : Option (List ℕ)) → Underway written written start 1 script no_counts []
-  underway-begun written = record { turns = []; so_far = begins tools script; wrote = Appends-nil written; counted = refl; named = refl }
-
-  -- a blank piece asks for nothing
-  pub underway-passed : {written now : Option (List ℕ)} {state : State} {line : ℕ} {left : List ℕ} {counts : Counts} {names : List (List ℕ)} (piece behind : List ℕ) (feeds : ℕ)
-      → Underway written now state line left counts names
-      → IsCut left piece behind → is_blank_text piece ≡ true → feeds ≡ line_feeds piece → Underway written now state (line + feeds) behind counts names
-  underway-passed {written} {now} {state} {line} {left} {counts} {names} piece behind feeds u cut blank fed =
-      subst (λ (n : ℕ). Underway written now state (line + n) behind counts names) (sym fed)
-      (record { turns = u.turns; so_far = blank-passes tools script state line left piece behind u.turns u.so_far cut blank; wrote = u.wrote; counted = u.counted; named = u.named })
-
-  -- a command has answered: its turn, and what is seen of it
-  record Answered (old : State) (line : ℕ) (left piece behind : List ℕ) (turns : List Turn) (answer : Result Printed Refused) (new : State) : Type 0 where
-    turn : Turn
-    so_far : SoFar tools script new (line + line_feeds piece) behind (turns ++ turn ∷ [])
-    text : text_of_turn turn ≡ answer_text (line + leading_line_feeds piece) answer
-    counted : (counts : Counts) → counting_answer counts answer ≡ counting counts turn.reply
-    named : names_in_answer answer ≡ map (λ shown. shown.name) (as_list (theorem_in turn.reply))
-
-  answered : (old new : State) (line : ℕ) (left piece behind : List ℕ) (turns : List Turn) (answer : Result Printed Refused) → SoFar tools script old line left turns
-      → IsCut left piece behind → is_blank_text piece ≡ false → Turns tools old (Some piece) (Says answer) new → Answered old line left piece behind turns answer new
-  answered old new line left piece behind turns answer so_far cut filled call =
-      let here : ℕ = line + leading_line_feeds piece in
-      let request : Request = record { line = here; text = Some piece } in
-      let t : IsTurn tools old request (Says answer) new =
-      is_turn tools old new request (Says answer) call in
-      record {
-        turn = t.turn;
-        so_far = subst (λ (s : State). SoFar tools script s (line + line_feeds piece) behind (turns ++ t.turn ∷ [])) t.leaves
-            (turn-passes tools script old line left piece behind turns t.turn so_far cut filled t.takes);
-        text = ap (λ n. reply_text n (scope_in t.turn.after) t.turn.reply) (ap (λ (u : Turn). u.line) t.takes.is_turn) ∙ sym (said-text answer here (scope_in t.turn.after) t.turn.reply t.says);
-        counted = λ counts. answer-counts (scope_in t.turn.after) counts t.turn.reply answer t.says;
-        named = answer-names (scope_in t.turn.after) t.turn.reply answer t.says;
-      }
-
-  -- the line of the answer was written
-  pub underway-turned : {written now next : Option (List ℕ)} {old new : State} {line : ℕ} {left : List ℕ} {counts after : Counts} {names names_after : List (List ℕ)} (piece behind : List ℕ)
-      (answer : Result Printed Refused) (here feeds : ℕ)
-      → Underway written now old line left counts names → IsCut left piece behind → is_blank_text piece ≡ false → Turns tools old (Some piece) (Says answer) new → here ≡ leading_line_feeds piece
-      → feeds ≡ line_feeds piece
-      → Appends now next (answer_text (line + here) answer) → after ≡ counting_answer counts answer → names_after ≡ names ++ names_in_answer answer
-      → Underway written next new (line + feeds) behind after names_after
-  underway-turned {written} {now} {next} {old} {new} {line} {left} {counts} {after} {names} {names_after} piece behind answer here feeds u cut filled call led fed wrote counted named =
-      let a = answered old new line left piece behind u.turns answer u.so_far cut filled call in
-      let all : List Turn = u.turns ++ a.turn ∷ [] in
-      let told : Appends now next (text_of_turn a.turn) = subst (λ (text : List ℕ). Appends now next text) (ap (λ n. answer_text (line + n) answer) led ∙ sym a.text) wrote in
-      subst (λ (n : ℕ). Underway written next new (line + n) behind after names_after) (sym fed) (record {
-        turns = all;
-        so_far = a.so_far;
-        wrote = subst (λ (text : List ℕ). Appends written next text) (sym (text-more u.turns a.turn)) (Appends-trans written now next (text_of_turns u.turns) (text_of_turn a.turn) u.wrote told);
-        counted = counted ∙ ap (λ (c : Counts). counting_answer c answer) u.counted ∙ a.counted (counts_after no_counts u.turns) ∙ sym (turns-add.counts no_counts u.turns a.turn);
-        named = named ∙ ap (λ (ns : List (List ℕ)). ns ++ names_in_answer answer) u.named ∙ ap (λ (ns : List (List ℕ)). printed_names u.turns ++ ns) a.named ∙ sym (names-more u.turns a.turn);
-      })
-
-  -- the text of the last of these turns was written in part
-  broken : {written now next : Option (List ℕ)} {state : State} {line : ℕ} {left : List ℕ} (turns : List Turn) (turn : Turn) (text : List ℕ)
-      → SoFar tools script state line left (turns ++ turn ∷ [])
-      → Appends written now (text_of_turns turns) → text_of_turn turn ≡ text → AppendsFront now next text → Breaks tools script written next
-  broken {written} {now} {next} {state} {line} {left} turns turn text so_far wrote same front =
-      let all = stopped-begins tools script state line left (turns ++ turn ∷ []) so_far in
-      let more = text_of_turns all.more in
-      record {
-        turns = (turns ++ turn ∷ []) ++ all.more;
-        is_run = all.is_run;
-        wrote = record {
-          front = text_of_turns turns ++ front.front;
-          rest = front.rest ++ more;
-          whole = turns-add.text (turns ++ turn ∷ []) all.more
-              ∙ ap (λ l. l ++ more) (text-more turns turn ∙ ap (λ l. text_of_turns turns ++ l) (same ∙ front.whole) ∙ sym (append_assoc (text_of_turns turns) front.front front.rest))
-              ∙ append_assoc (text_of_turns turns ++ front.front) front.rest more;
-          taken = Appends-trans written now next (text_of_turns turns) front.front wrote front.taken;
-        };
-      }
-
-  pub underway-broken : {written now next : Option (List ℕ)} {old new : State} {line : ℕ} {left : List ℕ} {counts : Counts} {names : List (List ℕ)} (piece behind : List ℕ)
-      (answer : Result Printed Refused) (here : ℕ)
-      → Underway written now old line left counts names → IsCut left piece behind → is_blank_text piece ≡ false → Turns tools old (Some piece) (Says answer) new → here ≡ leading_line_feeds piece
-      → AppendsFront now next (answer_text (line + here) answer) → Breaks tools script written next
-  underway-broken {written} {now} {next} {old} {new} {line} {left} piece behind answer here u cut filled call led front =
-      let a = answered old new line left piece behind u.turns answer u.so_far cut filled call in
-      broken u.turns a.turn (answer_text (line + here) answer) a.so_far u.wrote (a.text ∙ ap (λ n. answer_text (line + n) answer) (sym led)) front
 
   -- ---- the end of a script
 

@@ -2,3 +2,5 @@ pub mod Commands
 pub mod Runs
 pub mod RunLogs
 pub mod Managers
+pub mod Conversations
+pub mod Courses

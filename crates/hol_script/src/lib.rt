@@ -1,11 +1,15 @@
-//! Proof scripts: runs and their logs.
+//! Proof scripts: runs, conversations, and their logs.
 #![tactic(auto, using(hol_model::proofs::Kernel::Refusals::refusals))]
 
+mod conversation;
+mod course;
 mod ended;
 pub mod execute;
 mod progress;
 mod runner;
+mod writing;
 
+pub use conversation::converse;
 pub use ended::Ended;
 pub use hol_script_manager::{Manager, Printed, Refused};
 pub use progress::{Progress, Summary};

@@ -1,101 +1,24 @@
 // Runs a script from a source to a sink, and writes its log to another.
-ghost use Rattle.std.specs.Prelude.{◌≡◌, ◌⊎◌, ◌≤◌, ◌∷◌, [], true, false, length, Err, OnOk, OnErr, IfOk, IfErr, IsErrOf, Contains};
-ghost use Rattle.std.specs.Io.KnownBytes.{Appends};
+ghost use Rattle.std.specs.Prelude.{◌≡◌, ◌⊎◌, ◌≤◌, ◌∷◌, [], true, false, length, OnOk, OnErr, IfOk, IfErr, IsErrOf, Contains};
 ghost use Rattle.hol_model_sessions.specs.Walking.{TellsWalk};
 ghost use Rattle.hol_model_sessions.specs.Runs.{Ends};
 ghost use Rattle.hol_model.specs.declared.fault.Fault.TheVariants.{Memory, ReadFault, WriteFault, TooLong};
 ghost use Rattle.hol_journal_log.specs.Pruning.{HaveIdentifiers};
-ghost use Rattle.hol_device_io.specs.Bytes.{AppendsFront};
-ghost use Rattle.hol_script_manager.specs.Session.{session_tools, row_bytes, answer_text, IsLongLog};
+ghost use Rattle.hol_script_manager.specs.Session.{session_tools, IsLongLog};
 ghost use Rattle.hol_script_manager.specs.Managers.{state_of, IsManager};
-ghost use Rattle.hol_script.specs.Runs.{TellsFront, refusal_of_parts, counts_of, names_of, Finishes, Breaks, Leaves, answer_of, source_use, sink_use, devices};
+ghost use Rattle.hol_script.specs.Runs.{TellsFront, counts_of, names_of, Finishes, Breaks, Leaves, answer_of, source_use, sink_use, devices};
 ghost use Rattle.hol_script.specs.RunLogs.{claims_stored, claims_listed, journal_of, IsLogOver, WritesLog, WritesFront, Logs};
 
+use crate::course::Course;
 use crate::ended::Ended;
 use crate::progress::Progress;
-use hol_device_io::{read_all, write_all, write_pieces};
+use hol_device_io::{read_all, write_all};
 use hol_host::Refiners;
 use hol_model::{Fault, Sink, Source, TEXT_BYTES_LIMIT};
-use hol_script_commands::cut::{cut, is_blank_text, leading_line_feeds, line_feeds};
-use hol_script_manager::{Printed, Refused};
-use itoa::Buffer;
 use std::alloc::Global;
 
-// The text of a refusal's row; of a refusal without one it is empty.
-fn row_of(refused: &Refused) -> &[u8]
-    ensures { result.now ≡ row_bytes refused.now }
-{
-    match &refused.row {
-        Some(row) => row.as_bytes(),
-        None => b"",
-    }
-}
-
-// Writes the line of a refusal by its parts.
-fn write_parts<'a, W: Sink>(
-    writer: &mut W,
-    line: &'a [u8],
-    number: &'a [u8],
-    name: &'a [u8],
-    row: &'a [u8],
-) -> Result<(), Fault>
-    requires { W.has_failed writer.old ≡ false }
-    ensures ok { OnOk result (Appends (W.contents writer.old) (W.contents writer.new) (refusal_of_parts line.now number.now name.now row.now)) }
-    ensures unfailed { OnOk result (W.has_failed writer.new ≡ false) }
-    ensures err { OnErr result (AppendsFront (W.contents writer.old) (W.contents writer.new) (refusal_of_parts line.now number.now name.now row.now)) }
-    ensures failed { OnErr result (W.has_failed writer.new ≡ true) }
-    ensures kinds { IfErr result (λ e. e ≡ WriteFault) }
-{
-    write_pieces(
-        writer,
-        &[b"line ", line, b": E", number, b" ", name, row, b"\n"],
-    )
-}
-
-// Writes the line of a refusal, without memory.
-fn write_refusal<W: Sink>(writer: &mut W, line: u64, refused: &Refused) -> Result<(), Fault>
-    requires { W.has_failed writer.old ≡ false }
-    ensures ok { OnOk result (Appends (W.contents writer.old) (W.contents writer.new) (answer_text line (Err refused.now))) }
-    ensures unfailed { OnOk result (W.has_failed writer.new ≡ false) }
-    ensures err { OnErr result (AppendsFront (W.contents writer.old) (W.contents writer.new) (answer_text line (Err refused.now))) }
-    ensures failed { OnErr result (W.has_failed writer.new ≡ true) }
-    ensures kinds { IfErr result (λ e. e ≡ WriteFault) }
-{
-    let mut line_digits = Buffer::new();
-    let mut number_digits = Buffer::new();
-    let number = number_digits.format(refused.fault.number());
-    write_parts(
-        writer,
-        line_digits.format(line).as_bytes(),
-        number.as_bytes(),
-        refused.fault.name().as_bytes(),
-        row_of(refused),
-    )
-}
-
-// Writes the text of an answer.
-fn write_answer<W: Sink>(
-    writer: &mut W,
-    line: u64,
-    answer: &Result<Printed, Refused>,
-) -> Result<(), Fault>
-    requires { W.has_failed writer.old ≡ false }
-    ensures ok { OnOk result (Appends (W.contents writer.old) (W.contents writer.new) (answer_text line answer.now)) }
-    ensures unfailed { OnOk result (W.has_failed writer.new ≡ false) }
-    ensures err { OnErr result (AppendsFront (W.contents writer.old) (W.contents writer.new) (answer_text line answer.now)) }
-    ensures failed { OnErr result (W.has_failed writer.new ≡ true) }
-    ensures kinds { IfErr result (λ e. e ≡ WriteFault) }
-{
-    match answer {
-        Ok(Printed::Nothing) => Ok(()),
-        Ok(Printed::Line(line)) => write_all(writer, line.text.as_bytes()),
-        Ok(Printed::Goals(text)) => write_all(writer, text.as_bytes()),
-        Err(refused) => write_refusal(writer, line, refused),
-    }
-}
-
-// Answers the requests of a script's pieces, one after another, and writes the text of each answer. Where no log is wanted, what
-// it is written from is not kept.
+// Answers the commands of a script, one after another, and writes the text of each answer. Where no log is wanted, what it is
+// written from is not kept.
 fn run_script<W: Sink, H: Refiners>(
     alloc: Global,
     script: &[u8],
@@ -115,42 +38,22 @@ fn run_script<W: Sink, H: Refiners>(
     ensures unwritten { IsErrOf result Memory → writer.new ≡ writer.old }
     ensures refusals { IfErr result (Contains (WriteFault ∷ Memory ∷ [])) }
 {
-    let mut progress = match Progress::new(alloc) {
-        Ok(progress) => progress,
+    let mut course = match Course::new(alloc, wants_log) {
+        Ok(course) => course,
         Err(fault) => return Err(fault),
     };
-    progress.keep_journal_if(wants_log);
-    let mut rest = script;
-    let mut line = 1u64;
-    'pieces: while let Some((piece, behind)) = cut(rest) {
-        if !is_blank_text(piece) {
-            let here = line + leading_line_feeds(piece) as u64;
-            let answer = progress.answer(alloc, host, piece);
-            match write_answer(writer, here, &answer) {
-                Ok(()) => {}
-                Err(fault) => return Err(fault),
-            }
-            progress.keep(answer);
-        }
-        line += line_feeds(piece) as u64;
-        rest = behind;
-    }
-    if is_blank_text(rest) {
-        return Ok(progress);
-    }
-    let here = line + leading_line_feeds(rest) as u64;
-    let refused = Refused::plain(Fault::Syntax);
-    match write_refusal(writer, here, &refused) {
-        Ok(()) => {
-            progress.keep(Err(refused));
-            Ok(progress)
-        }
+    match course.answer_all(alloc, script, writer, host) {
+        Ok(()) => Ok(course.progress),
         Err(fault) => Err(fault),
     }
 }
 
-// Writes the log of the theorems that were printed.
-fn write_log<L: Sink>(alloc: Global, progress: &Progress, log: &mut L) -> Result<(), Fault>
+/// Writes the log of the theorems that were printed.
+pub(crate) fn write_log<L: Sink>(
+    alloc: Global,
+    progress: &Progress,
+    log: &mut L,
+) -> Result<(), Fault>
     requires unfailed { L.has_failed log.old ≡ false }
     requires manager { IsManager progress.now.manager }
     requires named { HaveIdentifiers (claims_stored progress.now) }

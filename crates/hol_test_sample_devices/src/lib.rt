@@ -9,5 +9,5 @@ mod texts;
 
 pub use rows::{Row, Rows};
 pub use sinks::{Compared, Kept, Narrow};
-pub use sources::{Endless, FailsSecond};
+pub use sources::{Drips, Endless, FailsSecond};
 pub use texts::{push_filled, push_times};

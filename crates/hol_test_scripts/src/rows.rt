@@ -4,9 +4,9 @@ use hol_host::{Host, NoHost};
 use hol_host_samples::{liar, liar2, peel, swap};
 use hol_just::Goal;
 use hol_model::Fault;
-use hol_script::{Summary, run};
+use hol_script::{Summary, converse, run};
 use hol_terms::Term;
-use hol_test_sample_devices::{Compared, Rows};
+use hol_test_sample_devices::{Compared, Drips, Rows};
 use hol_test_sample_host::{
     circular, deep, foreign, guess, mute, nameless, presuming, renamed, shapeless, shared, starved,
     starved_conv, stranger, twin, twisted, vast, without_lemma, wrong,
@@ -15,12 +15,27 @@ use std::alloc::Global;
 
 /// The title of the first row of a text whose script writes something else than is expected, or how many rows there are.
 pub(crate) fn first_wrong(alloc: Global, text: &str) -> Result<usize, &str> {
+    first_wrong_as(alloc, text, false)
+}
+
+/// The same of conversations, which read byte by byte.
+pub(crate) fn first_wrong_conversation(alloc: Global, text: &str) -> Result<usize, &str> {
+    first_wrong_as(alloc, text, true)
+}
+
+fn first_wrong_as(alloc: Global, text: &str, converses: bool) -> Result<usize, &str> {
     let mut rows = Rows::new(text);
     for count in 0..text.len() {
         let Some(row) = rows.next() else {
             return Ok(count);
         };
-        if writes(alloc, row.script.as_bytes(), row.expected.as_bytes()) != Ok(true) {
+        if writes_as(
+            alloc,
+            row.script.as_bytes(),
+            row.expected.as_bytes(),
+            converses,
+        ) != Ok(true)
+        {
             return Err(row.title);
         }
     }
@@ -29,11 +44,27 @@ pub(crate) fn first_wrong(alloc: Global, text: &str) -> Result<usize, &str> {
 
 /// Whether a script writes this, and no more, with the sample refiners and conversions and those of these tests.
 pub(crate) fn writes(alloc: Global, script: &[u8], expected: &[u8]) -> Result<bool, Fault> {
+    writes_as(alloc, script, expected, false)
+}
+
+// The same of a conversation that reads the script byte by byte, or of a run.
+fn writes_as(
+    alloc: Global,
+    script: &[u8],
+    expected: &[u8],
+    converses: bool,
+) -> Result<bool, Fault> {
     let host = host_of_tests(alloc)?;
-    let mut reader = FromRead::new(script);
     let mut writer = Compared::new(expected);
     let mut log = IntoWrite::new(Vec::new(alloc));
-    match run(alloc, &mut reader, &mut writer, &mut log, false, &host) {
+    let ended = if converses {
+        let mut reader = Drips::new(script, script.len());
+        converse(alloc, &mut reader, &mut writer, &mut log, false, &host)
+    } else {
+        let mut reader = FromRead::new(script);
+        run(alloc, &mut reader, &mut writer, &mut log, false, &host)
+    };
+    match ended {
         Ok(_) => Ok(writer.is_whole()),
         Err(fault) => Err(fault),
     }

@@ -1,5 +1,5 @@
 // Scripts of the kernel's rules, declarations and definitions, with the output that each must have.
-use crate::rows::{first_wrong, summary};
+use crate::rows::{first_wrong, first_wrong_conversation, summary};
 use hol_model::Fault;
 use hol_script::Summary;
 use hol_test_sample_devices::push_times;
@@ -19,6 +19,12 @@ fn declarations(rt: HostRuntime) {
 #[test]
 fn definitions(rt: HostRuntime) {
     assert!(rt; first_wrong(rt.alloc(), DEFINITIONS) == Ok(3));
+}
+
+#[test]
+fn conversations(rt: HostRuntime) {
+    assert!(rt; first_wrong_conversation(rt.alloc(), RULES) == Ok(14));
+    assert!(rt; first_wrong_conversation(rt.alloc(), DECLARATIONS) == Ok(4));
 }
 
 pub(crate) fn counted(accepted: u64, refused: u64, printed: u64) -> Summary {

@@ -1,6 +1,7 @@
 // The command that words name.
 
 use crate::checking::{check_file, check_file_with_theory, migrate_file};
+use crate::conversing::converse_over;
 use crate::ending::tell;
 use crate::options::Options;
 use crate::running::{run_scripts, run_scripts_with_log};
@@ -46,6 +47,19 @@ fn run(rt: &HostRuntime, matches: &ArgMatches<'_>) -> anyhow::Result<u8> {
     Ok(tell(rt, answer))
 }
 
+// `repl`: the status is that of `run`.
+fn repl(rt: &HostRuntime, matches: &ArgMatches<'_>) -> anyhow::Result<u8> {
+    let names: &[&str] = match matches.get_strs("SCRIPT") {
+        Some(names) => names,
+        None => &[],
+    };
+    ensure!(
+        !names.contains(&"-"),
+        "- is standard input, which comes last"
+    );
+    Ok(tell(rt, converse_over(rt, names, matches.get_str("log"))))
+}
+
 // `check`: the status is 0, 3 where the log is refused, or that of a fault.
 fn check(rt: &HostRuntime, matches: &ArgMatches<'_>) -> u8 {
     let log = value(matches, "LOG");
@@ -75,6 +89,9 @@ pub fn run_command(rt: &HostRuntime, words: &[String]) -> anyhow::Result<u8> {
     };
     if let Some(asked) = matches.subcommand_matches("run") {
         return run(rt, asked);
+    }
+    if let Some(asked) = matches.subcommand_matches("repl") {
+        return repl(rt, asked);
     }
     if let Some(asked) = matches.subcommand_matches("check") {
         return Ok(check(rt, asked));

@@ -1,11 +1,15 @@
 //! The commands of the program `holp`: what each does with the files that its words name, what it prints, and the status that it
-//! ends with. That the right file goes to the right call has to be read; what the calls do is told on `hol_script::run` and
-//! `hol_check::check`. `logs_are_checked` joins the two: what the checker answers for the log of a run.
+//! ends with. That the right file goes to the right call has to be read; what the calls do is told on `hol_script::run`,
+//! `hol_script::converse` and `hol_check::check`. `logs_are_checked` joins the two: what the checker answers for the log of a run.
 #![tactic(auto)]
 
 mod checking;
 mod command;
+mod console;
+mod conversing;
 mod ending;
+mod feed;
+mod hosting;
 mod laws;
 mod options;
 mod output;

@@ -6,6 +6,7 @@ use hol_explain::Origin;
 use hol_model::{DeviceFail, Sink};
 use holp_goals::View;
 use std::alloc::Global;
+use std::cell::RefCell;
 use std::io::Write;
 use std::rt::Stdout;
 
@@ -14,7 +15,7 @@ use std::rt::Stdout;
 pub(crate) struct Output<'a> {
     stdout: Stdout,
     refusals: Refusals<'a>,
-    view: Option<View>,
+    view: Option<&'a RefCell<View>>,
     alloc: Global,
     failed: bool,
 }
@@ -24,7 +25,7 @@ impl Output<'_> {
     pub(crate) fn new<'a>(
         rt: &HostRuntime,
         origins: &'a [Origin<'a>],
-        view: Option<View>,
+        view: Option<&'a RefCell<View>>,
     ) -> Output<'a>
         ensures { result.failed ≡ false }
     {
@@ -43,9 +44,10 @@ impl Output<'_> {
         ensures failed { self.new.failed ≡ self.old.failed }
         ensures bound { IfSome result (λ taken. taken ≤ length piece.now) }
     {
-        let Some(view) = &mut self.view else {
+        let Some(view) = self.view else {
             return self.stdout.write(piece).ok();
         };
+        let mut view = view.try_borrow_mut().ok()?;
         let mut shown = Vec::new(self.alloc);
         view.show(self.alloc, piece, &mut shown).ok()?;
         self.stdout.write_all(&shown).ok()?;

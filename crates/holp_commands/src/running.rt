@@ -1,6 +1,7 @@
 // Runs scripts over a host with the sample refiners and conversions, and those of `hol_tactics`.
 ghost use Rattle.std.specs.Prelude.{◌≡◌, false};
 
+use crate::hosting::{host_names, store_samples};
 use crate::laws::logs_are_checked;
 use crate::options::Options;
 use crate::output::Output;
@@ -12,16 +13,17 @@ use hol_host_samples::{liar, liar2, peel, swap};
 use hol_just::Goal;
 use hol_model::{Fault, Sink};
 use hol_script::run;
-use hol_tactics::{CONVERSIONS, REFINERS, Tactics};
+use hol_tactics::Tactics;
 use hol_terms::Term;
 use holp_goals::View;
 use std::alloc::Global;
+use std::cell::RefCell;
 use std::fs::{self, File};
 use std::io::Write;
 use std::mem::forget;
 
-// The file of this name, made empty, to be written.
-fn create(rt: &HostRuntime, name: &str) -> Result<File, Fault> {
+/// The file of this name, made empty, to be written.
+pub(crate) fn create(rt: &HostRuntime, name: &str) -> Result<File, Fault> {
     match fs::create(rt, name) {
         Ok(file) => Ok(file),
         Err(_) => Err(Fault::WriteFault),
@@ -77,34 +79,12 @@ fn run_hosted<W: Sink, L: Sink>(
 {
     let alloc = rt.alloc();
     let mut samples = Host::new(alloc);
-    let peels = Box::new(alloc, |alloc: Global, goal: &Goal| peel(alloc, goal))?;
-    samples.refiner(alloc, "peel", peels)?;
-    let lies = Box::new(alloc, |alloc: Global, goal: &Goal| liar(alloc, goal))?;
-    samples.refiner(alloc, "liar", lies)?;
-    let lies_twice = Box::new(alloc, |alloc: Global, goal: &Goal| liar2(alloc, goal))?;
-    samples.refiner(alloc, "liar2", lies_twice)?;
-    let swaps = Box::new(alloc, |alloc: Global, term: &Term| swap(alloc, term))?;
-    samples.conv(alloc, "swap", swaps)?;
+    store_samples!(alloc, samples);
     let host = Beside {
         first: samples,
         second: Tactics,
     };
     run_with(rt, &host, script, options, writer, log, wants_log)
-}
-
-// The names of the functions of the host.
-fn host_names(alloc: Global) -> Result<Vec<String>, Fault> {
-    let mut names = Vec::new(alloc);
-    for name in ["peel", "liar", "liar2", "swap"] {
-        names.push(String::from_str(alloc, name)?)?;
-    }
-    for (name, _) in REFINERS {
-        names.push(String::from_str(alloc, name)?)?;
-    }
-    for (name, _) in CONVERSIONS {
-        names.push(String::from_str(alloc, name)?)?;
-    }
-    Ok(names)
 }
 
 // Runs scripts as one, and answers how many of their commands were refused. Standard error tells where these stand, or, where it
@@ -125,12 +105,12 @@ fn run_over<L: Sink>(
         host_names: &host_names,
     };
     let view = if options.shows_goals {
-        Some(View::new(rt.alloc(), &scripts.text)?)
+        Some(RefCell::new(View::new(rt.alloc(), &scripts.text)?))
     } else {
         None
     };
     let is_told = options.explains || options.tells_records;
-    let mut writer = Output::new(rt, scripts.told(is_told), view);
+    let mut writer = Output::new(rt, scripts.told(is_told), view.as_ref());
     run_hosted(rt, &script, options, &mut writer, log, wants_log)
 }
 

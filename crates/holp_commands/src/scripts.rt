@@ -78,17 +78,6 @@ impl<'a> Scripts<'a> {
         }
     }
 
-    // Tells on standard error of a command that begins and ends on these lines, where that is not in one script.
-    fn tell_unended(&self, rt: &HostRuntime, begin: usize, end: usize) {
-        let (name, line) = origin_of(&self.origins, begin);
-        let (next, _) = origin_of(&self.origins, end);
-        if next != name {
-            let _ = eprintln!(rt;
-                "{name}:{line}: no `;;` ends this command, which goes on in {next}"
-            );
-        }
-    }
-
     // Tells on standard error of each command that goes on in another script.
     fn tell_all_unended(&self, rt: &HostRuntime) {
         let mut rest = self.text.as_slice();
@@ -99,9 +88,18 @@ impl<'a> Scripts<'a> {
             };
             let begin = line.saturating_add(leading_line_feeds(command));
             line = line.saturating_add(line_feeds(command));
-            self.tell_unended(rt, begin, line);
+            tell_unended(rt, &self.origins, begin, line);
             rest = behind;
         }
+    }
+}
+
+/// Tells on standard error of a command that begins and ends on these lines, where that is not in one script.
+pub(crate) fn tell_unended(rt: &HostRuntime, origins: &[Origin<'_>], begin: usize, end: usize) {
+    let (name, line) = origin_of(origins, begin);
+    let (next, _) = origin_of(origins, end);
+    if next != name {
+        let _ = eprintln!(rt; "{name}:{line}: no `;;` ends this command, which goes on in {next}");
     }
 }
 

@@ -12,6 +12,15 @@ fn file_argument<'a>(alloc: Global, name: &'a str, help: &'a str) -> Arg<'a> {
         .action(ArgAction::Set)
 }
 
+// The option that asks for a log.
+fn log_option<'a>(alloc: Global) -> Arg<'a> {
+    Arg::new(alloc, "log")
+        .long("log")
+        .value_name("FILE")
+        .help("The file to write the proof log to")
+        .action(ArgAction::Set)
+}
+
 /// The commands with their arguments.
 pub(crate) fn command_line<'a>(alloc: Global) -> Result<Command<'a>, Fault> {
     let run = Command::new(alloc, "run")
@@ -25,13 +34,7 @@ pub(crate) fn command_line<'a>(alloc: Global) -> Result<Command<'a>, Fault> {
             .num_args(1..)
             .action(ArgAction::Append),
         )?
-        .arg(
-            Arg::new(alloc, "log")
-                .long("log")
-                .value_name("FILE")
-                .help("The file to write the proof log to")
-                .action(ArgAction::Set),
-        )?
+        .arg(log_option(alloc))?
         .arg(
             Arg::new(alloc, "explain")
                 .long("explain")
@@ -53,6 +56,15 @@ pub(crate) fn command_line<'a>(alloc: Global) -> Result<Command<'a>, Fault> {
                 .conflicts_with("goals")?
                 .action(ArgAction::SetTrue),
         )?;
+    let repl = Command::new(alloc, "repl")
+        .about("Runs proof scripts, and then commands as they come on standard input")
+        .arg(
+            Arg::new(alloc, "SCRIPT")
+                .help("The files of the proof scripts that come first")
+                .num_args(0..)
+                .action(ArgAction::Append),
+        )?
+        .arg(log_option(alloc))?;
     let check = Command::new(alloc, "check")
         .about("Checks a proof log and lists its claims")
         .arg(
@@ -80,6 +92,7 @@ pub(crate) fn command_line<'a>(alloc: Global) -> Result<Command<'a>, Fault> {
             .about("A theorem prover for higher-order logic")
             .subcommand_required(true)
             .subcommand(run)?
+            .subcommand(repl)?
             .subcommand(check)?
             .subcommand(migrate)?,
     )
@@ -120,6 +133,7 @@ Usage: holp <COMMAND>
 
 Commands:
   run      Runs proof scripts, one after another as one
+  repl     Runs proof scripts, and then commands as they come on standard input
   check    Checks a proof log and lists its claims
   migrate  Checks a proof log and writes it in the second version
   help     Print this message or the help of the given subcommand(s)
@@ -135,7 +149,7 @@ Options:
     #[test]
     fn a_command_that_is_missing_is_asked_for(rt: HostRuntime) -> anyhow::Result<()> {
         let fault = "error: 'holp' requires a subcommand but one was not provided
-  [subcommands: run, check, migrate, help]
+  [subcommands: run, repl, check, migrate, help]
 
 Usage: holp <COMMAND>
 

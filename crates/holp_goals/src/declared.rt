@@ -63,8 +63,8 @@ impl Declared {
         Ok(declared)
     }
 
-    // Takes up what a command declares.
-    fn read(&mut self, alloc: Global, command: &[u8]) -> Result<(), AllocError> {
+    /// Takes up what a command declares.
+    pub(crate) fn read(&mut self, alloc: Global, command: &[u8]) -> Result<(), AllocError> {
         if let Some(rest) = behind_word(command, "var") {
             return self.declare(alloc, rest, b':', true);
         }

@@ -113,6 +113,11 @@ impl View {
         })
     }
 
+    /// Takes up what a further command of the script declares.
+    pub fn learn(&mut self, alloc: Global, command: &[u8]) -> Result<(), AllocError> {
+        self.declared.read(alloc, command)
+    }
+
     // Puts a formula at the end, without the types of variables that are declared with them.
     fn push_untyped(
         &self,

@@ -1,0 +1,154 @@
+// Reads a script as it comes, and answers each command before it reads on.
+ghost use Rattle.std.specs.Prelude.{◌≡◌, ◌≤◌, [], true, false, length, OnOk, OnErr, IfOk, IfErr, IsErrOf};
+ghost use Rattle.hol_model.specs.declared.fault.Fault.TheVariants.{ReadFault, WriteFault};
+ghost use Rattle.hol_model.specs.Texts.KnownText.{Tells};
+ghost use Rattle.hol_model_sessions.specs.Script.{has_mark};
+ghost use Rattle.hol_model_sessions.specs.Walking.{TellsWalk};
+ghost use Rattle.hol_script_manager.specs.Managers.{IsManager};
+ghost use Rattle.hol_script_manager.specs.Session.{session_tools};
+ghost use Rattle.hol_script.specs.Runs.{TellsFront, Leaves, answer_of, source_use, sink_use, devices};
+ghost use Rattle.hol_script.specs.RunLogs.{claims_listed, journal_of, IsLogOver, Logs};
+ghost use Rattle.hol_script.specs.Courses.{IsBegun, IsWithin, IsUnderway, StopsEarly, BreaksTold, IsReadWhole};
+ghost use Rattle.hol_script.specs.Conversations.{Closes};
+
+use crate::course::Course;
+use crate::ended::Ended;
+use crate::progress::Progress;
+use crate::runner::write_log;
+use hol_host::Refiners;
+use hol_model::{Fault, Sink, Source, TEXT_BYTES_LIMIT};
+use std::alloc::Global;
+
+// Reads a source to its end, and answers each command as soon as its `;;` has been read. Keeps all the bytes.
+fn answer_source<R: Source, W: Sink, H: Refiners>(
+    alloc: Global,
+    reader: &mut R,
+    read: &mut Vec<u8>,
+    course: &mut Course,
+    writer: &mut W,
+    host: &H,
+) -> Result<(), Fault>
+    requires reader_unfailed { R.has_failed reader.old ≡ false }
+    requires writer_unfailed { W.has_failed writer.old ≡ false }
+    requires begun { IsBegun course.old }
+    requires unread { read.old.items ≡ [] }
+    ensures underway { OnOk result (IsUnderway (session_tools (H.refiners host.now) (H.conversions host.now)) read.new.items (W.contents writer.old) (W.contents writer.new) course.new) }
+    ensures within { OnOk result (IsWithin read.new.items course.new) }
+    ensures told { OnOk result (Tells (R.remaining reader.old) read.new.items) }
+    ensures within_limit { OnOk result (length read.new.items ≤ TEXT_BYTES_LIMIT) }
+    ensures reader_unfailed { OnOk result (R.has_failed reader.new ≡ false) }
+    ensures writer_unfailed { OnOk result (W.has_failed writer.new ≡ false) }
+    ensures err { IfErr result (StopsEarly (session_tools (H.refiners host.now) (H.conversions host.now))
+        (source_use (R.remaining reader.old) (R.has_failed reader.new)) (R.remaining reader.new) (W.contents writer.old) (W.contents writer.new) (W.has_failed writer.new)) }
+    ensures front { OnErr result (BreaksTold (session_tools (H.refiners host.now) (H.conversions host.now)) (R.remaining reader.old) (W.contents writer.old) (W.contents writer.new)) }
+    ensures reader_told { R.has_failed reader.new ≡ true → IsErrOf result ReadFault }
+    ensures writer_told { W.has_failed writer.new ≡ true → IsErrOf result WriteFault }
+{
+    let mut buffer = [0u8; 4096];
+    'pulls: loop {
+        let Ok(count) = reader.pull(&mut buffer) else {
+            return Err(Fault::ReadFault);
+        };
+        if count == 0 {
+            return Ok(());
+        }
+        let known = read.len();
+        if count > TEXT_BYTES_LIMIT - known {
+            return Err(Fault::TooLong);
+        }
+        if read.extend_from_slice(&buffer[..count]).is_err() {
+            return Err(Fault::Memory);
+        }
+        match course.answer_new(alloc, read, known, writer, host) {
+            Ok(()) => {}
+            Err(fault) => return Err(fault),
+        }
+    }
+}
+
+// Reads a source to its end and answers all that it gives, each command as soon as its `;;` has been read.
+fn answer_input<R: Source, W: Sink, H: Refiners>(
+    alloc: Global,
+    reader: &mut R,
+    writer: &mut W,
+    wants_log: bool,
+    host: &H,
+) -> Result<Progress, Fault>
+    requires reader_unfailed { R.has_failed reader.old ≡ false }
+    requires writer_unfailed { W.has_failed writer.old ≡ false }
+    ensures ok { IfOk result (IsReadWhole (session_tools (H.refiners host.now) (H.conversions host.now)) (R.remaining reader.old) (W.contents writer.old) (W.contents writer.new)) }
+    ensures is_manager { IfOk result (λ progress. IsManager progress.manager) }
+    ensures reader_unfailed { OnOk result (R.has_failed reader.new ≡ false) }
+    ensures writer_unfailed { OnOk result (W.has_failed writer.new ≡ false) }
+    ensures err { IfErr result (StopsEarly (session_tools (H.refiners host.now) (H.conversions host.now))
+        (source_use (R.remaining reader.old) (R.has_failed reader.new)) (R.remaining reader.new) (W.contents writer.old) (W.contents writer.new) (W.has_failed writer.new)) }
+    ensures front { OnErr result (BreaksTold (session_tools (H.refiners host.now) (H.conversions host.now)) (R.remaining reader.old) (W.contents writer.old) (W.contents writer.new)) }
+    ensures reader_told { R.has_failed reader.new ≡ true → IsErrOf result ReadFault }
+    ensures writer_told { W.has_failed writer.new ≡ true → IsErrOf result WriteFault }
+{
+    let mut course = match Course::new(alloc, wants_log) {
+        Ok(course) => course,
+        Err(fault) => return Err(fault),
+    };
+    let mut read = Vec::new(alloc);
+    match answer_source(alloc, reader, &mut read, &mut course, writer, host) {
+        Ok(()) => {}
+        Err(fault) => return Err(fault),
+    }
+    match course.answer_all(alloc, &read, writer, host) {
+        Ok(()) => Ok(course.progress),
+        Err(fault) => Err(fault),
+    }
+}
+
+/// Reads commands from a source, runs each over a host's functions as soon as its `;;` has been read, and writes what `run` writes
+/// of it before it reads on. At the end of the input the bytes that no `;;` follows are treated as `run` treats them, and then the
+/// log is written, where one is wanted.
+///
+/// On Ok all is as `run` says of all the bytes that were read (`closes`, `told`, `leaves`, `own_log`). On Err what was written is a
+/// front of that (`told_front`). ReadFault (the source failed), TooLong (the bytes are longer than the limit on texts) and Memory
+/// come behind the answers to the commands whose `;;` was read, and these are whole: a source that fails may do so at any call, so
+/// at each call all commands that it has given are answered. WriteFault: the writer failed, within these answers or in the last
+/// one. The log is written at the end alone, and refused as by `run`.
+pub fn converse<R: Source, W: Sink, L: Sink, H: Refiners>(
+    alloc: Global,
+    reader: &mut R,
+    writer: &mut W,
+    log: &mut L,
+    wants_log: bool,
+    host: &H,
+) -> Result<Ended, Fault>
+    requires reader_unfailed { R.has_failed reader.old ≡ false }
+    requires writer_unfailed { W.has_failed writer.old ≡ false }
+    requires log_unfailed { L.has_failed log.old ≡ false }
+    ensures closes { Closes (session_tools (H.refiners host.now) (H.conversions host.now)) IsLogOver
+        (devices (source_use (R.remaining reader.old) (R.has_failed reader.new))
+        (sink_use (W.contents writer.old) (W.contents writer.new) (W.has_failed writer.new) (writer.new ≡ writer.old))
+        (sink_use (L.contents log.old) (L.contents log.new) (L.has_failed log.new) (log.new ≡ log.old)))
+        (R.remaining reader.new) (answer_of result) wants_log }
+    ensures told { OnOk result (TellsWalk (R.remaining reader.old) (W.contents writer.old) (W.contents writer.new) []) }
+    ensures told_front { OnErr result (TellsFront (R.remaining reader.old) (W.contents writer.old) (W.contents writer.new)) }
+    ensures reader_unfailed { OnOk result (R.has_failed reader.new ≡ false) }
+    ensures writer_unfailed { OnOk result (W.has_failed writer.new ≡ false) }
+    ensures log_unfailed { IfOk result (λ ended. OnOk ended.logged (L.has_failed log.new ≡ false)) }
+    ensures reader_told { R.has_failed reader.new ≡ true → IsErrOf result ReadFault }
+    ensures writer_told { W.has_failed writer.new ≡ true → IsErrOf result WriteFault }
+    ensures log_told { L.has_failed log.new ≡ true → IsErrOf (answer_of result) WriteFault }
+    ensures own_log { wants_log ≡ true → IfOk result (λ ended. Logs (journal_of ended.progress) (claims_listed ended.progress) (L.contents log.old) (L.contents log.new) ended.logged) }
+    ensures leaves { IfOk result (λ ended. Leaves (session_tools (H.refiners host.now) (H.conversions host.now)) (R.remaining reader.old) (W.contents writer.old) (W.contents writer.new)
+        ended.progress) }
+    ensures manager { IfOk result (λ ended. IsManager ended.progress.manager) }
+{
+    let progress = match answer_input(alloc, reader, writer, wants_log, host) {
+        Ok(progress) => progress,
+        Err(fault) => return Err(fault),
+    };
+    if !wants_log {
+        return Ok(Ended {
+            progress,
+            logged: Ok(()),
+        });
+    }
+    let logged = write_log(alloc, &progress, log);
+    Ok(Ended { progress, logged })
+}
