@@ -1,0 +1,4 @@
+mod MakingLemmas
+mod TheoryLemmas
+mod UsualLemmas
+mod TextLemmas
