@@ -1,8 +1,9 @@
 -- Formulas with names, and the texts of sequents, bodies and types.
-use Rattle.std.proofs.Common.{◌≡◌, ◌∙◌, ap, sym, subst, refl, inl, inr, ℕ, ◌+◌, ◌<◌, List, [], ◌∷◌, ◌++◌, Bool, true, false, Option, Some, None, Ok, Err, take, if◌then◌else◌}
-use Rattle.std.specs.Prelude.{is_some, slice_get}
+use Rattle.std.proofs.Common.{◌≡◌, ◌∙◌, ap, sym, subst, refl, inl, inr, ℕ, ◌+◌, ◌<◌, ◌≤◌, length, arith, List, [], ◌∷◌, ◌++◌, Bool, true, false, Option, Some, None, Ok, Err, take, if◌then◌else◌}
+use Rattle.std.specs.Prelude.{Result, IfOk, is_some, slice_get}
 use Rattle.std.proofs.lemmas.List.{take_more}
 use Rattle.std.proofs.lemmas.Option.{slice_get_cases}
+use Rattle.hol_model.specs.declared.fault.Fault.{Fault}
 use Rattle.hol_model.specs.declared.fault.Fault.TheVariants.{TooLarge, TypeMismatch}
 use Rattle.hol_model.specs.Terms.HolType.{HolType, bool_type, type_eq}
 use Rattle.hol_model.specs.Terms.NamedTerm.{NamedTerm, type_of, is_within_limits}
@@ -10,10 +11,10 @@ use Rattle.hol_model.specs.Terms.Nameless.{Nameless, image}
 use Rattle.hol_model.specs.Kernel.Rules.{is_formula}
 use Rattle.hol_model.specs.Goals.Goals.{Sequent}
 use Rattle.hol_model.specs.Texts.Reading.{Scope, within_limits, well_typed}
-use Rattle.hol_model.specs.Texts.Texts.{IsKnownTerm}
+use Rattle.hol_model.specs.Texts.Texts.{IsNamedType, IsKnownTerm, ReadsType}
 use Rattle.hol_model.specs.Texts.SequentGrammar.{ReadsSequent}
 use Rattle.hol_model.specs.Texts.SequentTexts.{IsReadableFormula, AreReadableFormulas}
-use Rattle.hol_check_review.specs.Reviews.{IsNamedFormula, AreNamedFormulas, IsClaimText}
+use Rattle.hol_check_review.specs.Reviews.{IsNamedFormula, AreNamedFormulas, IsClaimText, IsTypeText}
 
 -- a term of the type of truth values is a formula
 is_formula-typed : (term : NamedTerm) (ty : HolType) → type_of term ≡ Some ty → type_eq ty bool_type ≡ true → is_formula term ≡ true
@@ -56,14 +57,32 @@ readable_formulas scope [] (term ∷ terms) are = absurd are
 readable_formulas scope (one ∷ shown) [] are = absurd are
 readable_formulas scope (one ∷ shown) (term ∷ terms) are = (are.0.readable, readable_formulas scope shown terms are.1)
 
--- the text of a claim
-pub claim_text : (scope : Scope) (sequent : Sequent) (hyps : List NamedTerm) (concl : NamedTerm) (text : List ℕ) → AreNamedFormulas scope sequent.hypotheses hyps
-    → IsNamedFormula scope sequent.conclusion concl → (AreReadableFormulas scope hyps → IsReadableFormula scope concl → ReadsSequent scope text (hyps, concl))
-    → IsClaimText scope sequent text
-claim_text scope sequent hyps concl text are is reads = record {
-  hypotheses = hyps;
-  conclusion = concl;
-  reads = reads (readable_formulas scope sequent.hypotheses hyps are) is.readable;
-  assumed = are;
-  concluded = is;
-}
+-- a place below the length has an item
+pub item_there : (shown : List Nameless) (at count : ℕ) → slice_get shown at ≡ None → at < count → count ≡ length shown → ⊥
+item_there shown at count none before counted = elim (slice_get_cases shown at).1 [
+  | inl found ↦ (let some : ◌≡◌ {A = Option Nameless} (Some found.0) None = sym found.2 ∙ none in cc)
+  | inr past ↦ omega arith
+]
+
+module _ {S : Type 0} (bytes : S → List ℕ) where
+  -- the text of a claim
+  pub claim_text : (result : Result S Fault) (scope : Scope) (sequent : Sequent) (items hyps : List NamedTerm) (shown : Nameless) (concl : NamedTerm) → hyps ≡ items → shown ≡ sequent.conclusion
+      → AreNamedFormulas scope sequent.hypotheses items → IsNamedFormula scope shown concl
+      → IfOk result (λ text. AreReadableFormulas scope hyps → IsReadableFormula scope concl → ReadsSequent scope (bytes text) (hyps, concl))
+      → IfOk result (λ text. IsClaimText scope sequent (bytes text))
+  claim_text (Err fault) scope sequent items hyps shown concl same shows are is reads = tt
+  claim_text (Ok text) scope sequent items hyps shown concl same shows are is reads =
+      let formulas : AreNamedFormulas scope sequent.hypotheses hyps = subst (AreNamedFormulas scope sequent.hypotheses) (sym same) are in
+      record {
+        hypotheses = hyps;
+        conclusion = concl;
+        reads = reads (readable_formulas scope sequent.hypotheses hyps formulas) is.readable;
+        assumed = formulas;
+        concluded = subst (λ (term : Nameless). IsNamedFormula scope term concl) shows is;
+      }
+
+  -- the text of a type
+  pub type_text : (result : Result S Fault) (scope : Scope) (ty shown : HolType) → ty ≡ shown → IsNamedType scope ty
+      → IfOk result (λ text. (over : Scope) → IsNamedType over ty → ReadsType over (bytes text) ty) → IfOk result (λ text. IsTypeText scope shown (bytes text))
+  type_text (Ok text) scope ty shown is named reads = subst (λ (t : HolType). ReadsType scope (bytes text) t) is (reads scope named)
+  type_text (Err fault) scope ty shown is named reads = tt

@@ -75,12 +75,12 @@ entry-self (declaration_of_constant a s) = both (bytes_eq a a) (type_eq s s) (by
 -- an entry is among those of trees exactly where it is that of one of them
 among : (entry : Entry) (trees : List EntryTree) → list_any (λ tree. same_entry entry (entry_of tree)) trees ≡ true → IsMember entry (map entry_of trees)
 among entry [] passed = cc
-among entry (tree ∷ trees) passed = go (same_entry entry (entry_of tree)) refl passed
+among entry (tree ∷ trees) passed = go (same_entry entry (entry_of tree)) refl passed (λ later. among entry trees later)
   where
     go : (test : Bool) → same_entry entry (entry_of tree) ≡ test → (test || list_any (λ tree. same_entry entry (entry_of tree)) trees) ≡ true
-        → IsMember entry (entry_of tree ∷ map entry_of trees)
-    go true is passed = inl (entry-same entry (entry_of tree) is)
-    go false is passed = inr (among entry trees passed)
+        → (list_any (λ tree. same_entry entry (entry_of tree)) trees ≡ true → IsMember entry (map entry_of trees)) → IsMember entry (entry_of tree ∷ map entry_of trees)
+    go true is passed later = inl (entry-same entry (entry_of tree) is)
+    go false is passed later = inr (later passed)
 
 passes : (entry : Entry) (trees : List EntryTree) → IsMember entry (map entry_of trees) → list_any (λ tree. same_entry entry (entry_of tree)) trees ≡ true
 passes entry [] member = absurd member

@@ -13,8 +13,7 @@ use Rattle.hol_check_review.specs.declared.usual.Remark.TheVariants.{Usual, Unus
 -- the name is that of a logical constant
 abbrev pub is_logical_name : List ℕ → Bool
 is_logical_name name =
-    list_any (λ known. bytes_eq known name)
-    (true_name ∷ and_name ∷ implies_name ∷ forall_name ∷ exists_name ∷ or_name ∷ false_name ∷ not_name ∷ [])
+    list_any (bytes_eq name) (true_name ∷ and_name ∷ implies_name ∷ forall_name ∷ exists_name ∷ or_name ∷ false_name ∷ not_name ∷ [])
 
 -- the entry makes a constant of such a name
 abbrev pub makes_logical_constant : Entry → Bool

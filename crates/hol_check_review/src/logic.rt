@@ -1,9 +1,6 @@
 // The definitions of the logical constants, as data: those that the prelude makes.
 use hol_model_evaluator::{EntryTree, TermTree, TypeTree};
 
-/// The names of the logical constants.
-pub(crate) const LOGICAL_NAMES: [&str; 8] = ["T", "/\\", "==>", "!", "?", "\\/", "F", "~"];
-
 const BOOL: TypeTree<'static> = TypeTree::Bool;
 
 const A: TypeTree<'static> = TypeTree::Variable("A");

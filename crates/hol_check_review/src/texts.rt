@@ -48,9 +48,10 @@ fn hypotheses_of(
 {
     let mut hyps = Vec::new(alloc);
     for place in 0..claim.hyp_count() {
-        if let Some(hyp) = claim.hyp(place) {
-            hyps.push(formula_of(alloc, scope, names, &hyp)?)?;
-        }
+        let Some(hyp) = claim.hyp(place) else {
+            unreachable!()
+        };
+        hyps.push(formula_of(alloc, scope, names, &hyp)?)?;
     }
     Ok(hyps)
 }

@@ -8,7 +8,7 @@ ghost use Rattle.hol_model_evaluator.specs.Trees.{hol_type, nameless, entry_of};
 ghost use Rattle.hol_check_review.specs.Usual as spec;
 ghost use Rattle.hol_check_review.specs.Usual.{IsRemark, same_nameless, same_entry};
 
-use crate::logic::{DEFINITIONS, LOGICAL_NAMES};
+use crate::logic::DEFINITIONS;
 use hol_check::{EntryParts, LogEntry, TermParts, TermView, TypeParts, TypeView};
 use hol_model_evaluator::{EntryTree, TermTree, TypeTree};
 
@@ -83,7 +83,10 @@ fn is_usual(entry: &LogEntry) -> bool
 fn is_logical_name(name: &[u8]) -> bool
     ensures { result ≡ spec.is_logical_name name.now }
 {
-    LOGICAL_NAMES.iter().any(|known| known.as_bytes() == name)
+    matches!(
+        name,
+        b"T" | b"/\\" | b"==>" | b"!" | b"?" | b"\\/" | b"F" | b"~"
+    )
 }
 
 // Whether the entry makes a constant of the name of a logical constant.
