@@ -58,9 +58,9 @@ readable_formulas scope (one ∷ shown) [] are = absurd are
 readable_formulas scope (one ∷ shown) (term ∷ terms) are = (are.0.readable, readable_formulas scope shown terms are.1)
 
 -- a place below the length has an item
-pub item_there : (shown : List Nameless) (at count : ℕ) → slice_get shown at ≡ None → at < count → count ≡ length shown → ⊥
+pub item_there : (shown : List Nameless) (at count : ℕ) → ◌≡◌ {A = Option Nameless} None (slice_get shown at) → at < count → count ≡ length shown → ⊥
 item_there shown at count none before counted = elim (slice_get_cases shown at).1 [
-  | inl found ↦ (let some : ◌≡◌ {A = Option Nameless} (Some found.0) None = sym found.2 ∙ none in cc)
+  | inl found ↦ (let some : ◌≡◌ {A = Option Nameless} (Some found.0) None = sym found.2 ∙ sym none in cc)
   | inr past ↦ omega arith
 ]
 
