@@ -1,4 +1,2 @@
-mod MakingLemmas
-mod TheoryLemmas
-mod UsualLemmas
 mod TextLemmas
+mod UsualLemmas

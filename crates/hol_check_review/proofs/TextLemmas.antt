@@ -1,34 +1,18 @@
 -- Formulas with names, and the texts of sequents, bodies and types.
-use Rattle.std.proofs.Common.{◌≡◌, ◌∙◌, ap, sym, subst, refl, inl, inr, ℕ, ◌+◌, ◌<◌, ◌≤◌, length, arith, List, [], ◌∷◌, ◌++◌, Bool, true, false, Option, Some, None, Ok, Err, take, if◌then◌else◌}
-use Rattle.std.specs.Prelude.{Result, IfOk, is_some, slice_get}
+use Rattle.std.proofs.Common.{◌≡◌, ◌∙◌, ap, sym, subst, inl, inr, ℕ, ◌+◌, ◌<◌, length, arith, List, [], ◌∷◌, ◌++◌, Option, Some, None, Ok, Err, take}
+use Rattle.std.specs.Prelude.{Result, IfOk, slice_get}
 use Rattle.std.proofs.lemmas.List.{take_more}
 use Rattle.std.proofs.lemmas.Option.{slice_get_cases}
 use Rattle.hol_model.specs.declared.fault.Fault.{Fault}
-use Rattle.hol_model.specs.declared.fault.Fault.TheVariants.{TooLarge, TypeMismatch}
-use Rattle.hol_model.specs.Terms.HolType.{HolType, bool_type, type_eq}
-use Rattle.hol_model.specs.Terms.NamedTerm.{NamedTerm, type_of, is_within_limits}
-use Rattle.hol_model.specs.Terms.Nameless.{Nameless, image}
-use Rattle.hol_model.specs.Kernel.Rules.{is_formula}
+use Rattle.hol_model.specs.Terms.HolType.{HolType}
+use Rattle.hol_model.specs.Terms.NamedTerm.{NamedTerm}
+use Rattle.hol_model.specs.Terms.Nameless.{Nameless}
 use Rattle.hol_model.specs.Goals.Goals.{Sequent}
-use Rattle.hol_model.specs.Texts.Reading.{Scope, within_limits, well_typed}
-use Rattle.hol_model.specs.Texts.Texts.{IsNamedType, IsKnownTerm, ReadsType}
+use Rattle.hol_model.specs.Texts.Reading.{Scope}
+use Rattle.hol_model.specs.Texts.Texts.{IsNamedType, ReadsType}
 use Rattle.hol_model.specs.Texts.SequentGrammar.{ReadsSequent}
 use Rattle.hol_model.specs.Texts.SequentTexts.{IsReadableFormula, AreReadableFormulas}
 use Rattle.hol_check_review.specs.Reviews.{IsNamedFormula, AreNamedFormulas, IsClaimText, IsTypeText}
-
--- a term of the type of truth values is a formula
-is_formula-typed : (term : NamedTerm) (ty : HolType) → type_of term ≡ Some ty → type_eq ty bool_type ≡ true → is_formula term ≡ true
-is_formula-typed term ty typed passed = rw typed passed
-
-well_typed-is : (term : NamedTerm) → is_some (type_of term) ≡ true → is_within_limits term ≡ true → well_typed term ≡ Ok term
-well_typed-is term typed within = ap (λ b. if b then within_limits term else Err TypeMismatch) typed ∙ ap (λ b. if b then Ok term else Err TooLarge) within
-
-pub named_formula : (scope : Scope) (shown : Nameless) (term : NamedTerm) (ty : HolType) → image term ≡ shown → type_of term ≡ Some ty → type_eq ty bool_type ≡ true
-    → IsKnownTerm scope term → is_some (type_of term) ≡ true → is_within_limits term ≡ true → IsNamedFormula scope shown term
-named_formula scope shown term ty is typed truth known some within = record {
-  is_image = is;
-  readable = record { readable = record { known = known; typed = well_typed-is term some within }; is_formula = is_formula-typed term ty typed truth };
-}
 
 -- one more
 formulas_more : (scope : Scope) (shown : List Nameless) (terms : List NamedTerm) (one : Nameless) (term : NamedTerm) → AreNamedFormulas scope shown terms → IsNamedFormula scope one term
@@ -42,12 +26,12 @@ pub formula_more : (scope : Scope) (shown : List Nameless) (at : ℕ) (terms : L
     → AreNamedFormulas scope (take at shown) terms → IsNamedFormula scope one term → AreNamedFormulas scope (take (at + 1) shown) (terms ++ term ∷ [])
 formula_more scope shown at terms one term there are is = elim (slice_get_cases shown at).1 [
   | inl found ↦ (
-    let one_is : ◌≡◌ {A = Option Nameless} (Some found.0) (Some one) = sym (there ∙ found.2) in
-    let same : found.0 ≡ one = cc in
-    subst (λ (list : List Nameless). AreNamedFormulas scope list (terms ++ term ∷ []))
-    (sym (take_more shown at found.0 found.1 ∙ ap (λ (x : Nameless). take at shown ++ x ∷ []) (found.3 ∙ same)))
-    (formulas_more scope (take at shown) terms one term are is)
-  )
+      let one_is : ◌≡◌ {A = Option Nameless} (Some found.0) (Some one) = sym (there ∙ found.2) in
+      let same : found.0 ≡ one = cc in
+      subst (λ (list : List Nameless). AreNamedFormulas scope list (terms ++ term ∷ []))
+      (sym (take_more shown at found.0 found.1 ∙ ap (λ (x : Nameless). take at shown ++ x ∷ []) (found.3 ∙ same)))
+      (formulas_more scope (take at shown) terms one term are is)
+      )
   | inr past ↦ (let none : ◌≡◌ {A = Option Nameless} (Some one) None = there ∙ past.1 in cc)
 ]
 

@@ -11,10 +11,11 @@ use hol_terms::{Term, same_variable};
 use hol_types::Ty;
 use std::alloc::Global;
 
-/// The binders round a place: the name and the type of each, the innermost outermost.
+/// The binders round a place, by name and type.
 #[derive(Drop)]
 pub(crate) enum Binders<'a> {
     Outermost,
+    // The innermost binder, and those outside it.
     Under(&'a str, &'a Ty, &'a Binders<'a>),
 }
 
@@ -89,12 +90,7 @@ fn bound_variable(alloc: Global, binders: &Binders<'_>, index: usize) -> Result<
 }
 
 // The variable that no binder binds.
-fn free_variable(
-    alloc: Global,
-    binders: &Binders<'_>,
-    name: &str,
-    ty: &Ty,
-) -> Result<Term, Fault>
+fn free_variable(alloc: Global, binders: &Binders<'_>, name: &str, ty: &Ty) -> Result<Term, Fault>
     ensures { IfOk result (λ term. image_under (binders_of binders.now) term ≡ free name.now ty.now) }
 {
     if !is_unbound(binders, name, ty) {

@@ -56,11 +56,12 @@ fn hypotheses_of(
     Ok(hyps)
 }
 
-/// The text of a claim's sequent, as scripts write sequents. The names of bound variables are made up, apart from each
-/// other, from the names of free variables and from those of the scope's constants.
+/// The text of a claim's sequent, as scripts write sequents. The names of bound variables are made up, apart from those
+/// of the binders round them, of free variables and of the scope's constants.
 ///
 /// Refusals: Memory; TooLarge, where the sequent is past a limit on types and terms; UnknownConst, where the scope lacks
-/// a constant or a type; BadName, TypeMismatch, NotBool, NameTaken, where the claim is none of an accepted log.
+/// a constant or a type. A sequent that is none of an accepted log may be refused for BadName, TypeMismatch, NotBool and
+/// NameTaken. That one of an accepted log is not, is not proved.
 pub fn text_of_claim(alloc: Global, scope: &Scope, claim: &Claim) -> Result<String, Fault>
     ensures { IfOk result (λ text. IsClaimText (scope_of scope.now) claim.now.sequent (string_bytes text)) }
 {
@@ -91,11 +92,7 @@ fn text_of_body(
 }
 
 // The text of the type of a constant.
-fn text_of_constant_type(
-    alloc: Global,
-    scope: &Scope,
-    ty: &TypeView<'_>,
-) -> Result<String, Fault>
+fn text_of_constant_type(alloc: Global, scope: &Scope, ty: &TypeView<'_>) -> Result<String, Fault>
     ensures { IfOk result (λ text. IsTypeText (scope_of scope.now) ty.now (string_bytes text)) }
 {
     let ty = type_of(alloc, ty)?;

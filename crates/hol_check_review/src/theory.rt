@@ -34,9 +34,9 @@ fn add_entries(alloc: Global, scope: &mut Scope, entries: &[LogEntry]) -> Result
     Ok(())
 }
 
-/// What names stand for over the theory of a log, given its entries in the order of their lines. Refusals: NameTaken,
-/// where an entry has the name of an earlier one; Memory; the first refusal of a name or a type, where one is no
-/// name or no type of the logic. No entry of an accepted log is refused.
+/// What names stand for over the theory of a log, given its entries in the order of their lines. Refusals: Memory;
+/// NameTaken, where an entry has the name of an earlier one; BadName and TooLarge, where a type is none of the logic.
+/// That no entry of an accepted log is refused but for memory, is not proved.
 pub fn scope_of_entries(alloc: Global, entries: &[LogEntry]) -> Result<Scope, Fault>
     ensures { IfOk result (λ scope. scope_of scope ≡ scope_over (reverse entries.now)) }
 {
