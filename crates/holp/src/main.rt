@@ -1,4 +1,4 @@
-//! The program `holp`: `holp run SCRIPT.. [--log FILE] [--explain]`, `holp check [--theory] LOG`, `holp migrate LOG NEW`. What the
+//! The program `holp`: `holp run SCRIPT.. [--log FILE] [--explain]`, `holp check [--theory | --review] LOG`, `holp migrate LOG NEW`. What the
 //! commands do stands in `holp_commands`.
 #![tactic(auto)]
 

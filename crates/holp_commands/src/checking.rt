@@ -1,5 +1,6 @@
 // Checks and migrates logs.
 
+use crate::reviewing::print_review;
 use hol_check::{Claim, check, check_log, migrate, write_claims, write_entries};
 use hol_device_adapters::{FromCall, IntoCall};
 use hol_model::Fault;
@@ -36,6 +37,17 @@ pub(crate) fn check_file_with_theory(rt: &HostRuntime, log: &str) -> Result<u64,
     let writes = Box::new(alloc, move |piece: &[u8]| output.write(piece))?;
     write_entries(alloc, &log.entries, &mut IntoCall::new(writes))?;
     print_claims(rt, &log.claims)
+}
+
+/// Checks a log, and prints what it says for its reviewer.
+pub(crate) fn check_file_with_review(rt: &HostRuntime, log: &str) -> Result<u64, Fault> {
+    let alloc = rt.alloc();
+    let mut file = open(rt, log)?;
+    let reads = Box::new(alloc, move |buf: &mut [u8]| file.read(buf))?;
+    let mut reader = FromCall::new(reads);
+    let log = check_log(alloc, &mut reader)?;
+    print_review(rt, &log)?;
+    Ok(0)
 }
 
 // Prints claims and their number.

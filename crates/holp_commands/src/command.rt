@@ -1,6 +1,6 @@
 // The command that words name.
 
-use crate::checking::{check_file, check_file_with_theory, migrate_file};
+use crate::checking::{check_file, check_file_with_review, check_file_with_theory, migrate_file};
 use crate::conversing::converse_over;
 use crate::ending::tell;
 use crate::options::Options;
@@ -63,7 +63,9 @@ fn repl(rt: &HostRuntime, matches: &ArgMatches<'_>) -> anyhow::Result<u8> {
 // `check`: the status is 0, 3 where the log is refused, or that of a fault.
 fn check(rt: &HostRuntime, matches: &ArgMatches<'_>) -> u8 {
     let log = value(matches, "LOG");
-    let answer = if matches.get_flag("theory") {
+    let answer = if matches.get_flag("review") {
+        check_file_with_review(rt, log)
+    } else if matches.get_flag("theory") {
         check_file_with_theory(rt, log)
     } else {
         check_file(rt, log)

@@ -14,6 +14,7 @@ mod laws;
 mod options;
 mod output;
 mod refusals;
+mod reviewing;
 mod running;
 mod scripts;
 mod words;

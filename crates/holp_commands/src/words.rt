@@ -73,6 +73,13 @@ pub(crate) fn command_line<'a>(alloc: Global) -> Result<Command<'a>, Fault> {
                 .help("Lists the definitions and declarations of the log too")
                 .action(ArgAction::SetTrue),
         )?
+        .arg(
+            Arg::new(alloc, "review")
+                .long("review")
+                .help("Lists theory and claims as scripts write them, and warns of unusual logical constants")
+                .conflicts_with("theory")?
+                .action(ArgAction::SetTrue),
+        )?
         .arg(file_argument(
             alloc,
             "LOG",

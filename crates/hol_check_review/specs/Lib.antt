@@ -1,0 +1,4 @@
+pub mod Binders
+pub mod Theories
+pub mod Reviews
+pub mod Usual
