@@ -1,34 +1,19 @@
 -- Lemmas on the subgoals of several steps, and on spliced steps.
-use Rattle.std.proofs.Common.{◌≡◌, List, [], ◌∷◌, ◌++◌, map, true, Ok, Err, inl, inr, refl, sym, ap, ◌∙◌, subst, append_assoc, append-nil}
-use Rattle.std.proofs.lemmas.List.{map-append}
+use Rattle.std.proofs.Common.{◌≡◌, List, [], ◌∷◌, map, true, Ok, Err, inl, inr, refl, ap, ◌∙◌, subst}
 use Rattle.hol_model.specs.Goals.Goals.{Goal}
 use Rattle.hol_model.specs.declared.fault.Fault.{Fault}
 use Rattle.hol_model.specs.Goals.Justifications.{Justification}
 use Rattle.hol_model.specs.Goals.ValidSteps.{Step}
 use Rattle.hol_model.specs.Goals.Splicing.{goals_of_steps, splice, portion_of}
 use Rattle.hol_model.specs.Goals.Replays.{is_within_depth}
-use Rattle.hol_just.specs.Steps.{goal_of, goals_of, step_of, IsRefused}
-use Rattle.hol_just.specs.declared.goal.Goal as code_goal
+use Rattle.hol_just.specs.Steps.{step_of, IsRefused}
 use Rattle.hol_just.specs.declared.goal.Step as code
 use Rattle.hol_combine.specs.Answers.{AnswersSpliced}
-
-pub gathered : (all grown : List code_goal.Goal) (step : code.Step) (items rest : List code.Step) (whole : List Goal) → goals_of all ++ goals_of_steps (map step_of items) ≡ whole
-    → items ≡ step ∷ rest → grown ≡ all ++ step.goals.items → goals_of grown ++ goals_of_steps (map step_of rest) ≡ whole
-gathered all grown step items rest whole so_far goes is =
-    let moved : goals_of (all ++ step.goals.items) ≡ goals_of all ++ goals_of step.goals.items = map-append goal_of all step.goals.items in
-    ap (λ goals. goals_of goals ++ goals_of_steps (map step_of rest)) is
-    ∙ ap (λ goals. goals ++ goals_of_steps (map step_of rest)) moved
-    ∙ append_assoc (goals_of all) (goals_of step.goals.items) (goals_of_steps (map step_of rest))
-    ∙ ap (λ items. goals_of all ++ goals_of_steps (map step_of items)) (sym goes)
-    ∙ so_far
 
 pub refused_splice : (justification : Justification) (steps : List Step) (fault : Fault) → IsRefused (splice justification (map portion_of steps)) fault
     → AnswersSpliced justification steps (Err fault)
 refused_splice justification steps fault (inl memory) = inl memory
 refused_splice justification steps fault (inr deep) = inr deep
-
-pub all_gathered : (all : List code_goal.Goal) (items : List code.Step) (whole : List Goal) → goals_of all ++ goals_of_steps (map step_of items) ≡ whole → items ≡ [] → goals_of all ≡ whole
-all_gathered all items whole so_far none = sym (append-nil (goals_of all)) ∙ ap (λ items. goals_of all ++ goals_of_steps (map step_of items)) (sym none) ∙ so_far
 
 -- ---- splicing
 

@@ -167,7 +167,7 @@ fn run_repeat<H: Refiners, L: Leaves>(
                 done,
                 above: _,
             } = frame;
-            let made = match spliced(alloc, &just, done) {
+            let made = match spliced(alloc, just, done) {
                 Ok(made) => made,
                 Err(fault) => return Err(fault),
             };
@@ -230,11 +230,12 @@ fn run_links<H: Refiners, L: Leaves>(
 {
     let mut step = step;
     for link in links {
-        let steps = match run_link(alloc, link, &step.goals, host, leaves, fuel) {
+        let Step { goals, just } = step;
+        let steps = match run_link(alloc, link, &goals, host, leaves, fuel) {
             Ok(steps) => steps,
             Err(fault) => return Err(fault),
         };
-        step = match spliced(alloc, &step.just, steps) {
+        step = match spliced(alloc, just, steps) {
             Ok(step) => step,
             Err(fault) => return Err(fault),
         };

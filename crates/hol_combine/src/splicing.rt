@@ -1,12 +1,11 @@
 // A step whose subgoals are refined by further steps.
 ghost use Rattle.std.specs.Prelude.{◌≡◌, true, length, map, IfOk, IfErr, OnOk, ◌++◌, ◌∷◌, []};
 ghost use Rattle.hol_model.specs.declared.fault.Fault.TheVariants.{Memory};
-ghost use Rattle.hol_model.specs.Goals.Splicing.{goals_of_steps};
-ghost use Rattle.hol_just.specs.Steps.{step_of, goals_of, tree_of};
+ghost use Rattle.hol_just.specs.Steps.{step_of, tree_of};
 ghost use Rattle.hol_just.specs.Subgoals.{subgoals_are_below};
 ghost use Rattle.hol_combine.specs.Answers.{answer_of, AnswersSpliced};
 
-use hol_just::{Goal, Just, Step, splice};
+use hol_just::{Just, Step};
 use hol_model::Fault;
 use std::alloc::Global;
 
@@ -30,29 +29,12 @@ pub(crate) fn bounded(alloc: Global, step: Step) -> Result<Step, Fault>
     Ok(Step { goals, just })
 }
 
-// The subgoals of all steps.
-fn goals_of_steps(alloc: Global, steps: Vec<Step>) -> Result<Vec<Goal>, Fault>
-    ensures ok { IfOk result (λ goals. goals_of goals.items ≡ goals_of_steps (map step_of steps.items)) }
-    ensures err { IfErr result (λ fault. fault ≡ Memory) }
-{
-    let mut all = Vec::new(alloc);
-    for step in steps {
-        let Step { mut goals, just: _ } = step;
-        all.append(&mut goals)?;
-    }
-    Ok(all)
-}
-
 /// The step with a justification, the steps in place of its subgoals.
-pub(crate) fn spliced(alloc: Global, just: &Just, steps: Vec<Step>) -> Result<Step, Fault>
-    ensures { AnswersSpliced (tree_of just.now) (map step_of steps.items) (answer_of result) }
+pub(crate) fn spliced(alloc: Global, just: Just, steps: Vec<Step>) -> Result<Step, Fault>
+    ensures { AnswersSpliced (tree_of just) (map step_of steps.items) (answer_of result) }
 {
-    let just = match splice(alloc, just, &steps) {
-        Ok(just) => just,
-        Err(fault) => return Err(fault),
-    };
-    match goals_of_steps(alloc, steps) {
-        Ok(goals) => Ok(Step { goals, just }),
+    match hol_just::spliced_step(alloc, just, steps) {
+        Ok(step) => Ok(step),
         Err(fault) => Err(fault),
     }
 }

@@ -1,5 +1,6 @@
 -- Justifications put one behind another.
 use Rattle.std.proofs.Common.{◌≡◌, ℕ, suc, ◌+◌, ◌<◌, ◌≤◌, List, [], ◌∷◌, ◌++◌, length, map, drop, get_or, drop-cons, drop_of_length-le, true, refl, sym, ◌∙◌, ap, subst, Some, arith, length-append, append_assoc, append-nil, zero-add}
+use Rattle.std.proofs.lemmas.List.{map-append}
 use Rattle.std.proofs.lemmas.List.Sums.{sum_by-cons}
 use Rattle.std.specs.Prelude.{slice_get, slice_index, sum_by, Result, Ok, Err, IfOk, IfErr}
 use Rattle.hol_model.specs.declared.fault.Fault.{Fault}
@@ -7,10 +8,11 @@ use Rattle.std.specs.Option.{unwrap_or}
 use Rattle.hol_model.specs.Derived.InferenceRules.{InferenceRule}
 use Rattle.hol_model.specs.Goals.Justifications.{Justification, sub, named, lemma, by_rule, Parts, no_parts}
 use Rattle.hol_model.specs.Goals.Justifications as justified
-use Rattle.hol_model.specs.Goals.Splicing.{replace_subs_in_parts, shift_subs, numbered_portion, splice, portion_of}
+use Rattle.hol_model.specs.Goals.Goals as spec
+use Rattle.hol_model.specs.Goals.Splicing.{replace_subs_in_parts, shift_subs, numbered_portion, goals_of_steps, splice, portion_of}
 use Rattle.hol_just.specs.Flat.{FlatLine, flat_rule, FlatJustification, FlatPortion, cited, cited_parts, trees_after, tree, is_well_cited, moved_line, joined_lines, roots, all_subgoals, portion_of_flat, redirected, flat_splice}
 use Rattle.hol_just.specs.Lines.{flat_line, flat_lines, flat_of_lines}
-use Rattle.hol_just.specs.Steps.{flat_of, tree_of, steps_of, step_of, goals_of, parts_of, flat_portion, IsRefused}
+use Rattle.hol_just.specs.Steps.{flat_of, goal_of, tree_of, steps_of, step_of, goals_of, parts_of, flat_portion, IsRefused}
 use Rattle.hol_just.specs.Joining.{Adds, IsJoined, own_portion, redirected_of}
 use Rattle.hol_just.specs.declared.just.Just.{Just}
 use Rattle.hol_just.specs.declared.goal.Goal.{Goal}
@@ -241,3 +243,34 @@ one-part parts at item old new subgoals next all within is_item is adds same =
 pub no-more-parts : (parts : List Step) (at : ℕ) (joined : Joined) (subgoals : ℕ) (all : List FlatPortion) → length parts ≤ at
     → IsJoined joined subgoals (map flat_portion (drop at parts)) all → IsJoined joined subgoals [] all
 no-more-parts parts at joined subgoals all past is = subst (λ (left : List Step). IsJoined joined subgoals (map flat_portion left) all) (drop_of_length-le parts past) is
+
+-- one step after another, and their subgoals
+
+pub next-part : (items rest : List Step) (item : Step) (old new : Joined) (goals more grown : List Goal) (all : List FlatPortion) → items ≡ item ∷ rest
+    → IsJoined old (length goals) (map flat_portion items) all → Adds old new (length goals) (flat_of item.just) → more ≡ item.goals.items → grown ≡ goals ++ more
+    → IsJoined new (length grown) (map flat_portion rest) all
+next-part items rest item old new goals more grown all goes is adds more_is grown_is =
+    let longer : length grown ≡ length goals + length item.goals.items = ap length grown_is ∙ length-append goals more ∙ ap (λ (m : List Goal). length goals + length m) more_is in
+    one-joined old new (length goals) (length grown) (flat_portion item) (map flat_portion rest) all
+    (subst (λ (left : List Step). IsJoined old (length goals) (map flat_portion left) all) goes is) adds longer
+
+pub next-goals : (items rest : List Step) (item : Step) (goals more grown : List Goal) (whole : List spec.Goal) → items ≡ item ∷ rest
+    → goals_of goals ++ goals_of_steps (map step_of items) ≡ whole → more ≡ item.goals.items → grown ≡ goals ++ more
+    → goals_of grown ++ goals_of_steps (map step_of rest) ≡ whole
+next-goals items rest item goals more grown whole goes so_far more_is grown_is =
+    let moved : goals_of (goals ++ item.goals.items) ≡ goals_of goals ++ goals_of item.goals.items = map-append goal_of goals item.goals.items in
+    ap (λ (g : List Goal). goals_of g ++ goals_of_steps (map step_of rest)) (grown_is ∙ ap (λ (m : List Goal). goals ++ m) more_is)
+    ∙ ap (λ (g : List spec.Goal). g ++ goals_of_steps (map step_of rest)) moved
+    ∙ append_assoc (goals_of goals) (goals_of item.goals.items) (goals_of_steps (map step_of rest))
+    ∙ ap (λ (i : List Step). goals_of goals ++ goals_of_steps (map step_of i)) (sym goes)
+    ∙ so_far
+
+pub all-parts : (items : List Step) (joined : Joined) (subgoals : ℕ) (all : List FlatPortion) → items ≡ [] → IsJoined joined subgoals (map flat_portion items) all → IsJoined joined subgoals [] all
+all-parts items joined subgoals all none is = subst (λ (left : List Step). IsJoined joined subgoals (map flat_portion left) all) none is
+
+pub all-goals : (items : List Step) (goals : List Goal) (whole : List spec.Goal) → items ≡ [] → goals_of goals ++ goals_of_steps (map step_of items) ≡ whole → goals_of goals ≡ whole
+all-goals items goals whole none so_far = sym (append-nil (goals_of goals)) ∙ ap (λ (i : List Step). goals_of goals ++ goals_of_steps (map step_of i)) (sym none) ∙ so_far
+
+-- what is refused of a tree is refused of the same tree
+pub refused-tree : (T : Justification) (lines : List Line) (root : ℕ) (fault : Fault) → tree (flat_of_lines lines root) ≡ T → IsRefused (tree (flat_of_lines lines root)) fault → IsRefused T fault
+refused-tree T lines root fault same is = subst (λ (t : Justification). IsRefused t fault) same is

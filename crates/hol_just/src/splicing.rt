@@ -4,7 +4,7 @@ ghost use Rattle.hol_model.specs.declared.fault.Fault.TheVariants.{Memory};
 ghost use Rattle.hol_model.specs.Goals.Splicing as spec;
 ghost use Rattle.hol_just.specs.Flat.{redirected, with_replaced, replaced_line, replaced_sub};
 ghost use Rattle.hol_just.specs.Lines.{flat_line, flat_lines};
-ghost use Rattle.hol_just.specs.Steps.{flat_of, tree_of, step_of, steps_of, flat_portion, IsRefused};
+ghost use Rattle.hol_just.specs.Steps.{flat_of, goals_of, tree_of, step_of, steps_of, flat_portion, IsRefused};
 ghost use Rattle.hol_model.specs.Goals.Replays.{is_within_depth};
 ghost use Rattle.hol_just.specs.Joining.{replaced_of, redirected_of};
 
@@ -15,6 +15,7 @@ use crate::making::finished;
 use crate::moving::{Joined, moved};
 use hol_model::Fault;
 use std::alloc::Global;
+use std::rc::Rc;
 
 // What a line becomes: the place of a portion's root, or a line of its own.
 #[derive(Drop)]
@@ -147,4 +148,104 @@ pub fn splice(alloc: Global, just: &Just, parts: &[Step]) -> Result<Just, Fault>
     let spliced = redirected(alloc, joined, subgoals, &just.node.lines)?;
     let root = place_at(&spliced.new_places, just.node.root);
     finished(alloc, spliced.lines, root)
+}
+
+// The new places of cited lines, in the same memory.
+fn redirected_own_places(places: &[usize], mut cites: Vec<usize>) -> Vec<usize>
+    ensures { result.items ≡ map (slice_index places.now) cites.items }
+{
+    for i in 0..cites.len() {
+        cites[i] = place_at(places, cites[i]);
+    }
+    cites
+}
+
+// What a line becomes, as `replaced_line`, in the same memory.
+fn replaced_own_line(
+    roots: &[usize],
+    subgoals: usize,
+    new_places: &[usize],
+    line: Line,
+) -> Result<Replacement, Fault>
+    ensures ok { IfOk result (λ made. replaced_of made ≡ replaced_line roots.now subgoals new_places.now (flat_line line)) }
+    ensures err { IfErr result (λ fault. fault ≡ Memory) }
+{
+    match line {
+        Line::Sub(number) => replaced_sub(roots, subgoals, number),
+        Line::Named(name) => Ok(Replacement::Own(Line::Named(name))),
+        Line::Lemma(number) => Ok(Replacement::Own(Line::Lemma(number))),
+        Line::ByRule(rule, cites) => Ok(Replacement::Own(Line::ByRule(
+            rule,
+            redirected_own_places(new_places, cites),
+        ))),
+    }
+}
+
+// The lines of a justification behind its portions, as `redirected`, and none is copied.
+fn redirected_own(
+    alloc: Global,
+    joined: Joined,
+    subgoals: usize,
+    lines: Vec<Line>,
+) -> Result<Spliced, Fault>
+    ensures ok { IfOk result (λ made. redirected_of made ≡ redirected joined.roots.items subgoals (record { lines = flat_lines joined.lines.items; new_places = [] }) (flat_lines lines.items)) }
+    ensures err { IfErr result (λ fault. fault ≡ Memory) }
+{
+    let Joined {
+        lines: joined_lines,
+        roots,
+    } = joined;
+    let mut spliced = Spliced {
+        lines: joined_lines,
+        new_places: Vec::new(alloc),
+    };
+    for line in lines {
+        let replacement = replaced_own_line(&roots, subgoals, &spliced.new_places, line)?;
+        spliced.take(replacement)?;
+    }
+    Ok(spliced)
+}
+
+// The lines of a justification behind its portions. They are copied only where something else shares them.
+fn redirected_just(
+    alloc: Global,
+    joined: Joined,
+    subgoals: usize,
+    just: Just,
+) -> Result<Spliced, Fault>
+    ensures ok { IfOk result (λ made. redirected_of made ≡ redirected joined.roots.items subgoals (record { lines = flat_lines joined.lines.items; new_places = [] }) (flat_of just).lines) }
+    ensures err { IfErr result (λ fault. fault ≡ Memory) }
+{
+    match Rc::try_unwrap(just.node) {
+        Ok(node) => redirected_own(alloc, joined, subgoals, node.lines),
+        Err(node) => redirected(alloc, joined, subgoals, &node.lines),
+    }
+}
+
+/// The step with this justification and the parts in place of its subgoals: its subgoals are theirs, one part after another,
+/// and its justification is as `splice` makes it. Lines are copied only where something else shares them. Refused: as
+/// `splice`.
+pub fn spliced_step(alloc: Global, just: Just, parts: Vec<Step>) -> Result<Step, Fault>
+    ensures goals { IfOk result (λ made. goals_of made.goals.items ≡ spec.goals_of_steps (map step_of parts.items)) }
+    ensures tree { IfOk result (λ made. tree_of made.just ≡ spec.splice (tree_of just) (map (λ part. spec.portion_of (step_of part)) parts.items)) }
+    ensures within { IfOk result (λ made. is_within_depth (tree_of made.just) ≡ true) }
+    ensures err { IfErr result (IsRefused (spec.splice (tree_of just) (map (λ part. spec.portion_of (step_of part)) parts.items))) }
+{
+    let mut joined = Joined::new(alloc);
+    let mut goals = Vec::new(alloc);
+    for part in parts {
+        let Step {
+            goals: mut more,
+            just,
+        } = part;
+        joined.add_own(alloc, just, goals.len())?;
+        goals.append(&mut more)?;
+    }
+    let root = just.node.root;
+    let spliced = redirected_just(alloc, joined, goals.len(), just)?;
+    let root = place_at(&spliced.new_places, root);
+    match finished(alloc, spliced.lines, root) {
+        Ok(just) => Ok(Step { goals, just }),
+        Err(fault) => Err(fault),
+    }
 }
