@@ -1,14 +1,12 @@
 -- Lemmas on the subgoals of several steps, and on spliced steps.
-use Rattle.std.proofs.Common.{◌≡◌, List, [], ◌∷◌, ◌++◌, map, true, Ok, Err, inl, inr, refl, sym, ap, ◌∙◌, subst, append_assoc, append-nil}
-use Rattle.std.proofs.lemmas.List.{map-append}
+use Rattle.std.proofs.Common.{◌≡◌, List, [], ◌∷◌, map, true, Ok, Err, inl, inr, refl, ap, ◌∙◌, subst}
 use Rattle.hol_model.specs.Goals.Goals.{Goal}
 use Rattle.hol_model.specs.declared.fault.Fault.{Fault}
 use Rattle.hol_model.specs.Goals.Justifications.{Justification}
 use Rattle.hol_model.specs.Goals.ValidSteps.{Step}
 use Rattle.hol_model.specs.Goals.Splicing.{goals_of_steps, splice, portion_of}
 use Rattle.hol_model.specs.Goals.Replays.{is_within_depth}
-use Rattle.hol_just.specs.Steps.{goal_of, goals_of, step_of, IsRefused}
-use Rattle.hol_just.specs.declared.goal.Goal as code_goal
+use Rattle.hol_just.specs.Steps.{step_of, IsRefused}
 use Rattle.hol_just.specs.declared.goal.Step as code
 use Rattle.hol_combine.specs.Answers.{AnswersSpliced}
 
