@@ -1,8 +1,7 @@
 -- The theorems of a plan's steps, as they are made.
-use Rattle.std.proofs.Common.{◌≡◌, ℕ, List, [], ◌∷◌, ◌++◌, Result, Ok, Err, Some, refl, sym, ◌∙◌, subst, tt}
-use Rattle.std.specs.Prelude.{slice_get}
+use Rattle.std.proofs.Common.{◌≡◌, List, [], ◌∷◌, ◌++◌, Result, Ok, Err, refl, sym, ◌∙◌, subst}
 use Rattle.hol_model.specs.declared.fault.Fault.{Fault}
-use Rattle.hol_journal.specs.Journal.{Journal, Recorded, IsMade}
+use Rattle.hol_journal.specs.Journal.{Journal, Recorded}
 use Rattle.hol_journal.specs.Growth.{IsGrown}
 use Rattle.hol_journal.proofs.GrowthLemmas.{journals-grow}
 use Rattle.hol_prelude_derivations.specs.Derivations.{AreMade}
@@ -14,13 +13,13 @@ use Rattle.hol_taut.proofs.TautAnswers.{continues-unchanged}
 pub record IsTaking (old now : Journal) (made : List Recorded) : Type 0 where
   pub grown : IsGrown old now
   pub theory : now.theory ≡ old.theory
-  pub made : AreMade now made
+  pub are_made : AreMade now made
 
 pub none-taken : (journal : Journal) (fault : Fault) (made : List Recorded) → made ≡ [] → IsTaking journal journal made
 none-taken journal fault made none = record {
   grown = (continues-unchanged journal fault).grown;
   theory = refl;
-  made = subst (AreMade journal) (sym none) (record { each = λ number found there. cc });
+  are_made = subst (AreMade journal) (sym none) (record { each = λ number found there. cc });
 }
 
 pub one-more-taken : (old now new : Journal) (made longer : List Recorded) (theorem : Recorded) → IsTaking old now made → Continues now new (Ok theorem)
@@ -28,7 +27,7 @@ pub one-more-taken : (old now new : Journal) (made longer : List Recorded) (theo
 one-more-taken old now new made longer theorem taking continues is = record {
   grown = journals-grow.twice old now new taking.grown continues.grown;
   theory = continues.theory ∙ taking.theory;
-  made = subst (AreMade new) (sym is) (one_more_made now new made theorem continues.grown taking.made continues.held.made);
+  are_made = subst (AreMade new) (sym is) (one_more_made now new made theorem continues.grown taking.are_made continues.held.made);
 }
 
 pub continued-behind : (old now new : Journal) (result : Result Recorded Fault) → IsGrown old now → now.theory ≡ old.theory → Continues now new result → Continues old new result

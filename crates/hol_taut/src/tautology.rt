@@ -53,13 +53,15 @@ pub(crate) fn proved(
 }
 
 /// TAUT: a formula that is true in each row of values of its atoms. Refused where the term is not of type `bool`, where
-/// the theory does not know a type or a constant of it, where it has too many atoms, and where it is false in a row. A
-/// split takes about five inferences for each connective that tells the value, in each row that no earlier atom settles,
-/// and the atom is split next whose values tell the most: 39 for Peirce's law, 82 for a conjunction of fourteen atoms that
-/// implies its last, 619 for fourteen atoms each of which implies the next. Chains of `<=>` take about the square of their
-/// length instead, where one of at least eight parts stands in the formula, or of five that differ: 500 for ten atoms against
-/// their mirror, 700 against the same backwards, 518 and 718 where `r` implies these, and 610 for ten atoms with another one
-/// before the same backwards. A part that stands at several places is taken for an atom, where the formula holds whatever it is.
+/// the theory does not know a type or a constant of it, where it has too many atoms, and where it is false in a row. A part
+/// is shown by about three inferences, once for each choice of values of its atoms that tells it, and one that is the same
+/// whatever its atoms are by itself; the atom is split next whose values tell the most. It takes at most 39 inferences for
+/// Peirce's law, 82 for a conjunction of fourteen atoms that implies its last, 619 for fourteen atoms each of which implies the
+/// next, and fewer than there are rows for an adder of four digits. Chains of `<=>` take about the square of their
+/// length instead, where one of at least eight parts stands in the formula, or of five that differ: at most 500 for ten atoms
+/// against their mirror, 700 against the same backwards, 518 and 718 where `r` implies these, and 610 for ten atoms with another
+/// one before the same backwards. A part that stands at several places is taken for an atom, where the formula holds whatever it
+/// is.
 #[tactic(none)]
 pub fn taut(recorder: &mut Recorder, alloc: Global, laws: &Laws, term: &Term) -> Result<Rec, Fault>
     requires laws { HasLaws recorder.old laws.now }
