@@ -213,12 +213,12 @@ fn namesake<'a>(variables: &'a [Term], variable: &Term) -> Option<&'a Term> {
 }
 
 // Says that nothing is put for a variable in a theorem, whose conclusion has these free variables.
-fn push_idle(
+fn push_idle<'b>(
     of: &Accepted<'_>,
     notes: &mut Vec<Message>,
-    old: &Quotation,
-    premise: &Premise,
-    variables: &[Term],
+    old: &'b Quotation,
+    premise: &'b Premise,
+    variables: &'b [Term],
 ) -> Result<(), NoMemory> {
     let at = of.piece.start(old.at);
     let lead = Text("nothing is put for ");
