@@ -1,12 +1,13 @@
-use Rattle.std.proofs.Common.{rules, ◌≡◌, ◌∙◌, ◌≤◌, ℕ, List, ◌++◌, length, take, drop, false, refl, sym, ap, subst, inl, inr, arith}
+use Rattle.std.proofs.Common.{rules, ◌≡◌, ◌∙◌, ◌≤◌, ◌<◌, ◌+◌, ℕ, List, ◌++◌, length, take, drop, false, refl, sym, ap, subst, inl, inr, arith}
 use Rattle.std.specs.Io.KnownBytes.{Consumes}
 use Rattle.std.proofs.KnownBytes.{Consumes-nil, Consumes-trans, Consumes-kept}
 use Rattle.hol_model.specs.declared.fault.Fault.TheVariants.{Memory, ReadFault, TooLong}
+use Rattle.hol_model.specs.declared.limits.TheConstants.{TEXT_BYTES_LIMIT}
 use Rattle.hol_model_sessions.specs.Script.{has_mark}
 use Rattle.hol_script_manager.specs.Session.{session_tools}
 use Rattle.hol_script.specs.Courses.{IsWithin, IsUnderway}
 use Rattle.hol_script.proofs.CourseLemmas.{course-begun, within-begun, waits-begun, course-read, front-here}
-use Rattle.hol_script.proofs.ConversationLemmas.{stopped, answer-stopped, front-told}
+use Rattle.hol_script.proofs.ConversationLemmas.{too-long, stopped, answer-stopped, front-told}
 use Rattle.hol_script.proofs.conversation.answer_source.Goals as goal
 
 pub pulls-init : goal.pulls-init
@@ -35,9 +36,11 @@ returns-in_default-clause-front g c = front-told (session_tools (g.H.Refiners.re
 
 pub returns-then-count-known-clause-err : goal.returns-then-count-known-clause-err
 returns-then-count-known-clause-err g c =
+    let chunk = take c.in-Ok.count c.pull.new.buf in
+    let longer : TEXT_BYTES_LIMIT < length c.pulls.read.items + length chunk = search rules in
     stopped (session_tools (g.H.Refiners.refiners c.args.host.now) (g.H.Converters.conversions c.args.host.now)) (g.R.Source.remaining c.args.reader.now) (g.R.Source.remaining c.pulls.reader) (g.R.Source.has_failed c.pull.new.self)
     c.pulls.invariant.consumed c.pulls.invariant.within_limit
-    TooLong c.pulls.invariant.underway c.pulls.invariant.waits (inr (inl (refl, search rules)))
+    TooLong c.pulls.invariant.underway c.pulls.invariant.waits (inr (inl (refl, too-long (g.R.Source.remaining c.args.reader.now) (g.R.Source.remaining c.pulls.reader) (g.R.Source.remaining c.pull.new.self) c.pulls.read.items chunk c.pulls.invariant.consumed c.in-Ok.ensures.bytes.0 longer)))
 
 pub returns-then-count-known-clause-front : goal.returns-then-count-known-clause-front
 returns-then-count-known-clause-front g c = front-told (session_tools (g.H.Refiners.refiners c.args.host.now) (g.H.Converters.conversions c.args.host.now)) (g.R.Source.remaining c.args.reader.now) (g.R.Source.remaining c.pulls.reader) c.pulls.read.items c.pulls.invariant.consumed (front-here (session_tools (g.H.Refiners.refiners c.args.host.now) (g.H.Converters.conversions c.args.host.now)) c.pulls.invariant.underway)
