@@ -1,6 +1,7 @@
 -- How a conversation stops, and how it ends.
-use Rattle.std.proofs.Common.{◌≡◌, ℕ, ◌+◌, ◌≤◌, List, [], ◌++◌, length, drop, refl, sym, ap, subst, ◌∙◌, inl, inr, arith, Bool, true, false, Option, None, Some, Ok, Err, Result}
-use Rattle.std.proofs.Common.{append-nil}
+use Rattle.std.proofs.Common.{◌≡◌, ℕ, ◌+◌, ◌≤◌, ◌<◌, List, [], ◌++◌, length, drop, refl, sym, ap, subst, ◌∙◌, inl, inr, arith, Bool, true, false, Option, None, Some, Ok, Err, Result}
+use Rattle.std.proofs.Common.{length-append}
+use Rattle.std.specs.Prelude.{IfSome}
 use Rattle.std.specs.Io.KnownBytes.{Consumes}
 use Rattle.std.proofs.KnownBytes.{Appends-nil}
 use Rattle.hol_model.specs.declared.fault.Fault.{Fault}
@@ -24,6 +25,17 @@ first-told : (failed : Bool) (told left : Option (List ℕ)) (read : List ℕ) �
 first-told failed None left read consumed = tt
 first-told failed (Some all) None read consumed = absurd consumed
 first-told failed (Some all) (Some rest) read consumed = (rest, consumed)
+
+-- what a source gave is past the limit
+pub too-long : (told mid left : Option (List ℕ)) (read chunk : List ℕ) → Consumes told mid read → Consumes mid left chunk → TEXT_BYTES_LIMIT < length read + length chunk
+    → IfSome told (λ all. TEXT_BYTES_LIMIT < length all)
+too-long None mid left read chunk first second longer = tt
+too-long (Some all) None left read chunk first second longer = absurd first
+too-long (Some all) (Some rest) None read chunk first second longer = absurd second
+too-long (Some all) (Some rest) (Some end) read chunk first second longer =
+    let whole : length all ≡ length read + length rest = ap length first ∙ length-append read rest in
+    let part : length rest ≡ length chunk + length end = ap length second ∙ length-append chunk end in
+    omega arith
 
 module _ (tools : Tools) where
   -- a front of what a run writes, whatever follows, is a front of what a run of all that the source had writes

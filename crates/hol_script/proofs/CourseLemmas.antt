@@ -2,6 +2,7 @@
 use Rattle.std.proofs.Common.{◌≡◌, ℕ, zero, suc, ◌+◌, ◌≤◌, ◌-◌, List, [], ◌∷◌, ◌++◌, map, length, take, drop, refl, sym, ap, subst, ◌∙◌, arith, true, false, Bool, ◌==◌, ◌&&◌, ◌||◌, Option, None, Some, Result, Ok, Err, append_assoc, append-nil, length-append}
 use Rattle.std.proofs.lemmas.List.{drop-drop, drop-append-le, length-drop, take_rest}
 use Rattle.std.proofs.Math.Seq.{drop-append-add, take-append_seam}
+use Rattle.std.specs.Prelude.{MatchOption, is_some}
 use Rattle.std.specs.Io.KnownBytes.{Appends}
 use Rattle.std.proofs.KnownBytes.{Appends-nil, Appends-trans}
 use Rattle.hol_model.specs.declared.fault.Fault.TheVariants.{Syntax}
@@ -68,6 +69,24 @@ within-begun read {course} b =
     let refused : course.progress.summary.refused ≡ 0 = ap (λ (s : Summary). s.refused) b.summary in
     let printed : course.progress.summary.printed ≡ 0 = ap (λ (s : Summary). s.printed) b.summary in
     record { manager = b.manager; place = omega arith; lines = omega arith; accepted = omega arith; refused = omega arith; printed = omega arith }
+
+-- where nothing was read, nothing waits
+pub waits-begun : (read : List ℕ) {course : Course} → IsBegun course → read ≡ [] → has_mark (drop course.at read) ≡ false
+waits-begun read {course} b none =
+    let waits : has_mark (drop 0 read) ≡ false = subst (λ l. has_mark l ≡ false) (sym none) refl in
+    subst (λ (at : ℕ). has_mark (drop at read) ≡ false) (sym b.at) waits
+
+-- the places are among more bytes too
+pub within-more : (read chunk : List ℕ) {course : Course} → IsWithin read course → IsWithin (read ++ chunk) course
+within-more read chunk {course} w =
+    let longer : length (read ++ chunk) ≡ length read + length chunk = length-append read chunk in
+    let place : course.at ≤ length read = w.place in
+    record { manager = w.manager; place = omega arith; lines = w.lines; accepted = w.accepted; refused = w.refused; printed = w.printed }
+
+-- the test for a `;;` found none
+pub uncut : {A : Type 0} (bytes : List ℕ) (Cut : A → Type 0) (found : Option A) → MatchOption found (has_mark bytes ≡ false) Cut → is_some found ≡ false → has_mark bytes ≡ false
+uncut bytes Cut None none is = none
+uncut bytes Cut (Some parts) cut is = cc
 
 -- what stands behind the `;;` of a piece, as what is left of all the bytes
 pub behind-at : (read piece behind : List ℕ) (at : ℕ) → IsCut (drop at read) piece behind → drop (at + (length piece + 2)) read ≡ behind
@@ -263,3 +282,10 @@ module _ (tools : Tools) where
             let ahead = ahead-turned read old line left piece behind u.turns a.turn u.ahead cut filled a.takes in
             let all = stopped-begins tools (read ++ more) a.turn.after (line + line_feeds piece) (behind ++ more) (u.turns ++ a.turn ∷ []) (ahead.run more) in
             record { turns = (u.turns ++ a.turn ∷ []) ++ all.more; is_run = all.is_run; wrote = front-of a.turn all.more a.text front }
+
+  -- more was read behind what a course has come to
+  pub course-read : (read chunk : List ℕ) {written now : Option (List ℕ)} (course : Course) → course.at ≤ length read → IsUnderway tools read written now course
+      → IsUnderway tools (read ++ chunk) written now course
+  course-read read chunk {written} {now} course within u =
+      subst (λ (left : List ℕ). IsUnderwayAt tools (read ++ chunk) written now (state_of course.progress.manager) course.line left (counts_of course.progress.summary) (names_of course.progress))
+      (sym (drop-append-le course.at read chunk within)) (read-on u chunk)

@@ -56,8 +56,9 @@ fn answer_source<R: Source, W: Sink, H: Refiners>(
         if count > TEXT_BYTES_LIMIT - known {
             return Err(Fault::TooLong);
         }
-        if read.extend_from_slice(&buffer[..count]).is_err() {
-            return Err(Fault::Memory);
+        match read.extend_from_slice(&buffer[..count]) {
+            Ok(()) => {}
+            Err(_) => return Err(Fault::Memory),
         }
         match course.answer_new(alloc, read, known, writer, host) {
             Ok(()) => {}
