@@ -1,4 +1,4 @@
 pub mod Binders
 pub mod Theories
-pub mod Reviews
 pub mod Usual
+pub mod Reviews

@@ -5,10 +5,13 @@ use Rattle.hol_model.specs.Terms.NamedTerm.{NamedTerm, type_of}
 use Rattle.hol_model.specs.Terms.Nameless.{Nameless, image}
 use Rattle.hol_model.specs.Logic.Theory.{Entry, definition, declaration_of_type, declaration_of_constant}
 use Rattle.hol_model.specs.Goals.Goals.{Sequent}
+use Rattle.hol_model.specs.Logs.LogState.{LogClaim}
 use Rattle.hol_model.specs.Texts.Reading.{Scope}
 use Rattle.hol_model.specs.Texts.Texts.{ReadsType, ReadsTerm}
 use Rattle.hol_model.specs.Texts.SequentGrammar.{ReadsSequent}
 use Rattle.hol_model.specs.Texts.SequentTexts.{IsReadableFormula}
+use Rattle.hol_check_review.specs.declared.usual.Remark.{Remark}
+use Rattle.hol_check_review.specs.Usual.{IsRemark, mark}
 
 -- a formula that can be read back, with this image
 pub record IsNamedFormula (scope : Scope) (shown : Nameless) (term : NamedTerm) : Type 0 where
@@ -57,3 +60,17 @@ abbrev pub IsEntryText : Scope → Entry → List ℕ → Type 0
 IsEntryText scope (definition name ty body) text = IsDefinitionText scope name ty body text
 IsEntryText scope (declaration_of_type name) text = text ≡ codes "newtype " ++ (name ++ codes " ;;")
 IsEntryText scope (declaration_of_constant name ty) text = IsDeclarationText scope name ty text
+
+-- the line is the name of a claim, `: `, and a text of its sequent
+pub record IsClaimLine (scope : Scope) (claim : LogClaim) (line : List ℕ) : Type 0 where
+  pub text : List ℕ
+  pub means : IsClaimText scope claim.sequent text
+  pub spelled : line ≡ claim.name ++ (codes ": " ++ text)
+
+-- the line is the command that makes an entry, and what is remarked on it
+pub record IsEntryLine (scope : Scope) (entry : Entry) (line : List ℕ) : Type 0 where
+  pub text : List ℕ
+  pub means : IsEntryText scope entry text
+  pub remark : Remark
+  pub remarked : IsRemark entry remark
+  pub spelled : line ≡ text ++ mark remark

@@ -1,5 +1,5 @@
 -- What is as usual in a theory.
-use Rattle.std.specs.Prelude.{◌≡◌, ℕ, List, [], ◌∷◌, Bool, false, true, ◌&&◌, nat_eq}
+use Rattle.std.specs.Prelude.{◌≡◌, ℕ, List, [], ◌∷◌, Bool, false, true, ◌&&◌, nat_eq, codes}
 use Rattle.std.specs.List.{list_any}
 use Rattle.std.specs.Str.{bytes_eq}
 use Rattle.hol_model.specs.Terms.HolType.{type_eq}
@@ -27,6 +27,12 @@ abbrev pub IsRemark : Entry → Remark → Type 0
 IsRemark entry Usual = IsMember entry logical_definitions
 IsRemark entry Unusual = ¬ (IsMember entry logical_definitions) × (makes_logical_constant entry ≡ true)
 IsRemark entry Plain = ¬ (IsMember entry logical_definitions) × (makes_logical_constant entry ≡ false)
+
+-- how it is printed
+abbrev pub mark : Remark → List ℕ
+mark Usual = codes " (as usual)"
+mark Unusual = codes " (WARNING: not as usual)"
+mark Plain = []
 
 -- the tests by which entries are compared
 

@@ -3,6 +3,7 @@
 #![tactic(auto)]
 
 mod known;
+mod lines;
 mod logic;
 mod names;
 mod terms;
@@ -11,6 +12,6 @@ mod theory;
 mod types;
 mod usual;
 
-pub use texts::{text_of_claim, text_of_entry};
+pub use lines::{line_of_claim, line_of_entry};
 pub use theory::scope_of_entries;
-pub use usual::{Remark, remark_on};
+pub use usual::{Remark, mark_of, remark_on};

@@ -56,13 +56,9 @@ fn hypotheses_of(
     Ok(hyps)
 }
 
-/// The text of a claim's sequent, as scripts write sequents. The names of bound variables are made up, apart from those
-/// of the binders round them, of free variables and of the scope's constants.
-///
-/// Refusals: Memory; TooLarge, where the sequent is past a limit on types and terms; UnknownConst, where the scope lacks
-/// a constant or a type. A sequent that is none of an accepted log may be refused for BadName, TypeMismatch, NotBool and
-/// NameTaken. That one of an accepted log is not, is not proved.
-pub fn text_of_claim(alloc: Global, scope: &Scope, claim: &Claim) -> Result<String, Fault>
+/// The text of a claim's sequent, as scripts write sequents. The names of bound variables are made up. Refusals: as of
+/// `line_of_claim`.
+pub(crate) fn text_of_claim(alloc: Global, scope: &Scope, claim: &Claim) -> Result<String, Fault>
     ensures { IfOk result (λ text. IsClaimText (scope_of scope.now) claim.now.sequent (string_bytes text)) }
 {
     let names = Names::for_claim(alloc, scope, claim)?;
@@ -102,9 +98,8 @@ fn text_of_constant_type(alloc: Global, scope: &Scope, ty: &TypeView<'_>) -> Res
     text_of_type(alloc, &ty)
 }
 
-/// The text of an entry, as the command of a script that makes it: `def`, `newtype` or `newconst`. Names of bound
-/// variables are made up, as for a claim. Refusals: as for a claim; UnknownType, where the scope lacks a type.
-pub fn text_of_entry(alloc: Global, scope: &Scope, entry: &LogEntry) -> Result<String, Fault>
+/// The text of an entry, as the command of a script that makes it. Refusals: as of `line_of_entry`.
+pub(crate) fn text_of_entry(alloc: Global, scope: &Scope, entry: &LogEntry) -> Result<String, Fault>
     ensures { IfOk result (λ text. IsEntryText (scope_of scope.now) entry.now (string_bytes text)) }
 {
     match entry.parts() {

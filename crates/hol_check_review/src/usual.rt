@@ -6,7 +6,7 @@ ghost use Rattle.hol_model.specs.Logic.Derivable.{IsMember};
 ghost use Rattle.hol_model.specs.Logic.Logic.{logical_definitions};
 ghost use Rattle.hol_model_evaluator.specs.Trees.{hol_type, nameless, entry_of};
 ghost use Rattle.hol_check_review.specs.Usual as spec;
-ghost use Rattle.hol_check_review.specs.Usual.{IsRemark, same_nameless, same_entry};
+ghost use Rattle.hol_check_review.specs.Usual.{IsRemark, mark, same_nameless, same_entry};
 
 use crate::logic::DEFINITIONS;
 use hol_check::{EntryParts, LogEntry, TermParts, TermView, TypeParts, TypeView};
@@ -112,5 +112,16 @@ pub fn remark_on(entry: &LogEntry) -> Remark
         Remark::Unusual
     } else {
         Remark::Plain
+    }
+}
+
+/// What is printed behind an entry.
+pub fn mark_of(remark: Remark) -> &'static str
+    ensures { result.now ≡ mark remark }
+{
+    match remark {
+        Remark::Usual => " (as usual)",
+        Remark::Unusual => " (WARNING: not as usual)",
+        Remark::Plain => "",
     }
 }

@@ -1,7 +1,9 @@
 // Tells what a checked log says, for its reviewer.
 
 use hol_check::{CheckedLog, Claim, EntryParts, LogEntry};
-use hol_check_review::{Remark, remark_on, scope_of_entries, text_of_claim, text_of_entry};
+use hol_check_review::{
+    Remark, line_of_claim, line_of_entry, mark_of, remark_on, scope_of_entries,
+};
 use hol_model::Fault;
 use hol_syntax::Scope;
 use itoa::Buffer;
@@ -46,57 +48,56 @@ fn name_of(entry: &LogEntry) -> &str {
     }
 }
 
-// What is told in place of a text, where there is one for the refusal: there is none where memory has run out.
-fn not_printed(alloc: Global, name: &str, fault: Fault) -> Result<String, Fault> {
+// What is told in place of a line, where there is none: not where memory has run out.
+fn not_printed(alloc: Global, name: &str, fault: Fault, mark: &str) -> Result<String, Fault> {
     if fault == Fault::Memory {
         return Err(fault);
     }
-    Ok(format!(in alloc; "{name}: (WARNING: not printed, {fault})")?)
+    Ok(format!(in alloc; "{name}: (WARNING: not printed, {fault}){mark}")?)
 }
 
-// The line of an entry.
-fn line_of_entry(
-    alloc: Global,
-    scope: &Scope,
-    entry: &LogEntry,
-    counts: &mut Counts,
-) -> Result<String, Fault> {
+// Counts an entry.
+fn count_entry(entry: &LogEntry, counts: &mut Counts) {
     match entry.parts() {
         EntryParts::Definition(_, _, _) => add(&mut counts.definitions),
         EntryParts::DeclaredType(_) | EntryParts::DeclaredConstant(_, _) => {
             add(&mut counts.declarations);
         }
     }
-    let text = match text_of_entry(alloc, scope, entry) {
-        Ok(text) => text,
+    if remark_on(entry) == Remark::Unusual {
+        add(&mut counts.warnings);
+    }
+}
+
+// The line of an entry.
+fn entry_line(
+    alloc: Global,
+    scope: &Scope,
+    entry: &LogEntry,
+    counts: &mut Counts,
+) -> Result<String, Fault> {
+    count_entry(entry, counts);
+    match line_of_entry(alloc, scope, entry) {
+        Ok(line) => Ok(line),
         Err(fault) => {
             add(&mut counts.warnings);
-            not_printed(alloc, name_of(entry), fault)?
+            not_printed(alloc, name_of(entry), fault, mark_of(remark_on(entry)))
         }
-    };
-    match remark_on(entry) {
-        Remark::Usual => Ok(format!(in alloc; "{text} (as usual)")?),
-        Remark::Unusual => {
-            add(&mut counts.warnings);
-            Ok(format!(in alloc; "{text} (WARNING: not as usual)")?)
-        }
-        Remark::Plain => Ok(text),
     }
 }
 
 // The line of a claim.
-fn line_of_claim(
+fn claim_line(
     alloc: Global,
     scope: &Scope,
     claim: &Claim,
     counts: &mut Counts,
 ) -> Result<String, Fault> {
-    let name = text_of_name(claim.name());
-    match text_of_claim(alloc, scope, claim) {
-        Ok(text) => Ok(format!(in alloc; "{name}: {text}")?),
+    match line_of_claim(alloc, scope, claim) {
+        Ok(line) => Ok(line),
         Err(fault) => {
             add(&mut counts.warnings);
-            not_printed(alloc, name, fault)
+            not_printed(alloc, text_of_name(claim.name()), fault, "")
         }
     }
 }
@@ -109,7 +110,7 @@ fn print_entries(
 ) -> Result<(), Fault> {
     print_line(rt, "theory:")?;
     for entry in entries {
-        let line = line_of_entry(rt.alloc(), scope, entry, counts)?;
+        let line = entry_line(rt.alloc(), scope, entry, counts)?;
         print_line(rt, line.as_str())?;
     }
     Ok(())
@@ -126,7 +127,7 @@ fn print_claims(
     let mut printed = 0;
     for claim in claims {
         if (claim.hyp_count() > 0) == with_hypotheses {
-            let line = line_of_claim(rt.alloc(), scope, claim, counts)?;
+            let line = claim_line(rt.alloc(), scope, claim, counts)?;
             print_line(rt, line.as_str())?;
             add(&mut printed);
         }
