@@ -76,7 +76,9 @@ pub(crate) fn command_line<'a>(alloc: Global) -> Result<Command<'a>, Fault> {
         .arg(
             Arg::new(alloc, "review")
                 .long("review")
-                .help("Lists theory and claims as scripts write them, and warns of unusual logical constants")
+                .help(
+                    "Lists theory and claims as scripts write them, and warns of unusual logical constants",
+                )
                 .conflicts_with("theory")?
                 .action(ArgAction::SetTrue),
         )?
