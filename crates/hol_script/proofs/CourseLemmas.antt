@@ -1,5 +1,6 @@
 -- How a course goes on: more bytes are read, commands are answered, and what is written where it stops.
-use Rattle.std.proofs.Common.{◌≡◌, ℕ, zero, suc, ◌+◌, ◌≤◌, ◌-◌, List, [], ◌∷◌, ◌++◌, map, length, take, drop, refl, sym, ap, subst, ◌∙◌, arith, true, false, Bool, ◌==◌, ◌&&◌, ◌||◌, Option, None, Some, Result, Ok, Err, append_assoc, append-nil, length-append}
+use Rattle.std.proofs.Common.{◌≡◌, ℕ, zero, suc, ◌+◌, ◌≤◌, ◌-◌, List, [], ◌∷◌, ◌++◌, map, length, take, drop, refl, sym, ap}
+use Rattle.std.proofs.Common.{subst, ◌∙◌, arith, true, false, Bool, ◌==◌, ◌&&◌, ◌||◌, Option, None, Some, Result, Ok, Err, append_assoc, append-nil, length-append}
 use Rattle.std.proofs.lemmas.List.{drop-drop, drop-append-le, length-drop, take_rest}
 use Rattle.std.proofs.Math.Seq.{drop-append-add, take-append_seam}
 use Rattle.std.specs.Prelude.{MatchOption, is_some}
@@ -104,7 +105,8 @@ module _ (tools : Tools) where
   answers-passed read state line left piece behind turns a cut blank = record {
     decides = λ pieces last cuts more session.
         a.decides (piece ∷ pieces) last (behind, cut, cuts) more
-        (subst (λ (b : Bool). Session tools state (request_and b (record { line = line + leading_line_feeds piece; text = Some piece }) (requested (line + line_feeds piece) pieces [])) more) (sym blank) session);
+        (subst (λ (b : Bool). Session tools state (request_and b (record { line = line + leading_line_feeds piece; text = Some piece }) (requested (line + line_feeds piece) pieces [])) more)
+        (sym blank) session);
   }
 
   answers-turned : (read : List ℕ) (state : State) (line : ℕ) (left piece behind : List ℕ) (turns : List Turn) (turn : Turn) → AnswersSoFar tools read state line left turns
@@ -114,7 +116,8 @@ module _ (tools : Tools) where
     decides = λ pieces last cuts more session.
         subst (λ (all : List Turn). IsAnswered tools read all) (sym (append_assoc turns (turn ∷ []) more))
         (a.decides (piece ∷ pieces) last (behind, cut, cuts) (turn ∷ more)
-        (subst (λ (b : Bool). Session tools state (request_and b (record { line = line + leading_line_feeds piece; text = Some piece }) (requested (line + line_feeds piece) pieces [])) (turn ∷ more)) (sym filled) (takes, session)));
+        (subst (λ (b : Bool). Session tools state (request_and b (record { line = line + leading_line_feeds piece; text = Some piece }) (requested (line + line_feeds piece) pieces []))
+        (turn ∷ more)) (sym filled) (takes, session)));
   }
 
   -- wherever they stop, they are the first of all
@@ -199,7 +202,8 @@ module _ (tools : Tools) where
       (subst (λ (s : Summary). IsUnderwayAt tools read written written start 1 (drop 0 read) (counts_of s) (names_of course.progress)) (sym b.summary)
       (subst (λ (names : List (List ℕ)). IsUnderwayAt tools read written written start 1 (drop 0 read) no_counts names) (sym b.names) at_first))))
 
-  module _ {read : List ℕ} {written now : Option (List ℕ)} {old : State} {line : ℕ} {left : List ℕ} {counts : Counts} {names : List (List ℕ)} (u : IsUnderwayAt tools read written now old line left counts names) where
+  module _ {read : List ℕ} {written now : Option (List ℕ)} {old : State} {line : ℕ} {left : List ℕ} {counts : Counts} {names : List (List ℕ)}
+      (u : IsUnderwayAt tools read written now old line left counts names) where
     -- more was read
     pub read-on : (chunk : List ℕ) → IsUnderwayAt tools (read ++ chunk) written now old line (left ++ chunk) counts names
     read-on chunk = record { turns = u.turns; ahead = ahead-read read old line left u.turns chunk u.ahead; wrote = u.wrote; counted = u.counted; named = u.named }

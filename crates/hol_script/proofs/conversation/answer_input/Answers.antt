@@ -8,8 +8,12 @@ use Rattle.hol_script.proofs.conversation.answer_input.Goals as goal
 
 pub returns-in-Err-clause-err : goal.returns-in-Err-clause-err
 returns-in-Err-clause-err g c =
-    subst (λ (fault : Fault). StopsEarly (session_tools (g.H.Refiners.refiners c.args.host.now) (g.H.Converters.conversions c.args.host.now)) (source_use (g.R.Source.remaining c.args.reader.now) (g.R.Source.has_failed c.args.reader.now)) (g.R.Source.remaining c.args.reader.now) (g.W.Sink.contents c.args.writer.now) (g.W.Sink.contents c.args.writer.now) (g.W.Sink.has_failed c.args.writer.now) fault) (sym c.in-Err.ensures.err)
-    (unbegun (session_tools (g.H.Refiners.refiners c.args.host.now) (g.H.Converters.conversions c.args.host.now)) (g.R.Source.remaining c.args.reader.now) (g.R.Source.remaining c.args.reader.now) (g.W.Sink.contents c.args.writer.now))
+    subst (λ (fault : Fault). StopsEarly (session_tools (g.H.Refiners.refiners c.args.host.now) (g.H.Converters.conversions c.args.host.now))
+    (source_use (g.R.Source.remaining c.args.reader.now) (g.R.Source.has_failed c.args.reader.now)) (g.R.Source.remaining c.args.reader.now) (g.W.Sink.contents c.args.writer.now)
+    (g.W.Sink.contents c.args.writer.now) (g.W.Sink.has_failed c.args.writer.now) fault) (sym c.in-Err.ensures.err)
+    (unbegun (session_tools (g.H.Refiners.refiners c.args.host.now) (g.H.Converters.conversions c.args.host.now)) (g.R.Source.remaining c.args.reader.now)
+    (g.R.Source.remaining c.args.reader.now) (g.W.Sink.contents c.args.writer.now))
 
 pub returns-in-Err-clause-front : goal.returns-in-Err-clause-front
-returns-in-Err-clause-front g c = unbegun-told (session_tools (g.H.Refiners.refiners c.args.host.now) (g.H.Converters.conversions c.args.host.now)) (g.R.Source.remaining c.args.reader.now) (g.W.Sink.contents c.args.writer.now)
+returns-in-Err-clause-front g c =
+    unbegun-told (session_tools (g.H.Refiners.refiners c.args.host.now) (g.H.Converters.conversions c.args.host.now)) (g.R.Source.remaining c.args.reader.now) (g.W.Sink.contents c.args.writer.now)

@@ -15,7 +15,8 @@ pulls-init g c =
     let told = (g.R.Source.remaining c.args.reader.now) in
     let none : length c.args.read.now.items ≡ 0 = ap length c.requires.unread in
     record {
-      underway = course-begun (session_tools (g.H.Refiners.refiners c.args.host.now) (g.H.Converters.conversions c.args.host.now)) c.args.read.now.items (g.W.Sink.contents c.args.writer.now) c.requires.begun;
+      underway = course-begun (session_tools (g.H.Refiners.refiners c.args.host.now) (g.H.Converters.conversions c.args.host.now)) c.args.read.now.items (g.W.Sink.contents c.args.writer.now)
+          c.requires.begun;
       within = within-begun c.args.read.now.items c.requires.begun;
       waits = waits-begun c.args.read.now.items c.requires.begun c.requires.unread;
       consumed = subst (λ (l : List ℕ). Consumes told told l) (sym c.requires.unread) (Consumes-nil told);
@@ -26,33 +27,52 @@ pulls-init g c =
 
 pub returns-in_default-clause-err : goal.returns-in_default-clause-err
 returns-in_default-clause-err g c =
-    stopped (session_tools (g.H.Refiners.refiners c.args.host.now) (g.H.Converters.conversions c.args.host.now)) (g.R.Source.remaining c.args.reader.now) (g.R.Source.remaining c.pulls.reader) (g.R.Source.has_failed c.pull.new.self)
+    stopped (session_tools (g.H.Refiners.refiners c.args.host.now) (g.H.Converters.conversions c.args.host.now)) (g.R.Source.remaining c.args.reader.now) (g.R.Source.remaining c.pulls.reader)
+    (g.R.Source.has_failed c.pull.new.self)
     c.pulls.invariant.consumed c.pulls.invariant.within_limit
     ReadFault c.pulls.invariant.underway c.pulls.invariant.waits
-    (inl (refl, search rules, Consumes-kept (g.R.Source.remaining c.args.reader.now) (g.R.Source.remaining c.pulls.reader) (g.R.Source.remaining c.pull.new.self) c.pulls.read.items c.pulls.invariant.consumed c.in_default.ensures.bytes))
+    (inl (
+      refl,
+      search rules,
+      Consumes-kept (g.R.Source.remaining c.args.reader.now) (g.R.Source.remaining c.pulls.reader) (g.R.Source.remaining c.pull.new.self) c.pulls.read.items
+          c.pulls.invariant.consumed c.in_default.ensures.bytes,
+    ))
 
 pub returns-in_default-clause-front : goal.returns-in_default-clause-front
-returns-in_default-clause-front g c = front-told (session_tools (g.H.Refiners.refiners c.args.host.now) (g.H.Converters.conversions c.args.host.now)) (g.R.Source.remaining c.args.reader.now) (g.R.Source.remaining c.pulls.reader) c.pulls.read.items c.pulls.invariant.consumed (front-here (session_tools (g.H.Refiners.refiners c.args.host.now) (g.H.Converters.conversions c.args.host.now)) c.pulls.invariant.underway)
+returns-in_default-clause-front g c =
+    front-told (session_tools (g.H.Refiners.refiners c.args.host.now) (g.H.Converters.conversions c.args.host.now)) (g.R.Source.remaining c.args.reader.now) (g.R.Source.remaining c.pulls.reader)
+    c.pulls.read.items c.pulls.invariant.consumed (front-here (session_tools (g.H.Refiners.refiners c.args.host.now) (g.H.Converters.conversions c.args.host.now)) c.pulls.invariant.underway)
 
 pub returns-then-count-known-clause-err : goal.returns-then-count-known-clause-err
 returns-then-count-known-clause-err g c =
     let chunk = take c.in-Ok.count c.pull.new.buf in
     let longer : TEXT_BYTES_LIMIT < length c.pulls.read.items + length chunk = search rules in
-    stopped (session_tools (g.H.Refiners.refiners c.args.host.now) (g.H.Converters.conversions c.args.host.now)) (g.R.Source.remaining c.args.reader.now) (g.R.Source.remaining c.pulls.reader) (g.R.Source.has_failed c.pull.new.self)
+    stopped (session_tools (g.H.Refiners.refiners c.args.host.now) (g.H.Converters.conversions c.args.host.now)) (g.R.Source.remaining c.args.reader.now) (g.R.Source.remaining c.pulls.reader)
+    (g.R.Source.has_failed c.pull.new.self)
     c.pulls.invariant.consumed c.pulls.invariant.within_limit
-    TooLong c.pulls.invariant.underway c.pulls.invariant.waits (inr (inl (refl, too-long (g.R.Source.remaining c.args.reader.now) (g.R.Source.remaining c.pulls.reader) (g.R.Source.remaining c.pull.new.self) c.pulls.read.items chunk c.pulls.invariant.consumed c.in-Ok.ensures.bytes.0 longer)))
+    TooLong c.pulls.invariant.underway c.pulls.invariant.waits
+    (inr (inl (
+      refl,
+      too-long (g.R.Source.remaining c.args.reader.now) (g.R.Source.remaining c.pulls.reader) (g.R.Source.remaining c.pull.new.self) c.pulls.read.items chunk
+          c.pulls.invariant.consumed c.in-Ok.ensures.bytes.0 longer,
+    )))
 
 pub returns-then-count-known-clause-front : goal.returns-then-count-known-clause-front
-returns-then-count-known-clause-front g c = front-told (session_tools (g.H.Refiners.refiners c.args.host.now) (g.H.Converters.conversions c.args.host.now)) (g.R.Source.remaining c.args.reader.now) (g.R.Source.remaining c.pulls.reader) c.pulls.read.items c.pulls.invariant.consumed (front-here (session_tools (g.H.Refiners.refiners c.args.host.now) (g.H.Converters.conversions c.args.host.now)) c.pulls.invariant.underway)
+returns-then-count-known-clause-front g c =
+    front-told (session_tools (g.H.Refiners.refiners c.args.host.now) (g.H.Converters.conversions c.args.host.now)) (g.R.Source.remaining c.args.reader.now) (g.R.Source.remaining c.pulls.reader)
+    c.pulls.read.items c.pulls.invariant.consumed (front-here (session_tools (g.H.Refiners.refiners c.args.host.now) (g.H.Converters.conversions c.args.host.now)) c.pulls.invariant.underway)
 
 pub returns-in-Err-clause-err : goal.returns-in-Err-clause-err
 returns-in-Err-clause-err g c =
-    stopped (session_tools (g.H.Refiners.refiners c.args.host.now) (g.H.Converters.conversions c.args.host.now)) (g.R.Source.remaining c.args.reader.now) (g.R.Source.remaining c.pulls.reader) (g.R.Source.has_failed c.pull.new.self)
+    stopped (session_tools (g.H.Refiners.refiners c.args.host.now) (g.H.Converters.conversions c.args.host.now)) (g.R.Source.remaining c.args.reader.now) (g.R.Source.remaining c.pulls.reader)
+    (g.R.Source.has_failed c.pull.new.self)
     c.pulls.invariant.consumed c.pulls.invariant.within_limit
     Memory c.pulls.invariant.underway c.pulls.invariant.waits (inr (inr refl))
 
 pub returns-in-Err-clause-front : goal.returns-in-Err-clause-front
-returns-in-Err-clause-front g c = front-told (session_tools (g.H.Refiners.refiners c.args.host.now) (g.H.Converters.conversions c.args.host.now)) (g.R.Source.remaining c.args.reader.now) (g.R.Source.remaining c.pulls.reader) c.pulls.read.items c.pulls.invariant.consumed (front-here (session_tools (g.H.Refiners.refiners c.args.host.now) (g.H.Converters.conversions c.args.host.now)) c.pulls.invariant.underway)
+returns-in-Err-clause-front g c =
+    front-told (session_tools (g.H.Refiners.refiners c.args.host.now) (g.H.Converters.conversions c.args.host.now)) (g.R.Source.remaining c.args.reader.now) (g.R.Source.remaining c.pulls.reader)
+    c.pulls.read.items c.pulls.invariant.consumed (front-here (session_tools (g.H.Refiners.refiners c.args.host.now) (g.H.Converters.conversions c.args.host.now)) c.pulls.invariant.underway)
 
 pub pulls-preserved : goal.pulls-preserved
 pulls-preserved g c =
@@ -65,7 +85,8 @@ pulls-preserved g c =
     subst (λ (l : List ℕ). IsUnderway tools l (g.W.Sink.contents c.args.writer.now) (g.W.Sink.contents c.pulls.writer) c.pulls.course) (sym whole)
     (course-read tools read chunk c.pulls.course c.pulls.invariant.within.place c.pulls.invariant.underway) in
     let consumed : Consumes (g.R.Source.remaining c.args.reader.now) (g.R.Source.remaining c.pull.new.self) (read ++ chunk) =
-    Consumes-trans (g.R.Source.remaining c.args.reader.now) (g.R.Source.remaining c.pulls.reader) (g.R.Source.remaining c.pull.new.self) read chunk c.pulls.invariant.consumed c.in-Ok.ensures.bytes.0 in
+    Consumes-trans (g.R.Source.remaining c.args.reader.now) (g.R.Source.remaining c.pulls.reader) (g.R.Source.remaining c.pull.new.self) read chunk c.pulls.invariant.consumed
+    c.in-Ok.ensures.bytes.0 in
     let same = c.deref.ensures.value in
     record {
       underway = subst (λ (l : List ℕ). IsUnderway tools l (g.W.Sink.contents c.args.writer.now) (g.W.Sink.contents c.answer_new.new.writer) c.answer_new.new.self) same
@@ -89,7 +110,8 @@ returns-in-Err-answer_new-clause-err g c =
     subst (λ (l : List ℕ). IsUnderway tools l (g.W.Sink.contents c.args.writer.now) (g.W.Sink.contents c.pulls.writer) c.pulls.course) (sym whole)
     (course-read tools read chunk c.pulls.course c.pulls.invariant.within.place c.pulls.invariant.underway) in
     let consumed : Consumes (g.R.Source.remaining c.args.reader.now) (g.R.Source.remaining c.pull.new.self) (read ++ chunk) =
-    Consumes-trans (g.R.Source.remaining c.args.reader.now) (g.R.Source.remaining c.pulls.reader) (g.R.Source.remaining c.pull.new.self) read chunk c.pulls.invariant.consumed c.in-Ok.ensures.bytes.0 in
+    Consumes-trans (g.R.Source.remaining c.args.reader.now) (g.R.Source.remaining c.pulls.reader) (g.R.Source.remaining c.pull.new.self) read chunk c.pulls.invariant.consumed
+    c.in-Ok.ensures.bytes.0 in
     let within : length c.deref.result.now ≤ 16777216 = search rules in
     answer-stopped tools (g.R.Source.remaining c.args.reader.now) (g.R.Source.remaining c.pull.new.self) (g.R.Source.has_failed c.pull.new.self)
     (subst (λ (l : List ℕ). Consumes (g.R.Source.remaining c.args.reader.now) (g.R.Source.remaining c.pull.new.self) l) (sym whole) consumed) within
@@ -106,6 +128,8 @@ returns-in-Err-answer_new-clause-front g c =
     subst (λ (l : List ℕ). IsUnderway tools l (g.W.Sink.contents c.args.writer.now) (g.W.Sink.contents c.pulls.writer) c.pulls.course) (sym whole)
     (course-read tools read chunk c.pulls.course c.pulls.invariant.within.place c.pulls.invariant.underway) in
     let consumed : Consumes (g.R.Source.remaining c.args.reader.now) (g.R.Source.remaining c.pull.new.self) (read ++ chunk) =
-    Consumes-trans (g.R.Source.remaining c.args.reader.now) (g.R.Source.remaining c.pulls.reader) (g.R.Source.remaining c.pull.new.self) read chunk c.pulls.invariant.consumed c.in-Ok.ensures.bytes.0 in
+    Consumes-trans (g.R.Source.remaining c.args.reader.now) (g.R.Source.remaining c.pulls.reader) (g.R.Source.remaining c.pull.new.self) read chunk c.pulls.invariant.consumed
+    c.in-Ok.ensures.bytes.0 in
     front-told tools (g.R.Source.remaining c.args.reader.now) (g.R.Source.remaining c.pull.new.self) c.deref.result.now
-    (subst (λ (l : List ℕ). Consumes (g.R.Source.remaining c.args.reader.now) (g.R.Source.remaining c.pull.new.self) l) (sym whole) consumed) (λ further. c.in-Err-answer_new.ensures.front (g.W.Sink.contents c.args.writer.now) further more)
+    (subst (λ (l : List ℕ). Consumes (g.R.Source.remaining c.args.reader.now) (g.R.Source.remaining c.pull.new.self) l) (sym whole) consumed)
+    (λ further. c.in-Err-answer_new.ensures.front (g.W.Sink.contents c.args.writer.now) further more)

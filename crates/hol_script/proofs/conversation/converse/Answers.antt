@@ -37,7 +37,8 @@ returns-clause-closes g c =
     (source_use (g.R.Source.remaining c.args.reader.now) (g.R.Source.has_failed c.answer_input.new.reader))
     (sink_use (g.W.Sink.contents c.args.writer.now) (g.W.Sink.contents c.answer_input.new.writer) (g.W.Sink.has_failed c.answer_input.new.writer) (c.answer_input.new.writer ≡ c.args.writer.now))
     (sink_use (g.L.Sink.contents c.args.log.now) (g.L.Sink.contents c.write_log-logged.new.log) (g.L.Sink.has_failed c.write_log-logged.new.log) (c.write_log-logged.new.log ≡ c.args.log.now))
-    c.in-Ok.ensures.ok.script c.in-Ok.ensures.ok.read c.in-Ok.ensures.ok.within_limit c.in-Ok.progress c.in-Ok.ensures.ok.finishes c.write_log-logged.result c.if-not-wants_log.false c.write_log-logged.ensures.ok c.write_log-logged.ensures.refusals
+    c.in-Ok.ensures.ok.script c.in-Ok.ensures.ok.read c.in-Ok.ensures.ok.within_limit c.in-Ok.progress c.in-Ok.ensures.ok.finishes c.write_log-logged.result c.if-not-wants_log.false
+    c.write_log-logged.ensures.ok c.write_log-logged.ensures.refusals
     c.write_log-logged.ensures.write_fault c.write_log-logged.ensures.too_long c.write_log-logged.ensures.unwritten)
 
 pub returns-clause-own_log : goal.returns-clause-own_log
@@ -47,10 +48,12 @@ pub returns-clause-log_told : goal.returns-clause-log_told
 returns-clause-log_told g c = told-so (counts_of c.in-Ok.progress.summary) c.write_log-logged.result c.write_log-logged.ensures.told
 
 pub returns-then-not-wants_log-clause-told : goal.returns-then-not-wants_log-clause-told
-returns-then-not-wants_log-clause-told g c = finishes_told (session_tools (g.H.Refiners.refiners c.args.host.now) (g.H.Converters.conversions c.args.host.now)) c.in-Ok.ensures.ok.script c.in-Ok.ensures.ok.read c.in-Ok.ensures.ok.finishes
+returns-then-not-wants_log-clause-told g c =
+    finishes_told (session_tools (g.H.Refiners.refiners c.args.host.now) (g.H.Converters.conversions c.args.host.now)) c.in-Ok.ensures.ok.script c.in-Ok.ensures.ok.read c.in-Ok.ensures.ok.finishes
 
 pub returns-clause-told : goal.returns-clause-told
-returns-clause-told g c = finishes_told (session_tools (g.H.Refiners.refiners c.args.host.now) (g.H.Converters.conversions c.args.host.now)) c.in-Ok.ensures.ok.script c.in-Ok.ensures.ok.read c.in-Ok.ensures.ok.finishes
+returns-clause-told g c =
+    finishes_told (session_tools (g.H.Refiners.refiners c.args.host.now) (g.H.Converters.conversions c.args.host.now)) c.in-Ok.ensures.ok.script c.in-Ok.ensures.ok.read c.in-Ok.ensures.ok.finishes
 
 pub returns-then-not-wants_log-clause-leaves : goal.returns-then-not-wants_log-clause-leaves
 returns-then-not-wants_log-clause-leaves g c = record { script = c.in-Ok.ensures.ok.script; read = c.in-Ok.ensures.ok.read; finishes = c.in-Ok.ensures.ok.finishes }

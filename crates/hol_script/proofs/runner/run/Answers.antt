@@ -64,7 +64,8 @@ returns-clause-ends g c =
     c.write_log-logged.ensures.write_fault c.write_log-logged.ensures.too_long c.write_log-logged.ensures.unwritten
 
 pub returns-clause-own_log : goal.returns-clause-own_log
-returns-clause-own_log g c wanted = logs-told c.in-Ok-run_script.progress c.write_log-logged.result c.write_log-logged.ensures.ok c.write_log-logged.ensures.write_fault c.write_log-logged.ensures.too_long
+returns-clause-own_log g c wanted =
+    logs-told c.in-Ok-run_script.progress c.write_log-logged.result c.write_log-logged.ensures.ok c.write_log-logged.ensures.write_fault c.write_log-logged.ensures.too_long
 
 pub returns-clause-log_told : goal.returns-clause-log_told
 returns-clause-log_told g c = told-so (counts_of c.in-Ok-run_script.progress.summary) c.write_log-logged.result c.write_log-logged.ensures.told

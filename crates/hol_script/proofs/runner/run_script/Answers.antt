@@ -1,4 +1,3 @@
-use Rattle.std.proofs.Common.{sym, lit<}
 use Rattle.hol_script_manager.specs.Session.{session_tools}
 use Rattle.hol_script.proofs.CourseLemmas.{course-begun}
 use Rattle.hol_script.proofs.HeadlineLemmas.{unwritten}

@@ -1,4 +1,4 @@
-use Rattle.std.proofs.Common.{◌≡◌, ℕ, List, ◌++◌, ◌+◌, ◌∙◌, length, drop, ap, sym, subst}
+use Rattle.std.proofs.Common.{◌≡◌, ℕ, List, ◌++◌, ◌+◌, ◌∙◌, drop, ap, sym, subst}
 use Rattle.std.proofs.lemmas.List.{take_rest}
 use Rattle.hol_model_sessions.specs.Script.{IsCut}
 use Rattle.hol_script_manager.specs.declared.manager.Manager.{Manager}
@@ -15,13 +15,15 @@ pub returns-in-Err-clause-breaks : goal.returns-in-Err-clause-breaks
 returns-in-Err-clause-breaks g c = λ written u.
     let cut : IsCut (drop c.args.self.now.at c.args.read.now) c.in-Some.piece.now c.in-Some.field-0-1.now =
     subst (λ (left : List ℕ). IsCut left c.in-Some.piece.now c.in-Some.field-0-1.now) (take_rest c.args.read.now c.args.self.now.at) c.in-Some.ensures in
-    answer-broken (session_tools (g.H.Refiners.refiners c.args.host.now) (g.H.Converters.conversions c.args.host.now)) u c.in-Some.piece.now c.in-Some.field-0-1.now cut c.answer-answer.result c.leading_line_feeds.result (sym c.if-not-is_blank_text.ensures) c.answer-answer.ensures.turns c.leading_line_feeds.ensures.count c.in-Err.ensures.err
+    answer-broken (session_tools (g.H.Refiners.refiners c.args.host.now) (g.H.Converters.conversions c.args.host.now)) u c.in-Some.piece.now c.in-Some.field-0-1.now cut c.answer-answer.result
+    c.leading_line_feeds.result (sym c.if-not-is_blank_text.ensures) c.answer-answer.ensures.turns c.leading_line_feeds.ensures.count c.in-Err.ensures.err
 
 pub returns-in-Err-clause-front : goal.returns-in-Err-clause-front
 returns-in-Err-clause-front g c = λ written more u.
     let cut : IsCut (drop c.args.self.now.at c.args.read.now) c.in-Some.piece.now c.in-Some.field-0-1.now =
     subst (λ (left : List ℕ). IsCut left c.in-Some.piece.now c.in-Some.field-0-1.now) (take_rest c.args.read.now c.args.self.now.at) c.in-Some.ensures in
-    run-broken (session_tools (g.H.Refiners.refiners c.args.host.now) (g.H.Converters.conversions c.args.host.now)) u c.in-Some.piece.now c.in-Some.field-0-1.now cut c.answer-answer.result c.leading_line_feeds.result (sym c.if-not-is_blank_text.ensures) c.answer-answer.ensures.turns c.leading_line_feeds.ensures.count more c.in-Err.ensures.err
+    run-broken (session_tools (g.H.Refiners.refiners c.args.host.now) (g.H.Converters.conversions c.args.host.now)) u c.in-Some.piece.now c.in-Some.field-0-1.now cut c.answer-answer.result
+    c.leading_line_feeds.result (sym c.if-not-is_blank_text.ensures) c.answer-answer.ensures.turns c.leading_line_feeds.ensures.count more c.in-Err.ensures.err
 
 pub returns-clause-goes_on : goal.returns-clause-goes_on
 returns-clause-goes_on g c = λ written u.
@@ -32,17 +34,22 @@ returns-clause-goes_on g c = λ written u.
       | then-not-is_blank_text+in-Ok w ↦
           let same : w.answer-answer.new.self.summary ≡ c.args.self.now.progress.summary = w.answer-answer.ensures.summary in
           rw (w.writer-is, w.self-is)
-          (subst (λ (left : List ℕ). IsUnderwayAt (session_tools (g.H.Refiners.refiners c.args.host.now) (g.H.Converters.conversions c.args.host.now)) c.args.read.now written (g.W.Sink.contents w.write_answer.new.writer) (state_of w.keep.new.self.manager)
+          (subst (λ (left : List ℕ). IsUnderwayAt (session_tools (g.H.Refiners.refiners c.args.host.now) (g.H.Converters.conversions c.args.host.now)) c.args.read.now written
+          (g.W.Sink.contents w.write_answer.new.writer) (state_of w.keep.new.self.manager)
           (c.args.self.now.line + c.line_feeds.result) left (counts_of w.keep.new.self.summary) (names_of w.keep.new.self)) (sym past)
-          (subst (λ (manager : Manager). IsUnderwayAt (session_tools (g.H.Refiners.refiners c.args.host.now) (g.H.Converters.conversions c.args.host.now)) c.args.read.now written (g.W.Sink.contents w.write_answer.new.writer) (state_of manager)
+          (subst (λ (manager : Manager). IsUnderwayAt (session_tools (g.H.Refiners.refiners c.args.host.now) (g.H.Converters.conversions c.args.host.now)) c.args.read.now written
+          (g.W.Sink.contents w.write_answer.new.writer) (state_of manager)
           (c.args.self.now.line + c.line_feeds.result) c.in-Some.field-0-1.now (counts_of w.keep.new.self.summary) (names_of w.keep.new.self)) (sym w.keep.ensures.manager)
-          (turned (session_tools (g.H.Refiners.refiners c.args.host.now) (g.H.Converters.conversions c.args.host.now)) u c.in-Some.piece.now c.in-Some.field-0-1.now cut w.answer-answer.result w.leading_line_feeds.result (sym w.if-not-is_blank_text.ensures) w.answer-answer.ensures.turns
+          (turned (session_tools (g.H.Refiners.refiners c.args.host.now) (g.H.Converters.conversions c.args.host.now)) u c.in-Some.piece.now c.in-Some.field-0-1.now
+          cut w.answer-answer.result w.leading_line_feeds.result (sym w.if-not-is_blank_text.ensures) w.answer-answer.ensures.turns
           w.leading_line_feeds.ensures.count c.line_feeds.result c.line_feeds.ensures.count w.in-Ok.ensures.ok
           (w.keep.ensures.counts ∙ ap (λ (s : Summary). counting_answer (counts_of s) w.answer-answer.result) same)
           (w.keep.ensures.names ∙ ap (λ (names : List (List ℕ)). names ++ names_in_answer w.answer-answer.result) w.answer-answer.ensures.names))))
       | else-not-is_blank_text w ↦
           rw (w.writer-is, w.self-is)
-          (subst (λ (left : List ℕ). IsUnderwayAt (session_tools (g.H.Refiners.refiners c.args.host.now) (g.H.Converters.conversions c.args.host.now)) c.args.read.now written (g.W.Sink.contents c.args.writer.now) (state_of c.args.self.now.progress.manager)
+          (subst (λ (left : List ℕ). IsUnderwayAt (session_tools (g.H.Refiners.refiners c.args.host.now) (g.H.Converters.conversions c.args.host.now)) c.args.read.now written
+          (g.W.Sink.contents c.args.writer.now) (state_of c.args.self.now.progress.manager)
           (c.args.self.now.line + c.line_feeds.result) left (counts_of c.args.self.now.progress.summary) (names_of c.args.self.now.progress)) (sym past)
-          (passed (session_tools (g.H.Refiners.refiners c.args.host.now) (g.H.Converters.conversions c.args.host.now)) u c.in-Some.piece.now c.in-Some.field-0-1.now cut c.line_feeds.result (sym w.if-not-is_blank_text.ensures) c.line_feeds.ensures.count))
+          (passed (session_tools (g.H.Refiners.refiners c.args.host.now) (g.H.Converters.conversions c.args.host.now)) u c.in-Some.piece.now c.in-Some.field-0-1.now cut c.line_feeds.result
+          (sym w.if-not-is_blank_text.ensures) c.line_feeds.ensures.count))
     ]

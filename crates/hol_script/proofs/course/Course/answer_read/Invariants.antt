@@ -7,7 +7,8 @@ abbrev pub invariant-loop-fault : goal.invariant-loop-fault
 invariant-loop-fault g l = record {
   within : IsWithin l.fn.read l.self;
   unfailed : g.W.Sink.has_failed l.writer ≡ false;
-  goes_on : (written : Option (List ℕ)) → IsUnderway (session_tools (g.H.Refiners.refiners l.fn.host) (g.H.Converters.conversions l.fn.host)) l.fn.read written (g.W.Sink.contents l.fn.writer) l.fn.self
+  goes_on : (written : Option (List ℕ)) → IsUnderway (session_tools (g.H.Refiners.refiners l.fn.host) (g.H.Converters.conversions l.fn.host)) l.fn.read written
+      (g.W.Sink.contents l.fn.writer) l.fn.self
       → IsUnderway (session_tools (g.H.Refiners.refiners l.fn.host) (g.H.Converters.conversions l.fn.host)) l.fn.read written (g.W.Sink.contents l.writer) l.self;
 }
 
