@@ -6,7 +6,7 @@ of the host in crates/holp_host_example likewise. This tool compares the pages w
 code:
 
     <!-- example: NAME.hol -->                  lines of the script, each command with what it prints behind `> `
-    <!-- example: NAME.hol, its log -->         lines of its log; `its log checked`: of what `check --theory` says
+    <!-- example: NAME.hol, its log -->         lines of its log; `.. checked`, `.. reviewed`: of what `check --theory`, `--review` say
     <!-- example: host -->                      the same of the script that the host runs
     <!-- file: PATH -->                         lines of a file of the repository
     <!-- shell -->                              commands behind `$ `, each with what it prints, and `[N]` for a status that is not 0
@@ -64,11 +64,12 @@ def cut_stdout():
 
 
 def printed(name):
-    """what the gate compares of a script, `NAME.hol`, `NAME.hol, its log` or `NAME.hol, its log checked`"""
+    """what the gate compares of a script, `NAME.hol`, `NAME.hol, its log`, `NAME.hol, its log checked` or `.. reviewed`"""
     script, _, which = name.partition(", ")
     log = os.path.basename(script).replace(".hol", ".log")
     if which:
-        return sections[f"$ holp check --theory {log}" if "checked" in which else f"$ holp run {script} --log /dev/stdout"]
+        option = "--review" if "reviewed" in which else "--theory"
+        return sections[f"$ holp run {script} --log /dev/stdout" if which == "its log" else f"$ holp check {option} {log}"]
     lines = (f"$ holp run {script}{option}" for option in ("", " --explain", f" --log {log}"))
     return next(sections[line] for line in lines if line in sections)
 
