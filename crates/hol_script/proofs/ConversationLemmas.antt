@@ -1,5 +1,5 @@
 -- How a conversation stops, and how it ends.
-use Rattle.std.proofs.Common.{◌≡◌, ℕ, ◌+◌, ◌≤◌, ◌<◌, List, [], ◌++◌, length, drop, refl, sym, ap, subst, ◌∙◌, inl, inr, arith, Bool, true, false, Option, None, Some, Ok, Err, Result}
+use Rattle.std.proofs.Common.{◌≡◌, ℕ, ◌+◌, ◌≤◌, ◌<◌, List, [], ◌++◌, length, refl, ap, ◌∙◌, inr, arith, Bool, true, false, Option, None, Some, Err}
 use Rattle.std.proofs.Common.{length-append}
 use Rattle.std.specs.Prelude.{IfSome}
 use Rattle.std.specs.Io.KnownBytes.{Consumes}
@@ -7,18 +7,16 @@ use Rattle.std.proofs.KnownBytes.{Appends-nil}
 use Rattle.hol_model.specs.declared.fault.Fault.{Fault}
 use Rattle.hol_model.specs.declared.fault.Fault.TheVariants.{Memory, WriteFault}
 use Rattle.hol_model.specs.declared.limits.TheConstants.{TEXT_BYTES_LIMIT}
-use Rattle.hol_model.specs.Texts.KnownText.{Tells}
 use Rattle.hol_model_sessions.specs.Script.{has_mark}
 use Rattle.hol_model_sessions.specs.ScriptSessions.{State, Tools, text_of_turns}
 use Rattle.hol_model_sessions.specs.Runs.{Counts, SourceUse, SinkUse}
-use Rattle.hol_script.specs.declared.course.Course.{Course}
 use Rattle.hol_script.specs.Runs.{Breaks, TellsFront, devices, source_use}
 use Rattle.hol_script.specs.RunLogs.{IsLogOver}
-use Rattle.hol_script.specs.Courses.{IsUnderwayAt, BreaksAnswers, IsStopped, IsAnswerBroken, BreaksTold, IsRunBroken, StopsEarly, reads_no_more, breaks_in_answer, breaks_at_end}
-use Rattle.hol_script.specs.Conversations.{TellsFirst, StopsBehind, EndsWhole, Closes, in_input, in_answer, in_last_answer, at_end}
+use Rattle.hol_script.specs.Courses.{IsUnderwayAt, BreaksAnswers, BreaksTold, StopsEarly, reads_no_more, breaks_in_answer, breaks_at_end}
+use Rattle.hol_script.specs.Conversations.{TellsFirst, StopsBehind, Closes, in_input, in_answer, in_last_answer}
 use Rattle.hol_script.proofs.HeadlineLemmas.{breaks_told, unwritten}
 use Rattle.hol_script.proofs.EndLemmas.{breaks_off}
-use Rattle.hol_script.proofs.CourseLemmas.{all-answered, front-here}
+use Rattle.hol_script.proofs.CourseLemmas.{all-answered}
 
 -- what a source gave are the first of its bytes
 first-told : (failed : Bool) (told left : Option (List ℕ)) (read : List ℕ) → Consumes told left read → TellsFirst (source_use told failed) read

@@ -1,35 +1,34 @@
 -- How a course goes on: more bytes are read, commands are answered, and what is written where it stops.
 use Rattle.std.proofs.Common.{◌≡◌, ℕ, zero, suc, ◌+◌, ◌≤◌, ◌-◌, List, [], ◌∷◌, ◌++◌, map, length, take, drop, refl, sym, ap}
-use Rattle.std.proofs.Common.{subst, ◌∙◌, arith, true, false, Bool, ◌==◌, ◌&&◌, ◌||◌, Option, None, Some, Result, Ok, Err, append_assoc, append-nil, length-append}
-use Rattle.std.proofs.lemmas.List.{drop-drop, drop-append-le, length-drop, take_rest}
+use Rattle.std.proofs.Common.{subst, ◌∙◌, arith, true, false, Bool, ◌==◌, ◌&&◌, Option, None, Some, Result, append_assoc, append-nil, length-append}
+use Rattle.std.proofs.lemmas.List.{drop-drop, drop-append-le, length-drop}
 use Rattle.std.proofs.Math.Seq.{drop-append-add, take-append_seam}
 use Rattle.std.specs.Prelude.{MatchOption, is_some}
 use Rattle.std.specs.Io.KnownBytes.{Appends}
 use Rattle.std.proofs.KnownBytes.{Appends-nil, Appends-trans}
-use Rattle.hol_model.specs.declared.fault.Fault.TheVariants.{Syntax}
 use Rattle.hol_model.proofs.Tests.{first_of_neither, second_of_neither}
-use Rattle.hol_model_sessions.specs.Script.{begins_mark, has_mark, IsCut, Cuts, Request, line_feeds, leading_line_feeds, is_blank_text, request_and, requested}
-use Rattle.hol_model_sessions.specs.Replies.{NamedTheorem, theorem_in, reply_text}
-use Rattle.hol_model_sessions.specs.ScriptSessions.{State, start, scope_in, Tools, Turn, Takes, Session, last_state, text_of_turn, text_of_turns, as_list}
+use Rattle.hol_model_sessions.specs.Script.{begins_mark, has_mark, IsCut, Request, line_feeds, leading_line_feeds, is_blank_text, request_and, requested}
+use Rattle.hol_model_sessions.specs.Replies.{theorem_in, reply_text}
+use Rattle.hol_model_sessions.specs.ScriptSessions.{State, start, scope_in, Tools, Turn, Takes, Session, text_of_turn, text_of_turns, as_list}
 use Rattle.hol_model_sessions.specs.Runs.{Counts, no_counts, counting, counts_after}
 use Rattle.hol_model_sessions.specs.Running.{SoFar}
 use Rattle.hol_model_sessions.specs.SessionCalls.{Turns, IsTurn}
 use Rattle.hol_laws_sessions.specs.SessionLaws.{all_without_memory}
 use Rattle.hol_laws_sessions.proofs.Pieces.{HasPieces, has_pieces}
 use Rattle.hol_laws_sessions.proofs.Turns.{may-lack-memory}
-use Rattle.hol_laws_sessions.proofs.RunProgress.{turns-add, begins, blank-passes, turn-passes, ends, ends-unfinished, stopped-begins, is_turn}
+use Rattle.hol_laws_sessions.proofs.RunProgress.{turns-add, begins, blank-passes, turn-passes, stopped-begins, is_turn}
 use Rattle.hol_device_io.specs.Bytes.{AppendsFront}
 use Rattle.hol_script_manager.specs.Session.{Printed}
 use Rattle.hol_script_manager.specs.Session.{Refused}
-use Rattle.hol_script_manager.specs.Session.{Says, answer_text, plain}
+use Rattle.hol_script_manager.specs.Session.{Says, answer_text}
 use Rattle.hol_script_manager.specs.Session.{said-text}
 use Rattle.hol_script_manager.specs.Managers.{state_of}
 use Rattle.hol_script.specs.declared.course.Course.{Course}
 use Rattle.hol_script.specs.declared.progress.Summary.{Summary}
-use Rattle.hol_script.specs.Runs.{counts_of, counting_answer, names_of, names_in_answer, printed_names, Finishes, Breaks}
+use Rattle.hol_script.specs.Runs.{counts_of, counting_answer, names_of, names_in_answer, printed_names, Breaks}
 use Rattle.hol_script.specs.Conversations.{IsAnswered}
 use Rattle.hol_script.specs.Courses.{IsBegun, IsWithin, AnswersSoFar, IsAhead, IsUnderwayAt, IsUnderway, BreaksAnswers}
-use Rattle.hol_script.proofs.RunLemmas.{Underway, underway-ended, underway-unfinished, unfinished-broken, text-more, names-more, answer-counts, answer-names, cut_length}
+use Rattle.hol_script.proofs.RunLemmas.{Underway, text-more, names-more, answer-counts, answer-names}
 
 -- ---- bytes
 

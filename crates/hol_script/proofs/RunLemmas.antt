@@ -4,22 +4,20 @@ use Rattle.std.proofs.Common.{Result, Ok, Err, append_assoc, append-nil, length-
 use Rattle.std.proofs.lemmas.List.{map-append}
 use Rattle.std.specs.Option.{option_map}
 use Rattle.std.specs.Io.KnownBytes.{Appends}
-use Rattle.std.proofs.KnownBytes.{Appends-nil, Appends-trans}
+use Rattle.std.proofs.KnownBytes.{Appends-trans}
 use Rattle.hol_model.specs.declared.fault.Fault.TheVariants.{Syntax}
 use Rattle.hol_model.specs.Texts.Reading.{Scope}
-use Rattle.hol_model_sessions.specs.Script.{has_mark, IsCut, Request, line_feeds, leading_line_feeds, is_blank_text}
-use Rattle.hol_model_sessions.specs.Replies.{NamedTheorem, theorem_in_message, theorem_in, Reply, reply_text}
-use Rattle.hol_model_sessions.specs.ScriptSessions.{State, start, scope_in, Tools, Turn, text_of_turn, text_of_turns, as_list, theorems_in_turns}
+use Rattle.hol_model_sessions.specs.Script.{has_mark, IsCut, leading_line_feeds, is_blank_text}
+use Rattle.hol_model_sessions.specs.Replies.{NamedTheorem, theorem_in_message, theorem_in, Reply}
+use Rattle.hol_model_sessions.specs.ScriptSessions.{State, start, Tools, Turn, text_of_turn, text_of_turns, as_list, theorems_in_turns}
 use Rattle.hol_model_sessions.specs.Runs.{Counts, no_counts, one_of, counting, counts_after}
 use Rattle.hol_model_sessions.specs.Running.{SoFar, unfinished}
-use Rattle.hol_model_sessions.specs.SessionCalls.{Turns, IsTurn}
 use Rattle.hol_device_io.specs.Bytes.{AppendsFront}
-use Rattle.hol_laws_sessions.proofs.RunProgress.{turns-add, begins, blank-passes, turn-passes, ends, ends-unfinished, stopped-begins, is_turn}
+use Rattle.hol_laws_sessions.proofs.RunProgress.{turns-add, ends, ends-unfinished}
 use Rattle.hol_script_manager.specs.Session.{Printed}
 use Rattle.hol_script_manager.specs.Session.{Nothing, Line, Goals}
 use Rattle.hol_script_manager.specs.Session.{Refused}
 use Rattle.hol_script_manager.specs.Session.{printed_name, Says, answer_text, plain}
-use Rattle.hol_script_manager.specs.Session.{said-text}
 use Rattle.hol_script.specs.Runs.{counting_answer, names_in_answer, printed_names, Finishes, Breaks}
 
 -- ---- what is seen of an answer is what is seen of its reply

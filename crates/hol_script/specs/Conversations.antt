@@ -9,7 +9,7 @@ use Rattle.hol_model.specs.Logic.Theory.{Theory}
 use Rattle.hol_model.specs.Logs.LogState.{LogClaim}
 use Rattle.hol_model_sessions.specs.Script.{Cuts, requested}
 use Rattle.hol_model_sessions.specs.ScriptSessions.{start, Tools, Turn, Session, text_of_turns}
-use Rattle.hol_model_sessions.specs.Runs.{Counts, SourceUse, SinkUse, Devices, Writes, BreaksOff, EndsInOutput, EndsBeforeLog, EndsInLog, EndsLogged, EndsUnlogged}
+use Rattle.hol_model_sessions.specs.Runs.{Counts, SourceUse, Devices, Writes, BreaksOff, EndsInOutput, EndsBeforeLog, EndsInLog, EndsLogged, EndsUnlogged}
 
 -- These are the turns of a session of the commands whose `;;` is among the bytes; what stands behind the last `;;` waits.
 pub record IsAnswered (tools : Tools) (read : List ℕ) (turns : List Turn) : Type 0 where
