@@ -1,11 +1,10 @@
 -- Pieces that are written one after another.
-use Rattle.std.proofs.Common.{◌≡◌, ◌<◌, ◌+◌, ℕ, List, [], ◌∷◌, ◌++◌, Option, Ok, Err, true, false, take, length, reverse, sym, subst}
+use Rattle.std.proofs.Common.{◌≡◌, ◌<◌, ◌+◌, ℕ, List, [], ◌++◌, Option, true, false, take, length, reverse, sym, subst}
 use Rattle.std.specs.List.{slice_index_or}
 use Rattle.std.proofs.lemmas.List.{take_more}
 use Rattle.std.specs.Io.KnownBytes.{Appends}
 use Rattle.std.proofs.KnownBytes.{Appends-nil, Appends-trans}
-use Rattle.std.specs.Prelude.{Result, OnOk, codes}
-use Rattle.hol_model.specs.declared.fault.Fault.{Fault}
+use Rattle.std.specs.Prelude.{codes}
 use Rattle.hol_model.specs.Logic.Theory.{Entry}
 use Rattle.hol_model.specs.Logs.LogState.{LogClaim}
 use Rattle.hol_model.specs.Texts.Reading.{Scope}
@@ -28,14 +27,13 @@ module _ {A : Type 0} (Tells : A → List ℕ → Type 0) where
   }
 
 -- all of a review was written
-pub review_written : {A : Type 0} → (result : Result A Fault) (entries : List Entry) (claims : List LogClaim) (scope : Scope) (a b c d e f g : Option (List ℕ)) (first second third : List ℕ)
+pub review_written : (entries : List Entry) (claims : List LogClaim) (scope : Scope) (a b c d e f g : Option (List ℕ)) (first second third : List ℕ)
     → scope ≡ scope_over (reverse entries)
     → first ≡ codes "theory:\n" → Appends a b first → Writes b c (ArePieces (IsEntryPiece scope) entries)
     → second ≡ codes "claims without hypotheses:\n" → Appends c d second → Writes d e (ArePieces (IsClaimPiece scope false) claims)
-    → third ≡ codes "claims with hypotheses:\n" → Appends e f third → OnOk result (Writes f g (ArePieces (IsClaimPiece scope true) claims))
-    → OnOk result (Writes a g (IsReview entries claims))
-review_written (Err fault) entries claims scope a b c d e f g first second third same is_first began theory is_second went plain is_third ended conditional = tt
-review_written (Ok done) entries claims scope a b c d e f g first second third same is_first began theory is_second went plain is_third ended conditional = record {
+    → third ≡ codes "claims with hypotheses:\n" → Appends e f third → Writes f g (ArePieces (IsClaimPiece scope true) claims)
+    → Writes a g (IsReview entries claims)
+review_written entries claims scope a b c d e f g first second third same is_first began theory is_second went plain is_third ended conditional = record {
   text = first ++ (theory.text ++ (second ++ (plain.text ++ (third ++ conditional.text))));
   holds = record {
     theory = theory.text;

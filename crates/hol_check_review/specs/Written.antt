@@ -1,5 +1,5 @@
 -- What is written of a checked log.
-use Rattle.std.specs.Prelude.{◌≡◌, ◌⊎◌, ℕ, List, [], ◌∷◌, ◌++◌, Bool, true, false, Option, codes, length, nat_lt, reverse, if◌then◌else◌}
+use Rattle.std.specs.Prelude.{◌≡◌, ◌⊎◌, ℕ, List, [], ◌∷◌, ◌++◌, Bool, true, false, Option, codes, length, nat_lt, reverse}
 use Rattle.std.specs.Io.KnownBytes.{Appends}
 use Rattle.hol_model.specs.Logic.Theory.{Entry}
 use Rattle.hol_model.specs.Logs.LogState.{LogClaim}

@@ -16,4 +16,4 @@ mod usual;
 pub use lines::{line_of_claim, line_of_entry};
 pub use review::write_review;
 pub use theory::scope_of_entries;
-pub use usual::{Remark, mark_of, remark_on};
+pub use usual::{Remark, remark_on};

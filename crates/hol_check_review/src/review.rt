@@ -28,6 +28,11 @@ fn not_printed(alloc: Global, name: &[u8], fault: Fault, mark: &str) -> Result<S
     Ok(format!(in alloc; "{name}: (WARNING: not printed{reason}")?)
 }
 
+// Counts a line that is not printed.
+fn count(refused: &mut u64) {
+    *refused = refused.saturating_add(1);
+}
+
 // The name of an entry.
 fn name_of(entry: &LogEntry) -> &[u8] {
     match entry.parts() {
@@ -37,26 +42,38 @@ fn name_of(entry: &LogEntry) -> &[u8] {
     }
 }
 
-// The piece of a review that tells an entry.
-fn entry_piece(alloc: Global, scope: &Scope, entry: &LogEntry) -> Result<String, Fault>
+// The piece of a review that tells an entry. One that is not printed is counted.
+fn entry_piece(
+    alloc: Global,
+    scope: &Scope,
+    entry: &LogEntry,
+    refused: &mut u64,
+) -> Result<String, Fault>
     ensures { IfOk result (λ piece. IsEntryPiece (scope_of scope.now) entry.now (string_bytes piece)) }
 {
     match line_of_entry(alloc, scope, entry) {
         Ok(line) => Ok(format!(in alloc; "{line}\n")?),
         Err(fault) => {
+            count(refused);
             let line = not_printed(alloc, name_of(entry), fault, mark_of(remark_on(entry)))?;
             Ok(format!(in alloc; "{line}\n")?)
         }
     }
 }
 
-// The piece of a review that tells a claim.
-fn piece_of_claim(alloc: Global, scope: &Scope, claim: &Claim) -> Result<String, Fault>
+// The piece of a review that tells a claim. One that is not printed is counted.
+fn piece_of_claim(
+    alloc: Global,
+    scope: &Scope,
+    claim: &Claim,
+    refused: &mut u64,
+) -> Result<String, Fault>
     ensures { IfOk result (λ piece. IsPiece (IsClaimLine (scope_of scope.now) claim.now) (string_bytes piece)) }
 {
     match line_of_claim(alloc, scope, claim) {
         Ok(line) => Ok(format!(in alloc; "{line}\n")?),
         Err(fault) => {
+            count(refused);
             let line = not_printed(alloc, claim.name(), fault, "")?;
             Ok(format!(in alloc; "{line}\n")?)
         }
@@ -64,11 +81,17 @@ fn piece_of_claim(alloc: Global, scope: &Scope, claim: &Claim) -> Result<String,
 }
 
 // The same where claims of its kind are wanted: with hypotheses, or without.
-fn claim_piece(alloc: Global, scope: &Scope, wanted: bool, claim: &Claim) -> Result<String, Fault>
+fn claim_piece(
+    alloc: Global,
+    scope: &Scope,
+    wanted: bool,
+    claim: &Claim,
+    refused: &mut u64,
+) -> Result<String, Fault>
     ensures { IfOk result (λ piece. IsClaimPiece (scope_of scope.now) wanted claim.now (string_bytes piece)) }
 {
     if (0 < claim.hyp_count()) == wanted {
-        piece_of_claim(alloc, scope, claim)
+        piece_of_claim(alloc, scope, claim, refused)
     } else {
         Ok(String::new(alloc))
     }
@@ -79,6 +102,7 @@ fn write_entries<W: Sink>(
     alloc: Global,
     scope: &Scope,
     entries: &[LogEntry],
+    refused: &mut u64,
     writer: &mut W,
 ) -> Result<(), Fault>
     requires unfailed { W.has_failed writer.old ≡ false }
@@ -86,7 +110,7 @@ fn write_entries<W: Sink>(
     ensures unfailed { OnOk result (W.has_failed writer.new ≡ false) }
 {
     for entry in entries {
-        let piece = entry_piece(alloc, scope, entry)?;
+        let piece = entry_piece(alloc, scope, entry, refused)?;
         write_all(writer, piece.as_bytes())?;
     }
     Ok(())
@@ -98,6 +122,7 @@ fn write_claims<W: Sink>(
     scope: &Scope,
     wanted: bool,
     claims: &[Claim],
+    refused: &mut u64,
     writer: &mut W,
 ) -> Result<(), Fault>
     requires unfailed { W.has_failed writer.old ≡ false }
@@ -105,7 +130,7 @@ fn write_claims<W: Sink>(
     ensures unfailed { OnOk result (W.has_failed writer.new ≡ false) }
 {
     for claim in claims {
-        let piece = claim_piece(alloc, scope, wanted, claim)?;
+        let piece = claim_piece(alloc, scope, wanted, claim, refused)?;
         write_all(writer, piece.as_bytes())?;
     }
     Ok(())
@@ -113,23 +138,25 @@ fn write_claims<W: Sink>(
 
 /// Writes what a checked log says: the heading `theory:` and a line for each entry, in the order given; the heading
 /// `claims without hypotheses:` and a line for each of these; `claims with hypotheses:` and a line for each of those. A
-/// line that is refused, but for memory, is told as not printed, with the name of the refusal. Refusals: WriteFault, where
-/// the sink fails; Memory; those of `scope_of_entries`.
+/// line that is refused, but for memory, is told as not printed, with the name of the refusal; answers how many are.
+/// Refusals: WriteFault, where the sink fails; Memory; those of `scope_of_entries`.
 pub fn write_review<W: Sink>(
     alloc: Global,
     entries: &[LogEntry],
     claims: &[Claim],
     writer: &mut W,
-) -> Result<(), Fault>
+) -> Result<u64, Fault>
     requires unfailed { W.has_failed writer.old ≡ false }
     ensures ok { OnOk result (Writes (W.contents writer.old) (W.contents writer.new) (IsReview entries.now claims.now)) }
     ensures unfailed { OnOk result (W.has_failed writer.new ≡ false) }
 {
     let scope = scope_of_entries(alloc, entries)?;
+    let mut refused = 0;
     write_all(writer, b"theory:\n".as_slice())?;
-    write_entries(alloc, &scope, entries, writer)?;
+    write_entries(alloc, &scope, entries, &mut refused, writer)?;
     write_all(writer, b"claims without hypotheses:\n".as_slice())?;
-    write_claims(alloc, &scope, false, claims, writer)?;
+    write_claims(alloc, &scope, false, claims, &mut refused, writer)?;
     write_all(writer, b"claims with hypotheses:\n".as_slice())?;
-    write_claims(alloc, &scope, true, claims, writer)
+    write_claims(alloc, &scope, true, claims, &mut refused, writer)?;
+    Ok(refused)
 }
