@@ -6,6 +6,7 @@ mod known;
 mod lines;
 mod logic;
 mod names;
+mod review;
 mod terms;
 mod texts;
 mod theory;
@@ -13,5 +14,6 @@ mod types;
 mod usual;
 
 pub use lines::{line_of_claim, line_of_entry};
+pub use review::write_review;
 pub use theory::scope_of_entries;
-pub use usual::{Remark, mark_of, remark_on};
+pub use usual::{Remark, remark_on};

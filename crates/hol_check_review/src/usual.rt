@@ -116,7 +116,7 @@ pub fn remark_on(entry: &LogEntry) -> Remark
 }
 
 /// What is printed behind an entry.
-pub fn mark_of(remark: Remark) -> &'static str
+pub(crate) fn mark_of(remark: Remark) -> &'static str
     ensures { result.now ≡ mark remark }
 {
     match remark {
