@@ -1,5 +1,5 @@
 // A conversation is followed: each of its commands is run once more, and its refusal is explained as it comes.
-ghost use Rattle.std.specs.Prelude.{◌≡◌, ◌∷◌, [], false, IfErr, Contains, OnOk};
+ghost use Rattle.std.specs.Prelude.{◌≡◌, ◌∷◌, ℕ, [], false, IfErr, Contains, OnOk};
 ghost use Rattle.hol_model.specs.declared.fault.Fault.TheVariants.{Memory, WriteFault};
 ghost use Rattle.hol_script.specs.Managers.{IsManager};
 
@@ -10,14 +10,23 @@ use hol_model::{Fault, Sink};
 use hol_script::Manager;
 use hol_script_commands::cut::is_blank_text;
 use std::alloc::Global;
+use std::marker::Model;
 
 /// What follows a conversation: a proof manager of its own, the names that are known to it, and the place of the next command.
+/// Contracts see nothing of it.
 #[derive(Drop)]
 pub struct Follower {
     known: Known,
     manager: Manager,
     place: Place,
-    ghost is_manager: { IsManager manager },
+}
+
+impl Model for Follower {
+    ghost Value = { ℕ };
+
+    ghost view = { λ _. 0 };
+
+    ghost invariant = { λ follower. IsManager follower.manager };
 }
 
 impl Follower {

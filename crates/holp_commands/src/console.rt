@@ -107,9 +107,6 @@ impl<'a, H: Refiners> Console<'a, H> {
 
     /// Explains what stands behind the last `;;`, at the end of the input.
     pub(crate) fn end(&self) {
-        if self.prompts {
-            let _ = eprintln!(self.rt; "");
-        }
         let alloc = self.rt.alloc();
         let script = Script {
             origins: self.feed.origins(),
@@ -143,6 +140,9 @@ impl<'a, H: Refiners> Console<'a, H> {
         ensures { self.new.failed ≡ self.old.failed }
     {
         if self.feed.is_last() {
+            if self.prompts {
+                let _ = eprintln!(self.rt; "");
+            }
             return Some(false);
         }
         let feeds = line_feeds(&self.command);

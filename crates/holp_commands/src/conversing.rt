@@ -47,9 +47,9 @@ fn converse_with<L: Sink>(
     let prompts = rt.stdin().is_terminal();
     let mut reader = Console::new(rt, &host, &host_names, &view, feed, prompts);
     let mut writer = Output::new(rt, &[], Some(&view));
-    let ended = converse(alloc, &mut reader, &mut writer, log, wants_log, &host);
+    let ended = converse(alloc, &mut reader, &mut writer, log, wants_log, &host)?;
     reader.end();
-    let ended = ended?.whole()?;
+    let ended = ended.whole()?;
     let refused = ended.summary.refused;
     // The program ends, and the sessions go with their memory, as one.
     forget(ended);
