@@ -6,7 +6,7 @@ use hol_just::{Goal, Just, Step};
 use hol_tactics_congruence::eq;
 use hol_tactics_meson::meson;
 use hol_tactics_rewrite::{asm_rewrite, beta, rewrite, unwind};
-use hol_tactics_rules::{accept, asm_back, back, cases, cut, spec_all, strip, undisch};
+use hol_tactics_rules::{accept, asm_back, back, cases, cut, exists, spec_all, strip, undisch};
 use hol_terms::Term;
 use std::alloc::Global;
 
@@ -21,6 +21,7 @@ pub enum Refiner {
     Cases,
     SpecAll,
     Undisch,
+    Exists,
     AsmRewrite,
     Rewrite,
     Eq,
@@ -35,7 +36,7 @@ pub enum Conversion {
 }
 
 /// The refiners, each under its name.
-pub const REFINERS: [(&str, Refiner); 12] = [
+pub const REFINERS: [(&str, Refiner); 13] = [
     ("strip", Refiner::Strip),
     ("back", Refiner::Back),
     ("asm_back", Refiner::AsmBack),
@@ -44,6 +45,7 @@ pub const REFINERS: [(&str, Refiner); 12] = [
     ("cases", Refiner::Cases),
     ("spec_all", Refiner::SpecAll),
     ("undisch", Refiner::Undisch),
+    ("exists", Refiner::Exists),
     ("asm_rewrite", Refiner::AsmRewrite),
     ("rewrite", Refiner::Rewrite),
     ("eq", Refiner::Eq),
@@ -68,6 +70,7 @@ impl Refiner {
             Refiner::Cases => cases(alloc, goal),
             Refiner::SpecAll => spec_all(alloc, goal),
             Refiner::Undisch => undisch(alloc, goal),
+            Refiner::Exists => exists(alloc, goal),
             Refiner::AsmRewrite => asm_rewrite(alloc, goal),
             Refiner::Rewrite => rewrite(alloc, goal),
             Refiner::Eq => eq(alloc, goal),

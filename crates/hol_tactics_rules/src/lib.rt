@@ -9,7 +9,9 @@
 mod carrying;
 mod matching;
 mod stripping;
+mod witnesses;
 
 pub use carrying::{cases, cut, spec_all, undisch};
 pub use matching::{accept, asm_back, back};
 pub use stripping::strip;
+pub use witnesses::exists;
