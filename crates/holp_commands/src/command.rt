@@ -25,6 +25,16 @@ fn names_input_twice(names: &[&str]) -> bool {
     false
 }
 
+// Whether standard input is named.
+fn names_input(names: &[&str]) -> bool {
+    for at in 0..names.len() {
+        if names[at] == "-" {
+            return true;
+        }
+    }
+    false
+}
+
 // `run`: the status is 0, 1 where a command of the scripts was refused, or that of a fault.
 fn run(rt: &HostRuntime, matches: &ArgMatches<'_>) -> anyhow::Result<u8> {
     let Some(names) = matches.get_strs("SCRIPT") else {
@@ -49,15 +59,12 @@ fn run(rt: &HostRuntime, matches: &ArgMatches<'_>) -> anyhow::Result<u8> {
 
 // `repl`: the status is that of `run`.
 fn repl(rt: &HostRuntime, matches: &ArgMatches<'_>) -> anyhow::Result<u8> {
-    let names: &[&str] = match matches.get_strs("SCRIPT") {
-        Some(names) => names,
-        None => &[],
+    let log = matches.get_str("log");
+    let Some(names) = matches.get_strs("SCRIPT") else {
+        return Ok(tell(rt, converse_over(rt, &[], log)));
     };
-    ensure!(
-        !names.contains(&"-"),
-        "- is standard input, which comes last"
-    );
-    Ok(tell(rt, converse_over(rt, names, matches.get_str("log"))))
+    ensure!(!names_input(names), "- is standard input, which comes last");
+    Ok(tell(rt, converse_over(rt, names, log)))
 }
 
 // `check`: the status is 0, 3 where the log is refused, or that of a fault.

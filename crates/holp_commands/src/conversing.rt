@@ -25,9 +25,9 @@ use std::mem::forget;
 
 // Converses over files that were opened under these names, of which the last is standard input, and answers how many of the commands
 // were refused. Goals are laid out on standard output, and messages written to standard error.
-fn converse_with<L: Sink>(
-    rt: &HostRuntime,
-    names: &[&str],
+fn converse_with<'a, L: Sink>(
+    rt: &'a HostRuntime,
+    names: &'a [&'a str],
     opened: Vec<ScriptFile>,
     log: &mut L,
     wants_log: bool,
