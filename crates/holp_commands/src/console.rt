@@ -15,11 +15,11 @@ use std::io::Write;
 
 /// A source that gives one command at a time.
 #[derive(Drop)]
-pub(crate) struct Console<'a, H> {
+pub(crate) struct Console<'a, 'b, H> {
     rt: &'a HostRuntime,
-    host: &'a H,
-    host_names: &'a [String],
-    view: &'a RefCell<View>,
+    host: &'b H,
+    host_names: &'b [String],
+    view: &'b RefCell<View>,
     feed: Feed<'a>,
     // Bytes that were read, of which so many were given.
     read: Vec<u8>,
@@ -49,16 +49,16 @@ fn next_length(given: &[u8], text: &[u8], room: usize) -> usize
     most
 }
 
-impl<'a, H: Refiners> Console<'a, H> {
+impl<'a, 'b, H: Refiners> Console<'a, 'b, H> {
     /// A source over a feed, whose commands are run once more over a host for messages, and whose declarations a view takes up.
     pub(crate) fn new(
         rt: &'a HostRuntime,
-        host: &'a H,
-        host_names: &'a [String],
-        view: &'a RefCell<View>,
+        host: &'b H,
+        host_names: &'b [String],
+        view: &'b RefCell<View>,
         feed: Feed<'a>,
         prompts: bool,
-    ) -> Console<'a, H>
+    ) -> Console<'a, 'b, H>
         ensures { result.failed ≡ false }
     {
         let alloc = rt.alloc();
@@ -202,7 +202,7 @@ impl<'a, H: Refiners> Console<'a, H> {
     }
 }
 
-impl<H: Refiners> Source for Console<'_, H> {
+impl<H: Refiners> Source for Console<'_, '_, H> {
     ghost has_failed = { λ s. s.failed };
 
     fn pull(&mut self, buf: &mut [u8]) -> Result<usize, DeviceFail> {
