@@ -15,9 +15,9 @@ use std::io::Write;
 
 /// A source that gives one command at a time.
 #[derive(Drop)]
-pub(crate) struct Console<'a, 'b, H> {
+pub(crate) struct Console<'a, 'b, 'c, H> {
     rt: &'a HostRuntime,
-    host: &'b H,
+    host: &'c H,
     host_names: &'b [String],
     view: &'b RefCell<View>,
     feed: Feed<'a>,
@@ -49,16 +49,16 @@ fn next_length(given: &[u8], text: &[u8], room: usize) -> usize
     most
 }
 
-impl<'a, 'b, H: Refiners> Console<'a, 'b, H> {
+impl<'a, 'b, 'c, H: Refiners> Console<'a, 'b, 'c, H> {
     /// A source over a feed, whose commands are run once more over a host for messages, and whose declarations a view takes up.
     pub(crate) fn new(
         rt: &'a HostRuntime,
-        host: &'b H,
+        host: &'c H,
         host_names: &'b [String],
         view: &'b RefCell<View>,
         feed: Feed<'a>,
         prompts: bool,
-    ) -> Console<'a, 'b, H>
+    ) -> Console<'a, 'b, 'c, H>
         ensures { result.failed ≡ false }
     {
         let alloc = rt.alloc();
@@ -202,7 +202,7 @@ impl<'a, 'b, H: Refiners> Console<'a, 'b, H> {
     }
 }
 
-impl<H: Refiners> Source for Console<'_, '_, H> {
+impl<H: Refiners> Source for Console<'_, '_, '_, H> {
     ghost has_failed = { λ s. s.failed };
 
     fn pull(&mut self, buf: &mut [u8]) -> Result<usize, DeviceFail> {

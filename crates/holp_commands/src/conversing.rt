@@ -23,10 +23,11 @@ use std::cell::RefCell;
 use std::io::{IsTerminal, Write};
 use std::mem::forget;
 
-// Converses over files that were opened under these names, of which the last is standard input, and answers how many of the commands
-// were refused. Goals are laid out on standard output, and messages written to standard error.
+// Converses over files that were opened under these names, of which the last is standard input, with the functions of a host, and
+// answers how many of the commands were refused. Goals are laid out on standard output, and messages written to standard error.
 fn converse_with<'a, L: Sink>(
     rt: &'a HostRuntime,
+    host: &Beside<Host, Tactics>,
     names: &'a [&'a str],
     opened: Vec<ScriptFile>,
     log: &mut L,
@@ -36,18 +37,12 @@ fn converse_with<'a, L: Sink>(
 {
     let alloc = rt.alloc();
     let host_names = host_names(alloc)?;
-    let mut samples = Host::new(alloc);
-    store_samples!(alloc, samples);
-    let host = Beside {
-        first: samples,
-        second: Tactics,
-    };
     let view = RefCell::new(View::new(alloc, b"")?);
     let feed = Feed::new(names, opened, Vec::new(alloc));
     let prompts = rt.stdin().is_terminal();
-    let mut reader = Console::new(rt, &host, &host_names, &view, feed, prompts);
+    let mut reader = Console::new(rt, host, &host_names, &view, feed, prompts);
     let mut writer = Output::new(rt, &[], Some(&view));
-    let ended = converse(alloc, &mut reader, &mut writer, log, wants_log, &host)?;
+    let ended = converse(alloc, &mut reader, &mut writer, log, wants_log, host)?;
     reader.end();
     let ended = ended.whole()?;
     let refused = ended.summary.refused;
@@ -55,6 +50,26 @@ fn converse_with<'a, L: Sink>(
     forget(ended);
     forget(reader);
     Ok(refused)
+}
+
+// The same with the program's host.
+fn converse_hosted<'a, L: Sink>(
+    rt: &'a HostRuntime,
+    names: &'a [&'a str],
+    opened: Vec<ScriptFile>,
+    log: &mut L,
+    wants_log: bool,
+) -> Result<u64, Fault>
+    requires { L.has_failed log.old ≡ false }
+{
+    let alloc = rt.alloc();
+    let mut samples = Host::new(alloc);
+    store_samples!(alloc, samples);
+    let host = Beside {
+        first: samples,
+        second: Tactics,
+    };
+    converse_with(rt, &host, names, opened, log, wants_log)
 }
 
 /// Runs scripts, and then the commands that come on standard input, and answers how many were refused. Where a log is asked for, its
@@ -72,9 +87,9 @@ pub(crate) fn converse_over(
     let opened = open_scripts(rt, &names, true)?;
     let Some(log) = log else {
         let mut no_log = IntoWrite::new(Vec::new(alloc));
-        return converse_with(rt, &names, opened, &mut no_log, false);
+        return converse_hosted(rt, &names, opened, &mut no_log, false);
     };
     let mut file = create(rt, log)?;
     let logs = Box::new(alloc, move |piece: &[u8]| file.write(piece))?;
-    converse_with(rt, &names, opened, &mut IntoCall::new(logs), true)
+    converse_hosted(rt, &names, opened, &mut IntoCall::new(logs), true)
 }
