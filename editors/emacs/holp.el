@@ -5,12 +5,12 @@
 ;; (add-to-list 'load-path "/path/to/editors/emacs")
 ;; (require 'holp)
 ;;
-;; C-c C-RET  run up to the command at the cursor, and show its goals
-;; C-c C-n    the same up to the next command
-;; C-c C-p    the same up to the command before
+;; C-c C-RET, C-c RET  run up to the command at the cursor, and show its goals
+;; C-c C-n    the same with one command more
+;; C-c C-p    the same with one command less
 ;; C-c C-b    run the whole buffer
-;; C-c C-e    go to the next refusal of the last run
-;; C-c C-g    show the goals again
+;; C-c C-e    run the whole buffer, and go to the next refusal behind the cursor
+;; C-c C-s    show the goals again
 
 ;;; Code:
 
@@ -25,7 +25,8 @@
 
 (defcustom holp-scripts nil
   "Files of scripts that are run before the buffer, in order."
-  :type '(repeat file))
+  :type '(repeat file)
+  :safe (lambda (files) (and (listp files) (seq-every-p #'stringp files))))
 
 (defface holp-done '((t :inherit highlight))
   "The commands that were run and accepted.")
@@ -44,9 +45,23 @@
   '("THEN" "THENL" "ORELSE" "REPEAT" "TRY" "HOST" "THENC" "ORELSEC" "REPEATC" "TRY_CONV" "RAND_CONV" "RATOR_CONV" "ABS_CONV"
     "SUB_CONV" "DEPTH_CONV" "ONCE_DEPTH_CONV" "TOP_DEPTH_CONV" "ALL_CONV" "NO_CONV" "REWR_CONV"))
 
+(defun holp-begins-command-p (position)
+  "Whether nothing but white space stands between POSITION and the command before."
+  (save-excursion
+    (goto-char position)
+    (skip-chars-backward " \t\n")
+    (or (bobp) (looking-back ";;" (max (point-min) (- (point) 2))))))
+
+(defun holp-match-command (limit)
+  "Find the next word before LIMIT that begins a command."
+  (let (found)
+    (while (and (not found) (re-search-forward (regexp-opt holp-commands 'symbols) limit t))
+      (setq found (save-match-data (holp-begins-command-p (match-beginning 0)))))
+    found))
+
 (defconst holp-font-lock
-  `((,(concat "\\(?:\\`\\|;;\\)[ \t\n]*\\(" (regexp-opt holp-commands) "\\)\\_>") 1 font-lock-keyword-face)
-    ("`[^`]*`" 0 font-lock-string-face t)
+  `((holp-match-command . font-lock-keyword-face)
+    ("`[^`;]*`?" 0 font-lock-string-face t)
     ("\\_<[A-Z0-9_]+_TAC\\_>" . font-lock-function-name-face)
     (,(regexp-opt holp-combinators 'symbols) . font-lock-builtin-face)
     (,(regexp-opt holp-rules 'symbols) . font-lock-function-name-face)))
@@ -74,14 +89,28 @@
     (goto-char (or from (point)))
     (if (re-search-backward ";;" nil t) (+ (point) 2) (point-min))))
 
+(defun holp-end-at-cursor ()
+  "The position where the command at the cursor ends.
+Behind a command, white space counts as part of it."
+  (save-excursion
+    (if (looking-at-p "[ \t\n]\\|\\'")
+        (skip-chars-backward " \t\n")
+      (when (and (eq (char-after) ?\;) (eq (char-before) ?\;)) (forward-char)))
+    (if (looking-back ";;" (max (point-min) (- (point) 2)))
+        (point)
+      (or (holp-end-of-command) (point-max)))))
+
 (defun holp-indent-line ()
-  "Indent a line: a command begins in the first column, what goes on by two."
+  "Indent a line.
+A command begins in the first column, its second line two further, and each
+other line as the one before."
   (interactive)
-  (let* ((begins (save-excursion
-                   (beginning-of-line)
-                   (skip-chars-backward " \t\n")
-                   (or (bobp) (looking-back ";;" (max (point-min) (- (point) 2))))))
-         (column (if begins 0 2)))
+  (let ((column (if (holp-begins-command-p (line-beginning-position))
+                    0
+                  (save-excursion
+                    (beginning-of-line)
+                    (skip-chars-backward " \t\n")
+                    (max 2 (current-indentation))))))
     (if (<= (current-column) (current-indentation))
         (indent-line-to column)
       (save-excursion (indent-line-to column)))))
@@ -89,41 +118,61 @@
 ;; ---- runs
 
 (defvar-local holp-records nil "What the last run told, a record for each command of the buffer.")
+(defvar-local holp-before nil "The records of refused commands of `holp-scripts' in the last run.")
 (defvar-local holp-reach nil "The position up to which the last run went.")
 
 (defun holp-run-text (text)
   "The records of a run of TEXT behind `holp-scripts'."
-  (let ((words (append (list "run" "--json") holp-scripts (list "-"))))
+  (unless (executable-find holp-program)
+    (user-error "There is no program `%s'; `holp-program' names it" holp-program))
+  (let ((words (append (list "run" "--json") (mapcar #'expand-file-name holp-scripts) (list "-")))
+        (coding-system-for-write 'utf-8-unix)
+        (coding-system-for-read 'utf-8-unix))
     (with-temp-buffer
       (insert text)
       (let ((status (apply #'call-process-region (point-min) (point-max) holp-program t t nil words)))
         (unless (member status '(0 1))
-          (error "holp: %s" (string-trim (buffer-string))))
+          (user-error "holp: %s" (string-trim (buffer-string))))
         (goto-char (point-min))
         (let (records)
           (while (not (eobp))
             (let ((line (buffer-substring-no-properties (line-beginning-position) (line-end-position))))
               (when (string-prefix-p "{" line)
-                (let ((record (json-parse-string line :object-type 'alist :array-type 'list :null-object nil)))
-                  (when (equal (alist-get 'file record) "-")
-                    (push record records)))))
+                (push (json-parse-string line :object-type 'alist :array-type 'list :null-object 'null) records)))
             (forward-line))
           (nreverse records))))))
 
-(defun holp-position (place)
-  "The position of a PLACE of the buffer."
+(defun holp-refusal (record)
+  "The refusal of a RECORD, or nil."
+  (let ((refusal (alist-get 'refusal record)))
+    (unless (eq refusal 'null) refusal)))
+
+(defun holp-goals (record)
+  "The open goals of a RECORD, `null' if it is about none."
+  (alist-get 'goals record))
+
+(defun holp-position (place &optional line)
+  "The position of a PLACE of the buffer.
+It is counted from point, which is on LINE, or from the first line."
   (save-excursion
-    (goto-char (point-min))
-    (forward-line (1- (alist-get 'line place)))
+    (unless line (goto-char (point-min)))
+    (forward-line (- (alist-get 'line place) (or line 1)))
     (min (point-max) (+ (point) (1- (alist-get 'column place))))))
 
-(defun holp-mark (record)
-  "Mark the command of a RECORD in the buffer."
-  (let* ((refusal (alist-get 'refusal record))
-         (overlay (make-overlay (holp-position (alist-get 'begin record)) (holp-position (alist-get 'end record)))))
-    (overlay-put overlay 'holp t)
-    (overlay-put overlay 'face (if refusal 'holp-refused 'holp-done))
-    (overlay-put overlay 'help-echo (if refusal (alist-get 'message refusal) (alist-get 'text record)))))
+(defun holp-mark (records)
+  "Mark the commands of RECORDS in the buffer."
+  (save-excursion
+    (goto-char (point-min))
+    (let ((line 1))
+      (dolist (record records)
+        (let* ((begin (alist-get 'begin record))
+               (refusal (holp-refusal record))
+               (overlay (make-overlay (holp-position begin line) (holp-position (alist-get 'end record) line))))
+          (overlay-put overlay 'holp t)
+          (overlay-put overlay 'face (if refusal 'holp-refused 'holp-done))
+          (overlay-put overlay 'help-echo (if refusal (alist-get 'message refusal) (alist-get 'text record)))
+          (forward-line (- (alist-get 'line begin) line))
+          (setq line (alist-get 'line begin)))))))
 
 (defun holp-goal-lines (goal)
   "The text of a GOAL: numbered assumptions, a line, the conclusion."
@@ -134,41 +183,64 @@
      (if (alist-get 'assumptions goal) (concat (make-string 40 ?-) "\n") "")
      (format "`%s`\n" (alist-get 'conclusion goal)))))
 
-(defun holp-record-lines (record)
-  "What the window shows of a RECORD."
-  (let ((refusal (alist-get 'refusal record))
-        (goals (alist-get 'goals record)))
-    (cond
-     (refusal (string-trim-right (alist-get 'message refusal)))
-     (goals (concat (car (split-string (alist-get 'text record) "\n")) "\n\n" (mapconcat #'holp-goal-lines goals "\n")))
-     (t (alist-get 'text record)))))
+(defun holp-record-lines (records)
+  "What the window shows of RECORDS.
+It is what the last one tells, and the goals that are open behind it."
+  (let* ((record (car (last records)))
+         (refusal (holp-refusal record))
+         (proof (seq-find (lambda (record) (not (eq (holp-goals record) 'null))) (reverse records)))
+         (told (cond ((null record) "There is no command.")
+                     (refusal (string-trim-right (alist-get 'message refusal)))
+                     ((consp (holp-goals record)) nil)
+                     ((string-empty-p (alist-get 'text record)) "accepted")
+                     (t (string-trim-right (alist-get 'text record)))))
+         (open (when (and proof (holp-goals proof))
+                 (concat (car (split-string (alist-get 'text proof) "\n")) "\n\n"
+                         (mapconcat #'holp-goal-lines (holp-goals proof) "\n")))))
+    (concat (string-trim-right (string-join (delq nil (list told open)) "\n\n")) "\n")))
 
 (defun holp-show-goals ()
   "Show what the last command of the last run came to, in a window of its own."
   (interactive)
-  (let ((record (car (last holp-records))))
+  (let ((text (holp-record-lines holp-records)))
     (with-current-buffer (get-buffer-create "*holp goals*")
       (let ((inhibit-read-only t))
         (erase-buffer)
-        (insert (if record (holp-record-lines record) ""))
+        (insert text)
         (goto-char (point-min)))
-      (special-mode))
-    (display-buffer "*holp goals*")))
+      (special-mode)
+      (visual-line-mode))
+    (let ((window (display-buffer "*holp goals*")))
+      (when window (set-window-point window (with-current-buffer "*holp goals*" (point-min)))))))
 
 (defun holp-run-to (end)
   "Run the buffer up to END, mark its commands, and show the goals."
-  (let ((records (holp-run-text (buffer-substring-no-properties (point-min) end))))
+  (let* ((all (holp-run-text (buffer-substring-no-properties (point-min) end)))
+         (own-p (lambda (record) (equal (alist-get 'file record) "-")))
+         (own (seq-filter own-p all)))
     (remove-overlays (point-min) (point-max) 'holp t)
-    (setq holp-records records holp-reach end)
-    (mapc #'holp-mark records)
+    (setq holp-records own
+          holp-before (seq-filter #'holp-refusal (seq-remove own-p all))
+          holp-reach end)
+    (holp-mark own)
     (holp-show-goals)
-    (let ((refused (seq-count (lambda (record) (alist-get 'refusal record)) records)))
-      (message "%d commands, %d refused" (length records) refused))))
+    (message "%d commands, %d refused%s" (length own) (seq-count #'holp-refusal own)
+             (if holp-before (format ", and %d in the scripts before, at %s:%d" (length holp-before)
+                                     (alist-get 'file (car holp-before))
+                                     (alist-get 'line (holp-refusal (car holp-before))))
+               ""))))
+
+(defun holp-forget (begin _end _length)
+  "Take the marks away from the command at BEGIN on, which a change makes stale."
+  (save-match-data
+    (let ((from (holp-begin-of-command begin)))
+      (remove-overlays from (point-max) 'holp t)
+      (when holp-reach (setq holp-reach (min holp-reach from))))))
 
 (defun holp-run-to-cursor ()
   "Run the buffer up to the command at the cursor."
   (interactive)
-  (holp-run-to (or (holp-end-of-command (holp-begin-of-command (1+ (point)))) (point-max))))
+  (holp-run-to (holp-end-at-cursor)))
 
 (defun holp-run-next ()
   "Run one command more."
@@ -191,13 +263,18 @@
   (holp-run-to (point-max)))
 
 (defun holp-next-refusal ()
-  "Go to the next refusal of the last run, and tell it."
+  "Run the whole buffer, and go to the next refusal behind the cursor.
+The window shows it with the goals before it."
   (interactive)
-  (let* ((refusals (delq nil (mapcar (lambda (record) (alist-get 'refusal record)) holp-records)))
-         (next (or (seq-find (lambda (refusal) (> (holp-position refusal) (point))) refusals) (car refusals))))
-    (unless next (user-error "Nothing was refused"))
-    (goto-char (holp-position next))
-    (message "%s" (string-trim-right (alist-get 'message next)))))
+  (holp-run-buffer)
+  (let* ((refused (seq-filter #'holp-refusal holp-records))
+         (next (or (seq-find (lambda (record) (> (holp-position (holp-refusal record)) (point))) refused) (car refused))))
+    (when next
+      (goto-char (holp-position (holp-refusal next)))
+      (setq holp-records (seq-take holp-records (1+ (seq-position holp-records next #'eq)))
+            holp-reach (holp-position (alist-get 'end next)))
+      (holp-show-goals)
+      (message "refusal %d of %d" (1+ (seq-position refused next #'eq)) (length refused)))))
 
 (defvar holp-mode-map
   (let ((map (make-sparse-keymap)))
@@ -207,7 +284,7 @@
     (define-key map (kbd "C-c C-p") #'holp-run-previous)
     (define-key map (kbd "C-c C-b") #'holp-run-buffer)
     (define-key map (kbd "C-c C-e") #'holp-next-refusal)
-    (define-key map (kbd "C-c C-g") #'holp-show-goals)
+    (define-key map (kbd "C-c C-s") #'holp-show-goals)
     map))
 
 ;;;###autoload
@@ -217,6 +294,8 @@
   (setq-local font-lock-defaults '(holp-font-lock))
   (setq-local font-lock-multiline t)
   (setq-local indent-line-function #'holp-indent-line)
+  (setq-local electric-indent-inhibit t)
+  (add-hook 'after-change-functions #'holp-forget nil t)
   (setq-local comment-start nil))
 
 ;;;###autoload
