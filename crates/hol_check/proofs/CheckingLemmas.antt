@@ -8,7 +8,8 @@ use Rattle.hol_sound.specs.LogClaims.{ClaimHolds, AcceptedClaimsHold}
 use Rattle.hol_check.specs.LogAnswers.{IsAcceptedLog}
 use Rattle.hol_check.specs.Checking.{HasClaims}
 
-abbrev pub has_claims : (input : Option (List ℕ)) (state : LogState) (claims : List LogClaim) → AcceptedLogsAreSound → AcceptedClaimsHold → IsAcceptedLog input state → claims ≡ state.claims → HasClaims input claims
+abbrev pub has_claims : (input : Option (List ℕ)) (state : LogState) (claims : List LogClaim) → AcceptedLogsAreSound → AcceptedClaimsHold → IsAcceptedLog input state →
+    claims ≡ state.claims → HasClaims input claims
 has_claims input state claims sound holds log listed = record {
   text = log.text;
   read = log.read;

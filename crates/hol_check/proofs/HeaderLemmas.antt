@@ -3,7 +3,8 @@ use Rattle.std.proofs.Common.{◌≡◌, ℕ, List, [], ◌∷◌, ◌++◌, Opt
 use Rattle.std.proofs.lemmas.Bool.{eqb-true}
 use Rattle.hol_model.specs.Logs.LogLine.{LogVersion}
 use Rattle.hol_model.specs.Logs.LogLine.LogVersion.{first_version, second_version}
-use Rattle.hol_model.specs.Logs.LogLine.LogLine.{header_line, type_variable_line, bool_line, function_type_line, declared_type_line, variable_line, constant_line, combination_line, abstraction_line, new_type_line, new_constant_line, theorem_line, claim_line, end_line}
+use Rattle.hol_model.specs.Logs.LogLine.LogLine.{header_line, type_variable_line, bool_line, function_type_line, declared_type_line, variable_line, constant_line, combination_line}
+use Rattle.hol_model.specs.Logs.LogLine.LogLine.{abstraction_line, new_type_line, new_constant_line, theorem_line, claim_line, end_line}
 use Rattle.hol_model.specs.Logs.LogState.{LogState}
 use Rattle.hol_model.specs.Logs.LogText.{ReadLine, LogText, no_line, dest_header, log_outcome}
 use Rattle.hol_logtext.specs.Fields.{line_feed, has_line_feed}
@@ -73,7 +74,8 @@ header_bytes second_version rest = refl
 
 headed_by : ReadingIsExact → (text : List ℕ) (state : LogState) → log_answer text ≡ Ok state → IsFirstLine text → IsHeaded text
 headed_by exact text state accepted first =
-    let cut : log_outcome (with_line (read_text first.line) (log_text first.rest)) ≡ Ok state = sym (ap log_outcome (log_text_line first.line first.rest first.one)) ∙ sym (ap log_answer first.whole) ∙ accepted in
+    let cut : log_outcome (with_line (read_text first.line) (log_text first.rest)) ≡ Ok state =
+    sym (ap log_outcome (log_text_line first.line first.rest first.one)) ∙ sym (ap log_answer first.whole) ∙ accepted in
     let told : IsVersion (read_text first.line) = version_told (read_text first.line) (log_text first.rest) state (dest_header (read_text first.line)) refl cut in
     let text_is = (exact.read first.line (header_line told.version) (header_found (read_text first.line) told.version told.is)).is_text in
     record {

@@ -89,7 +89,8 @@ pub headless_first : (line : List ℕ) → has_line_feed line ≡ false → dest
 headless_first line none header = ap log_outcome (log_text_last line none) ∙ no_line_headless line header
 
 -- the state behind the header
-pub begun : {E : Type 0} (result : Result LogState E) (input : Option (List ℕ)) (unread : Unread) (left : Option (List ℕ)) (line : List ℕ) (version : LogVersion) → IfOk result (λ log. log ≡ first_state version)
+pub begun : {E : Type 0} (result : Result LogState E) (input : Option (List ℕ)) (unread : Unread) (left : Option (List ℕ)) (line : List ℕ) (version : LogVersion) →
+    IfOk result (λ log. log ≡ first_state version)
     → IsUnread input (([] ++ line) ++ line_feed ∷ []) unread left → has_line_feed line ≡ false → dest_header (read_text line) ≡ Some version → IfOk result (λ log. IsUnderway input unread left 2 log)
 begun (Ok log) input unread left line version first behind none header = record {
   handed = ([] ++ line) ++ line_feed ∷ [];

@@ -4,8 +4,10 @@ use Rattle.hol_model.specs.declared.fault.Cause.{Cause}
 use Rattle.hol_model.specs.declared.fault.Cause.TheVariants.{Shape}
 use Rattle.hol_model.specs.Logs.LogLine.{LogVersion, LogRule, LogLine}
 use Rattle.hol_model.specs.Logs.LogLine.LogVersion.{first_version, second_version}
-use Rattle.hol_model.specs.Logs.LogLine.LogRule.{refl_step, trans_step, mk_comb_step, abs_step, beta_step, assume_step, eq_mp_step, deduct_step, inst_step, inst_type_step, eta_step, select_step, definition_step}
-use Rattle.hol_model.specs.Logs.LogLine.LogLine.{header_line, type_variable_line, bool_line, function_type_line, declared_type_line, variable_line, constant_line, combination_line, abstraction_line, new_type_line, new_constant_line, theorem_line, claim_line, end_line}
+use Rattle.hol_model.specs.Logs.LogLine.LogRule.{refl_step, trans_step, mk_comb_step, abs_step, beta_step, assume_step, eq_mp_step, deduct_step, inst_step, inst_type_step, eta_step, select_step}
+use Rattle.hol_model.specs.Logs.LogLine.LogRule.{definition_step}
+use Rattle.hol_model.specs.Logs.LogLine.LogLine.{header_line, type_variable_line, bool_line, function_type_line, declared_type_line, variable_line, constant_line, combination_line}
+use Rattle.hol_model.specs.Logs.LogLine.LogLine.{abstraction_line, new_type_line, new_constant_line, theorem_line, claim_line, end_line}
 use Rattle.hol_model.specs.Logs.LogState.{LogState, LogClaim, first_state}
 use Rattle.hol_model.specs.Logs.LogSequents.{after_line}
 use Rattle.hol_model.specs.Logs.LogFaults.{first_cause, is_first_version}

@@ -22,11 +22,13 @@ past-body ty body (inl (inl high)) = past-limits (lam ty body) (inl (inl (omega 
 past-body ty body (inl (inr many)) = past-limits (lam ty body) (inl (inr (omega arith)))
 past-body ty body (inr large) = past-limits (lam ty body) (inr (inr large))
 
-abstraction-is : (terms : List Nameless) (variable : ℕ) (name : List ℕ) (ty : HolType) (t : Nameless) → slice_get terms variable ≡ Some (free name ty) → lam ty (close name ty t) ≡ abstraction_over (term_at terms variable) t
+abstraction-is : (terms : List Nameless) (variable : ℕ) (name : List ℕ) (ty : HolType) (t : Nameless) → slice_get terms variable ≡ Some (free name ty) →
+    lam ty (close name ty t) ≡ abstraction_over (term_at terms variable) t
 abstraction-is terms variable name ty t there = sym (ap (λ v. abstraction_over v t) (term-there terms variable (free name ty) there))
 
 pub made-abstraction : (t0 t1 : TermTable) (variable ty body : ℕ) (t : Nameless) (name : List ℕ) (s : HolType) (result : Result ℕ Fault) (now : List Nameless)
-    → slice_get t0.terms variable ≡ Some (free name s) → type_at t0.types ty ≡ term_type (term_at t0.terms variable) → ty < length t0.types → IsGrown t0 t1 → IsAnswered (close name s t) (Ok body) t1.terms
+    → slice_get t0.terms variable ≡ Some (free name s) → type_at t0.types ty ≡ term_type (term_at t0.terms variable) → ty < length t0.types → IsGrown t0 t1 →
+    IsAnswered (close name s t) (Ok body) t1.terms
     → IfOk result (λ n. slice_get now n ≡ Some (lam (type_at t1.types ty) (term_at t1.terms body)))
     → IfErr result (λ fault. (fault ≡ Memory) ⊎ ((fault ≡ TooLarge) × IsTooLarge (lam (type_at t1.types ty) (term_at t1.terms body))))
     → IsMade (abstraction_over (term_at t0.terms variable) t) result now

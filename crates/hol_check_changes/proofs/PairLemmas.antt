@@ -15,7 +15,8 @@ pub replaced-named : {Value : Type 0} (e : Value → Value → Bool) → ((a b :
     → slice_get values (replaced_number pairs old) ≡ Some (option_map_or (λ pair. pair.0) (find (λ pair. e pair.1 value) theta) value)
 replaced-named e decides values one [] [] are old value there = there
 replaced-named {Value} e decides values one (pair ∷ pairs) (named ∷ theta) are old value there =
-    go (nat_eq pair.1 old) (e named.1 value) (same_answer (nat_eq pair.1 old) (e named.1 value) named_first numbered_first) are.0 (replaced-named e decides values one pairs theta are.2 old value there)
+    go (nat_eq pair.1 old) (e named.1 value) (same_answer (nat_eq pair.1 old) (e named.1 value) named_first numbered_first) are.0
+    (replaced-named e decides values one pairs theta are.2 old value there)
   where
     named_first : nat_eq pair.1 old ≡ true → e named.1 value ≡ true
     named_first passed =
@@ -28,7 +29,8 @@ replaced-named {Value} e decides values one (pair ∷ pairs) (named ∷ theta) a
 
     go : (p q : Bool) → p ≡ q → slice_get values pair.0 ≡ Some named.0
         → slice_get values (option_map_or (λ other. other.0) (find (λ other. nat_eq other.1 old) pairs) old) ≡ Some (option_map_or (λ other. other.0) (find (λ other. e other.1 value) theta) value)
-        → slice_get values (option_map_or (λ other. other.0) (if p then Some pair else find (λ other. nat_eq other.1 old) pairs) old) ≡ Some (option_map_or (λ other. other.0) (if q then Some named else find (λ other. e other.1 value) theta) value)
+        → slice_get values (option_map_or (λ other. other.0) (if p then Some pair else find (λ other. nat_eq other.1 old) pairs) old) ≡ Some
+        (option_map_or (λ other. other.0) (if q then Some named else find (λ other. e other.1 value) theta) value)
     go true true same first rest = first
     go false false same first rest = rest
     go true false same first rest = cc

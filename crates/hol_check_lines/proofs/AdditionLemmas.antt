@@ -32,7 +32,8 @@ either : (test : Bool) → (test || false) ≡ test
 either true = refl
 either false = refl
 
-pub added-type : (table : TermTable) (contents : Contents) (types : Vec ℕ Global) (number : ℕ) → IsContents table contents → number < length table.types → types.items ≡ contents.types.items ++ number ∷ []
+pub added-type : (table : TermTable) (contents : Contents) (types : Vec ℕ Global) (number : ℕ) → IsContents table contents → number < length table.types →
+    types.items ≡ contents.types.items ++ number ∷ []
     → IsAdded table contents (TypeNumber number) (record contents { types = types })
 added-type table contents types number is within pushed = record {
   is_contents = record {
@@ -56,7 +57,8 @@ added-type table contents types number is within pushed = record {
   };
 }
 
-pub added-line : (table : TermTable) (contents : Contents) (terms : Vec Written Global) (line : Written) → IsContents table contents → CanBeAdded table contents (TermLine line) → terms.items ≡ contents.terms.items ++ line ∷ []
+pub added-line : (table : TermTable) (contents : Contents) (terms : Vec Written Global) (line : Written) → IsContents table contents → CanBeAdded table contents (TermLine line) →
+    terms.items ≡ contents.terms.items ++ line ∷ []
     → IsAdded table contents (TermLine line) (record contents { terms = terms })
 added-line table contents terms line is stands pushed = record {
   is_contents = record {
@@ -74,7 +76,8 @@ added-line table contents terms line is stands pushed = record {
     types = sym (append-nil (state_of table contents).types) i;
     terms =
         (ap (λ l. map image (named_terms table.terms l)) pushed
-        ∙ (ap (map image) (named-push table.terms contents.terms.items line) ∙ map_push image (named_terms table.terms contents.terms.items) (named_of table.terms (named_terms table.terms contents.terms.items) line))) i;
+        ∙ (ap (map image) (named-push table.terms contents.terms.items line) ∙ map_push image (named_terms table.terms contents.terms.items)
+        (named_of table.terms (named_terms table.terms contents.terms.items) line))) i;
     theorems = sym (append-nil (state_of table contents).theorems) i;
     theory = (state_of table contents).theory;
     claims = sym (append-nil (state_of table contents).claims) i;
@@ -83,7 +86,8 @@ added-line table contents terms line is stands pushed = record {
 }
 
 -- a line that found no room
-pub kept-line : (table : TermTable) (contents : Contents) (terms : Vec Written Global) → IsContents table contents → terms.items ≡ contents.terms.items → IsContents table (record contents { terms = terms })
+pub kept-line : (table : TermTable) (contents : Contents) (terms : Vec Written Global) → IsContents table contents → terms.items ≡ contents.terms.items →
+    IsContents table (record contents { terms = terms })
 kept-line table contents terms is same = record {
   types = is.types;
   terms = subst (AreWritten table) (sym same) is.terms;
@@ -106,7 +110,8 @@ module _ (table : TermTable) (theorems now : List Theorem) (theorem : Theorem) (
       let within : claim.theorem < length (map (sequent_in table.terms) theorems) = omega (arith, is.theorem, sequents) in
       λ i. record {
         name = name_at table.names claim.name;
-        sequent = (ap (λ l. slice_index_or l claim.theorem no_sequent) sequents-pushed ∙ get_or-longer (map (sequent_in table.terms) theorems) (sequent_in table.terms theorem ∷ []) claim.theorem no_sequent within) i;
+        sequent = (ap (λ l. slice_index_or l claim.theorem no_sequent) sequents-pushed ∙ get_or-longer (map (sequent_in table.terms) theorems) (sequent_in table.terms theorem ∷ [])
+            claim.theorem no_sequent within) i;
       }
 
   claims-later : (claims : List ListedClaim) → All (IsClaim table theorems) claims → map (claim_in table now) claims ≡ map (claim_in table theorems) claims
@@ -117,7 +122,8 @@ module _ (table : TermTable) (theorems now : List Theorem) (theorem : Theorem) (
       let longer : length now ≡ length theorems + 1 = ap length pushed ∙ length-append theorems (theorem ∷ []) in
       record { name = is.name; theorem = omega (arith, is.theorem, longer) }
 
-pub added-theorem : (table : TermTable) (contents : Contents) (theorems : Vec Theorem Global) (theorem : Theorem) → IsContents table contents → IsFittingTheorem table.terms theorem → theorems.items ≡ contents.theorems.items ++ theorem ∷ []
+pub added-theorem : (table : TermTable) (contents : Contents) (theorems : Vec Theorem Global) (theorem : Theorem) → IsContents table contents → IsFittingTheorem table.terms theorem →
+    theorems.items ≡ contents.theorems.items ++ theorem ∷ []
     → IsAdded table contents (Proved theorem) (record contents { theorems = theorems })
 added-theorem table contents theorems theorem is fitting pushed = record {
   is_contents = record {
@@ -128,7 +134,8 @@ added-theorem table contents theorems theorem is fitting pushed = record {
     entries = is.entries;
     room = is.room;
     knows = is.knows;
-    claims = All-weaker (IsClaim table contents.theorems.items) (IsClaim table theorems.items) (still-claim table contents.theorems.items theorems.items theorem pushed) contents.claims.items is.claims;
+    claims = All-weaker (IsClaim table contents.theorems.items) (IsClaim table theorems.items) (still-claim table contents.theorems.items theorems.items theorem pushed) contents.claims.items
+        is.claims;
   };
   state = λ i. record {
     version = version_of contents.version;
@@ -141,7 +148,8 @@ added-theorem table contents theorems theorem is fitting pushed = record {
   };
 }
 
-pub added-claim : (table : TermTable) (contents : Contents) (claims : Vec ListedClaim Global) (claim : ListedClaim) → IsContents table contents → IsClaim table contents.theorems.items claim → claims.items ≡ contents.claims.items ++ claim ∷ []
+pub added-claim : (table : TermTable) (contents : Contents) (claims : Vec ListedClaim Global) (claim : ListedClaim) → IsContents table contents →
+    IsClaim table contents.theorems.items claim → claims.items ≡ contents.claims.items ++ claim ∷ []
     → IsAdded table contents (Claimed claim) (record contents { claims = claims })
 added-claim table contents claims claim is stands pushed = record {
   is_contents = record {
@@ -165,19 +173,26 @@ added-claim table contents claims claim is stands pushed = record {
   };
 }
 
-pub gives-definition : (table : TermTable) (contents : Contents) (name ty body : ℕ) → IsNewConstant table contents name ty → GivesConstant table (entry_in table (Definition name ty body)) (theory_in table contents.entries.items) name ty
+pub gives-definition : (table : TermTable) (contents : Contents) (name ty body : ℕ) → IsNewConstant table contents name ty →
+    GivesConstant table (entry_in table (Definition name ty body)) (theory_in table contents.entries.items) name ty
 gives-definition table contents name ty body new = record { name_within = new.name_within; type_within = new.type_within; is_new = new.is_new; gives = λ other. refl; keeps = λ other. refl }
 
 -- a definition whose theorem found no room
 pub defined-kept : (result : Result (Unit {0}) Fault) (contents mid now : Contents) (name ty body : ℕ) (theorem : Theorem) → theorem.hypotheses.items ≡ []
-    → ((table : TermTable) → IsContents table contents → HasEntryParts table (Definition name ty body) → GivesConstant table (entry_in table (Definition name ty body)) (theory_in table contents.entries.items) name ty → HasRoom contents
+    → ((table : TermTable) → IsContents table contents → HasEntryParts table (Definition name ty body) →
+    GivesConstant table (entry_in table (Definition name ty body)) (theory_in table contents.entries.items) name ty → HasRoom contents
     → IsEntered table contents (Definition name ty body) mid)
     → OnErr result ((table : TermTable) → IsContents table mid → CanBeAdded table mid (Proved theorem) → IsContents table now)
     → OnErr result ((table : TermTable) → IsContents table contents → CanBeAdded table contents (Defined name ty body theorem.conclusion) → IsContents table now)
 defined-kept (Ok _) contents mid now name ty body theorem none enters kept = kept
 defined-kept (Err fault) contents mid now name ty body theorem none enters kept = λ table is stands.
     kept table (enters table is (stands.0.name_within, stands.0.type_within, stands.1) (gives-definition table contents name ty body stands.0) stands.0.room).is_contents
-    (record { hypotheses = subst (All (IsFitting table.terms)) (sym none) (λ k d within. absurd (omega (arith, within))); ordered = subst (λ l. AreOrdered (terms_in table.terms l)) (sym none) tt; conclusion = stands.2 })
+    (record {
+      hypotheses = subst (All (IsFitting table.terms)) (sym none) (λ k d within. absurd (omega (arith, within)));
+      ordered =
+          subst (λ l. AreOrdered (terms_in table.terms l)) (sym none) tt;
+      conclusion = stands.2;
+    })
 
 pub on_err-weaker : {T E P Q : Type 0} (result : Result T E) → (P → Q) → OnErr result P → OnErr result Q
 on_err-weaker (Ok value) weaker holds = holds

@@ -33,7 +33,8 @@ use Rattle.hol_check_lines.proofs.FaultLemmas.{no-fault, room, all-fit}
 
 -- lists of numbers and of terms are the same at once
 
-pub same-numbers : (terms : List Nameless) → HaveOneNumber terms → (xs ys : List ℕ) → All (IsFitting terms) xs → All (IsFitting terms) ys → bytes_eq xs ys ≡ same_terms (terms_in terms xs) (terms_in terms ys)
+pub same-numbers : (terms : List Nameless) → HaveOneNumber terms → (xs ys : List ℕ) → All (IsFitting terms) xs → All (IsFitting terms) ys →
+    bytes_eq xs ys ≡ same_terms (terms_in terms xs) (terms_in terms ys)
 same-numbers terms one [] [] first second = refl
 same-numbers terms one [] (y ∷ ys) first second = refl
 same-numbers terms one (x ∷ xs) [] first second = refl
@@ -49,7 +50,8 @@ pub record AreNumbered (state : LogState) (lines : List ℕ) (index : ℕ) (term
   pub named : terms_in terms numbers ++ terms_at state (drop index lines) ≡ terms_at state lines
   pub fitting : All (IsFitting terms) numbers
 
-module _ (state : LogState) (lines : List ℕ) (index line : ℕ) (within : index < length lines) (is : line ≡ get_or lines index 0) (terms : List Nameless) (numbers : List ℕ) (numbered : AreNumbered state lines index terms numbers) where
+module _ (state : LogState) (lines : List ℕ) (index line : ℕ) (within : index < length lines) (is : line ≡ get_or lines index 0) (terms : List Nameless) (numbers : List ℕ)
+    (numbered : AreNumbered state lines index terms numbers) where
   here : drop index lines ≡ line ∷ drop (index + 1) lines
   here = drop-here lines index line within is
 
@@ -59,8 +61,10 @@ none-of-three p q r one two three = cc
 below : (length i : ℕ) → nat_le length i ≡ false → i < length
 below length i fails = grind (arith, fails)
 
-pub judged-claim : (t0 t1 : TermTable) (contents : Contents) (name : List ℕ) (i c : ℕ) (hs : List ℕ) (proved : Theorem) (concluded : ℕ) (supposed ordered : List ℕ) (number : ℕ) → IsContents t0 contents → NamesTheorem (state_of t0 contents) i t0.terms proved
-    → NamesTerm (state_of t0 contents) c t0.terms concluded → NamesTerms (state_of t0 contents) hs t0.terms supposed → is_identifier name ≡ true → terms_in t0.terms ordered ≡ set_of (terms_in t0.terms supposed)
+pub judged-claim : (t0 t1 : TermTable) (contents : Contents) (name : List ℕ) (i c : ℕ) (hs : List ℕ) (proved : Theorem) (concluded : ℕ) (supposed ordered : List ℕ) (number : ℕ) →
+    IsContents t0 contents → NamesTheorem (state_of t0 contents) i t0.terms proved
+    → NamesTerm (state_of t0 contents) c t0.terms concluded → NamesTerms (state_of t0 contents) hs t0.terms supposed → is_identifier name ≡ true →
+    terms_in t0.terms ordered ≡ set_of (terms_in t0.terms supposed)
     → is_sequent (term_at t0.terms concluded) (terms_in t0.terms ordered) (sequent_in t0.terms proved) ≡ true → slice_get t1.names number ≡ Some name → IsGrown t0 t1
     → Judges (claim_line name i c hs) contents t0 (Ok (Ok (Claimed (record { name = number; theorem = i })))) t1
 judged-claim t0 t1 contents name i c hs proved concluded supposed ordered number is theorem conclusion hypotheses legal set concludes named grown = record {
@@ -72,7 +76,11 @@ judged-claim t0 t1 contents name i c hs proved concluded supposed ordered number
       terms = refl;
       theorems = refl;
       entries = refl;
-      claims = λ j. record { name = sym (get_or_from_slice_get t1.names number name [] named) j; sequent = (claimed ∙ sym (ap (λ (s : LogState). given.theorem_at s i) (state-still t0 t1 grown contents is))) j } ∷ [];
+      claims = λ j. record {
+        name = sym (get_or_from_slice_get t1.names number name [] named) j;
+        sequent =
+            (claimed ∙ sym (ap (λ (s : LogState). given.theorem_at s i) (state-still t0 t1 grown contents is))) j;
+      } ∷ [];
       ends = refl;
     };
     added = record {
@@ -95,6 +103,10 @@ judged-claim t0 t1 contents name i c hs proved concluded supposed ordered number
 
     claimed : supposing (terms_at (state_of t0 contents) hs) (given.term_at (state_of t0 contents) c) ≡ given.theorem_at (state_of t0 contents) i
     claimed =
-        let one = (same_term-Decides (given.term_at (state_of t0 contents) c) (given.theorem_at (state_of t0 contents) i).conclusion).0 (first_of_both (same_term (given.term_at (state_of t0 contents) c) (given.theorem_at (state_of t0 contents) i).conclusion) (same_terms (set_of (terms_at (state_of t0 contents) hs)) (given.theorem_at (state_of t0 contents) i).hypotheses) whole) in
-        let two = same_terms-is (set_of (terms_at (state_of t0 contents) hs)) (given.theorem_at (state_of t0 contents) i).hypotheses (second_of_both (same_term (given.term_at (state_of t0 contents) c) (given.theorem_at (state_of t0 contents) i).conclusion) (same_terms (set_of (terms_at (state_of t0 contents) hs)) (given.theorem_at (state_of t0 contents) i).hypotheses) whole) in
+        let one = (same_term-Decides (given.term_at (state_of t0 contents) c) (given.theorem_at (state_of t0 contents) i).conclusion).0
+        (first_of_both (same_term (given.term_at (state_of t0 contents) c) (given.theorem_at (state_of t0 contents) i).conclusion)
+        (same_terms (set_of (terms_at (state_of t0 contents) hs)) (given.theorem_at (state_of t0 contents) i).hypotheses) whole) in
+        let two = same_terms-is (set_of (terms_at (state_of t0 contents) hs)) (given.theorem_at (state_of t0 contents) i).hypotheses
+        (second_of_both (same_term (given.term_at (state_of t0 contents) c) (given.theorem_at (state_of t0 contents) i).conclusion)
+        (same_terms (set_of (terms_at (state_of t0 contents) hs)) (given.theorem_at (state_of t0 contents) i).hypotheses) whole) in
         λ j. record { hypotheses = two j; conclusion = one j }

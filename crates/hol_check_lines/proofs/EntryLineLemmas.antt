@@ -42,7 +42,8 @@ one-fits table contents room =
 over : (n limit : ℕ) → limit < n → nat_le n limit ≡ false
 over n limit past = grind arith
 
-pub none-fits : (table : TermTable) (contents : Contents) → nat_le DEFINITIONS_LIMIT (length contents.entries.items) ≡ true → nat_le (1 + length (theory_in table contents.entries.items)) DEFINITIONS_LIMIT ≡ false
+pub none-fits : (table : TermTable) (contents : Contents) → nat_le DEFINITIONS_LIMIT (length contents.entries.items) ≡ true →
+    nat_le (1 + length (theory_in table contents.entries.items)) DEFINITIONS_LIMIT ≡ false
 none-fits table contents full =
     let same = theory-length table contents in
     let least : DEFINITIONS_LIMIT ≤ length contents.entries.items = leb-true DEFINITIONS_LIMIT (length contents.entries.items) full in
@@ -68,7 +69,8 @@ pub not-second : (p q : Bool) → p ≡ true → q ≡ false → not (p && q) �
 not-second p q one two = cc
 
 -- a line with a new name, while the tables grow
-module _ (t0 t1 : TermTable) (contents : Contents) (is : IsContents t0 contents) (name : List ℕ) (number : ℕ) (grown : IsGrown t0 t1) (named : slice_get t1.names number ≡ Some name) (second : is_first_version (version_of contents.version) ≡ false) where
+module _ (t0 t1 : TermTable) (contents : Contents) (is : IsContents t0 contents) (name : List ℕ) (number : ℕ) (grown : IsGrown t0 t1) (named : slice_get t1.names number ≡ Some name)
+    (second : is_first_version (version_of contents.version) ≡ false) where
   theory : Theory
   theory = theory_in t0 contents.entries.items
 
@@ -78,11 +80,13 @@ module _ (t0 t1 : TermTable) (contents : Contents) (is : IsContents t0 contents)
   same-name : is_new_name (theory_in t0 contents.entries.items) name ≡ is_new_name (theory_in t0 contents.entries.items) (name_at t1.names number)
   same-name = ap (is_new_name (theory_in t0 contents.entries.items)) (sym name-is)
 
-  pub new-type : is_declared_type_name name ≡ true → is_new_name (theory_in t0 contents.entries.items) (name_at t1.names number) ≡ true → nat_le DEFINITIONS_LIMIT (length contents.entries.items) ≡ false
+  pub new-type : is_declared_type_name name ≡ true → is_new_name (theory_in t0 contents.entries.items) (name_at t1.names number) ≡ true →
+      nat_le DEFINITIONS_LIMIT (length contents.entries.items) ≡ false
       → Judges (new_type_line name) contents t0 (Ok (Ok (NewType number))) t1
   new-type legal new not_full = record {
     judged = record {
-      accepted = no-fault (state_of t0 contents) (new_type_line name) second refl (both (is_declared_type_name name) (is_new_name (theory_in t0 contents.entries.items) name) legal (same-name ∙ new)) refl refl refl refl
+      accepted = no-fault (state_of t0 contents) (new_type_line name) second refl
+          (both (is_declared_type_name name) (is_new_name (theory_in t0 contents.entries.items) name) legal (same-name ∙ new)) refl refl refl refl
           (all-fit _ _ _ _ refl refl refl (one-fits t0 contents (has-room contents not_full)));
       denotes = record { types = refl; terms = refl; theorems = refl; entries = ap (λ n. declaration_of_type n ∷ []) (sym name-is); claims = refl; ends = refl };
       added = (is_within t1.names number name named, has-room contents not_full);
@@ -93,15 +97,18 @@ module _ (t0 t1 : TermTable) (contents : Contents) (is : IsContents t0 contents)
 
   pub taken-type : is_declared_type_name name ≡ true → is_new_name (theory_in t0 contents.entries.items) (name_at t1.names number) ≡ false → Judges (new_type_line name) contents t0 (Ok (Err Name)) t1
   taken-type legal taken = record {
-    judged = name-fault (state_of t0 contents) (new_type_line name) second refl (not-second (is_declared_type_name name) (is_new_name (theory_in t0 contents.entries.items) name) legal (same-name ∙ taken));
+    judged = name-fault (state_of t0 contents) (new_type_line name) second refl (not-second (is_declared_type_name name) (is_new_name (theory_in t0 contents.entries.items) name) legal
+        (same-name ∙ taken));
     refused = tt;
     grows = grown;
   }
 
-  pub full-type : is_declared_type_name name ≡ true → is_new_name (theory_in t0 contents.entries.items) (name_at t1.names number) ≡ true → nat_le DEFINITIONS_LIMIT (length contents.entries.items) ≡ true
+  pub full-type : is_declared_type_name name ≡ true → is_new_name (theory_in t0 contents.entries.items) (name_at t1.names number) ≡ true →
+      nat_le DEFINITIONS_LIMIT (length contents.entries.items) ≡ true
       → Judges (new_type_line name) contents t0 (Ok (Err Large)) t1
   full-type legal new full = record {
-    judged = size-fault (state_of t0 contents) (new_type_line name) second refl (both (is_declared_type_name name) (is_new_name (theory_in t0 contents.entries.items) name) legal (same-name ∙ new)) refl refl refl refl
+    judged = size-fault (state_of t0 contents) (new_type_line name) second refl (both (is_declared_type_name name) (is_new_name (theory_in t0 contents.entries.items) name) legal
+        (same-name ∙ new)) refl refl refl refl
         (entries-large _ _ _ _ refl refl refl (none-fits t0 contents full));
     refused = tt;
     grows = grown;
@@ -113,7 +120,8 @@ module _ (t0 t1 : TermTable) (contents : Contents) (is : IsContents t0 contents)
 
     pub taken-constant : is_new_name (theory_in t0 contents.entries.items) (name_at t1.names number) ≡ false → Judges (new_constant_line name line) contents t0 (Ok (Err Name)) t1
     taken-constant taken = record {
-      judged = name-fault (state_of t0 contents) (new_constant_line name line) second type_named.is_there (not-second (is_constant_name name) (is_new_name (theory_in t0 contents.entries.items) name) legal (same-name ∙ taken));
+      judged = name-fault (state_of t0 contents) (new_constant_line name line) second type_named.is_there
+          (not-second (is_constant_name name) (is_new_name (theory_in t0 contents.entries.items) name) legal (same-name ∙ taken));
       refused = tt;
       grows = grown;
     }
@@ -137,7 +145,8 @@ module _ (t0 t1 : TermTable) (contents : Contents) (is : IsContents t0 contents)
         grows = grown;
       }
 
-      pub new-constant : is_fixed (type_at t1.types ty) ≡ true → nat_le DEFINITIONS_LIMIT (length contents.entries.items) ≡ false → Judges (new_constant_line name line) contents t0 (Ok (Ok (NewConstant number ty))) t1
+      pub new-constant : is_fixed (type_at t1.types ty) ≡ true → nat_le DEFINITIONS_LIMIT (length contents.entries.items) ≡ false →
+          Judges (new_constant_line name line) contents t0 (Ok (Ok (NewConstant number ty))) t1
       new-constant fixed not_full = record {
         judged = record {
           accepted = no-fault (state_of t0 contents) (new_constant_line name line) second type_named.is_there named-well refl refl (ap not (ap is_fixed type-is ∙ fixed)) refl
@@ -146,7 +155,8 @@ module _ (t0 t1 : TermTable) (contents : Contents) (is : IsContents t0 contents)
           added = record {
             name_within = is_within t1.names number name named;
             type_within = type-within t0.types t1.types ty grown.types type_named.within;
-            is_new = ap (λ entries. generic_type entries (name_at t1.names number)) (theory-still t0 t1 grown contents.entries.items is.entries) ∙ no-type (theory_in t0 contents.entries.items) (name_at t1.names number) new;
+            is_new = ap (λ entries. generic_type entries (name_at t1.names number)) (theory-still t0 t1 grown contents.entries.items is.entries) ∙ no-type
+                (theory_in t0 contents.entries.items) (name_at t1.names number) new;
             room = has-room contents not_full;
           };
         };

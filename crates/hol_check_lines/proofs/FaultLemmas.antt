@@ -44,22 +44,38 @@ module _ (state : LogState) (line : LogLine) where
   after-shape = (has_number_fault state line, Number) ∷ after-number
 
   pub name-fault : has_shape_fault state line ≡ false → has_number_fault state line ≡ false → has_name_fault state line ≡ true → first_fault state line ≡ Some Name
-  name-fault h0 h1 is = skipped (has_shape_fault state line) Shape after-shape h0 ∙ (skipped (has_number_fault state line) Number after-number h1 ∙ (applies (has_name_fault state line) Name after-name is))
+  name-fault h0 h1 is = skipped (has_shape_fault state line) Shape after-shape h0 ∙
+      (skipped (has_number_fault state line) Number after-number h1 ∙ (applies (has_name_fault state line) Name after-name is))
 
   pub type-fault : has_shape_fault state line ≡ false → has_number_fault state line ≡ false → has_name_fault state line ≡ false → has_type_fault state line ≡ true → first_fault state line ≡ Some Kind
-  type-fault h0 h1 h2 is = skipped (has_shape_fault state line) Shape after-shape h0 ∙ (skipped (has_number_fault state line) Number after-number h1 ∙ (skipped (has_name_fault state line) Name after-name h2 ∙ (applies (has_type_fault state line) Kind after-type is)))
+  type-fault h0 h1 h2 is = skipped (has_shape_fault state line) Shape after-shape h0 ∙
+      (skipped (has_number_fault state line) Number after-number h1 ∙ (skipped (has_name_fault state line) Name after-name h2 ∙ (applies (has_type_fault state line) Kind after-type is)))
 
-  pub constant-fault : has_shape_fault state line ≡ false → has_number_fault state line ≡ false → has_name_fault state line ≡ false → has_type_fault state line ≡ false → has_constant_fault state line ≡ true → first_fault state line ≡ Some Const
-  constant-fault h0 h1 h2 h3 is = skipped (has_shape_fault state line) Shape after-shape h0 ∙ (skipped (has_number_fault state line) Number after-number h1 ∙ (skipped (has_name_fault state line) Name after-name h2 ∙ (skipped (has_type_fault state line) Kind after-type h3 ∙ (applies (has_constant_fault state line) Const after-constant is))))
+  pub constant-fault : has_shape_fault state line ≡ false → has_number_fault state line ≡ false → has_name_fault state line ≡ false → has_type_fault state line ≡ false →
+      has_constant_fault state line ≡ true → first_fault state line ≡ Some Const
+  constant-fault h0 h1 h2 h3 is = skipped (has_shape_fault state line) Shape after-shape h0 ∙
+      (skipped (has_number_fault state line) Number after-number h1 ∙ (skipped (has_name_fault state line) Name after-name h2 ∙
+      (skipped (has_type_fault state line) Kind after-type h3 ∙ (applies (has_constant_fault state line) Const after-constant is))))
 
-  pub rule-fault : has_shape_fault state line ≡ false → has_number_fault state line ≡ false → has_name_fault state line ≡ false → has_type_fault state line ≡ false → has_constant_fault state line ≡ false → has_rule_fault state line ≡ true → first_fault state line ≡ Some Rule
-  rule-fault h0 h1 h2 h3 h4 is = skipped (has_shape_fault state line) Shape after-shape h0 ∙ (skipped (has_number_fault state line) Number after-number h1 ∙ (skipped (has_name_fault state line) Name after-name h2 ∙ (skipped (has_type_fault state line) Kind after-type h3 ∙ (skipped (has_constant_fault state line) Const after-constant h4 ∙ (applies (has_rule_fault state line) Rule after-rule is)))))
+  pub rule-fault : has_shape_fault state line ≡ false → has_number_fault state line ≡ false → has_name_fault state line ≡ false → has_type_fault state line ≡ false →
+      has_constant_fault state line ≡ false → has_rule_fault state line ≡ true → first_fault state line ≡ Some Rule
+  rule-fault h0 h1 h2 h3 h4 is = skipped (has_shape_fault state line) Shape after-shape h0 ∙
+      (skipped (has_number_fault state line) Number after-number h1 ∙ (skipped (has_name_fault state line) Name after-name h2 ∙
+      (skipped (has_type_fault state line) Kind after-type h3 ∙ (skipped (has_constant_fault state line) Const after-constant h4 ∙ (applies (has_rule_fault state line) Rule after-rule is)))))
 
-  pub size-fault : has_shape_fault state line ≡ false → has_number_fault state line ≡ false → has_name_fault state line ≡ false → has_type_fault state line ≡ false → has_constant_fault state line ≡ false → has_rule_fault state line ≡ false → has_claim_fault state line ≡ false → has_size_fault state line ≡ true → first_fault state line ≡ Some Large
-  size-fault h0 h1 h2 h3 h4 h5 h6 is = skipped (has_shape_fault state line) Shape after-shape h0 ∙ (skipped (has_number_fault state line) Number after-number h1 ∙ (skipped (has_name_fault state line) Name after-name h2 ∙ (skipped (has_type_fault state line) Kind after-type h3 ∙ (skipped (has_constant_fault state line) Const after-constant h4 ∙ (skipped (has_rule_fault state line) Rule after-rule h5 ∙ (skipped (has_claim_fault state line) Claim after-claim h6 ∙ (applies (has_size_fault state line) Large [] is)))))))
+  pub size-fault : has_shape_fault state line ≡ false → has_number_fault state line ≡ false → has_name_fault state line ≡ false → has_type_fault state line ≡ false →
+      has_constant_fault state line ≡ false → has_rule_fault state line ≡ false → has_claim_fault state line ≡ false → has_size_fault state line ≡ true → first_fault state line ≡ Some Large
+  size-fault h0 h1 h2 h3 h4 h5 h6 is = skipped (has_shape_fault state line) Shape after-shape h0 ∙
+      (skipped (has_number_fault state line) Number after-number h1 ∙ (skipped (has_name_fault state line) Name after-name h2 ∙
+      (skipped (has_type_fault state line) Kind after-type h3 ∙ (skipped (has_constant_fault state line) Const after-constant h4 ∙
+      (skipped (has_rule_fault state line) Rule after-rule h5 ∙ (skipped (has_claim_fault state line) Claim after-claim h6 ∙ (applies (has_size_fault state line) Large [] is)))))))
 
-  pub no-fault : has_shape_fault state line ≡ false → has_number_fault state line ≡ false → has_name_fault state line ≡ false → has_type_fault state line ≡ false → has_constant_fault state line ≡ false → has_rule_fault state line ≡ false → has_claim_fault state line ≡ false → has_size_fault state line ≡ false → first_fault state line ≡ None
-  no-fault h0 h1 h2 h3 h4 h5 h6 h7 = skipped (has_shape_fault state line) Shape after-shape h0 ∙ (skipped (has_number_fault state line) Number after-number h1 ∙ (skipped (has_name_fault state line) Name after-name h2 ∙ (skipped (has_type_fault state line) Kind after-type h3 ∙ (skipped (has_constant_fault state line) Const after-constant h4 ∙ (skipped (has_rule_fault state line) Rule after-rule h5 ∙ (skipped (has_claim_fault state line) Claim after-claim h6 ∙ (skipped (has_size_fault state line) Large [] h7)))))))
+  pub no-fault : has_shape_fault state line ≡ false → has_number_fault state line ≡ false → has_name_fault state line ≡ false → has_type_fault state line ≡ false →
+      has_constant_fault state line ≡ false → has_rule_fault state line ≡ false → has_claim_fault state line ≡ false → has_size_fault state line ≡ false → first_fault state line ≡ None
+  no-fault h0 h1 h2 h3 h4 h5 h6 h7 = skipped (has_shape_fault state line) Shape after-shape h0 ∙
+      (skipped (has_number_fault state line) Number after-number h1 ∙ (skipped (has_name_fault state line) Name after-name h2 ∙
+      (skipped (has_type_fault state line) Kind after-type h3 ∙ (skipped (has_constant_fault state line) Const after-constant h4 ∙
+      (skipped (has_rule_fault state line) Rule after-rule h5 ∙ (skipped (has_claim_fault state line) Claim after-claim h6 ∙ (skipped (has_size_fault state line) Large [] h7)))))))
 
 -- limits
 

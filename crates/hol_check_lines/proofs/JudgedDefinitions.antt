@@ -33,17 +33,20 @@ use Rattle.hol_check_terms.proofs.GrowthLemmas.{type-there, term-there, term-gro
 two-skipped : (a b : Bool) (x y : Cause) (rest : List (Bool × Cause)) → a ≡ false → b ≡ false → first_applying ((a, x) ∷ (b, y) ∷ rest) ≡ first_applying rest
 two-skipped a b x y rest first second = (λ i. if first i then Some x else (if second i then Some y else first_applying rest))
 
-still-refused : (fault fits room : Bool) (cause : Cause) → first_applying ((fault, Rule) ∷ (not fits, Large) ∷ []) ≡ Some cause → first_applying ((fault, Rule) ∷ (not ((fits && true) && room), Large) ∷ []) ≡ Some cause
+still-refused : (fault fits room : Bool) (cause : Cause) → first_applying ((fault, Rule) ∷ (not fits, Large) ∷ []) ≡ Some cause →
+    first_applying ((fault, Rule) ∷ (not ((fits && true) && room), Large) ∷ []) ≡ Some cause
 still-refused true fits room cause is = is
 still-refused false false room cause is = is
 still-refused false true room cause is = cc
 
-still-taken : (fault fits room : Bool) → first_applying ((fault, Rule) ∷ (not fits, Large) ∷ []) ≡ None → room ≡ true → first_applying ((fault, Rule) ∷ (not ((fits && true) && room), Large) ∷ []) ≡ None
+still-taken : (fault fits room : Bool) → first_applying ((fault, Rule) ∷ (not fits, Large) ∷ []) ≡ None → room ≡ true →
+    first_applying ((fault, Rule) ∷ (not ((fits && true) && room), Large) ∷ []) ≡ None
 still-taken true fits room is there = cc
 still-taken false false room is there = cc
 still-taken false true room is there = ap (λ b. if not b then Some Large else None) there
 
-full-refused : (fault fits room : Bool) → first_applying ((fault, Rule) ∷ (not fits, Large) ∷ []) ≡ None → room ≡ false → first_applying ((fault, Rule) ∷ (not ((fits && true) && room), Large) ∷ []) ≡ Some Large
+full-refused : (fault fits room : Bool) → first_applying ((fault, Rule) ∷ (not fits, Large) ∷ []) ≡ None → room ≡ false →
+    first_applying ((fault, Rule) ∷ (not ((fits && true) && room), Large) ∷ []) ≡ Some Large
 full-refused true fits room is none = cc
 full-refused false false room is none = cc
 full-refused false true room is none = ap (λ b. if not b then Some Large else None) none
@@ -64,7 +67,8 @@ module _ (t0 t1 : TermTable) (contents : Contents) (is : IsContents t0 contents)
 
   pub taken-definition : is_new_name (theory_in t0 contents.entries.items) (name_at t1.names number) ≡ false → Judges (theorem_line (definition_step name line)) contents t0 (Ok (Err Name)) t1
   taken-definition taken = record {
-    judged = name-fault (state_of t0 contents) (theorem_line (definition_step name line)) refl body_named.is_there (not-second (is_constant_name name) (is_new_name (theory_in t0 contents.entries.items) name) legal (same-name ∙ taken));
+    judged = name-fault (state_of t0 contents) (theorem_line (definition_step name line)) refl body_named.is_there
+        (not-second (is_constant_name name) (is_new_name (theory_in t0 contents.entries.items) name) legal (same-name ∙ taken));
     refused = tt;
     grows = grown;
   }
@@ -95,7 +99,8 @@ module _ (t0 t1 : TermTable) (contents : Contents) (is : IsContents t0 contents)
 
     pub refused-definition : (cause : Cause) → IsDefined made (term_at t1.terms body) t2 (Err cause) → Judges (theorem_line (definition_step name line)) contents t0 (Ok (Err cause)) t2
     refused-definition cause refused = record {
-      judged = causes ∙ still-refused wanted.has_rule_fault (sequent_fits wanted.sequent) (nat_le (1 + length (theory_in t0 contents.entries.items)) DEFINITIONS_LIMIT) cause (ap step_cause (sym step-is) ∙ refused);
+      judged = causes ∙ still-refused wanted.has_rule_fault (sequent_fits wanted.sequent) (nat_le (1 + length (theory_in t0 contents.entries.items)) DEFINITIONS_LIMIT) cause
+          (ap step_cause (sym step-is) ∙ refused);
       refused = tt;
       grows = whole;
     }
@@ -106,7 +111,8 @@ module _ (t0 t1 : TermTable) (contents : Contents) (is : IsContents t0 contents)
 
       pub full-definition : nat_le DEFINITIONS_LIMIT (length contents.entries.items) ≡ true → Judges (theorem_line (definition_step name line)) contents t0 (Ok (Err Large)) t2
       full-definition full = record {
-        judged = causes ∙ full-refused wanted.has_rule_fault (sequent_fits wanted.sequent) (nat_le (1 + length (theory_in t0 contents.entries.items)) DEFINITIONS_LIMIT) passes (none-fits t0 contents full);
+        judged = causes ∙ full-refused wanted.has_rule_fault (sequent_fits wanted.sequent) (nat_le (1 + length (theory_in t0 contents.entries.items)) DEFINITIONS_LIMIT) passes
+            (none-fits t0 contents full);
         refused = tt;
         grows = whole;
       }
@@ -129,10 +135,12 @@ module _ (t0 t1 : TermTable) (contents : Contents) (is : IsContents t0 contents)
       fits : nameless_within_limits wanted.sequent.conclusion ≡ true
       fits = fits-there wanted.has_rule_fault (nameless_within_limits wanted.sequent.conclusion) passes
 
-      pub new-definition : nat_le DEFINITIONS_LIMIT (length contents.entries.items) ≡ false → Judges (theorem_line (definition_step name line)) contents t0 (Ok (Ok (Defined number ty body conclusion))) t2
+      pub new-definition : nat_le DEFINITIONS_LIMIT (length contents.entries.items) ≡ false →
+          Judges (theorem_line (definition_step name line)) contents t0 (Ok (Ok (Defined number ty body conclusion))) t2
       new-definition not_full = record {
         judged = record {
-          accepted = causes ∙ still-taken wanted.has_rule_fault (sequent_fits wanted.sequent) (nat_le (1 + length (theory_in t0 contents.entries.items)) DEFINITIONS_LIMIT) passes (one-fits t0 contents (has-room contents not_full));
+          accepted = causes ∙ still-taken wanted.has_rule_fault (sequent_fits wanted.sequent) (nat_le (1 + length (theory_in t0 contents.entries.items)) DEFINITIONS_LIMIT) passes
+              (one-fits t0 contents (has-room contents not_full));
           denotes = record {
             types = refl;
             terms = refl;

@@ -30,14 +30,16 @@ causes : (number name kind fault fits room : Bool) → number ≡ false → room
     ≡ first_applying ((name, Name) ∷ (kind, Kind) ∷ (fault, Rule) ∷ (not fits, Large) ∷ [])
 causes number name kind fault fits room there spare = rw (there, spare) (go fits)
   where
-    go : (fits : Bool) → first_applying ((name, Name) ∷ (kind, Kind) ∷ (fault, Rule) ∷ (not ((fits && true) && true), Large) ∷ []) ≡ first_applying ((name, Name) ∷ (kind, Kind) ∷ (fault, Rule) ∷ (not fits, Large) ∷ [])
+    go : (fits : Bool) → first_applying ((name, Name) ∷ (kind, Kind) ∷ (fault, Rule) ∷ (not ((fits && true) && true), Large) ∷ []) ≡ first_applying
+        ((name, Name) ∷ (kind, Kind) ∷ (fault, Rule) ∷ (not fits, Large) ∷ [])
     go true = refl
     go false = refl
 
 -- there is room in the theory
 pub spare : (table : TermTable) (contents : Contents) → length contents.entries.items ≤ DEFINITIONS_LIMIT → nat_le (0 + length (state_of table contents).theory) DEFINITIONS_LIMIT ≡ true
 spare table contents room =
-    let same : length (state_of table contents).theory ≡ length contents.entries.items = length-reverse (map (entry_in table) contents.entries.items) ∙ length-map contents.entries.items (entry_in table) in
+    let same : length (state_of table contents).theory ≡ length contents.entries.items =
+    length-reverse (map (entry_in table) contents.entries.items) ∙ length-map contents.entries.items (entry_in table) in
     grind arith
 
 pub step-causes : (table : TermTable) (contents : Contents) (rule : LogRule) (step : Step) → length contents.entries.items ≤ DEFINITIONS_LIMIT → IsStep (state_of table contents) rule step
@@ -49,7 +51,8 @@ step-causes table contents rule step room is =
     (ap (λ entries. nat_le (length entries + length state.theory) DEFINITIONS_LIMIT) is.entries ∙ spare table contents room)
     ∙ ap step_cause is.is_step
 
-pub accepted : (earlier now : TermTable) (contents : Contents) (rule : LogRule) (step : Step) (theorem : Theorem) → length contents.entries.items ≤ DEFINITIONS_LIMIT → IsStep (state_of earlier contents) rule step
+pub accepted : (earlier now : TermTable) (contents : Contents) (rule : LogRule) (step : Step) (theorem : Theorem) → length contents.entries.items ≤ DEFINITIONS_LIMIT →
+    IsStep (state_of earlier contents) rule step
     → IsTaken step now.terms (Ok theorem) → IsAccepted (state_of earlier contents) (theorem_line rule) now contents (Proved theorem)
 accepted earlier now contents rule step theorem room is taken = record {
   accepted = step-causes earlier contents rule step room is ∙ taken.0;
@@ -73,13 +76,16 @@ module _ (state : LogState) (terms : List Nameless) where
   pub refl-step : (t n : ℕ) → NamesTerm state t terms n → IsStep state (refl_step t) (steps.refl_step (term_at terms n))
   refl-step t n named = record { numbers = named.is_there; is_step = ap steps.refl_step named.named; entries = refl }
 
-  pub trans-step : (i j : ℕ) (first second : Theorem) → NamesTheorem state i terms first → NamesTheorem state j terms second → IsStep state (trans_step i j) (steps.trans_step (sequent_in terms first) (sequent_in terms second))
+  pub trans-step : (i j : ℕ) (first second : Theorem) → NamesTheorem state i terms first → NamesTheorem state j terms second →
+      IsStep state (trans_step i j) (steps.trans_step (sequent_in terms first) (sequent_in terms second))
   trans-step i j first second one two = record { numbers = neither-true _ _ one.is_there two.is_there; is_step = λ k. steps.trans_step (one.named k) (two.named k); entries = refl }
 
-  pub mk_comb-step : (i j : ℕ) (first second : Theorem) → NamesTheorem state i terms first → NamesTheorem state j terms second → IsStep state (mk_comb_step i j) (steps.mk_comb_step (sequent_in terms first) (sequent_in terms second))
+  pub mk_comb-step : (i j : ℕ) (first second : Theorem) → NamesTheorem state i terms first → NamesTheorem state j terms second →
+      IsStep state (mk_comb_step i j) (steps.mk_comb_step (sequent_in terms first) (sequent_in terms second))
   mk_comb-step i j first second one two = record { numbers = neither-true _ _ one.is_there two.is_there; is_step = λ k. steps.mk_comb_step (one.named k) (two.named k); entries = refl }
 
-  pub abs-step : (t i n : ℕ) (premise : Theorem) → NamesTerm state t terms n → NamesTheorem state i terms premise → IsStep state (abs_step t i) (steps.abs_step (term_at terms n) (sequent_in terms premise))
+  pub abs-step : (t i n : ℕ) (premise : Theorem) → NamesTerm state t terms n → NamesTheorem state i terms premise →
+      IsStep state (abs_step t i) (steps.abs_step (term_at terms n) (sequent_in terms premise))
   abs-step t i n premise one two = record { numbers = neither-true _ _ one.is_there two.is_there; is_step = λ k. steps.abs_step (one.named k) (two.named k); entries = refl }
 
   pub beta-step : (t n : ℕ) → NamesTerm state t terms n → IsStep state (beta_step t) (steps.beta_step (term_at terms n))
@@ -88,10 +94,12 @@ module _ (state : LogState) (terms : List Nameless) where
   pub assume-step : (t n : ℕ) → NamesTerm state t terms n → IsStep state (assume_step t) (steps.assume_step (term_at terms n))
   assume-step t n named = record { numbers = named.is_there; is_step = ap steps.assume_step named.named; entries = refl }
 
-  pub eq_mp-step : (i j : ℕ) (first second : Theorem) → NamesTheorem state i terms first → NamesTheorem state j terms second → IsStep state (eq_mp_step i j) (steps.eq_mp_step (sequent_in terms first) (sequent_in terms second))
+  pub eq_mp-step : (i j : ℕ) (first second : Theorem) → NamesTheorem state i terms first → NamesTheorem state j terms second →
+      IsStep state (eq_mp_step i j) (steps.eq_mp_step (sequent_in terms first) (sequent_in terms second))
   eq_mp-step i j first second one two = record { numbers = neither-true _ _ one.is_there two.is_there; is_step = λ k. steps.eq_mp_step (one.named k) (two.named k); entries = refl }
 
-  pub deduct-step : (i j : ℕ) (first second : Theorem) → NamesTheorem state i terms first → NamesTheorem state j terms second → IsStep state (deduct_step i j) (steps.deduct_step (sequent_in terms first) (sequent_in terms second))
+  pub deduct-step : (i j : ℕ) (first second : Theorem) → NamesTheorem state i terms first → NamesTheorem state j terms second →
+      IsStep state (deduct_step i j) (steps.deduct_step (sequent_in terms first) (sequent_in terms second))
   deduct-step i j first second one two = record { numbers = neither-true _ _ one.is_there two.is_there; is_step = λ k. steps.deduct_step (one.named k) (two.named k); entries = refl }
 
   pub inst-step : (i : ℕ) (lines pairs : List (ℕ × ℕ)) (premise : Theorem) → NamesTheorem state i terms premise → NamesTermPairs state lines terms pairs

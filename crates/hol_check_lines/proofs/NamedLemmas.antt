@@ -49,7 +49,8 @@ pub state-made : (t0 t1 : TermTable) (c0 c1 : Contents) → Makes t0 t1 c0 c1 �
 state-made t0 t1 c0 c1 makes is = ap (state_of t1) makes.same ∙ state-still t0 t1 makes.grows c0 is
 
 -- a term that was made
-pub made_line : (t0 t1 : TermTable) (c0 c1 : Contents) → IsContents t0 c0 → IsGrown t0 t1 → c1 ≡ record c0 { made = c1.made } → AreMade t1 c0.terms.items c1.made.entries → Stays c0.made.entries c1.made.entries → Makes t0 t1 c0 c1
+pub made_line : (t0 t1 : TermTable) (c0 c1 : Contents) → IsContents t0 c0 → IsGrown t0 t1 → c1 ≡ record c0 { made = c1.made } → AreMade t1 c0.terms.items c1.made.entries →
+    Stays c0.made.entries c1.made.entries → Makes t0 t1 c0 c1
 made_line t0 t1 c0 c1 is grown same made stays =
     let later = contents-grown t0 t1 grown c0 is in
     record {
@@ -71,9 +72,11 @@ made_line t0 t1 c0 c1 is grown same made stays =
 -- one line after another
 
 last-or-earlier : {Element : Type 0} (IsMade : Contents → Element → Type 0) → ((t t' : TermTable) (c c' : Contents) → Makes t t' c c' → (element : Element) → IsMade c element → IsMade c' element)
-    → (elements : List Element) (index : ℕ) (t0 t1 t2 : TermTable) (c0 c1 c2 : Contents) (filler : Element) → AreMadeSoFar IsMade elements index t0 t1 c0 c1 → Makes t1 t2 c1 c2 → IsMade c2 (get_or elements index filler)
+    → (elements : List Element) (index : ℕ) (t0 t1 t2 : TermTable) (c0 c1 c2 : Contents) (filler : Element) → AreMadeSoFar IsMade elements index t0 t1 c0 c1 → Makes t1 t2 c1 c2 →
+    IsMade c2 (get_or elements index filler)
     → (place : ℕ) (element : Element) → place < index + 1 → slice_get elements place ≡ Some element → (test : Bool) → nat_lt place index ≡ test → IsMade c2 element
-last-or-earlier IsMade stays elements index t0 t1 t2 c0 c1 c2 filler so_far makes made place element below there true is = stays t1 t2 c1 c2 makes element (so_far.made place element (earlier place index is) there)
+last-or-earlier IsMade stays elements index t0 t1 t2 c0 c1 c2 filler so_far makes made place element below there true is =
+    stays t1 t2 c1 c2 makes element (so_far.made place element (earlier place index is) there)
   where
     earlier : (n i : ℕ) → nat_lt n i ≡ true → n < i
     earlier n i is = grind (arith, is)
@@ -84,23 +87,27 @@ last-or-earlier IsMade stays elements index t0 t1 t2 c0 c1 c2 filler so_far make
     here n i below is = grind (arith, below, is)
 
 pub so-far-more : {Element : Type 0} (IsMade : Contents → Element → Type 0) → ((t t' : TermTable) (c c' : Contents) → Makes t t' c c' → (element : Element) → IsMade c element → IsMade c' element)
-    → (elements : List Element) (index : ℕ) (t0 t1 t2 : TermTable) (c0 c1 c2 : Contents) (filler : Element) → AreMadeSoFar IsMade elements index t0 t1 c0 c1 → Makes t1 t2 c1 c2 → IsMade c2 (get_or elements index filler)
+    → (elements : List Element) (index : ℕ) (t0 t1 t2 : TermTable) (c0 c1 c2 : Contents) (filler : Element) → AreMadeSoFar IsMade elements index t0 t1 c0 c1 → Makes t1 t2 c1 c2 →
+    IsMade c2 (get_or elements index filler)
     → AreMadeSoFar IsMade elements (index + 1) t0 t2 c0 c2
 so-far-more IsMade stays elements index t0 t1 t2 c0 c1 c2 filler so_far makes made = record {
   made = λ place element below there. last-or-earlier IsMade stays elements index t0 t1 t2 c0 c1 c2 filler so_far makes made place element below there (nat_lt place index) refl;
   makes = Makes_trans t0 t1 t2 c0 c1 c2 so_far.makes makes;
 }
 
-pub so-far-done : {Element : Type 0} (IsMade : Contents → Element → Type 0) (elements : List Element) (index : ℕ) (t0 t1 : TermTable) (c0 c1 : Contents) → AreMadeSoFar IsMade elements index t0 t1 c0 c1 → length elements ≤ index → All (IsMade c1) elements
+pub so-far-done : {Element : Type 0} (IsMade : Contents → Element → Type 0) (elements : List Element) (index : ℕ) (t0 t1 : TermTable) (c0 c1 : Contents) →
+    AreMadeSoFar IsMade elements index t0 t1 c0 c1 → length elements ≤ index → All (IsMade c1) elements
 so-far-done IsMade elements index t0 t1 c0 c1 so_far past = λ k d within. so_far.made k (get_or elements k d) (omega (arith, past, within)) (slice_get-get_or elements k d within)
 
 -- two after one another
 
-pub made_both : (result : Result (Unit {0}) Fault) (t1 t2 : TermTable) (c1 c2 : Contents) (first second : ℕ) → Makes t1 t2 c1 c2 → IsMadeLine c1 first → OnOk result (IsMadeLine c2 second) → OnOk result (IsMadePair c2 (first, second))
+pub made_both : (result : Result (Unit {0}) Fault) (t1 t2 : TermTable) (c1 c2 : Contents) (first second : ℕ) → Makes t1 t2 c1 c2 → IsMadeLine c1 first → OnOk result (IsMadeLine c2 second) →
+    OnOk result (IsMadePair c2 (first, second))
 made_both (Ok done) t1 t2 c1 c2 first second makes one two = record { new = line-stays t1 t2 c1 c2 makes first one; old = two }
 made_both (Err fault) t1 t2 c1 c2 first second makes one two = tt
 
-pub made_claim : (result : Result (Unit {0}) Fault) (t1 t2 : TermTable) (c1 c2 : Contents) (conclusion : ℕ) (hypotheses : List ℕ) → Makes t1 t2 c1 c2 → All (IsMadeLine c1) hypotheses → OnOk result (IsMadeLine c2 conclusion)
+pub made_claim : (result : Result (Unit {0}) Fault) (t1 t2 : TermTable) (c1 c2 : Contents) (conclusion : ℕ) (hypotheses : List ℕ) → Makes t1 t2 c1 c2 → All (IsMadeLine c1) hypotheses →
+    OnOk result (IsMadeLine c2 conclusion)
     → OnOk result (IsMadeLine c2 conclusion × All (IsMadeLine c2) hypotheses)
 made_claim (Ok done) t1 t2 c1 c2 conclusion hypotheses makes all one = (one, λ k d within. line-stays t1 t2 c1 c2 makes (get_or hypotheses k d) (all k d within))
 made_claim (Err fault) t1 t2 c1 c2 conclusion hypotheses makes all one = tt

@@ -52,7 +52,8 @@ choice-typed t1 t2 t3 a formula predicate is_a first is_formula second is_predic
     cc
 
 -- the two constants in the table
-module _ (table : TermTable) (equality equality_ty choice choice_ty : ℕ) (is_equality : slice_get table.names equality ≡ Some equality_name) (is_equality_ty : slice_get table.types equality_ty ≡ Some (equality_type type_a))
+module _ (table : TermTable) (equality equality_ty choice choice_ty : ℕ) (is_equality : slice_get table.names equality ≡ Some equality_name)
+    (is_equality_ty : slice_get table.types equality_ty ≡ Some (equality_type type_a))
     (is_choice : slice_get table.names choice ≡ Some choice_name) (is_choice_ty : slice_get table.types choice_ty ≡ Some (choice_type type_a)) where
   abbrev pub entries : List (ℕ × ℕ)
   entries = (equality, equality_ty) ∷ (choice, choice_ty) ∷ []
@@ -68,7 +69,8 @@ module _ (table : TermTable) (equality equality_ty choice choice_ty : ℕ) (is_e
       given_equality = record {
         name_within = is_within table.names equality equality_name is_equality;
         type_within = is_within table.types equality_ty (equality_type type_a) is_equality_ty;
-        given = ap (generic_type []) (get_or_from_slice_get table.names equality equality_name [] is_equality) ∙ ap Some (sym (get_or_from_slice_get table.types equality_ty (equality_type type_a) bool_type is_equality_ty));
+        given = ap (generic_type []) (get_or_from_slice_get table.names equality equality_name [] is_equality) ∙ ap Some
+            (sym (get_or_from_slice_get table.types equality_ty (equality_type type_a) bool_type is_equality_ty));
       }
   given name ty (suc zero, there) =
       let pair : (choice, choice_ty) ≡ (name, ty) = cc in
@@ -80,7 +82,8 @@ module _ (table : TermTable) (equality equality_ty choice choice_ty : ℕ) (is_e
       given_choice = record {
         name_within = is_within table.names choice choice_name is_choice;
         type_within = is_within table.types choice_ty (choice_type type_a) is_choice_ty;
-        given = ap (generic_type []) (get_or_from_slice_get table.names choice choice_name [] is_choice) ∙ ap Some (sym (get_or_from_slice_get table.types choice_ty (choice_type type_a) bool_type is_choice_ty));
+        given = ap (generic_type []) (get_or_from_slice_get table.names choice choice_name [] is_choice) ∙ ap Some
+            (sym (get_or_from_slice_get table.types choice_ty (choice_type type_a) bool_type is_choice_ty));
       }
   given name ty (suc (suc i), there) = cc
 
@@ -125,19 +128,23 @@ module _ (table : TermTable) (equality equality_ty choice choice_ty : ℕ) (is_e
   inserted true is = absurd (differ (eqb-true choice equality is))
   inserted false is = refl
 
-  pub knows-inserted : (none first second : List (ℕ × ℕ)) (declared : List ℕ) → none ≡ [] → first ≡ insert_entry nat_eq none equality equality_ty → second ≡ insert_entry nat_eq first choice choice_ty → declared ≡ [] → Knows table second declared []
+  pub knows-inserted : (none first second : List (ℕ × ℕ)) (declared : List ℕ) → none ≡ [] → first ≡ insert_entry nat_eq none equality equality_ty →
+      second ≡ insert_entry nat_eq first choice choice_ty → declared ≡ [] → Knows table second declared []
   knows-inserted none first second declared empty one two no_type =
       let firsts : first ≡ (equality, equality_ty) ∷ [] = one ∙ ap (λ l. insert_entry nat_eq l equality equality_ty) empty in
       let both : second ≡ entries = two ∙ (ap (λ l. insert_entry nat_eq l choice choice_ty) firsts ∙ inserted (nat_eq choice equality) refl) in
       subst (λ l. Knows table l declared []) (sym both) (subst (λ d. Knows table entries d []) (sym no_type) knows-constants)
 
 -- the same, where the tables grow meanwhile
-pub knows-first : (t1 t2 t3 t4 : TermTable) (equality equality_ty choice choice_ty : ℕ) → slice_get t1.names equality ≡ Some equality_name → IsGrown t1 t2 → slice_get t2.types equality_ty ≡ Some (equality_type type_a) → IsGrown t2 t3
+pub knows-first : (t1 t2 t3 t4 : TermTable) (equality equality_ty choice choice_ty : ℕ) → slice_get t1.names equality ≡ Some equality_name → IsGrown t1 t2 →
+    slice_get t2.types equality_ty ≡ Some (equality_type type_a) → IsGrown t2 t3
     → slice_get t3.names choice ≡ Some choice_name → IsGrown t3 t4 → slice_get t4.types choice_ty ≡ Some (choice_type type_a)
-    → (none first second : List (ℕ × ℕ)) (declared : List ℕ) → none ≡ [] → first ≡ insert_entry nat_eq none equality equality_ty → second ≡ insert_entry nat_eq first choice choice_ty → declared ≡ [] → Knows t4 second declared []
+    → (none first second : List (ℕ × ℕ)) (declared : List ℕ) → none ≡ [] → first ≡ insert_entry nat_eq none equality equality_ty → second ≡ insert_entry nat_eq first choice choice_ty →
+    declared ≡ [] → Knows t4 second declared []
 knows-first t1 t2 t3 t4 equality equality_ty choice choice_ty is_equality one is_equality_ty two is_choice three is_choice_ty =
     knows-inserted t4 equality equality_ty choice choice_ty
-    (longer-place t3.names t4.names equality equality_name three.names (longer-place t2.names t3.names equality equality_name two.names (longer-place t1.names t2.names equality equality_name one.names is_equality)))
+    (longer-place t3.names t4.names equality equality_name three.names (longer-place t2.names t3.names equality equality_name two.names
+    (longer-place t1.names t2.names equality equality_name one.names is_equality)))
     (longer-place t3.types t4.types equality_ty (equality_type type_a) three.types (longer-place t2.types t3.types equality_ty (equality_type type_a) two.types is_equality_ty))
     (longer-place t3.names t4.names choice choice_name three.names is_choice)
     is_choice_ty

@@ -23,11 +23,13 @@ pub record ArePaired {Value : Type 0} (missing : ℕ × ℕ → Bool) (at here :
 
 abbrev pub AreTermsPaired : LogState → List Nameless → List (ℕ × ℕ) → ℕ → List (ℕ × ℕ) → Type 0
 AreTermsPaired state terms =
-    ArePaired {Value = Nameless × Nameless} (λ pair. is_no_term state pair.0 || is_no_term state pair.1) (λ pair. (given.term_at state pair.0, given.term_at state pair.1)) (λ pair. (term_at terms pair.0, term_at terms pair.1)) (IsFittingPair terms)
+    ArePaired {Value = Nameless × Nameless} (λ pair. is_no_term state pair.0 || is_no_term state pair.1) (λ pair. (given.term_at state pair.0, given.term_at state pair.1))
+    (λ pair. (term_at terms pair.0, term_at terms pair.1)) (IsFittingPair terms)
 
 abbrev pub AreTypesPaired : LogState → List HolType → List (ℕ × ℕ) → ℕ → List (ℕ × ℕ) → Type 0
 AreTypesPaired state types =
-    ArePaired {Value = HolType × HolType} (λ pair. is_no_type state pair.0 || is_no_type state pair.1) (λ pair. (given.type_at state pair.0, given.type_at state pair.1)) (λ pair. (type_at types pair.0, type_at types pair.1)) (IsTypePair types)
+    ArePaired {Value = HolType × HolType} (λ pair. is_no_type state pair.0 || is_no_type state pair.1) (λ pair. (given.type_at state pair.0, given.type_at state pair.1))
+    (λ pair. (type_at types pair.0, type_at types pair.1)) (IsTypePair types)
 
 -- one more pair of terms
 module _ (state : LogState) (terms : List Nameless) (lines : List (ℕ × ℕ)) (index : ℕ) (filler : ℕ × ℕ) (within : index < length lines) (new old : ℕ)

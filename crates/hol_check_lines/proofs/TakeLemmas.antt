@@ -6,7 +6,8 @@ use Rattle.hol_model.specs.declared.fault.Cause.{Cause}
 use Rattle.hol_model.specs.declared.fault.Cause.TheVariants.{Shape, Number, Name, Kind, Const, Rule, Claim, Large, End}
 use Rattle.hol_model.specs.Logs.LogLine.{LogLine}
 use Rattle.hol_model.specs.Logs.LogState.{LogState}
-use Rattle.hol_model.specs.Logs.LogFaults.{has_shape_fault, has_number_fault, has_name_fault, has_type_fault, has_constant_fault, has_rule_fault, has_claim_fault, has_size_fault, has_end_fault, first_applying, first_cause}
+use Rattle.hol_model.specs.Logs.LogFaults.{has_shape_fault, has_number_fault, has_name_fault, has_type_fault, has_constant_fault, has_rule_fault, has_claim_fault, has_size_fault, has_end_fault}
+use Rattle.hol_model.specs.Logs.LogFaults.{first_applying, first_cause}
 use Rattle.hol_check_terms.specs.Terms.{TermTable, IsGrown}
 use Rattle.hol_check_rules.specs.State.{state_of, IsContents}
 use Rattle.hol_check_rules.specs.Judged.{CanBeAdded, IsAccepted, first_fault}
@@ -60,7 +61,8 @@ module _ (state : LogState) (line : LogLine) where
   accepted-last none goes_on = first-none earlier-tests ((has_end_fault state line, End) ∷ []) none ∙ ap (λ b. if b then Some End else None) goes_on
 
 -- what was added is what the line adds
-pub taken-line : (earlier now : TermTable) (contents later : Contents) (line : LogLine) (addition : Addition) → IsContents earlier contents → IsGrown earlier now → IsAccepted (state_of earlier contents) line now contents addition
+pub taken-line : (earlier now : TermTable) (contents later : Contents) (line : LogLine) (addition : Addition) → IsContents earlier contents → IsGrown earlier now →
+    IsAccepted (state_of earlier contents) line now contents addition
     → has_end_fault (state_of earlier contents) line ≡ false → IsAdded now contents addition later → IsTakenLine (state_of earlier contents) line (state_of now later)
 taken-line earlier now contents later line addition is grown accepted goes_on added = record {
   accepted = accepted-last (state_of earlier contents) line accepted.accepted goes_on;
@@ -80,7 +82,8 @@ taken-line earlier now contents later line addition is grown accepted goes_on ad
 }
 
 -- what was given holds together, whether there was room for the addition or not
-pub still-contents : (result : Result (Unit {0}) Fault) (earlier now : TermTable) (contents later : Contents) (addition : Addition) → IsContents earlier contents → IsGrown earlier now → CanBeAdded now contents addition
+pub still-contents : (result : Result (Unit {0}) Fault) (earlier now : TermTable) (contents later : Contents) (addition : Addition) → IsContents earlier contents → IsGrown earlier now →
+    CanBeAdded now contents addition
     → OnOk result ((table : TermTable) → IsContents table contents → CanBeAdded table contents addition → IsAdded table contents addition later)
     → OnErr result ((table : TermTable) → IsContents table contents → CanBeAdded table contents addition → IsContents table later) → IsContents now later
 still-contents (Ok _) earlier now contents later addition is grown stands added kept = (added now (contents-grown earlier now grown contents is) stands).is_contents

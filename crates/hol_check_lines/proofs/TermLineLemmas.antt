@@ -18,7 +18,8 @@ use Rattle.hol_model.specs.Logs.LogLine.{LogLine, variable_line, constant_line, 
 use Rattle.hol_model.specs.Logs.LogState as given
 use Rattle.hol_model.specs.Logs.LogState.{LogState, term_type}
 use Rattle.hol_model.specs.Logs.LogSequents.{new_types, new_terms, new_theorems, new_entries, new_claims, ends, is_free_variable, abstraction_over, variable_name}
-use Rattle.hol_model.specs.Logs.LogFaults.{has_shape_fault, has_number_fault, has_name_fault, has_type_fault, has_constant_fault, has_rule_fault, has_claim_fault, has_size_fault, takes, sequent_fits, is_no_type, is_no_term}
+use Rattle.hol_model.specs.Logs.LogFaults.{has_shape_fault, has_number_fault, has_name_fault, has_type_fault, has_constant_fault, has_rule_fault, has_claim_fault, has_size_fault, takes}
+use Rattle.hol_model.specs.Logs.LogFaults.{sequent_fits, is_no_type, is_no_term}
 use Rattle.hol_model.proofs.Terms.Images.{image-typed, image-abstraction}
 use Rattle.hol_model.proofs.Terms.Measures.{past_limits-image}
 use Rattle.hol_model.proofs.Terms.Typing.{nameless_type-is}
@@ -58,7 +59,8 @@ pub record AddsOneTerm (state : LogState) (line : LogLine) (wanted : Nameless) :
 
 module _ (state : LogState) (line : LogLine) (wanted : Nameless) (adds : AddsOneTerm state line wanted) (theory_fits : nat_le (0 + length state.theory) DEFINITIONS_LIMIT ≡ true) where
   size : has_size_fault state line ≡ not (true && (nameless_within_limits wanted && true) && true && nat_le (0 + length state.theory) DEFINITIONS_LIMIT)
-  size = λ i. not (list_all type_fits (adds.types i) && list_all nameless_within_limits (adds.terms i) && list_all sequent_fits (adds.theorems i) && nat_le (length (adds.entries i) + length state.theory) DEFINITIONS_LIMIT)
+  size = λ i. not (list_all type_fits (adds.types i) && list_all nameless_within_limits (adds.terms i) && list_all sequent_fits (adds.theorems i) && nat_le
+      (length (adds.entries i) + length state.theory) DEFINITIONS_LIMIT)
 
   and_true : (b : Bool) (value : Bool) → b ≡ value → (b && true) ≡ value
   and_true true value is = is
@@ -75,12 +77,14 @@ module _ (state : LogState) (line : LogLine) (wanted : Nameless) (adds : AddsOne
       (size ∙ terms-large true (nameless_within_limits wanted && true) true (nat_le (0 + length state.theory) DEFINITIONS_LIMIT) refl (and_true (nameless_within_limits wanted) false past))
 
 -- a line of the shape of a term within the limits adds it
-pub judged-term : (line : LogLine) (contents : Contents) (earlier now : TermTable) (term : NamedTerm) (ty : HolType) (shape : WrittenShape) (result : Result (Result Addition Cause) Fault) → AddsOneTerm (state_of earlier contents) line (image term) → IsContents earlier contents
+pub judged-term : (line : LogLine) (contents : Contents) (earlier now : TermTable) (term : NamedTerm) (ty : HolType) (shape : WrittenShape) (result : Result (Result Addition Cause) Fault) →
+    AddsOneTerm (state_of earlier contents) line (image term) → IsContents earlier contents
     → type_of term ≡ Some ty → PartsAreEarlier now.terms (length contents.terms.items) shape → named_of_shape now.terms (named_terms now.terms contents.terms.items) shape ≡ term
     → AnswersTerm term shape result now → IsGrown earlier now → Judges line contents earlier result now
 judged-term line contents earlier now term ty shape (Ok (Ok addition)) adds is typed parts shape_is answers grown =
     let added = answers.answered in
-    let written_is : named_of now.terms (named_terms now.terms contents.terms.items) added.written ≡ term = ap (named_of_shape now.terms (named_terms now.terms contents.terms.items)) added.is_shape ∙ shape_is in
+    let written_is : named_of now.terms (named_terms now.terms contents.terms.items) added.written ≡ term =
+    ap (named_of_shape now.terms (named_terms now.terms contents.terms.items)) added.is_shape ∙ shape_is in
     subst (λ a. Judges line contents earlier (Ok (Ok a)) now) (sym added.is_added) (record {
       judged = record {
         accepted = term-accepted (state_of earlier contents) line (image term) adds (room earlier contents is) (within_limits-image term ty typed (within-limits now term added.written added.writes));
@@ -91,7 +95,8 @@ judged-term line contents earlier now term ty shape (Ok (Ok addition)) adds is t
       grows = grown;
     })
 judged-term line contents earlier now term ty shape (Ok (Err cause)) adds is typed parts shape_is answers grown = record {
-  judged = term-large (state_of earlier contents) line (image term) adds (room earlier contents is) (past_limits-image term ty typed answers.answered.is_past) ∙ ap Some (sym answers.answered.is_cause);
+  judged = term-large (state_of earlier contents) line (image term) adds (room earlier contents is) (past_limits-image term ty typed answers.answered.is_past) ∙ ap Some
+      (sym answers.answered.is_cause);
   refused = tt;
   grows = grown;
 }
@@ -99,7 +104,8 @@ judged-term line contents earlier now term ty shape (Err fault) adds is typed pa
 
 -- a variable, and a constant, by their numbers
 
-pub judged-variable : (line : LogLine) (contents : Contents) (t0 t1 t2 : TermTable) (name : List ℕ) (ty : HolType) (number : ℕ) (result : Result (Result Addition Cause) Fault) → AddsOneTerm (state_of t0 contents) line (free name ty) → IsContents t0 contents
+pub judged-variable : (line : LogLine) (contents : Contents) (t0 t1 t2 : TermTable) (name : List ℕ) (ty : HolType) (number : ℕ) (result : Result (Result Addition Cause) Fault) →
+    AddsOneTerm (state_of t0 contents) line (free name ty) → IsContents t0 contents
     → IsGrown t0 t1 → IsGrown t1 t2 → slice_get t1.terms number ≡ Some (free name ty)
     → AnswersTerm (variable (variable_name (term_at t1.terms number)) (term_type (term_at t1.terms number))) (Variable number) result t2 → Judges line contents t0 result t2
 judged-variable line contents t0 t1 t2 name ty number result adds is first second there answers =
@@ -109,8 +115,10 @@ judged-variable line contents t0 t1 t2 name ty number result adds is first secon
     (subst (λ u. AddsOneTerm (state_of t0 contents) line (image (variable (variable_name u) (term_type u)))) (sym same) adds) is refl
     (free-grown t1 t2 second number is_free) (ap (λ u. variable (variable_name u) (term_type u)) (free-still t1 t2 second number is_free)) answers (IsGrown-trans t0 t1 t2 first second)
 
-pub judged-constant : (line : LogLine) (contents : Contents) (t0 t1 t2 : TermTable) (name : List ℕ) (ty : HolType) (number : ℕ) (result : Result (Result Addition Cause) Fault) → AddsOneTerm (state_of t0 contents) line (const name ty) → IsContents t0 contents
-    → IsGrown t0 t1 → IsGrown t1 t2 → slice_get t1.terms number ≡ Some (const name ty) → AnswersTerm (named_constant (term_at t1.terms number)) (Constant number) result t2 → Judges line contents t0 result t2
+pub judged-constant : (line : LogLine) (contents : Contents) (t0 t1 t2 : TermTable) (name : List ℕ) (ty : HolType) (number : ℕ) (result : Result (Result Addition Cause) Fault) →
+    AddsOneTerm (state_of t0 contents) line (const name ty) → IsContents t0 contents
+    → IsGrown t0 t1 → IsGrown t1 t2 → slice_get t1.terms number ≡ Some (const name ty) → AnswersTerm (named_constant (term_at t1.terms number)) (Constant number) result t2 →
+    Judges line contents t0 result t2
 judged-constant line contents t0 t1 t2 name ty number result adds is first second there answers =
     let same = term-there t1.terms number (const name ty) there in
     let later = place-grown t1 t2 number (const name ty) second there in
@@ -118,7 +126,8 @@ judged-constant line contents t0 t1 t2 name ty number result adds is first secon
     (subst (λ u. AddsOneTerm (state_of t0 contents) line (image (named_constant u))) (sym same) adds) is (ap (λ u. type_of (named_constant u)) same)
     (record { name = name; ty = ty; is_constant = later }) (ap named_constant (term-there t2.terms number (const name ty) later ∙ sym same)) answers (IsGrown-trans t0 t1 t2 first second)
 
-pub adds-variable : (state : LogState) (name : List ℕ) (line : ℕ) (ty : HolType) → is_no_type state line ≡ false → is_identifier name ≡ true → given.type_at state line ≡ ty → AddsOneTerm state (variable_line name line) (free name ty)
+pub adds-variable : (state : LogState) (name : List ℕ) (line : ℕ) (ty : HolType) → is_no_type state line ≡ false → is_identifier name ≡ true → given.type_at state line ≡ ty →
+    AddsOneTerm state (variable_line name line) (free name ty)
 adds-variable state name line ty there legal named = record {
   shape = refl;
   number = there;
@@ -135,7 +144,8 @@ adds-variable state name line ty there legal named = record {
   ends = refl;
 }
 
-pub adds-constant : (state : LogState) (name : List ℕ) (line : ℕ) (ty : HolType) → is_no_type state line ≡ false → is_constant_name name ≡ true → given.type_at state line ≡ ty → knows_constant state.theory name ty ≡ true
+pub adds-constant : (state : LogState) (name : List ℕ) (line : ℕ) (ty : HolType) → is_no_type state line ≡ false → is_constant_name name ≡ true → given.type_at state line ≡ ty →
+    knows_constant state.theory name ty ≡ true
     → AddsOneTerm state (constant_line name line) (const name ty)
 adds-constant state name line ty there legal named known = record {
   shape = refl;
@@ -153,7 +163,8 @@ adds-constant state name line ty there legal named known = record {
   ends = refl;
 }
 
-pub adds-combination : (state : LogState) (function argument : ℕ) (f a : Nameless) → is_no_term state function ≡ false → is_no_term state argument ≡ false → given.term_at state function ≡ f → given.term_at state argument ≡ a
+pub adds-combination : (state : LogState) (function argument : ℕ) (f a : Nameless) → is_no_term state function ≡ false → is_no_term state argument ≡ false →
+    given.term_at state function ≡ f → given.term_at state argument ≡ a
     → takes (nameless_type [] f) (nameless_type [] a) ≡ true → AddsOneTerm state (combination_line function argument) (app f a)
 adds-combination state function argument f a first second function_is argument_is fits = record {
   shape = refl;
@@ -171,7 +182,8 @@ adds-combination state function argument f a first second function_is argument_i
   ends = refl;
 }
 
-pub adds-abstraction : (state : LogState) (binder body : ℕ) (v b : Nameless) → is_no_term state binder ≡ false → is_no_term state body ≡ false → given.term_at state binder ≡ v → given.term_at state body ≡ b → is_free_variable v ≡ true
+pub adds-abstraction : (state : LogState) (binder body : ℕ) (v b : Nameless) → is_no_term state binder ≡ false → is_no_term state body ≡ false → given.term_at state binder ≡ v →
+    given.term_at state body ≡ b → is_free_variable v ≡ true
     → AddsOneTerm state (abstraction_line binder body) (abstraction_over v b)
 adds-abstraction state binder body v b first second binder_is body_is is = record {
   shape = refl;
@@ -231,7 +243,8 @@ module _ (t0 : TermTable) (contents : Contents) (binder body : ℕ) (v b : Writt
   binder-is : (shape : WrittenShape) → v.shape ≡ shape → given.term_at (state_of t0 contents) binder ≡ image (named_of_shape t0.terms (named_terms t0.terms contents.terms.items) shape)
   binder-is shape is = first.named ∙ ap image (first.is_shape ∙ ap (named_of_shape t0.terms (named_terms t0.terms contents.terms.items)) is)
 
-  no-abstraction : (shape : WrittenShape) → v.shape ≡ shape → is_free_variable (image (named_of_shape t0.terms (named_terms t0.terms contents.terms.items) shape)) ≡ false → Judges (abstraction_line binder body) contents t0 (Ok (Err Kind)) t0
+  no-abstraction : (shape : WrittenShape) → v.shape ≡ shape → is_free_variable (image (named_of_shape t0.terms (named_terms t0.terms contents.terms.items) shape)) ≡ false →
+      Judges (abstraction_line binder body) contents t0 (Ok (Err Kind)) t0
   no-abstraction shape is other = record {
     judged = type-fault (state_of t0 contents) (abstraction_line binder body) refl (neither _ _ first.is_there second.is_there) refl (ap not (ap is_free_variable (binder-is shape is) ∙ other));
     refused = tt;
@@ -270,26 +283,32 @@ module _ (t0 : TermTable) (contents : Contents) (binder body : ℕ) (v b : Writt
         judged-term (abstraction_line binder body) contents t0 t1 term (function_type (term_type (term_at t0.terms number)) (type_at t0.types b.ty)) (Abstraction number body) result
         (subst (AddsOneTerm (state_of t0 contents) (abstraction_line binder body))
         (sym (image-abstraction (variable_name (term_at t0.terms number)) (term_type (term_at t0.terms number)) (named_at (named_terms t0.terms contents.terms.items) body)))
-        (adds-abstraction (state_of t0 contents) binder body bound_variable (image (named_at (named_terms t0.terms contents.terms.items) body)) first.is_there second.is_there (binder-is (Variable number) is) second.named refl))
+        (adds-abstraction (state_of t0 contents) binder body bound_variable (image (named_at (named_terms t0.terms contents.terms.items) body)) first.is_there second.is_there
+        (binder-is (Variable number) is) second.named refl))
         holds (ap (option_map (function_type (term_type (term_at t0.terms number)))) second.writes.typed)
         (free-grown t0 t1 grown number is_free, second.within)
-        (λ i. abstraction (variable_name (free-still t0 t1 grown number is_free i)) (term_type (free-still t0 t1 grown number is_free i)) (named_at (named-still t0 t1 grown contents.terms.items holds.terms i) body)) answers grown
+        (λ i. abstraction (variable_name (free-still t0 t1 grown number is_free i)) (term_type (free-still t0 t1 grown number is_free i))
+        (named_at (named-still t0 t1 grown contents.terms.items holds.terms i) body)) answers grown
 
 -- a constant, while the tables grow
-module _ (t0 t1 : TermTable) (contents : Contents) (name : List ℕ) (line number ty : ℕ) (type_named : NamesType (state_of t0 contents) line t0.types ty) (grown : IsGrown t0 t1) (named : slice_get t1.names number ≡ Some name) where
+module _ (t0 t1 : TermTable) (contents : Contents) (name : List ℕ) (line number ty : ℕ) (type_named : NamesType (state_of t0 contents) line t0.types ty) (grown : IsGrown t0 t1)
+    (named : slice_get t1.names number ≡ Some name) where
   type-is : given.type_at (state_of t0 contents) line ≡ type_at t1.types ty
   type-is = type_named.named ∙ sym (type-grown t0.types t1.types ty grown.types type_named.within)
 
-  pub known-is : knows_constant (theory_in t0 contents.entries.items) name (given.type_at (state_of t0 contents) line) ≡ knows_constant (theory_in t0 contents.entries.items) (name_at t1.names number) (type_at t1.types ty)
+  pub known-is : knows_constant (theory_in t0 contents.entries.items) name (given.type_at (state_of t0 contents) line) ≡ knows_constant (theory_in t0 contents.entries.items)
+      (name_at t1.names number) (type_at t1.types ty)
   known-is = λ i. knows_constant (theory_in t0 contents.entries.items) (sym (get_or_from_slice_get t1.names number name [] named) i) (type-is i)
 
   pub adds-grown-constant : is_constant_name name ≡ true → knows_constant (theory_in t0 contents.entries.items) (name_at t1.names number) (type_at t1.types ty) ≡ true
       → AddsOneTerm (state_of t0 contents) (constant_line name line) (const (name_at t1.names number) (type_at t1.types ty))
   adds-grown-constant legal known =
       subst (λ n. AddsOneTerm (state_of t0 contents) (constant_line name line) (const n (type_at t1.types ty))) (sym (get_or_from_slice_get t1.names number name [] named))
-      (adds-constant (state_of t0 contents) name line (type_at t1.types ty) type_named.is_there legal type-is (ap (knows_constant (theory_in t0 contents.entries.items) name) (sym type-is) ∙ (known-is ∙ known)))
+      (adds-constant (state_of t0 contents) name line (type_at t1.types ty) type_named.is_there legal type-is
+      (ap (knows_constant (theory_in t0 contents.entries.items) name) (sym type-is) ∙ (known-is ∙ known)))
 
-  pub no-constant : is_constant_name name ≡ true → knows_constant (theory_in t0 contents.entries.items) (name_at t1.names number) (type_at t1.types ty) ≡ false → Judges (constant_line name line) contents t0 (Ok (Err Const)) t1
+  pub no-constant : is_constant_name name ≡ true → knows_constant (theory_in t0 contents.entries.items) (name_at t1.names number) (type_at t1.types ty) ≡ false →
+      Judges (constant_line name line) contents t0 (Ok (Err Const)) t1
   no-constant legal unknown = record {
     judged = constant-fault (state_of t0 contents) (constant_line name line) refl type_named.is_there (ap not legal) refl (ap not (known-is ∙ unknown));
     refused = tt;

@@ -28,8 +28,10 @@ neither p q one two = cc
 one-fits : (p : Bool) → p ≡ true → (p && true) ≡ true
 one-fits p is = cc
 
-pub judged-function : (earlier now : TermTable) (contents : Contents) (domain codomain a b number : ℕ) → IsContents earlier contents → NamesType (state_of earlier contents) domain earlier.types a → NamesType (state_of earlier contents) codomain earlier.types b
-    → slice_get now.types number ≡ Some (function_type (type_at earlier.types a) (type_at earlier.types b)) → type_nodes (function_type (type_at earlier.types a) (type_at earlier.types b)) ≤ TYPE_NODES_LIMIT → IsGrown earlier now
+pub judged-function : (earlier now : TermTable) (contents : Contents) (domain codomain a b number : ℕ) → IsContents earlier contents →
+    NamesType (state_of earlier contents) domain earlier.types a → NamesType (state_of earlier contents) codomain earlier.types b
+    → slice_get now.types number ≡ Some (function_type (type_at earlier.types a) (type_at earlier.types b)) →
+    type_nodes (function_type (type_at earlier.types a) (type_at earlier.types b)) ≤ TYPE_NODES_LIMIT → IsGrown earlier now
     → Judges (function_type_line domain codomain) contents earlier (Ok (Ok (TypeNumber number))) now
 judged-function earlier now contents domain codomain a b number is first second made small grown = record {
   judged = record {
@@ -51,12 +53,15 @@ judged-function earlier now contents domain codomain a b number is first second 
     same : whole ≡ function_type (type_at earlier.types a) (type_at earlier.types b)
     same = λ i. function_type (first.named i) (second.named i)
 
-pub judged-declared : (earlier mid now : TermTable) (contents : Contents) (name : List ℕ) (number ty : ℕ) → IsContents earlier contents → is_first_version (version_of contents.version) ≡ false → is_declared_type_name name ≡ true
-    → slice_get mid.names number ≡ Some name → is_declared (theory_in earlier contents.entries.items) (name_at mid.names number) ≡ true → slice_get now.types ty ≡ Some (declared_type name) → IsGrown earlier now
+pub judged-declared : (earlier mid now : TermTable) (contents : Contents) (name : List ℕ) (number ty : ℕ) → IsContents earlier contents →
+    is_first_version (version_of contents.version) ≡ false → is_declared_type_name name ≡ true
+    → slice_get mid.names number ≡ Some name → is_declared (theory_in earlier contents.entries.items) (name_at mid.names number) ≡ true → slice_get now.types ty ≡ Some (declared_type name) →
+    IsGrown earlier now
     → Judges (declared_type_line name) contents earlier (Ok (Ok (TypeNumber ty))) now
 judged-declared earlier mid now contents name number ty is second legal named known made grown = record {
   judged = record {
-    accepted = no-fault (state_of earlier contents) (declared_type_line name) second refl (ap not legal) (ap not (ap (is_declared (theory_in earlier contents.entries.items)) (sym (get_or_from_slice_get mid.names number name [] named)) ∙ known)) refl refl refl
+    accepted = no-fault (state_of earlier contents) (declared_type_line name) second refl (ap not legal)
+        (ap not (ap (is_declared (theory_in earlier contents.entries.items)) (sym (get_or_from_slice_get mid.names number name [] named)) ∙ known)) refl refl refl
         (all-fit _ _ _ _ refl refl refl (room earlier contents is));
     denotes = record { types = ap (λ t. t ∷ []) (sym (type-there now.types ty _ made)); terms = refl; theorems = refl; entries = refl; claims = refl; ends = refl };
     added = is_within now.types ty _ made;
@@ -69,7 +74,8 @@ pub undeclared : (earlier mid : TermTable) (contents : Contents) (name : List �
     → slice_get mid.names number ≡ Some name → is_declared (theory_in earlier contents.entries.items) (name_at mid.names number) ≡ false → IsGrown earlier mid
     → Judges (declared_type_line name) contents earlier (Ok (Err Kind)) mid
 undeclared earlier mid contents name number second legal named unknown grown = record {
-  judged = type-fault (state_of earlier contents) (declared_type_line name) second refl (ap not legal) (ap not (ap (is_declared (theory_in earlier contents.entries.items)) (sym (get_or_from_slice_get mid.names number name [] named)) ∙ unknown));
+  judged = type-fault (state_of earlier contents) (declared_type_line name) second refl (ap not legal)
+      (ap not (ap (is_declared (theory_in earlier contents.entries.items)) (sym (get_or_from_slice_get mid.names number name [] named)) ∙ unknown));
   refused = tt;
   grows = grown;
 }

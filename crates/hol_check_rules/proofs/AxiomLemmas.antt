@@ -15,7 +15,8 @@ term-kept t1 t2 n t grows there = term-there t2.terms n t (place-grown t1 t2 n t
 pub type-kept : (t1 t2 : TermTable) (n : ℕ) (ty : HolType) → IsGrown t1 t2 → slice_get t1.types n ≡ Some ty → type_at t2.types n ≡ ty
 type-kept t1 t2 n ty grows there = type-there t2.types n ty (type-place t1.types t2.types n ty grows.types there)
 
-pub application-named : (t1 t2 : TermTable) (now : List Nameless) (f x n : ℕ) (function argument : Nameless) → slice_get t1.terms f ≡ Some function → IsGrown t1 t2 → slice_get t2.terms x ≡ Some argument
+pub application-named : (t1 t2 : TermTable) (now : List Nameless) (f x n : ℕ) (function argument : Nameless) → slice_get t1.terms f ≡ Some function → IsGrown t1 t2 →
+    slice_get t2.terms x ≡ Some argument
     → slice_get now n ≡ Some (app (term_at t2.terms f) (term_at t2.terms x)) → slice_get now n ≡ Some (app function argument)
 application-named t1 t2 now f x n function argument first grows second made = made ∙ (λ i. Some (app (term-kept t1 t2 f function grows first i) (term-there t2.terms x argument second i)))
 

@@ -21,7 +21,8 @@ insert-there : (entries : List (ℕ × ℕ)) (key value : ℕ) → IsEntry (inse
 insert-there [] key value = (0, refl)
 insert-there (first ∷ rest) key value = go (nat_eq key first.0) refl (insert-there rest key value)
   where
-    go : (test : Bool) → nat_eq key first.0 ≡ test → IsEntry (insert_entry nat_eq rest key value) key value → IsEntry (if test then (first.0, value) ∷ rest else first ∷ insert_entry nat_eq rest key value) key value
+    go : (test : Bool) → nat_eq key first.0 ≡ test → IsEntry (insert_entry nat_eq rest key value) key value →
+        IsEntry (if test then (first.0, value) ∷ rest else first ∷ insert_entry nat_eq rest key value) key value
     go true is deeper = (0, λ i. Some (sym (eqb-true key first.0 is) i, value))
     go false is deeper = (suc deeper.0, deeper.1)
 
@@ -38,7 +39,8 @@ insert-keeps (first ∷ rest) key value other one differ (i, there) = go (nat_eq
     go false is zero there deeper = (0, there)
     go false is (suc i) there deeper = let later = deeper (i, there) in (suc later.0, later.1)
 
-pub knows-constant : (table : TermTable) (entries : List (ℕ × ℕ)) (declared : List ℕ) (theory : Theory) (entry : Entry) (name ty : ℕ) → GivesConstant table entry theory name ty → Knows table entries declared theory
+pub knows-constant : (table : TermTable) (entries : List (ℕ × ℕ)) (declared : List ℕ) (theory : Theory) (entry : Entry) (name ty : ℕ) → GivesConstant table entry theory name ty →
+    Knows table entries declared theory
     → Knows table (insert_entry nat_eq entries name ty) declared (entry ∷ theory)
 knows-constant table entries declared theory entry name ty gives knows = record {
   constants_given = λ n m there.
@@ -73,10 +75,12 @@ knows-constant table entries declared theory entry name ty gives knows = record 
       name_within = before.name_within;
       type_within = before.type_within;
       given = gives.gives (name_at table.names n)
-          ∙ (ap (λ test. if test then Some (type_at table.types ty) else generic_type theory (name_at table.names n)) (other_name n m before.given (bytes_eq new (name_at table.names n)) refl) ∙ before.given);
+          ∙ (ap (λ test. if test then Some (type_at table.types ty) else generic_type theory (name_at table.names n))
+          (other_name n m before.given (bytes_eq new (name_at table.names n)) refl) ∙ before.given);
     }
 
-    listed : (other : List ℕ) (s : HolType) (test : Bool) → bytes_eq new other ≡ test → (if test then Some (type_at table.types ty) else generic_type theory other) ≡ Some s → IsListed table (insert_entry nat_eq entries name ty) other s
+    listed : (other : List ℕ) (s : HolType) (test : Bool) → bytes_eq new other ≡ test → (if test then Some (type_at table.types ty) else generic_type theory other) ≡ Some s →
+        IsListed table (insert_entry nat_eq entries name ty) other s
     listed other s true same is = record {
       name_number = name;
       type_number = ty;
@@ -116,7 +120,8 @@ noted-cases declared now name other put noted =
           ])
     ]
 
-pub knows-type : (table : TermTable) (entries : List (ℕ × ℕ)) (declared now : List ℕ) (theory : Theory) (name : ℕ) → name < length table.names → IsPut name declared now → IsNoted now name → Knows table entries declared theory
+pub knows-type : (table : TermTable) (entries : List (ℕ × ℕ)) (declared now : List ℕ) (theory : Theory) (name : ℕ) → name < length table.names → IsPut name declared now → IsNoted now name →
+    Knows table entries declared theory
     → Knows table entries now (declaration_of_type (name_at table.names name) ∷ theory)
 knows-type table entries declared now theory name within put there knows = record {
   constants_given = λ n m at. let before = knows.constants_given n m at in record { name_within = before.name_within; type_within = before.type_within; given = before.given };
@@ -124,7 +129,8 @@ knows-type table entries declared now theory name within put there knows = recor
   types_declared = λ n noted.
       elim (noted-cases declared now name n put noted) [
         | inl early ↦ still n (knows.types_declared n early)
-        | inr last ↦ subst (IsDeclaredNumber table (declaration_of_type new ∷ theory)) (sym last) (record { within = within; declares = ap (λ test. test || is_declared theory new) ((bytes_eq-Decides new new).1 refl) })
+        | inr last ↦ subst (IsDeclaredNumber table (declaration_of_type new ∷ theory)) (sym last)
+            (record { within = within; declares = ap (λ test. test || is_declared theory new) ((bytes_eq-Decides new new).1 refl) })
       ];
   types_listed = λ other is. listed other (bytes_eq new other) refl is;
 }

@@ -19,7 +19,8 @@ pub lookup-entry : (key value : ℕ) (entries : List (ℕ × ℕ)) → Some valu
 lookup-entry key value [] found = cc
 lookup-entry key value (first ∷ rest) found = go (nat_eq key first.0) refl found (lookup-entry key value rest)
   where
-    go : (test : Bool) → nat_eq key first.0 ≡ test → Some value ≡ (if test then Some first.1 else lookup (nat_eq key) rest) → (Some value ≡ lookup (nat_eq key) rest → IsEntry rest key value) → IsEntry (first ∷ rest) key value
+    go : (test : Bool) → nat_eq key first.0 ≡ test → Some value ≡ (if test then Some first.1 else lookup (nat_eq key) rest) →
+        (Some value ≡ lookup (nat_eq key) rest → IsEntry rest key value) → IsEntry (first ∷ rest) key value
     go true is found deeper =
         let keys : key ≡ first.0 = eqb-true key first.0 is in
         let values : value ≡ first.1 = cc in
@@ -30,7 +31,8 @@ pub lookup-none : (key value : ℕ) (entries : List (ℕ × ℕ)) → None ≡ l
 lookup-none key value [] found (i, there) = cc
 lookup-none key value (first ∷ rest) found (i, there) = go (nat_eq key first.0) refl found i there (λ none later. lookup-none key value rest none later)
   where
-    go : (test : Bool) → nat_eq key first.0 ≡ test → None ≡ (if test then Some first.1 else lookup (nat_eq key) rest) → (i : ℕ) → slice_get (first ∷ rest) i ≡ Some (key, value) → (None ≡ lookup (nat_eq key) rest → IsEntry rest key value → ⊥) → ⊥
+    go : (test : Bool) → nat_eq key first.0 ≡ test → None ≡ (if test then Some first.1 else lookup (nat_eq key) rest) → (i : ℕ) → slice_get (first ∷ rest) i ≡ Some (key, value) →
+        (None ≡ lookup (nat_eq key) rest → IsEntry rest key value → ⊥) → ⊥
     go true is found i there deeper = cc
     go false is found zero there deeper =
         let keys : key ≡ first.0 = cc in
@@ -55,10 +57,12 @@ none-noted key (first ∷ rest) none (zero, there) =
     cc
 none-noted key (first ∷ rest) none (suc i, there) = none-noted key rest (second_of_neither (nat_eq key first) (list_any (nat_eq key) rest) none) (i, there)
 
-pub given-type : (table : TermTable) (constants : List (ℕ × ℕ)) (declared : List ℕ) (theory : Theory) → Knows table constants declared theory → (name ty : ℕ) → Some ty ≡ lookup (nat_eq name) constants → IsGiven table theory name ty
+pub given-type : (table : TermTable) (constants : List (ℕ × ℕ)) (declared : List ℕ) (theory : Theory) → Knows table constants declared theory → (name ty : ℕ) →
+    Some ty ≡ lookup (nat_eq name) constants → IsGiven table theory name ty
 given-type table constants declared theory knows name ty found = knows.constants_given name ty (lookup-entry name ty constants found)
 
-pub no-constant : (table : TermTable) → HaveOneNumber table.names → (constants : List (ℕ × ℕ)) (declared : List ℕ) (theory : Theory) → Knows table constants declared theory → (name : ℕ) → name < length table.names → None ≡ lookup (nat_eq name) constants
+pub no-constant : (table : TermTable) → HaveOneNumber table.names → (constants : List (ℕ × ℕ)) (declared : List ℕ) (theory : Theory) → Knows table constants declared theory → (name : ℕ) →
+    name < length table.names → None ≡ lookup (nat_eq name) constants
     → None ≡ generic_type theory (name_at table.names name)
 no-constant table one constants declared theory knows name within none = go (generic_type theory (name_at table.names name)) refl
   where
@@ -69,7 +73,8 @@ no-constant table one constants declared theory knows name within none = go (gen
         let same : listed.name_number ≡ name = one listed.name_number name (name_at table.names name) listed.name_is (slice_get-get_or table.names name [] within) in
         absurd (lookup-none name listed.type_number constants none (subst (λ n. IsEntry constants n listed.type_number) same listed.listed))
 
-pub declared-answer : (table : TermTable) → HaveOneNumber table.names → (constants : List (ℕ × ℕ)) (declared : List ℕ) (theory : Theory) → Knows table constants declared theory → (name : ℕ) → name < length table.names
+pub declared-answer : (table : TermTable) → HaveOneNumber table.names → (constants : List (ℕ × ℕ)) (declared : List ℕ) (theory : Theory) → Knows table constants declared theory →
+    (name : ℕ) → name < length table.names
     → list_any (nat_eq name) declared ≡ is_declared theory (name_at table.names name)
 declared-answer table one constants declared theory knows name within = go (list_any (nat_eq name) declared) refl
   where

@@ -71,7 +71,8 @@ module _ (table : TermTable) (contents : Contents) (is : IsContents table conten
         named = named-image made.line_within ∙ sym there;
         fits = record {
           within = is_within table.terms number _ made.number_is;
-          fits = ap nameless_within_limits there ∙ within_limits-image (named_at (named_terms table.terms contents.terms.items) line) _ kept.writes.typed (within-limits table (named_at (named_terms table.terms contents.terms.items) line) _ kept.writes);
+          fits = ap nameless_within_limits there ∙ within_limits-image (named_at (named_terms table.terms contents.terms.items) line) _ kept.writes.typed
+              (within-limits table (named_at (named_terms table.terms contents.terms.items) line) _ kept.writes);
         };
       }
 

@@ -1,5 +1,6 @@
 -- Ordered lists of terms: what keeps the order, and how two lists are merged.
-use Rattle.std.proofs.Common.{◌≡◌, ◌⊎◌, ℕ, zero, suc, ◌+◌, ◌<◌, ◌≤◌, List, [], ◌∷◌, ◌++◌, length, drop, get_or, filter, Bool, true, false, refl, sym, ◌∙◌, ap, subst, inl, inr, if◌then◌else◌, arith, append_assoc, append-nil, Vec, Global, Result, Ok, Err, IfOk}
+use Rattle.std.proofs.Common.{◌≡◌, ◌⊎◌, ℕ, zero, suc, ◌+◌, ◌<◌, ◌≤◌, List, [], ◌∷◌, ◌++◌, length, drop, get_or, filter, Bool, true, false, refl, sym, ◌∙◌, ap, subst, inl, inr, if◌then◌else◌}
+use Rattle.std.proofs.Common.{arith, append_assoc, append-nil, Vec, Global, Result, Ok, Err, IfOk}
 use Rattle.std.proofs.lemmas.List.{drop_all, map-append}
 use Rattle.std.proofs.lemmas.List.Elements.{All-cons, All-append, All-drop, All-get_or}
 use Rattle.std.specs.List.{All}
@@ -90,7 +91,8 @@ swap-less (x ∷ xs) a b less = go (nameless_cmp a x) (nameless_cmp b x) refl re
     behind : (rest : List Nameless) → with_term (a ∷ rest) b ≡ a ∷ with_term rest b
     behind rest = ap (λ o. by_order o (b ∷ a ∷ rest) (a ∷ rest) (a ∷ with_term rest b)) greater
 
-    in_place : (y : Nameless) (rest : List Nameless) (new : Nameless) (order : Ordering) → nameless_cmp new y ≡ order → with_term (y ∷ rest) new ≡ by_order order (new ∷ y ∷ rest) (y ∷ rest) (y ∷ with_term rest new)
+    in_place : (y : Nameless) (rest : List Nameless) (new : Nameless) (order : Ordering) → nameless_cmp new y ≡ order →
+        with_term (y ∷ rest) new ≡ by_order order (new ∷ y ∷ rest) (y ∷ rest) (y ∷ with_term rest new)
     in_place y rest new order is = ap (λ o. by_order o (new ∷ y ∷ rest) (y ∷ rest) (y ∷ with_term rest new)) is
 
     go : (p q : Ordering) → nameless_cmp a x ≡ p → nameless_cmp b x ≡ q → with_term (with_term xs a) b ≡ with_term (with_term xs b) a
@@ -264,7 +266,8 @@ module _ (terms : List Nameless) (first second : List ℕ) (are : AreMerging ter
   }
 
 -- where one of the lists is used up, the rest of the other is what is left
-pub merged-last : (terms : List Nameless) (first second : List ℕ) (left right : ℕ) (all : List ℕ) → AreMerging terms first second → AreOrdered (terms_in terms first) → IsMerged terms first second left right all
+pub merged-last : (terms : List Nameless) (first second : List ℕ) (left right : ℕ) (all : List ℕ) → AreMerging terms first second → AreOrdered (terms_in terms first) →
+    IsMerged terms first second left right all
     → (length first ≤ left) ⊎ (length second ≤ right) → AreInOrder terms ((all ++ drop left first) ++ drop right second) (terms_in terms first ++ terms_in terms second)
 merged-last terms first second left right all are ordered merged used = record {
   named =
@@ -279,15 +282,18 @@ merged-last terms first second left right all are ordered merged used = record {
     whole : set_of (terms_in terms first ++ terms_in terms second) ≡ with_terms (terms_in terms first) (terms_in terms second)
     whole = with_terms-append [] (terms_in terms first) (terms_in terms second) ∙ ap (λ l. with_terms l (terms_in terms second)) (merge-none (terms_in terms first) ordered)
 
-    last : (length first ≤ left) ⊎ (length second ≤ right) → terms_in terms (drop left first) ++ terms_in terms (drop right second) ≡ with_terms (terms_in terms (drop left first)) (terms_in terms (drop right second))
+    last : (length first ≤ left) ⊎ (length second ≤ right) → terms_in terms (drop left first) ++ terms_in terms (drop right second) ≡ with_terms (terms_in terms (drop left first))
+        (terms_in terms (drop right second))
     last (inl past) = rw (drop_all left first past) (sym (merge-none (terms_in terms (drop right second)) (ordered-drop terms right second are.ordered)))
     last (inr past) = rw (drop_all right second past) (append-nil (terms_in terms (drop left first)))
 
 -- a list in order, from its two halves
-halves-in_order : (terms : List Nameless) (left right ordered_left ordered_right all list : List ℕ) → AreInOrder terms ordered_left (terms_in terms left) → AreInOrder terms ordered_right (terms_in terms right)
+halves-in_order : (terms : List Nameless) (left right ordered_left ordered_right all list : List ℕ) → AreInOrder terms ordered_left (terms_in terms left) →
+    AreInOrder terms ordered_right (terms_in terms right)
     → AreInOrder terms all (terms_in terms ordered_left ++ terms_in terms ordered_right) → left ++ right ≡ list → AreInOrder terms all (terms_in terms list)
 halves-in_order terms left right ordered_left ordered_right all list one two both whole = record {
-  named = both.named ∙ ((λ i. set_of (one.named i ++ two.named i)) ∙ (set_of-halves (terms_in terms left) (terms_in terms right) ∙ ap set_of (sym (map-append (term_at terms) left right) ∙ ap (terms_in terms) whole)));
+  named = both.named ∙ ((λ i. set_of (one.named i ++ two.named i)) ∙ (set_of-halves (terms_in terms left) (terms_in terms right) ∙ ap set_of
+      (sym (map-append (term_at terms) left right) ∙ ap (terms_in terms) whole)));
   fitting = both.fitting;
 }
 

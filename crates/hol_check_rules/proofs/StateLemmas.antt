@@ -90,14 +90,16 @@ module _ (earlier now : TermTable) (grown : IsGrown earlier now) where
   parts-grown (DeclaredConstant name ty) (first, second) = (longer-within earlier.names now.names name grown.names first, type-within earlier.types now.types ty grown.types second)
 
   entry-still : (entry : TheoryEntry) → HasEntryParts earlier entry → entry_in now entry ≡ entry_in earlier entry
-  entry-still (Definition name ty body) (first, second, third) = λ i. definition (name-grown earlier now name grown first i) (type-grown earlier.types now.types ty grown.types second i) (term-grown earlier now body grown third i)
+  entry-still (Definition name ty body) (first, second, third) = λ i. definition (name-grown earlier now name grown first i) (type-grown earlier.types now.types ty grown.types second i)
+      (term-grown earlier now body grown third i)
   entry-still (DeclaredType name) within = ap declaration_of_type (name-grown earlier now name grown within)
   entry-still (DeclaredConstant name ty) (first, second) = λ i. declaration_of_constant (name-grown earlier now name grown first i) (type-grown earlier.types now.types ty grown.types second i)
 
   pub theory-still : (entries : List TheoryEntry) → All (HasEntryParts earlier) entries → theory_in now entries ≡ theory_in earlier entries
   theory-still entries all = ap reverse (map-same (HasEntryParts earlier) (entry_in now) (entry_in earlier) entry-still entries all)
 
-  claim-still : (theorems : List Theorem) → All (IsFittingTheorem earlier.terms) theorems → (claim : ListedClaim) → IsClaim earlier theorems claim → claim_in now theorems claim ≡ claim_in earlier theorems claim
+  claim-still : (theorems : List Theorem) → All (IsFittingTheorem earlier.terms) theorems → (claim : ListedClaim) → IsClaim earlier theorems claim →
+      claim_in now theorems claim ≡ claim_in earlier theorems claim
   claim-still theorems all claim is = λ i. record {
     name = name-grown earlier now claim.name grown is.name i;
     sequent = slice_index_or (sequents-still theorems all i) claim.theorem no_sequent;
@@ -157,6 +159,7 @@ module _ (earlier now : TermTable) (grown : IsGrown earlier now) where
     terms = map image (named-still earlier now grown contents.terms.items is.terms i);
     theorems = sequents-still contents.theorems.items is.theorems i;
     theory = theory-still contents.entries.items is.entries i;
-    claims = map-same (IsClaim earlier contents.theorems.items) (claim_in now contents.theorems.items) (claim_in earlier contents.theorems.items) (claim-still contents.theorems.items is.theorems) contents.claims.items is.claims i;
+    claims = map-same (IsClaim earlier contents.theorems.items) (claim_in now contents.theorems.items) (claim_in earlier contents.theorems.items)
+        (claim-still contents.theorems.items is.theorems) contents.claims.items is.claims i;
     is_ended = contents.is_ended;
   }

@@ -1,5 +1,6 @@
 -- What a step answers, from what was made for it.
-use Rattle.std.proofs.Common.{◌≡◌, ℕ, ◌+◌, ◌<◌, List, [], ◌∷◌, ◌++◌, map, length, take, drop, get_or, Bool, true, false, not, ◌&&◌, ◌||◌, refl, sym, ◌∙◌, ap, subst, inl, inr, None, Some, Result, Ok, Err, if◌then◌else◌, arith}
+use Rattle.std.proofs.Common.{◌≡◌, ℕ, ◌+◌, ◌<◌, List, [], ◌∷◌, ◌++◌, map, length, take, drop, get_or, Bool, true, false, not, ◌&&◌, ◌||◌, refl, sym, ◌∙◌, ap, subst, inl, inr, None, Some, Result}
+use Rattle.std.proofs.Common.{Ok, Err, if◌then◌else◌, arith}
 use Rattle.std.proofs.lemmas.Option.{slice_get-get_or}
 use Rattle.std.specs.List.{All, list_all}
 use Rattle.std.proofs.lemmas.List.Elements.{All-head, All-tail, All-append, All-cons, All-get_or}
@@ -53,12 +54,14 @@ large_cause sequent past = ap (λ b. if not b then Some Large else None) past
 
 -- the hypotheses and the conclusion that were made are those of the step
 
-pub concluded : (earlier now : TermTable) (theorem : Theorem) (wanted : List Nameless) (formed : Nameless) → IsGrown earlier now → AreInOrder earlier.terms theorem.hypotheses.items wanted → IsFormed formed (Ok theorem.conclusion) now.terms
+pub concluded : (earlier now : TermTable) (theorem : Theorem) (wanted : List Nameless) (formed : Nameless) → IsGrown earlier now → AreInOrder earlier.terms theorem.hypotheses.items wanted →
+    IsFormed formed (Ok theorem.conclusion) now.terms
     → Takes (plain (supposing wanted formed)) (Ok (Ok theorem)) now.terms
 concluded earlier now theorem wanted formed grows order made =
     let still : terms_in now.terms theorem.hypotheses.items ≡ set_of wanted = terms-still earlier now grows theorem.hypotheses.items order.fitting ∙ order.named in
     let conclusion_is : term_at now.terms theorem.conclusion ≡ formed = term-there now.terms theorem.conclusion formed made.number in
-    let all : list_all nameless_within_limits (set_of wanted) ≡ true = subst (λ l. list_all nameless_within_limits l ≡ true) order.named (all-fit earlier.terms theorem.hypotheses.items order.fitting) in
+    let all : list_all nameless_within_limits (set_of wanted) ≡ true = subst (λ l. list_all nameless_within_limits l ≡ true) order.named
+    (all-fit earlier.terms theorem.hypotheses.items order.fitting) in
     record {
       taken = (
         no_cause (supposing wanted formed) (fits-conclusion (set_of wanted) formed all made.fits),
@@ -74,10 +77,12 @@ concluded earlier now theorem wanted formed grows order made =
 
 -- conditions that hold
 
-pub ruled-taken : (fault : Bool) (sequent : Sequent) (result : Result (Result Theorem Cause) Fault) (terms : List Nameless) → fault ≡ false → Takes (plain sequent) result terms → Takes (ruled fault sequent) result terms
+pub ruled-taken : (fault : Bool) (sequent : Sequent) (result : Result (Result Theorem Cause) Fault) (terms : List Nameless) → fault ≡ false → Takes (plain sequent) result terms →
+    Takes (ruled fault sequent) result terms
 ruled-taken fault sequent result terms passes takes = subst (λ b. Takes (ruled b sequent) result terms) (sym passes) takes
 
-pub typed-taken : (unfit fault : Bool) (sequent : Sequent) (result : Result (Result Theorem Cause) Fault) (terms : List Nameless) → unfit ≡ false → fault ≡ false → Takes (plain sequent) result terms → Takes (typed unfit fault sequent) result terms
+pub typed-taken : (unfit fault : Bool) (sequent : Sequent) (result : Result (Result Theorem Cause) Fault) (terms : List Nameless) → unfit ≡ false → fault ≡ false →
+    Takes (plain sequent) result terms → Takes (typed unfit fault sequent) result terms
 typed-taken unfit fault sequent result terms fit passes takes = subst (λ b. Takes (typed b fault sequent) result terms) (sym fit) (ruled-taken fault sequent result terms passes takes)
 
 pub not-both : (p q : Bool) → p ≡ true → q ≡ true → not (p && q) ≡ false
@@ -150,7 +155,8 @@ changed-refused f t0 t1 list index first all within past =
     ap (λ l. map f (terms_in t0.terms l)) (sym (take-append-drop index list) ∙ ap (λ l. take index list ++ l) (drop-here list index x within refl))
     ∙ (ap (map f) (map-append (term_at t0.terms) (take index list) (x ∷ drop (index + 1) list))
     ∙ map-append f (terms_in t0.terms (take index list)) (term_at t0.terms x ∷ terms_in t0.terms (drop (index + 1) list))) in
-    ap (list_all nameless_within_limits) parts ∙ some-past (map f (terms_in t0.terms (take index list))) (map f (terms_in t0.terms (drop (index + 1) list))) (f (term_at t0.terms x)) (ap (λ u. nameless_within_limits (f u)) (sym same) ∙ past)
+    ap (list_all nameless_within_limits) parts ∙ some-past (map f (terms_in t0.terms (take index list))) (map f (terms_in t0.terms (drop (index + 1) list))) (f (term_at t0.terms x))
+    (ap (λ u. nameless_within_limits (f u)) (sym same) ∙ past)
 
 -- hypotheses that pass a limit make the sequent pass it
 
@@ -174,7 +180,8 @@ past-with_term (x ∷ xs) new = go (nameless_cmp new x) refl (past-with_term xs 
     twice false false r is = refl
 
     go : (order : Ordering) → nameless_cmp new x ≡ order → (nameless_within_limits new && list_all nameless_within_limits xs) ≡ list_all nameless_within_limits (with_term xs new)
-        → (nameless_within_limits new && (nameless_within_limits x && list_all nameless_within_limits xs)) ≡ list_all nameless_within_limits (by_order order (new ∷ x ∷ xs) (x ∷ xs) (x ∷ with_term xs new))
+        → (nameless_within_limits new && (nameless_within_limits x && list_all nameless_within_limits xs)) ≡ list_all nameless_within_limits
+        (by_order order (new ∷ x ∷ xs) (x ∷ xs) (x ∷ with_term xs new))
     go Less is deeper = refl
     go Equal is deeper = twice (nameless_within_limits new) (nameless_within_limits x) (list_all nameless_within_limits xs) (ap nameless_within_limits (same_from_nameless_cmp new x is))
     go Greater is deeper = exchanged (nameless_within_limits new) (nameless_within_limits x) (list_all nameless_within_limits xs) (list_all nameless_within_limits (with_term xs new)) deeper
@@ -187,7 +194,8 @@ past-with_terms xs [] past = drop-true (list_all nameless_within_limits xs) past
     drop-true false is = refl
 past-with_terms xs (y ∷ ys) past =
     past-with_terms (with_term xs y) ys
-    (ap (λ b. b && list_all nameless_within_limits ys) (sym (past-with_term xs y)) ∙ (moved (list_all nameless_within_limits xs) (nameless_within_limits y) (list_all nameless_within_limits ys) ∙ past))
+    (ap (λ b. b && list_all nameless_within_limits ys) (sym (past-with_term xs y)) ∙
+    (moved (list_all nameless_within_limits xs) (nameless_within_limits y) (list_all nameless_within_limits ys) ∙ past))
   where
     moved : (p q r : Bool) → ((q && p) && r) ≡ (p && (q && r))
     moved true true r = refl
@@ -195,7 +203,8 @@ past-with_terms xs (y ∷ ys) past =
     moved false true r = refl
     moved false false r = refl
 
-pub hypotheses-large : (now : List Nameless) (wanted : List Nameless) (formed : Nameless) → list_all nameless_within_limits wanted ≡ false → Takes (plain (supposing wanted formed)) (Ok (Err Large)) now
+pub hypotheses-large : (now : List Nameless) (wanted : List Nameless) (formed : Nameless) → list_all nameless_within_limits wanted ≡ false →
+    Takes (plain (supposing wanted formed)) (Ok (Err Large)) now
 hypotheses-large now wanted formed past = record {
   taken = large_cause (supposing wanted formed) (second-fails (nameless_within_limits formed) (list_all nameless_within_limits (set_of wanted)) (past-with_terms [] wanted past));
   refused = tt;

@@ -14,7 +14,8 @@ use Rattle.hol_model.specs.Logs.LogLine.{LogLine}
 use Rattle.hol_model.specs.Logs.LogState as given
 use Rattle.hol_model.specs.Logs.LogState.{LogState, LogClaim}
 use Rattle.hol_model.specs.Logs.LogSequents.{new_types, new_terms, new_theorems, new_entries, new_claims, ends}
-use Rattle.hol_model.specs.Logs.LogFaults.{is_no_type, is_no_term, is_no_theorem, has_shape_fault, has_number_fault, has_name_fault, has_type_fault, has_constant_fault, has_rule_fault, has_claim_fault, has_size_fault, first_applying}
+use Rattle.hol_model.specs.Logs.LogFaults.{is_no_type, is_no_term, is_no_theorem, has_shape_fault, has_number_fault, has_name_fault, has_type_fault, has_constant_fault, has_rule_fault}
+use Rattle.hol_model.specs.Logs.LogFaults.{has_claim_fault, has_size_fault, first_applying}
 use Rattle.hol_check_terms.specs.Terms.{TermTable, name_at, type_at, term_at, IsGrown}
 use Rattle.hol_check_rules.specs.State.{sequent_in, theory_in, claim_in, state_of, IsFittingTheorem, IsClaim}
 use Rattle.hol_check_rules.specs.declared.state.Theorem.{Theorem}

@@ -15,8 +15,10 @@ use Rattle.hol_model.specs.Logic.Checks.{has_no_free, reflects_nameless}
 use Rattle.hol_model.specs.Goals.Goals.{Sequent}
 use Rattle.hol_model.specs.Logs.LogLine.{LogRule}
 use Rattle.hol_model.specs.Logs.LogState.{LogState, set_of, term_type}
-use Rattle.hol_model.specs.Logs.LogSequents.{is_free_variable, is_equation, left_side, right_side, side_type, redex_body, equation_of, abstraction_over, term_instance_of, supposing, sequent_of, rule_entries}
-use Rattle.hol_model.specs.Logs.LogFaults.{takes, is_replacement, is_free_in_any, is_trivial_redex, sequent_fits, first_applying, rule_has_number_fault, rule_has_name_fault, rule_has_type_fault, rule_has_rule_fault}
+use Rattle.hol_model.specs.Logs.LogSequents.{is_free_variable, is_equation, left_side, right_side, side_type, redex_body, equation_of, abstraction_over, term_instance_of, supposing, sequent_of}
+use Rattle.hol_model.specs.Logs.LogSequents.{rule_entries}
+use Rattle.hol_model.specs.Logs.LogFaults.{takes, is_replacement, is_free_in_any, is_trivial_redex, sequent_fits, first_applying, rule_has_number_fault, rule_has_name_fault, rule_has_type_fault}
+use Rattle.hol_model.specs.Logs.LogFaults.{rule_has_rule_fault}
 use Rattle.hol_check_rules.specs.Hypotheses.{terms_in}
 use Rattle.hol_check_rules.specs.State.{sequent_in, IsFittingTheorem}
 use Rattle.hol_check_rules.specs.declared.state.Theorem.{Theorem}

@@ -22,7 +22,8 @@ known-here earlier now binders number ty grown are within typed = record {
   typed = rw (binders-grown earlier.types now.types grown.types binders are, term-grown earlier now number grown within) typed;
 }
 
-pub known-grown : (earlier now : TermTable) (binders : Binders) (entries : List (ℕ × ℕ)) → IsGrown earlier now → AreTypes earlier.types binders → AreKnown earlier binders entries → AreKnown now binders entries
+pub known-grown : (earlier now : TermTable) (binders : Binders) (entries : List (ℕ × ℕ)) → IsGrown earlier now → AreTypes earlier.types binders → AreKnown earlier binders entries →
+    AreKnown now binders entries
 known-grown earlier now binders entries grown are known = record {
   known = λ number ty there.
       let part = known.known number ty there in
@@ -31,7 +32,8 @@ known-grown earlier now binders entries grown are known = record {
 
 -- one more
 
-known-added : (table : TermTable) (binders : Binders) (entries now : List (ℕ × ℕ)) (number ty : ℕ) → HasOnlyAdded entries now number ty → IsKnownTerm table binders number ty → AreKnown table binders entries → AreKnown table binders now
+known-added : (table : TermTable) (binders : Binders) (entries now : List (ℕ × ℕ)) (number ty : ℕ) → HasOnlyAdded entries now number ty → IsKnownTerm table binders number ty →
+    AreKnown table binders entries → AreKnown table binders now
 known-added table binders entries now number ty added is are = record {
   known = λ other one there.
       elim (added other one there) [
@@ -40,7 +42,8 @@ known-added table binders entries now number ty added is are = record {
       ];
 }
 
-pub known-kept : (t0 t1 t2 : TermTable) (binders : Binders) (entries now : List (ℕ × ℕ)) (number ty : ℕ) → IsGrown t0 t1 → IsGrown t1 t2 → IsGrown t0 t2 → AreTypes t0.types binders → AreTypes t1.types binders → number < length t0.terms
+pub known-kept : (t0 t1 t2 : TermTable) (binders : Binders) (entries now : List (ℕ × ℕ)) (number ty : ℕ) → IsGrown t0 t1 → IsGrown t1 t2 → IsGrown t0 t2 → AreTypes t0.types binders →
+    AreTypes t1.types binders → number < length t0.terms
     → AnswersTyping (binder_types t0.types binders) (term_at t0.terms number) (Ok ty) t1.types → HasOnlyAdded entries now number ty → AreKnown t1 binders entries → AreKnown t2 binders now
 known-kept t0 t1 t2 binders entries now number ty first second both are still within answers added known =
     known-added t2 binders entries now number ty added
@@ -63,15 +66,22 @@ application-later : (t0 t1 : TermTable) (t : Nameless) (number function argument
     → t ≡ app (term_at t0.terms function) (term_at t0.terms argument) → t ≡ app (term_at t0.terms function) (term_at t1.terms argument)
 application-later t0 t1 t number function argument grown before within is = is ∙ ap (app (term_at t0.terms function)) (sym (term-grown t0 t1 argument grown (omega (arith, before, within))))
 
-pub argument-refused : (t0 t1 : TermTable) (types : List HolType) (binders : Binders) (t : Nameless) (number function argument : ℕ) (fault : Fault) → IsGrown t0 t1 → AreTypes t0.types binders → argument < number → number < length t0.terms
-    → t ≡ app (term_at t0.terms function) (term_at t0.terms argument) → AnswersTyping (binder_types t1.types binders) (term_at t1.terms argument) (Err fault) types → AnswersTyping (binder_types t0.types binders) t (Err fault) types
+pub argument-refused : (t0 t1 : TermTable) (types : List HolType) (binders : Binders) (t : Nameless) (number function argument : ℕ) (fault : Fault) → IsGrown t0 t1 →
+    AreTypes t0.types binders → argument < number → number < length t0.terms
+    → t ≡ app (term_at t0.terms function) (term_at t0.terms argument) → AnswersTyping (binder_types t1.types binders) (term_at t1.terms argument) (Err fault) types →
+    AnswersTyping (binder_types t0.types binders) t (Err fault) types
 argument-refused t0 t1 types binders t number function argument fault grown are before within is answers =
-    typed-argument-refused types (binder_types t0.types binders) t (term_at t0.terms function) (term_at t1.terms argument) fault (application-later t0 t1 t number function argument grown before within is) (typed-later t0 t1 types binders (Err fault) argument grown are answers)
+    typed-argument-refused types (binder_types t0.types binders) t (term_at t0.terms function) (term_at t1.terms argument) fault
+    (application-later t0 t1 t number function argument grown before within is) (typed-later t0 t1 types binders (Err fault) argument grown are answers)
 
-pub application-typed : (t0 t1 t2 : TermTable) (types : List HolType) (binders : Binders) (t : Nameless) (number function argument function_ty argument_ty : ℕ) (result : Result ℕ Fault) → IsGrown t0 t1 → IsGrown t1 t2 → AreTypes t0.types binders
+pub application-typed : (t0 t1 t2 : TermTable) (types : List HolType) (binders : Binders) (t : Nameless) (number function argument function_ty argument_ty : ℕ) (result : Result ℕ Fault) →
+    IsGrown t0 t1 → IsGrown t1 t2 → AreTypes t0.types binders
     → argument < number → number < length t0.terms → t ≡ app (term_at t0.terms function) (term_at t0.terms argument)
-    → AnswersTyping (binder_types t0.types binders) (term_at t0.terms function) (Ok function_ty) t1.types → AnswersTyping (binder_types t1.types binders) (term_at t1.terms argument) (Ok argument_ty) t2.types
-    → IfOk result (λ answer. slice_get types answer ≡ Some (codomain_of (type_at t2.types function_ty))) → IfErr result (λ fault. fault ≡ Memory) → AnswersTyping (binder_types t0.types binders) t result types
+    → AnswersTyping (binder_types t0.types binders) (term_at t0.terms function) (Ok function_ty) t1.types →
+    AnswersTyping (binder_types t1.types binders) (term_at t1.terms argument) (Ok argument_ty) t2.types
+    → IfOk result (λ answer. slice_get types answer ≡ Some (codomain_of (type_at t2.types function_ty))) → IfErr result (λ fault. fault ≡ Memory) →
+    AnswersTyping (binder_types t0.types binders) t result types
 application-typed t0 t1 t2 types binders t number function argument function_ty argument_ty result first second are before within is function_is argument_is =
-    typed-application t1.types t2.types types (binder_types t0.types binders) t (term_at t0.terms function) (term_at t1.terms argument) function_ty argument_ty result second.types (application-later t0 t1 t number function argument first before within is) function_is
+    typed-application t1.types t2.types types (binder_types t0.types binders) t (term_at t0.terms function) (term_at t1.terms argument) function_ty argument_ty result second.types
+    (application-later t0 t1 t number function argument first before within is) function_is
     (typed-later t0 t1 t2.types binders (Ok argument_ty) argument first are argument_is)

@@ -4,7 +4,8 @@ use Rattle.std.specs.Prelude.{slice_get}
 use Rattle.indexmap.specs.IndexMap.{insert_entry}
 use Rattle.hol_check_terms.specs.Entries.{IsEntry, HasOnlyAdded}
 
-pub insert-added : {K V : Type 0} (e : K → K → Bool) → ((a b : K) → e a b ≡ true → a ≡ b) → (entries : List (K × V)) (key : K) (value : V) → HasOnlyAdded entries (insert_entry e entries key value) key value
+pub insert-added : {K V : Type 0} (e : K → K → Bool) → ((a b : K) → e a b ≡ true → a ≡ b) → (entries : List (K × V)) (key : K) (value : V) →
+    HasOnlyAdded entries (insert_entry e entries key value) key value
 insert-added {K} {V} e same [] key value other one (zero, there) = let pair : (key, value) ≡ (other, one) = cc in inr (sym (ap (λ (p : K × V). p.0) pair), sym (ap (λ (p : K × V). p.1) pair))
 insert-added e same [] key value other one (suc i, there) = cc
 insert-added {K} {V} e same (first ∷ rest) key value other one (i, there) = go (e key first.0) refl i there (insert-added e same rest key value other one)

@@ -35,10 +35,12 @@ module _ {Key : Type 0} (name_of : Key → List ℕ) where
       rw (here, there)
       (same_answer (nat_eq i j) (bytes_eq (name_of (get_or all i key)) (name_of (get_or all j key)))
       (λ same. (bytes_eq-Decides _ _).1 (ap (λ n. name_of (get_or all n key)) (eqb-true i j same)))
-      (λ same. eq-eqb i j (one_place (λ a b. bytes_eq (name_of a) (name_of b)) (λ a b. bytes_eq-flips (name_of a) (name_of b)) all i j _ _ distinct (slice_get-get_or all i key i_within) (slice_get-get_or all j key j_within) same)))
+      (λ same. eq-eqb i j (one_place (λ a b. bytes_eq (name_of a) (name_of b)) (λ a b. bytes_eq-flips (name_of a) (name_of b)) all i j _ _ distinct (slice_get-get_or all i key i_within)
+      (slice_get-get_or all j key j_within) same)))
 
   -- the place of a name that was put in
-  pub stored_name : (keys : List Key) (n : ℕ) (key stored : Key) (name : List ℕ) → slice_get keys n ≡ Some stored → bytes_eq (name_of key) (name_of stored) ≡ true → name_of key ≡ name → slice_get (map name_of keys) n ≡ Some name
+  pub stored_name : (keys : List Key) (n : ℕ) (key stored : Key) (name : List ℕ) → slice_get keys n ≡ Some stored → bytes_eq (name_of key) (name_of stored) ≡ true → name_of key ≡ name →
+      slice_get (map name_of keys) n ≡ Some name
   stored_name keys n key stored name there same is = slice_get-map name_of keys n ∙ (ap (option_map name_of) there ∙ ap Some (sym ((bytes_eq-Decides (name_of key) (name_of stored)).0 same) ∙ is))
 
   -- no name stands at two places

@@ -6,7 +6,8 @@ use Rattle.hol_check_terms.specs.Table.{IsPut}
 use Rattle.hol_check_terms.specs.Numbers.{IsNoted, IsNotedWhere}
 use Rattle.hol_check_terms.proofs.TableLemmas.{slice_get_cases}
 
-pub noted-all : (P : ℕ → Type 0) (answer wanted : Bool) (number : ℕ) (numbers now : List ℕ) → ((other : ℕ) → IsNoted numbers other → P other) → (answer ≡ wanted → P number) → IsNotedWhere answer wanted number numbers now
+pub noted-all : (P : ℕ → Type 0) (answer wanted : Bool) (number : ℕ) (numbers now : List ℕ) → ((other : ℕ) → IsNoted numbers other → P other) → (answer ≡ wanted → P number) →
+    IsNotedWhere answer wanted number numbers now
     → (other : ℕ) → IsNoted now other → P other
 noted-all P answer wanted number numbers now all this noted other there =
     elim noted.noted [

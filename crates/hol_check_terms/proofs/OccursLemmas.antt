@@ -25,7 +25,8 @@ none_free name ty (bound index) none = refl
 none_free name ty (app f a) none = cc (none_free name ty f (first_of_both (has_no_free f) (has_no_free a) none), none_free name ty a (second_of_both (has_no_free f) (has_no_free a) none))
 none_free name ty (lam s body) none = none_free name ty body none
 
-pub searched-variable : (name : List ℕ) (ty : HolType) (terms : List Nameless) (numbers : List ℕ) (number variable : ℕ) → slice_get terms variable ≡ Some (free name ty) → number ≡ variable → AreAbsent terms name ty numbers
+pub searched-variable : (name : List ℕ) (ty : HolType) (terms : List Nameless) (numbers : List ℕ) (number variable : ℕ) → slice_get terms variable ≡ Some (free name ty) → number ≡ variable →
+    AreAbsent terms name ty numbers
     → IsSearched name ty (term_at terms number) (Ok true) terms numbers
 searched-variable name ty terms numbers number variable there same absent =
     let term : term_at terms number ≡ free name ty = ap (term_at terms) same ∙ term-there terms variable _ there in
@@ -35,7 +36,8 @@ pub searched-none_free : (name : List ℕ) (ty : HolType) (terms : List Nameless
     → IsSearched name ty (term_at terms number) (Ok false) terms numbers
 searched-none_free name ty terms numbers number none absent = record { found = sym (none_free name ty (term_at terms number) none); absent = absent }
 
-pub searched-free : (name : List ℕ) (ty : HolType) (terms : List Nameless) → HaveOneNumber terms → (numbers : List ℕ) (number variable : ℕ) (other : List ℕ) (s : HolType) → number < length terms → slice_get terms variable ≡ Some (free name ty) → ¬ (number ≡ variable)
+pub searched-free : (name : List ℕ) (ty : HolType) (terms : List Nameless) → HaveOneNumber terms → (numbers : List ℕ) (number variable : ℕ) (other : List ℕ) (s : HolType) →
+    number < length terms → slice_get terms variable ≡ Some (free name ty) → ¬ (number ≡ variable)
     → term_at terms number ≡ free other s → AreAbsent terms name ty numbers → IsSearched name ty (term_at terms number) (Ok false) terms numbers
 searched-free name ty terms one numbers number variable other s within there differ is absent =
     record { found = sym (ap (occurs_free name ty) is ∙ go (same_variable name ty other s) refl); absent = absent }
@@ -49,13 +51,15 @@ searched-free name ty terms one numbers number variable other s within there dif
     go false passed = refl
 
 -- neither part of a combination has the variable, or the argument has it
-pub searched-argument : (name : List ℕ) (ty : HolType) (t f a : Nameless) (first found : Bool) → t ≡ app f a → first ≡ false → first ≡ occurs_free name ty f → found ≡ occurs_free name ty a → found ≡ occurs_free name ty t
+pub searched-argument : (name : List ℕ) (ty : HolType) (t f a : Nameless) (first found : Bool) → t ≡ app f a → first ≡ false → first ≡ occurs_free name ty f → found ≡ occurs_free name ty a →
+    found ≡ occurs_free name ty t
 searched-argument name ty t f a first found is failed left right =
     let none : occurs_free name ty f ≡ false = sym left ∙ failed in
     right ∙ sym (ap (occurs_free name ty) is ∙ ap (λ test. test || occurs_free name ty a) none)
 
 -- the search of a whole, after its parts
-pub searched-whole : (name : List ℕ) (ty : HolType) (terms : List Nameless) (numbers now : List ℕ) (number : ℕ) (found : Bool) (result : Result Bool Fault) → found ≡ occurs_free name ty (term_at terms number) → IfOk result (λ same. same ≡ found)
+pub searched-whole : (name : List ℕ) (ty : HolType) (terms : List Nameless) (numbers now : List ℕ) (number : ℕ) (found : Bool) (result : Result Bool Fault) →
+    found ≡ occurs_free name ty (term_at terms number) → IfOk result (λ same. same ≡ found)
     → IsNotedWhere found false number numbers now → AreAbsent terms name ty numbers → IsSearched name ty (term_at terms number) result terms now
 searched-whole name ty terms numbers now number found result is same noted absent = record { found = handed result same; absent = after }
   where

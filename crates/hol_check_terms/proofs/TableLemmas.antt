@@ -1,5 +1,6 @@
 -- Tables of values with one number each, and how they grow.
-use Rattle.std.proofs.Common.{◌≡◌, ◌⊎◌, ℕ, zero, suc, ◌+◌, ◌<◌, List, [], ◌∷◌, ◌++◌, length, get_or, Bool, true, false, refl, sym, ◌∙◌, ap, subst, inl, inr, Some, if◌then◌else◌, arith, length-append, append_assoc, append-nil}
+use Rattle.std.proofs.Common.{◌≡◌, ◌⊎◌, ℕ, zero, suc, ◌+◌, ◌<◌, List, [], ◌∷◌, ◌++◌, length, get_or, Bool, true, false, refl, sym, ◌∙◌, ap, subst, inl, inr, Some, if◌then◌else◌, arith}
+use Rattle.std.proofs.Common.{length-append, append_assoc, append-nil}
 use Rattle.std.specs.Prelude.{slice_get}
 use Rattle.std.specs.List.{IsDistinct, AllByRecursion}
 use Rattle.std.proofs.lemmas.Map.Keys.{IsDistinct-head, IsDistinct-tail}
@@ -85,7 +86,8 @@ module _ {Node Value : Type 0} (denote : List Value → Node → Value) where
       omega arith
 
   -- one more node denotes one more value
-  pub values_after-push : (earlier : List Value) (nodes : List Node) (node : Node) → values_after denote earlier (nodes ++ node ∷ []) ≡ values_after denote earlier nodes ++ denote (values_after denote earlier nodes) node ∷ []
+  pub values_after-push : (earlier : List Value) (nodes : List Node) (node : Node) →
+      values_after denote earlier (nodes ++ node ∷ []) ≡ values_after denote earlier nodes ++ denote (values_after denote earlier nodes) node ∷ []
   values_after-push earlier [] node = refl
   values_after-push earlier (first ∷ rest) node = values_after-push (earlier ++ denote earlier first ∷ []) rest node
 
@@ -102,7 +104,8 @@ module _ {Node Value : Type 0} (denote : List Value → Node → Value) where
     values_after-at earlier (first ∷ rest) placed zero node there =
         let same : first ≡ node = cc in
         let longer = values_after-longer (earlier ++ denote earlier first ∷ []) rest in
-        let all : values_after denote (earlier ++ denote earlier first ∷ []) rest ≡ earlier ++ (denote earlier first ∷ longer.added) = longer.is_added ∙ append_assoc earlier (denote earlier first ∷ []) longer.added in
+        let all : values_after denote (earlier ++ denote earlier first ∷ []) rest ≡ earlier ++ (denote earlier first ∷ longer.added) =
+        longer.is_added ∙ append_assoc earlier (denote earlier first ∷ []) longer.added in
         let zero_more : length earlier + 0 ≡ length earlier = omega arith in
         let here : IsPlaced (length earlier) first = subst (λ n. IsPlaced n first) zero_more (placed 0 first refl) in
         let denoted = stable earlier (denote earlier first ∷ longer.added) first here in
@@ -116,17 +119,20 @@ module _ {Node Value : Type 0} (denote : List Value → Node → Value) where
     -- the same for a whole table
     pub value_at : (nodes : List Node) → HoldsOfEach IsPlaced nodes → (i : ℕ) (node : Node) → slice_get nodes i ≡ Some node
         → slice_get (values_after denote [] nodes) i ≡ Some (denote (values_after denote [] nodes) node)
-    value_at nodes placed i node there = subst (λ n. slice_get (values_after denote [] nodes) n ≡ Some (denote (values_after denote [] nodes) node)) (sym (zero_add i)) (values_after-at [] nodes (λ k other at. subst (λ n. IsPlaced n other) (zero_add k) (placed k other at)) i node there)
+    value_at nodes placed i node there = subst (λ n. slice_get (values_after denote [] nodes) n ≡ Some (denote (values_after denote [] nodes) node)) (sym (zero_add i))
+        (values_after-at [] nodes (λ k other at. subst (λ n. IsPlaced n other) (zero_add k) (placed k other at)) i node there)
       where
         zero_add : (k : ℕ) → k ≡ length {A = Value} [] + k
         zero_add k = omega arith
 
 -- two ways to denote that agree on the nodes
 pub values_after-same : {Node Value : Type 0} (first second : List Value → Node → Value) (earlier : List Value) (nodes : List Node)
-    → ((place : ℕ) (node : Node) → slice_get nodes place ≡ Some node → (values : List Value) → first values node ≡ second values node) → values_after first earlier nodes ≡ values_after second earlier nodes
+    → ((place : ℕ) (node : Node) → slice_get nodes place ≡ Some node → (values : List Value) → first values node ≡ second values node) →
+    values_after first earlier nodes ≡ values_after second earlier nodes
 values_after-same first second earlier [] agree = refl
 values_after-same first second earlier (node ∷ rest) agree =
-    ap (λ v. values_after first (earlier ++ v ∷ []) rest) (agree 0 node refl earlier) ∙ values_after-same first second (earlier ++ second earlier node ∷ []) rest (λ place other there. agree (suc place) other there)
+    ap (λ v. values_after first (earlier ++ v ∷ []) rest) (agree 0 node refl earlier) ∙ values_after-same first second (earlier ++ second earlier node ∷ []) rest
+    (λ place other there. agree (suc place) other there)
 
 -- what a set puts in
 
@@ -142,7 +148,8 @@ not_there e node (first ∷ rest) itself none (suc place) there = not_there e no
 pub put_by_insert : {Node : Type 0} (e : Node → Node → Bool) (node : Node) (earlier now : List Node) → now ≡ insert_key e earlier node → e node node ≡ true → IsPut node earlier now
 put_by_insert {Node} e node earlier now is itself = record { put = go (list_any (e node) earlier) refl is }
   where
-    go : (test : Bool) → list_any (e node) earlier ≡ test → now ≡ (if test then earlier else earlier ++ node ∷ []) → (now ≡ earlier) ⊎ ((now ≡ earlier ++ node ∷ []) × ((place : ℕ) → ¬ (slice_get earlier place ≡ Some node)))
+    go : (test : Bool) → list_any (e node) earlier ≡ test → now ≡ (if test then earlier else earlier ++ node ∷ []) →
+        (now ≡ earlier) ⊎ ((now ≡ earlier ++ node ∷ []) × ((place : ℕ) → ¬ (slice_get earlier place ≡ Some node)))
     go true any is = inl is
     go false any is = inr (is, not_there e node earlier itself any)
 

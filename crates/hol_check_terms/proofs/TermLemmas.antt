@@ -17,11 +17,13 @@ use Rattle.hol_check_terms.specs.TermTable.{terms_of, Measures, AreTermNodes, Ar
 use Rattle.hol_check_terms.specs.declared.terms.TermShape.{TermShape}
 use Rattle.hol_check_terms.specs.declared.terms.TermShape.TheVariants.{Free, Constant, Bound, Application, Abstraction}
 use Rattle.hol_check_terms.specs.declared.terms.TermNode.{TermNode}
-use Rattle.hol_check_terms.proofs.TableLemmas.{is_within, slice_get-end, slice_get_cases, get_or-longer, IsLonger-same, within-later, length-values_after, values_after-push, values_after-same, value_at, distinct-push}
+use Rattle.hol_check_terms.proofs.TableLemmas.{is_within, slice_get-end, slice_get_cases, get_or-longer, IsLonger-same, within-later, length-values_after, values_after-push, values_after-same}
+use Rattle.hol_check_terms.proofs.TableLemmas.{value_at, distinct-push}
 use Rattle.hol_check_terms.proofs.TypeLemmas.{same_number}
 use Rattle.hol_check_terms.proofs.TypedLemmas.{AreTyped-later}
 
-pub term-stable : (table : TypeTable) (terms more : List Nameless) (shape : TermShape) → TermPartsStandBefore table (length terms) shape → term_of_shape table (terms ++ more) shape ≡ term_of_shape table terms shape
+pub term-stable : (table : TypeTable) (terms more : List Nameless) (shape : TermShape) → TermPartsStandBefore table (length terms) shape →
+    term_of_shape table (terms ++ more) shape ≡ term_of_shape table terms shape
 term-stable table terms more (Free name ty) placed = refl
 term-stable table terms more (Constant name ty) placed = refl
 term-stable table terms more (Bound index) placed = refl
@@ -115,7 +117,8 @@ new-term table nodes each are node is absent place at =
 early_within : (table : TypeTable) (nodes : List TermNode) (place : ℕ) (other : TermNode) → slice_get nodes place ≡ Some other → place < length (terms_of table nodes)
 early_within table nodes place other early = let less = is_within nodes place other early in let count = terms_of-length table nodes in omega arith
 
-last_value : (table : TypeTable) (nodes : List TermNode) (node : TermNode) (place : ℕ) → place ≡ length nodes → term_at (terms_of table nodes ++ term_of_node table (terms_of table nodes) node ∷ []) place ≡ term_of_node table (terms_of table nodes) node
+last_value : (table : TypeTable) (nodes : List TermNode) (node : TermNode) (place : ℕ) → place ≡ length nodes →
+    term_at (terms_of table nodes ++ term_of_node table (terms_of table nodes) node ∷ []) place ≡ term_of_node table (terms_of table nodes) node
 last_value table nodes node place last =
     let at_end : place ≡ length (terms_of table nodes) = last ∙ sym (terms_of-length table nodes) in
     get_or_from_slice_get _ place _ (bound 0) (rw at_end (slice_get-end (terms_of table nodes) [] (term_of_node table (terms_of table nodes) node)))
@@ -132,12 +135,14 @@ pushed table nodes node each are is absent = record {
       rw (terms_of-push table nodes node)
       (elim (slice_get_cases nodes node place other there) [
         | inl early ↦ subst (Measures other) (sym (get_or-longer (terms_of table nodes) _ place (bound 0) (early_within table nodes place other early))) (are.measured place other early)
-        | inr late ↦ subst (Measures other) (sym (last_value table nodes node place late.0)) (subst (λ (n : TermNode). Measures n (term_of_node table (terms_of table nodes) node)) (sym late.1) is.measured)
+        | inr late ↦ subst (Measures other) (sym (last_value table nodes node place late.0))
+            (subst (λ (n : TermNode). Measures n (term_of_node table (terms_of table nodes) node)) (sym late.1) is.measured)
       ]);
   distinct = rw (terms_of-push table nodes node) (distinct-push (terms_of table nodes) (term_of_node table (terms_of table nodes) node) are.distinct (new-term table nodes each are node is absent));
 }
 
-pub put-AreTermNodes : (table : TypeTable) (nodes now : List TermNode) (node : TermNode) → HaveOneNumberEach table → AreTermNodes table nodes → IsTermNode table (terms_of table nodes) node → IsPut node nodes now → AreTermNodes table now
+pub put-AreTermNodes : (table : TypeTable) (nodes now : List TermNode) (node : TermNode) → HaveOneNumberEach table → AreTermNodes table nodes → IsTermNode table (terms_of table nodes) node →
+    IsPut node nodes now → AreTermNodes table now
 put-AreTermNodes table nodes now node each are is put =
     elim put.put [ inl same ↦ subst (AreTermNodes table) (sym same) are | inr added ↦ subst (AreTermNodes table) (sym added.0) (pushed table nodes node each are is added.1) ]
 
@@ -145,7 +150,8 @@ pub put-longer : (table : TypeTable) (nodes now : List TermNode) (node : TermNod
 put-longer table nodes now node put =
     elim put.put [
       | inl same ↦ subst (λ l. IsLonger (terms_of table nodes) (terms_of table l)) (sym same) (IsLonger-same (terms_of table nodes))
-      | inr added ↦ subst (λ l. IsLonger (terms_of table nodes) (terms_of table l)) (sym added.0) (record { added = term_of_node table (terms_of table nodes) node ∷ []; is_added = terms_of-push table nodes node })
+      | inr added ↦ subst (λ l. IsLonger (terms_of table nodes) (terms_of table l)) (sym added.0)
+          (record { added = term_of_node table (terms_of table nodes) node ∷ []; is_added = terms_of-push table nodes node })
     ]
 
 put-number : (table : TypeTable) (nodes now : List TermNode) (node : TermNode) → AreTermNodes table now → TermStandsAfterParts table (length (terms_of table nodes)) node → IsPut node nodes now
@@ -154,8 +160,10 @@ put-number table nodes now node are placed put number there =
     let longer = put-longer table nodes now node put in
     terms_of-at table now are number node there ∙ ap Some (rw longer.is_added (term-stable table (terms_of table nodes) longer.added node.shape placed))
 
-pub put-result : {E : Type 0} (table : TypeTable) (nodes now : List TermNode) (node : TermNode) → AreTermNodes table now → TermStandsAfterParts table (length (terms_of table nodes)) node → IsPut node nodes now
-    → (result : Result ℕ E) → IfOk result (λ number. slice_get now number ≡ Some node) → IfOk result (λ number. slice_get (terms_of table now) number ≡ Some (term_of_node table (terms_of table nodes) node))
+pub put-result : {E : Type 0} (table : TypeTable) (nodes now : List TermNode) (node : TermNode) → AreTermNodes table now → TermStandsAfterParts table (length (terms_of table nodes)) node →
+    IsPut node nodes now
+    → (result : Result ℕ E) → IfOk result (λ number. slice_get now number ≡ Some node) →
+    IfOk result (λ number. slice_get (terms_of table now) number ≡ Some (term_of_node table (terms_of table nodes) node))
 put-result table nodes now node are placed put (Ok number) there = put-number table nodes now node are placed put number there
 put-result table nodes now node are placed put (Err fault) there = tt
 
@@ -181,7 +189,8 @@ pub record AreLaterAtoms (table now : TypeTable) : Type 0 where
   pub names : IsLonger table.names now.names
   pub types : IsLonger table.types now.types
 
-shape-later : (table now : TypeTable) → AreLaterAtoms table now → (terms : List Nameless) (place : ℕ) (shape : TermShape) → TermPartsStandBefore table place shape → term_of_shape table terms shape ≡ term_of_shape now terms shape
+shape-later : (table now : TypeTable) → AreLaterAtoms table now → (terms : List Nameless) (place : ℕ) (shape : TermShape) → TermPartsStandBefore table place shape →
+    term_of_shape table terms shape ≡ term_of_shape now terms shape
 shape-later table now later terms place (Free name ty) placed = cc (at-later table.names now.names [] name later.names placed.0, at-later table.types now.types bool_type ty later.types placed.1)
 shape-later table now later terms place (Constant name ty) placed = cc (at-later table.names now.names [] name later.names placed.0, at-later table.types now.types bool_type ty later.types placed.1)
 shape-later table now later terms place (Bound index) placed = refl
@@ -221,10 +230,12 @@ grown-later table now nodes later are = record {
 pub AreTerms-later : (table now : TypeTable) (nodes : List TermNode) (typed : List (ℕ × ℕ)) → AreLaterAtoms table now → AreTerms table nodes typed → AreTerms now nodes typed
 AreTerms-later table now nodes typed later are = record {
   nodes_are = AreTermNodes-later table now nodes later are.nodes_are;
-  typed_are = rw (← terms_of-later table now nodes later are.nodes_are) (AreTyped-later table.types now.types (terms_of table nodes) (terms_of table nodes) typed later.types (IsLonger-same (terms_of table nodes)) are.typed_are);
+  typed_are = rw (← terms_of-later table now nodes later are.nodes_are) (AreTyped-later table.types now.types (terms_of table nodes) (terms_of table nodes) typed later.types
+      (IsLonger-same (terms_of table nodes)) are.typed_are);
 }
 
-pub put-AreTerms : (table : TypeTable) (nodes now : List TermNode) (typed : List (ℕ × ℕ)) (node : TermNode) → HaveOneNumberEach table → AreTerms table nodes typed → IsTermNode table (terms_of table nodes) node → IsPut node nodes now → AreTerms table now typed
+pub put-AreTerms : (table : TypeTable) (nodes now : List TermNode) (typed : List (ℕ × ℕ)) (node : TermNode) → HaveOneNumberEach table → AreTerms table nodes typed →
+    IsTermNode table (terms_of table nodes) node → IsPut node nodes now → AreTerms table now typed
 put-AreTerms table nodes now typed node each are is put = record {
   nodes_are = put-AreTermNodes table nodes now node each are.nodes_are is put;
   typed_are = AreTyped-later table.types table.types (terms_of table nodes) (terms_of table now) typed (IsLonger-same table.types) (put-longer table nodes now node put) are.typed_are;

@@ -16,9 +16,11 @@ use Rattle.hol_check_terms.specs.TypeTable.{types_of, AreTypeNodes}
 use Rattle.hol_check_terms.specs.declared.types.TypeShape.{TypeShape}
 use Rattle.hol_check_terms.specs.declared.types.TypeShape.TheVariants.{Variable, Boolean, Function, Declared}
 use Rattle.hol_check_terms.specs.declared.types.TypeNode.{TypeNode}
-use Rattle.hol_check_terms.proofs.TableLemmas.{is_within, slice_get-end, slice_get_cases, get_or-longer, IsLonger-same, length-values_after, values_after-same, values_after-push, value_at, distinct-push}
+use Rattle.hol_check_terms.proofs.TableLemmas.{is_within, slice_get-end, slice_get_cases, get_or-longer, IsLonger-same, length-values_after, values_after-same, values_after-push, value_at}
+use Rattle.hol_check_terms.proofs.TableLemmas.{distinct-push}
 
-type-stable : (names : List (List ℕ)) (types more : List HolType) (shape : TypeShape) → PartsStandBefore names (length types) shape → type_of_shape names (types ++ more) shape ≡ type_of_shape names types shape
+type-stable : (names : List (List ℕ)) (types more : List HolType) (shape : TypeShape) → PartsStandBefore names (length types) shape →
+    type_of_shape names (types ++ more) shape ≡ type_of_shape names types shape
 type-stable names types more (Variable name) placed = refl
 type-stable names types more Boolean placed = refl
 type-stable names types more (Function a b) placed = cc (get_or-longer types more a bool_type placed.0, get_or-longer types more b bool_type placed.1)
@@ -36,7 +38,8 @@ same_number xs d i j distinct first second same = distinct i j (get_or xs j d) (
 
 shape-injective : (names : List (List ℕ)) (types : List HolType) (first second : TypeShape) → HaveOneNumber names → HaveOneNumber types
     → PartsStandBefore names (length types) first → PartsStandBefore names (length types) second → type_of_shape names types first ≡ type_of_shape names types second → first ≡ second
-shape-injective names types (Variable a) (Variable b) one_name one p q same = let names_same : get_or names a [] ≡ get_or names b [] = cc in ap Variable (same_number names [] a b one_name p q names_same)
+shape-injective names types (Variable a) (Variable b) one_name one p q same = let names_same : get_or names a [] ≡ get_or names b [] = cc in
+    ap Variable (same_number names [] a b one_name p q names_same)
 shape-injective names types Boolean Boolean one_name one p q same = refl
 shape-injective names types (Function a b) (Function c d) one_name one p q same =
     let domain : get_or types a bool_type ≡ get_or types c bool_type = cc in
@@ -44,7 +47,8 @@ shape-injective names types (Function a b) (Function c d) one_name one p q same 
     let first : a ≡ c = same_number types bool_type a c one p.0 q.0 domain in
     let second : b ≡ d = same_number types bool_type b d one p.1 q.1 codomain in
     cc
-shape-injective names types (Declared a) (Declared b) one_name one p q same = let names_same : get_or names a [] ≡ get_or names b [] = cc in ap Declared (same_number names [] a b one_name p q names_same)
+shape-injective names types (Declared a) (Declared b) one_name one p q same = let names_same : get_or names a [] ≡ get_or names b [] = cc in
+    ap Declared (same_number names [] a b one_name p q names_same)
 shape-injective names types _ _ one_name one p q same = cc
 
 -- types with one more node, whose parts are there and whose count is right
@@ -56,7 +60,8 @@ IsTypeNode names types node = StandsAfterParts names (length types) node × (nod
 pub types_of-length : (names : List (List ℕ)) (nodes : List TypeNode) → length (types_of names nodes) ≡ length nodes
 types_of-length names nodes = let is = length-values_after (type_of_node names) [] nodes in omega arith
 
-pub types_of-push : (names : List (List ℕ)) (nodes : List TypeNode) (node : TypeNode) → types_of names (nodes ++ node ∷ []) ≡ types_of names nodes ++ type_of_node names (types_of names nodes) node ∷ []
+pub types_of-push : (names : List (List ℕ)) (nodes : List TypeNode) (node : TypeNode) →
+    types_of names (nodes ++ node ∷ []) ≡ types_of names nodes ++ type_of_node names (types_of names nodes) node ∷ []
 types_of-push names nodes node = values_after-push (type_of_node names) [] nodes node
 
 pub types_of-at : (names : List (List ℕ)) (nodes : List TypeNode) → AreTypeNodes names nodes → (place : ℕ) (node : TypeNode) → slice_get nodes place ≡ Some node
@@ -85,12 +90,14 @@ node-injective names nodes one_name are node is absent place at =
 early_within : (names : List (List ℕ)) (nodes : List TypeNode) (place : ℕ) (other : TypeNode) → slice_get nodes place ≡ Some other → place < length (types_of names nodes)
 early_within names nodes place other early = let less = is_within nodes place other early in let count = types_of-length names nodes in omega arith
 
-last_value : (names : List (List ℕ)) (nodes : List TypeNode) (node : TypeNode) (place : ℕ) → place ≡ length nodes → get_or (types_of names nodes ++ type_of_node names (types_of names nodes) node ∷ []) place bool_type ≡ type_of_node names (types_of names nodes) node
+last_value : (names : List (List ℕ)) (nodes : List TypeNode) (node : TypeNode) (place : ℕ) → place ≡ length nodes →
+    get_or (types_of names nodes ++ type_of_node names (types_of names nodes) node ∷ []) place bool_type ≡ type_of_node names (types_of names nodes) node
 last_value names nodes node place last =
     let at_end : place ≡ length (types_of names nodes) = last ∙ sym (types_of-length names nodes) in
     get_or_from_slice_get _ place _ bool_type (rw at_end (slice_get-end (types_of names nodes) [] (type_of_node names (types_of names nodes) node)))
 
-pub put-AreTypeNodes : (names : List (List ℕ)) (nodes now : List TypeNode) (node : TypeNode) → HaveOneNumber names → AreTypeNodes names nodes → IsTypeNode names (types_of names nodes) node → IsPut node nodes now → AreTypeNodes names now
+pub put-AreTypeNodes : (names : List (List ℕ)) (nodes now : List TypeNode) (node : TypeNode) → HaveOneNumber names → AreTypeNodes names nodes → IsTypeNode names (types_of names nodes) node →
+    IsPut node nodes now → AreTypeNodes names now
 put-AreTypeNodes names nodes now node one_name are is put =
     elim put.put [ inl same ↦ subst (AreTypeNodes names) (sym same) are | inr added ↦ subst (AreTypeNodes names) (sym added.0) (pushed added.1) ]
   where
@@ -115,14 +122,16 @@ put-AreTypeNodes names nodes now node one_name are is put =
             | inl early ↦ are.within_limit place other early
             | inr late ↦ subst (λ (n : TypeNode). n.count ≤ TYPE_NODES_LIMIT) (sym late.1) is.2
           ];
-      distinct = rw (types_of-push names nodes node) (distinct-push (types_of names nodes) (type_of_node names (types_of names nodes) node) are.distinct (node-injective names nodes one_name are node is absent));
+      distinct = rw (types_of-push names nodes node) (distinct-push (types_of names nodes) (type_of_node names (types_of names nodes) node) are.distinct
+          (node-injective names nodes one_name are node is absent));
     }
 
 pub put-longer : (names : List (List ℕ)) (nodes now : List TypeNode) (node : TypeNode) → IsPut node nodes now → IsLonger (types_of names nodes) (types_of names now)
 put-longer names nodes now node put =
     elim put.put [
       | inl same ↦ subst (λ l. IsLonger (types_of names nodes) (types_of names l)) (sym same) (IsLonger-same (types_of names nodes))
-      | inr added ↦ subst (λ l. IsLonger (types_of names nodes) (types_of names l)) (sym added.0) (record { added = type_of_node names (types_of names nodes) node ∷ []; is_added = types_of-push names nodes node })
+      | inr added ↦ subst (λ l. IsLonger (types_of names nodes) (types_of names l)) (sym added.0)
+          (record { added = type_of_node names (types_of names nodes) node ∷ []; is_added = types_of-push names nodes node })
     ]
 
 -- the place of the node's type
@@ -132,8 +141,10 @@ put-number names nodes now node are placed put number there =
     let longer = put-longer names nodes now node put in
     types_of-at names now are number node there ∙ ap Some (rw longer.is_added (type-stable names (types_of names nodes) longer.added node.shape placed))
 
-pub put-result : {E : Type 0} (names : List (List ℕ)) (nodes now : List TypeNode) (node : TypeNode) → AreTypeNodes names now → StandsAfterParts names (length (types_of names nodes)) node → IsPut node nodes now
-    → (result : Result ℕ E) → IfOk result (λ number. slice_get now number ≡ Some node) → IfOk result (λ number. slice_get (types_of names now) number ≡ Some (type_of_node names (types_of names nodes) node))
+pub put-result : {E : Type 0} (names : List (List ℕ)) (nodes now : List TypeNode) (node : TypeNode) → AreTypeNodes names now → StandsAfterParts names (length (types_of names nodes)) node →
+    IsPut node nodes now
+    → (result : Result ℕ E) → IfOk result (λ number. slice_get now number ≡ Some node) →
+    IfOk result (λ number. slice_get (types_of names now) number ≡ Some (type_of_node names (types_of names nodes) node))
 put-result names nodes now node are placed put (Ok number) there = put-number names nodes now node are placed put number there
 put-result names nodes now node are placed put (Err fault) there = tt
 
@@ -158,7 +169,8 @@ same_type-same_number types i j distinct first second =
 
 -- more names
 
-name-later : (names more : List (List ℕ)) (types : List HolType) (place : ℕ) (shape : TypeShape) → PartsStandBefore names place shape → type_of_shape names types shape ≡ type_of_shape (names ++ more) types shape
+name-later : (names more : List (List ℕ)) (types : List HolType) (place : ℕ) (shape : TypeShape) → PartsStandBefore names place shape →
+    type_of_shape names types shape ≡ type_of_shape (names ++ more) types shape
 name-later names more types place (Variable name) placed = ap type_variable (sym (get_or-longer names more name [] placed))
 name-later names more types place Boolean placed = refl
 name-later names more types place (Function a b) placed = refl

@@ -61,7 +61,8 @@ AreTyped-later types more terms now typed longer_types longer_terms are number t
     }
 
 -- one more kept type
-pub kept-AreTyped : (types : List HolType) (terms : List Nameless) (typed now : List (ℕ × ℕ)) (number ty : ℕ) → HasOnlyAdded typed now number ty → number < length terms → IsTyped types (term_at terms number) ty → AreTyped types terms typed → AreTyped types terms now
+pub kept-AreTyped : (types : List HolType) (terms : List Nameless) (typed now : List (ℕ × ℕ)) (number ty : ℕ) → HasOnlyAdded typed now number ty → number < length terms →
+    IsTyped types (term_at terms number) ty → AreTyped types terms typed → AreTyped types terms now
 kept-AreTyped types terms typed now number ty added within is are other one there =
     elim (added other one there) [
       | inl early ↦ are other one early

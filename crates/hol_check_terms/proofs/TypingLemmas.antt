@@ -31,14 +31,16 @@ within-fits ty within = grind arith
 
 -- a free variable, and a constant
 
-pub typed-free : (types binders : List HolType) (t : Nameless) (name : List ℕ) (ty count : ℕ) → t ≡ free name (type_at types ty) → ty < length types → count ≡ type_nodes (type_at types ty) → count ≤ TYPE_NODES_LIMIT → AnswersTyping binders t (Ok ty) types
+pub typed-free : (types binders : List HolType) (t : Nameless) (name : List ℕ) (ty count : ℕ) → t ≡ free name (type_at types ty) → ty < length types → count ≡ type_nodes (type_at types ty) →
+    count ≤ TYPE_NODES_LIMIT → AnswersTyping binders t (Ok ty) types
 typed-free types binders t name ty count is within counted fits = record {
   number = slice_get-get_or types ty bool_type within ∙ ap Some (sym (ap (nameless_type binders) is));
   fits = ap (nameless_types_fit binders) is ∙ within-fits (type_at types ty) (subst (λ n. n ≤ TYPE_NODES_LIMIT) counted fits);
   refused = tt;
 }
 
-pub typed-const : (types binders : List HolType) (t : Nameless) (name : List ℕ) (ty count : ℕ) → t ≡ const name (type_at types ty) → ty < length types → count ≡ type_nodes (type_at types ty) → count ≤ TYPE_NODES_LIMIT → AnswersTyping binders t (Ok ty) types
+pub typed-const : (types binders : List HolType) (t : Nameless) (name : List ℕ) (ty count : ℕ) → t ≡ const name (type_at types ty) → ty < length types →
+    count ≡ type_nodes (type_at types ty) → count ≤ TYPE_NODES_LIMIT → AnswersTyping binders t (Ok ty) types
 typed-const types binders t name ty count is within counted fits = record {
   number = slice_get-get_or types ty bool_type within ∙ ap Some (sym (ap (nameless_type binders) is));
   fits = ap (nameless_types_fit binders) is ∙ within-fits (type_at types ty) (subst (λ n. n ≤ TYPE_NODES_LIMIT) counted fits);
@@ -69,17 +71,25 @@ pub typed-argument-refused : (now binders : List HolType) (t f a : Nameless) (fa
 typed-argument-refused now binders t f a fault is answers = record {
   number = tt;
   fits = tt;
-  refused = elim answers.refused [ inl memory ↦ inl memory | inr large ↦ inr (large.0, ap (nameless_types_fit binders) is ∙ one-fails (nameless_types_fit binders f) (nameless_types_fit binders a) large.1) ];
+  refused = elim answers.refused [
+    | inl memory ↦ inl memory
+    | inr large ↦ inr (
+      large.0,
+      ap (nameless_types_fit binders) is ∙ one-fails (nameless_types_fit binders f) (nameless_types_fit binders a) large.1,
+    )
+  ];
 }
 
-pub typed-application : (t1 t2 t3 binders : List HolType) (t f a : Nameless) (function_ty argument_ty : ℕ) (result : Result ℕ Fault) → IsLonger t1 t2 → t ≡ app f a → AnswersTyping binders f (Ok function_ty) t1 → AnswersTyping binders a (Ok argument_ty) t2
+pub typed-application : (t1 t2 t3 binders : List HolType) (t f a : Nameless) (function_ty argument_ty : ℕ) (result : Result ℕ Fault) → IsLonger t1 t2 → t ≡ app f a →
+    AnswersTyping binders f (Ok function_ty) t1 → AnswersTyping binders a (Ok argument_ty) t2
     → IfOk result (λ answer. slice_get t3 answer ≡ Some (codomain_of (type_at t2 function_ty))) → IfErr result (λ fault. fault ≡ Memory) → AnswersTyping binders t result t3
 typed-application t1 t2 t3 binders t f a function_ty argument_ty result longer is first second made refused = go result made refused
   where
     function_is : type_at t2 function_ty ≡ nameless_type binders f
     function_is = type-there t2 function_ty _ (type-place t1 t2 function_ty _ longer first.number)
 
-    go : (result : Result ℕ Fault) → IfOk result (λ answer. slice_get t3 answer ≡ Some (codomain_of (type_at t2 function_ty))) → IfErr result (λ fault. fault ≡ Memory) → AnswersTyping binders t result t3
+    go : (result : Result ℕ Fault) → IfOk result (λ answer. slice_get t3 answer ≡ Some (codomain_of (type_at t2 function_ty))) → IfErr result (λ fault. fault ≡ Memory) →
+        AnswersTyping binders t result t3
     go (Ok answer) made refused = record {
       number = made ∙ ap Some (ap codomain_of function_is ∙ sym (ap (nameless_type binders) is));
       fits = ap (nameless_types_fit binders) is ∙ both (nameless_types_fit binders f) (nameless_types_fit binders a) first.fits second.fits;
@@ -89,8 +99,10 @@ typed-application t1 t2 t3 binders t f a function_ty argument_ty result longer i
 
 -- abstractions
 
-pub typed-abstraction : (t0 t1 t2 binders : List HolType) (t : Nameless) (ty : ℕ) (body : Nameless) (body_ty : ℕ) (result : Result ℕ Fault) → IsLonger t0 t1 → ty < length t0 → t ≡ lam (type_at t0 ty) body → AnswersTyping (type_at t0 ty ∷ binders) body (Ok body_ty) t1
-    → IfOk result (λ n. slice_get t2 n ≡ Some (function_type (type_at t1 ty) (type_at t1 body_ty))) → IfOk result (λ n. type_nodes (function_type (type_at t1 ty) (type_at t1 body_ty)) ≤ TYPE_NODES_LIMIT)
+pub typed-abstraction : (t0 t1 t2 binders : List HolType) (t : Nameless) (ty : ℕ) (body : Nameless) (body_ty : ℕ) (result : Result ℕ Fault) → IsLonger t0 t1 → ty < length t0 →
+    t ≡ lam (type_at t0 ty) body → AnswersTyping (type_at t0 ty ∷ binders) body (Ok body_ty) t1
+    → IfOk result (λ n. slice_get t2 n ≡ Some (function_type (type_at t1 ty) (type_at t1 body_ty))) →
+    IfOk result (λ n. type_nodes (function_type (type_at t1 ty) (type_at t1 body_ty)) ≤ TYPE_NODES_LIMIT)
     → IfErr result (λ fault. (fault ≡ Memory) ⊎ ((fault ≡ TooLarge) × (TYPE_NODES_LIMIT < type_nodes (function_type (type_at t1 ty) (type_at t1 body_ty))))) → AnswersTyping binders t result t2
 typed-abstraction t0 t1 t2 binders t ty body body_ty result longer within is inner made fits refused = go result made fits refused
   where
@@ -100,11 +112,13 @@ typed-abstraction t0 t1 t2 binders t ty body body_ty result longer within is inn
     whole : HolType
     whole = function_type (type_at t0 ty) (nameless_type (type_at t0 ty ∷ binders) body)
 
-    go : (result : Result ℕ Fault) → IfOk result (λ n. slice_get t2 n ≡ Some (function_type (type_at t1 ty) (type_at t1 body_ty))) → IfOk result (λ n. type_nodes (function_type (type_at t1 ty) (type_at t1 body_ty)) ≤ TYPE_NODES_LIMIT)
+    go : (result : Result ℕ Fault) → IfOk result (λ n. slice_get t2 n ≡ Some (function_type (type_at t1 ty) (type_at t1 body_ty))) →
+        IfOk result (λ n. type_nodes (function_type (type_at t1 ty) (type_at t1 body_ty)) ≤ TYPE_NODES_LIMIT)
         → IfErr result (λ fault. (fault ≡ Memory) ⊎ ((fault ≡ TooLarge) × (TYPE_NODES_LIMIT < type_nodes (function_type (type_at t1 ty) (type_at t1 body_ty))))) → AnswersTyping binders t result t2
     go (Ok n) made fits refused = record {
       number = made ∙ ap Some (function_is ∙ sym (ap (nameless_type binders) is));
-      fits = ap (nameless_types_fit binders) is ∙ both (nameless_types_fit (type_at t0 ty ∷ binders) body) (type_fits whole) inner.fits (within-fits whole (subst (λ s. type_nodes s ≤ TYPE_NODES_LIMIT) function_is fits));
+      fits = ap (nameless_types_fit binders) is ∙ both (nameless_types_fit (type_at t0 ty ∷ binders) body) (type_fits whole) inner.fits
+          (within-fits whole (subst (λ s. type_nodes s ≤ TYPE_NODES_LIMIT) function_is fits));
       refused = tt;
     }
     go (Err fault) made fits refused = record {
@@ -112,6 +126,10 @@ typed-abstraction t0 t1 t2 binders t ty body body_ty result longer within is inn
       fits = tt;
       refused = elim refused [
         | inl memory ↦ inl memory
-        | inr large ↦ inr (large.0, ap (nameless_types_fit binders) is ∙ one-fails (nameless_types_fit (type_at t0 ty ∷ binders) body) (type_fits whole) (past_limit-type whole (subst (λ s. TYPE_NODES_LIMIT < type_nodes s) function_is large.1)))
+        | inr large ↦ inr (
+          large.0,
+          ap (nameless_types_fit binders) is ∙ one-fails (nameless_types_fit (type_at t0 ty ∷ binders) body) (type_fits whole)
+              (past_limit-type whole (subst (λ s. TYPE_NODES_LIMIT < type_nodes s) function_is large.1)),
+        )
       ];
     }

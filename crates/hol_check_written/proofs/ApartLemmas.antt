@@ -21,7 +21,8 @@ use Rattle.hol_check_written.proofs.WritesLemmas.{free-there}
 abbrev IsOutside : List Binder → List Binder → NamedTerm → Type 0
 IsOutside inner outer term = (name : List ℕ) (ty : HolType) → is_free name ty term ≡ true → binder_index inner name ty ≡ None → binder_index outer name ty ≡ None
 
-variable-outside : (inner outer : List Binder) (name : List ℕ) (ty : HolType) → (binder_index inner name ty ≡ None → binder_index outer name ty ≡ None) → binder_index (inner ++ outer) name ty ≡ binder_index inner name ty
+variable-outside : (inner outer : List Binder) (name : List ℕ) (ty : HolType) → (binder_index inner name ty ≡ None → binder_index outer name ty ≡ None) →
+    binder_index (inner ++ outer) name ty ≡ binder_index inner name ty
 variable-outside [] outer name ty none = none refl
 variable-outside (binder ∷ inner) outer name ty none = go (same_variable binder.0 binder.1 name ty) (binder_index inner name ty) refl none (variable-outside inner outer name ty)
   where
@@ -35,15 +36,18 @@ variable-outside (binder ∷ inner) outer name ty none = go (same_variable binde
     go false None is none deeper = ap (option_map suc) (deeper (λ _. none refl))
     go false (Some index) is none deeper = ap (option_map suc) (deeper (λ absent. absurd (differ index (sym is ∙ absent))))
 
-skipped : (inner outer : List Binder) (other : List ℕ) (s : HolType) (body : NamedTerm) → IsOutside inner outer (abstraction other s body) → (name : List ℕ) (ty : HolType) → is_free name ty body ≡ true
-    → (test : Bool) (found : Option ℕ) → same_variable other s name ty ≡ test → binder_index inner name ty ≡ found → (if test then Some 0 else option_map suc found) ≡ None → binder_index outer name ty ≡ None
+skipped : (inner outer : List Binder) (other : List ℕ) (s : HolType) (body : NamedTerm) → IsOutside inner outer (abstraction other s body) → (name : List ℕ) (ty : HolType) →
+    is_free name ty body ≡ true
+    → (test : Bool) (found : Option ℕ) → same_variable other s name ty ≡ test → binder_index inner name ty ≡ found → (if test then Some 0 else option_map suc found) ≡ None →
+    binder_index outer name ty ≡ None
 skipped inner outer other s body absent name ty occurs true found same is none = cc
 skipped inner outer other s body absent name ty occurs false None same is none = absent name ty (ap (λ b. not b && is_free name ty body) (same_variable-sym name other ty s ∙ same) ∙ occurs) is
 skipped inner outer other s body absent name ty occurs false (Some index) same is none = cc
 
 abstraction-outside : (inner outer : List Binder) (other : List ℕ) (s : HolType) (body : NamedTerm) → IsOutside inner outer (abstraction other s body) → IsOutside ((other, s) ∷ inner) outer body
 abstraction-outside inner outer other s body absent = λ name ty occurs none.
-    let go : (test : Bool) (found : Option ℕ) → same_variable other s name ty ≡ test → binder_index inner name ty ≡ found → (if test then Some 0 else option_map suc found) ≡ None → binder_index outer name ty ≡ None =
+    let go : (test : Bool) (found : Option ℕ) → same_variable other s name ty ≡ test → binder_index inner name ty ≡ found → (if test then Some 0 else option_map suc found) ≡ None →
+    binder_index outer name ty ≡ None =
     skipped inner outer other s body absent name ty occurs in
     go (same_variable other s name ty) (binder_index inner name ty) refl refl none
 
@@ -62,14 +66,16 @@ outside inner outer (abstraction other s body) absent = ap (lam s) (outside ((ot
 
 -- tables
 
-variable-there : (terms : List Nameless) (number : ℕ) (name : List ℕ) (ty : HolType) → IsFree terms number → same_variable (variable_name (term_at terms number)) (term_type (term_at terms number)) name ty ≡ true → slice_get terms number ≡ Some (free name ty)
+variable-there : (terms : List Nameless) (number : ℕ) (name : List ℕ) (ty : HolType) → IsFree terms number →
+    same_variable (variable_name (term_at terms number)) (term_type (term_at terms number)) name ty ≡ true → slice_get terms number ≡ Some (free name ty)
 variable-there terms number name ty is same =
     let there = free-there terms number is in
     let names : is.name ≡ name = sym (ap variable_name there) ∙ same_name (variable_name (term_at terms number)) name (term_type (term_at terms number)) ty same in
     let types : is.ty ≡ ty = sym (ap term_type there) ∙ same_variable-type (variable_name (term_at terms number)) name (term_type (term_at terms number)) ty same in
     is.is_variable ∙ (λ i. Some (free (names i) (types i)))
 
-absent : (terms : List Nameless) (binders : Binders) (covers : Variables) (number : ℕ) (name : List ℕ) (ty : HolType) → HaveOneNumber terms → AreBinders terms binders → AreCovered covers binders → slice_get terms number ≡ Some (free name ty)
+absent : (terms : List Nameless) (binders : Binders) (covers : Variables) (number : ℕ) (name : List ℕ) (ty : HolType) → HaveOneNumber terms → AreBinders terms binders →
+    AreCovered covers binders → slice_get terms number ≡ Some (free name ty)
     → (IsAmong covers number → ⊥) → binder_index (binders_in terms binders) name ty ≡ None
 absent terms Outermost covers number name ty one are covered there apart = refl
 absent terms (Under' binder all p outer) covers number name ty one are covered there apart =
@@ -80,32 +86,39 @@ absent terms (Under' binder all p outer) covers number name ty one are covered t
     go true same deeper = absurd (apart (subst (IsAmong covers) (one binder number (free name ty) (variable-there terms binder name ty are.0 same) there) covered.0))
     go false same deeper = ap (option_map suc) deeper
 
-pub apart : (terms : List Nameless) (binders : Binders) (covers part : Variables) → HaveOneNumber terms → AreBinders terms binders → AreCovered covers binders → ((number : ℕ) → IsAmong covers number → IsAmong part number → ⊥)
+pub apart : (terms : List Nameless) (binders : Binders) (covers part : Variables) → HaveOneNumber terms → AreBinders terms binders → AreCovered covers binders →
+    ((number : ℕ) → IsAmong covers number → IsAmong part number → ⊥)
     → (term : NamedTerm) → AreCounted terms term part → image_under (binders_in terms binders) term ≡ image term
 apart terms binders covers part one are covered differ term counted =
     outside [] (binders_in terms binders) term
-    (λ name ty occurs none. let free_there = counted name ty occurs in absent terms binders covers free_there.number name ty one are covered free_there.is_there (λ among. differ free_there.number among free_there.among))
+    (λ name ty occurs none. let free_there = counted name ty occurs in absent terms binders covers free_there.number name ty one are covered free_there.is_there
+    (λ among. differ free_there.number among free_there.among))
 
 -- the index of a variable
 
-same-number : (terms : List Nameless) (a b : ℕ) → a ≡ b → same_variable (variable_name (term_at terms a)) (term_type (term_at terms a)) (variable_name (term_at terms b)) (term_type (term_at terms b)) ≡ true
+same-number : (terms : List Nameless) (a b : ℕ) → a ≡ b → same_variable (variable_name (term_at terms a)) (term_type (term_at terms a)) (variable_name (term_at terms b))
+    (term_type (term_at terms b)) ≡ true
 same-number terms a b same =
     subst (λ n. same_variable (variable_name (term_at terms a)) (term_type (term_at terms a)) (variable_name (term_at terms n)) (term_type (term_at terms n)) ≡ true) same
     (same_variable-self (variable_name (term_at terms a)) (term_type (term_at terms a)))
 
-other-number : (terms : List Nameless) (a b : ℕ) → HaveOneNumber terms → IsFree terms a → IsFree terms b → (a ≡ b → ⊥) → same_variable (variable_name (term_at terms a)) (term_type (term_at terms a)) (variable_name (term_at terms b)) (term_type (term_at terms b)) ≡ false
+other-number : (terms : List Nameless) (a b : ℕ) → HaveOneNumber terms → IsFree terms a → IsFree terms b → (a ≡ b → ⊥) →
+    same_variable (variable_name (term_at terms a)) (term_type (term_at terms a)) (variable_name (term_at terms b)) (term_type (term_at terms b)) ≡ false
 other-number terms a b one first second differ = go (same_variable (variable_name (term_at terms a)) (term_type (term_at terms a)) (variable_name (term_at terms b)) (term_type (term_at terms b))) refl
   where
     go : (test : Bool) → same_variable (variable_name (term_at terms a)) (term_type (term_at terms a)) (variable_name (term_at terms b)) (term_type (term_at terms b)) ≡ test → test ≡ false
     go true same =
         let there = free-there terms b second in
-        let here : slice_get terms a ≡ Some (free second.name second.ty) = variable-there terms a (variable_name (term_at terms b)) (term_type (term_at terms b)) first same ∙ (λ i. Some (free (variable_name (there i)) (term_type (there i)))) in
+        let here : slice_get terms a ≡ Some (free second.name second.ty) = variable-there terms a (variable_name (term_at terms b)) (term_type (term_at terms b)) first same ∙
+        (λ i. Some (free (variable_name (there i)) (term_type (there i)))) in
         absurd (differ (one a b (free second.name second.ty) here second.is_variable))
     go false same = refl
 
-module _ (terms : List Nameless) (around rest : List Binder) (other number : ℕ) (is : around ≡ (variable_name (term_at terms other), term_type (term_at terms other)) ∷ rest) (one : HaveOneNumber terms) (binder : IsFree terms other) (is_free : IsFree terms number) where
+module _ (terms : List Nameless) (around rest : List Binder) (other number : ℕ) (is : around ≡ (variable_name (term_at terms other), term_type (term_at terms other)) ∷ rest)
+    (one : HaveOneNumber terms) (binder : IsFree terms other) (is_free : IsFree terms number) where
   index-is : (test : Bool) → same_variable (variable_name (term_at terms other)) (term_type (term_at terms other)) (variable_name (term_at terms number)) (term_type (term_at terms number)) ≡ test
-      → binder_index around (variable_name (term_at terms number)) (term_type (term_at terms number)) ≡ (if test then Some 0 else option_map suc (binder_index rest (variable_name (term_at terms number)) (term_type (term_at terms number))))
+      → binder_index around (variable_name (term_at terms number)) (term_type (term_at terms number)) ≡
+      (if test then Some 0 else option_map suc (binder_index rest (variable_name (term_at terms number)) (term_type (term_at terms number))))
   index-is test same =
       ap (λ (bs : List Binder). binder_index bs (variable_name (term_at terms number)) (term_type (term_at terms number))) is
       ∙ ap (λ b. if b then Some 0 else option_map suc (binder_index rest (variable_name (term_at terms number)) (term_type (term_at terms number)))) same

@@ -1,5 +1,6 @@
 -- Terms of lines under binders, part by part.
-use Rattle.std.proofs.Common.{◌≡◌, ◌⊎◌, ℕ, ◌+◌, ◌<◌, ◌≤◌, List, [], ◌∷◌, ◌++◌, length, length-append, Bool, true, false, refl, sym, ◌∙◌, ap, subst, inl, inr, Some, Result, Ok, IfOk, IfErr, if◌then◌else◌, arith}
+use Rattle.std.proofs.Common.{◌≡◌, ◌⊎◌, ℕ, ◌+◌, ◌<◌, ◌≤◌, List, [], ◌∷◌, ◌++◌, length, length-append, Bool, true, false, refl, sym, ◌∙◌, ap, subst, inl, inr, Some, Result, Ok, IfOk, IfErr}
+use Rattle.std.proofs.Common.{if◌then◌else◌, arith}
 use Rattle.std.specs.Prelude.{slice_get}
 use Rattle.hol_model.specs.declared.limits.TheConstants.{TERM_HEIGHT_LIMIT}
 use Rattle.hol_model.specs.declared.fault.Fault.{Fault}
@@ -77,7 +78,8 @@ work-after t0 t1 written binders line m0 k0 m1 k1 result work numbers = record {
 
 -- leaves
 
-module _ (t : TermTable) (written : List Written) (binders : Binders) (line : ℕ) (made known : List (ℕ × ℕ)) (work : IsWork t written binders made known) (part : Written) (there : slice_get written line ≡ Some part) where
+module _ (t : TermTable) (written : List Written) (binders : Binders) (line : ℕ) (made known : List (ℕ × ℕ)) (work : IsWork t written binders made known) (part : Written)
+    (there : slice_get written line ≡ Some part) where
   pub recalled : (is_apart : Bool) (number : ℕ) → (is_apart ≡ true → (term : NamedTerm) → AreCounted t.terms term part.variables → image_under (binders_in t.terms binders) term ≡ image term)
       → IsEntry (if is_apart then made else known) line number → Numbers written (binders_in t.terms binders) line t t made made known (Ok number)
   recalled is_apart number apart entry = record {
@@ -89,9 +91,11 @@ module _ (t : TermTable) (written : List Written) (binders : Binders) (line : �
     stays = Stays-same made;
   }
     where
-      go : (is_apart : Bool) → (is_apart ≡ true → (term : NamedTerm) → AreCounted t.terms term part.variables → image_under (binders_in t.terms binders) term ≡ image term) → IsEntry (if is_apart then made else known) line number
+      go : (is_apart : Bool) → (is_apart ≡ true → (term : NamedTerm) → AreCounted t.terms term part.variables → image_under (binders_in t.terms binders) term ≡ image term) →
+          IsEntry (if is_apart then made else known) line number
           → slice_get t.terms number ≡ Some (image_under (binders_in t.terms binders) (named_at (named_terms t.terms written) line))
-      go true apart entry = (work.made_are.numbered line number entry).number_is ∙ ap Some (sym (apart refl (named_at (named_terms t.terms written) line) (work.written_are line part there).writes.counted))
+      go true apart entry = (work.made_are.numbered line number entry).number_is ∙ ap Some
+          (sym (apart refl (named_at (named_terms t.terms written) line) (work.written_are line part there).writes.counted))
       go false apart entry = (work.known_are.numbered line number entry).number_is
 
   pub parts-here : (shape : WrittenShape) → part.shape ≡ shape → PartsAreEarlier t.terms line shape
@@ -104,7 +108,8 @@ module _ (t : TermTable) (written : List Written) (binders : Binders) (line : �
   variable-shallow number is shallow = let one = ap height (named-here (Variable number) is) in omega (arith, one, shallow)
 
   pub variable-numbers : (number : ℕ) (now : TermTable) (result : Result ℕ Fault) → part.shape ≡ Variable number → IsGrown t now
-      → IfOk result (λ new. slice_get now.terms new ≡ Some (variable_image (binders_in t.terms binders) (variable_name (term_at t.terms number)) (term_type (term_at t.terms number)))) → IfErr result (λ fault. fault ≡ Memory)
+      → IfOk result (λ new. slice_get now.terms new ≡ Some (variable_image (binders_in t.terms binders) (variable_name (term_at t.terms number)) (term_type (term_at t.terms number)))) →
+      IfErr result (λ fault. fault ≡ Memory)
       → Numbers written (binders_in t.terms binders) line t now made made known result
   variable-numbers number now result is grown made_it refused = record {
     number = subst (λ u. IfOk result (λ new. slice_get now.terms new ≡ Some (image_under (binders_in t.terms binders) u))) (sym (named-here (Variable number) is)) made_it;
@@ -130,10 +135,12 @@ module _ (t : TermTable) (written : List Written) (binders : Binders) (line : �
 
   -- parts of a combination
 
-  pub function-shallow : (function argument : ℕ) → part.shape ≡ Application function argument → IsShallow t written (binders_in t.terms binders) line → IsShallow t written (binders_in t.terms binders) function
+  pub function-shallow : (function argument : ℕ) → part.shape ≡ Application function argument → IsShallow t written (binders_in t.terms binders) line →
+      IsShallow t written (binders_in t.terms binders) function
   function-shallow function argument is shallow = let both = ap height (named-here (Application function argument) is) in omega (arith, both, shallow)
 
-  pub argument-shallow : (function argument : ℕ) → part.shape ≡ Application function argument → IsShallow t written (binders_in t.terms binders) line → IsShallow t written (binders_in t.terms binders) argument
+  pub argument-shallow : (function argument : ℕ) → part.shape ≡ Application function argument → IsShallow t written (binders_in t.terms binders) line →
+      IsShallow t written (binders_in t.terms binders) argument
   argument-shallow function argument is shallow = let both = ap height (named-here (Application function argument) is) in omega (arith, both, shallow)
 
   pub body-shallow : (binder body : ℕ) → part.shape ≡ Abstraction binder body → IsShallow t written (binders_in t.terms binders) line
@@ -142,8 +149,10 @@ module _ (t : TermTable) (written : List Written) (binders : Binders) (line : �
 
 -- a part that was kept
 
-kept-entries : (t0 t1 t2 : TermTable) (written : List Written) (around : List Binder) (line : ℕ) (m1 m2 : List (ℕ × ℕ)) (wanted : Nameless) → AreWritten t0 written → line < length written → IsGrown t0 t1 → IsGrown t1 t2
-    → AreNumbered t1 written around m1 → ((other number : ℕ) → IsEntry m2 other number → IsEntry m1 other number ⊎ ((other ≡ line) × (slice_get t2.terms number ≡ Some wanted) × (wanted ≡ image_under around (named_at (named_terms t0.terms written) line))))
+kept-entries : (t0 t1 t2 : TermTable) (written : List Written) (around : List Binder) (line : ℕ) (m1 m2 : List (ℕ × ℕ)) (wanted : Nameless) → AreWritten t0 written → line < length written →
+    IsGrown t0 t1 → IsGrown t1 t2
+    → AreNumbered t1 written around m1 → ((other number : ℕ) → IsEntry m2 other number →
+    IsEntry m1 other number ⊎ ((other ≡ line) × (slice_get t2.terms number ≡ Some wanted) × (wanted ≡ image_under around (named_at (named_terms t0.terms written) line))))
     → AreNumbered t2 written around m2
 kept-entries t0 t1 t2 written around line m1 m2 wanted are within first second numbered added = record {
   numbered = λ other number there.
@@ -158,7 +167,8 @@ kept-entries t0 t1 t2 written around line m1 m2 wanted are within first second n
 
 pub kept-numbers : (t0 t1 t2 : TermTable) (written : List Written) (around : List Binder) (line : ℕ) (m0 m1 m2 k1 k2 : List (ℕ × ℕ)) (is_apart : Bool) (wanted : Nameless) (result : Result ℕ Fault)
     → AreWritten t0 written → line < length written → IsGrown t0 t1 → AreMade t1 written m1 → AreNumbered t1 written around k1 → Stays m0 m1
-    → wanted ≡ image_under around (named_at (named_terms t0.terms written) line) → (is_apart ≡ true → image_under around (named_at (named_terms t0.terms written) line) ≡ image (named_at (named_terms t0.terms written) line))
+    → wanted ≡ image_under around (named_at (named_terms t0.terms written) line) →
+    (is_apart ≡ true → image_under around (named_at (named_terms t0.terms written) line) ≡ image (named_at (named_terms t0.terms written) line))
     → Keeps wanted is_apart line t1 t2 m1 m2 k1 k2 result → Numbers written around line t0 t2 m0 m2 k2 result
 kept-numbers t0 t1 t2 written around line m0 m1 m2 k1 k2 is_apart wanted result are within first made known stays is apart keeps = record {
   number = subst (λ u. IfOk result (λ new. slice_get t2.terms new ≡ Some u)) is keeps.number;
@@ -173,7 +183,8 @@ kept-numbers t0 t1 t2 written around line m0 m1 m2 k1 k2 is_apart wanted result 
 
 -- the parts of a combination and of an abstraction, which were made
 
-module _ (t0 t1 : TermTable) (written : List Written) (binders : Binders) (line : ℕ) (made known : List (ℕ × ℕ)) (work : IsWork t0 written binders made known) (part : Written) (there : slice_get written line ≡ Some part) (first : IsGrown t0 t1) where
+module _ (t0 t1 : TermTable) (written : List Written) (binders : Binders) (line : ℕ) (made known : List (ℕ × ℕ)) (work : IsWork t0 written binders made known) (part : Written)
+    (there : slice_get written line ≡ Some part) (first : IsGrown t0 t1) where
   pub application-made : (t2 : TermTable) (function argument a b : ℕ) → part.shape ≡ Application function argument → IsGrown t1 t2
       → slice_get t1.terms a ≡ Some (image_under (binders_in t0.terms binders) (named_at (named_terms t0.terms written) function))
       → slice_get t2.terms b ≡ Some (image_under (binders_in t1.terms binders) (named_at (named_terms t1.terms written) argument))
@@ -184,7 +195,8 @@ module _ (t0 t1 : TermTable) (written : List Written) (binders : Binders) (line 
       (λ i. app (one i) (two i)) ∙ ap (image_under (binders_in t0.terms binders)) (sym (named-here t0 written binders line made known work part there (Application function argument) is))
 
   pub abstraction-made : (binder body ty b : ℕ) → part.shape ≡ Abstraction binder body → type_at t1.types ty ≡ term_type (term_at t1.terms binder)
-      → slice_get t1.terms b ≡ Some (image_under ((variable_name (term_at t0.terms binder), term_type (term_at t0.terms binder)) ∷ binders_in t0.terms binders) (named_at (named_terms t0.terms written) body))
+      → slice_get t1.terms b ≡ Some (image_under ((variable_name (term_at t0.terms binder), term_type (term_at t0.terms binder)) ∷ binders_in t0.terms binders)
+      (named_at (named_terms t0.terms written) body))
       → lam (type_at t1.types ty) (term_at t1.terms b) ≡ image_under (binders_in t0.terms binders) (named_at (named_terms t0.terms written) line)
   abstraction-made binder body ty b is ty_is b_is =
       let parts = parts-here t0 written binders line made known work part there (Abstraction binder body) is in

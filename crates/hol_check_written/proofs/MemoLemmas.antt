@@ -14,7 +14,8 @@ insert-there : (entries : List (ℕ × ℕ)) (key value : ℕ) → HasEntry (ins
 insert-there [] key value = (value, (0, refl))
 insert-there (first ∷ rest) key value = go (nat_eq key first.0) refl (insert-there rest key value)
   where
-    go : (test : Bool) → nat_eq key first.0 ≡ test → HasEntry (insert_entry nat_eq rest key value) key → HasEntry (if test then (first.0, value) ∷ rest else first ∷ insert_entry nat_eq rest key value) key
+    go : (test : Bool) → nat_eq key first.0 ≡ test → HasEntry (insert_entry nat_eq rest key value) key →
+        HasEntry (if test then (first.0, value) ∷ rest else first ∷ insert_entry nat_eq rest key value) key
     go true is deeper = (value, (0, λ i. Some (sym (eqb-true key first.0 is) i, value)))
     go false is deeper = (deeper.0, (suc deeper.1.0, deeper.1.1))
 
@@ -37,15 +38,18 @@ noted-there entries now key value is = subst (λ l. HasEntry l key) (sym is) (in
 pub noted-stays : (entries now : List (ℕ × ℕ)) (key value : ℕ) → now ≡ insert_entry nat_eq entries key value → Stays entries now
 noted-stays entries now key value is = record { stays = λ line there. subst (λ l. HasEntry l line) (sym is) (insert-stays entries key value line there) }
 
-pub kept-apart : (is_apart : Bool) (line number : ℕ) (made made_now known : List (ℕ × ℕ)) → is_apart ≡ true → HasOnlyAdded made made_now line number → Stays made made_now → IsKept is_apart line (λ new. new ≡ number) made made_now known known
+pub kept-apart : (is_apart : Bool) (line number : ℕ) (made made_now known : List (ℕ × ℕ)) → is_apart ≡ true → HasOnlyAdded made made_now line number → Stays made made_now →
+    IsKept is_apart line (λ new. new ≡ number) made made_now known known
 kept-apart is_apart line number made made_now known is added stays = record {
   added = λ other one there. elim (added other one there) [ inl early ↦ inl early | inr new ↦ inr (is, new.0, new.1) ];
   noted = λ other one there. inl there;
   stays = stays;
 }
 
-pub kept-made : (wanted : Nameless) (is_apart : Bool) (line number : ℕ) (earlier now : TermTable) (made made_now known known_now : List (ℕ × ℕ)) (result : Result ℕ Fault) → slice_get now.terms number ≡ Some wanted → IsGrown earlier now
-    → IfOk result (λ same. same ≡ number) → IfErr result (λ fault. fault ≡ Memory) → IsKept is_apart line (λ new. new ≡ number) made made_now known known_now → Keeps wanted is_apart line earlier now made made_now known known_now result
+pub kept-made : (wanted : Nameless) (is_apart : Bool) (line number : ℕ) (earlier now : TermTable) (made made_now known known_now : List (ℕ × ℕ)) (result : Result ℕ Fault) →
+    slice_get now.terms number ≡ Some wanted → IsGrown earlier now
+    → IfOk result (λ same. same ≡ number) → IfErr result (λ fault. fault ≡ Memory) → IsKept is_apart line (λ new. new ≡ number) made made_now known known_now →
+    Keeps wanted is_apart line earlier now made made_now known known_now result
 kept-made wanted is_apart line number earlier now made made_now known known_now result there grown same refused kept = record {
   number = is result same;
   refused = refused;

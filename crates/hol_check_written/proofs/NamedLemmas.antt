@@ -19,12 +19,14 @@ use Rattle.hol_check_written.specs.declared.written.WrittenShape.TheVariants.{Va
 pub named-length : (terms : List Nameless) (written : List Written) → length (named_terms terms written) ≡ length written
 named-length terms written = let is = length-values_after (named_of terms) [] written in omega (arith, is)
 
-pub named-push : (terms : List Nameless) (written : List Written) (new : Written) → named_terms terms (written ++ new ∷ []) ≡ named_terms terms written ++ named_of terms (named_terms terms written) new ∷ []
+pub named-push : (terms : List Nameless) (written : List Written) (new : Written) →
+    named_terms terms (written ++ new ∷ []) ≡ named_terms terms written ++ named_of terms (named_terms terms written) new ∷ []
 named-push terms written new = values_after-push (named_of terms) [] written new
 
 -- parts name what they name among more
 
-shape-stable : (terms : List Nameless) (named more : List NamedTerm) (shape : WrittenShape) → PartsAreEarlier terms (length named) shape → named_of_shape terms (named ++ more) shape ≡ named_of_shape terms named shape
+shape-stable : (terms : List Nameless) (named more : List NamedTerm) (shape : WrittenShape) → PartsAreEarlier terms (length named) shape →
+    named_of_shape terms (named ++ more) shape ≡ named_of_shape terms named shape
 shape-stable terms named more (Variable number) parts = refl
 shape-stable terms named more (Constant number) parts = refl
 shape-stable terms named more (Application function argument) parts =
@@ -40,7 +42,8 @@ pub named-line : (table : TermTable) (written : List Written) (line : ℕ) (part
     → named_at (named_terms table.terms written) line ≡ named_of_shape table.terms (named_terms table.terms written) part.shape
 named-line table written line part are there =
     get_or_from_slice_get (named_terms table.terms written) line (named_of table.terms (named_terms table.terms written) part) (constant [] bool_type)
-    (value_at (named_of table.terms) (IsPlaced table.terms) (λ named more one parts. shape-stable table.terms named more one.shape parts) written (λ place one at. (are place one at).parts) line part there)
+    (value_at (named_of table.terms) (IsPlaced table.terms) (λ named more one parts. shape-stable table.terms named more one.shape parts) written (λ place one at. (are place one at).parts)
+    line part there)
 
 -- tables that have grown
 
@@ -92,18 +95,21 @@ module _ (t0 t1 : TermTable) (grown : IsGrown t0 t1) where
 
 -- one more line
 
-pub named-earlier : (terms : List Nameless) (written : List Written) (new : Written) (line : ℕ) → line < length written → named_at (named_terms terms (written ++ new ∷ [])) line ≡ named_at (named_terms terms written) line
+pub named-earlier : (terms : List Nameless) (written : List Written) (new : Written) (line : ℕ) → line < length written →
+    named_at (named_terms terms (written ++ new ∷ [])) line ≡ named_at (named_terms terms written) line
 named-earlier terms written new line within =
     let count = named-length terms written in
     ap (λ named. named_at named line) (named-push terms written new)
     ∙ get_or-longer (named_terms terms written) (named_of terms (named_terms terms written) new ∷ []) line (constant [] bool_type) (omega (arith, count, within))
 
-named-last : (terms : List Nameless) (written : List Written) (new : Written) → named_at (named_terms terms (written ++ new ∷ [])) (length written) ≡ named_of_shape terms (named_terms terms written) new.shape
+named-last : (terms : List Nameless) (written : List Written) (new : Written) → named_at (named_terms terms (written ++ new ∷ [])) (length written) ≡ named_of_shape terms
+    (named_terms terms written) new.shape
 named-last terms written new =
     let count = named-length terms written in
     ap (λ named. named_at named (length written)) (named-push terms written new)
     ∙ subst (λ n. named_at (named_terms terms written ++ named_of terms (named_terms terms written) new ∷ []) n ≡ named_of_shape terms (named_terms terms written) new.shape) count
-    (get_or_from_slice_get (named_terms terms written ++ named_of terms (named_terms terms written) new ∷ []) (length (named_terms terms written)) (named_of terms (named_terms terms written) new) (constant [] bool_type)
+    (get_or_from_slice_get (named_terms terms written ++ named_of terms (named_terms terms written) new ∷ []) (length (named_terms terms written))
+    (named_of terms (named_terms terms written) new) (constant [] bool_type)
     (slice_get-end (named_terms terms written) [] (named_of terms (named_terms terms written) new)))
 
 pub written-push : (table : TermTable) (written : List Written) (new : Written) → AreWritten table written → PartsAreEarlier table.terms (length written) new.shape

@@ -21,7 +21,8 @@ use Rattle.hol_check_written.specs.declared.written.Written.{Written}
 pub free-there : (terms : List Nameless) (number : ℕ) (is : IsFree terms number) → term_at terms number ≡ free is.name is.ty
 free-there terms number is = term-there terms number (free is.name is.ty) is.is_variable
 
-pub variable-limits : (t : Nameless) (name : List ℕ) (ty : HolType) (answer : Bool) → t ≡ free name ty → nameless_within_limits t ≡ answer → is_within_limits (variable (variable_name t) (term_type t)) ≡ answer
+pub variable-limits : (t : Nameless) (name : List ℕ) (ty : HolType) (answer : Bool) → t ≡ free name ty → nameless_within_limits t ≡ answer →
+    is_within_limits (variable (variable_name t) (term_type t)) ≡ answer
 variable-limits t name ty answer is within = ap (λ u. is_within_limits (variable (variable_name u) (term_type u))) is ∙ (ap nameless_within_limits (sym is) ∙ within)
 
 pub variable-counted : (earlier now : List Nameless) (number : ℕ) (variables : Variables) (is : IsFree earlier number) → slice_get now number ≡ Some (free is.name is.ty) → IsAmong variables number

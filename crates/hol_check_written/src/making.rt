@@ -98,7 +98,8 @@ fn keep_application(
 ) -> Result<usize, Fault>
     requires function { function < length terms.old.terms }
     requires argument { argument < length terms.old.terms }
-    ensures { Keeps (app (term_at terms.old.terms function) (term_at terms.old.terms argument)) is_apart line terms.old terms.new made.old.entries made.new.entries known.old.entries known.new.entries result }
+    ensures { Keeps (app (term_at terms.old.terms function) (term_at terms.old.terms argument)) is_apart line terms.old terms.new
+        made.old.entries made.new.entries known.old.entries known.new.entries result }
 {
     match terms.application(function, argument) {
         Ok(number) => keep(made, known, is_apart, line, number),
@@ -200,7 +201,8 @@ fn number_of_body(
     requires body { body < length written.now }
     requires shallow { IsShallow terms.old written.now ((variable_name (term_at terms.old.terms binder), term_type (term_at terms.old.terms binder)) ∷ binders_in terms.old.terms binders.now) body }
     requires work { IsWork terms.old written.now binders.now made.old.entries [] }
-    ensures { Numbers written.now ((variable_name (term_at terms.old.terms binder), term_type (term_at terms.old.terms binder)) ∷ binders_in terms.old.terms binders.now) body terms.old terms.new made.old.entries made.new.entries [] result }
+    ensures { Numbers written.now ((variable_name (term_at terms.old.terms binder), term_type (term_at terms.old.terms binder)) ∷ binders_in terms.old.terms binders.now) body terms.old terms.new
+        made.old.entries made.new.entries [] result }
 {
     let covers = joined(one_variable(binder), covered(&*binders));
     let mut known = IndexMap::new(alloc);

@@ -136,7 +136,8 @@ pub fn write_abstraction(
     requires binder { IsFree terms.old.terms binder }
     requires body { IsWritten terms.old body }
     ensures { (term : NamedTerm) → Writes terms.old term body
-        → AnswersWritten (named.abstraction (variable_name (term_at terms.old.terms binder)) (term_type (term_at terms.old.terms binder)) term) (shape.Abstraction binder line) result terms.old terms.new }
+        → AnswersWritten (named.abstraction (variable_name (term_at terms.old.terms binder)) (term_type (term_at terms.old.terms binder)) term)
+        (shape.Abstraction binder line) result terms.old terms.new }
 {
     let domain = variable_type(terms, binder);
     let ty = match terms.function_type(domain, body.ty) {

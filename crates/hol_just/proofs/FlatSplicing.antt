@@ -4,8 +4,10 @@ use Rattle.std.specs.Prelude.{slice_get, slice_index}
 use Rattle.std.specs.Option.{unwrap_or}
 use Rattle.hol_model.specs.Goals.Justifications.{Justification, sub, named, lemma, by_rule, part}
 use Rattle.hol_model.specs.Goals.Splicing.{replace_subs, replace_subs_in_parts, numbered_portion, splice}
-use Rattle.hol_just.specs.Flat.{FlatLine, flat_sub, flat_named, flat_lemma, flat_rule, FlatJustification, FlatPortion, cited, cited_parts, tree_of_line, trees_after, tree, joined_lines, roots, all_subgoals, portion_of_flat, by_line, replaced_line, replaced_sub, Redirected, with_replaced, redirected, flat_splice}
-use Rattle.hol_just.proofs.FlatTrees.{AreBelow, CitesBelow, CiteEarlier, IsWellCited, AreWellCited, slice_get-kept, slice_get-end, trees_after-append, length-trees_after, length-one_more, portion_at_root}
+use Rattle.hol_just.specs.Flat.{FlatLine, flat_sub, flat_named, flat_lemma, flat_rule, FlatJustification, FlatPortion, cited, cited_parts, tree_of_line, trees_after, tree, joined_lines, roots}
+use Rattle.hol_just.specs.Flat.{all_subgoals, portion_of_flat, by_line, replaced_line, replaced_sub, Redirected, with_replaced, redirected, flat_splice}
+use Rattle.hol_just.proofs.FlatTrees.{AreBelow, CitesBelow, CiteEarlier, IsWellCited, AreWellCited, slice_get-kept, slice_get-end, trees_after-append, length-trees_after, length-one_more}
+use Rattle.hol_just.proofs.FlatTrees.{portion_at_root}
 
 -- each old tree, its subgoals replaced, stands among the new ones at its new place
 abbrev pub Carried : (ℕ → Justification) → List Justification → List ℕ → List Justification → Type 0
@@ -95,7 +97,8 @@ with_replaced-stands new portion_roots subgoals so_far olds (flat_rule rule plac
     with_line new (slice_get portion_roots) so_far olds (flat_rule rule (map (slice_index so_far.new_places) places)) (by_rule rule (cited_parts olds places)) stands
     (ap (by_rule rule) (Carried-parts new (trees_after [] so_far.lines) so_far.new_places olds stands.carried places cites))
 
-redirected-stands : (new : ℕ → Justification) (portion_roots : List ℕ) (subgoals : ℕ) (lines : List FlatLine) (so_far : Redirected) (olds : List Justification) (count : ℕ) → StandsPast new portion_roots subgoals
+redirected-stands : (new : ℕ → Justification) (portion_roots : List ℕ) (subgoals : ℕ) (lines : List FlatLine) (so_far : Redirected) (olds : List Justification) (count : ℕ) →
+    StandsPast new portion_roots subgoals
     → length olds ≡ count → CiteEarlier count lines → Stands new (slice_get portion_roots) so_far olds
     → Stands new (slice_get portion_roots) (redirected portion_roots subgoals so_far lines) (trees_after olds lines)
 redirected-stands new portion_roots subgoals [] so_far olds count past same earlier stands = stands
@@ -134,11 +137,13 @@ flat-splice-tree flat portions well portions_well =
     let new : ℕ → Justification = numbered_portion 0 (map portion_of_flat portions) in
     let start : Redirected = record { lines = joined_lines 0 0 portions; new_places = [] } in
     let at_start : (i place : ℕ) → slice_get (roots 0 portions) i ≡ Some place → slice_get (trees_after [] (joined_lines 0 0 portions)) place ≡ Some (new i) =
-    λ i place is. ap (slice_get (trees_after [] (joined_lines 0 0 portions))) (sym (index-of (roots 0 portions) i place is)) ∙ portion_at_root portions [] 0 0 refl portions_well i (root-within portions 0 i place is) in
+    λ i place is. ap (slice_get (trees_after [] (joined_lines 0 0 portions))) (sym (index-of (roots 0 portions) i place is)) ∙ portion_at_root portions [] 0 0 refl portions_well i
+    (root-within portions 0 i place is) in
     let stands = redirected-stands new (roots 0 portions) (all_subgoals portions) flat.lines start [] 0
     (λ i none. portion-past portions 0 0 i none ∙ ap sub (omega arith)) refl well.lines (record { carried = tt; at_roots = at_start }) in
     let many = length-trees_after [] flat.lines in
     let root = well.root in
     let within : flat.root < length (trees_after [] flat.lines) = omega (arith, many, root) in
-    Carried-cited new (trees_after [] (redirected (roots 0 portions) (all_subgoals portions) start flat.lines).lines) (redirected (roots 0 portions) (all_subgoals portions) start flat.lines).new_places
+    Carried-cited new (trees_after [] (redirected (roots 0 portions) (all_subgoals portions) start flat.lines).lines)
+    (redirected (roots 0 portions) (all_subgoals portions) start flat.lines).new_places
     (trees_after [] flat.lines) stands.carried flat.root within

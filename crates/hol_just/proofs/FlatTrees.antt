@@ -1,12 +1,14 @@
 -- The trees of lines, of lines behind others, and of the roots of portions.
-use Rattle.std.proofs.Common.{◌≡◌, ℕ, zero, suc, ◌+◌, ◌<◌, List, [], ◌∷◌, ◌++◌, Bool, true, false, ◌&&◌, length, map, refl, sym, ◌∙◌, ap, Option, Some, None, arith, length-append, append_assoc, append-nil}
+use Rattle.std.proofs.Common.{◌≡◌, ℕ, zero, suc, ◌+◌, ◌<◌, List, [], ◌∷◌, ◌++◌, Bool, true, false, ◌&&◌, length, map, refl, sym, ◌∙◌, ap, Option, Some, None, arith, length-append, append_assoc}
+use Rattle.std.proofs.Common.{append-nil}
 use Rattle.std.specs.Prelude.{slice_get, slice_index, nat_le}
 use Rattle.std.specs.Option.{unwrap_or, option_map}
 use Rattle.std.proofs.lemmas.Option.{slice_get-map}
 use Rattle.std.proofs.lemmas.Bool.{leb-true, le-leb}
 use Rattle.hol_model.specs.Goals.Justifications.{Justification, sub, named, by_rule, part}
 use Rattle.hol_model.specs.Goals.Splicing.{replace_subs_in_parts, shift_subs, numbered_portion}
-use Rattle.hol_just.specs.Flat.{FlatLine, flat_sub, flat_named, flat_lemma, flat_rule, FlatJustification, FlatPortion, cited, cited_parts, tree_of_line, trees_after, tree, are_below, cites_below, cite_earlier, is_well_cited, moved_line, joined_lines, roots, portion_of_flat}
+use Rattle.hol_just.specs.Flat.{FlatLine, flat_sub, flat_named, flat_lemma, flat_rule, FlatJustification, FlatPortion, cited, cited_parts, tree_of_line, trees_after, tree, are_below, cites_below}
+use Rattle.hol_just.specs.Flat.{cite_earlier, is_well_cited, moved_line, joined_lines, roots, portion_of_flat}
 
 -- what the test of citations says
 
@@ -45,8 +47,10 @@ test-below m n below = le-leb (suc m) n (omega (arith, below))
 
 below-from : (limit : ℕ) (places : List ℕ) → are_below limit places ≡ true → AreBelow limit places
 below-from limit [] passed = tt
-below-from limit (place ∷ places) passed =
-    (below-test place limit (first_of_both (nat_le (suc place) limit) (are_below limit places) passed), below-from limit places (second_of_both (nat_le (suc place) limit) (are_below limit places) passed))
+below-from limit (place ∷ places) passed = (
+  below-test place limit (first_of_both (nat_le (suc place) limit) (are_below limit places) passed),
+  below-from limit places (second_of_both (nat_le (suc place) limit) (are_below limit places) passed),
+)
 
 below-to : (limit : ℕ) (places : List ℕ) → AreBelow limit places → are_below limit places ≡ true
 below-to limit [] below = refl
@@ -66,8 +70,10 @@ cites-to limit (flat_rule rule places) below = below-to limit places below
 
 earlier-from : (before : ℕ) (lines : List FlatLine) → cite_earlier before lines ≡ true → CiteEarlier before lines
 earlier-from before [] passed = tt
-earlier-from before (line ∷ lines) passed =
-    (cites-from before line (first_of_both (cites_below before line) (cite_earlier (suc before) lines) passed), earlier-from (suc before) lines (second_of_both (cites_below before line) (cite_earlier (suc before) lines) passed))
+earlier-from before (line ∷ lines) passed = (
+  cites-from before line (first_of_both (cites_below before line) (cite_earlier (suc before) lines) passed),
+  earlier-from (suc before) lines (second_of_both (cites_below before line) (cite_earlier (suc before) lines) passed),
+)
 
 earlier-to : (before : ℕ) (lines : List FlatLine) → CiteEarlier before lines → cite_earlier before lines ≡ true
 earlier-to before [] below = refl
@@ -173,7 +179,8 @@ trees_after-moved trees own places subgoals (line ∷ lines) same =
   where
     one_more : (trees ++ map (shift_subs subgoals) own) ++ tree_of_line (trees ++ map (shift_subs subgoals) own) (moved_line places subgoals line) ∷ []
         ≡ trees ++ map (shift_subs subgoals) (own ++ tree_of_line own line ∷ [])
-    one_more = rw (tree_of_line-moved trees own places subgoals line same, map-one_more (shift_subs subgoals) own (tree_of_line own line)) (append_assoc trees (map (shift_subs subgoals) own) (shift_subs subgoals (tree_of_line own line) ∷ []))
+    one_more = rw (tree_of_line-moved trees own places subgoals line same, map-one_more (shift_subs subgoals) own (tree_of_line own line))
+        (append_assoc trees (map (shift_subs subgoals) own) (shift_subs subgoals (tree_of_line own line) ∷ []))
 
 length_map : (f : Justification → Justification) (xs : List Justification) → length (map f xs) ≡ length xs
 length_map f [] = refl
@@ -186,14 +193,20 @@ pub portion_at_root : (portions : List FlatPortion) (trees : List Justification)
 portion_at_root [] trees places subgoals same well i within = absurd (omega arith)
 portion_at_root (portion ∷ portions) trees places subgoals same well i within =
     ap (λ all. slice_get all (slice_index (roots places (portion ∷ portions)) i)) in_front
-    ∙ go i within (λ k below. portion_at_root portions (trees ++ map (shift_subs subgoals) (trees_after [] portion.justification.lines)) (places + length portion.justification.lines) (subgoals + portion.subgoals) longer well.1 k below)
+    ∙ go i within (λ k below. portion_at_root portions (trees ++ map (shift_subs subgoals) (trees_after [] portion.justification.lines)) (places + length portion.justification.lines)
+    (subgoals + portion.subgoals) longer well.1 k below)
   where
-    in_front : trees_after trees (map (moved_line places subgoals) portion.justification.lines ++ (joined_lines (places + length portion.justification.lines) (subgoals + portion.subgoals) portions)) ≡ trees_after (trees ++ map (shift_subs subgoals) (trees_after [] portion.justification.lines)) (joined_lines (places + length portion.justification.lines) (subgoals + portion.subgoals) portions)
+    in_front : trees_after trees (map (moved_line places subgoals) portion.justification.lines ++
+        (joined_lines (places + length portion.justification.lines) (subgoals + portion.subgoals) portions)) ≡ trees_after
+        (trees ++ map (shift_subs subgoals) (trees_after [] portion.justification.lines)) (joined_lines (places + length portion.justification.lines) (subgoals + portion.subgoals) portions)
     in_front =
         trees_after-append trees (map (moved_line places subgoals) portion.justification.lines) (joined_lines (places + length portion.justification.lines) (subgoals + portion.subgoals) portions)
-        ∙ ap (λ all. trees_after all (joined_lines (places + length portion.justification.lines) (subgoals + portion.subgoals) portions)) (ap (λ all. trees_after all (map (moved_line places subgoals) portion.justification.lines)) (sym (append-nil trees)) ∙ trees_after-moved trees [] places subgoals portion.justification.lines same)
+        ∙ ap (λ all. trees_after all (joined_lines (places + length portion.justification.lines) (subgoals + portion.subgoals) portions))
+        (ap (λ all. trees_after all (map (moved_line places subgoals) portion.justification.lines)) (sym (append-nil trees)) ∙ trees_after-moved trees [] places subgoals
+        portion.justification.lines same)
 
-    at_root : slice_get (trees ++ map (shift_subs subgoals) (trees_after [] portion.justification.lines)) (places + portion.justification.root) ≡ Some (shift_subs subgoals (tree portion.justification))
+    at_root : slice_get (trees ++ map (shift_subs subgoals) (trees_after [] portion.justification.lines)) (places + portion.justification.root) ≡ Some
+        (shift_subs subgoals (tree portion.justification))
     at_root =
         let many = length-trees_after [] portion.justification.lines in
         let root_within = well.0.root in
@@ -210,11 +223,14 @@ portion_at_root (portion ∷ portions) trees places subgoals same well i within 
 
     go : (i : ℕ) → i < length (portion ∷ portions)
         → ((k : ℕ) → k < length portions
-        → slice_get (trees_after (trees ++ map (shift_subs subgoals) (trees_after [] portion.justification.lines)) (joined_lines (places + length portion.justification.lines) (subgoals + portion.subgoals) portions)) (slice_index (roots (places + length portion.justification.lines) portions) k)
+        → slice_get (trees_after (trees ++ map (shift_subs subgoals) (trees_after [] portion.justification.lines))
+        (joined_lines (places + length portion.justification.lines) (subgoals + portion.subgoals) portions)) (slice_index (roots (places + length portion.justification.lines) portions) k)
         ≡ Some (numbered_portion (subgoals + portion.subgoals) (map portion_of_flat portions) k))
-        → slice_get (trees_after (trees ++ map (shift_subs subgoals) (trees_after [] portion.justification.lines)) (joined_lines (places + length portion.justification.lines) (subgoals + portion.subgoals) portions)) (slice_index (roots places (portion ∷ portions)) i)
+        → slice_get (trees_after (trees ++ map (shift_subs subgoals) (trees_after [] portion.justification.lines))
+        (joined_lines (places + length portion.justification.lines) (subgoals + portion.subgoals) portions)) (slice_index (roots places (portion ∷ portions)) i)
         ≡ Some (numbered_portion subgoals (map portion_of_flat (portion ∷ portions)) i)
     go zero within deeper =
-        trees_after-keeps (trees ++ map (shift_subs subgoals) (trees_after [] portion.justification.lines)) (joined_lines (places + length portion.justification.lines) (subgoals + portion.subgoals) portions)
+        trees_after-keeps (trees ++ map (shift_subs subgoals) (trees_after [] portion.justification.lines))
+        (joined_lines (places + length portion.justification.lines) (subgoals + portion.subgoals) portions)
         (places + portion.justification.root) (shift_subs subgoals (tree portion.justification)) at_root
     go (suc i) within deeper = deeper i (omega arith)

@@ -1,5 +1,6 @@
 -- Justifications put one behind another.
-use Rattle.std.proofs.Common.{◌≡◌, ℕ, suc, ◌+◌, ◌<◌, ◌≤◌, List, [], ◌∷◌, ◌++◌, length, map, drop, get_or, drop-cons, drop_of_length-le, true, refl, sym, ◌∙◌, ap, subst, Some, arith, length-append, append_assoc, append-nil, zero-add}
+use Rattle.std.proofs.Common.{◌≡◌, ℕ, suc, ◌+◌, ◌<◌, ◌≤◌, List, [], ◌∷◌, ◌++◌, length, map, drop, get_or, drop-cons, drop_of_length-le, true, refl, sym, ◌∙◌, ap, subst, Some, arith}
+use Rattle.std.proofs.Common.{length-append, append_assoc, append-nil, zero-add}
 use Rattle.std.proofs.lemmas.List.{map-append}
 use Rattle.std.proofs.lemmas.List.Sums.{sum_by-cons}
 use Rattle.std.specs.Prelude.{slice_get, slice_index, sum_by, Result, Ok, Err, IfOk, IfErr}
@@ -10,7 +11,8 @@ use Rattle.hol_model.specs.Goals.Justifications.{Justification, sub, named, lemm
 use Rattle.hol_model.specs.Goals.Justifications as justified
 use Rattle.hol_model.specs.Goals.Goals as spec
 use Rattle.hol_model.specs.Goals.Splicing.{replace_subs_in_parts, shift_subs, numbered_portion, goals_of_steps, splice, portion_of}
-use Rattle.hol_just.specs.Flat.{FlatLine, flat_rule, FlatJustification, FlatPortion, cited, cited_parts, trees_after, tree, is_well_cited, moved_line, joined_lines, roots, all_subgoals, portion_of_flat, redirected, flat_splice}
+use Rattle.hol_just.specs.Flat.{FlatLine, flat_rule, FlatJustification, FlatPortion, cited, cited_parts, trees_after, tree, is_well_cited, moved_line, joined_lines, roots, all_subgoals}
+use Rattle.hol_just.specs.Flat.{portion_of_flat, redirected, flat_splice}
 use Rattle.hol_just.specs.Lines.{flat_line, flat_lines, flat_of_lines}
 use Rattle.hol_just.specs.Steps.{flat_of, goal_of, tree_of, steps_of, step_of, goals_of, parts_of, flat_portion, IsRefused}
 use Rattle.hol_just.specs.Joining.{Adds, IsJoined, own_portion, redirected_of}
@@ -149,7 +151,11 @@ is-stepped rule parts joined line lines root is line_is lines_are root_is =
     let many = length-flat joined.lines.items in
     let here : root ≡ length (joined_lines 0 0 all) = root_is ∙ sym many ∙ ap length all_joined in
     let flat : flat_of_lines lines root ≡ stepped rule all =
-    λ i. record { lines = (ap flat_lines lines_are ∙ flat-append joined.lines.items line ∙ (λ j. all_joined j ++ line_is j ∷ []) ∙ (λ j. joined_lines 0 0 all ++ flat_rule rule (all_roots j) ∷ [])) i; root = here i } in
+    λ i. record {
+      lines = (ap flat_lines lines_are ∙ flat-append joined.lines.items line ∙ (λ j. all_joined j ++ line_is j ∷ []) ∙
+          (λ j. joined_lines 0 0 all ++ flat_rule rule (all_roots j) ∷ [])) i;
+      root = here i;
+    } in
     let counted = length-joined_lines 0 0 all in
     let own = lines-own parts in
     let longer : length lines ≡ length joined.lines.items + 1 = ap length lines_are ∙ length-append joined.lines.items (line ∷ []) in
@@ -178,7 +184,8 @@ portions-same (part ∷ parts) =
 
 lines-spliced : (parts : List Step) → all_lines (map flat_portion parts) ≡ sum_by (λ part. steps_of part.just) parts
 lines-spliced [] = refl
-lines-spliced (part ∷ parts) = let rest = lines-spliced parts in let first = length-flat part.just.node.value.lines.items in let whole = sum_by-cons (λ (step : Step). steps_of step.just) part parts in omega (arith, rest, first, whole)
+lines-spliced (part ∷ parts) = let rest = lines-spliced parts in let first = length-flat part.just.node.value.lines.items in let whole =
+    sum_by-cons (λ (step : Step). steps_of step.just) part parts in omega (arith, rest, first, whole)
 
 pub is-spliced : (just : Just) (parts : List Step) (joined : Joined) (subgoals : ℕ) (made : Spliced) (root : ℕ) → IsJoined joined subgoals [] (map flat_portion parts)
     → redirected_of made ≡ redirected joined.roots.items subgoals (record { lines = flat_lines joined.lines.items; new_places = [] }) (flat_of just).lines

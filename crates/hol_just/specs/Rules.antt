@@ -1,5 +1,8 @@
 -- The rules of the table that stand in the code.
-use Rattle.hol_model.specs.Derived.InferenceRules.{InferenceRule, rule_refl, rule_trans, rule_mk_comb, rule_abs, rule_beta, rule_assume, rule_eq_mp, rule_deduct_antisym, rule_inst, rule_inst_type, rule_eta_axiom, rule_select_axiom, rule_sym, rule_add_assum, rule_prove_hyp, rule_eqt_intro, rule_eqt_elim, rule_beta_conv, rule_conj, rule_conjunct1, rule_conjunct2, rule_disch, rule_undisch, rule_mp, rule_spec, rule_gen, rule_disj1, rule_disj2, rule_disj_cases, rule_contr, rule_not_intro, rule_not_elim, rule_exists, rule_choose}
+use Rattle.hol_model.specs.Derived.InferenceRules.{InferenceRule, rule_refl, rule_trans, rule_mk_comb, rule_abs, rule_beta, rule_assume, rule_eq_mp, rule_deduct_antisym, rule_inst}
+use Rattle.hol_model.specs.Derived.InferenceRules.{rule_inst_type, rule_eta_axiom, rule_select_axiom, rule_sym, rule_add_assum, rule_prove_hyp, rule_eqt_intro, rule_eqt_elim, rule_beta_conv}
+use Rattle.hol_model.specs.Derived.InferenceRules.{rule_conj, rule_conjunct1, rule_conjunct2, rule_disch, rule_undisch, rule_mp, rule_spec, rule_gen, rule_disj1, rule_disj2, rule_disj_cases}
+use Rattle.hol_model.specs.Derived.InferenceRules.{rule_contr, rule_not_intro, rule_not_elim, rule_exists, rule_choose}
 use Rattle.hol_just.specs.declared.rule.Rule.{Rule}
 use Rattle.hol_just.specs.declared.rule.Rule.TheVariants as rules
 

@@ -26,8 +26,10 @@ use Rattle.hol_laws_steps.proofs.Splicing.{replace_subs-sequent, splices-valid}
 use Rattle.hol_laws_steps.proofs.Growing.{stays-valid}
 use Rattle.hol_model.specs.Kernel.Answers.{goes_on, stops}
 use Rattle.hol_model.specs.Goals.Replays.{Store, sequents_in, IsKnownGoal, AreKnownGoals, HasSequent, IsWant, AnswersReplay, is_within_depth}
-use Rattle.hol_model.specs.Goals.GoalStates.{Stage, underway, proved, Proof, untouched, begun, advanced, goal_of, restored, rotated_goals, rotated_number, rotated_once, rotated, rotated_stage, Focus, focus_outcome, stage_focus, step_focus, expanded, closing_outcome, IsStageOf, reverted_to}
-use Rattle.hol_model.specs.Goals.GoalLaws.{IsSettable, IsValidStage, AreValidStages, IsValidProof, IsValidIfAny, IsValidStack, Replays, SetIsValid, BackIsValid, RotateIsValid, ExpandIsValid, ExpandFailsForSize, RevertIsValid, ProofsStayValid}
+use Rattle.hol_model.specs.Goals.GoalStates.{Stage, underway, proved, Proof, untouched, begun, advanced, goal_of, restored, rotated_goals, rotated_number, rotated_once, rotated, rotated_stage}
+use Rattle.hol_model.specs.Goals.GoalStates.{Focus, focus_outcome, stage_focus, step_focus, expanded, closing_outcome, IsStageOf, reverted_to}
+use Rattle.hol_model.specs.Goals.GoalLaws.{IsSettable, IsValidStage, AreValidStages, IsValidProof, IsValidIfAny, IsValidStack, Replays, SetIsValid, BackIsValid, RotateIsValid, ExpandIsValid}
+use Rattle.hol_model.specs.Goals.GoalLaws.{ExpandFailsForSize, RevertIsValid, ProofsStayValid}
 use Rattle.hol_model.specs.Goals.GoodSteps.{IsGoodStep}
 use Rattle.hol_laws_goals.proofs.Passing.{passed, not_refused, followed, passes_tests}
 use Rattle.hol_laws_goals.proofs.Knowledge.{formula-typed, first_unknown-stays, known_goals-stay}
@@ -68,7 +70,8 @@ take-valid theory store goal zero (stage ∷ stages) valid = tt
 take-valid theory store goal (suc n) [] valid = tt
 take-valid theory store goal (suc n) (stage ∷ stages) valid = (valid.0, take-valid theory store goal n stages valid.1)
 
-advanced-valid : (theory : Theory) (store : Store) (proof : Proof) (stage : Stage) → IsValidProof theory store proof → IsValidStage theory store proof.goal stage → IsValidProof theory store (advanced proof stage)
+advanced-valid : (theory : Theory) (store : Store) (proof : Proof) (stage : Stage) → IsValidProof theory store proof → IsValidStage theory store proof.goal stage →
+    IsValidProof theory store (advanced proof stage)
 advanced-valid theory store proof stage valid new = record {
   settable = valid.settable;
   stage = new;
@@ -207,7 +210,8 @@ pub record IsFocusOf (found : Option Proof) (focus : Focus) : Type 0 where
   stage : focus.proof.stage ≡ underway focus.step
   goals : focus.step.goals ≡ focus.goal ∷ focus.others
 
-focus-goals : (proof : Proof) (step : Step) → proof.stage ≡ underway step → (goals : List Goal) → step.goals ≡ goals → (focus : Focus) → step_focus proof step goals ≡ Ok focus → IsFocusOf (Some proof) focus
+focus-goals : (proof : Proof) (step : Step) → proof.stage ≡ underway step → (goals : List Goal) → step.goals ≡ goals → (focus : Focus) → step_focus proof step goals ≡ Ok focus →
+    IsFocusOf (Some proof) focus
 focus-goals proof step stage [] there focus same = cc
 focus-goals proof step stage (goal ∷ others) there focus same =
     let made : Focus = record { proof = proof; step = step; goal = goal; others = others } in
@@ -254,7 +258,8 @@ expanded-valid theory store focus refinement sound refined =
     }
 
 -- a stage that is reached
-stage-valid : (theory : Theory) (store : Store) (room : Justification → Bool) (goal : Goal) (step : Step) → IsSettable theory goal → IsGoodStep theory store goal step → (deep : Bool) (goals : List Goal) (stage : Stage)
+stage-valid : (theory : Theory) (store : Store) (room : Justification → Bool) (goal : Goal) (step : Step) → IsSettable theory goal → IsGoodStep theory store goal step →
+    (deep : Bool) (goals : List Goal) (stage : Stage)
     → IsStageOf theory (Replays theory store room) goal step deep goals (Ok stage) → IsValidStage theory store goal stage
 stage-valid theory store room goal step settable opening false goals stage is = cc
 stage-valid theory store room goal step settable opening true (first ∷ others) stage is =
@@ -274,7 +279,8 @@ expand-valid theory store room found focus refinement proof valid same refined (
     let one : proof ≡ advanced focus.proof stage = cc in
     subst (λ (p : Proof). IsValidProof theory store p) (sym one)
     (advanced-valid theory store focus.proof stage sound.proof
-    (stage-valid theory store room focus.proof.goal (expanded focus refinement) sound.proof.settable opening (is_within_depth (expanded focus refinement).justification) (expanded focus refinement).goals stage is_stage))
+    (stage-valid theory store room focus.proof.goal (expanded focus refinement) sound.proof.settable opening (is_within_depth (expanded focus refinement).justification)
+    (expanded focus refinement).goals stage is_stage))
 
 -- ---- refusals of an expansion
 
@@ -291,7 +297,8 @@ replay-refused room goal None fault gives is = cc (gives.is_given)
 replay-refused room goal (Some sequent) fault gives is = want-for_size fault room is
 
 -- and its theorem achieves the goal
-replay-has : (room : Bool) (goal : Goal) (answer : Option Sequent) (theorem : Theorem) → (gives : GivesAchieving goal answer) → AnswersReplay room answer (Ok theorem) → HasSequent gives.sequent theorem
+replay-has : (room : Bool) (goal : Goal) (answer : Option Sequent) (theorem : Theorem) → (gives : GivesAchieving goal answer) → AnswersReplay room answer (Ok theorem) →
+    HasSequent gives.sequent theorem
 replay-has room goal None theorem gives is = cc (gives.is_given)
 replay-has room goal (Some sequent) theorem gives is =
     (let one : sequent ≡ gives.sequent = cc (gives.is_given) in subst (λ (s : Sequent). HasSequent s theorem) one is)
@@ -300,7 +307,8 @@ is_not_refused : {A B : Type 0} (made : Result A Fault) (x : A) (next : A → B)
 is_not_refused (Ok y) x next fault same is = cc
 is_not_refused (Err other) x next fault same is = cc
 
-stage-refused : (theory : Theory) (store : Store) (room : Justification → Bool) (goal : Goal) (step : Step) → IsSettable theory goal → IsGoodStep theory store goal step → (deep : Bool) (goals : List Goal) → step.goals ≡ goals → (fault : Fault)
+stage-refused : (theory : Theory) (store : Store) (room : Justification → Bool) (goal : Goal) (step : Step) → IsSettable theory goal → IsGoodStep theory store goal step →
+    (deep : Bool) (goals : List Goal) → step.goals ≡ goals → (fault : Fault)
     → IsStageOf theory (Replays theory store room) goal step deep goals (Err fault) → ForSize fault
 stage-refused theory store room goal step settable opening false goals there fault is = (let one : fault ≡ TooLarge = cc in inr one)
 stage-refused theory store room goal step settable opening true (first ∷ others) there fault is = cc
@@ -323,7 +331,8 @@ expand-refused theory store room found focus refinement fault valid same refined
     let opening = expanded-valid theory store focus refinement sound refined in
     let one : fault ≡ other = cc in
     subst ForSize (sym one)
-    (stage-refused theory store room focus.proof.goal (expanded focus refinement) sound.proof.settable opening (is_within_depth (expanded focus refinement).justification) (expanded focus refinement).goals refl other is_stage)
+    (stage-refused theory store room focus.proof.goal (expanded focus refinement) sound.proof.settable opening (is_within_depth (expanded focus refinement).justification)
+    (expanded focus refinement).goals refl other is_stage)
 
 -- ---- the stack
 
@@ -361,6 +370,7 @@ proofs-stay earlier now old new is_earlier legal stored proof valid = record {
   kept = stages-stay earlier now old new is_earlier legal stored proof.goal proof.kept valid.kept;
 }
 
-pub if_any-stays : (earlier now : Theory) (old new : Store) → IsEarlier earlier now → IsLegal now → IsLaterStore (sequents_in old) (sequents_in new) → (found : Option Proof) → IsValidIfAny earlier old found → IsValidIfAny now new found
+pub if_any-stays : (earlier now : Theory) (old new : Store) → IsEarlier earlier now → IsLegal now → IsLaterStore (sequents_in old) (sequents_in new) → (found : Option Proof) →
+    IsValidIfAny earlier old found → IsValidIfAny now new found
 if_any-stays earlier now old new is_earlier legal stored None valid = tt
 if_any-stays earlier now old new is_earlier legal stored (Some proof) valid = proofs-stay earlier now old new is_earlier legal stored proof valid

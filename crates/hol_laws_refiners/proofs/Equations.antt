@@ -25,7 +25,12 @@ use Rattle.hol_model.proofs.Terms.Typing.{one_type}
 use Rattle.hol_model.specs.Goals.Replays.{Store}
 use Rattle.hol_model.specs.Rewrites.Rewriting.{Rewrites, none_matches, rewrites, instance_is_too_large, replaced, IsRewritten, Applies}
 use Rattle.hol_model.specs.Refining.HostFunctions.{HostEquation, AnswersHostEquation, HostConversions}
-use Rattle.hol_model.specs.Refining.Conversions.{Conversion, Conversions, Converts, ConvertsOn, redex_outcome, binder_answer, of_body, of_parts, of_argument, of_function, if_changed, no_step_is_left, all_converts, no_converts, beta_converts, theorem_is_unknown, has_no_rules, theorem_rewrites, rules_rewrite, host_is_unknown, host_fails, host_converts, has_no_such_part, is_too_deep, argument_converts, function_converts, body_converts, same_without_parts, first_part_is_refused, parts_convert, only_part_converts, first_is_refused, first_goes_on, first_answers, first_is_not_caught, last_is_refused, first_is_caught, converts_if_changed, converts_as_defined, finds_no_memory, ends, next_is_refused, is_not_joined, is_joined, goes_on_without_memory}
+use Rattle.hol_model.specs.Refining.Conversions.{Conversion, Conversions, Converts, ConvertsOn, redex_outcome, binder_answer, of_body, of_parts, of_argument, of_function, if_changed}
+use Rattle.hol_model.specs.Refining.Conversions.{no_step_is_left, all_converts, no_converts, beta_converts, theorem_is_unknown, has_no_rules, theorem_rewrites, rules_rewrite, host_is_unknown}
+use Rattle.hol_model.specs.Refining.Conversions.{host_fails, host_converts, has_no_such_part, is_too_deep, argument_converts, function_converts, body_converts, same_without_parts}
+use Rattle.hol_model.specs.Refining.Conversions.{first_part_is_refused, parts_convert, only_part_converts, first_is_refused, first_goes_on, first_answers, first_is_not_caught, last_is_refused}
+use Rattle.hol_model.specs.Refining.Conversions.{first_is_caught, converts_if_changed, converts_as_defined, finds_no_memory, ends, next_is_refused, is_not_joined, is_joined}
+use Rattle.hol_model.specs.Refining.Conversions.{goes_on_without_memory}
 use Rattle.hol_laws_refiners.specs.Laws.{IsEquationOf, ConversionsAnswerEquations, EquationsOfTargets}
 use Rattle.hol_laws_refiners.proofs.FormulaParts.{equation-parts}
 
@@ -191,7 +196,8 @@ rewritten-equation : (t : NamedTerm) (rule theorem : Theorem) (by : _) → Appli
 rewritten-equation t rule theorem by applies is =
     let shape = equation-image rule.conclusion applies.sides applies.is_equation in
     let same : image theorem.conclusion ≡ replaced by (app (app (const equality_name shape.ty) (image applies.sides.0)) (image applies.sides.1)) = is.conclusion ∙ ap (replaced by) shape.same in
-    from-image t theorem _ (replaced by (image applies.sides.1)) (same ∙ ap (λ (l : Nameless). app (app (replaced by (const equality_name shape.ty)) l) (replaced by (image applies.sides.1))) applies.matches.is_match.gives_term)
+    from-image t theorem _ (replaced by (image applies.sides.1)) (same ∙ ap (λ (l : Nameless). app (app (replaced by (const equality_name shape.ty)) l) (replaced by (image applies.sides.1)))
+    applies.matches.is_match.gives_term)
 
 rewrites-equation : (rules : List Theorem) (t : NamedTerm) (answer : Result Theorem Fault) → Rewrites rules t answer → AnswersEquation t answer
 rewrites-equation rules t answer (none_matches none) = eq-err t NoMatch

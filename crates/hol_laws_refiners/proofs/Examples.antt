@@ -63,7 +63,8 @@ too-few : (theory : Theory) (host : Host) (mid after : Stage) (first step : Step
     → ¬ (RunsOn theory host mid first (tac.one_link (tac.then_all (leaf all_tac))) (Ok step) after)
 too-few theory host mid after first step goal is few (tac.next_goes_on {mid = next} {tasks} {steps} assigned each fits s) =
     let same : on_all (leaf all_tac) first.goals ≡ tasks = cc (assigned) in
-    no-step theory host mid next goal steps few (subst (λ (goals : List Goal). RunsEach theory host mid (on_all (leaf all_tac) goals) (Ok steps) next) is (subst (λ (ts : _). RunsEach theory host mid ts (Ok steps) next) (sym same) each))
+    no-step theory host mid next goal steps few (subst (λ (goals : List Goal). RunsEach theory host mid (on_all (leaf all_tac) goals) (Ok steps) next) is
+    (subst (λ (ts : _). RunsEach theory host mid ts (Ok steps) next) (sym same) each))
 
 two-steps : (theory : Theory) (host : Host) (store : Store) (term : NamedTerm) → TwoSteps theory host store term
 two-steps theory host store term = record {
@@ -136,12 +137,14 @@ module _ (theory : Theory) (store : Store) (hosts : HostConversions) (depth : �
   unchanged =
       let differs : are_alpha_equivalent x x ≡ true = (same_term-Decides (image x) (image x)).1 refl in
       subst (λ (answer : Result Theorem Fault). Err ConvFails ≡ conv.if_changed x answer) (sym is)
-      (subst (λ (found : Option (NamedTerm × NamedTerm)). Err ConvFails ≡ given found ConvFails (λ sides. unless (not (are_alpha_equivalent sides.1 x)) ConvFails (Ok same))) (sym (refl-sides theory x same is))
+      (subst (λ (found : Option (NamedTerm × NamedTerm)). Err ConvFails ≡ given found ConvFails (λ sides. unless (not (are_alpha_equivalent sides.1 x)) ConvFails (Ok same)))
+      (sym (refl-sides theory x same is))
       (rw differs refl))
 
   stays : (left : ℕ) (next : conv.Conversions) (c : conv.Conversion)
       → conv.Converts theory store hosts depth (suc (suc left)) (conv.try_conv (conv.thenc (conv.changed_conv (conv.sub_conv c)) next)) x (Ok same) left
-  stays left next c = conv.converts_as_defined refl (conv.first_is_caught (conv.first_is_refused (conv.converts_if_changed (conv.same_without_parts refl) unchanged)) refl (conv.first_answers (all-answers left)))
+  stays left next c = conv.converts_as_defined refl (conv.first_is_caught (conv.first_is_refused (conv.converts_if_changed (conv.same_without_parts refl) unchanged)) refl
+      (conv.first_answers (all-answers left)))
 
   four : (left : ℕ) (joined : Theorem) → trans_outcome theory same same ≡ Ok joined
       → conv.Converts theory store hosts depth (suc (suc (suc (suc left)))) (conv.top_depth_conv (conv.rules_conv [])) x (Ok joined) left

@@ -61,7 +61,8 @@ connected-parts theory name generic (combination (combination (constant other ty
         let b_is : b ≡ sides.1 = ap (λ (s : NamedTerm × NamedTerm). s.1) same in
         let generic_here : generic_type theory other ≡ Some binary = ap (generic_type theory) named ∙ generic in
         let ty_is : ty ≡ binary = fixed-type theory other binary ty generic_here (λ tau. refl) known.parts.0.0.1 in
-        let typed : HasType [] (app (app (const other binary) (image a)) (image b)) bool_type = subst (λ (t : HolType). HasType [] (app (app (const other t) (image a)) (image b)) bool_type) ty_is known.typed in
+        let typed : HasType [] (app (app (const other binary) (image a)) (image b)) bool_type =
+        subst (λ (t : HolType). HasType [] (app (app (const other t) (image a)) (image b)) bool_type) ty_is known.typed in
         let first : typed.1.0 ≡ bool_type = cc in
         let second : typed.0 ≡ bool_type = cc in
         let left_known : IsKnown theory (image a) bool_type = record { typed = subst (λ (t : HolType). HasType [] (image a) t) first typed.1.2; parts = known.parts.0.1 } in
@@ -158,7 +159,8 @@ equation-parts theory legal (combination (combination (constant other ty) a) b) 
         let generic_here : generic_type theory other ≡ Some (equality_type type_a) = ap (generic_type theory) named ∙ generic_type-logical theory legal equality_name (equality_type type_a) refl in
         let generic_is : there.generic ≡ equality_type type_a = same_type there.generic (equality_type type_a) (sym there.is_generic ∙ generic_here) in
         let ty_is : ty ≡ equality_type element = there.is_instance.is_instance ∙ ap (instantiate_type there.is_instance.instance) generic_is in
-        let typed : HasType [] (app (app (const other (equality_type element)) (image a)) (image b)) bool_type = subst (λ (t : HolType). HasType [] (app (app (const other t) (image a)) (image b)) bool_type) ty_is known.typed in
+        let typed : HasType [] (app (app (const other (equality_type element)) (image a)) (image b)) bool_type =
+        subst (λ (t : HolType). HasType [] (app (app (const other t) (image a)) (image b)) bool_type) ty_is known.typed in
         let first : typed.1.0 ≡ element = cc in
         let second : typed.0 ≡ element = cc in
         let left_known : IsKnown theory (image a) element = record { typed = subst (λ (t : HolType). HasType [] (image a) t) first typed.1.2; parts = known.parts.0.1 } in
@@ -224,7 +226,8 @@ quantified-parts theory quantifier_name generic (combination (constant other s) 
     go true tested dest =
         let one : Abstracted = record { name = name; ty = ty; body = body } in
         let same : one ≡ at = cc in
-        let k : IsKnown theory (app (const other s) (lam ty (close name ty (image body)))) bool_type = subst (λ (t : Nameless). IsKnown theory (app (const other s) t) bool_type) (image-abstraction name ty body) known in
+        let k : IsKnown theory (app (const other s) (lam ty (close name ty (image body)))) bool_type =
+        subst (λ (t : Nameless). IsKnown theory (app (const other s) t) bool_type) (image-abstraction name ty body) known in
         subst (IsQuantified theory quantifier_name (combination (constant other s) (abstraction name ty body))) same (of_found ((bytes_eq-Decides other quantifier_name).0 tested) k)
 quantified-parts theory quantifier_name generic (combination (constant other s) (variable name ty)) at dest known = cc
 quantified-parts theory quantifier_name generic (combination (constant other s) (constant name ty)) at dest known = cc

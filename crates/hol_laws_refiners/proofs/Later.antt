@@ -9,7 +9,11 @@ use Rattle.hol_model.proofs.Terms.Membership.{of_append}
 use Rattle.hol_model.specs.Goals.ValidSteps.{Step}
 use Rattle.hol_model.specs.Goals.Replays.{Store, with_lemma, IsProvedOver}
 use Rattle.hol_model.specs.Refining.HostFunctions.{Host}
-use Rattle.hol_model.specs.Refining.Combinators.{Tactic, Links, Stage, at, IsLater, Runs, RunsOn, RunsEach, RepeatsSoFar, no_step_is_left, leaf_refines, leaf_is_refused, conversion_is_refused, conversion_is_not_assumed, conversion_refines, taut_is_refused, taut_refines, host_is_unknown, host_fails, host_refines, first_is_refused, first_goes_on, first_answers, first_is_not_caught, last_is_refused, first_is_caught, repeat_is_too_deep, runs_as_defined, finds_no_memory, ends, lengths_differ, next_is_refused, splice_is_too_deep, next_goes_on, goes_on_without_memory, none_is_left, one_is_refused, one_is_done, each_finds_no_memory, has_run, goes_down}
+use Rattle.hol_model.specs.Refining.Combinators.{Tactic, Links, Stage, at, IsLater, Runs, RunsOn, RunsEach, RepeatsSoFar, no_step_is_left, leaf_refines, leaf_is_refused, conversion_is_refused}
+use Rattle.hol_model.specs.Refining.Combinators.{conversion_is_not_assumed, conversion_refines, taut_is_refused, taut_refines, host_is_unknown, host_fails, host_refines, first_is_refused}
+use Rattle.hol_model.specs.Refining.Combinators.{first_goes_on, first_answers, first_is_not_caught, last_is_refused, first_is_caught, repeat_is_too_deep, runs_as_defined, finds_no_memory, ends}
+use Rattle.hol_model.specs.Refining.Combinators.{lengths_differ, next_is_refused, splice_is_too_deep, next_goes_on, goes_on_without_memory, none_is_left, one_is_refused, one_is_done}
+use Rattle.hol_model.specs.Refining.Combinators.{each_finds_no_memory, has_run, goes_down}
 use Rattle.hol_laws_refiners.proofs.Spending.{converts-spends}
 
 module _ (theory : Theory) where
@@ -59,7 +63,8 @@ module _ (theory : Theory) where
       runs-later (leaf_is_refused {store} {left} is) = later-step store left
       runs-later (conversion_is_refused {store} {steps} {left} by r) = later-falls store left steps (converts-spends theory store host.conversions r)
       runs-later (conversion_is_not_assumed {store} {steps} {left} by r foreign) = later-falls store left steps (converts-spends theory store host.conversions r)
-      runs-later (conversion_refines {store} {steps} {left} {theorem} by r assumed proved dest equates is) = later-lemma store left steps theorem (converts-spends theory store host.conversions r) proved
+      runs-later (conversion_refines {store} {steps} {left} {theorem} by r assumed proved dest equates is) =
+          later-lemma store left steps theorem (converts-spends theory store host.conversions r) proved
       runs-later (taut_is_refused {store} {left} is) = later-step store left
       runs-later (taut_refines {store} {left} {theorem} answers proved is) = let le : left ≤ left = omega arith in later-lemma store left left theorem le proved
       runs-later (host_is_unknown {store} {left} lacks) = later-step store left

@@ -18,7 +18,8 @@ use Rattle.hol_model.specs.Kernel.Theorem.{Theorem, are_alpha_equivalent, withou
 use Rattle.hol_model.specs.Kernel.Rules.{dest_equation, is_formula}
 use Rattle.hol_model.specs.Derived.DerivedRules.{Conclusion, named, up_to_names, conclusion_image, body_with, is_of_type}
 use Rattle.hol_model.specs.Goals.Goals.{Sequent, Goal}
-use Rattle.hol_model.specs.Derived.InferenceRules.{rule_refl, rule_assume, rule_conj, rule_disj1, rule_disj2, rule_gen, rule_exists, rule_undisch, rule_deduct_antisym, rule_disch, rule_not_intro, rule_mp, rule_prove_hyp, rule_disj_cases, rule_choose}
+use Rattle.hol_model.specs.Derived.InferenceRules.{rule_refl, rule_assume, rule_conj, rule_disj1, rule_disj2, rule_gen, rule_exists, rule_undisch, rule_deduct_antisym, rule_disch, rule_not_intro}
+use Rattle.hol_model.specs.Derived.InferenceRules.{rule_mp, rule_prove_hyp, rule_disj_cases, rule_choose}
 use Rattle.hol_model.proofs.Logic.Later.{Derivable-earlier}
 use Rattle.hol_model.proofs.Logic.Known.{IsKnownSequent, Derivable-known}
 use Rattle.hol_model.proofs.Terms.Images.{image-typed}
@@ -30,15 +31,19 @@ use Rattle.hol_model.specs.Goals.Justifications.{sequent_of}
 use Rattle.hol_model.specs.Goals.Justifications as tree
 use Rattle.hol_laws_steps.proofs.Members.{is_among-member}
 use Rattle.hol_model.specs.Goals.Replays.{Store, sequents_in, sequent_of_theorem, IsStoreOver, IsKnownGoal}
-use Rattle.hol_model.specs.Refining.Refiners.{one_part, two_parts, three_parts, StatedStep, from_assumptions, assuming, toward, from_first, from_second, is_taken, is_taken_beside, has_free_name, IsFreshFor, IsFreshAfter, table, all_tac, accept_tac, assumption_tac, assume_tac, refl_tac, conj_tac, eq_tac, disj1_tac, disj2_tac, disch_tac, gen_tac, exists_tac, mp_tac, disj_cases_tac, choose_tac, undisch_tac, discharged}
+use Rattle.hol_model.specs.Refining.Refiners.{one_part, two_parts, three_parts, StatedStep, from_assumptions, assuming, toward, from_first, from_second, is_taken, is_taken_beside, has_free_name}
+use Rattle.hol_model.specs.Refining.Refiners.{IsFreshFor, IsFreshAfter, table, all_tac, accept_tac, assumption_tac, assume_tac, refl_tac, conj_tac, eq_tac, disj1_tac, disj2_tac, disch_tac}
+use Rattle.hol_model.specs.Refining.Refiners.{gen_tac, exists_tac, mp_tac, disj_cases_tac, choose_tac, undisch_tac, discharged}
 use Rattle.hol_model.specs.Rewrites.RenamedBody.{renamed_body}
 use Rattle.hol_model.specs.Goals.Achieving.{are_assumed, is_assumed}
 use Rattle.hol_model.specs.Refining.RefinerConditions.{HasLogic}
 use Rattle.hol_laws_refiners.proofs.RenamedBody.{renamed_body-image}
 use Rattle.hol_laws_refiners.proofs.FormulaParts.{logical-type, connected-parts, negated-part, equation-parts, quantified-parts, AreSides}
 use Rattle.hol_laws_refiners.proofs.FillingKnown.{connected-known, false-known, fill-known, is_of_type-type, no-name, none-passes}
-use Rattle.hol_laws_refiners.proofs.Proving.{Proves, of_one, of_two, of_three, by_conj, by_disj1, by_disj2, by_undisch, by_disch, by_not_intro, by_mp, by_deduct, by_disj_cases, by_refl, by_assume, by_gen, by_prove_hyp, by_exists, by_choose}
-use Rattle.hol_laws_refiners.proofs.StatedSteps.{Meets, meets-more, meets-none, with_none, with_one, with_two, IsKnownStated, known-from, known-none, known-one, assumptions-known, IsGoodOutcome, good-unless, good-given, assumed-included}
+use Rattle.hol_laws_refiners.proofs.Proving.{Proves, of_one, of_two, of_three, by_conj, by_disj1, by_disj2, by_undisch, by_disch, by_not_intro, by_mp, by_deduct, by_disj_cases, by_refl}
+use Rattle.hol_laws_refiners.proofs.Proving.{by_assume, by_gen, by_prove_hyp, by_exists, by_choose}
+use Rattle.hol_laws_refiners.proofs.StatedSteps.{Meets, meets-more, meets-none, with_none, with_one, with_two, IsKnownStated, known-from, known-none, known-one, assumptions-known, IsGoodOutcome}
+use Rattle.hol_laws_refiners.proofs.StatedSteps.{good-unless, good-given, assumed-included}
 
 module _ (theory : Theory) (store : Store) (goal : Goal) (has : HasLogic theory) (over : IsStoreOver theory store) (known : IsKnownGoal theory goal) where
   abbrev h : List Nameless
@@ -100,7 +105,8 @@ module _ (theory : Theory) (store : Store) (goal : Goal) (has : HasLogic theory)
       good-unless theory store goal (are_assumed theorem.hypotheses goal) RefineFails _ (λ assumed.
       record {
         proves = with_none (ProvesBy target (tree.named name))
-            (subst (λ (c : Nameless). Proves h c (option_map sequent_of_theorem (store.named name))) ((same_term-Decides (image theorem.conclusion) target).0 same) (named-proves name theorem is assumed));
+            (subst (λ (c : Nameless). Proves h c (option_map sequent_of_theorem (store.named name))) ((same_term-Decides (image theorem.conclusion) target).0 same)
+            (named-proves name theorem is assumed));
         known = tt;
       })))
 
@@ -119,7 +125,11 @@ module _ (theory : Theory) (store : Store) (goal : Goal) (has : HasLogic theory)
             (named-proves name theorem is assumed)
             (record { sequent = s; is_given = refl; same_conclusion = met.conclusion; included = meets-more goal.assumptions (named theorem.conclusion ∷ []) (named goal.target) s met })
             (λ a b a_is a_in b_is b_in. by_prove_hyp theory h (image theorem.conclusion) target a b a_is a_in b_is b_in));
-        known = (known-from theory goal.assumptions (named theorem.conclusion ∷ []) (named goal.target) assumptions_known (known-one theory (image theorem.conclusion) (known-theorem name theorem is).conclusion) known.target, tt);
+        known = (
+          known-from theory goal.assumptions (named theorem.conclusion ∷ []) (named goal.target) assumptions_known
+              (known-one theory (image theorem.conclusion) (known-theorem name theorem is).conclusion) known.target,
+          tt,
+        );
       }))
 
   pub refl-good : Good (table store refl_tac goal [])
@@ -128,7 +138,8 @@ module _ (theory : Theory) (store : Store) (goal : Goal) (has : HasLogic theory)
       let parts = equation-parts theory has.legal goal.target sides is known.target in
       record {
         proves = with_none (ProvesBy target (tree.by_rule (rule_refl sides.0) tree.no_parts))
-            (subst (λ (c : Nameless). ProvesBy c (tree.by_rule (rule_refl sides.0) tree.no_parts) []) (ap (λ right. nameless_equation parts.ty (image sides.0) right) ((same_term-Decides (image sides.0) (image sides.1)).0 same) ∙ sym parts.same)
+            (subst (λ (c : Nameless). ProvesBy c (tree.by_rule (rule_refl sides.0) tree.no_parts) [])
+            (ap (λ right. nameless_equation parts.ty (image sides.0) right) ((same_term-Decides (image sides.0) (image sides.1)).0 same) ∙ sym parts.same)
             (by_refl theory h sides.0 parts.ty parts.left));
         known = tt;
       }))
@@ -202,10 +213,15 @@ module _ (theory : Theory) (store : Store) (goal : Goal) (has : HasLogic theory)
             (λ s t m n. subst (λ (c : Nameless). ProvesBy c justification (s ∷ t ∷ [])) (sym same)
             (of_two theory rule_deduct_antisym h (nameless_equation bool_type (image sides.0) (image sides.1)) (h ++ image sides.1 ∷ []) (h ++ image sides.0 ∷ []) (image sides.0) (image sides.1)
             (sequent_of theory (sequents_in store) (s ∷ t ∷ []) back) (sequent_of theory (sequents_in store) (s ∷ t ∷ []) forth)
-            (by_undisch theory (h ++ image sides.1 ∷ []) (image sides.1) (image sides.0) t n.conclusion (included-more t.hypotheses (image sides.1) (taken (implication sides.1 sides.0) t n)) (last-member (image sides.1)))
-            (by_undisch theory (h ++ image sides.0 ∷ []) (image sides.0) (image sides.1) s m.conclusion (included-more s.hypotheses (image sides.0) (taken (implication sides.0 sides.1) s m)) (last-member (image sides.0)))
+            (by_undisch theory (h ++ image sides.1 ∷ []) (image sides.1) (image sides.0) t n.conclusion (included-more t.hypotheses (image sides.1) (taken (implication sides.1 sides.0) t n))
+            (last-member (image sides.1)))
+            (by_undisch theory (h ++ image sides.0 ∷ []) (image sides.0) (image sides.1) s m.conclusion (included-more s.hypotheses (image sides.0) (taken (implication sides.0 sides.1) s m))
+            (last-member (image sides.0)))
             (λ a b a_is a_in b_is b_in. by_deduct theory h (image sides.0) (image sides.1) a b a_is a_in b_is b_in)));
-        known = (toward-known (implication sides.0 sides.1) (implication-known sides.0 sides.1 left right), (toward-known (implication sides.1 sides.0) (implication-known sides.1 sides.0 right left), tt));
+        known = (
+          toward-known (implication sides.0 sides.1) (implication-known sides.0 sides.1 left right),
+          (toward-known (implication sides.1 sides.0) (implication-known sides.1 sides.0 right left), tt),
+        );
       })))
     where
       formula-type : (t : NamedTerm) → is_formula t ≡ true → type_of t ≡ Some bool_type
@@ -232,7 +248,11 @@ module _ (theory : Theory) (store : Store) (goal : Goal) (has : HasLogic theory)
             (of_one theory rule_not_intro h (app (const not_name unary) (image p)) h (image (implication p false_term)) (sequent_of theory (sequents_in store) (s ∷ []) inner)
             (by_disch theory h (image p) (image false_term) p s refl part.known m.conclusion (meets-more goal.assumptions (named p ∷ []) (named false_term) s m))
             (λ a a_is a_in. by_not_intro theory h (image p) a a_is a_in)));
-        known = (known-from theory goal.assumptions (named p ∷ []) (named false_term) assumptions_known (known-one theory (image p) part.known) (false-known theory (logical-type theory has false_name bool_type refl)), tt);
+        known = (
+          known-from theory goal.assumptions (named p ∷ []) (named false_term) assumptions_known (known-one theory (image p) part.known)
+              (false-known theory (logical-type theory has false_name bool_type refl)),
+          tt,
+        );
       }
   discharged-good None None is or = tt
 
@@ -302,7 +322,11 @@ module _ (theory : Theory) (store : Store) (goal : Goal) (has : HasLogic theory)
         proves = with_one (toward goal (renamed_body q fresh)) (ProvesBy target justification)
             (λ s m. subst (λ (c : Nameless). ProvesBy c justification (s ∷ [])) (sym parts.same)
             (by_gen theory h fresh q.ty body s parts.type_known absent (not-assumed fresh q.ty new.is_fresh) (m.conclusion ∙ same) (meets-none goal.assumptions (renamed_body q fresh) s m)));
-        known = (toward-body-known (renamed_body q fresh) (subst (λ (t : Nameless). IsKnown theory t bool_type) (sym same) (fill-known theory (free fresh q.ty) q.ty bool_type body (record { typed = refl; parts = parts.type_known }) parts.body_typed parts.body_parts)), tt);
+        known = (
+          toward-body-known (renamed_body q fresh) (subst (λ (t : Nameless). IsKnown theory t bool_type) (sym same)
+              (fill-known theory (free fresh q.ty) q.ty bool_type body (record { typed = refl; parts = parts.type_known }) parts.body_typed parts.body_parts)),
+          tt,
+        );
       }))
 
   pub exists-good : (witness : NamedTerm) → (ty : HolType) → IsKnown theory (image witness) ty → Good (table store (exists_tac witness) goal [])
@@ -340,12 +364,19 @@ module _ (theory : Theory) (store : Store) (goal : Goal) (has : HasLogic theory)
         proves = with_one (assuming goal (renamed_body q fresh)) (ProvesBy target justification)
             (λ s m. of_two theory (rule_choose (variable fresh q.ty)) h target h (h ++ made ∷ []) whole target (option_map sequent_of_theorem (store.named name)) (Some s)
             (subst (λ (c : Nameless). Proves h c (option_map sequent_of_theorem (store.named name))) parts.same (named-proves name theorem is assumed))
-            (record { sequent = s; is_given = refl; same_conclusion = m.conclusion; included = subst (λ (t : Nameless). Includes s.hypotheses (h ++ t ∷ [])) same (meets-more goal.assumptions (renamed_body q fresh ∷ []) (named goal.target) s m) })
+            (record {
+              sequent = s;
+              is_given = refl;
+              same_conclusion = m.conclusion;
+              included =
+                  subst (λ (t : Nameless). Includes s.hypotheses (h ++ t ∷ [])) same (meets-more goal.assumptions (renamed_body q fresh ∷ []) (named goal.target) s m);
+            })
             (λ a b a_is a_in b_is b_in. by_choose theory h fresh q.ty body target a b (subst (λ (t : Nameless). occurs_free fresh q.ty t ≡ false) parts.same not_there)
             (not-taken fresh q.ty not_taken goal.target (inl refl)) (not-assumed fresh q.ty not_taken) a_is a_in b_is b_in));
         known = (
           known-from theory goal.assumptions (renamed_body q fresh ∷ []) (named goal.target) assumptions_known
-              (known-one theory (conclusion_image (renamed_body q fresh)) (subst (λ (t : Nameless). IsKnown theory t bool_type) (sym same) (fill-known theory (free fresh q.ty) q.ty bool_type body (record { typed = refl; parts = parts.type_known }) parts.body_typed parts.body_parts))) known.target,
+              (known-one theory (conclusion_image (renamed_body q fresh)) (subst (λ (t : Nameless). IsKnown theory t bool_type) (sym same)
+              (fill-known theory (free fresh q.ty) q.ty bool_type body (record { typed = refl; parts = parts.type_known }) parts.body_typed parts.body_parts))) known.target,
           tt,
         );
       }))))

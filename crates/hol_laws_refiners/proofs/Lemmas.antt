@@ -24,7 +24,9 @@ use Rattle.hol_model.specs.Goals.ValidSteps.{Step}
 use Rattle.hol_model.specs.Goals.Replays.{Store, sequents_in, sequent_of_theorem, with_lemma, IsStoreOver, IsProvedOver, IsKnownGoal}
 use Rattle.hol_model.specs.Refining.HostFunctions.{Host}
 use Rattle.hol_model.specs.Propositional.Tautologies.{falsity_of}
-use Rattle.hol_model.specs.Refining.Refiners.{Leaf, all_tac, no_tac, accept_tac, assumption_tac, assume_tac, refl_tac, conj_tac, eq_tac, disj1_tac, disj2_tac, disch_tac, gen_tac, exists_tac, mp_tac, disj_cases_tac, choose_tac, undisch_tac, conv_tac, rewrite_tac, taut_tac, StatedStep, toward, from_first, one_part, two_parts, IsFresh, table, IsStep, EquatesTarget, converted, proved_by_lemma, AnswersIfSmall, AnswersTautology}
+use Rattle.hol_model.specs.Refining.Refiners.{Leaf, all_tac, no_tac, accept_tac, assumption_tac, assume_tac, refl_tac, conj_tac, eq_tac, disj1_tac, disj2_tac, disch_tac, gen_tac, exists_tac}
+use Rattle.hol_model.specs.Refining.Refiners.{mp_tac, disj_cases_tac, choose_tac, undisch_tac, conv_tac, rewrite_tac, taut_tac, StatedStep, toward, from_first, one_part, two_parts, IsFresh}
+use Rattle.hol_model.specs.Refining.Refiners.{table, IsStep, EquatesTarget, converted, proved_by_lemma, AnswersIfSmall, AnswersTautology}
 use Rattle.hol_model.specs.Goals.Achieving.{are_assumed}
 use Rattle.hol_model.specs.Goals.GoodSteps.{IsGoodStep}
 use Rattle.hol_model.specs.Refining.RefinerConditions.{HasKnownWitness, HasLogic}
@@ -32,7 +34,8 @@ use Rattle.hol_laws_refiners.specs.Laws.{RefinersAnswerValid}
 use Rattle.hol_laws_refiners.proofs.FormulaParts.{logical-type, constant-is}
 use Rattle.hol_laws_refiners.proofs.Proving.{Proves, of_one, of_two, by_eq_mp, by_sym, by_eqt_elim}
 use Rattle.hol_laws_refiners.proofs.StatedSteps.{meets-none, with_none, with_one, known-from, known-none, assumptions-known, IsGoodStated, IsGoodOutcome, good-step, assumed-included}
-use Rattle.hol_laws_refiners.proofs.Leaves.{all-good, accept-good, assumption-good, assume-good, refl-good, conj-good, eq-good, disj1-good, disj2-good, disch-good, gen-good, exists-good, mp-good, disj_cases-good, choose-good, undisch-good}
+use Rattle.hol_laws_refiners.proofs.Leaves.{all-good, accept-good, assumption-good, assume-good, refl-good, conj-good, eq-good, disj1-good, disj2-good, disch-good, gen-good, exists-good, mp-good}
+use Rattle.hol_laws_refiners.proofs.Leaves.{disj_cases-good, choose-good, undisch-good}
 use Rattle.hol_laws_refiners.proofs.Running.{LeavesAreGood, runs-good}
 
 -- ---- the table
@@ -98,7 +101,8 @@ module _ (theory : Theory) (store : Store) (goal : Goal) (theorem : Theorem) whe
       equation_known : IsKnown theory (nameless_equation bool_type (image goal.target) (image right)) bool_type
       equation_known =
           subst (λ (t : Nameless). IsKnown theory t bool_type) equates
-          (Derivable-known theory has.legal (Derivable-earlier theorem.theory theory proved.earlier has.legal (map image theorem.hypotheses) (image theorem.conclusion) proved.proved.derivable)).conclusion
+          (Derivable-known theory has.legal (Derivable-earlier theorem.theory theory proved.earlier has.legal (map image theorem.hypotheses) (image theorem.conclusion)
+          proved.proved.derivable)).conclusion
 
       lemma_is : (sequents : List Sequent) → Proves h (nameless_equation bool_type (image goal.target) (image right)) (sequent_of theory (sequents_in after) sequents last)
       lemma_is sequents = subst (λ (c : Nameless). Proves h c (sequent_of theory (sequents_in after) sequents last)) equates (last-proves sequents assumed)
@@ -118,10 +122,12 @@ module _ (theory : Theory) (store : Store) (goal : Goal) (theorem : Theorem) whe
             known = tt;
           }
       go false is = record {
-        proves = with_one (toward goal (named right)) (λ sequents. Proves h (image goal.target) (sequent_of theory (sequents_in after) sequents (tree.by_rule rule_eq_mp (two_parts (tree.by_rule rule_sym (one_part last)) from_first))))
+        proves = with_one (toward goal (named right)) (λ sequents. Proves h (image goal.target)
+            (sequent_of theory (sequents_in after) sequents (tree.by_rule rule_eq_mp (two_parts (tree.by_rule rule_sym (one_part last)) from_first))))
             (λ s m. of_two theory rule_eq_mp h (image goal.target) h h (nameless_equation bool_type (image right) (image goal.target)) (image right)
             (sequent_of theory (sequents_in after) (s ∷ []) (tree.by_rule rule_sym (one_part last))) (Some s)
-            (of_one theory rule_sym h (nameless_equation bool_type (image right) (image goal.target)) h (nameless_equation bool_type (image goal.target) (image right)) (sequent_of theory (sequents_in after) (s ∷ []) last)
+            (of_one theory rule_sym h (nameless_equation bool_type (image right) (image goal.target)) h (nameless_equation bool_type (image goal.target) (image right))
+            (sequent_of theory (sequents_in after) (s ∷ []) last)
             (lemma_is (s ∷ [])) (λ a a_is a_in. by_sym theory h (image goal.target) (image right) a a_is a_in))
             (record { sequent = s; is_given = refl; same_conclusion = m.conclusion; included = meets-none goal.assumptions (named right) s m })
             (λ a b a_is a_in b_is b_in. by_eq_mp theory h (image right) (image goal.target) a b a_is a_in b_is b_in));

@@ -12,7 +12,8 @@ use Rattle.hol_model.specs.Logic.Logic.{true_term, false_term, conjunction, impl
 use Rattle.hol_model.specs.Logic.NamelessLogic.{disjunction, negation, dest_exists}
 use Rattle.hol_model.specs.Goals.Goals.{Sequent}
 use Rattle.hol_model.specs.Derived.DerivedRules.{is_among}
-use Rattle.hol_model.specs.Derived.InferenceRules.{InferenceRule, rule_refl, rule_assume, rule_eq_mp, rule_deduct_antisym, rule_sym, rule_prove_hyp, rule_eqt_elim, rule_conj, rule_disch, rule_undisch, rule_mp, rule_gen, rule_disj1, rule_disj2, rule_disj_cases, rule_not_intro, rule_exists, rule_choose}
+use Rattle.hol_model.specs.Derived.InferenceRules.{InferenceRule, rule_refl, rule_assume, rule_eq_mp, rule_deduct_antisym, rule_sym, rule_prove_hyp, rule_eqt_elim, rule_conj, rule_disch}
+use Rattle.hol_model.specs.Derived.InferenceRules.{rule_undisch, rule_mp, rule_gen, rule_disj1, rule_disj2, rule_disj_cases, rule_not_intro, rule_exists, rule_choose}
 use Rattle.hol_model.specs.Derived.Inference.{infer, require, conclude, all, all_but_without_variable, given, drawn, rule_sequent, unchanged, is_free_in_none, is_known_term, is_known_formula}
 use Rattle.hol_model.proofs.Logic.Checks.{knows_nameless-Decides}
 use Rattle.hol_model.proofs.Terms.TypeTests.{knows_type-Decides}

@@ -11,7 +11,8 @@ use Rattle.hol_model.specs.Kernel.Rules.{dest_equation, trans_outcome}
 use Rattle.hol_model.proofs.Tests.{same_term-Decides}
 use Rattle.hol_model.specs.Goals.Replays.{Store}
 use Rattle.hol_model.specs.Refining.HostFunctions.{HostConversions}
-use Rattle.hol_model.specs.Refining.Conversions.{Conversion, all_conv, thenc, orelsec, no_more, one_more, defined_as, Converts, is_caught, first_goes_on, first_answers, first_is_not_caught, last_is_refused, first_is_caught, converts_as_defined, finds_no_memory, ends, next_is_refused, is_not_joined, is_joined}
+use Rattle.hol_model.specs.Refining.Conversions.{Conversion, all_conv, thenc, orelsec, no_more, one_more, defined_as, Converts, is_caught, first_goes_on, first_answers, first_is_not_caught}
+use Rattle.hol_model.specs.Refining.Conversions.{last_is_refused, first_is_caught, converts_as_defined, finds_no_memory, ends, next_is_refused, is_not_joined, is_joined}
 use Rattle.hol_laws_refiners.specs.Laws.{IsEquationOf}
 use Rattle.hol_laws_refiners.proofs.Equations.{conversions-answer-equations}
 
@@ -28,10 +29,16 @@ trans-uncaught theory a b sides is of =
     (go (are_alpha_equivalent sides.1 of.sides.0) (is_within_limits (equation sides.0 of.sides.1)) ((same_term-Decides (image sides.1) (image of.sides.0)).1 (sym of.same_left))))
   where
     joins : NamedTerm × NamedTerm → NamedTerm × NamedTerm → Result Theorem Fault
-    joins left right = unless (are_alpha_equivalent left.1 right.0) NotAlpha (unless (is_within_limits (equation left.0 right.1)) TooLarge (Ok (record { theory = theory; hypotheses = with_hypotheses a.hypotheses b.hypotheses; conclusion = equation left.0 right.1 })))
+    joins left right = unless (are_alpha_equivalent left.1 right.0) NotAlpha (unless (is_within_limits (equation left.0 right.1)) TooLarge
+        (Ok (record { theory = theory; hypotheses = with_hypotheses a.hypotheses b.hypotheses; conclusion = equation left.0 right.1 })))
 
     go : (same fits : Bool) → same ≡ true
-        → FailsUncaught (unless same NotAlpha (unless fits TooLarge (Ok (record { theory = theory; hypotheses = with_hypotheses a.hypotheses b.hypotheses; conclusion = equation sides.0 of.sides.1 }))))
+        → FailsUncaught (unless same NotAlpha (unless fits TooLarge (Ok (record {
+          theory = theory;
+          hypotheses = with_hypotheses a.hypotheses b.hypotheses;
+          conclusion =
+              equation sides.0 of.sides.1;
+        }))))
     go true true e = tt
     go true false e = refl
     go false fits e = cc

@@ -11,7 +11,12 @@ use Rattle.hol_laws_steps.proofs.Validity.{replays-show-valid}
 use Rattle.hol_model.specs.Goals.Replays.{Store, sequents_in, with_lemma, IsStoreOver, IsProvedOver, IsKnownGoal, AreKnownGoals}
 use Rattle.hol_model.specs.Refining.HostFunctions.{Host, AnswersHostStep}
 use Rattle.hol_model.specs.Refining.Refiners.{Leaf, AnswersTable, IsStep, EquatesTarget, converted, proved_by_lemma, AnswersTautology}
-use Rattle.hol_model.specs.Refining.Combinators.{Tactic, Tactics, Link, Links, leaf, host_tac, chain, orelse, repeat, try, no_more, more, then_all, then_each, on_all, paired, paired_before, assigned, defined_as, with_step, Stage, IsLater, Runs, RunsOn, RunsEach, no_step_is_left, leaf_refines, leaf_is_refused, conversion_is_refused, conversion_is_not_assumed, conversion_refines, taut_is_refused, taut_refines, host_is_unknown, host_fails, host_refines, first_is_refused, first_goes_on, first_answers, first_is_not_caught, last_is_refused, first_is_caught, repeat_is_too_deep, runs_as_defined, finds_no_memory, ends, lengths_differ, next_is_refused, splice_is_too_deep, next_goes_on, goes_on_without_memory, none_is_left, one_is_refused, one_is_done, each_finds_no_memory}
+use Rattle.hol_model.specs.Refining.Combinators.{Tactic, Tactics, Link, Links, leaf, host_tac, chain, orelse, repeat, try, no_more, more, then_all, then_each, on_all, paired, paired_before}
+use Rattle.hol_model.specs.Refining.Combinators.{assigned, defined_as, with_step, Stage, IsLater, Runs, RunsOn, RunsEach, no_step_is_left, leaf_refines, leaf_is_refused, conversion_is_refused}
+use Rattle.hol_model.specs.Refining.Combinators.{conversion_is_not_assumed, conversion_refines, taut_is_refused, taut_refines, host_is_unknown, host_fails, host_refines, first_is_refused}
+use Rattle.hol_model.specs.Refining.Combinators.{first_goes_on, first_answers, first_is_not_caught, last_is_refused, first_is_caught, repeat_is_too_deep, runs_as_defined, finds_no_memory, ends}
+use Rattle.hol_model.specs.Refining.Combinators.{lengths_differ, next_is_refused, splice_is_too_deep, next_goes_on, goes_on_without_memory, none_is_left, one_is_refused, one_is_done}
+use Rattle.hol_model.specs.Refining.Combinators.{each_finds_no_memory}
 use Rattle.hol_model.specs.Goals.Achieving.{are_assumed}
 use Rattle.hol_model.specs.Goals.GoodSteps.{IsGoodStep}
 use Rattle.hol_model.specs.Refining.RefinerConditions.{HasKnownWitness, HasKnownWitnesses, HasKnownWitnessesInLink, HasLogic, HaveKnownWitnesses, HaveKnownWitnessesInLinks}
@@ -136,7 +141,8 @@ module _ (theory : Theory) (host : Host) (logic : HasLogic theory) (leaves : Lea
     runs-good (leaf_is_refused is) over h k = tt
     runs-good (conversion_is_refused by r) over h k = tt
     runs-good (conversion_is_not_assumed by r foreign) over h k = tt
-    runs-good (conversion_refines {store} {goal} {theorem} {sides} {step} by r assumed proved dest equates is) over h k = leaves.of_conversion store goal sides.1 theorem step k assumed proved equates is
+    runs-good (conversion_refines {store} {goal} {theorem} {sides} {step} by r assumed proved dest equates is) over h k =
+        leaves.of_conversion store goal sides.1 theorem step k assumed proved equates is
     runs-good (taut_is_refused is) over h k = tt
     runs-good (taut_refines {store} {goal} {theorem} {step} answers proved is) over h k = leaves.of_tautology store goal theorem step answers is
     runs-good (host_is_unknown lacks) over h k = tt

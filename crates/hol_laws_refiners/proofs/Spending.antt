@@ -6,7 +6,11 @@ use Rattle.hol_model.specs.Logic.Theory.{Theory}
 use Rattle.hol_model.specs.Kernel.Theorem.{Theorem}
 use Rattle.hol_model.specs.Goals.Replays.{Store}
 use Rattle.hol_model.specs.Refining.HostFunctions.{HostConversions}
-use Rattle.hol_model.specs.Refining.Conversions.{Conversion, Conversions, Converts, ConvertsOn, no_step_is_left, all_converts, no_converts, beta_converts, theorem_is_unknown, has_no_rules, theorem_rewrites, rules_rewrite, host_is_unknown, host_fails, host_converts, has_no_such_part, is_too_deep, argument_converts, function_converts, body_converts, same_without_parts, first_part_is_refused, parts_convert, only_part_converts, first_is_refused, first_goes_on, first_answers, first_is_not_caught, last_is_refused, first_is_caught, converts_if_changed, converts_as_defined, finds_no_memory, ends, next_is_refused, is_not_joined, is_joined, goes_on_without_memory}
+use Rattle.hol_model.specs.Refining.Conversions.{Conversion, Conversions, Converts, ConvertsOn, no_step_is_left, all_converts, no_converts, beta_converts, theorem_is_unknown, has_no_rules}
+use Rattle.hol_model.specs.Refining.Conversions.{theorem_rewrites, rules_rewrite, host_is_unknown, host_fails, host_converts, has_no_such_part, is_too_deep, argument_converts, function_converts}
+use Rattle.hol_model.specs.Refining.Conversions.{body_converts, same_without_parts, first_part_is_refused, parts_convert, only_part_converts, first_is_refused, first_goes_on, first_answers}
+use Rattle.hol_model.specs.Refining.Conversions.{first_is_not_caught, last_is_refused, first_is_caught, converts_if_changed, converts_as_defined, finds_no_memory, ends, next_is_refused}
+use Rattle.hol_model.specs.Refining.Conversions.{is_not_joined, is_joined, goes_on_without_memory}
 
 fewer : (n : ℕ) → n ≤ suc n
 fewer n = omega arith

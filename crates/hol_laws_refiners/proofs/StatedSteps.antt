@@ -103,7 +103,8 @@ known-goals theory [] (goal ∷ goals) are known = absurd are
 known-goals theory (g ∷ stated) [] are known = absurd are
 known-goals theory (g ∷ stated) (goal ∷ goals) are known = (
   record {
-    assumptions = λ term member. known.0.assumptions (image term) (subst (IsMember (image term)) (conclusions-images g.assumptions goal.assumptions are.0) (IsMember-map image term goal.assumptions member));
+    assumptions = λ term member. known.0.assumptions (image term) (subst (IsMember (image term)) (conclusions-images g.assumptions goal.assumptions are.0)
+        (IsMember-map image term goal.assumptions member));
     target = subst (λ (t : Nameless). IsKnown theory t bool_type) (sym (conclusion-image g.target goal.target are.1)) known.0.target;
   },
   known-goals theory stated goals are.2 known.1,

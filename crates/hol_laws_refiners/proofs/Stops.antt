@@ -2,7 +2,8 @@
 use Rattle.std.proofs.Common.{◌≡◌, ℕ, List, [], ◌∷◌, Bool, true, false, not, refl, sym, ◌∙◌, ap, subst, inl, inr, Option, Some, None, Result, Ok, Err, if◌then◌else◌}
 use Rattle.std.specs.Option.{is_some}
 use Rattle.hol_model.specs.declared.fault.Fault.{Fault}
-use Rattle.hol_model.specs.declared.fault.Fault.TheVariants.{Memory, TooLarge, StepLimit, FreeInHypothesis, ConvFails, InvalidStep, NotEquation, NotAlpha, TypeMismatch, NotVariable, UnknownType, UnknownConst, NotInstance, BadShape}
+use Rattle.hol_model.specs.declared.fault.Fault.TheVariants.{Memory, TooLarge, StepLimit, FreeInHypothesis, ConvFails, InvalidStep, NotEquation, NotAlpha, TypeMismatch, NotVariable, UnknownType}
+use Rattle.hol_model.specs.declared.fault.Fault.TheVariants.{UnknownConst, NotInstance, BadShape}
 use Rattle.hol_model.specs.Terms.NamedTerm.{NamedTerm, variable, combination, abstraction, equation, type_of, dest_variable, is_within_limits}
 use Rattle.hol_model.specs.Terms.Nameless.{Nameless, image}
 use Rattle.hol_model.specs.Logic.Theory.{Theory}
@@ -17,7 +18,12 @@ use Rattle.hol_model.specs.Goals.ValidSteps.{Step}
 use Rattle.hol_model.specs.Goals.Replays.{Store, IsWant}
 use Rattle.hol_model.specs.Rewrites.Rewriting.{AnswersRules, Rewrites, none_matches, rewrites, instance_is_too_large}
 use Rattle.hol_model.specs.Refining.HostFunctions.{HostEquation, AnswersHostEquation, AnswersHostStep, HostConversions}
-use Rattle.hol_model.specs.Refining.Conversions.{Conversion, Conversions, Converts, ConvertsOn, redex_outcome, binder_fault, binder_answer, of_body, of_parts, of_argument, of_function, if_changed, no_step_is_left, all_converts, no_converts, beta_converts, theorem_is_unknown, has_no_rules, theorem_rewrites, rules_rewrite, host_is_unknown, host_fails, host_converts, has_no_such_part, is_too_deep, argument_converts, function_converts, body_converts, same_without_parts, first_part_is_refused, parts_convert, only_part_converts, first_is_refused, first_goes_on, first_answers, first_is_not_caught, last_is_refused, first_is_caught, converts_if_changed, converts_as_defined, finds_no_memory, ends, next_is_refused, is_not_joined, is_joined, goes_on_without_memory}
+use Rattle.hol_model.specs.Refining.Conversions.{Conversion, Conversions, Converts, ConvertsOn, redex_outcome, binder_fault, binder_answer, of_body, of_parts, of_argument, of_function}
+use Rattle.hol_model.specs.Refining.Conversions.{if_changed, no_step_is_left, all_converts, no_converts, beta_converts, theorem_is_unknown, has_no_rules, theorem_rewrites, rules_rewrite}
+use Rattle.hol_model.specs.Refining.Conversions.{host_is_unknown, host_fails, host_converts, has_no_such_part, is_too_deep, argument_converts, function_converts, body_converts}
+use Rattle.hol_model.specs.Refining.Conversions.{same_without_parts, first_part_is_refused, parts_convert, only_part_converts, first_is_refused, first_goes_on, first_answers, first_is_not_caught}
+use Rattle.hol_model.specs.Refining.Conversions.{last_is_refused, first_is_caught, converts_if_changed, converts_as_defined, finds_no_memory, ends, next_is_refused, is_not_joined, is_joined}
+use Rattle.hol_model.specs.Refining.Conversions.{goes_on_without_memory}
 use Rattle.hol_laws_refiners.specs.Laws.{StopsAtEnd}
 
 abbrev is_step_limit : Fault → Bool
@@ -177,11 +183,14 @@ module _ (theory : Theory) (store : Store) (hosts : HostConversions) where
     converts-stops (has_no_such_part {left} lacks) = never-stops _ left (never-err refl)
     converts-stops (is_too_deep {left} down deep) = never-stops _ left (never-err refl)
     converts-stops (argument_converts {left} {f} {part} {answer} room r is) =
-        stops-as answer (of_argument theory f part) left is (stops-then part _ left (converts-stops r) (λ second. never-then (refl_outcome theory f) _ (refl-never theory f) (λ first. mk_comb-never theory first second)))
+        stops-as answer (of_argument theory f part) left is (stops-then part _ left (converts-stops r)
+        (λ second. never-then (refl_outcome theory f) _ (refl-never theory f) (λ first. mk_comb-never theory first second)))
     converts-stops (function_converts {left} {x} {part} {answer} room r is) =
-        stops-as answer (of_function theory x part) left is (stops-then part _ left (converts-stops r) (λ first. never-then (refl_outcome theory x) _ (refl-never theory x) (λ second. mk_comb-never theory first second)))
+        stops-as answer (of_function theory x part) left is (stops-then part _ left (converts-stops r)
+        (λ first. never-then (refl_outcome theory x) _ (refl-never theory x) (λ second. mk_comb-never theory first second)))
     converts-stops (body_converts {left} {name} {ty} {part} {answer} room r is) =
-        stops-as answer (of_body theory name ty part) left is (stops-then part _ left (converts-stops r) (λ theorem. binder-never (abs_outcome theory (variable name ty) theorem) (abs-never theory (variable name ty) theorem)))
+        stops-as answer (of_body theory name ty part) left is (stops-then part _ left (converts-stops r)
+        (λ theorem. binder-never (abs_outcome theory (variable name ty) theorem) (abs-never theory (variable name ty) theorem)))
     converts-stops (same_without_parts {left} {t} is) = never-stops _ left (refl-never theory t)
     converts-stops (first_part_is_refused room r) = converts-stops r
     converts-stops (parts_convert {left} {first} {second} {answer} room r s is) =
@@ -194,7 +203,8 @@ module _ (theory : Theory) (store : Store) (hosts : HostConversions) where
     converts-stops (last_is_refused r) = converts-stops r
     converts-stops (first_is_caught r caught s) = converts-stops s
     converts-stops (converts_if_changed {left} {t} {made} {answer} r is) =
-        stops-as answer (if_changed t made) left is (stops-then made _ left (converts-stops r) (λ theorem. never-given (dest_equation theorem.conclusion) ConvFails _ refl (λ sides. never-unless (not (are_alpha_equivalent sides.1 t)) ConvFails _ refl never-ok)))
+        stops-as answer (if_changed t made) left is (stops-then made _ left (converts-stops r)
+        (λ theorem. never-given (dest_equation theorem.conclusion) ConvFails _ refl (λ sides. never-unless (not (are_alpha_equivalent sides.1 t)) ConvFails _ refl never-ok)))
     converts-stops (converts_as_defined is r) = converts-stops r
     converts-stops (finds_no_memory {left} le) = never-stops _ left (never-err refl)
 

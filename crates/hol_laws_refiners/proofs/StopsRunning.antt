@@ -19,14 +19,21 @@ use Rattle.hol_model.specs.Goals.Replays.{Store}
 use Rattle.hol_model.specs.Refining.HostFunctions.{Host, HostConversions}
 use Rattle.hol_model.specs.Propositional.Tautologies.{falsity_of, falsifying_row, row_in_full, tautology_outcome}
 use Rattle.hol_model.specs.Propositional.Propositions.{atoms_of}
-use Rattle.hol_model.specs.Refining.Refiners.{Leaf, all_tac, no_tac, accept_tac, assumption_tac, assume_tac, refl_tac, conj_tac, eq_tac, disj1_tac, disj2_tac, disch_tac, gen_tac, exists_tac, mp_tac, disj_cases_tac, choose_tac, undisch_tac, conv_tac, rewrite_tac, taut_tac, StatedStep, table, discharged, AnswersTable, AnswersIfSmall, AnswersTautology, AnswersAllRules, IsRefusedBefore}
-use Rattle.hol_model.specs.Refining.Combinators.{Tactic, Links, Stage, with_step, Runs, RunsOn, RunsEach, no_step_is_left, leaf_refines, leaf_is_refused, conversion_is_refused, conversion_is_not_assumed, conversion_refines, taut_is_refused, taut_refines, host_is_unknown, host_fails, host_refines, first_is_refused, first_goes_on, first_answers, first_is_not_caught, last_is_refused, first_is_caught, repeat_is_too_deep, runs_as_defined, finds_no_memory, ends, lengths_differ, next_is_refused, splice_is_too_deep, next_goes_on, goes_on_without_memory, none_is_left, one_is_refused, one_is_done, each_finds_no_memory}
+use Rattle.hol_model.specs.Refining.Refiners.{Leaf, all_tac, no_tac, accept_tac, assumption_tac, assume_tac, refl_tac, conj_tac, eq_tac, disj1_tac, disj2_tac, disch_tac, gen_tac, exists_tac}
+use Rattle.hol_model.specs.Refining.Refiners.{mp_tac, disj_cases_tac, choose_tac, undisch_tac, conv_tac, rewrite_tac, taut_tac, StatedStep, table, discharged, AnswersTable, AnswersIfSmall}
+use Rattle.hol_model.specs.Refining.Refiners.{AnswersTautology, AnswersAllRules, IsRefusedBefore}
+use Rattle.hol_model.specs.Refining.Combinators.{Tactic, Links, Stage, with_step, Runs, RunsOn, RunsEach, no_step_is_left, leaf_refines, leaf_is_refused, conversion_is_refused}
+use Rattle.hol_model.specs.Refining.Combinators.{conversion_is_not_assumed, conversion_refines, taut_is_refused, taut_refines, host_is_unknown, host_fails, host_refines, first_is_refused}
+use Rattle.hol_model.specs.Refining.Combinators.{first_goes_on, first_answers, first_is_not_caught, last_is_refused, first_is_caught, repeat_is_too_deep, runs_as_defined, finds_no_memory, ends}
+use Rattle.hol_model.specs.Refining.Combinators.{lengths_differ, next_is_refused, splice_is_too_deep, next_goes_on, goes_on_without_memory, none_is_left, one_is_refused, one_is_done}
+use Rattle.hol_model.specs.Refining.Combinators.{each_finds_no_memory}
 use Rattle.hol_model.specs.Goals.Achieving.{are_assumed, is_assumed}
 use Rattle.hol_laws_refiners.specs.Laws.{StopsAtEnd, ConversionsSpend, RefinersSpend}
 use Rattle.hol_laws_refiners.proofs.Spending.{converts-spends}
 use Rattle.hol_laws_refiners.proofs.Later.{runs-later}
 use Rattle.hol_laws_refiners.proofs.Costs.{converts-costs, runs-costs}
-use Rattle.hol_laws_refiners.proofs.Stops.{Never, never-ok, never-err, NeverOption, never-stops, never-other, never-want, never-unless, never-given, never-refused, unknown-never, rules-never, stops-over, stops-as, host_step-never, converts-stops}
+use Rattle.hol_laws_refiners.proofs.Stops.{Never, never-ok, never-err, NeverOption, never-stops, never-other, never-want, never-unless, never-given, never-refused, unknown-never, rules-never}
+use Rattle.hol_laws_refiners.proofs.Stops.{stops-over, stops-as, host_step-never, converts-stops}
 
 discharged-never : (goal : Goal) (sides : Option (NamedTerm × NamedTerm)) (negated : Option NamedTerm) → Never (discharged goal sides negated)
 discharged-never goal (Some sides) negated = never-ok

@@ -3,7 +3,8 @@ use Rattle.std.proofs.Common.{◌≡◌, ◌⊎◌, ℕ, List, [], ◌∷◌, Bo
 use Rattle.std.specs.Prelude.{find, cond}
 use Rattle.std.specs.List.{list_all}
 use Rattle.std.specs.Option.{option_map_or}
-use Rattle.hol_model.specs.Terms.HolType.{HolType, type_variable, bool_type, function_type, declared_type, type_eq, TypeInstance, instantiate_type, type_instance_of, replaces_type_variables, OccursInType}
+use Rattle.hol_model.specs.Terms.HolType.{HolType, type_variable, bool_type, function_type, declared_type, type_eq, TypeInstance, instantiate_type, type_instance_of, replaces_type_variables}
+use Rattle.hol_model.specs.Terms.HolType.{OccursInType}
 use Rattle.hol_model.specs.Terms.NamedTerm.{NamedTerm, variable, constant, combination, abstraction}
 use Rattle.hol_model.specs.Terms.Nameless.{Nameless, free, const, bound, app, lam, HasType, image, nameless_type}
 use Rattle.hol_model.specs.Terms.Substitution.{TermInstance, put, instantiate, replacement, replaces_variables, is_variable_named, occurs_free, OccursInTerm}

@@ -25,7 +25,9 @@ use Rattle.hol_model.specs.Propositional.Propositions.{atoms_of}
 use Rattle.hol_model.specs.Propositional.Tautologies.{falsity_of, falsifying_row, row_in_full, tautology_outcome}
 use Rattle.hol_model.specs.Refining.HostFunctions.{Host, AnswersHostStep}
 use Rattle.hol_model.specs.Refining.Conversions.{Conversion}
-use Rattle.hol_model.specs.Refining.Refiners.{Leaf, all_tac, no_tac, accept_tac, assumption_tac, assume_tac, refl_tac, conj_tac, eq_tac, disj1_tac, disj2_tac, disch_tac, gen_tac, exists_tac, mp_tac, disj_cases_tac, choose_tac, undisch_tac, conv_tac, rewrite_tac, taut_tac, table, discharged, AnswersTable, AnswersIfSmall, AnswersTautology, AnswersAllRules, IsRefusedBefore, GoesBy, theorems_named}
+use Rattle.hol_model.specs.Refining.Refiners.{Leaf, all_tac, no_tac, accept_tac, assumption_tac, assume_tac, refl_tac, conj_tac, eq_tac, disj1_tac, disj2_tac, disch_tac, gen_tac, exists_tac}
+use Rattle.hol_model.specs.Refining.Refiners.{mp_tac, disj_cases_tac, choose_tac, undisch_tac, conv_tac, rewrite_tac, taut_tac, table, discharged, AnswersTable, AnswersIfSmall, AnswersTautology}
+use Rattle.hol_model.specs.Refining.Refiners.{AnswersAllRules, IsRefusedBefore, GoesBy, theorems_named}
 use Rattle.hol_model.specs.Refining.RefinerConditions.{HasLogic, HasKnownWitnesses, HaveKnownWitnesses, HasKnownWitnessesInLink, HaveKnownWitnessesInLinks}
 use Rattle.hol_model.specs.Refining.Combinators as tac
 use Rattle.hol_model.specs.Refining.Combinators.{Tactic, Tactics, Link, Links, on_all, paired, paired_before, assigned, defined_as, with_step, Stage, Runs, RunsOn, RunsEach}

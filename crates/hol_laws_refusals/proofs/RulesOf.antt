@@ -10,7 +10,8 @@ use Rattle.hol_model.specs.Logic.Logic.{and_name, not_name, forall_name, false_n
 use Rattle.hol_model.specs.Logic.NamedLogic.{Abstracted, true_term, false_term, dest_conjunction, dest_forall, dest_negation}
 use Rattle.hol_model.specs.Kernel.Theorem.{Theorem}
 use Rattle.hol_model.specs.Kernel.Rules.{dest_equation}
-use Rattle.hol_model.specs.Rewrites.RewriteRules.{RuleForm, both, every, equal, denied, stated, denied_or_stated, equal_or, every_or, both_or, rule_form, RulesOf, RulesOfForm, rules_of_form, of_both, of_every, of_equal, of_denied, of_stated}
+use Rattle.hol_model.specs.Rewrites.RewriteRules.{RuleForm, both, every, equal, denied, stated, denied_or_stated, equal_or, every_or, both_or, rule_form, RulesOf, RulesOfForm, rules_of_form}
+use Rattle.hol_model.specs.Rewrites.RewriteRules.{of_both, of_every, of_equal, of_denied, of_stated}
 use Rattle.hol_model.specs.Rewrites.Rewriting.{AreRules, AnswersRules}
 use Rattle.hol_model.specs.Refining.RefinerConditions.{HasLogic}
 use Rattle.hol_model.proofs.Tests.{same_variable-type}

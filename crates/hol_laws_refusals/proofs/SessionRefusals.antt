@@ -103,7 +103,8 @@ module _ (host : Host) (steps : ℕ) (state : State) (sound : IsSound state) whe
   expansion tactic known fault (stops other is same) = (let one : other ≡ fault = cc in subst IsExpansionFault one (no-goal other state.proof (sym is)))
   expansion tactic known fault (goes_on focus is_focus (stops other refused same)) =
       (let one : other ≡ fault = cc in subst IsExpansionFault one
-      (of-refiner other (refiners-refuse host here before refused.0 (tactic_of tactic) focus.goal other sound.logic sound.proved known (rules.tactic-known here tactic) (focus-known focus (sym is_focus)) refused.1)))
+      (of-refiner other (refiners-refuse host here before refused.0 (tactic_of tactic) focus.goal other sound.logic sound.proved known (rules.tactic-known here tactic)
+      (focus-known focus (sym is_focus)) refused.1)))
   expansion tactic known fault (goes_on focus is_focus (goes_on refinement runs (stops other is same))) =
       (let one : other ≡ fault = cc in subst IsExpansionFault one (spliced tactic known focus (sym is_focus) refinement runs other is))
   expansion tactic known fault (goes_on focus is_focus (goes_on refinement runs (goes_on proof is same))) = cc

@@ -6,7 +6,8 @@ use Rattle.hol_model.specs.Refining.Conversions as conversions
 use Rattle.hol_model.specs.Refining.Combinators as combinators
 use Rattle.hol_model_sessions.specs.ConversionGrammar as conv
 use Rattle.hol_model_sessions.specs.TacticGrammar as tac
-use Rattle.hol_model_sessions.specs.SessionTools.{conversion_of_leaf, with_prefix, in_order, either, conversion_of, further_conversions, conversion_of_choice, other_conversions, conversion_of_unit, of_named, tactic_of_leaf, then_on, or_else, tactic_of, links_of, tactics_of, tactic_of_choice, others_of, tactic_of_unit}
+use Rattle.hol_model_sessions.specs.SessionTools.{conversion_of_leaf, with_prefix, in_order, either, conversion_of, further_conversions, conversion_of_choice, other_conversions}
+use Rattle.hol_model_sessions.specs.SessionTools.{conversion_of_unit, of_named, tactic_of_leaf, then_on, or_else, tactic_of, links_of, tactics_of, tactic_of_choice, others_of, tactic_of_unit}
 use Rattle.hol_laws_refusals.specs.KnownRules.{HasKnownRules, HaveKnownRules, TacticHasKnownRules, TacticsHaveKnownRules, LinksHaveKnownRules}
 
 module _ (theory : Theory) where
@@ -96,7 +97,8 @@ module _ (theory : Theory) where
   then_on-known first combinators.no_link h more = h
   then_on-known first (combinators.link next links) h more = (h, more)
 
-  or_else-known : (first : combinators.Tactic) (others : combinators.Tactics) → TacticHasKnownRules theory first → TacticsHaveKnownRules theory others → TacticHasKnownRules theory (or_else first others)
+  or_else-known : (first : combinators.Tactic) (others : combinators.Tactics) → TacticHasKnownRules theory first → TacticsHaveKnownRules theory others →
+      TacticHasKnownRules theory (or_else first others)
   or_else-known first combinators.no_more h more = h
   or_else-known first (combinators.more next others) h more = (h, more)
 

@@ -1,6 +1,7 @@
 -- What conversions and refiner expressions may be refused for.
 use Rattle.hol_model.specs.declared.fault.Fault.{Fault}
-use Rattle.hol_model.specs.declared.fault.Fault.TheVariants.{Memory, TooLarge, TypeMismatch, BadShape, ConvFails, RefineFails, LengthMismatch, StepLimit, UnknownName, InvalidStep, NotTautology, TooManyAtoms, NoMatch}
+use Rattle.hol_model.specs.declared.fault.Fault.TheVariants.{Memory, TooLarge, TypeMismatch, BadShape, ConvFails, RefineFails, LengthMismatch, StepLimit, UnknownName, InvalidStep, NotTautology}
+use Rattle.hol_model.specs.declared.fault.Fault.TheVariants.{TooManyAtoms, NoMatch}
 
 -- the refusals that no expression catches, which alone are those of TOP_DEPTH_CONV
 abbrev pub IsUncaughtFault : Fault → Type 0

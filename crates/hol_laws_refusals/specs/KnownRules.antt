@@ -5,7 +5,8 @@ use Rattle.hol_model.specs.Terms.Nameless.{image}
 use Rattle.hol_model.specs.Logic.Theory.{Theory, IsKnown}
 use Rattle.hol_model.specs.Kernel.Theorem.{Theorem}
 use Rattle.hol_model.specs.Refining.Conversions as conversions
-use Rattle.hol_model.specs.Refining.Conversions.{Conversion, Conversions, rules_conv, thenc, orelsec, repeatc, try_conv, changed_conv, rand_conv, rator_conv, abs_conv, sub_conv, depth_conv, once_depth_conv, top_depth_conv}
+use Rattle.hol_model.specs.Refining.Conversions.{Conversion, Conversions, rules_conv, thenc, orelsec, repeatc, try_conv, changed_conv, rand_conv, rator_conv, abs_conv, sub_conv, depth_conv}
+use Rattle.hol_model.specs.Refining.Conversions.{once_depth_conv, top_depth_conv}
 use Rattle.hol_model.specs.Refining.Refiners.{Leaf, conv_tac}
 use Rattle.hol_model.specs.Refining.Combinators.{Tactic, Tactics, Link, Links, leaf, host_tac, chain, orelse, repeat, try, no_more, more, then_all, then_each, no_link, link}
 

@@ -1,5 +1,6 @@
 -- Whether a text begins with a name and a colon: theorems' lines do, no other line does.
-use Rattle.std.proofs.Common.{◌≡◌, ℕ, zero, suc, ◌+◌, ◌<◌, ◌/◌, ◌%◌, List, [], ◌∷◌, ◌++◌, Bool, true, false, ◌||◌, ◌==◌, if◌then◌else◌, refl, ap, ◌∙◌, append_assoc, codes, decimal, Option, Some, None, arith}
+use Rattle.std.proofs.Common.{◌≡◌, ℕ, zero, suc, ◌+◌, ◌<◌, ◌/◌, ◌%◌, List, [], ◌∷◌, ◌++◌, Bool, true, false, ◌||◌, ◌==◌, if◌then◌else◌, refl, ap, ◌∙◌, append_assoc, codes, decimal, Option, Some}
+use Rattle.std.proofs.Common.{None, arith}
 use Rattle.std.specs.Prelude.{nat_eq, length}
 use Rattle.std.specs.Fmt.{digits, digits_onto, digit_glyph}
 use Rattle.hol_model.specs.Terms.Name.{is_capital, is_small, continues_name, all_continue, is_identifier}
@@ -9,7 +10,8 @@ use Rattle.hol_model.specs.Texts.Token.{symbol_text}
 use Rattle.hol_model.specs.Texts.TermGrammar.{Infix, Binder, Lambda, ForAll, Exists, Choice, Bare, Variable, Constant, TermTree, Leaf, Apply, Not, Join, Bind, infix_level, infix_symbol, level}
 use Rattle.hol_model.specs.Texts.TermGrammar.{Enclosed as EnclosedTerm}
 use Rattle.hol_model.specs.Texts.Reading.{Scope, is_closed_type}
-use Rattle.hol_model.specs.Texts.Printing.{enclose, typed_constant, bare_tree, constant_tree, infix_of, Prefix, NotPrefix, BinderPrefix, NoPrefix, prefix_of, binder_tree, prefix_tree, infix_tree, term_tree}
+use Rattle.hol_model.specs.Texts.Printing.{enclose, typed_constant, bare_tree, constant_tree, infix_of, Prefix, NotPrefix, BinderPrefix, NoPrefix, prefix_of, binder_tree, prefix_tree, infix_tree}
+use Rattle.hol_model.specs.Texts.Printing.{term_tree}
 use Rattle.hol_model.specs.Texts.Texts.{term_bytes, further_bytes, text_of_term, text_of_goal}
 use Rattle.hol_model_sessions.specs.Replies.{count_text}
 use Rattle.hol_model.specs.Goals.Goals.{Goal}

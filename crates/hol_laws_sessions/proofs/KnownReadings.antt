@@ -8,13 +8,17 @@ use Rattle.hol_model.specs.declared.fault.Fault.TheVariants.{TooLarge, BadName, 
 use Rattle.hol_model.specs.Terms.Name.{is_identifier, is_constant_name, is_type_variable_name, is_declared_type_name}
 use Rattle.hol_model.specs.Terms.HolType.{HolType, type_variable, bool_type, function_type, declared_type, is_instance, type_eq}
 use Rattle.hol_model.specs.Terms.NamedTerm.{NamedTerm, variable, constant, combination, abstraction, type_of, type_fits, answer_type, application_type, equality, is_within_limits, equation}
-use Rattle.hol_model.specs.Logic.Theory.{Theory, definition, declaration_of_type, declaration_of_constant, IsLegal, IsKnownType, generic_type, equality_name, equality_type, choice_name, choice_type, type_a}
+use Rattle.hol_model.specs.Logic.Theory.{Theory, definition, declaration_of_type, declaration_of_constant, IsLegal, IsKnownType, generic_type, equality_name, equality_type, choice_name}
+use Rattle.hol_model.specs.Logic.Theory.{choice_type, type_a}
 use Rattle.hol_model.specs.Logic.KnownTerm.{knows_type, knows_types, has_instances}
 use Rattle.hol_model.specs.Texts.Token.{token_text}
 use Rattle.hol_model.specs.Texts.TypeGrammar.{TypeTree}
 use Rattle.hol_model.specs.Texts.TypeGrammar.{Named, Function, Enclosed as EnclosedType}
-use Rattle.hol_model.specs.Texts.TermGrammar.{Infix, IffInfix, ImpliesInfix, OrInfix, AndInfix, EqualInfix, Binder, Lambda, ForAll, Exists, Choice, Atom, Bare, Variable, Constant, TermTree, Leaf, Enclosed, Apply, Not, Join, Bind}
-use Rattle.hol_model.specs.Texts.Reading.{Scope, ◌>>=◌, and_then, type_named, written_type, known_type, type_meaning, is_closed_type, Bindings, bound_type, named_variable, named_binding, constant_at, known_constant, declared_variable, bare_constant, bare_identifier, bare_name, atom_meaning, well_typed, connective_at, connective, truth_operation, quantifier_type, infix_term, negation, join, bind, meaning}
+use Rattle.hol_model.specs.Texts.TermGrammar.{Infix, IffInfix, ImpliesInfix, OrInfix, AndInfix, EqualInfix, Binder, Lambda, ForAll, Exists, Choice, Atom, Bare, Variable, Constant, TermTree, Leaf}
+use Rattle.hol_model.specs.Texts.TermGrammar.{Enclosed, Apply, Not, Join, Bind}
+use Rattle.hol_model.specs.Texts.Reading.{Scope, ◌>>=◌, and_then, type_named, written_type, known_type, type_meaning, is_closed_type, Bindings, bound_type, named_variable, named_binding}
+use Rattle.hol_model.specs.Texts.Reading.{constant_at, known_constant, declared_variable, bare_constant, bare_identifier, bare_name, atom_meaning, well_typed, connective_at, connective}
+use Rattle.hol_model.specs.Texts.Reading.{truth_operation, quantifier_type, infix_term, negation, join, bind, meaning}
 use Rattle.hol_model.proofs.Tests.{second_of_both, both}
 use Rattle.hol_model.proofs.Terms.TypeTests.{knows_type-Decides}
 use Rattle.hol_model.proofs.Terms.Instances.{is_instance-Decides}
@@ -36,14 +40,18 @@ generic-known [] legal name generic is = go (bytes_eq equality_name name) (bytes
     go false false is = cc
 generic-known (definition other ty body ∷ rest) legal name generic is = go (bytes_eq other name) is (λ there. generic-known rest legal.1 name generic there)
   where
-    go : (test : Bool) → (if test then Some ty else generic_type rest name) ≡ Some generic → (generic_type rest name ≡ Some generic → IsKnownType rest generic) → IsKnownType (definition other ty body ∷ rest) generic
-    go true is deeper = (let one : ty ≡ generic = cc in subst (λ (t : HolType). IsKnownType (definition other ty body ∷ rest) t) one (IsKnownType-later (definition other ty body) rest ty (IsKnown-type rest body ty legal.0.known)))
+    go : (test : Bool) → (if test then Some ty else generic_type rest name) ≡ Some generic → (generic_type rest name ≡ Some generic → IsKnownType rest generic) →
+        IsKnownType (definition other ty body ∷ rest) generic
+    go true is deeper = (let one : ty ≡ generic = cc in subst (λ (t : HolType). IsKnownType (definition other ty body ∷ rest) t) one
+        (IsKnownType-later (definition other ty body) rest ty (IsKnown-type rest body ty legal.0.known)))
     go false is deeper = IsKnownType-later (definition other ty body) rest generic (deeper is)
 generic-known (declaration_of_type other ∷ rest) legal name generic is = IsKnownType-later (declaration_of_type other) rest generic (generic-known rest legal.1 name generic is)
 generic-known (declaration_of_constant other ty ∷ rest) legal name generic is = go (bytes_eq other name) is (λ there. generic-known rest legal.1 name generic there)
   where
-    go : (test : Bool) → (if test then Some ty else generic_type rest name) ≡ Some generic → (generic_type rest name ≡ Some generic → IsKnownType rest generic) → IsKnownType (declaration_of_constant other ty ∷ rest) generic
-    go true is deeper = (let one : ty ≡ generic = cc in subst (λ (t : HolType). IsKnownType (declaration_of_constant other ty ∷ rest) t) one (IsKnownType-later (declaration_of_constant other ty) rest ty legal.0.known))
+    go : (test : Bool) → (if test then Some ty else generic_type rest name) ≡ Some generic → (generic_type rest name ≡ Some generic → IsKnownType rest generic) →
+        IsKnownType (declaration_of_constant other ty ∷ rest) generic
+    go true is deeper = (let one : ty ≡ generic = cc in subst (λ (t : HolType). IsKnownType (declaration_of_constant other ty ∷ rest) t) one
+        (IsKnownType-later (declaration_of_constant other ty) rest ty legal.0.known))
     go false is deeper = IsKnownType-later (declaration_of_constant other ty) rest generic (deeper is)
 
 own_instance : (ty : HolType) → is_instance ty ty ≡ true
@@ -67,7 +75,8 @@ module _ (theory : Theory) (legal : IsLegal theory) (scope : Scope) (over : IsSc
   named-known name = go (is_identifier name) (is_type_variable_name name) (bytes_eq name (codes "bool")) (scope.declares_type name) refl (is_declared_type_name name)
     where
       go : (identifier capital boolean declared : Bool) → scope.declares_type name ≡ declared → (typical : Bool)
-          → KnowsIfAny (if identifier then (if capital then Some (type_variable name) else (if boolean then Some bool_type else (if declared && typical then Some (declared_type name) else None))) else None)
+          → KnowsIfAny (if identifier then (if capital then Some (type_variable name) else
+          (if boolean then Some bool_type else (if declared && typical then Some (declared_type name) else None))) else None)
       go false capital boolean declared is typical = tt
       go true true boolean declared is typical = refl
       go true false true declared is typical = refl
@@ -140,7 +149,8 @@ module _ (theory : Theory) (legal : IsLegal theory) (scope : Scope) (over : IsSc
 
   combination-good : (f a : NamedTerm) → IsGood f → IsGood a → IsGoodIfTyped (combination f a)
   combination-good f a good other ty is =
-      let both_typed : application_type (Some good.ty) (Some other.ty) ≡ Some ty = ap (λ (o : Option HolType). application_type o (Some other.ty)) (sym good.typed) ∙ ap (λ (o : Option HolType). application_type (type_of f) o) (sym other.typed) ∙ is in
+      let both_typed : application_type (Some good.ty) (Some other.ty) ≡ Some ty =
+      ap (λ (o : Option HolType). application_type o (Some other.ty)) (sym good.typed) ∙ ap (λ (o : Option HolType). application_type (type_of f) o) (sym other.typed) ∙ is in
       record {
         ty = ty;
         typed = is;
@@ -174,7 +184,8 @@ module _ (theory : Theory) (legal : IsLegal theory) (scope : Scope) (over : IsSc
   equality-good ty known =
       constant-good (codes "=") (equality_type ty) (equality_type type_a)
       (both (knows_type theory ty) (knows_type theory (function_type ty bool_type)) known (both (knows_type theory ty) true known refl))
-      (generic_type-logical theory legal equality_name (equality_type type_a) refl) ((is_instance-Decides (equality_type type_a) (equality_type ty)).1 (record { instance = λ v. ty; is_instance = refl }))
+      (generic_type-logical theory legal equality_name (equality_type type_a) refl)
+      ((is_instance-Decides (equality_type type_a) (equality_type ty)).1 (record { instance = λ v. ty; is_instance = refl }))
 
   choice-good : (ty : HolType) → Knows ty → IsGood (constant choice_name (choice_type ty))
   choice-good ty known =
@@ -325,7 +336,8 @@ module _ (theory : Theory) (legal : IsLegal theory) (scope : Scope) (over : IsSc
           test false = tt
       go (Err fault) known = tt
 
-  good-behind : (read : Result (List ℕ × HolType) Fault) (next : List ℕ × HolType → Result NamedTerm Fault) → KnowsBinding read → ((binding : List ℕ × HolType) → Knows binding.1 → GivesGood (next binding)) → GivesGood (read >>= next)
+  good-behind : (read : Result (List ℕ × HolType) Fault) (next : List ℕ × HolType → Result NamedTerm Fault) → KnowsBinding read →
+      ((binding : List ℕ × HolType) → Knows binding.1 → GivesGood (next binding)) → GivesGood (read >>= next)
   good-behind (Ok binding) next known each = each binding known
   good-behind (Err fault) next known each = tt
 
@@ -344,7 +356,8 @@ module _ (theory : Theory) (legal : IsLegal theory) (scope : Scope) (over : IsSc
   good-meaning bindings known (Bind binder name tree body) =
       let inner : (binding : List ℕ × HolType) → Knows binding.1 → GivesGood (meaning scope (binding ∷ bindings) body) = λ binding here. good-meaning (binding ∷ bindings) (here, known) body in
       good-behind (type_meaning scope tree >>= named_binding name) (λ binding. meaning scope (binding ∷ bindings) body >>= λ term. bind scope binder binding.0 binding.1 term) (binding-known name tree)
-      (λ binding here. good-then (meaning scope (binding ∷ bindings) body) (λ term. bind scope binder binding.0 binding.1 term) (inner binding here) (λ term good. good-bind binder binding.0 binding.1 term here good))
+      (λ binding here. good-then (meaning scope (binding ∷ bindings) body) (λ term. bind scope binder binding.0 binding.1 term) (inner binding here)
+      (λ term good. good-bind binder binding.0 binding.1 term here good))
 
   read-good : (answer : Result NamedTerm Fault) (term : NamedTerm) → answer ≡ Ok term → GivesGood answer → IsGood term
   read-good (Ok other) term same good = (let one : other ≡ term = cc in subst IsGood one good)

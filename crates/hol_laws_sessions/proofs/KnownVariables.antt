@@ -16,12 +16,15 @@ use Rattle.hol_model.specs.Texts.Lexing.{numeral_value}
 use Rattle.hol_model.specs.Texts.Reading.{type_meaning, meaning, ◌>>=◌}
 use Rattle.hol_model_sessions.specs.Sessions.{with_variable, over_theory, is_theorem_name, definition_name, def_outcome, with_definition, newconst_outcome}
 use Rattle.hol_model_sessions.specs.TacticGrammar.{Tactic}
-use Rattle.hol_model_sessions.specs.CommandGrammar.{CommandTree, var_command, newtype_command, newconst_command, def_command, thm_command, show_command, goal_command, e_command, b_command, p_command, r_command, save_command}
+use Rattle.hol_model_sessions.specs.CommandGrammar.{CommandTree, var_command, newtype_command, newconst_command, def_command, thm_command, show_command, goal_command, e_command, b_command}
+use Rattle.hol_model_sessions.specs.CommandGrammar.{p_command, r_command, save_command}
 use Rattle.hol_model.specs.Kernel.Answers.{Is, Unless, Then, goes_on, stops}
 use Rattle.hol_model.specs.Goals.GoalStates.{Proof, open_goals, set_outcome, back_outcome, rotate_outcome, top_outcome}
 use Rattle.hol_model_sessions.specs.Replies.{refusal_of, goal_lines}
 use Rattle.hol_laws_sessions.specs.ReadTerms.{HasKnownVariables, VariablesStayKnown, ScopesAreOver}
-use Rattle.hol_model_sessions.specs.ScriptSessions.{State, scope_in, with_library, with_goal, with_lemmas, Tools, Accepted, Outcome, state_after, Plainly, says_nothing, says_theorem, stores, says_goals, var_outcome, newtype_outcome, newconst_accepted, def_accepted, show_outcome, goal_outcome, p_outcome, save_outcome, IsTheoremAnswer, NamesTheorem, IsRefined, May, Allows, finds_no_memory, is_unfinished, is_no_command, is_refused, is_done, Turn}
+use Rattle.hol_model_sessions.specs.ScriptSessions.{State, scope_in, with_library, with_goal, with_lemmas, Tools, Accepted, Outcome, state_after, Plainly, says_nothing, says_theorem, stores}
+use Rattle.hol_model_sessions.specs.ScriptSessions.{says_goals, var_outcome, newtype_outcome, newconst_accepted, def_accepted, show_outcome, goal_outcome, p_outcome, save_outcome}
+use Rattle.hol_model_sessions.specs.ScriptSessions.{IsTheoremAnswer, NamesTheorem, IsRefined, May, Allows, finds_no_memory, is_unfinished, is_no_command, is_refused, is_done, Turn}
 use Rattle.hol_laws_goals.proofs.Passing.{followed}
 use Rattle.hol_laws_sessions.proofs.Growth.{GrowsLegally}
 use Rattle.hol_laws_goals.proofs.Knowledge.{knows_type-stays}
@@ -45,7 +48,8 @@ module _ (tools : Tools) (state : State) (legal : IsLegal state.library.theory) 
       fares-said (says_nothing (with_library state (with_variable state.library name f.value))) accepted f.is
       (inr (λ other ty is. go f.value (read_type-known state.library.theory legal (scope_in state) (scope-over state known) tree f.value f.is_read) other ty (bytes_eq name other) is))
     where
-      go : (new : HolType) → knows_type state.library.theory new ≡ true → (other : List ℕ) (ty : HolType) (test : Bool) → (if test then Some new else state.library.variables other) ≡ Some ty → knows_type state.library.theory ty ≡ true
+      go : (new : HolType) → knows_type state.library.theory new ≡ true → (other : List ℕ) (ty : HolType) (test : Bool) →
+          (if test then Some new else state.library.variables other) ≡ Some ty → knows_type state.library.theory ty ≡ true
       go new good other ty true is = (let one : new ≡ ty = cc in subst (λ (t : HolType). knows_type state.library.theory t ≡ true) one good)
       go new good other ty false is = known other ty is
 
@@ -61,7 +65,8 @@ module _ (tools : Tools) (state : State) (legal : IsLegal state.library.theory) 
 
   def-fares : (name : List ℕ) (tree : TermTree) (accepted : Accepted) → Ok accepted ≡ def_accepted state name tree → Fares accepted
   def-fares name tree accepted same =
-      let f = followed (def_outcome state.library name tree) (λ theorem. Ok (says_theorem (definition_name name) theorem (with_library state (with_definition state.library name theorem)))) accepted (sym same) in
+      let f = followed (def_outcome state.library name tree) (λ theorem. Ok (says_theorem (definition_name name) theorem (with_library state (with_definition state.library name theorem))))
+      accepted (sym same) in
       fares-said (says_theorem (definition_name name) f.value (with_library state (with_definition state.library name f.value))) accepted f.is (inl refl)
 
   show-fares : (name : List ℕ) (accepted : Accepted) → Ok accepted ≡ show_outcome state name → Fares accepted
@@ -73,7 +78,8 @@ module _ (tools : Tools) (state : State) (legal : IsLegal state.library.theory) 
 
   goal-fares : (tree : TermTree) (accepted : Accepted) → Ok accepted ≡ goal_outcome state tree → Fares accepted
   goal-fares tree accepted same =
-      let f = followed (meaning (scope_in state) [] tree >>= λ term. set_outcome state.library.theory term) (λ proof. Ok (record { message = goal_lines (open_goals proof.stage); after = with_goal state proof })) accepted (sym same) in
+      let f = followed (meaning (scope_in state) [] tree >>= λ term. set_outcome state.library.theory term)
+      (λ proof. Ok (record { message = goal_lines (open_goals proof.stage); after = with_goal state proof })) accepted (sym same) in
       fares-said (record { message = goal_lines (open_goals f.value.stage); after = with_goal state f.value }) accepted f.is (inl refl)
 
   proof-fares : (answer : Result Proof Fault) (accepted : Accepted) → (answer >>= λ proof. Ok (says_goals state proof)) ≡ Ok accepted → Fares accepted
@@ -93,7 +99,8 @@ module _ (tools : Tools) (state : State) (legal : IsLegal state.library.theory) 
       let f = followed (top_outcome state.proof) (λ theorem. Ok (stores state name theorem)) accepted (sym same) in
       fares-said (stores state name f.value) accepted f.is (inl refl)
 
-  after-test : {E : Type 0} (accepted : Accepted) (test : Bool) (fault : E) (next : Result Accepted E → Type 0) → (next (Ok accepted) → Fares accepted) → Unless test fault next (Ok accepted) → Fares accepted
+  after-test : {E : Type 0} (accepted : Accepted) (test : Bool) (fault : E) (next : Result Accepted E → Type 0) → (next (Ok accepted) → Fares accepted) →
+      Unless test fault next (Ok accepted) → Fares accepted
   after-test accepted true fault next go may = go may
   after-test accepted false fault next go may = cc
 
@@ -130,11 +137,13 @@ module _ (tools : Tools) (state : State) (legal : IsLegal state.library.theory) 
 
 -- ---- turns
 
-fared : (tools : Tools) (state after : State) → GrowsLegally state.library.theory after.library.theory → IsLegal after.library.theory → HasKnownVariables state → after.library.variables ≡ state.library.variables → HasKnownVariables after
+fared : (tools : Tools) (state after : State) → GrowsLegally state.library.theory after.library.theory → IsLegal after.library.theory → HasKnownVariables state →
+    after.library.variables ≡ state.library.variables → HasKnownVariables after
 fared tools state after grows legal known same name ty is =
     knows_type-stays state.library.theory after.library.theory grows.earlier legal ty (known name ty (ap (λ (v : List ℕ → Option HolType). v name) (sym same) ∙ is))
 
-outcome-known : (tools : Tools) (state : State) (text : Option (List ℕ)) (outcome : Outcome) → IsLegal state.library.theory → HasKnownVariables state → GrowsLegally state.library.theory (state_after state outcome).library.theory
+outcome-known : (tools : Tools) (state : State) (text : Option (List ℕ)) (outcome : Outcome) → IsLegal state.library.theory → HasKnownVariables state →
+    GrowsLegally state.library.theory (state_after state outcome).library.theory
     → Allows tools state text outcome → HasKnownVariables (state_after state outcome)
 outcome-known tools state text outcome legal known grows finds_no_memory = known
 outcome-known tools state text outcome legal known grows is_unfinished = known

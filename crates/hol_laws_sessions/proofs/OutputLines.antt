@@ -4,7 +4,10 @@ use Rattle.std.specs.Prelude.{nat_eq, not, length, ◌||◌}
 use Rattle.std.specs.Fmt.{digits, digits_onto, digit_glyph}
 use Rattle.std.proofs.lemmas.Bool.{eqb-true}
 use Rattle.hol_model.specs.declared.fault.Fault.{Fault}
-use Rattle.hol_model.specs.declared.fault.Fault.TheVariants.{Memory, TooLarge, BadName, TypeMismatch, UnknownConst, NotInstance, NotBool, NotEquation, NotAlpha, NotVariable, FreeInHypothesis, NotTrivialBeta, NotClosed, TypeVarsNotReflected, AlreadyDefined, BadShape, ConvFails, RefineFails, LengthMismatch, StepLimit, UnknownName, NoGoal, GoalsRemain, NothingToUndo, InvalidStep, NotTautology, TooManyAtoms, Syntax, NameTaken, LogFault, ReadFault, WriteFault, TooLong, NoMatch, UnknownType}
+use Rattle.hol_model.specs.declared.fault.Fault.TheVariants.{Memory, TooLarge, BadName, TypeMismatch, UnknownConst, NotInstance, NotBool, NotEquation, NotAlpha, NotVariable, FreeInHypothesis}
+use Rattle.hol_model.specs.declared.fault.Fault.TheVariants.{NotTrivialBeta, NotClosed, TypeVarsNotReflected, AlreadyDefined, BadShape, ConvFails, RefineFails, LengthMismatch, StepLimit}
+use Rattle.hol_model.specs.declared.fault.Fault.TheVariants.{UnknownName, NoGoal, GoalsRemain, NothingToUndo, InvalidStep, NotTautology, TooManyAtoms, Syntax, NameTaken, LogFault, ReadFault}
+use Rattle.hol_model.specs.declared.fault.Fault.TheVariants.{WriteFault, TooLong, NoMatch, UnknownType}
 use Rattle.hol_model.specs.Kernel.Fault.{number_of, name_of}
 use Rattle.hol_model.specs.Terms.Name.{is_capital, is_small, continues_name, all_continue, is_identifier}
 use Rattle.hol_model.specs.Logic.Theory.{Theory}

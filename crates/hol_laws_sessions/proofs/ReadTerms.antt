@@ -8,8 +8,11 @@ use Rattle.hol_model.specs.Terms.HolType.{HolType, is_instance}
 use Rattle.hol_model.specs.Terms.NamedTerm.{NamedTerm, variable, constant, combination, abstraction, type_of, is_within_limits, equation}
 use Rattle.hol_model.specs.Logic.Theory.{choice_name, choice_type}
 use Rattle.hol_model.specs.Texts.Token.{token_text}
-use Rattle.hol_model.specs.Texts.TermGrammar.{Infix, IffInfix, ImpliesInfix, OrInfix, AndInfix, EqualInfix, Binder, Lambda, ForAll, Exists, Choice, Atom, Bare, Variable, Constant, TermTree, Leaf, Enclosed, Apply, Not, Join, Bind}
-use Rattle.hol_model.specs.Texts.Reading.{Scope, ◌>>=◌, Bindings, bound_type, type_meaning, is_closed_type, named_variable, named_binding, constant_at, known_constant, declared_variable, bare_constant, bare_identifier, bare_name, atom_meaning, well_typed, connective_at, connective, negation, infix_term, truth_operation, join, bind, meaning}
+use Rattle.hol_model.specs.Texts.TermGrammar.{Infix, IffInfix, ImpliesInfix, OrInfix, AndInfix, EqualInfix, Binder, Lambda, ForAll, Exists, Choice, Atom, Bare, Variable, Constant, TermTree, Leaf}
+use Rattle.hol_model.specs.Texts.TermGrammar.{Enclosed, Apply, Not, Join, Bind}
+use Rattle.hol_model.specs.Texts.Reading.{Scope, ◌>>=◌, Bindings, bound_type, type_meaning, is_closed_type, named_variable, named_binding, constant_at, known_constant, declared_variable}
+use Rattle.hol_model.specs.Texts.Reading.{bare_constant, bare_identifier, bare_name, atom_meaning, well_typed, connective_at, connective, negation, infix_term, truth_operation, join, bind}
+use Rattle.hol_model.specs.Texts.Reading.{meaning}
 
 -- the answer, if any, is a term with a type
 abbrev GivesTyped : Result NamedTerm Fault → Type 0

@@ -55,7 +55,8 @@ pub blank-passes : (tools : Tools) → BlanksPass tools
 blank-passes tools script state line left piece behind turns so_far cut blank = record {
   decides = λ pieces last cuts more session.
       so_far.decides (piece ∷ pieces) last (behind, cut, cuts) more
-      (subst (λ (b : Bool). Session tools state (request_and b (record { line = line + leading_line_feeds piece; text = Some piece }) (requested (line + line_feeds piece) pieces last)) more) (sym blank) session);
+      (subst (λ (b : Bool). Session tools state (request_and b (record { line = line + leading_line_feeds piece; text = Some piece }) (requested (line + line_feeds piece) pieces last)) more)
+      (sym blank) session);
   ends = so_far.ends;
 }
 
@@ -64,7 +65,8 @@ turn-passes tools script state line left piece behind turns turn so_far cut fill
   decides = λ pieces last cuts more session.
       subst (λ (all : List Turn). IsRun tools script all) (sym (append_assoc turns (turn ∷ []) more))
       (so_far.decides (piece ∷ pieces) last (behind, cut, cuts) (turn ∷ more)
-      (subst (λ (b : Bool). Session tools state (request_and b (record { line = line + leading_line_feeds piece; text = Some piece }) (requested (line + line_feeds piece) pieces last)) (turn ∷ more)) (sym filled) (takes, session)));
+      (subst (λ (b : Bool). Session tools state (request_and b (record { line = line + leading_line_feeds piece; text = Some piece }) (requested (line + line_feeds piece) pieces last))
+      (turn ∷ more)) (sym filled) (takes, session)));
   ends = last-adds start turns turn;
 }
 

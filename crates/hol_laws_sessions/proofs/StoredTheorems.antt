@@ -34,11 +34,15 @@ use Rattle.hol_model_sessions.specs.Sessions.{with_theorem, with_theorems, with_
 use Rattle.hol_model_sessions.specs.Sessions.{State as Library, start as first_library}
 use Rattle.hol_model.proofs.Tests.{first_of_both, second_of_both}
 use Rattle.hol_model_sessions.specs.TacticGrammar.{Tactic, read_tactic}
-use Rattle.hol_model_sessions.specs.CommandGrammar.{CommandTree, var_command, newtype_command, newconst_command, def_command, thm_command, show_command, goal_command, e_command, b_command, p_command, r_command, save_command, theorem_tokens, command_tokens, SpellsCommand}
+use Rattle.hol_model_sessions.specs.CommandGrammar.{CommandTree, var_command, newtype_command, newconst_command, def_command, thm_command, show_command, goal_command, e_command, b_command}
+use Rattle.hol_model_sessions.specs.CommandGrammar.{p_command, r_command, save_command, theorem_tokens, command_tokens, SpellsCommand}
 use Rattle.hol_model.specs.Kernel.Answers.{Is, Unless, Then, goes_on, stops}
 use Rattle.hol_model.specs.Goals.GoalStates.{Proof, open_goals, set_outcome, back_outcome, rotate_outcome, top_outcome}
 use Rattle.hol_model_sessions.specs.Replies.{Message, nothing, goal_lines, Refusal, refusal_of, NamedTheorem, theorem_in_message, theorem_in}
-use Rattle.hol_model_sessions.specs.ScriptSessions.{State, start, scope_in, with_library, with_proof, with_goal, with_lemmas, Tools, Accepted, Outcome, Plainly, turn_of, says_nothing, says_theorem, stores, says_goals, var_outcome, newtype_outcome, newconst_accepted, def_accepted, show_outcome, goal_outcome, p_outcome, save_outcome, IsTheoremAnswer, NamesTheorem, IsExpansion, IsRefined, May, Allows, finds_no_memory, is_unfinished, is_no_command, is_refused, is_done, Turn, Takes, Session, last_state, as_list, theorems_in_turns}
+use Rattle.hol_model_sessions.specs.ScriptSessions.{State, start, scope_in, with_library, with_proof, with_goal, with_lemmas, Tools, Accepted, Outcome, Plainly, turn_of, says_nothing}
+use Rattle.hol_model_sessions.specs.ScriptSessions.{says_theorem, stores, says_goals, var_outcome, newtype_outcome, newconst_accepted, def_accepted, show_outcome, goal_outcome, p_outcome}
+use Rattle.hol_model_sessions.specs.ScriptSessions.{save_outcome, IsTheoremAnswer, NamesTheorem, IsExpansion, IsRefined, May, Allows, finds_no_memory, is_unfinished, is_no_command, is_refused}
+use Rattle.hol_model_sessions.specs.ScriptSessions.{is_done, Turn, Takes, Session, last_state, as_list, theorems_in_turns}
 use Rattle.hol_laws_sessions.specs.SessionLaws.{PrintedTheoremsStay}
 use Rattle.hol_laws_sessions.specs.ValidSessions.{IsTold}
 use Rattle.hol_laws_goals.proofs.Passing.{followed}
@@ -111,7 +115,8 @@ stored-keeps library name theorem is_name none = record {
   stays = λ told other there is. put-stays library.theorems name theorem other there none is;
 }
   where
-    go : IsTold library → (other : List ℕ) (there : Theorem) (test : Bool) → bytes_eq name (definition_name other) ≡ test → cond test (Some theorem) (library.theorems (definition_name other)) ≡ Some there
+    go : IsTold library → (other : List ℕ) (there : Theorem) (test : Bool) → bytes_eq name (definition_name other) ≡ test →
+        cond test (Some theorem) (library.theorems (definition_name other)) ≡ Some there
         → is_new_name library.theory other ≡ false
     go told other there true same is =
         let one : is_theorem_name name ≡ is_theorem_name (definition_name other) = ap is_theorem_name (same_name name (definition_name other) same) in
@@ -119,9 +124,13 @@ stored-keeps library name theorem is_name none = record {
         cc
     go told other there false same is = told.told other there is
 
-pub defined-keeps : (library : Library) (name : List ℕ) (term : NamedTerm) (theorem : Theorem) → define_outcome library.theory name term ≡ Ok theorem → Keeps library (with_definition library name theorem)
+pub defined-keeps : (library : Library) (name : List ℕ) (term : NamedTerm) (theorem : Theorem) → define_outcome library.theory name term ≡ Ok theorem →
+    Keeps library (with_definition library name theorem)
 defined-keeps library name term theorem outcome = record {
-  is_told = λ told. record { told = λ other there is. subst (λ (t : Theory). is_new_name t other ≡ false) (sym grown) (go told other there (bytes_eq (definition_name name) (definition_name other)) refl is) };
+  is_told = λ told. record {
+    told = λ other there is. subst (λ (t : Theory). is_new_name t other ≡ false) (sym grown)
+        (go told other there (bytes_eq (definition_name name) (definition_name other)) refl is);
+  };
   stays = λ told other there is. put-stays library.theorems (definition_name name) theorem other there (none told (library.theorems (definition_name name)) refl) is;
 }
   where
@@ -170,7 +179,8 @@ definition-identifier (first ∷ rest) is =
 second_token : (text : List ℕ) (first second : Token) (more : List Token) → Lexes text (first ∷ second ∷ more) → IsToken second
 second_token text first second more (gap, behind, rest, blank, split, begins, (next_gap, next_behind, next_rest, next_blank, next_split, next_begins, others)) = next_begins.valid
 
-command-identifier : (text : List ℕ) (tree : CommandTree) (word name : List ℕ) (more : List Token) → command_tokens tree ≡ Name word ∷ Name name ∷ more → SpellsCommand text tree → is_identifier name ≡ true
+command-identifier : (text : List ℕ) (tree : CommandTree) (word name : List ℕ) (more : List Token) → command_tokens tree ≡ Name word ∷ Name name ∷ more → SpellsCommand text tree →
+    is_identifier name ≡ true
 command-identifier text tree word name more named spelled =
     token-identifier name (second_token text (Name word) (Name name) more (subst (λ (ts : List Token). Lexes text ts) (spelled.read.spelled ∙ named) spelled.lexed))
 
@@ -196,7 +206,8 @@ none_printed old after message none kept = record { keeps = kept; printed = λ s
     go shown is = cc
 
 -- a theorem is printed that is stored under its name
-one_printed : (old after : State) (name : List ℕ) (theorem : Theorem) → is_identifier name ≡ true → after.library.theorems name ≡ Some theorem → Keeps old.library after.library → Follows old (says_theorem name theorem after)
+one_printed : (old after : State) (name : List ℕ) (theorem : Theorem) → is_identifier name ≡ true → after.library.theorems name ≡ Some theorem → Keeps old.library after.library →
+    Follows old (says_theorem name theorem after)
 one_printed old after name theorem is_name stored kept = record { keeps = kept; printed = λ shown is. go shown is; named = λ shown is. own shown is }
   where
     own : (shown : NamedTheorem) → Some (record { name = name; theorem = theorem }) ≡ Some shown → is_identifier shown.name ≡ true
@@ -211,9 +222,11 @@ one_printed old after name theorem is_name stored kept = record { keeps = kept; 
         let one : made ≡ shown = cc in
         subst (λ (s : NamedTheorem). after.library.theorems s.name ≡ Some s.theorem) one stored
 
-stores-follows : (state : State) (name : List ℕ) (theorem : Theorem) → is_identifier name ≡ true → is_theorem_name name ≡ true → state.library.theorems name ≡ None → Follows state (stores state name theorem)
+stores-follows : (state : State) (name : List ℕ) (theorem : Theorem) → is_identifier name ≡ true → is_theorem_name name ≡ true → state.library.theorems name ≡ None →
+    Follows state (stores state name theorem)
 stores-follows state name theorem identifier is_name none =
-    one_printed state (with_library state (with_theorem state.library name theorem)) name theorem identifier (put state.library.theorems name theorem) (stored-keeps state.library name theorem is_name none)
+    one_printed state (with_library state (with_theorem state.library name theorem)) name theorem identifier (put state.library.theorems name theorem)
+    (stored-keeps state.library name theorem is_name none)
 
 var-follows : (state : State) (name : List ℕ) (tree : TypeTree) (accepted : Accepted) → Ok accepted ≡ var_outcome state name tree → Follows state accepted
 var-follows state name tree accepted same =
@@ -226,7 +239,8 @@ newtype-follows : (state : State) (name : List ℕ) (accepted : Accepted) → Ok
 newtype-follows state name accepted same =
     let f = followed (new_type_outcome state.library.theory name) (λ theory. Ok (says_nothing (with_library state (over_theory state.library theory)))) accepted (sym same) in
     follows-said state (says_nothing (with_library state (over_theory state.library f.value))) accepted f.is
-    (none_printed state (with_library state (over_theory state.library f.value)) nothing refl (grown-keeps state.library f.value (declaration_of_type name) (type-added state.library.theory f.value name f.is_read)))
+    (none_printed state (with_library state (over_theory state.library f.value)) nothing refl
+    (grown-keeps state.library f.value (declaration_of_type name) (type-added state.library.theory f.value name f.is_read)))
 
 newconst-follows : (state : State) (name : List ℕ) (tree : TypeTree) (accepted : Accepted) → Ok accepted ≡ newconst_accepted state name tree → Follows state accepted
 newconst-follows state name tree accepted same =
@@ -238,10 +252,12 @@ newconst-follows state name tree accepted same =
 
 def-follows : (state : State) (name : List ℕ) (tree : TermTree) (accepted : Accepted) → is_identifier name ≡ true → Ok accepted ≡ def_accepted state name tree → Follows state accepted
 def-follows state name tree accepted identifier same =
-    let f = followed (def_outcome state.library name tree) (λ theorem. Ok (says_theorem (definition_name name) theorem (with_library state (with_definition state.library name theorem)))) accepted (sym same) in
+    let f = followed (def_outcome state.library name tree) (λ theorem. Ok (says_theorem (definition_name name) theorem (with_library state (with_definition state.library name theorem))))
+    accepted (sym same) in
     let g = followed (meaning (scope_in state) [] tree) (λ term. define_outcome state.library.theory name term) f.value f.is_read in
     follows-said state (says_theorem (definition_name name) f.value (with_library state (with_definition state.library name f.value))) accepted f.is
-    (one_printed state (with_library state (with_definition state.library name f.value)) (definition_name name) f.value (definition-identifier name identifier) (put state.library.theorems (definition_name name) f.value)
+    (one_printed state (with_library state (with_definition state.library name f.value)) (definition_name name) f.value (definition-identifier name identifier)
+    (put state.library.theorems (definition_name name) f.value)
     (defined-keeps state.library name g.value f.value g.is))
 
 show-follows : (state : State) (name : List ℕ) (accepted : Accepted) → is_identifier name ≡ true → Ok accepted ≡ show_outcome state name → Follows state accepted
@@ -274,7 +290,8 @@ p-follows state accepted same = go state.proof (sym same)
     go None same = cc
     go (Some proof) same = follows-said state (says_goals state proof) accepted same (said-follows state state.lemmas proof)
 
-save-follows : (state : State) (name : List ℕ) (accepted : Accepted) → is_identifier name ≡ true → is_theorem_name name ≡ true → state.library.theorems name ≡ None → Ok accepted ≡ save_outcome state name → Follows state accepted
+save-follows : (state : State) (name : List ℕ) (accepted : Accepted) → is_identifier name ≡ true → is_theorem_name name ≡ true → state.library.theorems name ≡ None →
+    Ok accepted ≡ save_outcome state name → Follows state accepted
 save-follows state name accepted identifier is_name none same =
     let f = followed (top_outcome state.proof) (λ theorem. Ok (stores state name theorem)) accepted (sym same) in
     follows-said state (stores state name f.value) accepted f.is (stores-follows state name f.value identifier is_name none)
@@ -302,7 +319,8 @@ behind accepted first next go (stops fault is_first same) = cc
 
 refined-follows : (tools : Tools) (state : State) (tree : Tactic TermTree) (accepted : Accepted) → IsRefined tools state tree (Ok accepted) → Follows state accepted
 refined-follows tools state tree accepted may =
-    behind accepted (Is (read_tactic (meaning (scope_in state) []) tree)) (λ tactic. Then (IsExpansion tools state tactic) (λ expansion. Is (Ok (says_goals (with_lemmas state expansion.lemmas) expansion.proof))))
+    behind accepted (Is (read_tactic (meaning (scope_in state) []) tree)) (λ tactic. Then (IsExpansion tools state tactic)
+    (λ expansion. Is (Ok (says_goals (with_lemmas state expansion.lemmas) expansion.proof))))
     (λ tactic rest.
     behind accepted (IsExpansion tools state tactic) (λ expansion. Is (Ok (says_goals (with_lemmas state expansion.lemmas) expansion.proof)))
     (λ expansion same. follows-said state (says_goals (with_lemmas state expansion.lemmas) expansion.proof) accepted (sym same) (said-follows state expansion.lemmas expansion.proof)) rest) may
@@ -322,7 +340,8 @@ command-follows tools state text (thm_command name tree) accepted spelled may =
     named-follows state name accepted (Then (IsTheoremAnswer tools state tree) (λ theorem. Is (Ok (stores state name theorem))))
     (λ is_name none rest.
     behind accepted (IsTheoremAnswer tools state tree) (λ theorem. Is (Ok (stores state name theorem)))
-    (λ theorem same. thm-follows state name theorem accepted (command-identifier text (thm_command name tree) (codes "thm") name (Mark Equal ∷ theorem_tokens tree) refl spelled) is_name none same) rest) may
+    (λ theorem same. thm-follows state name theorem accepted (command-identifier text (thm_command name tree) (codes "thm") name (Mark Equal ∷ theorem_tokens tree) refl spelled) is_name none
+    same) rest) may
 command-follows tools state text (show_command name) accepted spelled may = show-follows state name accepted (command-identifier text (show_command name) (codes "show") name [] refl spelled) may
 command-follows tools state text (goal_command tree) accepted spelled may = goal-follows state tree accepted may
 command-follows tools state text (e_command tree) accepted spelled may = refined-follows tools state tree accepted may
@@ -330,7 +349,8 @@ command-follows tools state text b_command accepted spelled may = proof-follows 
 command-follows tools state text p_command accepted spelled may = p-follows state accepted may
 command-follows tools state text (r_command digits) accepted spelled may = proof-follows state (rotate_outcome state.proof (numeral_value digits)) accepted (sym may)
 command-follows tools state text (save_command name) accepted spelled may =
-    named-follows state name accepted (Plainly (Is (save_outcome state name))) (λ is_name none rest. save-follows state name accepted (command-identifier text (save_command name) (codes "save") name [] refl spelled) is_name none rest) may
+    named-follows state name accepted (Plainly (Is (save_outcome state name))) (λ is_name none rest. save-follows state name accepted
+    (command-identifier text (save_command name) (codes "save") name [] refl spelled) is_name none rest) may
 
 -- ---- turns
 
@@ -376,7 +396,8 @@ record Lasts (old final : State) (theorems : List NamedTheorem) : Type 0 where
   printed : (shown : NamedTheorem) → IsMember shown theorems → final.library.theorems shown.name ≡ Some shown.theorem
   named : (shown : NamedTheorem) → IsMember shown theorems → is_identifier shown.name ≡ true
 
-lasts : (tools : Tools) (requests : List Request) (turns : List Turn) (state : State) → IsTold state.library → Session tools state requests turns → Lasts state (last_state state turns) (theorems_in_turns turns)
+lasts : (tools : Tools) (requests : List Request) (turns : List Turn) (state : State) → IsTold state.library → Session tools state requests turns →
+    Lasts state (last_state state turns) (theorems_in_turns turns)
 lasts tools [] [] state told session = record { stays = λ name theorem is. is; printed = λ shown member. absurd member; named = λ shown member. absurd member }
 lasts tools [] (turn ∷ turns) state told session = absurd session
 lasts tools (request ∷ requests) [] state told session = absurd session
@@ -425,7 +446,8 @@ not_there None x none there = cc
 not_there (Some other) x none there = cc
 
 start-untold : IsUntold first_library
-start-untold = untold-all (record { theory = logical_definitions; variables = λ _. None; theorems = λ _. None }) stored_theorems (refl, (refl, (refl, (refl, (refl, (refl, (refl, (refl, (refl, (refl, (refl, (refl, tt)))))))))))) (record { none = λ name. refl })
+start-untold = untold-all (record { theory = logical_definitions; variables = λ _. None; theorems = λ _. None }) stored_theorems
+    (refl, (refl, (refl, (refl, (refl, (refl, (refl, (refl, (refl, (refl, (refl, (refl, tt)))))))))))) (record { none = λ name. refl })
 
 pub start-told : IsTold first_library
 start-told = record { told = λ name theorem is. not_there (first_library.theorems (definition_name name)) theorem (start-untold.none name) is }

@@ -22,12 +22,16 @@ use Rattle.hol_model_sessions.specs.Script.{Request, requested, request_and, is_
 use Rattle.hol_model_sessions.specs.Sessions.{with_variable, over_theory, is_theorem_name, definition_name, def_outcome, with_definition, newconst_outcome, with_theorem, with_theorems}
 use Rattle.hol_model_sessions.specs.Sessions.{State as Library}
 use Rattle.hol_model_sessions.specs.TacticGrammar.{Tactic}
-use Rattle.hol_model_sessions.specs.CommandGrammar.{CommandTree, var_command, newtype_command, newconst_command, def_command, thm_command, show_command, goal_command, e_command, b_command, p_command, r_command, save_command, command_tokens, SpellsCommand}
+use Rattle.hol_model_sessions.specs.CommandGrammar.{CommandTree, var_command, newtype_command, newconst_command, def_command, thm_command, show_command, goal_command, e_command, b_command}
+use Rattle.hol_model_sessions.specs.CommandGrammar.{p_command, r_command, save_command, command_tokens, SpellsCommand}
 use Rattle.hol_model.specs.Kernel.Answers.{Is, Unless, Then, goes_on, stops}
 use Rattle.hol_model.specs.Goals.Goals.{Goal}
 use Rattle.hol_model.specs.Goals.GoalStates.{Proof, open_goals, set_outcome, back_outcome, rotate_outcome, top_outcome}
 use Rattle.hol_model_sessions.specs.Replies.{nothing, theorem_line, goal_lines, refusal_of, Reply, NamedTheorem, theorem_in, text_of_theorem, count_text, goals_text, text_of_refusal, reply_text}
-use Rattle.hol_model_sessions.specs.ScriptSessions.{State, start, scope_in, with_library, with_goal, with_lemmas, Tools, Accepted, Outcome, Plainly, state_after, says_nothing, says_theorem, stores, says_goals, var_outcome, newtype_outcome, newconst_accepted, def_accepted, show_outcome, goal_outcome, p_outcome, save_outcome, IsTheoremAnswer, NamesTheorem, IsRefined, May, Allows, finds_no_memory, is_unfinished, is_no_command, is_refused, is_done, AreReadableGoals, IsTrueReply, Turn, Takes, Session, text_of_turns}
+use Rattle.hol_model_sessions.specs.ScriptSessions.{State, start, scope_in, with_library, with_goal, with_lemmas, Tools, Accepted, Outcome, Plainly, state_after, says_nothing, says_theorem}
+use Rattle.hol_model_sessions.specs.ScriptSessions.{stores, says_goals, var_outcome, newtype_outcome, newconst_accepted, def_accepted, show_outcome, goal_outcome, p_outcome, save_outcome}
+use Rattle.hol_model_sessions.specs.ScriptSessions.{IsTheoremAnswer, NamesTheorem, IsRefined, May, Allows, finds_no_memory, is_unfinished, is_no_command, is_refused, is_done, AreReadableGoals}
+use Rattle.hol_model_sessions.specs.ScriptSessions.{IsTrueReply, Turn, Takes, Session, text_of_turns}
 use Rattle.hol_model_sessions.specs.Headline.{Defines, DeclaresConstant, Declares, AreDeclared, IsGrownBy, of_theorem, of_refusal, of_count, of_goal, of_proof, AreTold}
 use Rattle.hol_laws_sessions.specs.HeadlineLaws.{TextsArePrinted, IsToldFrom, RunsAreTold}
 use Rattle.hol_laws_goals.proofs.Passing.{followed}

@@ -12,7 +12,11 @@ use Rattle.hol_model.specs.Goals.Replays.{sequents_in, has_room}
 use Rattle.hol_model.specs.Refining.HostFunctions.{Host as HostFunctions}
 use Rattle.hol_model.specs.Refining.Combinators as combinators
 use Rattle.hol_model.specs.Refining.Combinators.{Stage, at}
-use Rattle.hol_model_sessions.specs.TacticGrammar.{PlainTactic, AllTac, NoTac, AssumptionTac, ReflTac, ConjTac, EqTac, Disj1Tac, Disj2Tac, DischTac, GenTac, TautTac, NamedTactic, AcceptTac, AssumeTac, MpTac, DisjCasesTac, ChooseTac, Host, QuotedTactic, ExistsTac, UndischTac, TacticLeaf, plain, by_name, by_quote, conv_tac, rewrite_tac, Tactic, then_chain, TacticLinks, no_more_then, then_all, then_each, Tactics, no_tactics, tactic_and, TacticChoice, orelse_chain, OtherTactics, no_more_orelse, orelse, TacticUnit, repeated, tried, enclosed, leaf, read_leaf, read_tactic, read_links, read_tactics, read_choice, read_others, read_unit}
+use Rattle.hol_model_sessions.specs.TacticGrammar.{PlainTactic, AllTac, NoTac, AssumptionTac, ReflTac, ConjTac, EqTac, Disj1Tac, Disj2Tac, DischTac, GenTac, TautTac, NamedTactic, AcceptTac}
+use Rattle.hol_model_sessions.specs.TacticGrammar.{AssumeTac, MpTac, DisjCasesTac, ChooseTac, Host, QuotedTactic, ExistsTac, UndischTac, TacticLeaf, plain, by_name, by_quote, conv_tac}
+use Rattle.hol_model_sessions.specs.TacticGrammar.{rewrite_tac, Tactic, then_chain, TacticLinks, no_more_then, then_all, then_each, Tactics, no_tactics, tactic_and, TacticChoice, orelse_chain}
+use Rattle.hol_model_sessions.specs.TacticGrammar.{OtherTactics, no_more_orelse, orelse, TacticUnit, repeated, tried, enclosed, leaf, read_leaf, read_tactic, read_links, read_tactics}
+use Rattle.hol_model_sessions.specs.TacticGrammar.{read_choice, read_others, read_unit}
 use Rattle.hol_model.specs.Goals.GoalStates.{Expansion}
 use Rattle.hol_model.specs.Kernel.Answers.{goes_on, stops}
 use Rattle.hol_laws_sessions.specs.ReadTerms.{IsKnownTyped}
@@ -21,7 +25,8 @@ use Rattle.hol_laws_refiners.proofs.Lemmas.{refiners-answer-valid}
 use Rattle.hol_laws_refiners.proofs.StopsRunning.{refiners-spend}
 use Rattle.hol_laws_goals.proofs.Passing.{followed, passes_tests}
 use Rattle.hol_laws_sessions.proofs.KnownReadings.{read_terms-known}
-use Rattle.hol_model_sessions.specs.SessionTools.{over_lemmas, of_plain, of_named, of_quoted, tactic_of_leaf, then_on, or_else, tactic_of, links_of, tactics_of, tactic_of_choice, others_of, tactic_of_unit}
+use Rattle.hol_model_sessions.specs.SessionTools.{over_lemmas, of_plain, of_named, of_quoted, tactic_of_leaf, then_on, or_else, tactic_of, links_of, tactics_of, tactic_of_choice, others_of}
+use Rattle.hol_model_sessions.specs.SessionTools.{tactic_of_unit}
 use Rattle.hol_model.specs.Refining.RefinerConditions.{HasKnownWitness, HasKnownWitnesses, HaveKnownWitnesses, HaveKnownWitnessesInLinks}
 use Rattle.hol_laws_sessions.specs.ToolLaws.{ToolsRefineValidly, ExpansionSpends, ExpansionsSpend}
 
@@ -139,12 +144,15 @@ pub tools-valid : (host : HostFunctions) → ToolsRefineValidly host
 tools-valid host steps state logic store over = record {
   room = λ lemmas justification. has_room state.library.theory (sequents_in (store_in (with_lemmas state lemmas))) [] justification;
   valid = λ tree tactic goal refinement is_read known runs.
-      let good = refiners-answer-valid host state.library.theory (at (store_in state) steps) (at (over_lemmas (store_in state) refinement.lemmas) refinement.left) (tactic_of tactic) goal refinement.step logic store
-      (tactic-known state.library.theory (meaning (scope_in state) []) (λ term_tree term is. read_terms-known state.library.theory (scope_in state) logic.legal over term_tree term is) tree tactic is_read)
+      let good = refiners-answer-valid host state.library.theory (at (store_in state) steps) (at (over_lemmas (store_in state) refinement.lemmas) refinement.left) (tactic_of tactic) goal
+      refinement.step logic store
+      (tactic-known state.library.theory (meaning (scope_in state) []) (λ term_tree term is. read_terms-known state.library.theory (scope_in state) logic.legal over term_tree term is) tree
+      tactic is_read)
       known runs in
       record { valid = good.valid; known = good.known };
   lemmas = λ tactic goal refinement runs.
-      let later = (refiners-spend host state.library.theory).spends (at (store_in state) steps) (at (over_lemmas (store_in state) refinement.lemmas) refinement.left) (tactic_of tactic) goal (Ok refinement.step) runs in
+      let later = (refiners-spend host state.library.theory).spends (at (store_in state) steps) (at (over_lemmas (store_in state) refinement.lemmas) refinement.left) (tactic_of tactic) goal
+      (Ok refinement.step) runs in
       record { added = later.added; is_added = later.lemmas };
   replays = λ lemmas justification answer is. is;
 }

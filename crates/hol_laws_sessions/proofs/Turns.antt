@@ -16,11 +16,15 @@ use Rattle.hol_model_sessions.specs.Script.{Request}
 use Rattle.hol_model.specs.Texts.SequentTexts.{SequentsReadBack}
 use Rattle.hol_model_sessions.specs.Sessions.{with_variable, over_theory, is_theorem_name, definition_name, def_outcome, with_definition, newconst_outcome}
 use Rattle.hol_model_sessions.specs.TacticGrammar.{Tactic, read_tactic}
-use Rattle.hol_model_sessions.specs.CommandGrammar.{CommandTree, var_command, newtype_command, newconst_command, def_command, thm_command, show_command, goal_command, e_command, b_command, p_command, r_command, save_command}
+use Rattle.hol_model_sessions.specs.CommandGrammar.{CommandTree, var_command, newtype_command, newconst_command, def_command, thm_command, show_command, goal_command, e_command, b_command}
+use Rattle.hol_model_sessions.specs.CommandGrammar.{p_command, r_command, save_command}
 use Rattle.hol_model.specs.Kernel.Answers.{Is, Unless, Then, goes_on, stops}
 use Rattle.hol_model.specs.Goals.GoalStates.{Proof, open_goals, set_outcome, back_outcome, rotate_outcome, top_outcome}
 use Rattle.hol_model_sessions.specs.Replies.{goal_lines, refusal_of, NamedTheorem, theorem_in, goals_in}
-use Rattle.hol_model_sessions.specs.ScriptSessions.{State, scope_in, with_library, with_goal, Tools, Accepted, Outcome, Plainly, state_after, says_nothing, says_theorem, stores, says_goals, var_outcome, newtype_outcome, newconst_accepted, def_accepted, show_outcome, goal_outcome, p_outcome, save_outcome, with_lemmas, IsTheoremAnswer, NamesTheorem, IsExpansion, IsRefined, May, Allows, finds_no_memory, is_unfinished, is_no_command, is_refused, is_done, Turn, Takes, Session, last_state, AreShown, IsProved, IsFinished}
+use Rattle.hol_model_sessions.specs.ScriptSessions.{State, scope_in, with_library, with_goal, Tools, Accepted, Outcome, Plainly, state_after, says_nothing, says_theorem, stores, says_goals}
+use Rattle.hol_model_sessions.specs.ScriptSessions.{var_outcome, newtype_outcome, newconst_accepted, def_accepted, show_outcome, goal_outcome, p_outcome, save_outcome, with_lemmas}
+use Rattle.hol_model_sessions.specs.ScriptSessions.{IsTheoremAnswer, NamesTheorem, IsExpansion, IsRefined, May, Allows, finds_no_memory, is_unfinished, is_no_command, is_refused, is_done, Turn}
+use Rattle.hol_model_sessions.specs.ScriptSessions.{Takes, Session, last_state, AreShown, IsProved, IsFinished}
 use Rattle.hol_laws_sessions.specs.SessionLaws.{fault_left, all_without_memory, IsTold}
 use Rattle.hol_laws_goals.proofs.Passing.{followed}
 use Rattle.hol_laws_sessions.proofs.Growth.{GrowsLegally, stays, grows_twice, type-grows, const-grows, definition-grows}
@@ -81,7 +85,8 @@ newconst-grows state name tree accepted same =
 
 def-grows : (state : State) (name : List ℕ) (tree : TermTree) (accepted : Accepted) → Ok accepted ≡ def_accepted state name tree → Grows state accepted
 def-grows state name tree accepted same =
-    let f = followed (def_outcome state.library name tree) (λ theorem. Ok (says_theorem (definition_name name) theorem (with_library state (with_definition state.library name theorem)))) accepted (sym same) in
+    let f = followed (def_outcome state.library name tree) (λ theorem. Ok (says_theorem (definition_name name) theorem (with_library state (with_definition state.library name theorem))))
+    accepted (sym same) in
     let g = followed (meaning (scope_in state) [] tree) (λ term. define_outcome state.library.theory name term) f.value f.is_read in
     grows-said state (says_theorem (definition_name name) f.value (with_library state (with_definition state.library name f.value))) accepted f.is
     (definition-grows state.library.theory name g.value f.value (read-typed (scope_in state) tree g.value g.is_read) g.is)
@@ -123,22 +128,26 @@ behind : {A E : Type 0} (state : State) (accepted : Accepted) (first : Result A 
 behind state accepted first next go (goes_on x is_first is_next) = go x is_next
 behind state accepted first next go (stops fault is_first same) = cc
 
-named-grows : (state : State) (name : List ℕ) (accepted : Accepted) (next : Outcome → Type 0) → (next (Ok accepted) → Grows state accepted) → NamesTheorem state name next (Ok accepted) → Grows state accepted
+named-grows : (state : State) (name : List ℕ) (accepted : Accepted) (next : Outcome → Type 0) → (next (Ok accepted) → Grows state accepted) → NamesTheorem state name next (Ok accepted) →
+    Grows state accepted
 named-grows state name accepted next go may =
     after-test state accepted (is_theorem_name name) (refusal_of BadName) (Unless (not (is_some (state.library.theorems name))) (refusal_of NameTaken) next)
     (λ rest. after-test state accepted (not (is_some (state.library.theorems name))) (refusal_of NameTaken) next go rest) may
 
-stored-grows : {E : Type 0} (state : State) (name : List ℕ) (theorem : Theorem) (accepted : Accepted) → ◌≡◌ {A = Result Accepted E} (Ok accepted) (Ok (stores state name theorem)) → Grows state accepted
+stored-grows : {E : Type 0} (state : State) (name : List ℕ) (theorem : Theorem) (accepted : Accepted) → ◌≡◌ {A = Result Accepted E} (Ok accepted) (Ok (stores state name theorem)) →
+    Grows state accepted
 stored-grows state name theorem accepted same =
     (let one : accepted ≡ stores state name theorem = cc in stays state.library.theory (theory_of accepted) (ap theory_of one))
 
-said-grows : (state : State) (lemmas : List Theorem) (proof : Proof) (accepted : Accepted) → ◌≡◌ {A = Result Accepted Fault} (Ok accepted) (Ok (says_goals (with_lemmas state lemmas) proof)) → Grows state accepted
+said-grows : (state : State) (lemmas : List Theorem) (proof : Proof) (accepted : Accepted) →
+    ◌≡◌ {A = Result Accepted Fault} (Ok accepted) (Ok (says_goals (with_lemmas state lemmas) proof)) → Grows state accepted
 said-grows state lemmas proof accepted same =
     (let one : accepted ≡ says_goals (with_lemmas state lemmas) proof = cc in stays state.library.theory (theory_of accepted) (ap theory_of one))
 
 refined-grows : (tools : Tools) (state : State) (tree : Tactic TermTree) (accepted : Accepted) → IsRefined tools state tree (Ok accepted) → Grows state accepted
 refined-grows tools state tree accepted may =
-    behind state accepted (Is (read_tactic (meaning (scope_in state) []) tree)) (λ tactic. Then (IsExpansion tools state tactic) (λ expansion. Is (Ok (says_goals (with_lemmas state expansion.lemmas) expansion.proof))))
+    behind state accepted (Is (read_tactic (meaning (scope_in state) []) tree)) (λ tactic. Then (IsExpansion tools state tactic)
+    (λ expansion. Is (Ok (says_goals (with_lemmas state expansion.lemmas) expansion.proof))))
     (λ tactic rest.
     behind state accepted (IsExpansion tools state tactic) (λ expansion. Is (Ok (says_goals (with_lemmas state expansion.lemmas) expansion.proof)))
     (λ expansion same. said-grows state expansion.lemmas expansion.proof accepted same) rest) may
@@ -184,7 +193,8 @@ pub turn-grows : (tools : Tools) (state : State) (request : Request) (turn : Tur
 turn-grows tools state request turn takes =
     subst (λ (t : Turn). TheoryGrows state t.after) (sym takes.is_turn) (outcome-grows tools state request.text takes.outcome takes.allowed)
 
-pub session-grows : (tools : Tools) (state : State) (requests : List Request) (turns : List Turn) → Session tools state requests turns → IsEarlier state.library.theory (last_state state turns).library.theory
+pub session-grows : (tools : Tools) (state : State) (requests : List Request) (turns : List Turn) → Session tools state requests turns →
+    IsEarlier state.library.theory (last_state state turns).library.theory
 session-grows tools state requests turns session = (grows state requests turns session).earlier
   where
     grows : (state : State) (requests : List Request) (turns : List Turn) → Session tools state requests turns → TheoryGrows state (last_state state turns)
@@ -217,7 +227,12 @@ taken : (tools : Tools) (state : State) (requests : List Request) (turns : List 
 taken tools state [] [] session turn member = absurd member
 taken tools state [] (first ∷ turns) session turn member = absurd session
 taken tools state (request ∷ requests) [] session turn member = absurd member
-taken tools state (request ∷ requests) (first ∷ turns) session turn (inl same) = record { state = state; request = request; takes = subst (λ (t : Turn). Takes tools state request t) (sym same) session.0 }
+taken tools state (request ∷ requests) (first ∷ turns) session turn (inl same) = record {
+  state = state;
+  request = request;
+  takes =
+      subst (λ (t : Turn). Takes tools state request t) (sym same) session.0;
+}
 taken tools state (request ∷ requests) (first ∷ turns) session turn (inr later) = taken tools first.after requests turns session.1 turn later
 
 if_some : {A : Type 0} (fact : A → Type 0) (found : Option A) (x : A) → found ≡ Some x → IfSome found fact → fact x

@@ -16,7 +16,9 @@ use Rattle.hol_model.specs.Texts.TermGrammar.{TermTree}
 use Rattle.hol_model_sessions.specs.Commands.{kind_of, rule_word, rule_tokens, quote_tokens, IsQuotable}
 use Rattle.hol_model_sessions.specs.ConversionGrammar.{unit_tokens}
 use Rattle.hol_model_sessions.specs.TacticGrammar.{tactic_tokens}
-use Rattle.hol_model_sessions.specs.CommandGrammar.{TheoremTree, by_rule, by_tautology, by_conversion, CommandTree, var_command, newtype_command, newconst_command, def_command, thm_command, show_command, goal_command, e_command, b_command, p_command, r_command, save_command, theorem_tokens, command_tokens, IsTheoremTree, IsCommandTree}
+use Rattle.hol_model_sessions.specs.CommandGrammar.{TheoremTree, by_rule, by_tautology, by_conversion, CommandTree, var_command, newtype_command, newconst_command, def_command, thm_command}
+use Rattle.hol_model_sessions.specs.CommandGrammar.{show_command, goal_command, e_command, b_command, p_command, r_command, save_command, theorem_tokens, command_tokens, IsTheoremTree}
+use Rattle.hol_model_sessions.specs.CommandGrammar.{IsCommandTree}
 use Rattle.hol_laws_sessions.specs.UniqueReadings.{QuotesAreUnambiguous, PartsAreUnambiguous, CommandsAreUnambiguous}
 use Rattle.hol_laws_sessions.proofs.UniqueConversions.{look_up_first, begins_otherwise, conversions-unambiguous}
 use Rattle.hol_laws_sessions.proofs.UniqueTactics.{tactics-unambiguous}
@@ -75,7 +77,8 @@ theorem-same parts (by_rule a) (by_conversion c b) ga gb same = begins_otherwise
 theorem-same parts (by_tautology a) (by_rule b) ga gb same = begins_otherwise (codes "TAUT") (rule_tokens b) (theorem_tokens (by_tautology a)) (other_word (kind_of b)).no_tautology (sym same) refl
 theorem-same parts (by_tautology a) (by_tautology b) ga gb same = (let behind : quote_tokens a [] ≡ quote_tokens b [] = cc in ap by_tautology (one_quote parts.quotes a b ga gb behind))
 theorem-same parts (by_tautology a) (by_conversion c b) ga gb same = begins_otherwise (codes "CONV") (theorem_tokens (by_tautology a)) (theorem_tokens (by_conversion c b)) refl same refl
-theorem-same parts (by_conversion c a) (by_rule b) ga gb same = begins_otherwise (codes "CONV") (rule_tokens b) (theorem_tokens (by_conversion c a)) (other_word (kind_of b)).no_conversion (sym same) refl
+theorem-same parts (by_conversion c a) (by_rule b) ga gb same = begins_otherwise (codes "CONV") (rule_tokens b) (theorem_tokens (by_conversion c a)) (other_word (kind_of b)).no_conversion
+    (sym same) refl
 theorem-same parts (by_conversion c a) (by_tautology b) ga gb same = begins_otherwise (codes "CONV") (theorem_tokens (by_tautology b)) (theorem_tokens (by_conversion c a)) refl (sym same) refl
 theorem-same parts (by_conversion c a) (by_conversion d b) ga gb same =
     let behind : unit_tokens c (quote_tokens a []) ≡ unit_tokens d (quote_tokens b []) = cc in
@@ -160,7 +163,8 @@ command-same parts (thm_command n a) (thm_command m b) ga gb same starts =
     λ i. thm_command (name i) (tree i)
 command-same parts (show_command n) (show_command m) ga gb same starts = (let name : n ≡ m = cc in ap show_command name)
 command-same parts (goal_command a) (goal_command b) ga gb same starts = (let behind : quote_tokens a [] ≡ quote_tokens b [] = cc in ap goal_command (one_quote parts.quotes a b ga gb behind))
-command-same parts (e_command a) (e_command b) ga gb same starts = (let behind : tactic_tokens a [] ≡ tactic_tokens b [] = cc in ap e_command (tactics-unambiguous parts.quotes a b ga.quotable gb.quotable behind))
+command-same parts (e_command a) (e_command b) ga gb same starts = (let behind : tactic_tokens a [] ≡ tactic_tokens b [] = cc in
+    ap e_command (tactics-unambiguous parts.quotes a b ga.quotable gb.quotable behind))
 command-same parts b_command b_command ga gb same starts = refl
 command-same parts p_command p_command ga gb same starts = refl
 command-same parts (r_command n) (r_command m) ga gb same starts = (let digits : n ≡ m = cc in ap r_command digits)

@@ -4,7 +4,10 @@ use Rattle.std.specs.Prelude.{codes, if◌then◌else◌}
 use Rattle.std.specs.Str.{bytes_eq}
 use Rattle.hol_model.specs.declared.symbol.Symbol.TheVariants.{CloseParenthesis}
 use Rattle.hol_model.specs.Texts.Token.{Token, Name, Number, Mark}
-use Rattle.hol_model_sessions.specs.ConversionGrammar.{Conversional, Repeatc, TryConv, RandConv, RatorConv, AbsConv, SubConv, DepthConv, OnceDepthConv, TopDepthConv, conversional_word, ConversionLeaf, all_conv, no_conv, beta_conv, rewr_conv, host_conv, Conversion, thenc_chain, FurtherConversions, no_more_thenc, thenc, ConversionChoice, orelsec_chain, OtherConversions, no_more_orelsec, orelsec, ConversionUnit, prefixed, enclosed, leaf, leaf_tokens, conversion_tokens, further_tokens, choice_tokens, other_tokens, unit_tokens}
+use Rattle.hol_model_sessions.specs.ConversionGrammar.{Conversional, Repeatc, TryConv, RandConv, RatorConv, AbsConv, SubConv, DepthConv, OnceDepthConv, TopDepthConv, conversional_word}
+use Rattle.hol_model_sessions.specs.ConversionGrammar.{ConversionLeaf, all_conv, no_conv, beta_conv, rewr_conv, host_conv, Conversion, thenc_chain, FurtherConversions, no_more_thenc, thenc}
+use Rattle.hol_model_sessions.specs.ConversionGrammar.{ConversionChoice, orelsec_chain, OtherConversions, no_more_orelsec, orelsec, ConversionUnit, prefixed, enclosed, leaf, leaf_tokens}
+use Rattle.hol_model_sessions.specs.ConversionGrammar.{conversion_tokens, further_tokens, choice_tokens, other_tokens, unit_tokens}
 use Rattle.hol_laws_sessions.specs.UniqueReadings.{SameParse, ConversionsAreUnambiguous}
 
 -- ---- words
@@ -100,14 +103,16 @@ pub begins_otherwise : {A : Type 0} (word : List ℕ) (r s : List Token) → sta
 begins_otherwise word r s none same some = (let one : starts_with word r ≡ starts_with word s = ap (starts_with word) same in cc)
 
 mutual
-  conversion-same : (a b : Conversion) (r s : List Token) → starts_with (codes "THENC") r ≡ false → starts_with (codes "ORELSEC") r ≡ false → starts_with (codes "THENC") s ≡ false → starts_with (codes "ORELSEC") s ≡ false
+  conversion-same : (a b : Conversion) (r s : List Token) → starts_with (codes "THENC") r ≡ false → starts_with (codes "ORELSEC") r ≡ false → starts_with (codes "THENC") s ≡ false →
+      starts_with (codes "ORELSEC") s ≡ false
       → conversion_tokens a r ≡ conversion_tokens b s → SameParse a b r s
   conversion-same (thenc_chain a as') (thenc_chain b bs) r s no_then no_else no_then' no_else' same =
       let first = choice-same a b (further_tokens as' r) (further_tokens bs s) (further-without as' r no_else) (further-without bs s no_else') same in
       let others = further-same as' bs r s no_then no_else no_then' no_else' first.rest in
       record { same = λ i. thenc_chain (first.same i) (others.same i); rest = others.rest }
 
-  further-same : (a b : FurtherConversions) (r s : List Token) → starts_with (codes "THENC") r ≡ false → starts_with (codes "ORELSEC") r ≡ false → starts_with (codes "THENC") s ≡ false → starts_with (codes "ORELSEC") s ≡ false
+  further-same : (a b : FurtherConversions) (r s : List Token) → starts_with (codes "THENC") r ≡ false → starts_with (codes "ORELSEC") r ≡ false → starts_with (codes "THENC") s ≡ false →
+      starts_with (codes "ORELSEC") s ≡ false
       → further_tokens a r ≡ further_tokens b s → SameParse a b r s
   further-same no_more_thenc no_more_thenc r s no_then no_else no_then' no_else' same = record { same = refl; rest = same }
   further-same no_more_thenc (thenc b bs) r s no_then no_else no_then' no_else' same = begins_otherwise (codes "THENC") r (further_tokens (thenc b bs) s) no_then same refl
@@ -118,7 +123,8 @@ mutual
       let others = further-same as' bs r s no_then no_else no_then' no_else' first.rest in
       record { same = λ i. thenc (first.same i) (others.same i); rest = others.rest }
 
-  choice-same : (a b : ConversionChoice) (r s : List Token) → starts_with (codes "ORELSEC") r ≡ false → starts_with (codes "ORELSEC") s ≡ false → choice_tokens a r ≡ choice_tokens b s → SameParse a b r s
+  choice-same : (a b : ConversionChoice) (r s : List Token) → starts_with (codes "ORELSEC") r ≡ false → starts_with (codes "ORELSEC") s ≡ false → choice_tokens a r ≡ choice_tokens b s →
+      SameParse a b r s
   choice-same (orelsec_chain a as') (orelsec_chain b bs) r s no_else no_else' same =
       let first = unit-same a b (other_tokens as' r) (other_tokens bs s) same in
       let others = other-same as' bs r s no_else no_else' first.rest in
@@ -143,7 +149,8 @@ mutual
       record { same = λ i. prefixed (word i) (operand.same i); rest = operand.rest }
   unit-same (prefixed p a) (enclosed b) r s same = cc
   unit-same (prefixed p a) (leaf b) r s same =
-      (let start : ◌≡◌ {A = Option Start} (Some (prefix_start p)) (Some (leaf_start (start_of_leaf b))) = sym (unit-starts (prefixed p a) r) ∙ ap (look_up_first starts) same ∙ unit-starts (leaf b) s in cc)
+      (let start : ◌≡◌ {A = Option Start} (Some (prefix_start p)) (Some (leaf_start (start_of_leaf b))) =
+      sym (unit-starts (prefixed p a) r) ∙ ap (look_up_first starts) same ∙ unit-starts (leaf b) s in cc)
   unit-same (enclosed a) (prefixed q b) r s same = cc
   unit-same (enclosed a) (enclosed b) r s same =
       let behind : conversion_tokens a (Mark CloseParenthesis ∷ r) ≡ conversion_tokens b (Mark CloseParenthesis ∷ s) = cc in
@@ -154,11 +161,13 @@ mutual
   unit-same (enclosed a) (leaf b) r s same =
       (let start : ◌≡◌ {A = Option Start} None (Some (leaf_start (start_of_leaf b))) = sym (unit-starts (enclosed a) r) ∙ ap (look_up_first starts) same ∙ unit-starts (leaf b) s in cc)
   unit-same (leaf a) (prefixed q b) r s same =
-      (let start : ◌≡◌ {A = Option Start} (Some (leaf_start (start_of_leaf a))) (Some (prefix_start q)) = sym (unit-starts (leaf a) r) ∙ ap (look_up_first starts) same ∙ unit-starts (prefixed q b) s in cc)
+      (let start : ◌≡◌ {A = Option Start} (Some (leaf_start (start_of_leaf a))) (Some (prefix_start q)) =
+      sym (unit-starts (leaf a) r) ∙ ap (look_up_first starts) same ∙ unit-starts (prefixed q b) s in cc)
   unit-same (leaf a) (enclosed b) r s same =
       (let start : ◌≡◌ {A = Option Start} (Some (leaf_start (start_of_leaf a))) None = sym (unit-starts (leaf a) r) ∙ ap (look_up_first starts) same ∙ unit-starts (enclosed b) s in cc)
   unit-same (leaf a) (leaf b) r s same =
-      let start : ◌≡◌ {A = Option Start} (Some (leaf_start (start_of_leaf a))) (Some (leaf_start (start_of_leaf b))) = sym (unit-starts (leaf a) r) ∙ ap (look_up_first starts) same ∙ unit-starts (leaf b) s in
+      let start : ◌≡◌ {A = Option Start} (Some (leaf_start (start_of_leaf a))) (Some (leaf_start (start_of_leaf b))) =
+      sym (unit-starts (leaf a) r) ∙ ap (look_up_first starts) same ∙ unit-starts (leaf b) s in
       let one : start_of_leaf a ≡ start_of_leaf b = cc in
       let inner = leaf-same a b r s same one in
       record { same = λ i. leaf (inner.same i); rest = inner.rest }

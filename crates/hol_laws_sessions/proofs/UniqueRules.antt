@@ -13,7 +13,9 @@ use Rattle.hol_model.specs.declared.rule.RuleKind.TheVariants.{Term, Pair, Abs, 
 use Rattle.hol_model.specs.Texts.Token.{Token, Name, Mark}
 use Rattle.hol_model.specs.Texts.TypeGrammar.{TypeTree, type_tokens}
 use Rattle.hol_model.specs.Texts.TermGrammar.{TermTree, IsWithin}
-use Rattle.hol_model_sessions.specs.Commands.{DerivedTree, by_conversion, by_premise, by_premises, by_term_and_premise, by_cases, by_witness, by_choice, RuleTree, by_term, by_pair, by_abs, by_inst, by_inst_type, by_axiom, by_derived, derived_kind_of, kind_of, rule_word, quoted, quote_tokens, further_tokens, first_tokens, term_pair, type_pair, derived_tokens, argument_tokens, rule_tokens, IsQuotable, ArePairs, AreTypePairs, IsDerivedTree, IsRuleTree}
+use Rattle.hol_model_sessions.specs.Commands.{DerivedTree, by_conversion, by_premise, by_premises, by_term_and_premise, by_cases, by_witness, by_choice, RuleTree, by_term, by_pair, by_abs}
+use Rattle.hol_model_sessions.specs.Commands.{by_inst, by_inst_type, by_axiom, by_derived, derived_kind_of, kind_of, rule_word, quoted, quote_tokens, further_tokens, first_tokens, term_pair}
+use Rattle.hol_model_sessions.specs.Commands.{type_pair, derived_tokens, argument_tokens, rule_tokens, IsQuotable, ArePairs, AreTypePairs, IsDerivedTree, IsRuleTree}
 use Rattle.hol_laws_sessions.specs.UniqueReadings.{SameParse, QuotesAreUnambiguous, TypeQuotesAreUnambiguous, RulesAreUnambiguous}
 use Rattle.hol_laws_sessions.proofs.UniqueConversions.{look_up, look_up_first}
 
@@ -24,8 +26,10 @@ of_kind kind = (rule_word kind, kind)
 
 abbrev starts : List (List ℕ × RuleKind)
 starts = map of_kind (Term Refl ∷ Term Beta ∷ Term Assume ∷ Pair Trans ∷ Pair MkComb ∷ Pair EqMp ∷ Pair DeductAntisym ∷ Abs ∷ Inst ∷ InstType ∷ OfAxiom Eta ∷ OfAxiom Select ∷ Derived BetaConv
-    ∷ Derived (Premise Sym) ∷ Derived (Premise EqtIntro) ∷ Derived (Premise EqtElim) ∷ Derived (Premise Conjunct1) ∷ Derived (Premise Conjunct2) ∷ Derived (Premise Undisch) ∷ Derived (Premise NotIntro)
-    ∷ Derived (Premise NotElim) ∷ Derived (Premises ProveHyp) ∷ Derived (Premises Conj) ∷ Derived (Premises Mp) ∷ Derived (TermPremise AddAssum) ∷ Derived (TermPremise Disch) ∷ Derived (TermPremise Spec)
+    ∷ Derived (Premise Sym) ∷ Derived (Premise EqtIntro) ∷ Derived (Premise EqtElim) ∷ Derived (Premise Conjunct1) ∷ Derived (Premise Conjunct2) ∷ Derived (Premise Undisch) ∷ Derived
+    (Premise NotIntro)
+    ∷ Derived (Premise NotElim) ∷ Derived (Premises ProveHyp) ∷ Derived (Premises Conj) ∷ Derived (Premises Mp) ∷ Derived (TermPremise AddAssum) ∷ Derived (TermPremise Disch) ∷ Derived
+    (TermPremise Spec)
     ∷ Derived (TermPremise Gen) ∷ Derived (TermPremise Disj1) ∷ Derived (TermPremise Disj2) ∷ Derived (TermPremise Contr) ∷ Derived DisjCases ∷ Derived Exists ∷ Derived Choose ∷ [])
 
 kind-starts : (kind : RuleKind) → look_up starts (rule_word kind) ≡ Some kind
@@ -86,7 +90,8 @@ module _ (quotes : QuotesAreUnambiguous) (type_quotes : TypeQuotesAreUnambiguous
   further_pairs-same [] (b ∷ bs) r s ga gb same = cc
   further_pairs-same (a ∷ as') [] r s ga gb same = cc
   further_pairs-same (a ∷ as') (b ∷ bs) r s ga gb same =
-      let behind : quote_tokens a.0 (Mark Comma ∷ quote_tokens a.1 (further_tokens (map term_pair as') r)) ≡ quote_tokens b.0 (Mark Comma ∷ quote_tokens b.1 (further_tokens (map term_pair bs) s)) = cc in
+      let behind : quote_tokens a.0 (Mark Comma ∷ quote_tokens a.1 (further_tokens (map term_pair as') r)) ≡ quote_tokens b.0
+      (Mark Comma ∷ quote_tokens b.1 (further_tokens (map term_pair bs) s)) = cc in
       let first = pair-same a b (further_tokens (map term_pair as') r) (further_tokens (map term_pair bs) s) ga.0 ga.1 gb.0 gb.1 behind in
       let others = further_pairs-same as' bs r s ga.2 gb.2 first.rest in
       record { same = λ i. first.same i ∷ others.same i; rest = others.rest }
@@ -109,12 +114,14 @@ module _ (quotes : QuotesAreUnambiguous) (type_quotes : TypeQuotesAreUnambiguous
       let rest : r ≡ s = cc in
       record { same = λ i. (first.same i, name i); rest = rest }
 
-  further_type_pairs-same : (a b : List (TypeTree × List ℕ)) (r s : List Token) → AreTypePairs a → AreTypePairs b → further_tokens (map type_pair a) r ≡ further_tokens (map type_pair b) s → SameParse a b r s
+  further_type_pairs-same : (a b : List (TypeTree × List ℕ)) (r s : List Token) → AreTypePairs a → AreTypePairs b → further_tokens (map type_pair a) r ≡ further_tokens (map type_pair b) s →
+      SameParse a b r s
   further_type_pairs-same [] [] r s ga gb same = (let rest : r ≡ s = cc in record { same = refl; rest = rest })
   further_type_pairs-same [] (b ∷ bs) r s ga gb same = cc
   further_type_pairs-same (a ∷ as') [] r s ga gb same = cc
   further_type_pairs-same (a ∷ as') (b ∷ bs) r s ga gb same =
-      let behind : quoted (type_tokens a.0 []) (Mark Comma ∷ quoted (Name a.1 ∷ []) (further_tokens (map type_pair as') r)) ≡ quoted (type_tokens b.0 []) (Mark Comma ∷ quoted (Name b.1 ∷ []) (further_tokens (map type_pair bs) s)) = cc in
+      let behind : quoted (type_tokens a.0 []) (Mark Comma ∷ quoted (Name a.1 ∷ []) (further_tokens (map type_pair as') r)) ≡ quoted (type_tokens b.0 [])
+      (Mark Comma ∷ quoted (Name b.1 ∷ []) (further_tokens (map type_pair bs) s)) = cc in
       let first = type_pair-same a b (further_tokens (map type_pair as') r) (further_tokens (map type_pair bs) s) ga.0 gb.0 behind in
       let others = further_type_pairs-same as' bs r s ga.2 gb.2 first.rest in
       record { same = λ i. first.same i ∷ others.same i; rest = others.rest }

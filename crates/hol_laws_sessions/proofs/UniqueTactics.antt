@@ -6,7 +6,12 @@ use Rattle.hol_model.specs.Texts.Token.{Token, Mark}
 use Rattle.hol_model.specs.Texts.TermGrammar.{TermTree}
 use Rattle.hol_model_sessions.specs.Commands.{quote_tokens}
 use Rattle.hol_model_sessions.specs.ConversionGrammar.{unit_tokens}
-use Rattle.hol_model_sessions.specs.TacticGrammar.{PlainTactic, AllTac, NoTac, AssumptionTac, ReflTac, ConjTac, EqTac, Disj1Tac, Disj2Tac, DischTac, GenTac, TautTac, NamedTactic, AcceptTac, AssumeTac, MpTac, DisjCasesTac, ChooseTac, Host, QuotedTactic, ExistsTac, UndischTac, TacticLeaf, plain, by_name, by_quote, conv_tac, rewrite_tac, Tactic, then_chain, TacticLinks, no_more_then, then_all, then_each, Tactics, no_tactics, tactic_and, TacticChoice, orelse_chain, OtherTactics, no_more_orelse, orelse, TacticUnit, repeated, tried, enclosed, leaf, plain_word, named_word, quoted_word, further_name_tokens, name_tokens, leaf_tokens, tactic_tokens, link_tokens, first_tokens, further_tokens, choice_tokens, other_tokens, tactic_unit_tokens, HasQuotableLeaf, HasQuotables, HasQuotableLinks, HasQuotableList, HasQuotableChoice, HasQuotableOthers, HasQuotableUnit}
+use Rattle.hol_model_sessions.specs.TacticGrammar.{PlainTactic, AllTac, NoTac, AssumptionTac, ReflTac, ConjTac, EqTac, Disj1Tac, Disj2Tac, DischTac, GenTac, TautTac, NamedTactic, AcceptTac}
+use Rattle.hol_model_sessions.specs.TacticGrammar.{AssumeTac, MpTac, DisjCasesTac, ChooseTac, Host, QuotedTactic, ExistsTac, UndischTac, TacticLeaf, plain, by_name, by_quote, conv_tac}
+use Rattle.hol_model_sessions.specs.TacticGrammar.{rewrite_tac, Tactic, then_chain, TacticLinks, no_more_then, then_all, then_each, Tactics, no_tactics, tactic_and, TacticChoice, orelse_chain}
+use Rattle.hol_model_sessions.specs.TacticGrammar.{OtherTactics, no_more_orelse, orelse, TacticUnit, repeated, tried, enclosed, leaf, plain_word, named_word, quoted_word, further_name_tokens}
+use Rattle.hol_model_sessions.specs.TacticGrammar.{name_tokens, leaf_tokens, tactic_tokens, link_tokens, first_tokens, further_tokens, choice_tokens, other_tokens, tactic_unit_tokens}
+use Rattle.hol_model_sessions.specs.TacticGrammar.{HasQuotableLeaf, HasQuotables, HasQuotableLinks, HasQuotableList, HasQuotableChoice, HasQuotableOthers, HasQuotableUnit}
 use Rattle.hol_laws_sessions.specs.UniqueReadings.{SameParse, QuotesAreUnambiguous, TacticsAreUnambiguous}
 use Rattle.hol_laws_sessions.proofs.UniqueConversions.{starts_with, look_up, look_up_first, begins_otherwise, conversions-unambiguous}
 
@@ -114,7 +119,8 @@ names-same (a ∷ as') (b ∷ bs) r s same =
     let others = further_names-same as' bs r s behind in
     record { same = λ i. name i ∷ others.same i; rest = others.rest }
 
-leaf-same : QuotesAreUnambiguous → (a b : TacticLeaf TermTree) (r s : List Token) → HasQuotableLeaf a → HasQuotableLeaf b → leaf_tokens a r ≡ leaf_tokens b s → start_of_leaf a ≡ start_of_leaf b → SameParse a b r s
+leaf-same : QuotesAreUnambiguous → (a b : TacticLeaf TermTree) (r s : List Token) → HasQuotableLeaf a → HasQuotableLeaf b → leaf_tokens a r ≡ leaf_tokens b s →
+    start_of_leaf a ≡ start_of_leaf b → SameParse a b r s
 leaf-same quotes (plain a) (plain b) r s qa qb same starts = (let one : a ≡ b = cc in let rest : r ≡ s = cc in record { same = ap (λ t. plain t) one; rest = rest })
 leaf-same quotes (by_name a n) (by_name b m) r s qa qb same starts =
     (let one : a ≡ b = cc in let name : n ≡ m = cc in let rest : r ≡ s = cc in record { same = λ i. by_name (one i) (name i); rest = rest })
@@ -182,7 +188,8 @@ mutual
       let links = links-same quotes as' bs r s end end' qa.1 qb.1 first.rest in
       record { same = λ i. then_chain (first.same i) (links.same i); rest = links.rest }
 
-  links-same : QuotesAreUnambiguous → (a b : TacticLinks TermTree) (r s : List Token) → IsEnd r → IsEnd s → HasQuotableLinks a → HasQuotableLinks b → link_tokens a r ≡ link_tokens b s → SameParse a b r s
+  links-same : QuotesAreUnambiguous → (a b : TacticLinks TermTree) (r s : List Token) → IsEnd r → IsEnd s → HasQuotableLinks a → HasQuotableLinks b → link_tokens a r ≡ link_tokens b s →
+      SameParse a b r s
   links-same quotes no_more_then no_more_then r s end end' qa qb same = record { same = refl; rest = same }
   links-same quotes no_more_then (then_all b bs) r s end end' qa qb same = begins_otherwise (codes "THEN") r (link_tokens (then_all b bs) s) end.no_then same refl
   links-same quotes no_more_then (then_each b bs) r s end end' qa qb same = begins_otherwise (codes "THENL") r (link_tokens (then_each b bs) s) end.no_thenl same refl
@@ -220,14 +227,16 @@ mutual
       let others = further-same quotes as' bs r s qa.1 qb.1 first.rest in
       record { same = λ i. tactic_and (first.same i) (others.same i); rest = others.rest }
 
-  choice-same : QuotesAreUnambiguous → (a b : TacticChoice TermTree) (r s : List Token) → starts_with (codes "ORELSE") r ≡ false → starts_with (codes "ORELSE") s ≡ false → HasQuotableChoice a → HasQuotableChoice b
+  choice-same : QuotesAreUnambiguous → (a b : TacticChoice TermTree) (r s : List Token) → starts_with (codes "ORELSE") r ≡ false → starts_with (codes "ORELSE") s ≡ false →
+      HasQuotableChoice a → HasQuotableChoice b
       → choice_tokens a r ≡ choice_tokens b s → SameParse a b r s
   choice-same quotes (orelse_chain a as') (orelse_chain b bs) r s none none' qa qb same =
       let first = unit-same quotes a b (other_tokens as' r) (other_tokens bs s) qa.0 qb.0 same in
       let others = others-same quotes as' bs r s none none' qa.1 qb.1 first.rest in
       record { same = λ i. orelse_chain (first.same i) (others.same i); rest = others.rest }
 
-  others-same : QuotesAreUnambiguous → (a b : OtherTactics TermTree) (r s : List Token) → starts_with (codes "ORELSE") r ≡ false → starts_with (codes "ORELSE") s ≡ false → HasQuotableOthers a → HasQuotableOthers b
+  others-same : QuotesAreUnambiguous → (a b : OtherTactics TermTree) (r s : List Token) → starts_with (codes "ORELSE") r ≡ false → starts_with (codes "ORELSE") s ≡ false →
+      HasQuotableOthers a → HasQuotableOthers b
       → other_tokens a r ≡ other_tokens b s → SameParse a b r s
   others-same quotes no_more_orelse no_more_orelse r s none none' qa qb same = record { same = refl; rest = same }
   others-same quotes no_more_orelse (orelse b bs) r s none none' qa qb same = begins_otherwise (codes "ORELSE") r (other_tokens (orelse b bs) s) none same refl

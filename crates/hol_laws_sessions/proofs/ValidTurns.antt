@@ -21,13 +21,17 @@ use Rattle.hol_model.specs.Goals.ValidSteps.{Step}
 use Rattle.hol_model.specs.Goals.JustificationLaws.{IsLaterStore}
 use Rattle.hol_laws_steps.proofs.FewerHypotheses.{IsAsStrong-self}
 use Rattle.hol_model_sessions.specs.TacticGrammar.{Tactic, read_tactic}
-use Rattle.hol_model_sessions.specs.CommandGrammar.{CommandTree, var_command, newtype_command, newconst_command, def_command, thm_command, show_command, goal_command, e_command, b_command, p_command, r_command, save_command}
+use Rattle.hol_model_sessions.specs.CommandGrammar.{CommandTree, var_command, newtype_command, newconst_command, def_command, thm_command, show_command, goal_command, e_command, b_command}
+use Rattle.hol_model_sessions.specs.CommandGrammar.{p_command, r_command, save_command}
 use Rattle.hol_model.specs.Kernel.Answers.{Is, Unless, Then, goes_on, stops}
 use Rattle.hol_model.specs.Goals.Replays.{Store, sequent_of_theorem, sequents_in, IsKnownGoal, AreKnownGoals, is_within_depth}
-use Rattle.hol_model.specs.Goals.GoalStates.{Stage, Proof, open_goals, set_outcome, back_outcome, rotate_outcome, top_outcome, Focus, focus_outcome, Refinement, Expansion, IsStageOf, IsExpanded, expanded}
+use Rattle.hol_model.specs.Goals.GoalStates.{Stage, Proof, open_goals, set_outcome, back_outcome, rotate_outcome, top_outcome, Focus, focus_outcome, Refinement, Expansion, IsStageOf, IsExpanded}
+use Rattle.hol_model.specs.Goals.GoalStates.{expanded}
 use Rattle.hol_model.specs.Goals.GoalLaws.{IsValidIfAny, IsValidProof, Replays}
 use Rattle.hol_model_sessions.specs.Replies.{refusal_of, goal_lines}
-use Rattle.hol_model_sessions.specs.ScriptSessions.{State, scope_in, store_in, with_library, with_goal, with_lemmas, Tools, Accepted, Outcome, state_after, Plainly, says_nothing, says_theorem, stores, says_goals, var_outcome, newtype_outcome, newconst_accepted, def_accepted, show_outcome, goal_outcome, p_outcome, save_outcome, IsTheoremAnswer, NamesTheorem, IsExpansion, IsRefined, May, Allows, finds_no_memory, is_unfinished, is_no_command, is_refused, is_done, Turn}
+use Rattle.hol_model_sessions.specs.ScriptSessions.{State, scope_in, store_in, with_library, with_goal, with_lemmas, Tools, Accepted, Outcome, state_after, Plainly, says_nothing, says_theorem}
+use Rattle.hol_model_sessions.specs.ScriptSessions.{stores, says_goals, var_outcome, newtype_outcome, newconst_accepted, def_accepted, show_outcome, goal_outcome, p_outcome, save_outcome}
+use Rattle.hol_model_sessions.specs.ScriptSessions.{IsTheoremAnswer, NamesTheorem, IsExpansion, IsRefined, May, Allows, finds_no_memory, is_unfinished, is_no_command, is_refused, is_done, Turn}
 use Rattle.hol_model.specs.Goals.GoodSteps.{IsGoodStep}
 use Rattle.hol_laws_sessions.specs.ValidSessions.{IsTold, GoesOn, RefinesValidly, HasValidProof, TurnsKeepValid, RefusesExpansion, by_terms, without_goal, by_refiner, for_size, ExpansionsAreRefused}
 use Rattle.hol_model.proofs.Logic.Earlier.{earlier-same}
@@ -55,19 +59,22 @@ kept_lemmas (lemma ∷ lemmas) added (suc k) = kept_lemmas lemmas added k
 more_lemmas : (state : State) (lemmas : List Theorem) → GoesOn state.lemmas lemmas → IsLaterStore (sequents_in (store_in state)) (sequents_in (store_in (with_lemmas state lemmas)))
 more_lemmas state lemmas more = record {
   named = λ name. self (option_map sequent_of_theorem (state.library.theorems name));
-  lemmas = λ k. subst (λ (l : List Theorem). AnswersAsStrong (slice_get (map sequent_of_theorem l) k) (slice_get (map sequent_of_theorem state.lemmas) k)) (sym more.is_added) (kept_lemmas state.lemmas more.added k);
+  lemmas = λ k. subst (λ (l : List Theorem). AnswersAsStrong (slice_get (map sequent_of_theorem l) k) (slice_get (map sequent_of_theorem state.lemmas) k)) (sym more.is_added)
+      (kept_lemmas state.lemmas more.added k);
 }
 
 later_library : (old new : State) → IsTold old.library → Keeps old.library new.library → new.lemmas ≡ old.lemmas → IsLaterStore (sequents_in (store_in old)) (sequents_in (store_in new))
 later_library old new told keeps same = record {
   named = λ name. kept_named (old.library.theorems name) (new.library.theorems name) (λ theorem is. keeps.stays told name theorem is);
-  lemmas = λ k. subst (λ (l : List Theorem). AnswersAsStrong (slice_get (map sequent_of_theorem l) k) (slice_get (map sequent_of_theorem old.lemmas) k)) (sym same) (self (slice_get (map sequent_of_theorem old.lemmas) k));
+  lemmas = λ k. subst (λ (l : List Theorem). AnswersAsStrong (slice_get (map sequent_of_theorem l) k) (slice_get (map sequent_of_theorem old.lemmas) k)) (sym same)
+      (self (slice_get (map sequent_of_theorem old.lemmas) k));
 }
 
 -- ---- replays as they are
 
 stage-as_is : (theory : Theory) (replays others : Justification → Result Theorem Fault → Type 0) → ((j : Justification) (answer : Result Theorem Fault) → replays j answer → others j answer)
-    → (goal : Goal) (step : Step) (deep : Bool) (goals : List Goal) (answer : Result Stage Fault) → IsStageOf theory replays goal step deep goals answer → IsStageOf theory others goal step deep goals answer
+    → (goal : Goal) (step : Step) (deep : Bool) (goals : List Goal) (answer : Result Stage Fault) → IsStageOf theory replays goal step deep goals answer →
+    IsStageOf theory others goal step deep goals answer
 stage-as_is theory replays others as_is goal step false goals answer is = is
 stage-as_is theory replays others as_is goal step true (first ∷ rest) answer is = is
 stage-as_is theory replays others as_is goal step true [] answer (goes_on theorem is_first same) = goes_on theorem (as_is step.justification (Ok theorem) is_first) same
@@ -76,9 +83,11 @@ stage-as_is theory replays others as_is goal step true [] answer (stops fault is
 expanded-as_is : (theory : Theory) (replays others : Justification → Result Theorem Fault → Type 0) → ((j : Justification) (answer : Result Theorem Fault) → replays j answer → others j answer)
     → (focus : Focus) (refinement : Step) (answer : Result Proof Fault) → IsExpanded theory replays focus refinement answer → IsExpanded theory others focus refinement answer
 expanded-as_is theory replays others as_is focus refinement answer (goes_on stage is_stage same) =
-    goes_on stage (stage-as_is theory replays others as_is focus.proof.goal (expanded focus refinement) (is_within_depth (expanded focus refinement).justification) (expanded focus refinement).goals (Ok stage) is_stage) same
+    goes_on stage (stage-as_is theory replays others as_is focus.proof.goal (expanded focus refinement) (is_within_depth (expanded focus refinement).justification)
+    (expanded focus refinement).goals (Ok stage) is_stage) same
 expanded-as_is theory replays others as_is focus refinement answer (stops fault is_stage same) =
-    stops fault (stage-as_is theory replays others as_is focus.proof.goal (expanded focus refinement) (is_within_depth (expanded focus refinement).justification) (expanded focus refinement).goals (Err fault) is_stage) same
+    stops fault (stage-as_is theory replays others as_is focus.proof.goal (expanded focus refinement) (is_within_depth (expanded focus refinement).justification)
+    (expanded focus refinement).goals (Err fault) is_stage) same
 
 -- ---- expansions
 
@@ -94,13 +103,15 @@ module _ (tools : Tools) (state : State) (legal : IsLegal state.library.theory) 
   later_valid lemmas more =
       if_any-stays here here (store_in state) (store_in (with_lemmas state lemmas)) (earlier-same here here refl) legal (more_lemmas state lemmas more) state.proof valid
 
-  refined-valid : (tree : Tactic TermTree) (tactic : Tactic NamedTerm) → read_tactic (meaning (scope_in state) []) tree ≡ Ok tactic → (focus : Focus) (refinement : Refinement) → focus_outcome state.proof ≡ Ok focus → tools.refines here (store_in state) tactic focus.goal (Ok refinement)
+  refined-valid : (tree : Tactic TermTree) (tactic : Tactic NamedTerm) → read_tactic (meaning (scope_in state) []) tree ≡ Ok tactic → (focus : Focus) (refinement : Refinement) →
+      focus_outcome state.proof ≡ Ok focus → tools.refines here (store_in state) tactic focus.goal (Ok refinement)
       → IsGoodStep here (store_in (with_lemmas state refinement.lemmas)) focus.goal refinement.step
   refined-valid tree tactic is_read focus refinement is_focus is_refined =
       let focused = focus-sound here (store_in state) state.proof focus valid is_focus in
       sound.valid tree tactic focus.goal refinement is_read (known_first here focus.step.goals focus.goal focus.others focused.goals focused.opening.known) is_refined
 
-  expansion-valid : (tree : Tactic TermTree) (tactic : Tactic NamedTerm) → read_tactic (meaning (scope_in state) []) tree ≡ Ok tactic → (expansion : Expansion) → IsExpansion tools state tactic (Ok expansion) → IsValidProof here (store_in (with_lemmas state expansion.lemmas)) expansion.proof
+  expansion-valid : (tree : Tactic TermTree) (tactic : Tactic NamedTerm) → read_tactic (meaning (scope_in state) []) tree ≡ Ok tactic → (expansion : Expansion) →
+      IsExpansion tools state tactic (Ok expansion) → IsValidProof here (store_in (with_lemmas state expansion.lemmas)) expansion.proof
   expansion-valid tree tactic is_read expansion (stops fault is same) = cc
   expansion-valid tree tactic is_read expansion (goes_on focus is_focus (stops fault is same)) = cc
   expansion-valid tree tactic is_read expansion (goes_on focus is_focus (goes_on refinement is_refined (stops fault is same))) = cc
@@ -113,7 +124,8 @@ module _ (tools : Tools) (state : State) (legal : IsLegal state.library.theory) 
       let one : expansion ≡ made = cc in
       subst (λ (e : Expansion). IsValidProof here (store_in (with_lemmas state e.lemmas)) e.proof) (sym one) reached
 
-  expansion-refused : (tree : Tactic TermTree) (tactic : Tactic NamedTerm) → read_tactic (meaning (scope_in state) []) tree ≡ Ok tactic → (fault : Fault) → IsExpansion tools state tactic (Err fault) → RefusesExpansion tools state tree fault
+  expansion-refused : (tree : Tactic TermTree) (tactic : Tactic NamedTerm) → read_tactic (meaning (scope_in state) []) tree ≡ Ok tactic → (fault : Fault) →
+      IsExpansion tools state tactic (Err fault) → RefusesExpansion tools state tree fault
   expansion-refused tree tactic is_read fault (stops other is same) = (let one : fault ≡ other = cc in without_goal (subst (λ (f : Fault). focus_outcome state.proof ≡ Err f) (sym one) (sym is)))
   expansion-refused tree tactic is_read fault (goes_on focus is_focus (stops other is same)) =
       (let one : fault ≡ other = cc in by_refiner tactic focus (sym is_focus) (subst (λ (f : Fault). tools.refines here (store_in state) tactic focus.goal (Err f)) (sym one) is))
@@ -162,7 +174,8 @@ module _ (tools : Tools) (state : State) (legal : IsLegal state.library.theory) 
 
   def-fares : (name : List ℕ) (tree : TermTree) (accepted : Accepted) → Ok accepted ≡ def_accepted state name tree → Fares accepted
   def-fares name tree accepted same =
-      let f = followed (def_outcome state.library name tree) (λ theorem. Ok (says_theorem (definition_name name) theorem (with_library state (with_definition state.library name theorem)))) accepted (sym same) in
+      let f = followed (def_outcome state.library name tree) (λ theorem. Ok (says_theorem (definition_name name) theorem (with_library state (with_definition state.library name theorem))))
+      accepted (sym same) in
       fares-said (says_theorem (definition_name name) f.value (with_library state (with_definition state.library name f.value))) accepted f.is (inl (record { proof = refl; lemmas = refl }))
 
   show-fares : (name : List ℕ) (accepted : Accepted) → Ok accepted ≡ show_outcome state name → Fares accepted
@@ -174,12 +187,14 @@ module _ (tools : Tools) (state : State) (legal : IsLegal state.library.theory) 
 
   goal-fares : (tree : TermTree) (accepted : Accepted) → Ok accepted ≡ goal_outcome state tree → Fares accepted
   goal-fares tree accepted same =
-      let f = followed (meaning (scope_in state) [] tree >>= λ term. set_outcome here term) (λ proof. Ok (record { message = goal_lines (open_goals proof.stage); after = with_goal state proof })) accepted (sym same) in
+      let f = followed (meaning (scope_in state) [] tree >>= λ term. set_outcome here term)
+      (λ proof. Ok (record { message = goal_lines (open_goals proof.stage); after = with_goal state proof })) accepted (sym same) in
       let g = followed (meaning (scope_in state) [] tree) (λ term. set_outcome here term) f.value f.is_read in
       fares-said (record { message = goal_lines (open_goals f.value.stage); after = with_goal state f.value }) accepted f.is
       (inr (set-valid here (record { named = state.library.theorems; lemmas = [] }) g.value f.value g.is))
 
-  proof-fares : (answer : Result Proof Fault) (accepted : Accepted) → ((proof : Proof) → answer ≡ Ok proof → IsValidProof here (store_in state) proof) → (answer >>= λ proof. Ok (says_goals state proof)) ≡ Ok accepted → Fares accepted
+  proof-fares : (answer : Result Proof Fault) (accepted : Accepted) → ((proof : Proof) → answer ≡ Ok proof → IsValidProof here (store_in state) proof) →
+      (answer >>= λ proof. Ok (says_goals state proof)) ≡ Ok accepted → Fares accepted
   proof-fares answer accepted good same =
       let f = followed answer (λ proof. Ok (says_goals state proof)) accepted same in
       fares-said (says_goals state f.value) accepted f.is (inr (good f.value f.is_read))
@@ -196,7 +211,8 @@ module _ (tools : Tools) (state : State) (legal : IsLegal state.library.theory) 
       let f = followed (top_outcome state.proof) (λ theorem. Ok (stores state name theorem)) accepted (sym same) in
       fares-said (stores state name f.value) accepted f.is (inl (record { proof = refl; lemmas = refl }))
 
-  after-test : {E : Type 0} (accepted : Accepted) (test : Bool) (fault : E) (next : Result Accepted E → Type 0) → (next (Ok accepted) → Fares accepted) → Unless test fault next (Ok accepted) → Fares accepted
+  after-test : {E : Type 0} (accepted : Accepted) (test : Bool) (fault : E) (next : Result Accepted E → Type 0) → (next (Ok accepted) → Fares accepted) →
+      Unless test fault next (Ok accepted) → Fares accepted
   after-test accepted true fault next go may = go may
   after-test accepted false fault next go may = cc
 
@@ -233,7 +249,8 @@ module _ (tools : Tools) (state : State) (legal : IsLegal state.library.theory) 
 
 -- ---- turns
 
-fared : (tools : Tools) (state after : State) → IsTold state.library → HasValidProof state → Keeps state.library after.library → IsEarlier state.library.theory after.library.theory → IsLegal after.library.theory
+fared : (tools : Tools) (state after : State) → IsTold state.library → HasValidProof state → Keeps state.library after.library → IsEarlier state.library.theory after.library.theory →
+    IsLegal after.library.theory
     → after.proof ≡ state.proof → after.lemmas ≡ state.lemmas → HasValidProof after
 fared tools state after told valid keeps is_earlier legal same_proof same_lemmas =
     subst (λ (found : Option Proof). IsValidIfAny after.library.theory (store_in after) found) (sym same_proof)

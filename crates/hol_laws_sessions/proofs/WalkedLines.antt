@@ -11,7 +11,8 @@ use Rattle.hol_model.proofs.Logic.Earlier.{earlier-same}
 use Rattle.hol_model_sessions.specs.Script.{is_blank_text, line_feeds, leading_line_feeds}
 use Rattle.hol_model_sessions.specs.Replies.{refusal_of, count_text}
 use Rattle.hol_model_sessions.specs.Headline.{of_theorem, of_refusal, of_count, of_goal, of_proof, IsGoalOf, IsGrownBy, AreTold}
-use Rattle.hol_model_sessions.specs.Walking.{Place, first_place, Moves, stays, declares, sets, AreReadable, goal_line, IsAnswer, silence, theorem as tells_theorem, refusal as tells_refusal, open_goals as leaves_open, no_goals, Answered, EndsWith, Walks}
+use Rattle.hol_model_sessions.specs.Walking.{Place, first_place, Moves, stays, declares, sets, AreReadable, goal_line, IsAnswer, silence, theorem as tells_theorem, refusal as tells_refusal}
+use Rattle.hol_model_sessions.specs.Walking.{open_goals as leaves_open, no_goals, Answered, EndsWith, Walks}
 use Rattle.hol_laws_sessions.specs.HeadlineLaws.{TextsArePrinted, WalksAreTold}
 use Rattle.hol_laws_sessions.proofs.SetGoals.{goal-later}
 use Rattle.hol_laws_sessions.proofs.ToldTexts.{row-one_line}

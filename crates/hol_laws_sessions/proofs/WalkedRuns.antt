@@ -27,11 +27,17 @@ use Rattle.hol_model.specs.Goals.GoalStates.{Proof, goal_of, open_goals, set_out
 use Rattle.hol_model_sessions.specs.Script.{Request, requested, request_and, is_blank_text, line_feeds, leading_line_feeds}
 use Rattle.hol_model_sessions.specs.Sessions.{with_variable, over_theory, is_theorem_name, definition_name, def_outcome, with_definition, newconst_outcome}
 use Rattle.hol_model_sessions.specs.TacticGrammar.{Tactic}
-use Rattle.hol_model_sessions.specs.CommandGrammar.{CommandTree, var_command, newtype_command, newconst_command, def_command, thm_command, show_command, goal_command, e_command, b_command, p_command, r_command, save_command, command_tokens, SpellsCommand}
-use Rattle.hol_model_sessions.specs.Replies.{nothing, theorem_line, goal_lines, Refusal, refusal_of, Reply, NamedTheorem, theorem_in, text_of_theorem, count_text, goals_text, text_of_refusal, reply_text}
-use Rattle.hol_model_sessions.specs.ScriptSessions.{State, start, scope_in, with_library, with_goal, with_lemmas, Tools, Accepted, Outcome, Plainly, turn_of, state_after, says_nothing, says_theorem, stores, says_goals, var_outcome, newtype_outcome, newconst_accepted, def_accepted, show_outcome, goal_outcome, p_outcome, save_outcome, IsTheoremAnswer, NamesTheorem, IsFinished, IsRefined, May, Allows, finds_no_memory, is_unfinished, is_no_command, is_refused, is_done, AreReadableGoals, IsTrueReply, Turn, Takes, Session, text_of_turn, text_of_turns}
+use Rattle.hol_model_sessions.specs.CommandGrammar.{CommandTree, var_command, newtype_command, newconst_command, def_command, thm_command, show_command, goal_command, e_command, b_command}
+use Rattle.hol_model_sessions.specs.CommandGrammar.{p_command, r_command, save_command, command_tokens, SpellsCommand}
+use Rattle.hol_model_sessions.specs.Replies.{nothing, theorem_line, goal_lines, Refusal, refusal_of, Reply, NamedTheorem, theorem_in, text_of_theorem, count_text, goals_text, text_of_refusal}
+use Rattle.hol_model_sessions.specs.Replies.{reply_text}
+use Rattle.hol_model_sessions.specs.ScriptSessions.{State, start, scope_in, with_library, with_goal, with_lemmas, Tools, Accepted, Outcome, Plainly, turn_of, state_after, says_nothing}
+use Rattle.hol_model_sessions.specs.ScriptSessions.{says_theorem, stores, says_goals, var_outcome, newtype_outcome, newconst_accepted, def_accepted, show_outcome, goal_outcome, p_outcome}
+use Rattle.hol_model_sessions.specs.ScriptSessions.{save_outcome, IsTheoremAnswer, NamesTheorem, IsFinished, IsRefined, May, Allows, finds_no_memory, is_unfinished, is_no_command, is_refused}
+use Rattle.hol_model_sessions.specs.ScriptSessions.{is_done, AreReadableGoals, IsTrueReply, Turn, Takes, Session, text_of_turn, text_of_turns}
 use Rattle.hol_model_sessions.specs.Headline.{SetsGoal, Defines, DeclaresConstant, Declares, text_of_lines}
-use Rattle.hol_model_sessions.specs.Walking.{Place, first_place, Moves, stays, declares, sets, AreReadable, goal_line, IsSettled, IsAnswer, silence, theorem as tells_theorem, refusal as tells_refusal, open_goals as leaves_open, no_goals, Answered, EndsWith, Walks}
+use Rattle.hol_model_sessions.specs.Walking.{Place, first_place, Moves, stays, declares, sets, AreReadable, goal_line, IsSettled, IsAnswer, silence, theorem as tells_theorem}
+use Rattle.hol_model_sessions.specs.Walking.{refusal as tells_refusal, open_goals as leaves_open, no_goals, Answered, EndsWith, Walks}
 use Rattle.hol_laws_goals.proofs.Passing.{followed}
 use Rattle.hol_laws_sessions.specs.HeadlineLaws.{TextsArePrinted, IsWalkedFrom, RunsAreWalked}
 use Rattle.hol_laws_sessions.proofs.Growth.{type-added, const-added, definition-accepted}
@@ -395,7 +401,8 @@ module _ (printed : TextsArePrinted) where
         record { lines = ended.lines; walks = ended.ends; whole = ended.whole }
     session-walks line (piece ∷ pieces) last state goal turns agrees session =
         let next : ℕ = line + line_feeds piece in
-        let passed = piece-passes (is_blank_text piece) (line + leading_line_feeds piece) piece (requested next pieces last) (λ now lines. Walks next now pieces last lines) state goal turns agrees session
+        let passed = piece-passes (is_blank_text piece) (line + leading_line_feeds piece) piece (requested next pieces last) (λ now lines. Walks next now pieces last lines) state goal turns
+        agrees session
         (λ after now more agrees' session'. (let others = session-walks next pieces last after now more agrees' session' in (others.lines, others.walks, others.whole))) in
         record {
           lines = passed.first ++ passed.later;

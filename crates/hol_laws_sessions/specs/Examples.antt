@@ -11,7 +11,8 @@ use Rattle.hol_model.specs.Goals.Justifications.{sub}
 use Rattle.hol_model.specs.Goals.ValidSteps.{Step}
 use Rattle.hol_model_sessions.specs.ConversionGrammar.{thenc_chain, no_more_thenc, orelsec_chain, no_more_orelsec, Repeatc, rewr_conv, prefixed}
 use Rattle.hol_model_sessions.specs.ConversionGrammar.{enclosed as enclosed_conversion, leaf as conversion_leaf}
-use Rattle.hol_model_sessions.specs.TacticGrammar.{Tactic, then_chain, no_more_then, then_all, then_each, no_tactics, tactic_and, TacticChoice, orelse_chain, no_more_orelse, orelse, TacticUnit, repeated, leaf, plain, conv_tac, rewrite_tac, GenTac, DischTac, AssumptionTac, ConjTac, AllTac, tactic_tokens, tactic_depth}
+use Rattle.hol_model_sessions.specs.TacticGrammar.{Tactic, then_chain, no_more_then, then_all, then_each, no_tactics, tactic_and, TacticChoice, orelse_chain, no_more_orelse, orelse, TacticUnit}
+use Rattle.hol_model_sessions.specs.TacticGrammar.{repeated, leaf, plain, conv_tac, rewrite_tac, GenTac, DischTac, AssumptionTac, ConjTac, AllTac, tactic_tokens, tactic_depth}
 use Rattle.hol_model.specs.Goals.GoalStates.{underway, Proof, goal_of, begun, advanced, rotated, back_outcome, rotate_outcome}
 use Rattle.hol_model_sessions.specs.Replies.{text_of_goals, goals_text, row_text}
 use Rattle.hol_model_sessions.specs.ScriptSessions.{start, scope_in, row_of_fault}
@@ -40,7 +41,8 @@ abbrev pub conversion_or_none : Tactic TermTree
 conversion_or_none =
     then_chain
     (orelse_chain
-    (leaf (conv_tac (enclosed_conversion (thenc_chain (orelsec_chain (prefixed Repeatc (enclosed_conversion (thenc_chain (orelsec_chain (conversion_leaf (rewr_conv (codes "comm"))) no_more_orelsec) no_more_thenc))) no_more_orelsec) no_more_thenc))))
+    (leaf (conv_tac (enclosed_conversion (thenc_chain (orelsec_chain (prefixed Repeatc
+    (enclosed_conversion (thenc_chain (orelsec_chain (conversion_leaf (rewr_conv (codes "comm"))) no_more_orelsec) no_more_thenc))) no_more_orelsec) no_more_thenc))))
     (orelse (leaf (plain AllTac)) no_more_orelse))
     no_more_then
 

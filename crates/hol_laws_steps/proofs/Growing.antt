@@ -13,7 +13,10 @@ use Rattle.hol_model.specs.Logic.Logic.{false_term}
 use Rattle.hol_model.specs.Kernel.Rules.{dest_trivial_redex}
 use Rattle.hol_model.specs.Logic.NamelessLogic.{dest_equation, dest_forall, dest_exists, dest_redex}
 use Rattle.hol_model.specs.Goals.Goals.{Sequent}
-use Rattle.hol_model.specs.Derived.InferenceRules.{InferenceRule, rule_refl, rule_trans, rule_mk_comb, rule_abs, rule_beta, rule_assume, rule_eq_mp, rule_deduct_antisym, rule_inst, rule_inst_type, rule_eta_axiom, rule_select_axiom, rule_sym, rule_add_assum, rule_prove_hyp, rule_eqt_intro, rule_eqt_elim, rule_beta_conv, rule_conj, rule_conjunct1, rule_conjunct2, rule_disch, rule_undisch, rule_mp, rule_spec, rule_gen, rule_disj1, rule_disj2, rule_disj_cases, rule_contr, rule_not_intro, rule_not_elim, rule_exists, rule_choose}
+use Rattle.hol_model.specs.Derived.InferenceRules.{InferenceRule, rule_refl, rule_trans, rule_mk_comb, rule_abs, rule_beta, rule_assume, rule_eq_mp, rule_deduct_antisym, rule_inst}
+use Rattle.hol_model.specs.Derived.InferenceRules.{rule_inst_type, rule_eta_axiom, rule_select_axiom, rule_sym, rule_add_assum, rule_prove_hyp, rule_eqt_intro, rule_eqt_elim, rule_beta_conv}
+use Rattle.hol_model.specs.Derived.InferenceRules.{rule_conj, rule_conjunct1, rule_conjunct2, rule_disch, rule_undisch, rule_mp, rule_spec, rule_gen, rule_disj1, rule_disj2, rule_disj_cases}
+use Rattle.hol_model.specs.Derived.InferenceRules.{rule_contr, rule_not_intro, rule_not_elim, rule_exists, rule_choose}
 use Rattle.hol_model.specs.Derived.Inference.{Inference, infer, require, given, drawn, is_known_formula, is_known_term, may_replace, may_replace_types, conclusions_of, hypotheses_of, rule_sequent}
 use Rattle.hol_model.proofs.Logic.Later.{head_is_new, rest_is_legal, IsKnownType-later, IsKnown-later}
 use Rattle.hol_model.proofs.Terms.TypeTests.{knows_type-Decides}
@@ -80,7 +83,8 @@ list_all-later first second (x ∷ xs) more passed =
 may_replace-later : (earlier now : Theory) → KnowsMore earlier now → (theta : List (NamedTerm × NamedTerm)) → may_replace earlier theta ≡ true → may_replace now theta ≡ true
 may_replace-later earlier now later theta =
     both-later (replaces_variables theta) _ _
-    (list_all-later (λ (pair : NamedTerm × NamedTerm). knows_nameless earlier (image pair.0) (nameless_type [] (image pair.1))) (λ (pair : NamedTerm × NamedTerm). knows_nameless now (image pair.0) (nameless_type [] (image pair.1))) theta
+    (list_all-later (λ (pair : NamedTerm × NamedTerm). knows_nameless earlier (image pair.0) (nameless_type [] (image pair.1)))
+    (λ (pair : NamedTerm × NamedTerm). knows_nameless now (image pair.0) (nameless_type [] (image pair.1))) theta
     (λ pair known. later.terms (image pair.0) (nameless_type [] (image pair.1)) known))
 
 may_replace_types-later : (earlier now : Theory) → KnowsMore earlier now → (theta : List (HolType × HolType)) → may_replace_types earlier theta ≡ true → may_replace_types now theta ≡ true
@@ -101,9 +105,11 @@ infer-later earlier now later rule_mk_comb (a ∷ []) = tt
 infer-later earlier now later rule_mk_comb (a ∷ b ∷ []) = kept-self (infer earlier rule_mk_comb (a ∷ b ∷ []))
 infer-later earlier now later rule_mk_comb (a ∷ b ∷ d ∷ more) = tt
 infer-later earlier now later (rule_abs x) [] = tt
-infer-later earlier now later (rule_abs x) (a ∷ []) = kept-given (dest_variable x) _ _ (λ binder. kept-given (dest_equation a) _ _ (λ sides. kept-required (knows_type earlier binder.1) (knows_type now binder.1) _ (later.types binder.1)))
+infer-later earlier now later (rule_abs x) (a ∷ []) = kept-given (dest_variable x) _ _
+    (λ binder. kept-given (dest_equation a) _ _ (λ sides. kept-required (knows_type earlier binder.1) (knows_type now binder.1) _ (later.types binder.1)))
 infer-later earlier now later (rule_abs x) (a ∷ d ∷ more) = tt
-infer-later earlier now later (rule_beta t) [] = kept-given (dest_trivial_redex t) _ _ (λ body. kept-required (is_known_term earlier (image t)) (is_known_term now (image t)) _ (later.terms (image t) (nameless_type [] (image t))))
+infer-later earlier now later (rule_beta t) [] = kept-given (dest_trivial_redex t) _ _
+    (λ body. kept-required (is_known_term earlier (image t)) (is_known_term now (image t)) _ (later.terms (image t) (nameless_type [] (image t))))
 infer-later earlier now later (rule_beta t) (d ∷ more) = tt
 infer-later earlier now later (rule_assume p) [] = kept-required (is_known_formula earlier (image p)) (is_known_formula now (image p)) _ (later.terms (image p) bool_type)
 infer-later earlier now later (rule_assume p) (d ∷ more) = tt
@@ -141,7 +147,8 @@ infer-later earlier now later rule_eqt_intro (a ∷ d ∷ more) = tt
 infer-later earlier now later rule_eqt_elim [] = tt
 infer-later earlier now later rule_eqt_elim (a ∷ []) = kept-self (infer earlier rule_eqt_elim (a ∷ []))
 infer-later earlier now later rule_eqt_elim (a ∷ d ∷ more) = tt
-infer-later earlier now later (rule_beta_conv t) [] = kept-given (dest_redex (image t)) _ _ (λ redex. kept-required (is_known_term earlier (image t)) (is_known_term now (image t)) _ (later.terms (image t) (nameless_type [] (image t))))
+infer-later earlier now later (rule_beta_conv t) [] = kept-given (dest_redex (image t)) _ _
+    (λ redex. kept-required (is_known_term earlier (image t)) (is_known_term now (image t)) _ (later.terms (image t) (nameless_type [] (image t))))
 infer-later earlier now later (rule_beta_conv t) (d ∷ more) = tt
 infer-later earlier now later rule_conj [] = tt
 infer-later earlier now later rule_conj (a ∷ []) = tt
@@ -164,7 +171,8 @@ infer-later earlier now later rule_mp (a ∷ []) = tt
 infer-later earlier now later rule_mp (a ∷ b ∷ []) = kept-self (infer earlier rule_mp (a ∷ b ∷ []))
 infer-later earlier now later rule_mp (a ∷ b ∷ d ∷ more) = tt
 infer-later earlier now later (rule_spec t) [] = tt
-infer-later earlier now later (rule_spec t) (a ∷ []) = kept-given (dest_forall a) _ _ (λ quantified. kept-required (knows_nameless earlier (image t) quantified.0) (knows_nameless now (image t) quantified.0) _ (later.terms (image t) quantified.0))
+infer-later earlier now later (rule_spec t) (a ∷ []) = kept-given (dest_forall a) _ _
+    (λ quantified. kept-required (knows_nameless earlier (image t) quantified.0) (knows_nameless now (image t) quantified.0) _ (later.terms (image t) quantified.0))
 infer-later earlier now later (rule_spec t) (a ∷ d ∷ more) = tt
 infer-later earlier now later (rule_gen x) [] = tt
 infer-later earlier now later (rule_gen x) (a ∷ []) = kept-given (dest_variable x) _ _ (λ binder. kept-required (knows_type earlier binder.1) (knows_type now binder.1) _ (later.types binder.1))
@@ -181,7 +189,9 @@ infer-later earlier now later rule_disj_cases (a ∷ b ∷ []) = tt
 infer-later earlier now later rule_disj_cases (a ∷ b ∷ c ∷ []) = kept-self (infer earlier rule_disj_cases (a ∷ b ∷ c ∷ []))
 infer-later earlier now later rule_disj_cases (a ∷ b ∷ c ∷ d ∷ more) = tt
 infer-later earlier now later (rule_contr p) [] = tt
-infer-later earlier now later (rule_contr p) (a ∷ []) = kept-required (same_term a false_term && is_known_formula earlier (image p)) (same_term a false_term && is_known_formula now (image p)) _ (both-later (same_term a false_term) (is_known_formula earlier (image p)) (is_known_formula now (image p)) (later.terms (image p) bool_type))
+infer-later earlier now later (rule_contr p) (a ∷ []) = kept-required (same_term a false_term && is_known_formula earlier (image p))
+    (same_term a false_term && is_known_formula now (image p)) _ (both-later (same_term a false_term) (is_known_formula earlier (image p)) (is_known_formula now (image p))
+    (later.terms (image p) bool_type))
 infer-later earlier now later (rule_contr p) (a ∷ d ∷ more) = tt
 infer-later earlier now later rule_not_intro [] = tt
 infer-later earlier now later rule_not_intro (a ∷ []) = kept-self (infer earlier rule_not_intro (a ∷ []))
@@ -190,7 +200,11 @@ infer-later earlier now later rule_not_elim [] = tt
 infer-later earlier now later rule_not_elim (a ∷ []) = kept-self (infer earlier rule_not_elim (a ∷ []))
 infer-later earlier now later rule_not_elim (a ∷ d ∷ more) = tt
 infer-later earlier now later (rule_exists e w) [] = tt
-infer-later earlier now later (rule_exists e w) (a ∷ []) = kept-given (dest_exists (image e)) _ _ (λ quantified. kept-required (is_known_formula earlier (image e) && knows_nameless earlier (image w) quantified.0 && same_term (fill (image w) quantified.1) a) (is_known_formula now (image e) && knows_nameless now (image w) quantified.0 && same_term (fill (image w) quantified.1) a) _ (three-later (is_known_formula earlier (image e)) (knows_nameless earlier (image w) quantified.0) (is_known_formula now (image e)) (knows_nameless now (image w) quantified.0) (same_term (fill (image w) quantified.1) a) (later.terms (image e) bool_type) (later.terms (image w) quantified.0)))
+infer-later earlier now later (rule_exists e w) (a ∷ []) = kept-given (dest_exists (image e)) _ _
+    (λ quantified. kept-required (is_known_formula earlier (image e) && knows_nameless earlier (image w) quantified.0 && same_term (fill (image w) quantified.1) a)
+    (is_known_formula now (image e) && knows_nameless now (image w) quantified.0 && same_term (fill (image w) quantified.1) a) _
+    (three-later (is_known_formula earlier (image e)) (knows_nameless earlier (image w) quantified.0) (is_known_formula now (image e)) (knows_nameless now (image w) quantified.0)
+    (same_term (fill (image w) quantified.1) a) (later.terms (image e) bool_type) (later.terms (image w) quantified.0)))
 infer-later earlier now later (rule_exists e w) (a ∷ d ∷ more) = tt
 infer-later earlier now later (rule_choose v) [] = tt
 infer-later earlier now later (rule_choose v) (a ∷ []) = tt
@@ -225,7 +239,8 @@ by_rule-later : (earlier now : Theory) → KnowsMore earlier now → (rule : Inf
 by_rule-later earlier now later rule strongs None stronger = tt
 by_rule-later earlier now later rule None (Some weaks) stronger = absurd stronger
 by_rule-later earlier now later rule (Some strongs) (Some weaks) stronger =
-    as_strong-twice (rule_sequent now rule strongs) (rule_sequent now rule weaks) (rule_sequent earlier rule weaks) (rules-monotone now rule strongs weaks stronger) (rule-later earlier now later rule weaks)
+    as_strong-twice (rule_sequent now rule strongs) (rule_sequent now rule weaks) (rule_sequent earlier rule weaks) (rules-monotone now rule strongs weaks stronger)
+    (rule-later earlier now later rule weaks)
 
 mutual
   sequent_over-later : (earlier now : Theory) (old new : NamedSequents) → KnowsMore earlier now → IsLaterStore old new → (subgoals : Subgoals) (justification : Justification)

@@ -28,7 +28,8 @@ pub differs : (x term : Nameless) (xs : List Nameless) → IsMember x (without t
 differs x term [] member = absurd member
 differs x term (y ∷ xs) member = go (same_term y term) refl member (differs x term xs)
   where
-    go : (test : Bool) → same_term y term ≡ test → IsMember x (if not test then y ∷ without term xs else without term xs) → (IsMember x (without term xs) → same_term x term ≡ false) → same_term x term ≡ false
+    go : (test : Bool) → same_term y term ≡ test → IsMember x (if not test then y ∷ without term xs else without term xs) → (IsMember x (without term xs) → same_term x term ≡ false) →
+        same_term x term ≡ false
     go true is member deeper = deeper member
     go false is (inl same) deeper = subst (λ (z : Nameless). same_term z term ≡ false) (sym same) is
     go false is (inr member) deeper = deeper member

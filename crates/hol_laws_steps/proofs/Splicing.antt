@@ -84,12 +84,14 @@ achieved_between theory store (first ∷ steps) (goal ∷ goals) valid before se
     let parts = AchieveEach-split later first.goals (goals_of_steps steps) each in
     let here : (i : ℕ) → slice_get sequents (before + i) ≡ slice_get (parts.firsts ++ parts.lasts) i = λ i. there i ∙ ap (λ l. slice_get l i) parts.are_joined in
     let own = valid.0 parts.firsts parts.achieve_first in
-    let rest = achieved_between theory store steps goals valid.1 (before + length first.goals) sequents parts.lasts (later_places parts.firsts parts.lasts (length first.goals) here parts.same_length) parts.achieve_last in
+    let rest = achieved_between theory store steps goals valid.1 (before + length first.goals) sequents parts.lasts
+    (later_places parts.firsts parts.lasts (length first.goals) here parts.same_length) parts.achieve_last in
     record {
       middle = own.sequent ∷ rest.middle;
       achieve = (own.achieves, rest.achieve);
       answered = each_answered own.sequent rest.middle
-          (subst (λ (answer : Option Sequent). AnswersAsStrong (sequent_over theory store (slice_get sequents) (shift_subs before first.justification)) answer) own.is_given (shifted parts.firsts parts.lasts here))
+          (subst (λ (answer : Option Sequent). AnswersAsStrong (sequent_over theory store (slice_get sequents) (shift_subs before first.justification)) answer) own.is_given
+          (shifted parts.firsts parts.lasts here))
           rest.answered;
     }
   where

@@ -11,8 +11,10 @@ use Rattle.hol_model.specs.declared.fault.Cause.{Cause}
 use Rattle.hol_model.specs.Terms.Name.{is_capital, is_small, continues_name, all_continue, is_identifier, is_type_variable_name, is_declared_type_name, is_symbol, is_constant_name}
 use Rattle.hol_model.specs.Logic.Legality.{is_new_name}
 use Rattle.hol_model.specs.Logs.LogLine.{LogVersion, LogRule, LogLine}
-use Rattle.hol_model.specs.Logs.LogLine.LogRule.{refl_step, trans_step, mk_comb_step, abs_step, beta_step, assume_step, eq_mp_step, deduct_step, inst_step, inst_type_step, eta_step, select_step, definition_step}
-use Rattle.hol_model.specs.Logs.LogLine.LogLine.{header_line, type_variable_line, bool_line, function_type_line, declared_type_line, variable_line, constant_line, combination_line, abstraction_line, new_type_line, new_constant_line, theorem_line, claim_line, end_line}
+use Rattle.hol_model.specs.Logs.LogLine.LogRule.{refl_step, trans_step, mk_comb_step, abs_step, beta_step, assume_step, eq_mp_step, deduct_step, inst_step, inst_type_step, eta_step, select_step}
+use Rattle.hol_model.specs.Logs.LogLine.LogRule.{definition_step}
+use Rattle.hol_model.specs.Logs.LogLine.LogLine.{header_line, type_variable_line, bool_line, function_type_line, declared_type_line, variable_line, constant_line, combination_line}
+use Rattle.hol_model.specs.Logs.LogLine.LogLine.{abstraction_line, new_type_line, new_constant_line, theorem_line, claim_line, end_line}
 use Rattle.hol_model.specs.Logs.LogState.{LogState, first_state}
 use Rattle.hol_model.specs.Logs.LogSequents.{new_types, new_terms, new_theorems, new_claims, after_line}
 use Rattle.hol_model.specs.Logs.LogFaults.{is_no_type, is_no_term, is_no_theorem, some_is_no_term, some_is_no_type, rule_has_number_fault, rule_has_name_fault, first_cause}
@@ -158,21 +160,31 @@ module _ (state : LogState) (small : IsSmall state) where
       )
 
   two-theorems : (i j : ℕ) → (is_no_theorem state i || is_no_theorem state j) ≡ false → IsLogNumber i × IsLogNumber j
-  two-theorems i j is = (theorem-number i (first_of_neither (is_no_theorem state i) (is_no_theorem state j) is), theorem-number j (second_of_neither (is_no_theorem state i) (is_no_theorem state j) is))
+  two-theorems i j is = (
+    theorem-number i (first_of_neither (is_no_theorem state i) (is_no_theorem state j) is),
+    theorem-number j (second_of_neither (is_no_theorem state i) (is_no_theorem state j) is),
+  )
 
   rule-writable : (rule : LogRule) → rule_has_number_fault state rule ≡ false → rule_has_name_fault state rule ≡ false → IsWritableRule rule
   rule-writable (refl_step t) number name = term-number t number
   rule-writable (trans_step i j) number name = two-theorems i j number
   rule-writable (mk_comb_step i j) number name = two-theorems i j number
-  rule-writable (abs_step t i) number name = (term-number t (first_of_neither (is_no_term state t) (is_no_theorem state i) number), theorem-number i (second_of_neither (is_no_term state t) (is_no_theorem state i) number))
+  rule-writable (abs_step t i) number name = (
+    term-number t (first_of_neither (is_no_term state t) (is_no_theorem state i) number),
+    theorem-number i (second_of_neither (is_no_term state t) (is_no_theorem state i) number),
+  )
   rule-writable (beta_step t) number name = term-number t number
   rule-writable (assume_step t) number name = term-number t number
   rule-writable (eq_mp_step i j) number name = two-theorems i j number
   rule-writable (deduct_step i j) number name = two-theorems i j number
-  rule-writable (inst_step i pairs) number name =
-      (theorem-number i (first_of_neither (is_no_theorem state i) (some_is_no_term state pairs) number), term-pairs pairs (second_of_neither (is_no_theorem state i) (some_is_no_term state pairs) number))
-  rule-writable (inst_type_step i pairs) number name =
-      (theorem-number i (first_of_neither (is_no_theorem state i) (some_is_no_type state pairs) number), type-pairs pairs (second_of_neither (is_no_theorem state i) (some_is_no_type state pairs) number))
+  rule-writable (inst_step i pairs) number name = (
+    theorem-number i (first_of_neither (is_no_theorem state i) (some_is_no_term state pairs) number),
+    term-pairs pairs (second_of_neither (is_no_theorem state i) (some_is_no_term state pairs) number),
+  )
+  rule-writable (inst_type_step i pairs) number name = (
+    theorem-number i (first_of_neither (is_no_theorem state i) (some_is_no_type state pairs) number),
+    type-pairs pairs (second_of_neither (is_no_theorem state i) (some_is_no_type state pairs) number),
+  )
   rule-writable eta_step number name = tt
   rule-writable select_step number name = tt
   rule-writable (definition_step c t) number name = (new_constant-named state c name, term-number t number)
@@ -202,7 +214,8 @@ module _ (state : LogState) (small : IsSmall state) where
         term-numbers hs (second_of_neither (is_no_theorem state i || is_no_term state c) (list_any (is_no_term state) hs) fine.number),
       )
   line-writable (end_line count) fine =
-      let same : count ≡ length state.claims = eqb-true count (length state.claims) (not_false (nat_eq count (length state.claims)) (second_of_neither state.is_ended (not (nat_eq count (length state.claims))) fine.end)) in
+      let same : count ≡ length state.claims = eqb-true count (length state.claims)
+      (not_false (nat_eq count (length state.claims)) (second_of_neither state.is_ended (not (nat_eq count (length state.claims))) fine.end)) in
       let within = small.claims in
       omega (arith, same, within)
 
@@ -277,7 +290,8 @@ lines-writable (line ∷ lines) number before state final few within is =
     All-cons IsWritable line lines (line-writable state (small-counted state before few now) line (no_cause state line both_are.0))
     (lines-writable lines (number + 1) (before + 1) (after_line state line) final more left both_are.1)
 
-has_header : (first : LogLine) (next : LogVersion → LogOutcome) (final : LogState) → after_header (dest_header (Some first)) next ≡ Ok final → (version : LogVersion) × (first ≡ header_line version) × (next version ≡ Ok final)
+has_header : (first : LogLine) (next : LogVersion → LogOutcome) (final : LogState) → after_header (dest_header (Some first)) next ≡ Ok final →
+    (version : LogVersion) × (first ≡ header_line version) × (next version ≡ Ok final)
 has_header (header_line version) next final is = (version, refl, is)
 has_header _ next final is = cc
 

@@ -4,7 +4,8 @@ use Rattle.std.specs.Prelude.{decimal}
 use Rattle.std.specs.Option.{option_map}
 use Rattle.hol_logtext.specs.Fields.{is_log_name, name_of, number_of}
 use Rattle.hol_logtext.specs.LineText.{pair_fields, IsLogName, IsLogNumber, AreLogNumbers, ArePairsOfNumbers}
-use Rattle.hol_logtext.specs.LineReading.{both, both_numbers, both_kinds, no_field, one_name, one_number, two_numbers, name_and_number, before_all, numbers_of, pairs_of, number_and_pairs, parts_of_claim}
+use Rattle.hol_logtext.specs.LineReading.{both, both_numbers, both_kinds, no_field, one_name, one_number, two_numbers, name_and_number, before_all, numbers_of, pairs_of, number_and_pairs}
+use Rattle.hol_logtext.specs.LineReading.{parts_of_claim}
 use Rattle.hol_logtext.proofs.FieldLemmas.{number_of-is, number_of-decimal}
 
 -- from what was read

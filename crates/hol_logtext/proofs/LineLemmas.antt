@@ -7,17 +7,21 @@ use Rattle.std.proofs.lemmas.Slice.Eq.{bytes_eq-Decides}
 use Rattle.hol_model.specs.declared.limits.TheConstants.{NUMBER_LIMIT}
 use Rattle.hol_model.specs.Logs.LogLine.{LogRule, LogLine}
 use Rattle.hol_model.specs.Logs.LogLine.LogVersion.{first_version, second_version}
-use Rattle.hol_model.specs.Logs.LogLine.LogRule.{refl_step, trans_step, mk_comb_step, abs_step, beta_step, assume_step, eq_mp_step, deduct_step, inst_step, inst_type_step, eta_step, select_step, definition_step}
-use Rattle.hol_model.specs.Logs.LogLine.LogLine.{header_line, type_variable_line, bool_line, function_type_line, declared_type_line, variable_line, constant_line, combination_line, abstraction_line, new_type_line, new_constant_line, theorem_line, claim_line, end_line}
+use Rattle.hol_model.specs.Logs.LogLine.LogRule.{refl_step, trans_step, mk_comb_step, abs_step, beta_step, assume_step, eq_mp_step, deduct_step, inst_step, inst_type_step, eta_step, select_step}
+use Rattle.hol_model.specs.Logs.LogLine.LogRule.{definition_step}
+use Rattle.hol_model.specs.Logs.LogLine.LogLine.{header_line, type_variable_line, bool_line, function_type_line, declared_type_line, variable_line, constant_line, combination_line}
+use Rattle.hol_model.specs.Logs.LogLine.LogLine.{abstraction_line, new_type_line, new_constant_line, theorem_line, claim_line, end_line}
 use Rattle.hol_logtext.specs.Fields.{joined, split_fields}
 use Rattle.hol_logtext.specs.LineText.{rule_fields, line_fields, line_text, IsWritableRule, IsWritable, IsTextOf}
-use Rattle.hol_logtext.specs.LineReading.{no_field, one_name, one_number, two_numbers, name_and_number, number_and_pairs, parts_of_claim, claim_parts, claim_of_parts, header_of, type_of_word, term_of_word, pair_rule_of_word, plain_rule_of_word, entry_of_word, rule_of_word, by_word, short_of_word, line_of_fields, read_text}
+use Rattle.hol_logtext.specs.LineReading.{no_field, one_name, one_number, two_numbers, name_and_number, number_and_pairs, parts_of_claim, claim_parts, claim_of_parts, header_of, type_of_word}
+use Rattle.hol_logtext.specs.LineReading.{term_of_word, pair_rule_of_word, plain_rule_of_word, entry_of_word, rule_of_word, by_word, short_of_word, line_of_fields, read_text}
 use Rattle.hol_logtext.specs.Laws.{ReadingIsExact}
 use Rattle.hol_model.specs.declared.fault.Cause.{Cause}
 use Rattle.hol_logtext.specs.declared.line.Line.{Line}
 use Rattle.hol_logtext.specs.Lines.{line_of, IsLineRead, IsExact}
 use Rattle.hol_logtext.proofs.FieldLemmas.{number_of-decimal}
-use Rattle.hol_logtext.proofs.ArgumentLemmas.{mapped, no_field-is, one_name-is, one_number-is, two_numbers-are, name_and_number-are, number_and_pairs-are, parts_of_claim-are, name-read, two-read, name_and-read, number_and_pairs-read, claim-read}
+use Rattle.hol_logtext.proofs.ArgumentLemmas.{mapped, no_field-is, one_name-is, one_number-is, two_numbers-are, name_and_number-are, number_and_pairs-are, parts_of_claim-are, name-read, two-read}
+use Rattle.hol_logtext.proofs.ArgumentLemmas.{name_and-read, number_and_pairs-read, claim-read}
 use Rattle.hol_logtext.proofs.JoinLemmas.{joined-split, split-joined, AreSpaceless, name-spaceless, number-spaceless, numbers-spaceless, pairs-spaceless}
 
 -- The fields are those of a line that can be written.

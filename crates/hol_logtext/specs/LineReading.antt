@@ -4,8 +4,10 @@ use Rattle.std.specs.Option.{option_map}
 use Rattle.std.specs.Str.{bytes_eq}
 use Rattle.hol_model.specs.Logs.LogLine.{LogRule, LogLine}
 use Rattle.hol_model.specs.Logs.LogLine.LogVersion.{first_version, second_version}
-use Rattle.hol_model.specs.Logs.LogLine.LogRule.{refl_step, trans_step, mk_comb_step, abs_step, beta_step, assume_step, eq_mp_step, deduct_step, inst_step, inst_type_step, eta_step, select_step, definition_step}
-use Rattle.hol_model.specs.Logs.LogLine.LogLine.{header_line, type_variable_line, bool_line, function_type_line, declared_type_line, variable_line, constant_line, combination_line, abstraction_line, new_type_line, new_constant_line, theorem_line, claim_line, end_line}
+use Rattle.hol_model.specs.Logs.LogLine.LogRule.{refl_step, trans_step, mk_comb_step, abs_step, beta_step, assume_step, eq_mp_step, deduct_step, inst_step, inst_type_step, eta_step, select_step}
+use Rattle.hol_model.specs.Logs.LogLine.LogRule.{definition_step}
+use Rattle.hol_model.specs.Logs.LogLine.LogLine.{header_line, type_variable_line, bool_line, function_type_line, declared_type_line, variable_line, constant_line, combination_line}
+use Rattle.hol_model.specs.Logs.LogLine.LogLine.{abstraction_line, new_type_line, new_constant_line, theorem_line, claim_line, end_line}
 use Rattle.hol_logtext.specs.Fields.{split_fields, name_of, number_of}
 
 -- what fields say: nothing more, a name, a number, two of them, and lists

@@ -4,8 +4,10 @@ use Rattle.std.specs.Option.{option_map}
 use Rattle.std.proofs.Common.{Bor, Vec, Global}
 use Rattle.hol_model.specs.Logs.LogLine.{LogVersion, LogRule, LogLine}
 use Rattle.hol_model.specs.Logs.LogLine.LogVersion.{first_version, second_version}
-use Rattle.hol_model.specs.Logs.LogLine.LogRule.{refl_step, trans_step, mk_comb_step, abs_step, beta_step, assume_step, eq_mp_step, deduct_step, inst_step, inst_type_step, eta_step, select_step, definition_step}
-use Rattle.hol_model.specs.Logs.LogLine.LogLine.{header_line, type_variable_line, bool_line, function_type_line, declared_type_line, variable_line, constant_line, combination_line, abstraction_line, new_type_line, new_constant_line, theorem_line, claim_line, end_line}
+use Rattle.hol_model.specs.Logs.LogLine.LogRule.{refl_step, trans_step, mk_comb_step, abs_step, beta_step, assume_step, eq_mp_step, deduct_step, inst_step, inst_type_step, eta_step, select_step}
+use Rattle.hol_model.specs.Logs.LogLine.LogRule.{definition_step}
+use Rattle.hol_model.specs.Logs.LogLine.LogLine.{header_line, type_variable_line, bool_line, function_type_line, declared_type_line, variable_line, constant_line, combination_line}
+use Rattle.hol_model.specs.Logs.LogLine.LogLine.{abstraction_line, new_type_line, new_constant_line, theorem_line, claim_line, end_line}
 use Rattle.hol_model.specs.declared.fault.Cause.{Cause}
 use Rattle.hol_model.specs.declared.fault.Cause.TheVariants.{Shape}
 use Rattle.hol_logtext.specs.LineText.{IsTextOf}
@@ -14,7 +16,8 @@ use Rattle.hol_logtext.specs.declared.line.Version.TheVariants.{First, Second}
 use Rattle.hol_logtext.specs.declared.line.Rule.{Rule}
 use Rattle.hol_logtext.specs.declared.line.Rule.TheVariants.{Refl, Trans, MkComb, Abs, Beta, Assume, EqMp, Deduct, Inst, InstType, Eta, Select, Def}
 use Rattle.hol_logtext.specs.declared.line.Line.{Line}
-use Rattle.hol_logtext.specs.declared.line.Line.TheVariants.{Header, TypeVariable, Bool, FunctionType, DeclaredType, Variable, Constant, Combination, Abstraction, NewType, NewConstant, Theorem, Claim, End}
+use Rattle.hol_logtext.specs.declared.line.Line.TheVariants.{Header, TypeVariable, Bool, FunctionType, DeclaredType, Variable, Constant, Combination, Abstraction, NewType, NewConstant, Theorem}
+use Rattle.hol_logtext.specs.declared.line.Line.TheVariants.{Claim, End}
 
 abbrev pub version_of : Version → LogVersion
 version_of First = first_version

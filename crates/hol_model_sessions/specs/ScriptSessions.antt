@@ -22,7 +22,8 @@ use Rattle.hol_model_sessions.specs.Sessions.{State as Library, start as first_l
 use Rattle.hol_model.specs.Goals.Justifications.{Justification}
 use Rattle.hol_model_sessions.specs.ConversionGrammar.{ConversionUnit}
 use Rattle.hol_model_sessions.specs.TacticGrammar.{Tactic, read_tactic}
-use Rattle.hol_model_sessions.specs.CommandGrammar.{TheoremTree, by_rule, by_tautology, by_conversion, CommandTree, var_command, newtype_command, newconst_command, def_command, thm_command, show_command, goal_command, e_command, b_command, p_command, r_command, save_command, SpellsCommand}
+use Rattle.hol_model_sessions.specs.CommandGrammar.{TheoremTree, by_rule, by_tautology, by_conversion, CommandTree, var_command, newtype_command, newconst_command, def_command, thm_command}
+use Rattle.hol_model_sessions.specs.CommandGrammar.{show_command, goal_command, e_command, b_command, p_command, r_command, save_command, SpellsCommand}
 use Rattle.hol_model.specs.Kernel.Answers.{Is, Unless, Then}
 use Rattle.hol_model.specs.Goals.Replays.{Store, sequent_of_theorem}
 use Rattle.hol_model.specs.Goals.GoalStates.{proved, Proof, open_goals, set_outcome, back_outcome, rotate_outcome, top_outcome, Refinement, Expansion, MayExpand}

@@ -22,11 +22,14 @@ use Rattle.hol_model.specs.Kernel.Instantiation.{inst_refusal, IsInst, inst_type
 use Rattle.hol_model.specs.Logic.Logic.{logical_definitions}
 use Rattle.hol_model.specs.Derived.Prelude.{stored_theorems}
 use Rattle.hol_model.specs.Kernel.RuleOutcomes.{term_rule_outcome, pair_rule_outcome, axiom_theorem}
-use Rattle.hol_model.specs.Derived.DerivedRules.{Stated, AnswersStated, terms_of_theorem, sym_outcome, add_assum_outcome, prove_hyp_outcome, beta_conv_outcome, eqt_intro_outcome, eqt_elim_outcome, conj_outcome, conjunct1_outcome, conjunct2_outcome, disch_outcome, undisch_outcome, mp_outcome, spec_outcome, gen_outcome, exists_outcome, choose_outcome, disj1_outcome, disj2_outcome, disj_cases_outcome, contr_outcome, not_intro_outcome, not_elim_outcome}
+use Rattle.hol_model.specs.Derived.DerivedRules.{Stated, AnswersStated, terms_of_theorem, sym_outcome, add_assum_outcome, prove_hyp_outcome, beta_conv_outcome, eqt_intro_outcome}
+use Rattle.hol_model.specs.Derived.DerivedRules.{eqt_elim_outcome, conj_outcome, conjunct1_outcome, conjunct2_outcome, disch_outcome, undisch_outcome, mp_outcome, spec_outcome, gen_outcome}
+use Rattle.hol_model.specs.Derived.DerivedRules.{exists_outcome, choose_outcome, disj1_outcome, disj2_outcome, disj_cases_outcome, contr_outcome, not_intro_outcome, not_elim_outcome}
 use Rattle.hol_model.specs.Texts.TypeGrammar.{TypeTree}
 use Rattle.hol_model.specs.Texts.TermGrammar.{TermTree}
 use Rattle.hol_model.specs.Texts.Reading.{Scope, type_meaning, meaning, ◌>>=◌}
-use Rattle.hol_model_sessions.specs.Commands.{DerivedTree, by_conversion, by_premise, by_premises, by_term_and_premise, by_cases, by_witness, by_choice, RuleTree, by_term, by_pair, by_abs, by_inst, by_inst_type, by_axiom, by_derived}
+use Rattle.hol_model_sessions.specs.Commands.{DerivedTree, by_conversion, by_premise, by_premises, by_term_and_premise, by_cases, by_witness, by_choice, RuleTree, by_term, by_pair, by_abs}
+use Rattle.hol_model_sessions.specs.Commands.{by_inst, by_inst_type, by_axiom, by_derived}
 
 -- what a session keeps: the entries of its theory, the declared variables and the stored theorems
 pub record State : Type 0 where

@@ -5,7 +5,8 @@ use Rattle.hol_model.specs.declared.fault.Fault.{Fault}
 use Rattle.hol_model.specs.declared.fault.Fault.TheVariants.{Memory, ReadFault, TooLong, WriteFault}
 use Rattle.hol_model.specs.declared.limits.TheConstants.{TEXT_BYTES_LIMIT}
 use Rattle.hol_model_sessions.specs.ScriptSessions.{Tools, start, last_state, text_of_turns}
-use Rattle.hol_model_sessions.specs.Runs.{Counts, no_counts, counts_after, SourceUse, SinkUse, Tells, BreaksOff, CannotBegin, IsWhole, IsShortLog, claims_of_turns, Ends, unread, in_output, before_log, in_log, logged, unlogged}
+use Rattle.hol_model_sessions.specs.Runs.{Counts, no_counts, counts_after, SourceUse, SinkUse, Tells, BreaksOff, CannotBegin, IsWhole, IsShortLog, claims_of_turns, Ends, unread, in_output}
+use Rattle.hol_model_sessions.specs.Runs.{before_log, in_log, logged, unlogged}
 use Rattle.hol_device_io.specs.Bytes.{AppendsFront}
 use Rattle.hol_script_manager.specs.Managers.{state_of}
 use Rattle.hol_script.specs.declared.progress.Progress.{Progress}

@@ -24,7 +24,8 @@ use Rattle.hol_model.specs.Texts.Token.{Token, Name, Number, Mark}
 use Rattle.hol_model.specs.Texts.Lexing.{numeral_value}
 use Rattle.hol_model.specs.Texts.TypeGrammar.{TypeTree, type_tokens, type_steps}
 use Rattle.hol_model.specs.Texts.TermGrammar.{TermTree, IsWithin}
-use Rattle.hol_model_sessions.specs.Commands.{DerivedTree, derived_kind_of, derived_tokens, IsDerivedTree, RuleTree, kind_of, quoted, quote_tokens, argument_tokens, rule_tokens, IsQuotable, IsRuleTree}
+use Rattle.hol_model_sessions.specs.Commands.{DerivedTree, derived_kind_of, derived_tokens, IsDerivedTree, RuleTree, kind_of, quoted, quote_tokens, argument_tokens, rule_tokens, IsQuotable}
+use Rattle.hol_model_sessions.specs.Commands.{IsRuleTree}
 use Rattle.hol_model_sessions.specs.CommandGrammar.{TheoremTree, by_tautology, by_conversion, theorem_tokens, IsTheoremTree, CommandTree, IsCommandTree, IsReadCommand}
 use Rattle.hol_model_sessions.specs.CommandGrammar.{var_command, newtype_command, newconst_command, def_command, thm_command}
 use Rattle.hol_model_sessions.specs.CommandGrammar.{show_command, goal_command, e_command, b_command, p_command, r_command}

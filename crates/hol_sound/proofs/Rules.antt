@@ -7,7 +7,8 @@ use Rattle.hol_model.specs.Terms.HolType.{HolType, bool_type, function_type, Typ
 use Rattle.hol_model.specs.Terms.Nameless.{Nameless, free, const, bound, app, lam, same_term}
 use Rattle.hol_model.specs.Terms.NamedTerm.{same_variable}
 use Rattle.hol_model.specs.Terms.Substitution.{close, put, TermInstance, instantiate, occurs_free}
-use Rattle.hol_model.specs.Logic.Derivable.{IsMember, MayReplace, NotFreeInAny, AreKnown, nameless_equation, without, eta_axiom, eta_variable, select_hypothesis, select_conclusion, select_predicate, select_variable}
+use Rattle.hol_model.specs.Logic.Derivable.{IsMember, MayReplace, NotFreeInAny, AreKnown, nameless_equation, without, eta_axiom, eta_variable, select_hypothesis, select_conclusion}
+use Rattle.hol_model.specs.Logic.Derivable.{select_predicate, select_variable}
 use Rattle.hol_model.specs.Logic.Theory.{Theory, definition, IsLegal, IsKnown, type_a, type_b}
 use Rattle.hol_model.specs.Models.Values.{Value, rows, same_value, values_of, truth, falsity}
 use Rattle.hol_model.specs.Models.Tables.{look_up, tabulate, truth_of, first_true}

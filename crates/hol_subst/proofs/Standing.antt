@@ -19,7 +19,8 @@ use Rattle.hol_subst.proofs.Apart.{first_apart, second_apart, type_stays, functi
 use Rattle.hol_subst.proofs.Variables.{admitted_test}
 
 -- a variable that is free in no new term is brought by none
-pub IsBroughtFrom-none : (table : List ℕ → Option (List HolType)) (classes : ℕ) (env : List Entry) (binders : List Binder) (old new class : ℕ) (name : List ℕ) (ty : HolType) → Covers old new env → class ≡ class_of_name name
+pub IsBroughtFrom-none : (table : List ℕ → Option (List HolType)) (classes : ℕ) (env : List Entry) (binders : List Binder) (old new class : ℕ) (name : List ℕ) (ty : HolType) →
+    Covers old new env → class ≡ class_of_name name
     → have_common_class new class ≡ false → IsBroughtFrom table classes env binders name ty
 IsBroughtFrom-none table classes env binders old new class name ty covers is apart = record {
   absent = λ other s term known far unbound looked.
@@ -38,7 +39,8 @@ IsBroughtFrom-keeping table classes env binders name ty kept kept_type is =
     go false other s term known far unbound looked = is.absent other s term known far unbound looked
 
 -- one more that is replaced by a term without the variable
-pub IsBroughtFrom-beside : (table : List ℕ → Option (List HolType)) (classes : ℕ) (env : List Entry) (binders : List Binder) (name : List ℕ) (ty : HolType) (put : List ℕ) (put_type : HolType) (new : NamedTerm)
+pub IsBroughtFrom-beside : (table : List ℕ → Option (List HolType)) (classes : ℕ) (env : List Entry) (binders : List Binder) (name : List ℕ) (ty : HolType) (put : List ℕ)
+    (put_type : HolType) (new : NamedTerm)
     → is_free name ty new ≡ false → IsBroughtFrom table classes env binders name ty → IsBroughtFrom table classes (((put, put_type), Some new) ∷ env) binders name ty
 IsBroughtFrom-beside table classes env binders name ty put put_type new none is =
     record { absent = λ other s term known far unbound looked. go (same_variable put put_type other s) other s term known far unbound looked }
@@ -49,7 +51,8 @@ IsBroughtFrom-beside table classes env binders name ty put put_type new none is 
     go false other s term known far unbound looked = is.absent other s term known far unbound looked
 
 -- one more that is replaced, but that a binder binds
-pub IsBroughtFrom-bound : (table : List ℕ → Option (List HolType)) (classes : ℕ) (env : List Entry) (binders : List Binder) (name : List ℕ) (ty : HolType) (put : List ℕ) (put_type : HolType) (new : NamedTerm)
+pub IsBroughtFrom-bound : (table : List ℕ → Option (List HolType)) (classes : ℕ) (env : List Entry) (binders : List Binder) (name : List ℕ) (ty : HolType) (put : List ℕ) (put_type : HolType)
+    (new : NamedTerm)
     → is_some (binder_index binders put put_type) ≡ true → IsBroughtFrom table classes env binders name ty → IsBroughtFrom table classes (((put, put_type), Some new) ∷ env) binders name ty
 IsBroughtFrom-bound table classes env binders name ty put put_type new is_bound is =
     record { absent = λ other s term known far unbound looked. go (same_variable put put_type other s) other s term refl known far unbound looked }
@@ -81,7 +84,8 @@ IsBroughtFrom-unknown table classes env binders name ty put put_type new unknown
     go false other s term same known far unbound looked = is.absent other s term known far unbound looked
 
 -- one more that is replaced
-IsBroughtFrom-union : (table : List ℕ → Option (List HolType)) (classes : ℕ) (env : List Entry) (binders : List Binder) (name : List ℕ) (ty : HolType) (put : List ℕ) (put_type : HolType) (new : NamedTerm)
+IsBroughtFrom-union : (table : List ℕ → Option (List HolType)) (classes : ℕ) (env : List Entry) (binders : List Binder) (name : List ℕ) (ty : HolType) (put : List ℕ) (put_type : HolType)
+    (new : NamedTerm)
     → IsBroughtFrom table classes env binders name ty → IsBroughtFrom table (bit_or classes (class_of_name put)) (((put, put_type), Some new) ∷ env) binders name ty
 IsBroughtFrom-union table classes env binders name ty put put_type new is =
     record { absent = λ other s term known far unbound looked. go (same_variable put put_type other s) other s term refl known far unbound looked }
@@ -95,7 +99,8 @@ IsBroughtFrom-union table classes env binders name ty put put_type new is =
     go false other s term same known far unbound looked =
         is.absent other s term known (first_apart classes (class_of_name put) (class_of_name other) far) unbound looked
 
-pub IsBroughtFrom-putting : (table : List ℕ → Option (List HolType)) (more classes class : ℕ) (env : List Entry) (binders : List Binder) (name : List ℕ) (ty : HolType) (put : List ℕ) (put_type : HolType) (new : NamedTerm)
+pub IsBroughtFrom-putting : (table : List ℕ → Option (List HolType)) (more classes class : ℕ) (env : List Entry) (binders : List Binder) (name : List ℕ) (ty : HolType) (put : List ℕ)
+    (put_type : HolType) (new : NamedTerm)
     → more ≡ bit_or classes class → class ≡ class_of_name put
     → IsBroughtFrom table classes env binders name ty → IsBroughtFrom table more (((put, put_type), Some new) ∷ env) binders name ty
 IsBroughtFrom-putting table more classes class env binders name ty put put_type new union is brought =
@@ -257,7 +262,8 @@ IsKeptIn-body classes types binders name ty bound_name bound_type body whole is 
     let of_parts : IsKeptIn classes types binders name ty (abstraction bound_name bound_type body) = rw is kept in
     record {
       differs = λ other s occurs far unbound.
-          of_parts.differs other s (occurs, not_here (same_variable bound_name bound_type other s) (binder_index binders other s) unbound) far (still_unbound (same_variable bound_name bound_type other s) (binder_index binders other s) unbound);
+          of_parts.differs other s (occurs, not_here (same_variable bound_name bound_type other s) (binder_index binders other s) unbound) far
+          (still_unbound (same_variable bound_name bound_type other s) (binder_index binders other s) unbound);
     }
 
 pub IsBroughtBy-function : (classes : ℕ) (env : List Entry) (binders : List Binder) (name : List ℕ) (ty : HolType) (f x whole : NamedTerm)
@@ -331,7 +337,8 @@ nowhere env types name ty (combination f x) binders none =
 nowhere env types name ty (abstraction bound_name bound_type body) binders none =
     nowhere env types name ty body ((bound_name, bound_type) ∷ binders)
     (λ other s occurs unbound.
-    none other s (occurs, not_here (same_variable bound_name bound_type other s) (binder_index binders other s) unbound) (still_unbound (same_variable bound_name bound_type other s) (binder_index binders other s) unbound))
+    none other s (occurs, not_here (same_variable bound_name bound_type other s) (binder_index binders other s) unbound)
+    (still_unbound (same_variable bound_name bound_type other s) (binder_index binders other s) unbound))
 
 -- nor is it where the term lacks the classes that are sought
 pub apart-after : (env : List Entry) (types : List (HolType × HolType)) (brought kept : ℕ) (term : NamedTerm) (binders : List Binder) (name : List ℕ) (ty : HolType)

@@ -138,7 +138,8 @@ pub choice_made : (binder body operator predicate : NamedTerm) (x : List ℕ) (t
     → Answers result (well_typed (combination (constant name (function_type (function_type ty bool_type) (r ty))) (abstraction x ty body)))
 choice_made binder body operator predicate x ty t name r result is e o p h =
     let same : t ≡ ty = binder_typed binder x ty t is e in
-    let first : operator ≡ constant name (function_type (function_type ty bool_type) (r ty)) = made_constant (type_fits (function_type (function_type t bool_type) (r t))) o ∙ ap (λ u. constant name (function_type (function_type u bool_type) (r u))) same in
+    let first : operator ≡ constant name (function_type (function_type ty bool_type) (r ty)) =
+    made_constant (type_fits (function_type (function_type t bool_type) (r t))) o ∙ ap (λ u. constant name (function_type (function_type u bool_type) (r u))) same in
     let second : predicate ≡ abstraction x ty body = made_term (is_some (type_of (abstraction x ty body))) (is_within_limits (abstraction x ty body)) p in
     subst (λ u. Answers result (well_typed u)) (ap (λ f. combination f predicate) first ∙ ap (λ a. combination (constant name (function_type (function_type ty bool_type) (r ty))) a) second) h
   where

@@ -6,7 +6,8 @@ use Rattle.std.proofs.lemmas.List.Splits.{slice_split-cons_yes, slice_split-cons
 use Rattle.hol_model.specs.declared.symbol.Symbol.TheVariants.{Equal, And, Or, Implies, Tilde, Exclamation, Question, At, Comma, Turnstile, Backquote}
 use Rattle.hol_model.specs.Texts.Token.{Token, Name, Number, Mark}
 use Rattle.hol_model.specs.Texts.TypeGrammar.{TypeTree, Named, Enclosed, Function, type_tokens}
-use Rattle.hol_model.specs.Texts.TermGrammar.{TermTree, IffInfix, ImpliesInfix, OrInfix, AndInfix, EqualInfix, Lambda, ForAll, Exists, Choice, Bare, Variable, Constant, IsConstantName, Lexeme, AtomPiece, OpenPiece, ClosePiece, NotPiece, InfixPiece, BinderPiece, all_tokens, IsReadTerm}
+use Rattle.hol_model.specs.Texts.TermGrammar.{TermTree, IffInfix, ImpliesInfix, OrInfix, AndInfix, EqualInfix, Lambda, ForAll, Exists, Choice, Bare, Variable, Constant, IsConstantName, Lexeme}
+use Rattle.hol_model.specs.Texts.TermGrammar.{AtomPiece, OpenPiece, ClosePiece, NotPiece, InfixPiece, BinderPiece, all_tokens, IsReadTerm}
 use Rattle.hol_model.specs.Texts.SequentGrammar.{with_commas, AreReadTerms}
 use Rattle.hol_syntax.specs.declared.sequents.Separator.{Separator}
 use Rattle.hol_syntax.specs.declared.sequents.Separator.TheVariants.{Comma as CommaHere, Turnstile as TurnstileHere}

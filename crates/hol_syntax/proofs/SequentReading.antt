@@ -68,7 +68,8 @@ unlisted tokens done part more some split unread (p ∷ parts) trees h e =
     let found = a_part done part more trees (subst (λ l. AreReadTerms l trees) same h) in
     unread found.0 found.1
 
-pub fails_within : (error : ReadError) (tokens : List Token) (at n : ℕ) (parsed : List (Vec TermStep Global)) → (tokens ≡ [] → ⊥) → IsListed tokens at parsed → IsFound (Some n) CommaHere (drop at tokens)
+pub fails_within : (error : ReadError) (tokens : List Token) (at n : ℕ) (parsed : List (Vec TermStep Global)) → (tokens ≡ [] → ⊥) → IsListed tokens at parsed →
+    IsFound (Some n) CommaHere (drop at tokens)
     → Parses (Err error) (take n (drop at tokens)) → ParsesList (Err error) tokens
 fails_within Memory tokens at n parsed some h f k = tt
 fails_within Syntax tokens at n parsed some h f k =

@@ -1,5 +1,6 @@
 -- The steps of the code, with the steps of their types, do what the steps of a tree do.
-use Rattle.std.proofs.Common.{◌≡◌, inl, inr, ⊎_elim, ℕ, suc, ◌+◌, ◌<◌, ◌≤◌, List, [], ◌∷◌, reverse, length, drop, get_or, Result, Ok, Err, refl, sym, ap, ◌∙◌, subst, arith, drop-cons, add-one, Bool, true, false, if◌then◌else◌}
+use Rattle.std.proofs.Common.{◌≡◌, inl, inr, ⊎_elim, ℕ, suc, ◌+◌, ◌<◌, ◌≤◌, List, [], ◌∷◌, reverse, length, drop, get_or, Result, Ok, Err, refl, sym, ap, ◌∙◌, subst, arith, drop-cons, add-one}
+use Rattle.std.proofs.Common.{Bool, true, false, if◌then◌else◌}
 use Rattle.std.proofs.lemmas.List.{drop-map, nil_from_length, length-drop, length-map}
 use Rattle.hol_model.specs.declared.fault.Fault.{Fault}
 use Rattle.hol_model.specs.declared.fault.Fault.TheVariants.{BadName}
@@ -14,7 +15,8 @@ use Rattle.hol_model.specs.Kernel.Outcome.{Answers}
 use Rattle.hol_syntax_grammar.specs.declared.steps.TermStep.{TermStep as HeldStep}
 use Rattle.hol_syntax.specs.declared.evaluate.Evaluator.{Evaluator}
 use Rattle.hol_syntax_grammar.specs.Steps.{flat_step_of, flat_steps_of}
-use Rattle.hol_syntax_grammar.specs.TermSteps.{TermStep, TakeAtom, MakeApply, MakeNot, MakeJoin, EnterBinder, LeaveBinder, FlatStep, FlatBare, FlatVariable, FlatConstant, FlatApply, FlatNot, FlatJoin, FlatEnter, FlatLeave, flat_step, flat_steps, term_steps, Workspace, enter, take_step, exec_term}
+use Rattle.hol_syntax_grammar.specs.TermSteps.{TermStep, TakeAtom, MakeApply, MakeNot, MakeJoin, EnterBinder, LeaveBinder, FlatStep, FlatBare, FlatVariable, FlatConstant, FlatApply, FlatNot}
+use Rattle.hol_syntax_grammar.specs.TermSteps.{FlatJoin, FlatEnter, FlatLeave, flat_step, flat_steps, term_steps, Workspace, enter, take_step, exec_term}
 use Rattle.hol_syntax.specs.OpenBinders.{IsOpened, Enters}
 use Rattle.hol_syntax.specs.Evaluating.{IsHeld, Arrives}
 use Rattle.hol_syntax.proofs.TermBuilding.{builds_all}

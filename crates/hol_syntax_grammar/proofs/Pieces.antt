@@ -1,14 +1,18 @@
 -- The piece at the front of the tokens is the one that they are spelled with, and no other.
 use Rattle.std.proofs.Common.{◌≡◌, ◌≢◌, ℕ, List, [], ◌∷◌, Bool, true, false, Option, None, Some, refl, sym, ap, ◌∙◌, subst, unwrap_or}
 use Rattle.hol_model.specs.declared.symbol.Symbol.{Symbol}
-use Rattle.hol_model.specs.declared.symbol.Symbol.TheVariants.{Iff, Implies, And, Or, Equal, Backslash, Exclamation, Question, At, Tilde, OpenParenthesis, CloseParenthesis, OpenBracket, CloseBracket, Colon, Dot}
+use Rattle.hol_model.specs.declared.symbol.Symbol.TheVariants.{Iff, Implies, And, Or, Equal, Backslash, Exclamation, Question, At, Tilde, OpenParenthesis, CloseParenthesis, OpenBracket}
+use Rattle.hol_model.specs.declared.symbol.Symbol.TheVariants.{CloseBracket, Colon, Dot}
 use Rattle.hol_model.specs.Texts.Token.{Token, Name, Number, Mark}
 use Rattle.hol_model.specs.Texts.TypeGrammar.{TypeTree, IsRead, type_tokens}
-use Rattle.hol_model.specs.Texts.TermGrammar.{IffInfix, ImpliesInfix, OrInfix, AndInfix, EqualInfix, Binder, Lambda, ForAll, Exists, Choice, Bare, Variable, Constant, IsWithin, IsConstantName, Lexeme, AtomPiece, OpenPiece, ClosePiece, NotPiece, InfixPiece, BinderPiece, piece_tokens, all_tokens, pieces, binder_symbol, TermTree, Leaf, Enclosed, Apply, Not, Join, Bind, IsTermTree, IsReadTerm}
+use Rattle.hol_model.specs.Texts.TermGrammar.{IffInfix, ImpliesInfix, OrInfix, AndInfix, EqualInfix, Binder, Lambda, ForAll, Exists, Choice, Bare, Variable, Constant, IsWithin, IsConstantName}
+use Rattle.hol_model.specs.Texts.TermGrammar.{Lexeme, AtomPiece, OpenPiece, ClosePiece, NotPiece, InfixPiece, BinderPiece, piece_tokens, all_tokens, pieces, binder_symbol, TermTree, Leaf}
+use Rattle.hol_model.specs.Texts.TermGrammar.{Enclosed, Apply, Not, Join, Bind, IsTermTree, IsReadTerm}
 use Rattle.hol_syntax_grammar.specs.TypeReader.{run, role, Continues}
 use Rattle.hol_syntax_grammar.specs.TermReader.{Pending, Turn, Goes, Fails, turn}
 use Rattle.hol_syntax_grammar.specs.TermReader.{run as run_pieces}
-use Rattle.hol_syntax_grammar.specs.Pieces.{Ending, EndsVariable, EndsConstant, EndsBinder, EndsNothing, ending, type_until, ended_by, typed, made, when, if_else, is_colon, has_colon, names_constant, piece_at, parenthesis_piece, bracket_piece, binder_piece}
+use Rattle.hol_syntax_grammar.specs.Pieces.{Ending, EndsVariable, EndsConstant, EndsBinder, EndsNothing, ending, type_until, ended_by, typed, made, when, if_else, is_colon, has_colon}
+use Rattle.hol_syntax_grammar.specs.Pieces.{names_constant, piece_at, parenthesis_piece, bracket_piece, binder_piece}
 use Rattle.hol_syntax_grammar.proofs.TypeReading.{complete, answers, AnswersType}
 use Rattle.hol_syntax_grammar.proofs.TermReading.{IsPiece, ArePieces, goes_on}
 use Rattle.hol_syntax_grammar.proofs.TermReading.{AnswersTerm, answers as answer_terms, complete as read_all}

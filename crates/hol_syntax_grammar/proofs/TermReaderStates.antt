@@ -1,5 +1,6 @@
 -- The reader of terms is in a state of the machine, and stays in one.
-use Rattle.std.proofs.Common.{◌≡◌, ℕ, suc, ◌<◌, ◌≤◌, List, [], ◌∷◌, ◌++◌, length, map, Bool, true, false, nat_lt, Option, None, Some, is_some, Result, Ok, Err, refl, sym, ap, ◌∙◌, subst, arith, append_assoc}
+use Rattle.std.proofs.Common.{◌≡◌, ℕ, suc, ◌<◌, ◌≤◌, List, [], ◌∷◌, ◌++◌, length, map, Bool, true, false, nat_lt, Option, None, Some, is_some, Result, Ok, Err, refl, sym, ap, ◌∙◌, subst, arith}
+use Rattle.std.proofs.Common.{append_assoc}
 use Rattle.std.proofs.lemmas.Bool.{lt-ltb, le-ltb, le-leb, lt-leb}
 use Rattle.std.proofs.lemmas.List.{append-nil, map-append, length-map}
 use Rattle.hol_model.specs.Texts.TermGrammar.{TermTree, Enclosed, Apply, infix_level, Lexeme, AtomPiece, OpenPiece, ClosePiece, NotPiece, InfixPiece, BinderPiece}
@@ -16,7 +17,8 @@ use Rattle.hol_syntax_grammar.specs.PieceStates.{IsPieceOf}
 use Rattle.hol_syntax_grammar.specs.TermReader.{Frame, NotOf, RightOf, BodyOf, frame_level, Pending, Parenthesis, Waits, make, floor, pick, close, Turn, Goes, Fails, if_so, open_one, closed, whole}
 use Rattle.hol_syntax_grammar.specs.TermSteps.{TermStep, MakeApply, MakeNot, MakeJoin, LeaveBinder, term_steps, FlatStep, FlatApply, FlatNot, FlatJoin, FlatLeave, flat_step, flat_steps}
 use Rattle.hol_syntax_grammar.specs.Steps.{flat_step_of, flat_steps_of}
-use Rattle.hol_syntax_grammar.specs.TermStates.{Place, AloneOpen, ArgumentOpen, NotOpen, RightOpen, BodyOpen, waiting_here, open_here, frame_place, place, places, waiting_level, made_step, open_level, IsFloor, frame_steps, pending_steps, steps_before, IsState, Takes, IsOpened}
+use Rattle.hol_syntax_grammar.specs.TermStates.{Place, AloneOpen, ArgumentOpen, NotOpen, RightOpen, BodyOpen, waiting_here, open_here, frame_place, place, places, waiting_level, made_step}
+use Rattle.hol_syntax_grammar.specs.TermStates.{open_level, IsFloor, frame_steps, pending_steps, steps_before, IsState, Takes, IsOpened}
 use Rattle.hol_syntax_grammar.proofs.Lists.{nil_not_snoc, snoc_same, length_snoc}
 
 -- a step is pushed
@@ -147,7 +149,8 @@ closes_one n old new opens t w step h pop high is push same = go (popped opens n
         let level : waiting_level w ≡ frame_level f = level_here w ∙ ap place_level here ∙ sym (level_there f) in
         let made : flat_step_of step ≡ flat_step (frame_step f) = is ∙ step_here w ∙ ap place_step here ∙ sym (step_there f) in
         let before : flat_steps_of old.steps.items ≡ flat_steps ((steps_before below ++ frame_steps f) ++ term_steps t) = h.steps_are ∙ ap (λ l. flat_steps (steps_before l ++ term_steps t)) all in
-        let joined : ((steps_before below ++ frame_steps f) ++ term_steps t) ++ frame_step f ∷ [] ≡ steps_before below ++ (frame_steps f ++ (term_steps t ++ frame_step f ∷ [])) = simp append_assoc in (
+        let joined : ((steps_before below ++ frame_steps f) ++ term_steps t) ++ frame_step f ∷ [] ≡ steps_before below ++ (frame_steps f ++ (term_steps t ++ frame_step f ∷ [])) =
+        simp append_assoc in (
           below,
           make f t,
           sym (makes n f below t (subst (λ m. n ≤ m) level high)) ∙ ap (λ l. close n l t) (sym all),

@@ -1,8 +1,10 @@
 -- The machine reads the trees of the grammar of terms, each of them, and nothing else.
 use Rattle.std.proofs.Common.{◌≡◌, ℕ, ◌+◌, ◌<◌, ◌≤◌, List, [], ◌∷◌, length, Bool, true, false, nat_lt, nat_le, nat_eq, Option, None, Some, refl, sym, ap, ◌∙◌, subst, arith, ◌⊎◌, inr, ⊎_elim}
 use Rattle.std.proofs.lemmas.Bool.{lt-ltb, ltb-true, le-leb, lt-leb, leb-true, leb-false, eq-eqb, eqb-true}
-use Rattle.hol_model.specs.Texts.TermGrammar.{Infix, IffInfix, ImpliesInfix, OrInfix, AndInfix, EqualInfix, TermTree, Leaf, Enclosed, Apply, Not, Join, Bind, infix_level, level, IsAtomTree, IsTermTree, IsWithin, term_depth, Lexeme, AtomPiece, OpenPiece, ClosePiece, NotPiece, InfixPiece, BinderPiece, pieces}
-use Rattle.hol_syntax_grammar.specs.TermReader.{Frame, NotOf, RightOf, BodyOf, Pending, Parenthesis, Waits, frame_level, make, floor, pick, close, Turn, Goes, Fails, if_so, open_one, closed, joined, turn, whole, run}
+use Rattle.hol_model.specs.Texts.TermGrammar.{Infix, IffInfix, ImpliesInfix, OrInfix, AndInfix, EqualInfix, TermTree, Leaf, Enclosed, Apply, Not, Join, Bind, infix_level, level, IsAtomTree}
+use Rattle.hol_model.specs.Texts.TermGrammar.{IsTermTree, IsWithin, term_depth, Lexeme, AtomPiece, OpenPiece, ClosePiece, NotPiece, InfixPiece, BinderPiece, pieces}
+use Rattle.hol_syntax_grammar.specs.TermReader.{Frame, NotOf, RightOf, BodyOf, Pending, Parenthesis, Waits, frame_level, make, floor, pick, close, Turn, Goes, Fails, if_so, open_one, closed}
+use Rattle.hol_syntax_grammar.specs.TermReader.{joined, turn, whole, run}
 
 -- what stays open, and the operand behind it, once the pieces of a tree are taken
 abbrev after : TermTree → List Pending → List Pending × TermTree

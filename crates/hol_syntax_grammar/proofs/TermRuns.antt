@@ -4,7 +4,8 @@ use Rattle.std.proofs.lemmas.List.{length-append, length-map, length-drop, drop-
 use Rattle.hol_model.specs.declared.symbol.Symbol.TheVariants.{Arrow, OpenParenthesis, CloseParenthesis, OpenBracket, CloseBracket, Colon, Dot}
 use Rattle.hol_model.specs.Texts.Token.{Token, Name, Mark}
 use Rattle.hol_model.specs.Texts.TypeGrammar.{TypeTree, Named, Enclosed, Function, type_tokens}
-use Rattle.hol_model.specs.Texts.TermGrammar.{TermTree, Bare, Variable, Constant, Lexeme, AtomPiece, OpenPiece, ClosePiece, NotPiece, InfixPiece, BinderPiece, piece_tokens, all_tokens, binder_symbol, IsReadTerm}
+use Rattle.hol_model.specs.Texts.TermGrammar.{TermTree, Bare, Variable, Constant, Lexeme, AtomPiece, OpenPiece, ClosePiece, NotPiece, InfixPiece, BinderPiece, piece_tokens, all_tokens}
+use Rattle.hol_model.specs.Texts.TermGrammar.{binder_symbol, IsReadTerm}
 use Rattle.hol_syntax_grammar.specs.declared.type_reader.ReadError.{ReadError}
 use Rattle.hol_syntax_grammar.specs.declared.type_reader.ReadError.TheVariants.{Memory, Syntax}
 use Rattle.hol_syntax_grammar.specs.declared.term_reader.TermReader.{TermReader}

@@ -4,7 +4,8 @@ use Rattle.std.proofs.lemmas.Bool.{lt-ltb, ltb-true}
 use Rattle.hol_model.specs.declared.symbol.Symbol.TheVariants.{Arrow, OpenParenthesis, CloseParenthesis}
 use Rattle.hol_model.specs.Texts.Token.{Token, Name, Number, Mark}
 use Rattle.hol_model.specs.Texts.TypeGrammar.{TypeTree, Named, Enclosed, Function, IsAtom, IsTypeTree, type_tokens, type_depth, IsRead}
-use Rattle.hol_syntax_grammar.specs.TypeReader.{Role, IsName, Opens, Closes, Continues, Stops, role, Pending, Parenthesis, LeftOf, close, Turn, Goes, Ends, Fails, if_room, open_one, closed, finished, turn, run}
+use Rattle.hol_syntax_grammar.specs.TypeReader.{Role, IsName, Opens, Closes, Continues, Stops, role, Pending, Parenthesis, LeftOf, close, Turn, Goes, Ends, Fails, if_room, open_one, closed}
+use Rattle.hol_syntax_grammar.specs.TypeReader.{finished, turn, run}
 
 -- what stays open, and the atom behind it, once the tokens of a tree are taken
 abbrev after : TypeTree → List Pending → List Pending × TypeTree

@@ -1,7 +1,8 @@
 -- The token at the front of a text.
 use Rattle.std.specs.Prelude.{ℕ, Bool, true, false, ◌==◌, nat_le, List, [], ◌∷◌, Option, None, Some}
 use Rattle.hol_model.specs.declared.symbol.Symbol.{Symbol}
-use Rattle.hol_model.specs.declared.symbol.Symbol.TheVariants.{Iff, Implies, Arrow, And, Or, Turnstile, Equal, Backslash, Exclamation, Question, At, Tilde, OpenParenthesis, CloseParenthesis, OpenBracket, CloseBracket, Colon, Dot, Comma, Semicolon, Backquote}
+use Rattle.hol_model.specs.declared.symbol.Symbol.TheVariants.{Iff, Implies, Arrow, And, Or, Turnstile, Equal, Backslash, Exclamation, Question, At, Tilde, OpenParenthesis, CloseParenthesis}
+use Rattle.hol_model.specs.declared.symbol.Symbol.TheVariants.{OpenBracket, CloseBracket, Colon, Dot, Comma, Semicolon, Backquote}
 use Rattle.hol_model.specs.Texts.Token.{Token, Name, Number, Mark, symbol_text}
 use Rattle.hol_model.specs.declared.limits.TheConstants.{NUMBER_LIMIT}
 use Rattle.hol_model.specs.Texts.Lexing.{is_letter, is_digit, is_name_byte, numeral_value}

@@ -1,10 +1,12 @@
 -- The piece at the front of the tokens.
 use Rattle.std.specs.Prelude.{List, [], ◌∷◌, Bool, true, false, Option, None, Some}
 use Rattle.hol_model.specs.declared.symbol.Symbol.{Symbol}
-use Rattle.hol_model.specs.declared.symbol.Symbol.TheVariants.{Iff, Implies, And, Or, Equal, Backslash, Exclamation, Question, At, Tilde, OpenParenthesis, CloseParenthesis, OpenBracket, CloseBracket, Colon, Dot}
+use Rattle.hol_model.specs.declared.symbol.Symbol.TheVariants.{Iff, Implies, And, Or, Equal, Backslash, Exclamation, Question, At, Tilde, OpenParenthesis, CloseParenthesis, OpenBracket}
+use Rattle.hol_model.specs.declared.symbol.Symbol.TheVariants.{CloseBracket, Colon, Dot}
 use Rattle.hol_model.specs.Texts.Token.{Token, Name, Number, Mark}
 use Rattle.hol_model.specs.Texts.TypeGrammar.{TypeTree}
-use Rattle.hol_model.specs.Texts.TermGrammar.{IffInfix, ImpliesInfix, OrInfix, AndInfix, EqualInfix, Binder, Lambda, ForAll, Exists, Choice, Bare, Variable, Constant, Lexeme, AtomPiece, OpenPiece, ClosePiece, NotPiece, InfixPiece, BinderPiece}
+use Rattle.hol_model.specs.Texts.TermGrammar.{IffInfix, ImpliesInfix, OrInfix, AndInfix, EqualInfix, Binder, Lambda, ForAll, Exists, Choice, Bare, Variable, Constant, Lexeme, AtomPiece}
+use Rattle.hol_model.specs.Texts.TermGrammar.{OpenPiece, ClosePiece, NotPiece, InfixPiece, BinderPiece}
 use Rattle.hol_syntax_grammar.specs.TypeReader.{run}
 
 -- What a token begins.

@@ -1,5 +1,6 @@
 -- What the parts of the printer put at the end of a text is the text of the tree.
-use Rattle.std.proofs.Common.{OnOk, Result, Ok, Err, inl, inr, ◌⊎◌, ◌≤◌, ◌<◌, arith, append_assoc, ◌≡◌, ℕ, Bool, true, false, List, [], ◌∷◌, ◌++◌, refl, sym, ap, ◌∙◌, if◌then◌else◌, codes, nat_le, ◌||◌}
+use Rattle.std.proofs.Common.{OnOk, Result, Ok, Err, inl, inr, ◌⊎◌, ◌≤◌, ◌<◌, arith, append_assoc, ◌≡◌, ℕ, Bool, true, false, List, [], ◌∷◌, ◌++◌, refl, sym, ap, ◌∙◌, if◌then◌else◌, codes}
+use Rattle.std.proofs.Common.{nat_le, ◌||◌}
 use Rattle.std.specs.Str.{bytes_eq}
 use Rattle.std.proofs.lemmas.Slice.Eq.{bytes_eq-Decides}
 use Rattle.std.proofs.lemmas.List.{append-nil}

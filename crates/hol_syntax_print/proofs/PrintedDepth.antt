@@ -7,7 +7,8 @@ use Rattle.hol_model.specs.Terms.NamedTerm.{NamedTerm, variable, constant, combi
 use Rattle.hol_model.specs.Texts.TypeGrammar.{type_depth}
 use Rattle.hol_model.specs.Texts.TermGrammar.{Atom, Infix, Binder, Lambda, Bare, Variable, Constant, TermTree, Leaf, Enclosed, Bind, infix_level, level, term_depth}
 use Rattle.hol_model.specs.Texts.Reading.{Scope, Bindings, bound_type, is_closed_type}
-use Rattle.hol_model.specs.Texts.Printing.{as_atom, type_tree, enclose, variable_tree, name_token, typed_constant, bare_tree, constant_tree, infix_of, Prefix, NotPrefix, BinderPrefix, NoPrefix, prefix_of, apply_tree, binder_tree, prefix_tree, infix_tree, term_tree}
+use Rattle.hol_model.specs.Texts.Printing.{as_atom, type_tree, enclose, variable_tree, name_token, typed_constant, bare_tree, constant_tree, infix_of, Prefix, NotPrefix, BinderPrefix, NoPrefix}
+use Rattle.hol_model.specs.Texts.Printing.{prefix_of, apply_tree, binder_tree, prefix_tree, infix_tree, term_tree}
 
 -- a type's tree opens an arrow or a parenthesis for every second node at most
 

@@ -11,7 +11,8 @@ use Rattle.hol_terms.specs.declared.term.Term.{Term}
 use Rattle.hol_terms.specs.declared.term.Parts.{Parts}
 use Rattle.hol_terms.specs.declared.term.Parts.TheVariants.{Variable as VariableParts, Constant as ConstantParts, Combination as CombinationParts, Abstraction as AbstractionParts}
 use Rattle.hol_terms.specs.Parts.{term_of_parts}
-use Rattle.hol_model.specs.Texts.Printing.{type_tree, enclose, variable_tree, typed_constant, bare_tree, constant_tree, infix_of, Prefix, NotPrefix, BinderPrefix, NoPrefix, negation_prefix, quantifier_prefix, choice_prefix, prefix_of, apply_tree, binder_tree, prefix_tree, infix_tree, term_tree}
+use Rattle.hol_model.specs.Texts.Printing.{type_tree, enclose, variable_tree, typed_constant, bare_tree, constant_tree, infix_of, Prefix, NotPrefix, BinderPrefix, NoPrefix, negation_prefix}
+use Rattle.hol_model.specs.Texts.Printing.{quantifier_prefix, choice_prefix, prefix_of, apply_tree, binder_tree, prefix_tree, infix_tree, term_tree}
 
 -- a tree that is no abstraction's
 abbrev pub IsNoLambda : TermTree → Type 0

@@ -3,18 +3,22 @@ use Rattle.std.proofs.Common.{◌≡◌, ◌≢◌, ℕ, ◌+◌, ◌<◌, ◌�
 use Rattle.std.specs.Str.{bytes_eq}
 use Rattle.std.proofs.lemmas.Bool.{leb-true}
 use Rattle.hol_model.specs.declared.symbol.Symbol.{Symbol}
-use Rattle.hol_model.specs.declared.symbol.Symbol.TheVariants.{Iff, Implies, And, Or, Equal, Exclamation, Question, At, Tilde, Backslash, OpenParenthesis, CloseParenthesis, OpenBracket, CloseBracket, Colon, Dot}
+use Rattle.hol_model.specs.declared.symbol.Symbol.TheVariants.{Iff, Implies, And, Or, Equal, Exclamation, Question, At, Tilde, Backslash, OpenParenthesis, CloseParenthesis, OpenBracket}
+use Rattle.hol_model.specs.declared.symbol.Symbol.TheVariants.{CloseBracket, Colon, Dot}
 use Rattle.hol_model.specs.declared.symbol.Symbol.TheVariants.{Arrow as ArrowSymbol}
 use Rattle.hol_model.specs.Terms.Name.{continues_name, all_continue, is_identifier}
 use Rattle.hol_model.specs.Terms.HolType.{HolType, type_variable, bool_type, function_type, declared_type, type_eq}
 use Rattle.hol_model.specs.Terms.NamedTerm.{NamedTerm, variable, constant, combination, abstraction}
 use Rattle.hol_model.specs.Texts.Token.{Token, Name, Number, Mark, symbol_text, token_text}
 use Rattle.hol_model.specs.Texts.TypeGrammar.{TypeTree, Named, Enclosed, Function, IsAtom, IsTypeTree, type_tokens}
-use Rattle.hol_model.specs.Texts.TermGrammar.{Infix, IffInfix, ImpliesInfix, OrInfix, AndInfix, EqualInfix, Binder, Lambda, ForAll, Exists, Choice, Atom, Bare, Variable, Constant, TermTree, Leaf, Apply, Not, Join, Bind, infix_level, level, infix_symbol, binder_symbol, IsWithin, IsTermTree, IsConstantName, Lexeme, ClosePiece, InfixPiece, pieces, all_tokens, atom_tokens, piece_tokens, IsReadTerm}
+use Rattle.hol_model.specs.Texts.TermGrammar.{Infix, IffInfix, ImpliesInfix, OrInfix, AndInfix, EqualInfix, Binder, Lambda, ForAll, Exists, Choice, Atom, Bare, Variable, Constant, TermTree, Leaf}
+use Rattle.hol_model.specs.Texts.TermGrammar.{Apply, Not, Join, Bind, infix_level, level, infix_symbol, binder_symbol, IsWithin, IsTermTree, IsConstantName, Lexeme, ClosePiece, InfixPiece}
+use Rattle.hol_model.specs.Texts.TermGrammar.{pieces, all_tokens, atom_tokens, piece_tokens, IsReadTerm}
 use Rattle.hol_model.specs.Texts.TermGrammar.{Enclosed as EnclosedTerm}
 use Rattle.hol_model.specs.Texts.Lexing.{is_letter, is_name_byte, Every, IsIdentifier, IsToken, StartsWithout, IsLongest, Lexes}
 use Rattle.hol_model.specs.Texts.Reading.{Scope, Bindings, bound_type, is_closed_type, meaning}
-use Rattle.hol_model.specs.Texts.Printing.{as_atom, type_tree, enclose, variable_tree, name_token, typed_constant, bare_tree, constant_tree, infix_of, Prefix, NotPrefix, BinderPrefix, NoPrefix, prefix_of, apply_tree, binder_tree, prefix_tree, infix_tree, term_tree}
+use Rattle.hol_model.specs.Texts.Printing.{as_atom, type_tree, enclose, variable_tree, name_token, typed_constant, bare_tree, constant_tree, infix_of, Prefix, NotPrefix, BinderPrefix, NoPrefix}
+use Rattle.hol_model.specs.Texts.Printing.{prefix_of, apply_tree, binder_tree, prefix_tree, infix_tree, term_tree}
 use Rattle.hol_model.specs.Texts.Texts.{type_bytes, atom_bytes, term_bytes, text_of_term, IsNamedType, IsReadableType, IsReadableTerm, TypesReadBack, TermsReadBack}
 use Rattle.hol_syntax_print.proofs.PrintedDepth.{type_depth_fits, term_nesting}
 use Rattle.hol_syntax_print.proofs.ReadableTerms.{both_true, is_typed, IsReadable, is_readable, within_height}

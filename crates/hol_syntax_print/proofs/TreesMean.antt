@@ -1,5 +1,6 @@
 -- What a type or a term is printed as means that type or term.
-use Rattle.std.proofs.Common.{◌≡◌, ℕ, ◌+◌, Bool, true, false, not, ◌&&◌, List, [], ◌∷◌, Option, None, Some, Result, Ok, Err, is_some, refl, sym, ap, ◌∙◌, subst, arith, if◌then◌else◌, codes, nat_le, unwrap_or}
+use Rattle.std.proofs.Common.{◌≡◌, ℕ, ◌+◌, Bool, true, false, not, ◌&&◌, List, [], ◌∷◌, Option, None, Some, Result, Ok, Err, is_some, refl, sym, ap, ◌∙◌, subst, arith, if◌then◌else◌, codes}
+use Rattle.std.proofs.Common.{nat_le, unwrap_or}
 use Rattle.std.specs.Option.{option_map}
 use Rattle.std.specs.Str.{bytes_eq}
 use Rattle.std.proofs.lemmas.Slice.Eq.{bytes_eq-Decides}
@@ -12,10 +13,15 @@ use Rattle.hol_model.specs.Terms.NamedTerm.{NamedTerm, variable, constant, combi
 use Rattle.hol_model.specs.Logic.Theory.{equality_type, choice_type}
 use Rattle.hol_model.specs.Texts.Token.{token_text}
 use Rattle.hol_model.specs.Texts.TypeGrammar.{TypeTree, Named, Enclosed, Function}
-use Rattle.hol_model.specs.Texts.TermGrammar.{Infix, IffInfix, ImpliesInfix, OrInfix, AndInfix, EqualInfix, Binder, Lambda, ForAll, Exists, Choice, Bare, Variable, TermTree, Leaf, Bind, level, infix_level}
+use Rattle.hol_model.specs.Texts.TermGrammar.{Infix, IffInfix, ImpliesInfix, OrInfix, AndInfix, EqualInfix, Binder, Lambda, ForAll, Exists, Choice, Bare, Variable, TermTree, Leaf, Bind, level}
+use Rattle.hol_model.specs.Texts.TermGrammar.{infix_level}
 use Rattle.hol_model.specs.Texts.TermGrammar.{Enclosed as EnclosedTerm}
-use Rattle.hol_model.specs.Texts.Reading.{Scope, Bindings, ◌>>=◌, and_then, type_identified, type_named, written_type, known_type, type_meaning, is_closed_type, bound_type, named_variable, named_binding, constant_at, known_constant, declared_variable, bare_constant, bare_identifier, bare_name, well_typed, connective, connective_at, truth_operation, quantifier_type, infix_term, negation, join, bind, meaning}
-use Rattle.hol_model.specs.Texts.Printing.{as_atom, type_tree, enclose, variable_tree, name_token, typed_constant, bare_tree, constant_tree, equality_infix, truth_infix, infix_of, Prefix, NotPrefix, BinderPrefix, NoPrefix, negation_prefix, quantifier_prefix, choice_prefix, prefix_of, apply_tree, binder_tree, prefix_tree, infix_tree, term_tree}
+use Rattle.hol_model.specs.Texts.Reading.{Scope, Bindings, ◌>>=◌, and_then, type_identified, type_named, written_type, known_type, type_meaning, is_closed_type, bound_type, named_variable}
+use Rattle.hol_model.specs.Texts.Reading.{named_binding, constant_at, known_constant, declared_variable, bare_constant, bare_identifier, bare_name, well_typed, connective, connective_at}
+use Rattle.hol_model.specs.Texts.Reading.{truth_operation, quantifier_type, infix_term, negation, join, bind, meaning}
+use Rattle.hol_model.specs.Texts.Printing.{as_atom, type_tree, enclose, variable_tree, name_token, typed_constant, bare_tree, constant_tree, equality_infix, truth_infix, infix_of, Prefix}
+use Rattle.hol_model.specs.Texts.Printing.{NotPrefix, BinderPrefix, NoPrefix, negation_prefix, quantifier_prefix, choice_prefix, prefix_of, apply_tree, binder_tree, prefix_tree, infix_tree}
+use Rattle.hol_model.specs.Texts.Printing.{term_tree}
 use Rattle.hol_model.specs.Texts.Texts.{IsNamedType, IsReadableType}
 use Rattle.hol_model.proofs.Terms.HolTypeEq.{same_from_type_eq}
 use Rattle.hol_model.proofs.Terms.Instances.{is_instance-Decides}
@@ -447,7 +453,8 @@ term_again s bindings (constant name type) h = constant_means s bindings name ty
 term_again s bindings (abstraction name type body) h =
     ap (λ r. (r >>= named_binding name) >>= λ binding. meaning s (binding ∷ bindings) (term_tree s ((name, type) ∷ bindings) body) >>= λ term. bind s Lambda binding.0 binding.1 term)
     (type_again s type h.0)
-    ∙ ap (λ b. (if b then Ok (name, type) else Err BadName) >>= λ binding. meaning s (binding ∷ bindings) (term_tree s ((name, type) ∷ bindings) body) >>= λ term. bind s Lambda binding.0 binding.1 term) h.1
+    ∙ ap (λ b. (if b then Ok (name, type) else Err BadName) >>= λ binding. meaning s (binding ∷ bindings) (term_tree s ((name, type) ∷ bindings) body) >>= λ term. bind s Lambda binding.0
+    binding.1 term) h.1
     ∙ ap (λ r. r >>= λ term. bind s Lambda name type term) (term_again s ((name, type) ∷ bindings) body h.2) ∙ h.3
 term_again s bindings (combination (constant name type) a) h =
     constant_applied_means s bindings name type (term_tree s bindings a) a h (term_again s bindings a h.1)

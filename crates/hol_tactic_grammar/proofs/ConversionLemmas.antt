@@ -5,7 +5,10 @@ use Rattle.std.proofs.Math.Nat.{le-max_left, le-max_right, max-le}
 use Rattle.hol_model.specs.declared.symbol.Symbol.TheVariants.{OpenParenthesis, CloseParenthesis}
 use Rattle.hol_model.specs.Texts.Token.{Token, Name, Number, Mark}
 use Rattle.hol_model_sessions.specs.ConversionGrammar as grammar
-use Rattle.hol_model_sessions.specs.ConversionGrammar.{Conversional, Repeatc, TryConv, RandConv, RatorConv, AbsConv, SubConv, DepthConv, OnceDepthConv, TopDepthConv, conversional_word, ConversionLeaf, all_conv, no_conv, beta_conv, rewr_conv, host_conv, thenc_chain, FurtherConversions, no_more_thenc, thenc, ConversionChoice, orelsec_chain, no_more_orelsec, orelsec, ConversionUnit, prefixed, enclosed, leaf, leaf_tokens, conversion_tokens, further_tokens, choice_tokens, other_tokens, unit_tokens, conversion_depth, further_depth, choice_depth, other_depth, unit_depth}
+use Rattle.hol_model_sessions.specs.ConversionGrammar.{Conversional, Repeatc, TryConv, RandConv, RatorConv, AbsConv, SubConv, DepthConv, OnceDepthConv, TopDepthConv, conversional_word}
+use Rattle.hol_model_sessions.specs.ConversionGrammar.{ConversionLeaf, all_conv, no_conv, beta_conv, rewr_conv, host_conv, thenc_chain, FurtherConversions, no_more_thenc, thenc, ConversionChoice}
+use Rattle.hol_model_sessions.specs.ConversionGrammar.{orelsec_chain, no_more_orelsec, orelsec, ConversionUnit, prefixed, enclosed, leaf, leaf_tokens, conversion_tokens, further_tokens}
+use Rattle.hol_model_sessions.specs.ConversionGrammar.{choice_tokens, other_tokens, unit_tokens, conversion_depth, further_depth, choice_depth, other_depth, unit_depth}
 use Rattle.hol_model_sessions.specs.SessionTools as tools
 use Rattle.hol_model_sessions.specs.SessionTools.{in_order, either, conversion_of_leaf, conversion_of_choice, conversion_of_unit, further_conversions, other_conversions}
 use Rattle.hol_model.specs.Refining.Conversions as conversions

@@ -9,7 +9,8 @@ use Rattle.hol_model.specs.Refining.Conversions.{Conversion}
 use Rattle.hol_model_sessions.specs.Commands.{quote_tokens}
 use Rattle.hol_model_sessions.specs.ConversionGrammar.{unit_tokens}
 use Rattle.hol_model_sessions.specs.TacticGrammar as grammar
-use Rattle.hol_model_sessions.specs.TacticGrammar.{plain_word, named_word, quoted_word, TacticLeaf, further_name_tokens, name_tokens, leaf_tokens, TacticUnit, repeated, tried, enclosed, leaf, tactic_unit_tokens}
+use Rattle.hol_model_sessions.specs.TacticGrammar.{plain_word, named_word, quoted_word, TacticLeaf, further_name_tokens, name_tokens, leaf_tokens, TacticUnit, repeated, tried, enclosed, leaf}
+use Rattle.hol_model_sessions.specs.TacticGrammar.{tactic_unit_tokens}
 use Rattle.hol_syntax_grammar.specs.declared.token.Token.{Token as TokenHere}
 use Rattle.hol_syntax_grammar.specs.declared.type_reader.ReadError.{ReadError}
 use Rattle.hol_syntax_grammar.specs.declared.type_reader.ReadError.TheVariants.{Memory, Syntax}

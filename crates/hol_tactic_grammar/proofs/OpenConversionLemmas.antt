@@ -20,7 +20,8 @@ use Rattle.hol_tactic_grammar.specs.ConversionWords.{conversional_of}
 use Rattle.hol_tactic_grammar.specs.Tokens.{behind, IsAt, IsNotAt}
 use Rattle.hol_tactic_grammar.specs.Conversions.{IsUnit, IsNoUnit, IsWhole, Reaches, ReadsUnit}
 use Rattle.hol_tactic_grammar.specs.OpenConversions.{joined, IsEnclosed, Opens, AreOpen, IsWanted, IsRead, IsReadChoice, Goes, Enters, IsWholePart, IsChoicePart}
-use Rattle.hol_tactic_grammar.proofs.ConversionLemmas.{prefix-read, prefix-refused, prefix-too-deep, enclosed-read, enclosed-open, enclosed-refused, enclosed-too-deep, made-of, choice-begun, choice-goes-on, choice-ended, choice-refused, whole-begun, whole-goes-on, whole-ended, whole-refused}
+use Rattle.hol_tactic_grammar.proofs.ConversionLemmas.{prefix-read, prefix-refused, prefix-too-deep, enclosed-read, enclosed-open, enclosed-refused, enclosed-too-deep, made-of, choice-begun}
+use Rattle.hol_tactic_grammar.proofs.ConversionLemmas.{choice-goes-on, choice-ended, choice-refused, whole-begun, whole-goes-on, whole-ended, whole-refused}
 
 -- ---- a list and its last
 

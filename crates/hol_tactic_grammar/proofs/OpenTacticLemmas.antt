@@ -1,5 +1,6 @@
 -- Open places of the reader of refiner expressions: what fails behind them fails whole, and what is read there becomes a part of more.
-use Rattle.std.proofs.Common.{◌≡◌, ◌≢◌, ℕ, zero, suc, ◌+◌, ◌*◌, ◌-◌, ◌<◌, ◌≤◌, arith, List, [], ◌∷◌, ◌++◌, map, length, reverse, Option, None, Some, MatchOption, refl, sym, ap, ◌∙◌, subst, Result, Ok, Err, Vec, Global, vec_len}
+use Rattle.std.proofs.Common.{◌≡◌, ◌≢◌, ℕ, zero, suc, ◌+◌, ◌*◌, ◌-◌, ◌<◌, ◌≤◌, arith, List, [], ◌∷◌, ◌++◌, map, length, reverse, Option, None, Some, MatchOption, refl, sym, ap, ◌∙◌, subst}
+use Rattle.std.proofs.Common.{Result, Ok, Err, Vec, Global, vec_len}
 use Rattle.std.specs.Prelude.{codes}
 use Rattle.std.specs.Option.{option_to_list}
 use Rattle.std.proofs.lemmas.List.{reverse-append, nil_from_length}
@@ -24,8 +25,11 @@ use Rattle.hol_tactic_grammar.specs.Tokens.{behind, IsAt, IsNotAt}
 use Rattle.hol_tactic_grammar.specs.Conversions.{Without}
 use Rattle.hol_tactic_grammar.specs.Expressions.{Kept, Joint, repeat, try, on_each, then_on, or_else, expression_here, joint_here, all_expressions, all_links}
 use Rattle.hol_tactic_grammar.specs.Tactics.{Meaning, IsNoUnit, IsNoChoice, with_choice, with_list, IsNoLink, IsWhole, IsNoWhole, ReadsUnit, ReadsTactic, Fits}
-use Rattle.hol_tactic_grammar.specs.OpenTactics.{IsChoiceFront, IsChainFront, IsListFront, IsListPlace, WantsChoice, WantsChain, AreOpen, HasUnit, HasChoice, HasChoiceWhole, HasChain, HasWhole, opens_of, IsReading, turns_left, Goes, Waits, Nests, Closes, unit_read}
-use Rattle.hol_tactic_grammar.proofs.TacticLemmas.{repeat-read, repeat-none, try-read, try-none, enclosed-read, enclosed-open, enclosed-too-deep, enclosed-refused, choice-begins, choice-goes-on, choice-ended, choice-broken, choice-refused, whole-begins, whole-goes-on, whole-ended, whole-broken, whole-refused, then-read, thenl-read, list-begins, list-goes-on, list-taken, list-ended, list-open, list-empty, list-refused, mapped, empty-ends, some-behind, fits-whole}
+use Rattle.hol_tactic_grammar.specs.OpenTactics.{IsChoiceFront, IsChainFront, IsListFront, IsListPlace, WantsChoice, WantsChain, AreOpen, HasUnit, HasChoice, HasChoiceWhole, HasChain, HasWhole}
+use Rattle.hol_tactic_grammar.specs.OpenTactics.{opens_of, IsReading, turns_left, Goes, Waits, Nests, Closes, unit_read}
+use Rattle.hol_tactic_grammar.proofs.TacticLemmas.{repeat-read, repeat-none, try-read, try-none, enclosed-read, enclosed-open, enclosed-too-deep, enclosed-refused, choice-begins, choice-goes-on}
+use Rattle.hol_tactic_grammar.proofs.TacticLemmas.{choice-ended, choice-broken, choice-refused, whole-begins, whole-goes-on, whole-ended, whole-broken, whole-refused, then-read, thenl-read}
+use Rattle.hol_tactic_grammar.proofs.TacticLemmas.{list-begins, list-goes-on, list-taken, list-ended, list-open, list-empty, list-refused, mapped, empty-ends, some-behind, fits-whole}
 
 -- ---- what fails in a place
 

@@ -7,7 +7,10 @@ use Rattle.hol_model.specs.declared.symbol.Symbol.TheVariants.{OpenParenthesis, 
 use Rattle.hol_model.specs.Texts.Token.{Token, Name, Mark}
 use Rattle.hol_model.specs.Texts.TermGrammar.{TermTree}
 use Rattle.hol_model_sessions.specs.TacticGrammar as grammar
-use Rattle.hol_model_sessions.specs.TacticGrammar.{TacticLeaf, Tactic, then_chain, TacticLinks, no_more_then, then_all, then_each, Tactics, no_tactics, tactic_and, TacticChoice, orelse_chain, OtherTactics, no_more_orelse, TacticUnit, repeated, tried, enclosed, leaf, leaf_tokens, tactic_tokens, link_tokens, first_tokens, further_tokens, choice_tokens, other_tokens, tactic_unit_tokens, tactic_depth, link_depth, list_depth, choice_depth, other_depth, tactic_unit_depth, IsTactic}
+use Rattle.hol_model_sessions.specs.TacticGrammar.{TacticLeaf, Tactic, then_chain, TacticLinks, no_more_then, then_all, then_each, Tactics, no_tactics, tactic_and, TacticChoice, orelse_chain}
+use Rattle.hol_model_sessions.specs.TacticGrammar.{OtherTactics, no_more_orelse, TacticUnit, repeated, tried, enclosed, leaf, leaf_tokens, tactic_tokens, link_tokens, first_tokens}
+use Rattle.hol_model_sessions.specs.TacticGrammar.{further_tokens, choice_tokens, other_tokens, tactic_unit_tokens, tactic_depth, link_depth, list_depth, choice_depth, other_depth}
+use Rattle.hol_model_sessions.specs.TacticGrammar.{tactic_unit_depth, IsTactic}
 use Rattle.hol_tactic_exprs.specs.declared.tac.Tac.{Tac}
 use Rattle.hol_tactic_exprs.specs.declared.tac.Link.{Link}
 use Rattle.hol_syntax_grammar.specs.declared.token.Token.{Token as TokenHere}
@@ -18,8 +21,10 @@ use Rattle.hol_tactic_grammar.specs.declared.tactic_words.Start.TheVariants.{OfO
 use Rattle.hol_tactic_grammar.specs.Tokens.{behind}
 use Rattle.hol_tactic_grammar.specs.Conversions.{Without}
 use Rattle.hol_tactic_grammar.specs.Quotes.{steps_of_tree}
-use Rattle.hol_tactic_grammar.specs.Expressions.{Kept, Expressions, Joint, Links, chain, orelse, repeat, try, more, no_more, link, no_link, on_all, on_each, then_on, or_else, expression_of, links_of, expressions_of, others_of, expression_here, joint_here, all_expressions, all_links}
-use Rattle.hol_tactic_grammar.specs.Tactics.{Meaning, Ends, FitsUnit, FitsOthers, FitsChoice, FitsLinks, Fits, FitsList, FitsJoint, IsUnit, IsNoUnit, IsChoice, IsNoChoice, LinkTree, with_choice, with_list, linked, joint_tokens, joint_of, IsLink, IsNoLink, IsList, IsNoList, IsWhole, IsNoWhole}
+use Rattle.hol_tactic_grammar.specs.Expressions.{Kept, Expressions, Joint, Links, chain, orelse, repeat, try, more, no_more, link, no_link, on_all, on_each, then_on, or_else, expression_of}
+use Rattle.hol_tactic_grammar.specs.Expressions.{links_of, expressions_of, others_of, expression_here, joint_here, all_expressions, all_links}
+use Rattle.hol_tactic_grammar.specs.Tactics.{Meaning, Ends, FitsUnit, FitsOthers, FitsChoice, FitsLinks, Fits, FitsList, FitsJoint, IsUnit, IsNoUnit, IsChoice, IsNoChoice, LinkTree, with_choice}
+use Rattle.hol_tactic_grammar.specs.Tactics.{with_list, linked, joint_tokens, joint_of, IsLink, IsNoLink, IsList, IsNoList, IsWhole, IsNoWhole}
 use Rattle.hol_tactic_grammar.specs.OpenTactics.{listed, IsChoiceOf, HasOthers, IsChoiceFront, chained, IsChainOf, HasLinks, IsChainFront, IsListOf, HasFurther, IsListFront, HasNext, IsListPlace}
 use Rattle.hol_tactic_grammar.proofs.TacticWordLemmas.{start_of_unit, begins-with}
 

@@ -3,7 +3,8 @@ use Rattle.std.proofs.Common.{◌≡◌, List, [], ◌∷◌, refl, sym, ap, ◌
 use Rattle.hol_model.specs.Texts.Token.{Token, Name, Number, Mark}
 use Rattle.hol_model.specs.Texts.TermGrammar.{TermTree}
 use Rattle.hol_model_sessions.specs.TacticGrammar as grammar
-use Rattle.hol_model_sessions.specs.TacticGrammar.{PlainTactic, NamedTactic, QuotedTactic, plain_word, named_word, quoted_word, TacticLeaf, plain, by_name, by_quote, conv_tac, rewrite_tac, leaf_tokens, TacticUnit, repeated, tried, enclosed, leaf, tactic_unit_tokens}
+use Rattle.hol_model_sessions.specs.TacticGrammar.{PlainTactic, NamedTactic, QuotedTactic, plain_word, named_word, quoted_word, TacticLeaf, plain, by_name, by_quote, conv_tac, rewrite_tac}
+use Rattle.hol_model_sessions.specs.TacticGrammar.{leaf_tokens, TacticUnit, repeated, tried, enclosed, leaf, tactic_unit_tokens}
 use Rattle.hol_tactic_grammar.specs.declared.tactic_words.Plain.{Plain}
 use Rattle.hol_tactic_grammar.specs.declared.tactic_words.Plain.TheVariants.{All, No, Assumption, Refl, Conj, Eq, Disj1, Disj2, Disch, Gen, Taut}
 use Rattle.hol_tactic_grammar.specs.declared.tactic_words.Named.{Named}

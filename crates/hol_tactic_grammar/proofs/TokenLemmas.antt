@@ -1,5 +1,6 @@
 -- Tokens from a place on, and which names are identifiers.
-use Rattle.std.proofs.Common.{◌≡◌, ℕ, zero, suc, ◌+◌, ◌<◌, ◌≤◌, arith, List, [], ◌∷◌, length, get_or, drop, true, false, ◌||◌, refl, sym, ◌∙◌, ap, subst, Option, None, Some, Bor, IsTrue, IsFalse, MatchOption}
+use Rattle.std.proofs.Common.{◌≡◌, ℕ, zero, suc, ◌+◌, ◌<◌, ◌≤◌, arith, List, [], ◌∷◌, length, get_or, drop, true, false, ◌||◌, refl, sym, ◌∙◌, ap, subst, Option, None, Some, Bor, IsTrue, IsFalse}
+use Rattle.std.proofs.Common.{MatchOption}
 use Rattle.hol_model.specs.Terms.Name.{is_capital, is_small, continues_name, all_continue, is_identifier}
 use Rattle.hol_model.specs.Texts.Token.{Name}
 use Rattle.hol_model.specs.Texts.Lexing.{IsIdentifier, Every, is_name_byte}

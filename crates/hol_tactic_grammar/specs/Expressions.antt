@@ -4,7 +4,10 @@ use Rattle.std.specs.String.{string_bytes}
 use Rattle.std.proofs.Common.{Vec, Global}
 use Rattle.hol_model.specs.Refining.Conversions.{Conversion}
 use Rattle.hol_model_sessions.specs.TacticGrammar as grammar
-use Rattle.hol_model_sessions.specs.TacticGrammar.{PlainTactic, AllTac, NoTac, AssumptionTac, ReflTac, ConjTac, EqTac, Disj1Tac, Disj2Tac, DischTac, GenTac, TautTac, NamedTactic, AcceptTac, AssumeTac, MpTac, DisjCasesTac, ChooseTac, Host, QuotedTactic, ExistsTac, UndischTac, TacticLeaf, Tactic, then_chain, TacticLinks, no_more_then, then_all, then_each, Tactics, no_tactics, tactic_and, TacticChoice, orelse_chain, OtherTactics, no_more_orelse, TacticUnit, repeated, tried, enclosed, leaf}
+use Rattle.hol_model_sessions.specs.TacticGrammar.{PlainTactic, AllTac, NoTac, AssumptionTac, ReflTac, ConjTac, EqTac, Disj1Tac, Disj2Tac, DischTac, GenTac, TautTac, NamedTactic, AcceptTac}
+use Rattle.hol_model_sessions.specs.TacticGrammar.{AssumeTac, MpTac, DisjCasesTac, ChooseTac, Host, QuotedTactic, ExistsTac, UndischTac, TacticLeaf, Tactic, then_chain, TacticLinks, no_more_then}
+use Rattle.hol_model_sessions.specs.TacticGrammar.{then_all, then_each, Tactics, no_tactics, tactic_and, TacticChoice, orelse_chain, OtherTactics, no_more_orelse, TacticUnit, repeated, tried}
+use Rattle.hol_model_sessions.specs.TacticGrammar.{enclosed, leaf}
 use Rattle.hol_model_sessions.specs.SessionTools.{conversion_of_unit}
 use Rattle.hol_tactic_exprs.specs.Expressions.{conversion_of}
 use Rattle.hol_tactic_exprs.specs.declared.leaf.Leaf.{Leaf}

@@ -19,7 +19,8 @@ use Rattle.hol_tactic_grammar.specs.declared.tactic_reader.Reader.{Reader}
 use Rattle.hol_tactic_grammar.specs.Tokens.{behind}
 use Rattle.hol_tactic_grammar.specs.Conversions.{Without}
 use Rattle.hol_tactic_grammar.specs.Quotes.{steps_of_tree}
-use Rattle.hol_tactic_grammar.specs.Expressions.{Kept, Expressions, Joint, Links, more, link, then_on, or_else, expression_of, links_of, expressions_of, expression_of_choice, others_of, expression_here, joint_here}
+use Rattle.hol_tactic_grammar.specs.Expressions.{Kept, Expressions, Joint, Links, more, link, then_on, or_else, expression_of, links_of, expressions_of, expression_of_choice, others_of}
+use Rattle.hol_tactic_grammar.specs.Expressions.{expression_here, joint_here}
 use Rattle.hol_tactic_grammar.specs.Tactics.{Meaning, Ends, FitsOthers, FitsChoice, FitsLinks, Fits, FitsList, IsUnit, IsChoice, IsWhole, ReadsTactic}
 
 -- ---- chains of ORELSE

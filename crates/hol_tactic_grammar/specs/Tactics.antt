@@ -5,7 +5,9 @@ use Rattle.std.proofs.Common.{Vec, String, Global}
 use Rattle.hol_model.specs.declared.symbol.Symbol.TheVariants.{OpenBracket}
 use Rattle.hol_model.specs.Texts.Token.{Token, Name, Mark}
 use Rattle.hol_model.specs.Texts.TermGrammar.{TermTree}
-use Rattle.hol_model_sessions.specs.TacticGrammar.{Tactic, TacticLinks, Tactics, TacticChoice, OtherTactics, TacticUnit, then_all, then_each, name_tokens, tactic_tokens, first_tokens, choice_tokens, tactic_unit_tokens, tactic_depth, link_depth, list_depth, choice_depth, other_depth, tactic_unit_depth, HasQuotables, HasQuotableLinks, HasQuotableList, HasQuotableChoice, HasQuotableOthers, HasQuotableUnit, IsTactic}
+use Rattle.hol_model_sessions.specs.TacticGrammar.{Tactic, TacticLinks, Tactics, TacticChoice, OtherTactics, TacticUnit, then_all, then_each, name_tokens, tactic_tokens, first_tokens}
+use Rattle.hol_model_sessions.specs.TacticGrammar.{choice_tokens, tactic_unit_tokens, tactic_depth, link_depth, list_depth, choice_depth, other_depth, tactic_unit_depth, HasQuotables}
+use Rattle.hol_model_sessions.specs.TacticGrammar.{HasQuotableLinks, HasQuotableList, HasQuotableChoice, HasQuotableOthers, HasQuotableUnit, IsTactic}
 use Rattle.hol_tactic_exprs.specs.declared.tac.Tac.{Tac}
 use Rattle.hol_syntax_grammar.specs.declared.token.Token.{Token as TokenHere}
 use Rattle.hol_syntax_grammar.specs.declared.type_reader.ReadError.{ReadError}

@@ -1,5 +1,6 @@
 -- What is made of parts that are read, and lists of parts.
-use Rattle.std.proofs.Common.{◌≡◌, ◌⊎◌, inl, inr, ⊎_elim, ℕ, suc, ◌+◌, ◌<◌, ◌≤◌, add-one, arith, List, [], ◌∷◌, ◌++◌, map, drop, get_or, length, drop-cons, Result, Ok, Err, IfOk, IfErr, refl, sym, ap, ◌∙◌, subst}
+use Rattle.std.proofs.Common.{◌≡◌, ◌⊎◌, inl, inr, ⊎_elim, ℕ, suc, ◌+◌, ◌<◌, ◌≤◌, add-one, arith, List, [], ◌∷◌, ◌++◌, map, drop, get_or, length, drop-cons, Result, Ok, Err, IfOk, IfErr, refl}
+use Rattle.std.proofs.Common.{sym, ap, ◌∙◌, subst}
 use Rattle.std.proofs.lemmas.List.{drop_all}
 use Rattle.hol_model.specs.declared.fault.Fault.{Fault}
 use Rattle.hol_model.specs.declared.fault.Fault.TheVariants.{Memory}
@@ -119,7 +120,8 @@ abbrev linked_before : List (Link NamedTerm) → combinators.Links → combinato
 linked_before [] others = others
 linked_before (first ∷ more) others = combinators.link (link_of first) (linked_before more others)
 
-links-more : (done : List (Link NamedTerm)) (made : Link NamedTerm) (others : combinators.Links) → linked_before (done ++ made ∷ []) others ≡ linked_before done (combinators.link (link_of made) others)
+links-more : (done : List (Link NamedTerm)) (made : Link NamedTerm) (others : combinators.Links) →
+    linked_before (done ++ made ∷ []) others ≡ linked_before done (combinators.link (link_of made) others)
 links-more [] made others = refl
 links-more (first ∷ more) made others = ap (combinators.link (link_of first)) (links-more more made others)
 

@@ -7,7 +7,9 @@ use Rattle.hol_model.specs.Texts.TermGrammar.{TermTree}
 use Rattle.hol_model.specs.Texts.Reading.{Scope, ◌>>=◌, meaning}
 use Rattle.hol_model.specs.Refining.Combinators as combinators
 use Rattle.hol_model_sessions.specs.TacticGrammar as grammar
-use Rattle.hol_model_sessions.specs.TacticGrammar.{Tactic, then_chain, TacticLinks, no_more_then, then_all, then_each, Tactics, no_tactics, tactic_and, TacticChoice, orelse_chain, OtherTactics, no_more_orelse, orelse, TacticUnit, repeated, tried, enclosed, leaf, TacticLeaf, read_tactic, read_links, read_tactics, read_choice, read_others, read_unit, read_leaf}
+use Rattle.hol_model_sessions.specs.TacticGrammar.{Tactic, then_chain, TacticLinks, no_more_then, then_all, then_each, Tactics, no_tactics, tactic_and, TacticChoice, orelse_chain, OtherTactics}
+use Rattle.hol_model_sessions.specs.TacticGrammar.{no_more_orelse, orelse, TacticUnit, repeated, tried, enclosed, leaf, TacticLeaf, read_tactic, read_links, read_tactics, read_choice}
+use Rattle.hol_model_sessions.specs.TacticGrammar.{read_others, read_unit, read_leaf}
 use Rattle.hol_model_sessions.specs.SessionTools as session
 use Rattle.hol_tactic_exprs.specs.declared.tac.Tac.{Tac}
 use Rattle.hol_tactic_exprs.specs.Expressions.{tactic_of}

@@ -17,7 +17,8 @@ use Rattle.hol_tactic_exprs.specs.declared.tac.Link.{Link}
 use Rattle.hol_tactic_exprs.specs.Expressions.{leaf_of, tactic_of, tactics_of, link_of, links_of}
 use Rattle.hol_syntax_grammar.specs.TermSteps.{FlatStep}
 use Rattle.hol_tactic_grammar.specs.Quotes.{steps_of_tree}
-use Rattle.hol_tactic_grammar.specs.Expressions.{Kept, Simple, plain, by_name, by_quote, conv_tac, rewrite_tac, Expression, simple, chain, orelse, repeat, try, Expressions, no_more, more, Joint, on_all, on_each, Links, no_link, link, simple_here, expression_here, joint_here, all_expressions, all_links}
+use Rattle.hol_tactic_grammar.specs.Expressions.{Kept, Simple, plain, by_name, by_quote, conv_tac, rewrite_tac, Expression, simple, chain, orelse, repeat, try, Expressions, no_more, more, Joint}
+use Rattle.hol_tactic_grammar.specs.Expressions.{on_all, on_each, Links, no_link, link, simple_here, expression_here, joint_here, all_expressions, all_links}
 use Rattle.hol_tactic_grammar.specs.Tactics.{IsExpression}
 
 -- ---- trees

@@ -26,7 +26,8 @@ longer (term ∷ rest) seen = go (list_any (are_alpha_equivalent term) seen) (lo
 pub few_none : (seen : List NamedTerm) → length seen ≤ ATOMS_LIMIT → AddsFew true [] seen seen
 few_none seen few = (refl, few)
 
-pub few_seen : (term : NamedTerm) (seen : List NamedTerm) (test : Bool) → test ≡ list_any (are_alpha_equivalent term) seen → test ≡ true → length seen ≤ ATOMS_LIMIT → AddsFew true (term ∷ []) seen seen
+pub few_seen : (term : NamedTerm) (seen : List NamedTerm) (test : Bool) → test ≡ list_any (are_alpha_equivalent term) seen → test ≡ true → length seen ≤ ATOMS_LIMIT →
+    AddsFew true (term ∷ []) seen seen
 few_seen term seen test is holds few = (sym (ap (λ (b : Bool). if b then seen else (seen ++ term ∷ [])) (sym is ∙ holds)), few)
 
 pub few_more : (term : NamedTerm) (seen new : List NamedTerm) (test : Bool) → test ≡ list_any (are_alpha_equivalent term) seen → test ≡ false → new ≡ seen ++ term ∷ [] → length seen < ATOMS_LIMIT

@@ -397,7 +397,8 @@ r: |- (p:bool) /\ ~(p:bool) <=> (q:bool) /\ ~(q:bool)
 a: |- T /\ ~T <=> (q:bool) /\ ~(q:bool)
 
 == the rules of a conjunction, the first before the second
-thm s = TAUT `(p:bool) /\ (q:bool) <=> (q:bool) /\ (p:bool)` ;; thm i = TAUT `(p:bool) /\ T <=> (p:bool)` ;; thm c = CONJ s i ;; thm d = CONJ i s ;; thm a = CONV (REWR_CONV c) `(a:bool) /\ T` ;; thm b = CONV (REWR_CONV d) `(a:bool) /\ T` ;;
+thm s = TAUT `(p:bool) /\ (q:bool) <=> (q:bool) /\ (p:bool)` ;; thm i = TAUT `(p:bool) /\ T <=> (p:bool)` ;; thm c = CONJ s i ;;
+thm d = CONJ i s ;; thm a = CONV (REWR_CONV c) `(a:bool) /\ T` ;; thm b = CONV (REWR_CONV d) `(a:bool) /\ T` ;;
 --
 s: |- (p:bool) /\ (q:bool) <=> (q:bool) /\ (p:bool)
 i: |- (p:bool) /\ T <=> (p:bool)

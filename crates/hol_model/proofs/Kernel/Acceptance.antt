@@ -58,7 +58,8 @@ legal_definition : (theory : Theory) (name : List ℕ) (term : NamedTerm) (ty : 
     → define_outcome theory name term ≡ if_room theory (concluded (with_definition theory name term) [] (equation (constant name ty) term))
 legal_definition theory name term ty typed legal =
     let own = own_type-is term ty typed in
-    let known : first_unknown theory term ≡ None = none_unknown (knows_types theory term) (knows_constants theory term) (has_instances theory term) ((is_known-Decides theory term ty typed).1 legal.known) in
+    let known : first_unknown theory term ≡ None = none_unknown (knows_types theory term) (knows_constants theory term) (has_instances theory term)
+    ((is_known-Decides theory term ty typed).1 legal.known) in
     let reflected : reflects (own_type term) term ≡ true = ap (λ whole. reflects whole term) own ∙ (reflects-Decides ty term).1 legal.reflected in
     unless-passed (is_constant_name name) BadName _ legal.is_name
     ∙ refused-none (first_unknown theory term) _ known

@@ -7,10 +7,12 @@ use Rattle.hol_model.specs.Terms.Name.{is_constant_name, is_declared_type_name}
 use Rattle.hol_model.specs.Terms.HolType.{HolType, function_type, type_eq, OccursInType, is_instance, IsInstance}
 use Rattle.hol_model.specs.Terms.Nameless.{Nameless, free, const, bound, app, lam, HasType}
 use Rattle.hol_model.specs.Terms.Substitution.{HasNoFree, OccursInTerm}
-use Rattle.hol_model.specs.Logic.Theory.{Theory, definition, declaration_of_type, declaration_of_constant, generic_type, IsKnownConstant, HasKnownParts, IsKnown, IsLegalDefinition, IsLegalConstant, IsLegalType, IsLegal}
+use Rattle.hol_model.specs.Logic.Theory.{Theory, definition, declaration_of_type, declaration_of_constant, generic_type, IsKnownConstant, HasKnownParts, IsKnown, IsLegalDefinition}
+use Rattle.hol_model.specs.Logic.Theory.{IsLegalConstant, IsLegalType, IsLegal}
 use Rattle.hol_model.specs.Logic.KnownTerm.{knows_type}
 use Rattle.hol_model.specs.Logic.Legality.{reflects_type, is_fixed, is_new_name}
-use Rattle.hol_model.specs.Logic.Checks.{found_type, has_type, knows_constant, has_known_parts, knows_nameless, has_no_free, reflects_nameless, is_legal_definition, is_legal_constant, is_legal_type, is_legal}
+use Rattle.hol_model.specs.Logic.Checks.{found_type, has_type, knows_constant, has_known_parts, knows_nameless, has_no_free, reflects_nameless, is_legal_definition, is_legal_constant}
+use Rattle.hol_model.specs.Logic.Checks.{is_legal_type, is_legal}
 use Rattle.hol_model.proofs.Logic.Conditions.{always, never}
 use Rattle.hol_model.proofs.Terms.HolTypeEq.{type_eq-self, type_eq-Decides}
 use Rattle.hol_model.proofs.Terms.Images.{application-typed}

@@ -6,9 +6,11 @@ use Rattle.hol_model.specs.Terms.HolType.{HolType, type_variable, bool_type, fun
 use Rattle.hol_model.specs.Terms.NamedTerm.{same_variable}
 use Rattle.hol_model.specs.Terms.Nameless.{Nameless, free, const, bound, app, lam, HasType, same_term}
 use Rattle.hol_model.specs.Terms.Substitution.{close_at, close, put, TermInstance, instantiate}
-use Rattle.hol_model.specs.Logic.Theory.{Theory, Entry, definition, IsLegal, HasKnownParts, IsKnown, IsKnownType, IsKnownConstant, equality_name, choice_name, equality_type, choice_type, type_a, type_b, generic_type}
+use Rattle.hol_model.specs.Logic.Theory.{Theory, Entry, definition, IsLegal, HasKnownParts, IsKnown, IsKnownType, IsKnownConstant, equality_name, choice_name, equality_type, choice_type, type_a}
+use Rattle.hol_model.specs.Logic.Theory.{type_b, generic_type}
 use Rattle.hol_model.specs.Logic.Derivable.{Derivable, IsMember, MayReplace, AreKnown, nameless_equation, without, eta_variable, select_hypothesis, select_conclusion}
-use Rattle.hol_model.specs.Logic.Derivable.Derivable.{same_hypotheses, refl_rule, trans_rule, mk_comb_rule, abs_rule, beta_rule, assume_rule, eq_mp_rule, deduct_antisym_rule, inst_rule, inst_type_rule, eta_rule, select_rule, definition_rule}
+use Rattle.hol_model.specs.Logic.Derivable.Derivable.{same_hypotheses, refl_rule, trans_rule, mk_comb_rule, abs_rule, beta_rule, assume_rule, eq_mp_rule, deduct_antisym_rule, inst_rule}
+use Rattle.hol_model.specs.Logic.Derivable.Derivable.{inst_type_rule, eta_rule, select_rule, definition_rule}
 use Rattle.hol_model.proofs.Logic.Later.{head_is_new, rest_is_legal, generic_type-later, HasKnownParts-later}
 pub use Rattle.hol_model.proofs.Terms.Membership.{of_append, of_map}
 use Rattle.hol_model.proofs.Terms.Typing.{close_at-typed, put-typed, instantiate-typed, instantiate_type-twice, instantiate_type-same}
@@ -38,7 +40,8 @@ IsKnown-type theory t a k = type-known theory t [] a tt k.typed k.parts
 
 pub generic_type-logical : (theory : Theory) → IsLegal theory → (name : List ℕ) (generic : HolType) → generic_type [] name ≡ Some generic → generic_type theory name ≡ Some generic
 generic_type-logical [] legal name generic h = h
-generic_type-logical (entry ∷ rest) legal name generic h = generic_type-later entry rest (head_is_new entry rest legal) name generic (generic_type-logical rest (rest_is_legal entry rest legal) name generic h)
+generic_type-logical (entry ∷ rest) legal name generic h = generic_type-later entry rest (head_is_new entry rest legal) name generic
+    (generic_type-logical rest (rest_is_legal entry rest legal) name generic h)
 
 pub equality-known : (theory : Theory) → IsLegal theory → (a : HolType) → IsKnownConstant theory equality_name (equality_type a)
 equality-known theory legal a = record {
@@ -167,7 +170,8 @@ instantiate-parts theory tau h (bound i) p = tt
 instantiate-parts theory tau h (app f x) p = (instantiate-parts theory tau h f p.0, instantiate-parts theory tau h x p.1)
 instantiate-parts theory tau h (lam a b) p = (instantiate_type-known theory tau h a p.0, instantiate-parts theory tau h b p.1)
 
-pub instantiate-known : (theory : Theory) (tau : TypeInstance) → ((v : List ℕ) → IsKnownType theory (tau v)) → (t : Nameless) (a : HolType) → IsKnown theory t a → IsKnown theory (instantiate tau t) (instantiate_type tau a)
+pub instantiate-known : (theory : Theory) (tau : TypeInstance) → ((v : List ℕ) → IsKnownType theory (tau v)) → (t : Nameless) (a : HolType) → IsKnown theory t a →
+    IsKnown theory (instantiate tau t) (instantiate_type tau a)
 instantiate-known theory tau h t a k = record { typed = instantiate-typed tau t [] a k.typed; parts = instantiate-parts theory tau h t k.parts }
 
 -- hypotheses
@@ -175,7 +179,8 @@ instantiate-known theory tau h t a k = record { typed = instantiate-typed tau t 
 pub AreKnown-append : (theory : Theory) (h k : List Nameless) → AreKnown theory h → AreKnown theory k → AreKnown theory (h ++ k)
 AreKnown-append theory h k p q t m = elim (of_append t h k m) [ inl l ↦ p t l | inr r ↦ q t r ]
 
-pub AreKnown-map : (theory : Theory) (f : Nameless → Nameless) (h : List Nameless) → AreKnown theory h → ((t : Nameless) → IsKnown theory t bool_type → IsKnown theory (f t) bool_type) → AreKnown theory (map f h)
+pub AreKnown-map : (theory : Theory) (f : Nameless → Nameless) (h : List Nameless) → AreKnown theory h → ((t : Nameless) → IsKnown theory t bool_type → IsKnown theory (f t) bool_type) →
+    AreKnown theory (map f h)
 AreKnown-map theory f h p q t m = let r = of_map f t h m in subst (λ (u : Nameless). IsKnown theory u bool_type) (sym r.2) (q r.0 (p r.0 r.1))
 
 pub of_without : (t q : Nameless) (h : List Nameless) → IsMember t (without q h) → IsMember t h
@@ -206,7 +211,11 @@ pub select_hypothesis-known : {theory : Theory} → IsKnown theory select_hypoth
 select_hypothesis-known = record { typed = (type_a, refl, refl); parts = ((tt, tt), tt) }
 
 pub select_conclusion-known : (theory : Theory) → IsLegal theory → IsKnown theory select_conclusion bool_type
-select_conclusion-known theory legal = record { typed = (type_a, refl, (function_type type_a bool_type, refl, refl)); parts = ((tt, tt), (((((tt, tt), tt), choice-known theory legal type_a)), (tt, tt))) }
+select_conclusion-known theory legal = record {
+  typed = (type_a, refl, (function_type type_a bool_type, refl, refl));
+  parts =
+      ((tt, tt), (((((tt, tt), tt), choice-known theory legal type_a)), (tt, tt)));
+}
 
 -- a sequent of known terms of type `bool`
 pub record IsKnownSequent (theory : Theory) (h : List Nameless) (c : Nameless) : Type 0 where
@@ -239,7 +248,8 @@ Derivable-known theory legal (abs_rule {h = h} n a b s t known fresh d) =
     let sides = equation-sides theory b s t p.conclusion in
     record {
       hypotheses = p.hypotheses;
-      conclusion = equation-known theory legal (function_type a b) (lam a (close n a s)) (lam a (close n a t)) (close-known theory n a b s known sides.left) (close-known theory n a b t known sides.right);
+      conclusion = equation-known theory legal (function_type a b) (lam a (close n a s)) (lam a (close n a t)) (close-known theory n a b s known sides.left)
+          (close-known theory n a b t known sides.right);
     }
 Derivable-known theory legal (beta_rule n a b t known k) =
     let left = app-known theory a b (lam a (close n a t)) (free n a) (close-known theory n a b t known k) (record { typed = refl; parts = known }) in

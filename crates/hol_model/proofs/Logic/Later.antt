@@ -4,9 +4,11 @@ use Rattle.std.specs.Str.{bytes_eq}
 use Rattle.std.proofs.lemmas.Slice.Eq.{bytes_eq-Decides}
 use Rattle.hol_model.specs.Terms.HolType.{HolType, type_variable, bool_type, function_type, declared_type}
 use Rattle.hol_model.specs.Terms.Nameless.{Nameless, free, const, bound, app, lam}
-use Rattle.hol_model.specs.Logic.Theory.{Theory, Entry, definition, declaration_of_type, declaration_of_constant, IsEarlier, IsLegal, IsNewName, HasKnownParts, IsKnown, IsKnownType, IsDeclaredType, generic_type}
+use Rattle.hol_model.specs.Logic.Theory.{Theory, Entry, definition, declaration_of_type, declaration_of_constant, IsEarlier, IsLegal, IsNewName, HasKnownParts, IsKnown, IsKnownType}
+use Rattle.hol_model.specs.Logic.Theory.{IsDeclaredType, generic_type}
 use Rattle.hol_model.specs.Logic.Derivable.{Derivable, MayReplace}
-use Rattle.hol_model.specs.Logic.Derivable.Derivable.{same_hypotheses, refl_rule, trans_rule, mk_comb_rule, abs_rule, beta_rule, assume_rule, eq_mp_rule, deduct_antisym_rule, inst_rule, inst_type_rule, eta_rule, select_rule, definition_rule}
+use Rattle.hol_model.specs.Logic.Derivable.Derivable.{same_hypotheses, refl_rule, trans_rule, mk_comb_rule, abs_rule, beta_rule, assume_rule, eq_mp_rule, deduct_antisym_rule, inst_rule}
+use Rattle.hol_model.specs.Logic.Derivable.Derivable.{inst_type_rule, eta_rule, select_rule, definition_rule}
 
 -- the entry's name is new over the theory
 abbrev pub IsNewEntry : Theory → Entry → Type 0
@@ -35,7 +37,8 @@ other_name theory new name generic is_new known = go (bytes_eq new name) refl
         cc
     go false passed = refl
 
-pub generic_type-later : (entry : Entry) (rest : Theory) → IsNewEntry rest entry → (name : List ℕ) (generic : HolType) → generic_type rest name ≡ Some generic → generic_type (entry ∷ rest) name ≡ Some generic
+pub generic_type-later : (entry : Entry) (rest : Theory) → IsNewEntry rest entry → (name : List ℕ) (generic : HolType) → generic_type rest name ≡ Some generic →
+    generic_type (entry ∷ rest) name ≡ Some generic
 generic_type-later (definition new ty body) rest is_new name generic known = rw (other_name rest new name generic is_new known) known
 generic_type-later (declaration_of_type new) rest is_new name generic known = known
 generic_type-later (declaration_of_constant new ty) rest is_new name generic known = rw (other_name rest new name generic is_new known) known

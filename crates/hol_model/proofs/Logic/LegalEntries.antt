@@ -71,7 +71,8 @@ reflects_under-same whole binders (abstraction name ty body) reflected =
 
 pub reflects-Decides : (whole : HolType) (term : NamedTerm) → Decides (reflects whole term) ((name : List ℕ) → OccursInTerm name (image term) → OccursInType name whole)
 reflects-Decides whole term =
-    subst (λ test. Decides test ((name : List ℕ) → OccursInTerm name (image term) → OccursInType name whole)) (sym (reflects_under-same whole [] term tt)) (reflects_nameless-Decides whole (image term))
+    subst (λ test. Decides test ((name : List ℕ) → OccursInTerm name (image term) → OccursInType name whole)) (sym (reflects_under-same whole [] term tt))
+    (reflects_nameless-Decides whole (image term))
 
 pub reflects-image : (whole : HolType) (term : NamedTerm) → reflects whole term ≡ true → (name : List ℕ) → OccursInTerm name (image term) → OccursInType name whole
 reflects-image whole term passed name occurs = (reflects-Decides whole term).0 passed name occurs

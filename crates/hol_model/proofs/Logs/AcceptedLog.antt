@@ -10,18 +10,26 @@ use Rattle.hol_model.specs.Terms.Name.{is_constant_name, is_declared_type_name}
 use Rattle.hol_model.specs.Terms.HolType.{HolType, type_variable, bool_type, function_type, type_eq, type_instance_of, codomain_of}
 use Rattle.hol_model.specs.Terms.Nameless.{Nameless, free, const, bound, app, lam, HasType, same_term}
 use Rattle.hol_model.specs.Terms.Substitution.{close, fill, occurs_free}
-use Rattle.hol_model.specs.Logic.Theory.{Theory, Entry, definition, declaration_of_type, declaration_of_constant, IsLegal, IsNewName, IsLegalDefinition, IsLegalConstant, IsLegalType, IsKnown, IsKnownType}
+use Rattle.hol_model.specs.Logic.Theory.{Theory, Entry, definition, declaration_of_type, declaration_of_constant, IsLegal, IsNewName, IsLegalDefinition, IsLegalConstant, IsLegalType, IsKnown}
+use Rattle.hol_model.specs.Logic.Theory.{IsKnownType}
 use Rattle.hol_model.specs.Logic.KnownTerm.{is_declared}
 use Rattle.hol_model.specs.Logic.Legality.{is_fixed, is_new_name}
 use Rattle.hol_model.specs.Logic.Checks.{knows_constant, has_no_free, reflects_nameless}
 use Rattle.hol_model.specs.Logic.Derivable.{Derivable, IsMember, MayReplace, NotFreeInAny, nameless_equation}
-use Rattle.hol_model.specs.Logic.Derivable.Derivable.{same_hypotheses, refl_rule, trans_rule, mk_comb_rule, abs_rule, beta_rule, assume_rule, eq_mp_rule, deduct_antisym_rule, inst_rule, inst_type_rule, eta_rule, select_rule, definition_rule}
+use Rattle.hol_model.specs.Logic.Derivable.Derivable.{same_hypotheses, refl_rule, trans_rule, mk_comb_rule, abs_rule, beta_rule, assume_rule, eq_mp_rule, deduct_antisym_rule, inst_rule}
+use Rattle.hol_model.specs.Logic.Derivable.Derivable.{inst_type_rule, eta_rule, select_rule, definition_rule}
 use Rattle.hol_model.specs.Logs.LogLine.{LogVersion, LogRule, LogLine}
-use Rattle.hol_model.specs.Logs.LogLine.LogRule.{refl_step, trans_step, mk_comb_step, abs_step, beta_step, assume_step, eq_mp_step, deduct_step, inst_step, inst_type_step, eta_step, select_step, definition_step}
-use Rattle.hol_model.specs.Logs.LogLine.LogLine.{type_variable_line, bool_line, function_type_line, declared_type_line, variable_line, constant_line, combination_line, abstraction_line, new_type_line, new_constant_line, theorem_line, claim_line}
-use Rattle.hol_model.specs.Logs.LogState.{LogState, first_state, type_at, term_at, theorem_at, conclusion_at, hypotheses_at, term_type, type_of_term_at, terms_at, term_pairs_at, type_pairs_at, set_of, same_terms, no_sequent}
-use Rattle.hol_model.specs.Logs.LogSequents.{is_free_variable, is_equation, left_side, right_side, side_type, redex_body, equation_of, abstraction_over, term_instance_of, supposing, sequent_of, new_types, new_terms, new_theorems, rule_entries, new_entries, new_claims, after_line}
-use Rattle.hol_model.specs.Logs.LogFaults.{has_shape_fault, has_number_fault, has_name_fault, has_type_fault, has_constant_fault, has_rule_fault, has_claim_fault, has_size_fault, has_end_fault, is_no_type, is_no_term, is_no_theorem, some_is_no_term, some_is_no_type, is_no_new_constant, takes, is_replacement, is_free_in_any, is_trivial_redex, first_applying, first_cause, cause_tests}
+use Rattle.hol_model.specs.Logs.LogLine.LogRule.{refl_step, trans_step, mk_comb_step, abs_step, beta_step, assume_step, eq_mp_step, deduct_step, inst_step, inst_type_step, eta_step, select_step}
+use Rattle.hol_model.specs.Logs.LogLine.LogRule.{definition_step}
+use Rattle.hol_model.specs.Logs.LogLine.LogLine.{type_variable_line, bool_line, function_type_line, declared_type_line, variable_line, constant_line, combination_line, abstraction_line}
+use Rattle.hol_model.specs.Logs.LogLine.LogLine.{new_type_line, new_constant_line, theorem_line, claim_line}
+use Rattle.hol_model.specs.Logs.LogState.{LogState, first_state, type_at, term_at, theorem_at, conclusion_at, hypotheses_at, term_type, type_of_term_at, terms_at, term_pairs_at, type_pairs_at}
+use Rattle.hol_model.specs.Logs.LogState.{set_of, same_terms, no_sequent}
+use Rattle.hol_model.specs.Logs.LogSequents.{is_free_variable, is_equation, left_side, right_side, side_type, redex_body, equation_of, abstraction_over, term_instance_of, supposing, sequent_of}
+use Rattle.hol_model.specs.Logs.LogSequents.{new_types, new_terms, new_theorems, rule_entries, new_entries, new_claims, after_line}
+use Rattle.hol_model.specs.Logs.LogFaults.{has_shape_fault, has_number_fault, has_name_fault, has_type_fault, has_constant_fault, has_rule_fault, has_claim_fault, has_size_fault, has_end_fault}
+use Rattle.hol_model.specs.Logs.LogFaults.{is_no_type, is_no_term, is_no_theorem, some_is_no_term, some_is_no_type, is_no_new_constant, takes, is_replacement, is_free_in_any, is_trivial_redex}
+use Rattle.hol_model.specs.Logs.LogFaults.{first_applying, first_cause, cause_tests}
 use Rattle.hol_model.specs.Logs.LogLaws.{IsDerivable, IsDerivableClaim, IsKnownTerm, IsSoundState}
 use Rattle.hol_model.proofs.Terms.HolTypeEq.{type_eq-Decides}
 use Rattle.hol_model.proofs.Tests.{first_of_both, second_of_both, first_of_neither, second_of_neither, same_term-Decides}
@@ -84,12 +92,14 @@ derivable-at state sound number there = All-get_or (IsDerivable state.theory) st
 formula-at : (state : LogState) → IsSoundState state → (number : ℕ) → is_no_theorem state number ≡ false → IsKnown state.theory (conclusion_at state number) bool_type
 formula-at state sound number there = (Derivable-known state.theory sound.legal (derivable-at state sound number there)).conclusion
 
-equation-at : (state : LogState) → IsSoundState state → (number : ℕ) → is_no_theorem state number ≡ false → is_equation (conclusion_at state number) ≡ true → IsEquation state.theory (conclusion_at state number) (side_type (conclusion_at state number))
+equation-at : (state : LogState) → IsSoundState state → (number : ℕ) → is_no_theorem state number ≡ false → is_equation (conclusion_at state number) ≡ true →
+    IsEquation state.theory (conclusion_at state number) (side_type (conclusion_at state number))
 equation-at state sound number there is = equation-is state.theory sound.legal (conclusion_at state number) is (formula-at state sound number there)
 
 -- the theorem that a number names, as an equation
 derivable-equation : (state : LogState) → IsSoundState state → (number : ℕ) → is_no_theorem state number ≡ false → is_equation (conclusion_at state number) ≡ true
-    → Derivable state.theory (hypotheses_at state number) (nameless_equation (side_type (conclusion_at state number)) (left_side (conclusion_at state number)) (right_side (conclusion_at state number)))
+    → Derivable state.theory (hypotheses_at state number) (nameless_equation (side_type (conclusion_at state number)) (left_side (conclusion_at state number))
+    (right_side (conclusion_at state number)))
 derivable-equation state sound number there is =
     subst (λ (c : Nameless). Derivable state.theory (hypotheses_at state number) c) (equation-at state sound number there is).is_equation (derivable-at state sound number there)
 
@@ -97,7 +107,8 @@ derivable-equation state sound number there is =
 derivable-supposing : (theory : Theory) (hypotheses : List Nameless) (conclusion : Nameless) → Derivable theory hypotheses conclusion → IsDerivable theory (supposing hypotheses conclusion)
 derivable-supposing theory hypotheses conclusion d = same_hypotheses d (set_of-same_set hypotheses)
 
-derivable-equation_of : (theory : Theory) (hypotheses : List Nameless) (ty : HolType) (left right : Nameless) → term_type left ≡ ty → Derivable theory hypotheses (nameless_equation ty left right) → IsDerivable theory (supposing hypotheses (equation_of left right))
+derivable-equation_of : (theory : Theory) (hypotheses : List Nameless) (ty : HolType) (left right : Nameless) → term_type left ≡ ty →
+    Derivable theory hypotheses (nameless_equation ty left right) → IsDerivable theory (supposing hypotheses (equation_of left right))
 derivable-equation_of theory hypotheses ty left right is d =
     derivable-supposing theory hypotheses (equation_of left right) (subst (λ (a : HolType). Derivable theory hypotheses (nameless_equation a left right)) (sym is) d)
 
@@ -118,7 +129,8 @@ derivable-trans state sound i j i_there j_there i_is j_is meet =
     let one : side_type (conclusion_at state j) ≡ side_type (conclusion_at state i) = sym left_type ∙ (ap term_type (sym middle) ∙ right_type) in
     let later = derivable-equation state sound j j_there j_is in
     let moved = subst (λ (a : HolType). Derivable state.theory (hypotheses_at state j) (nameless_equation a (left_side (conclusion_at state j)) (right_side (conclusion_at state j)))) one later in
-    let met = subst (λ (m : Nameless). Derivable state.theory (hypotheses_at state j) (nameless_equation (side_type (conclusion_at state i)) m (right_side (conclusion_at state j)))) (sym middle) moved in
+    let met = subst (λ (m : Nameless). Derivable state.theory (hypotheses_at state j) (nameless_equation (side_type (conclusion_at state i)) m (right_side (conclusion_at state j))))
+    (sym middle) moved in
     derivable-equation_of state.theory _ (side_type (conclusion_at state i)) _ _ (term_type-is state.theory _ _ first.left)
     (trans_rule (side_type (conclusion_at state i)) _ _ _ (derivable-equation state sound i i_there i_is) met)
 
@@ -130,7 +142,8 @@ derivable-mk_comb state sound i j i_there j_there i_is j_is fit =
     let arrow = takes-is (side_type (conclusion_at state i)) (side_type (conclusion_at state j)) fit in
     let function_type_is = term_type-is state.theory _ _ first.left ∙ arrow.1 in
     let earlier = derivable-equation state sound i i_there i_is in
-    let functions = subst (λ (a : HolType). Derivable state.theory (hypotheses_at state i) (nameless_equation a (left_side (conclusion_at state i)) (right_side (conclusion_at state i)))) arrow.1 earlier in
+    let functions = subst (λ (a : HolType). Derivable state.theory (hypotheses_at state i) (nameless_equation a (left_side (conclusion_at state i)) (right_side (conclusion_at state i))))
+    arrow.1 earlier in
     derivable-equation_of state.theory _ arrow.0 _ _ (ap codomain_of function_type_is)
     (mk_comb_rule (side_type (conclusion_at state j)) arrow.0 _ _ _ _ functions (derivable-equation state sound j j_there j_is))
 
@@ -141,7 +154,8 @@ derivable-abs state sound t i t_there i_there variable is fresh = go (term_at st
   where
     not_free : (name : List ℕ) (ty : HolType) (terms : List Nameless) → list_any (occurs_free name ty) terms ≡ false → NotFreeInAny name ty terms
     not_free name ty [] none term member = absurd member
-    not_free name ty (x ∷ xs) none term (inl same) = subst (λ (u : Nameless). occurs_free name ty u ≡ false) (sym same) (first_of_neither (occurs_free name ty x) (list_any (occurs_free name ty) xs) none)
+    not_free name ty (x ∷ xs) none term (inl same) = subst (λ (u : Nameless). occurs_free name ty u ≡ false) (sym same)
+        (first_of_neither (occurs_free name ty x) (list_any (occurs_free name ty) xs) none)
     not_free name ty (x ∷ xs) none term (inr member) = not_free name ty xs (second_of_neither (occurs_free name ty x) (list_any (occurs_free name ty) xs) none) term member
 
     go : (v : Nameless) → IsKnownTerm state.theory v → is_free_variable v ≡ true → is_free_in_any v (hypotheses_at state i) ≡ false
@@ -165,7 +179,8 @@ derivable-beta theory (app (lam ty body) (free name s)) known trivial =
     let knterm_type : IsKnownType theory s = known.parts.1 in
     let typed : HasType (s ∷ []) body abstraction.0 = subst (λ (a : HolType). HasType (a ∷ []) body abstraction.0) one abstraction.1 in
     let filled = fill-known theory name s abstraction.0 body knterm_type typed known.parts.0.1 in
-    let rule : Derivable theory [] (nameless_equation abstraction.0 (app (lam s (close name s (fill (free name s) body))) (free name s)) (fill (free name s) body)) = beta_rule name s abstraction.0 (fill (free name s) body) knterm_type filled in
+    let rule : Derivable theory [] (nameless_equation abstraction.0 (app (lam s (close name s (fill (free name s) body))) (free name s)) (fill (free name s) body)) =
+    beta_rule name s abstraction.0 (fill (free name s) body) knterm_type filled in
     let closed = subst (λ (b : Nameless). Derivable theory [] (nameless_equation abstraction.0 (app (lam s b) (free name s)) (fill (free name s) body))) (close-fill name s body absent) rule in
     let here = subst (λ (a : HolType). Derivable theory [] (nameless_equation abstraction.0 (app (lam a body) (free name s)) (fill (free name s) body))) (sym one) closed in
     derivable-equation_of theory [] abstraction.0 _ _ (sym answer) here
@@ -180,15 +195,18 @@ derivable-eq_mp state sound i j i_there j_there is meet =
     let formula_type = term_type-is state.theory _ _ (formula-at state sound j j_there) in
     let formulas : side_type (conclusion_at state i) ≡ bool_type = sym left_type ∙ (ap term_type same ∙ formula_type) in
     let earlier = derivable-equation state sound i i_there is in
-    let moved = subst (λ (a : HolType). Derivable state.theory (hypotheses_at state i) (nameless_equation a (left_side (conclusion_at state i)) (right_side (conclusion_at state i)))) formulas earlier in
+    let moved = subst (λ (a : HolType). Derivable state.theory (hypotheses_at state i) (nameless_equation a (left_side (conclusion_at state i)) (right_side (conclusion_at state i))))
+    formulas earlier in
     let premise = subst (λ (p : Nameless). Derivable state.theory (hypotheses_at state j) p) (sym same) (derivable-at state sound j j_there) in
     derivable-supposing state.theory _ _ (eq_mp_rule _ _ moved premise)
 
 -- replacements
 
-term_instance_of-may : (theory : Theory) (pairs : List (Nameless × Nameless)) → All (λ pair. IsKnownTerm theory pair.0) pairs → list_all is_replacement pairs ≡ true → MayReplace theory (term_instance_of pairs)
+term_instance_of-may : (theory : Theory) (pairs : List (Nameless × Nameless)) → All (λ pair. IsKnownTerm theory pair.0) pairs → list_all is_replacement pairs ≡ true →
+    MayReplace theory (term_instance_of pairs)
 term_instance_of-may theory [] known fit name ty = inr refl
-term_instance_of-may theory (pair ∷ pairs) known fit name ty = go (same_term pair.1 (free name ty)) refl (term_instance_of-may theory pairs (All-tail (λ pair. IsKnownTerm theory pair.0) pair pairs known) (second_of_both (is_replacement pair) (list_all is_replacement pairs) fit) name ty)
+term_instance_of-may theory (pair ∷ pairs) known fit name ty = go (same_term pair.1 (free name ty)) refl
+    (term_instance_of-may theory pairs (All-tail (λ pair. IsKnownTerm theory pair.0) pair pairs known) (second_of_both (is_replacement pair) (list_all is_replacement pairs) fit) name ty)
   where
     go : (test : Bool) → same_term pair.1 (free name ty) ≡ test
         → IsKnown theory (term_instance_of pairs name ty) ty ⊎ (term_instance_of pairs name ty ≡ free name ty)
@@ -196,14 +214,16 @@ term_instance_of-may theory (pair ∷ pairs) known fit name ty = go (same_term p
         ⊎ (option_map_or (λ p. p.0) (cond test (Some pair) (find (λ p. same_term p.1 (free name ty)) pairs)) (free name ty) ≡ free name ty)
     go true is deeper =
         let old : pair.1 ≡ free name ty = (same_term-Decides pair.1 (free name ty)).0 is in
-        let types : term_type pair.0 ≡ term_type pair.1 = (type_eq-Decides _ _).0 (second_of_both (is_free_variable pair.1) (type_eq (term_type pair.0) (term_type pair.1)) (first_of_both (is_replacement pair) (list_all is_replacement pairs) fit)) in
+        let types : term_type pair.0 ≡ term_type pair.1 = (type_eq-Decides _ _).0
+        (second_of_both (is_free_variable pair.1) (type_eq (term_type pair.0) (term_type pair.1)) (first_of_both (is_replacement pair) (list_all is_replacement pairs) fit)) in
         let type_is : term_type pair.0 ≡ ty = types ∙ ap term_type old in
         inl (subst (λ (a : HolType). IsKnown theory pair.0 a) type_is (All-head (λ pair. IsKnownTerm theory pair.0) pair pairs known))
     go false is deeper = deeper
 
 type_instance_of-known : (theory : Theory) (pairs : List (HolType × HolType)) → All (λ pair. IsKnownType theory pair.0) pairs → (name : List ℕ) → IsKnownType theory (type_instance_of pairs name)
 type_instance_of-known theory [] known name = tt
-type_instance_of-known theory (pair ∷ pairs) known name = go (type_eq pair.1 (type_variable name)) (type_instance_of-known theory pairs (All-tail (λ pair. IsKnownType theory pair.0) pair pairs known) name)
+type_instance_of-known theory (pair ∷ pairs) known name = go (type_eq pair.1 (type_variable name))
+    (type_instance_of-known theory pairs (All-tail (λ pair. IsKnownType theory pair.0) pair pairs known) name)
   where
     go : (test : Bool) → IsKnownType theory (type_instance_of pairs name)
         → IsKnownType theory (option_map_or (λ p. p.0) (cond test (Some pair) (find (λ p. type_eq p.1 (type_variable name)) pairs)) (type_variable name))
@@ -294,12 +314,14 @@ derivable-rule state sound (inst_step i pairs) ok =
     let none = some_is_no_term state pairs in
     let fit = not_false (list_all is_replacement (term_pairs_at state pairs)) ok.type_fits in
     derivable-supposing state.theory _ _
-    (inst_rule (term_instance_of (term_pairs_at state pairs)) (term_instance_of-may state.theory (term_pairs_at state pairs) (new_terms-known state sound pairs (second_of_neither (is_no_theorem state i) none ok.number)) fit)
+    (inst_rule (term_instance_of (term_pairs_at state pairs)) (term_instance_of-may state.theory (term_pairs_at state pairs)
+    (new_terms-known state sound pairs (second_of_neither (is_no_theorem state i) none ok.number)) fit)
     (derivable-at state sound i (first_of_neither (is_no_theorem state i) none ok.number)))
 derivable-rule state sound (inst_type_step i pairs) ok =
     let none = some_is_no_type state pairs in
     derivable-supposing state.theory _ _
-    (inst_type_rule (type_instance_of (type_pairs_at state pairs)) (type_instance_of-known state.theory (type_pairs_at state pairs) (new_types-known state sound pairs (second_of_neither (is_no_theorem state i) none ok.number)))
+    (inst_type_rule (type_instance_of (type_pairs_at state pairs)) (type_instance_of-known state.theory (type_pairs_at state pairs)
+    (new_types-known state sound pairs (second_of_neither (is_no_theorem state i) none ok.number)))
     (derivable-at state sound i (first_of_neither (is_no_theorem state i) none ok.number)))
 derivable-rule state sound eta_step ok = derivable-supposing state.theory [] _ eta_rule
 derivable-rule state sound select_step ok = derivable-supposing state.theory _ _ select_rule
@@ -359,8 +381,10 @@ added-type : (state : LogState) → IsSoundState state → (line : LogLine) → 
 added-type state sound (type_variable_line name) ok = All-cons (IsKnownType state.theory) _ [] tt (All-nil (IsKnownType state.theory))
 added-type state sound bool_line ok = All-cons (IsKnownType state.theory) _ [] tt (All-nil (IsKnownType state.theory))
 added-type state sound (function_type_line a b) ok =
-    All-cons (IsKnownType state.theory) _ []
-    (type-known-at state sound a (first_of_neither (is_no_type state a) (is_no_type state b) ok.number), type-known-at state sound b (second_of_neither (is_no_type state a) (is_no_type state b) ok.number))
+    All-cons (IsKnownType state.theory) _ [] (
+      type-known-at state sound a (first_of_neither (is_no_type state a) (is_no_type state b) ok.number),
+      type-known-at state sound b (second_of_neither (is_no_type state a) (is_no_type state b) ok.number),
+    )
     (All-nil (IsKnownType state.theory))
 added-type state sound (declared_type_line name) ok =
     All-cons (IsKnownType state.theory) _ [] ((is_declared-Decides state.theory name).0 (not_false (is_declared state.theory name) ok.type_fits)) (All-nil (IsKnownType state.theory))
@@ -391,7 +415,8 @@ added-term state sound (combination_line f a) ok =
 added-term state sound (abstraction_line v t) ok =
     one-term state.theory (abstraction_over (term_at state v) (term_at state t))
     (abstraction-term state.theory (term_at state v) (term_at state t) (not_false (is_free_variable (term_at state v)) ok.type_fits)
-    (term-known-at state sound v (first_of_neither (is_no_term state v) (is_no_term state t) ok.number)) (term-known-at state sound t (second_of_neither (is_no_term state v) (is_no_term state t) ok.number)))
+    (term-known-at state sound v (first_of_neither (is_no_term state v) (is_no_term state t) ok.number))
+    (term-known-at state sound t (second_of_neither (is_no_term state v) (is_no_term state t) ok.number)))
 added-term state sound _ ok = All-nil (IsKnownTerm state.theory)
 
 added-theorem : (state : LogState) → IsSoundState state → (line : LogLine) → IsFaultless state line → All (IsDerivable (new_entries state line ++ state.theory)) (new_theorems state line)
@@ -427,10 +452,13 @@ after_line-sound state line none sound =
     let theory = new_entries state line ++ state.theory in
     record {
       legal = more.legal;
-      types = All-append (IsKnownType theory) state.types (new_types state line) (λ k d within. more.types _ (sound.types k d within)) (λ k d within. more.types _ (added-type state sound line ok k d within));
-      terms = All-append (IsKnownTerm theory) state.terms (new_terms state line) (λ k d within. more.terms _ _ (sound.terms k d within)) (λ k d within. more.terms _ _ (added-term state sound line ok k d within));
+      types = All-append (IsKnownType theory) state.types (new_types state line) (λ k d within. more.types _ (sound.types k d within))
+          (λ k d within. more.types _ (added-type state sound line ok k d within));
+      terms = All-append (IsKnownTerm theory) state.terms (new_terms state line) (λ k d within. more.terms _ _ (sound.terms k d within))
+          (λ k d within. more.terms _ _ (added-term state sound line ok k d within));
       theorems = All-append (IsDerivable theory) state.theorems (new_theorems state line) (λ k d within. more.sequents _ _ (sound.theorems k d within)) (added-theorem state sound line ok);
-      claims = All-append (IsDerivableClaim theory) state.claims (new_claims state line) (λ k d within. more.sequents _ _ (sound.claims k d within)) (λ k d within. more.sequents _ _ (added-claim state sound line ok k d within));
+      claims = All-append (IsDerivableClaim theory) state.claims (new_claims state line) (λ k d within. more.sequents _ _ (sound.claims k d within))
+          (λ k d within. more.sequents _ _ (added-claim state sound line ok k d within));
     }
 
 pub first_state-sound : (version : LogVersion) → IsSoundState (first_state version)

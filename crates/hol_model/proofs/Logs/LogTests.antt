@@ -157,7 +157,10 @@ close_at-fill_at name ty (bound index) passed absent = go (nat_eq index passed) 
     go true is = rw (same_variable-self name ty) (ap bound (sym (same_number index passed is)))
     go false is = refl
 close_at-fill_at name ty (app f x) passed absent =
-    cc (close_at-fill_at name ty f passed (first_of_neither (occurs_free name ty f) (occurs_free name ty x) absent), close_at-fill_at name ty x passed (second_of_neither (occurs_free name ty f) (occurs_free name ty x) absent))
+    cc (
+      close_at-fill_at name ty f passed (first_of_neither (occurs_free name ty f) (occurs_free name ty x) absent),
+      close_at-fill_at name ty x passed (second_of_neither (occurs_free name ty f) (occurs_free name ty x) absent),
+    )
 close_at-fill_at name ty (lam s b) passed absent = ap (lam s) (close_at-fill_at name ty b (suc passed) absent)
 
 pub close-fill : (name : List ℕ) (ty : HolType) (t : Nameless) → occurs_free name ty t ≡ false → close_at 0 name ty (fill_at 0 (free name ty) t) ≡ t

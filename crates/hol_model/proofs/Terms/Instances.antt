@@ -3,7 +3,8 @@ use Rattle.std.proofs.Common.{◌≡◌, ◌⊎◌, List, ℕ, Bool, true, false
 use Rattle.std.specs.Str.{bytes_eq}
 use Rattle.std.specs.Bool.{Decides}
 use Rattle.std.proofs.lemmas.Slice.Eq.{bytes_eq-Decides}
-use Rattle.hol_model.specs.Terms.HolType.{HolType, type_variable, bool_type, function_type, declared_type, TypeInstance, instantiate_type, OccursInType, part_at, first_answer, fits_generic, is_instance, IsInstance}
+use Rattle.hol_model.specs.Terms.HolType.{HolType, type_variable, bool_type, function_type, declared_type, TypeInstance, instantiate_type, OccursInType, part_at, first_answer, fits_generic}
+use Rattle.hol_model.specs.Terms.HolType.{is_instance, IsInstance}
 use Rattle.hol_model.proofs.Logic.Conditions.{if_same}
 use Rattle.hol_model.proofs.Terms.HolTypeEq.{type_eq-self}
 use Rattle.hol_model.proofs.Tests.{both}

@@ -3,7 +3,8 @@ use Rattle.std.proofs.Common.{◌≡◌, ℕ, suc, ◌+◌, ◌≤◌, ◌<◌, 
 use Rattle.std.specs.Option.{option_map, option_map_or}
 use Rattle.hol_model.specs.declared.limits.TheConstants.{TYPE_NODES_LIMIT, TERM_NODES_LIMIT, TERM_HEIGHT_LIMIT}
 use Rattle.hol_model.specs.Terms.HolType.{HolType, function_type, type_nodes}
-use Rattle.hol_model.specs.Terms.NamedTerm.{NamedTerm, variable, constant, combination, abstraction, Binder, same_variable, type_of, height, nodes, type_fits, some_type_fits, types_fit, is_within_limits}
+use Rattle.hol_model.specs.Terms.NamedTerm.{NamedTerm, variable, constant, combination, abstraction, Binder, same_variable, type_of, height, nodes, type_fits, some_type_fits, types_fit}
+use Rattle.hol_model.specs.Terms.NamedTerm.{is_within_limits}
 use Rattle.hol_model.specs.Terms.Nameless.{Nameless, free, const, bound, app, lam, HasType, image, image_under, variable_image, binder_index, nameless_type}
 use Rattle.hol_model.specs.Terms.Substitution.{close_at, close}
 use Rattle.hol_model.specs.Terms.Measures.{nameless_height, nameless_nodes, nameless_types_fit, nameless_within_limits}

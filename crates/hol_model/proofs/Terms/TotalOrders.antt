@@ -77,9 +77,11 @@ nameless-codes (free m a) (free n b) r s =
     two-codes (name_code m) (type_code a) r (name_code n) (type_code b) s (name_cmp m n) (type_cmp a b) (compare r s) (name-codes m n (type_code a ++ r) (type_code b ++ s)) (type-codes a b r s)
 nameless-codes (bound i) (bound j) r s = refl
 nameless-codes (app f x) (app g y) r s =
-    two-codes (nameless_code f) (nameless_code x) r (nameless_code g) (nameless_code y) s (nameless_cmp f g) (nameless_cmp x y) (compare r s) (nameless-codes f g (nameless_code x ++ r) (nameless_code y ++ s)) (nameless-codes x y r s)
+    two-codes (nameless_code f) (nameless_code x) r (nameless_code g) (nameless_code y) s (nameless_cmp f g) (nameless_cmp x y) (compare r s)
+    (nameless-codes f g (nameless_code x ++ r) (nameless_code y ++ s)) (nameless-codes x y r s)
 nameless-codes (lam a t) (lam b u) r s =
-    two-codes (type_code a) (nameless_code t) r (type_code b) (nameless_code u) s (type_cmp a b) (nameless_cmp t u) (compare r s) (type-codes a b (nameless_code t ++ r) (nameless_code u ++ s)) (nameless-codes t u r s)
+    two-codes (type_code a) (nameless_code t) r (type_code b) (nameless_code u) s (type_cmp a b) (nameless_cmp t u) (compare r s)
+    (type-codes a b (nameless_code t ++ r) (nameless_code u ++ s)) (nameless-codes t u r s)
 nameless-codes t u r s = refl
 
 -- an order by codes

@@ -64,4 +64,5 @@ is_unused-Decides (Some ty) = never (λ e. cc)
 pub is_new_name-Decides : (theory : Theory) (name : List ℕ) → Decides (is_new_name theory name) (IsNewName theory name)
 is_new_name-Decides theory name =
     Decides-like (is_new_name theory name) (λ p. record { no_constant = p.0; no_type = p.1 }) (λ k. (k.no_constant, k.no_type))
-    (Decides-and (not (is_some (generic_type theory name))) (not (is_declared theory name)) (is_unused-Decides (generic_type theory name)) (Decides-not (is_declared theory name) (is_declared-Decides theory name)))
+    (Decides-and (not (is_some (generic_type theory name))) (not (is_declared theory name)) (is_unused-Decides (generic_type theory name))
+    (Decides-not (is_declared theory name) (is_declared-Decides theory name)))

@@ -55,19 +55,22 @@ close_at-typed name a (bound index) binders ty h = slice_get-more binders (a ∷
 close_at-typed name a (app f x) binders ty h = (h.0, close_at-typed name a f binders (function_type h.0 ty) h.1, close_at-typed name a x binders h.0 h.2)
 close_at-typed name a (lam b t) binders ty h = (h.0, close_at-typed name a t (b ∷ binders) h.0 h.1, h.2)
 
-pub put-typed : (theta : TermInstance) → ((name : List ℕ) (a : HolType) → HasType [] (theta name a) a) → (t : Nameless) (binders : List HolType) (ty : HolType) → HasType binders t ty → HasType binders (put theta t) ty
+pub put-typed : (theta : TermInstance) → ((name : List ℕ) (a : HolType) → HasType [] (theta name a) a) → (t : Nameless) (binders : List HolType) (ty : HolType) → HasType binders t ty →
+    HasType binders (put theta t) ty
 put-typed theta fit (free name a) binders ty h = subst (λ (c : HolType). HasType binders (theta name a) c) h (HasType-more (theta name a) [] binders a (fit name a))
 put-typed theta fit (const name a) binders ty h = h
 put-typed theta fit (bound index) binders ty h = h
 put-typed theta fit (app f x) binders ty h = (h.0, put-typed theta fit f binders (function_type h.0 ty) h.1, put-typed theta fit x binders h.0 h.2)
 put-typed theta fit (lam a b) binders ty h = (h.0, put-typed theta fit b (a ∷ binders) h.0 h.1, h.2)
 
-slice_get-map : (tau : TypeInstance) (binders : List HolType) (index : ℕ) (ty : HolType) → slice_get binders index ≡ Some ty → slice_get (map (instantiate_type tau) binders) index ≡ Some (instantiate_type tau ty)
+slice_get-map : (tau : TypeInstance) (binders : List HolType) (index : ℕ) (ty : HolType) → slice_get binders index ≡ Some ty →
+    slice_get (map (instantiate_type tau) binders) index ≡ Some (instantiate_type tau ty)
 slice_get-map tau [] index ty e = cc
 slice_get-map tau (a ∷ binders) zero ty e = let same : a ≡ ty = cc in ap (λ c. Some (instantiate_type tau c)) same
 slice_get-map tau (a ∷ binders) (suc index) ty e = slice_get-map tau binders index ty e
 
-pub instantiate-typed : (tau : TypeInstance) (t : Nameless) (binders : List HolType) (ty : HolType) → HasType binders t ty → HasType (map (instantiate_type tau) binders) (instantiate tau t) (instantiate_type tau ty)
+pub instantiate-typed : (tau : TypeInstance) (t : Nameless) (binders : List HolType) (ty : HolType) → HasType binders t ty →
+    HasType (map (instantiate_type tau) binders) (instantiate tau t) (instantiate_type tau ty)
 instantiate-typed tau (free name a) binders ty h = ap (instantiate_type tau) h
 instantiate-typed tau (const name a) binders ty h = ap (instantiate_type tau) h
 instantiate-typed tau (bound index) binders ty h = slice_get-map tau binders index ty h

@@ -16,7 +16,8 @@ use Rattle.hol_model.specs.Logic.Derivable.{IsSameSet, without, nameless_equatio
 use Rattle.hol_model.specs.Kernel.Outcome.{unless, given, refused}
 use Rattle.hol_model.specs.Kernel.Theorem.{Theorem, are_alpha_equivalent}
 use Rattle.hol_model.specs.Kernel.Rules.{first_unknown, dest_equation, is_formula}
-use Rattle.hol_model.specs.Logic.NamedLogic.{true_term, false_term, conjunction, implication, disjunction, negation, forall_term, is_true, is_false, dest_conjunction, dest_implication, dest_disjunction, dest_negation, Abstracted, dest_forall, dest_exists, dest_redex}
+use Rattle.hol_model.specs.Logic.NamedLogic.{true_term, false_term, conjunction, implication, disjunction, negation, forall_term, is_true, is_false, dest_conjunction, dest_implication}
+use Rattle.hol_model.specs.Logic.NamedLogic.{dest_disjunction, dest_negation, Abstracted, dest_forall, dest_exists, dest_redex}
 
 -- ---- stated sequents
 

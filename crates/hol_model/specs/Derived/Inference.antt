@@ -15,8 +15,12 @@ use Rattle.hol_model.specs.Logic.Checks.{knows_nameless}
 use Rattle.hol_model.specs.Kernel.Rules.{dest_trivial_redex}
 use Rattle.hol_model.specs.Derived.DerivedRules.{is_among}
 use Rattle.hol_model.specs.Goals.Goals.{Sequent}
-use Rattle.hol_model.specs.Logic.NamelessLogic.{disjunction, negation, dest_equation, dest_equivalence, dest_conjunction, dest_disjunction, dest_implication, dest_negation, dest_forall, dest_exists, dest_redex}
-use Rattle.hol_model.specs.Derived.InferenceRules.{InferenceRule, rule_refl, rule_trans, rule_mk_comb, rule_abs, rule_beta, rule_assume, rule_eq_mp, rule_deduct_antisym, rule_inst, rule_inst_type, rule_eta_axiom, rule_select_axiom, rule_sym, rule_add_assum, rule_prove_hyp, rule_eqt_intro, rule_eqt_elim, rule_beta_conv, rule_conj, rule_conjunct1, rule_conjunct2, rule_disch, rule_undisch, rule_mp, rule_spec, rule_gen, rule_disj1, rule_disj2, rule_disj_cases, rule_contr, rule_not_intro, rule_not_elim, rule_exists, rule_choose}
+use Rattle.hol_model.specs.Logic.NamelessLogic.{disjunction, negation, dest_equation, dest_equivalence, dest_conjunction, dest_disjunction, dest_implication, dest_negation, dest_forall}
+use Rattle.hol_model.specs.Logic.NamelessLogic.{dest_exists, dest_redex}
+use Rattle.hol_model.specs.Derived.InferenceRules.{InferenceRule, rule_refl, rule_trans, rule_mk_comb, rule_abs, rule_beta, rule_assume, rule_eq_mp, rule_deduct_antisym, rule_inst}
+use Rattle.hol_model.specs.Derived.InferenceRules.{rule_inst_type, rule_eta_axiom, rule_select_axiom, rule_sym, rule_add_assum, rule_prove_hyp, rule_eqt_intro, rule_eqt_elim, rule_beta_conv}
+use Rattle.hol_model.specs.Derived.InferenceRules.{rule_conj, rule_conjunct1, rule_conjunct2, rule_disch, rule_undisch, rule_mp, rule_spec, rule_gen, rule_disj1, rule_disj2, rule_disj_cases}
+use Rattle.hol_model.specs.Derived.InferenceRules.{rule_contr, rule_not_intro, rule_not_elim, rule_exists, rule_choose}
 
 -- which hypotheses of a premise pass, and as what
 pub record Passing : Type 0 where

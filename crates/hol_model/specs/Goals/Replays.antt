@@ -14,7 +14,8 @@ use Rattle.hol_model.specs.Logic.Logic.{false_term}
 use Rattle.hol_model.specs.Kernel.Theorem.{Theorem, IsTheorem}
 use Rattle.hol_model.specs.Derived.DerivedRules.{is_roomy}
 use Rattle.hol_model.specs.Goals.Goals.{Sequent, Goal}
-use Rattle.hol_model.specs.Derived.InferenceRules.{InferenceRule, rule_refl, rule_abs, rule_beta, rule_assume, rule_inst, rule_add_assum, rule_beta_conv, rule_disch, rule_spec, rule_gen, rule_disj1, rule_disj2, rule_contr, rule_exists, rule_choose}
+use Rattle.hol_model.specs.Derived.InferenceRules.{InferenceRule, rule_refl, rule_abs, rule_beta, rule_assume, rule_inst, rule_add_assum, rule_beta_conv, rule_disch, rule_spec, rule_gen}
+use Rattle.hol_model.specs.Derived.InferenceRules.{rule_disj1, rule_disj2, rule_contr, rule_exists, rule_choose}
 use Rattle.hol_model.specs.Goals.Justifications.{Justification, sub, named, lemma, by_rule, Parts, no_parts, part, NamedSequents, sequent_over, Subgoals, sequent_of}
 use Rattle.hol_model.specs.Goals.ValidSteps.{Step, supposed, false_twice}
 

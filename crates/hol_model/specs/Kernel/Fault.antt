@@ -1,7 +1,10 @@
 -- The number and the name by which a program reports a refusal.
 use Rattle.std.specs.Prelude.{ℕ, List, codes}
 use Rattle.hol_model.specs.declared.fault.Fault.{Fault}
-use Rattle.hol_model.specs.declared.fault.Fault.TheVariants.{Memory, TooLarge, BadName, TypeMismatch, UnknownConst, NotInstance, NotBool, NotEquation, NotAlpha, NotVariable, FreeInHypothesis, NotTrivialBeta, NotClosed, TypeVarsNotReflected, AlreadyDefined, BadShape, ConvFails, RefineFails, LengthMismatch, StepLimit, UnknownName, NoGoal, GoalsRemain, NothingToUndo, InvalidStep, NotTautology, TooManyAtoms, Syntax, NameTaken, LogFault, ReadFault, WriteFault, TooLong, NoMatch, UnknownType}
+use Rattle.hol_model.specs.declared.fault.Fault.TheVariants.{Memory, TooLarge, BadName, TypeMismatch, UnknownConst, NotInstance, NotBool, NotEquation, NotAlpha, NotVariable, FreeInHypothesis}
+use Rattle.hol_model.specs.declared.fault.Fault.TheVariants.{NotTrivialBeta, NotClosed, TypeVarsNotReflected, AlreadyDefined, BadShape, ConvFails, RefineFails, LengthMismatch, StepLimit}
+use Rattle.hol_model.specs.declared.fault.Fault.TheVariants.{UnknownName, NoGoal, GoalsRemain, NothingToUndo, InvalidStep, NotTautology, TooManyAtoms, Syntax, NameTaken, LogFault, ReadFault}
+use Rattle.hol_model.specs.declared.fault.Fault.TheVariants.{WriteFault, TooLong, NoMatch, UnknownType}
 
 abbrev pub number_of : Fault → ℕ
 number_of Memory = 1

@@ -5,7 +5,8 @@ use Rattle.std.specs.Option.{option_map_or, is_some}
 use Rattle.std.specs.List.{list_any}
 use Rattle.std.specs.Str.{bytes_eq}
 use Rattle.hol_model.specs.declared.fault.Fault.{Fault}
-use Rattle.hol_model.specs.declared.fault.Fault.TheVariants.{TooLarge, TypeMismatch, UnknownConst, NotInstance, NotBool, NotEquation, NotAlpha, NotVariable, FreeInHypothesis, NotTrivialBeta, UnknownType, BadName, NotClosed, TypeVarsNotReflected, AlreadyDefined}
+use Rattle.hol_model.specs.declared.fault.Fault.TheVariants.{TooLarge, TypeMismatch, UnknownConst, NotInstance, NotBool, NotEquation, NotAlpha, NotVariable, FreeInHypothesis, NotTrivialBeta}
+use Rattle.hol_model.specs.declared.fault.Fault.TheVariants.{UnknownType, BadName, NotClosed, TypeVarsNotReflected, AlreadyDefined}
 use Rattle.hol_model.specs.Terms.HolType.{HolType, bool_type, type_eq}
 use Rattle.hol_model.specs.Terms.NamedTerm.{NamedTerm, variable, constant, combination, abstraction, type_of, same_variable, is_free, dest_variable, abstract, equation, is_within_limits}
 use Rattle.hol_model.specs.declared.limits.TheConstants.{DEFINITIONS_LIMIT}

@@ -60,15 +60,20 @@ select_conclusion = app select_predicate (app (const choice_name (choice_type ty
 pub data Derivable (theory : Theory) : List Nameless → Nameless → Type 0 where
   same_hypotheses : {h k : List Nameless} {c : Nameless} → Derivable theory h c → IsSameSet h k → Derivable theory k c
   refl_rule : (t : Nameless) (ty : HolType) → IsKnown theory t ty → Derivable theory [] (nameless_equation ty t t)
-  trans_rule : {h k : List Nameless} (ty : HolType) (a b c : Nameless) → Derivable theory h (nameless_equation ty a b) → Derivable theory k (nameless_equation ty b c) → Derivable theory (h ++ k) (nameless_equation ty a c)
-  mk_comb_rule : {h k : List Nameless} (domain codomain : HolType) (f g x y : Nameless) → Derivable theory h (nameless_equation (function_type domain codomain) f g) → Derivable theory k (nameless_equation domain x y) → Derivable theory (h ++ k) (nameless_equation codomain (app f x) (app g y))
-  abs_rule : {h : List Nameless} (name : List ℕ) (domain codomain : HolType) (s t : Nameless) → IsKnownType theory domain → NotFreeInAny name domain h → Derivable theory h (nameless_equation codomain s t) → Derivable theory h (nameless_equation (function_type domain codomain) (lam domain (close name domain s)) (lam domain (close name domain t)))
-  beta_rule : (name : List ℕ) (domain codomain : HolType) (t : Nameless) → IsKnownType theory domain → IsKnown theory t codomain → Derivable theory [] (nameless_equation codomain (app (lam domain (close name domain t)) (free name domain)) t)
+  trans_rule : {h k : List Nameless} (ty : HolType) (a b c : Nameless) → Derivable theory h (nameless_equation ty a b) → Derivable theory k (nameless_equation ty b c) →
+      Derivable theory (h ++ k) (nameless_equation ty a c)
+  mk_comb_rule : {h k : List Nameless} (domain codomain : HolType) (f g x y : Nameless) → Derivable theory h (nameless_equation (function_type domain codomain) f g) →
+      Derivable theory k (nameless_equation domain x y) → Derivable theory (h ++ k) (nameless_equation codomain (app f x) (app g y))
+  abs_rule : {h : List Nameless} (name : List ℕ) (domain codomain : HolType) (s t : Nameless) → IsKnownType theory domain → NotFreeInAny name domain h →
+      Derivable theory h (nameless_equation codomain s t) → Derivable theory h (nameless_equation (function_type domain codomain) (lam domain (close name domain s)) (lam domain (close name domain t)))
+  beta_rule : (name : List ℕ) (domain codomain : HolType) (t : Nameless) → IsKnownType theory domain → IsKnown theory t codomain →
+      Derivable theory [] (nameless_equation codomain (app (lam domain (close name domain t)) (free name domain)) t)
   assume_rule : (p : Nameless) → IsKnown theory p bool_type → Derivable theory (p ∷ []) p
   eq_mp_rule : {h k : List Nameless} (p q : Nameless) → Derivable theory h (nameless_equation bool_type p q) → Derivable theory k p → Derivable theory (h ++ k) q
   deduct_antisym_rule : {h k : List Nameless} (p q : Nameless) → Derivable theory h p → Derivable theory k q → Derivable theory (without q h ++ without p k) (nameless_equation bool_type p q)
   inst_rule : {h : List Nameless} {c : Nameless} (theta : TermInstance) → MayReplace theory theta → Derivable theory h c → Derivable theory (map (put theta) h) (put theta c)
-  inst_type_rule : {h : List Nameless} {c : Nameless} (tau : TypeInstance) → ((name : List ℕ) → IsKnownType theory (tau name)) → Derivable theory h c → Derivable theory (map (instantiate tau) h) (instantiate tau c)
+  inst_type_rule : {h : List Nameless} {c : Nameless} (tau : TypeInstance) → ((name : List ℕ) → IsKnownType theory (tau name)) → Derivable theory h c →
+      Derivable theory (map (instantiate tau) h) (instantiate tau c)
   eta_rule : Derivable theory [] eta_axiom
   select_rule : Derivable theory (select_hypothesis ∷ []) select_conclusion
   definition_rule : (name : List ℕ) (ty : HolType) (body : Nameless) → IsMember (definition name ty body) theory → Derivable theory [] (nameless_equation ty (const name ty) body)

@@ -9,8 +9,10 @@ use Rattle.hol_model.specs.Logic.Theory.{Theory, definition, declaration_of_type
 use Rattle.hol_model.specs.Logic.Derivable.{nameless_equation, without, eta_axiom, select_hypothesis, select_conclusion}
 use Rattle.hol_model.specs.Goals.Goals.{Sequent}
 use Rattle.hol_model.specs.Logs.LogLine.{LogRule, LogLine}
-use Rattle.hol_model.specs.Logs.LogLine.LogRule.{refl_step, trans_step, mk_comb_step, abs_step, beta_step, assume_step, eq_mp_step, deduct_step, inst_step, inst_type_step, eta_step, select_step, definition_step}
-use Rattle.hol_model.specs.Logs.LogLine.LogLine.{type_variable_line, bool_line, function_type_line, declared_type_line, variable_line, constant_line, combination_line, abstraction_line, new_type_line, new_constant_line, theorem_line, claim_line, end_line}
+use Rattle.hol_model.specs.Logs.LogLine.LogRule.{refl_step, trans_step, mk_comb_step, abs_step, beta_step, assume_step, eq_mp_step, deduct_step, inst_step, inst_type_step, eta_step, select_step}
+use Rattle.hol_model.specs.Logs.LogLine.LogRule.{definition_step}
+use Rattle.hol_model.specs.Logs.LogLine.LogLine.{type_variable_line, bool_line, function_type_line, declared_type_line, variable_line, constant_line, combination_line, abstraction_line}
+use Rattle.hol_model.specs.Logs.LogLine.LogLine.{new_type_line, new_constant_line, theorem_line, claim_line, end_line}
 use Rattle.hol_model.specs.Logs.LogState.{LogState, LogClaim, set_of, type_at, term_at, conclusion_at, hypotheses_at, term_type, type_of_term_at, terms_at, term_pairs_at, type_pairs_at}
 
 -- forms of terms

@@ -19,7 +19,8 @@ use Rattle.hol_model.specs.Kernel.Rules.{dest_equation, is_formula}
 use Rattle.hol_model.specs.Derived.DerivedRules.{Stated, States, Conclusion, named, up_to_names, IsConclusion, body_with, is_of_type}
 use Rattle.hol_model.specs.Logic.Derivable.{nameless_equation}
 use Rattle.hol_model.specs.Goals.Goals.{Goal}
-use Rattle.hol_model.specs.Derived.InferenceRules.{rule_refl, rule_assume, rule_eq_mp, rule_deduct_antisym, rule_sym, rule_prove_hyp, rule_eqt_elim, rule_conj, rule_disch, rule_undisch, rule_mp, rule_gen, rule_disj1, rule_disj2, rule_disj_cases, rule_not_intro, rule_exists, rule_choose}
+use Rattle.hol_model.specs.Derived.InferenceRules.{rule_refl, rule_assume, rule_eq_mp, rule_deduct_antisym, rule_sym, rule_prove_hyp, rule_eqt_elim, rule_conj, rule_disch, rule_undisch, rule_mp}
+use Rattle.hol_model.specs.Derived.InferenceRules.{rule_gen, rule_disj1, rule_disj2, rule_disj_cases, rule_not_intro, rule_exists, rule_choose}
 use Rattle.hol_model.specs.Goals.Justifications as tree
 use Rattle.hol_model.specs.Goals.Justifications.{Justification, by_rule, Parts, no_parts, part}
 use Rattle.hol_model.specs.Goals.ValidSteps.{Step}

@@ -9,7 +9,8 @@ use Rattle.hol_model.specs.Terms.NamedTerm.{NamedTerm, variable, constant, combi
 use Rattle.hol_model.specs.Logic.Theory.{choice_name, choice_type}
 use Rattle.hol_model.specs.Texts.Token.{token_text}
 use Rattle.hol_model.specs.Texts.TypeGrammar.{TypeTree, Named, Enclosed, Function}
-use Rattle.hol_model.specs.Texts.TermGrammar.{Infix, IffInfix, ImpliesInfix, OrInfix, AndInfix, EqualInfix, Binder, Lambda, ForAll, Exists, Choice, Atom, Bare, Variable, Constant, TermTree, Leaf, Apply, Not, Join, Bind}
+use Rattle.hol_model.specs.Texts.TermGrammar.{Infix, IffInfix, ImpliesInfix, OrInfix, AndInfix, EqualInfix, Binder, Lambda, ForAll, Exists, Choice, Atom, Bare, Variable, Constant, TermTree, Leaf}
+use Rattle.hol_model.specs.Texts.TermGrammar.{Apply, Not, Join, Bind}
 use Rattle.hol_model.specs.Texts.TermGrammar.{Enclosed as EnclosedTerm}
 
 -- What the names of a text stand for: the constants with their generic types, the declared variables and the declared types.

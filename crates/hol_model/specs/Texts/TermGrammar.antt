@@ -1,7 +1,8 @@
 -- The grammar of terms. Levels are those of the printer of HOL Light's infixes, as the format fixes them.
 use Rattle.std.specs.Prelude.{◌≡◌, ℕ, ◌+◌, ◌<◌, ◌≤◌, List, [], ◌∷◌, max}
 use Rattle.hol_model.specs.declared.symbol.Symbol.{Symbol}
-use Rattle.hol_model.specs.declared.symbol.Symbol.TheVariants.{Iff, Implies, And, Or, Equal, Backslash, Exclamation, Question, At, Tilde, OpenParenthesis, CloseParenthesis, OpenBracket, CloseBracket, Colon, Dot}
+use Rattle.hol_model.specs.declared.symbol.Symbol.TheVariants.{Iff, Implies, And, Or, Equal, Backslash, Exclamation, Question, At, Tilde, OpenParenthesis, CloseParenthesis, OpenBracket}
+use Rattle.hol_model.specs.declared.symbol.Symbol.TheVariants.{CloseBracket, Colon, Dot}
 use Rattle.hol_model.specs.declared.limits.TheConstants.{TYPE_NESTING_LIMIT, TERM_NESTING_LIMIT}
 use Rattle.hol_model.specs.Texts.Token.{Token, Name, Mark}
 use Rattle.hol_model.specs.Texts.TypeGrammar.{TypeTree, IsTypeTree, type_tokens, type_depth}

@@ -34,7 +34,8 @@ returns-in-Ok-None-clause-refused g c = λ input unread.
 
 pub returns-in-Ok-None-clause-too_long : goal.returns-in-Ok-None-clause-too_long
 returns-in-Ok-None-clause-too_long g c = λ input unread wrong.
-    c.refuse.ensures.too_long input (([] ++ c.next_line.new.line.items) ++ line_feed ∷ []) (rw c.if-not-is_line-2.false at (c.in-Ok.ensures.read input [] unread)) (fault_is c.refuse.result TooLong wrong)
+    c.refuse.ensures.too_long input (([] ++ c.next_line.new.line.items) ++ line_feed ∷ []) (rw c.if-not-is_line-2.false at (c.in-Ok.ensures.read input [] unread))
+    (fault_is c.refuse.result TooLong wrong)
 
 pub returns-in-Err-clause-memory : goal.returns-in-Err-clause-memory
 returns-in-Err-clause-memory g c = λ input unread wants. c.in-Err.ensures.memory input [] unread (ap Err (fault_is c.in-Err.fault Memory wants))

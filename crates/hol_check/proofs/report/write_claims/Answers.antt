@@ -13,5 +13,6 @@ loop-claim-preserved g c =
 
 pub returns-in-Err-clause-err : goal.returns-in-Err-clause-err
 returns-in-Err-clause-err g c =
-    let line = subst (λ (claim : LogClaim). AppendsFront (g.W.Sink.contents c.loop-claim.writer) (g.W.Sink.contents c.write_claim.new.writer) (claim_line claim)) c.claim-item.is c.in-Err.ensures.err in
+    let line = subst (λ (claim : LogClaim). AppendsFront (g.W.Sink.contents c.loop-claim.writer) (g.W.Sink.contents c.write_claim.new.writer) (claim_line claim)) c.claim-item.is
+    c.in-Err.ensures.err in
     line_broken claim_line _ _ _ c.args.claims.now c.loop-claim.claim-index c.claim-item.result c.loop-claim-test.true c.loop-claim.invariant.0 line

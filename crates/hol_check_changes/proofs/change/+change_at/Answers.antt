@@ -3,21 +3,25 @@ use Rattle.hol_model.specs.Terms.Nameless.{Nameless, app, lam}
 use Rattle.hol_model.specs.Terms.Measures.{nameless_height}
 use Rattle.hol_check_terms.specs.Terms.{term_at, type_at}
 use Rattle.hol_check_terms.proofs.TableLemmas.{is_within}
-use Rattle.hol_check_changes.proofs.ChangeLemmas.{answers-spared, answers-known, answers-leaf, refused-function, refused-argument, refused-body, refused-binder, held-after-type, answers-refused, answers-made, application-parts, abstraction-parts, under-is, inside-bound}
+use Rattle.hol_check_changes.proofs.ChangeLemmas.{answers-spared, answers-known, answers-leaf, refused-function, refused-argument, refused-body, refused-binder, held-after-type, answers-refused}
+use Rattle.hol_check_changes.proofs.ChangeLemmas.{answers-made, application-parts, abstraction-parts, under-is, inside-bound}
 use Rattle.hol_check_terms.proofs.GrowthLemmas.{type-within, within-grown, term-grown, IsGrown-trans}
 use Rattle.hol_check_changes.proofs.change.«+change_at».Goals as goal
 
 pub returns-then-has_no_free-clause-changed : goal.returns-then-has_no_free-clause-changed
 returns-then-has_no_free-clause-changed t c = λ meaning held.
-    answers-spared c.args.terms.now c.args.change.now c.args.parts.now.entries c.args.types.now.entries meaning c.args.passed c.args.number c.requires.number (sym c.spares.ensures ∙ c.if-spares.true) (sym c.has_no_free.ensures ∙ c.if-has_no_free.true) held
+    answers-spared c.args.terms.now c.args.change.now c.args.parts.now.entries c.args.types.now.entries meaning c.args.passed c.args.number c.requires.number
+    (sym c.spares.ensures ∙ c.if-spares.true) (sym c.has_no_free.ensures ∙ c.if-has_no_free.true) held
 
 pub returns-in-Free-clause-changed : goal.returns-in-Free-clause-changed
 returns-in-Free-clause-changed t c = λ meaning held.
-    answers-leaf c.args.terms.now c.change_free.new.terms c.args.change.now c.args.parts.now.entries c.args.types.now.entries c.change_free.new.types.entries meaning _ c.change_free.result c.change_free.ensures.grows held (c.change_free.ensures.changed meaning held.held)
+    answers-leaf c.args.terms.now c.change_free.new.terms c.args.change.now c.args.parts.now.entries c.args.types.now.entries c.change_free.new.types.entries meaning _ c.change_free.result
+    c.change_free.ensures.grows held (c.change_free.ensures.changed meaning held.held)
 
 pub returns-in-Constant-clause-changed : goal.returns-in-Constant-clause-changed
 returns-in-Constant-clause-changed t c = λ meaning held.
-    answers-leaf c.args.terms.now c.change_constant.new.terms c.args.change.now c.args.parts.now.entries c.args.types.now.entries c.change_constant.new.types.entries meaning _ c.change_constant.result c.change_constant.ensures.grows held (c.change_constant.ensures.changed meaning held.held)
+    answers-leaf c.args.terms.now c.change_constant.new.terms c.args.change.now c.args.parts.now.entries c.args.types.now.entries c.change_constant.new.types.entries meaning _
+    c.change_constant.result c.change_constant.ensures.grows held (c.change_constant.ensures.changed meaning held.held)
 
 -- combinations
 
@@ -28,7 +32,8 @@ returns-in-Some-clause-changed t c = λ meaning held.
 pub returns-in-Err-clause-changed : goal.returns-in-Err-clause-changed
 returns-in-Err-clause-changed t c = λ meaning held.
     let terms = c.args.terms.now.terms in
-    refused-function meaning c.args.passed (term_at terms c.args.number) (term_at terms c.in-Application.function) (term_at terms c.in-Application.argument) c.in-Application.ensures.shape c.in-Err.fault
+    refused-function meaning c.args.passed (term_at terms c.args.number) (term_at terms c.in-Application.function) (term_at terms c.in-Application.argument) c.in-Application.ensures.shape
+    c.in-Err.fault
     c.change_at.new.terms c.args.change.now c.change_at.new.parts.entries c.change_at.new.types.entries (c.in-Err.ensures.changed meaning held)
 
 pub change_at-requires-in-Application : goal.change_at-requires-in-Application
@@ -40,7 +45,8 @@ change_at-requires-in-Application t c =
     let known : c.args.number < length t0.terms = c.requires.number in
     let within : c.in-Application.argument < length t0.terms = omega arith in
     let same = term-grown t0 t1 c.in-Application.argument grown within in
-    let shallow : c.args.passed + nameless_height (term_at t0.terms c.in-Application.argument) ≤ 2000 = let whole = c.requires.shallow in let height = ap nameless_height c.in-Application.ensures.shape in omega arith in
+    let shallow : c.args.passed + nameless_height (term_at t0.terms c.in-Application.argument) ≤ 2000 = let whole = c.requires.shallow in let height =
+    ap nameless_height c.in-Application.ensures.shape in omega arith in
     let work = c.requires.work in (
       omega arith,
       (
@@ -61,8 +67,10 @@ returns-in-Err-change_at-clause-changed t c = λ meaning held.
     let within : c.in-Application.argument < length t0.terms = omega arith in
     let first = c.in-Ok.ensures.changed meaning held in
     refused-argument meaning c.args.passed (term_at t0.terms c.args.number) (term_at t0.terms c.in-Application.function) (term_at t1.terms c.in-Application.argument)
-    (c.in-Application.ensures.shape ∙ ap (app (term_at t0.terms c.in-Application.function)) (sym (term-grown t0 t1 c.in-Application.argument c.change_at.ensures.grows within))) c.in-Err-change_at.fault
-    c.change_at-in-Application.new.terms c.args.change.now c.change_at-in-Application.new.parts.entries c.change_at-in-Application.new.types.entries (c.in-Err-change_at.ensures.changed meaning first.held)
+    (c.in-Application.ensures.shape ∙ ap (app (term_at t0.terms c.in-Application.function)) (sym (term-grown t0 t1 c.in-Application.argument c.change_at.ensures.grows within)))
+    c.in-Err-change_at.fault
+    c.change_at-in-Application.new.terms c.args.change.now c.change_at-in-Application.new.parts.entries c.change_at-in-Application.new.types.entries
+    (c.in-Err-change_at.ensures.changed meaning first.held)
 
 pub application-requires-clause-function : goal.application-requires-clause-function
 application-requires-clause-function t c =
@@ -87,10 +95,13 @@ returns-in-Ok-application-clause-changed t c = λ meaning held.
     let first = c.in-Ok.ensures.changed meaning held in
     let second = c.in-Ok-change_at.ensures.changed meaning first.held in
     let shape = c.in-Application.ensures.shape ∙ ap (app (term_at t0.terms c.in-Application.function)) (sym (term-grown t0 t1 c.in-Application.argument c.change_at.ensures.grows within)) in
-    let parts = application-parts t1 t2 meaning c.args.passed (term_at t0.terms c.args.number) (term_at t0.terms c.in-Application.function) (term_at t1.terms c.in-Application.argument) c.in-Ok.new_function c.in-Ok-change_at.new_argument
+    let parts = application-parts t1 t2 meaning c.args.passed (term_at t0.terms c.args.number) (term_at t0.terms c.in-Application.function) (term_at t1.terms c.in-Application.argument)
+    c.in-Ok.new_function c.in-Ok-change_at.new_argument
     c.change_at-in-Application.ensures.grows shape first.answered.number second.answered.number in
-    answers-made t0 t2 t3 c.args.change.now c.change_at-in-Application.new.parts.entries c.remember.new.parts.entries c.change_at-in-Application.new.types.entries meaning c.args.passed c.args.number _ c.in-Ok-application.new c.remember.result
-    (IsGrown-trans t0 t1 t3 c.change_at.ensures.grows (IsGrown-trans t1 t2 t3 c.change_at-in-Application.ensures.grows c.application.ensures.grows)) c.application.ensures.grows c.requires.number parts c.in-Ok-application.ensures.number second.held
+    answers-made t0 t2 t3 c.args.change.now c.change_at-in-Application.new.parts.entries c.remember.new.parts.entries c.change_at-in-Application.new.types.entries meaning c.args.passed
+    c.args.number _ c.in-Ok-application.new c.remember.result
+    (IsGrown-trans t0 t1 t3 c.change_at.ensures.grows (IsGrown-trans t1 t2 t3 c.change_at-in-Application.ensures.grows c.application.ensures.grows)) c.application.ensures.grows
+    c.requires.number parts c.in-Ok-application.ensures.number second.held
     c.remember.ensures.new c.remember.ensures.refused c.remember.ensures.added
 
 pub returns-in-Err-application-clause-changed : goal.returns-in-Err-application-clause-changed
@@ -105,9 +116,11 @@ returns-in-Err-application-clause-changed t c = λ meaning held.
     let first = c.in-Ok.ensures.changed meaning held in
     let second = c.in-Ok-change_at.ensures.changed meaning first.held in
     let shape = c.in-Application.ensures.shape ∙ ap (app (term_at t0.terms c.in-Application.function)) (sym (term-grown t0 t1 c.in-Application.argument c.change_at.ensures.grows within)) in
-    let parts = application-parts t1 t2 meaning c.args.passed (term_at t0.terms c.args.number) (term_at t0.terms c.in-Application.function) (term_at t1.terms c.in-Application.argument) c.in-Ok.new_function c.in-Ok-change_at.new_argument
+    let parts = application-parts t1 t2 meaning c.args.passed (term_at t0.terms c.args.number) (term_at t0.terms c.in-Application.function) (term_at t1.terms c.in-Application.argument)
+    c.in-Ok.new_function c.in-Ok-change_at.new_argument
     c.change_at-in-Application.ensures.grows shape first.answered.number second.answered.number in
-    answers-refused t2 t3 c.args.change.now c.change_at-in-Application.new.parts.entries c.change_at-in-Application.new.types.entries meaning _ _ c.in-Err-application.fault c.application.ensures.grows parts c.in-Err-application.ensures.refused second.held
+    answers-refused t2 t3 c.args.change.now c.change_at-in-Application.new.parts.entries c.change_at-in-Application.new.types.entries meaning _ _ c.in-Err-application.fault
+    c.application.ensures.grows parts c.in-Err-application.ensures.refused second.held
 
 -- abstractions
 
@@ -118,7 +131,8 @@ returns-in-Some-recall-clause-changed t c = λ meaning held.
 pub returns-in-Err-change_type-clause-changed : goal.returns-in-Err-change_type-clause-changed
 returns-in-Err-change_type-clause-changed t c = λ meaning held.
     let t0 = c.args.terms.now in
-    refused-binder meaning c.args.passed (term_at t0.terms c.args.number) (type_at t0.types c.in-Abstraction.ty) (term_at t0.terms c.in-Abstraction.body) c.in-Abstraction.ensures.shape c.in-Err-change_type.fault t0 c.change_type.new.terms c.args.change.now
+    refused-binder meaning c.args.passed (term_at t0.terms c.args.number) (type_at t0.types c.in-Abstraction.ty) (term_at t0.terms c.in-Abstraction.body) c.in-Abstraction.ensures.shape
+    c.in-Err-change_type.fault t0 c.change_type.new.terms c.args.change.now
     c.args.parts.now.entries c.args.types.now.entries c.change_type.new.types.entries c.change_type.ensures.grows held (c.in-Err-change_type.ensures.changed meaning held.held)
 
 pub change_at-requires-in-Abstraction : goal.change_at-requires-in-Abstraction
@@ -131,9 +145,11 @@ change_at-requires-in-Abstraction t c =
     let within : c.in-Abstraction.body < length t0.terms = omega arith in
     let same = term-grown t0 t1 c.in-Abstraction.body grown within in
     let inside : c.deeper-inside.result ≤ c.args.passed + 1 = inside-bound c.args.change.now c.args.passed c.deeper-inside.result c.deeper-inside.ensures in
-    let shallow : c.deeper-inside.result + nameless_height (term_at t0.terms c.in-Abstraction.body) ≤ 2000 = let whole = c.requires.shallow in let height = ap nameless_height c.in-Abstraction.ensures.shape in omega arith in
+    let shallow : c.deeper-inside.result + nameless_height (term_at t0.terms c.in-Abstraction.body) ≤ 2000 = let whole = c.requires.shallow in let height =
+    ap nameless_height c.in-Abstraction.ensures.shape in omega arith in
     let work = c.requires.work in
-    let after = held-after-type work.meaning t0 t1 c.args.change.now c.args.parts.now.entries c.args.types.now.entries c.change_type.new.types.entries grown work.held (c.change_type.ensures.changed work.meaning work.held.held).held in (
+    let after = held-after-type work.meaning t0 t1 c.args.change.now c.args.parts.now.entries c.args.types.now.entries c.change_type.new.types.entries grown work.held
+    (c.change_type.ensures.changed work.meaning work.held.held).held in (
       omega arith,
       (
         within-grown t0 t1 c.in-Abstraction.body grown within,
@@ -152,9 +168,12 @@ returns-in-Err-change_at-2-clause-changed t c = λ meaning held.
     let known : c.args.number < length t0.terms = c.requires.number in
     let within : c.in-Abstraction.body < length t0.terms = omega arith in
     let same = term-grown t0 t1 c.in-Abstraction.body c.change_type.ensures.grows within in
-    let after = held-after-type meaning t0 t1 c.args.change.now c.args.parts.now.entries c.args.types.now.entries c.change_type.new.types.entries c.change_type.ensures.grows held (c.in-Ok-change_type.ensures.changed meaning held.held).held in
-    refused-body meaning c.args.passed c.deeper-inside.result (term_at t0.terms c.args.number) (type_at t0.types c.in-Abstraction.ty) (term_at t1.terms c.in-Abstraction.body) (c.in-Abstraction.ensures.shape ∙ ap (lam (type_at t0.types c.in-Abstraction.ty)) (sym same))
-    (under-is t0 c.args.change.now meaning held.held.meant c.args.passed c.deeper-inside.result c.deeper-inside.ensures) c.in-Err-change_at-2.fault c.change_at-in-Abstraction.new.terms c.args.change.now c.change_at-in-Abstraction.new.parts.entries c.change_at-in-Abstraction.new.types.entries
+    let after = held-after-type meaning t0 t1 c.args.change.now c.args.parts.now.entries c.args.types.now.entries c.change_type.new.types.entries c.change_type.ensures.grows held
+    (c.in-Ok-change_type.ensures.changed meaning held.held).held in
+    refused-body meaning c.args.passed c.deeper-inside.result (term_at t0.terms c.args.number) (type_at t0.types c.in-Abstraction.ty) (term_at t1.terms c.in-Abstraction.body)
+    (c.in-Abstraction.ensures.shape ∙ ap (lam (type_at t0.types c.in-Abstraction.ty)) (sym same))
+    (under-is t0 c.args.change.now meaning held.held.meant c.args.passed c.deeper-inside.result c.deeper-inside.ensures) c.in-Err-change_at-2.fault c.change_at-in-Abstraction.new.terms
+    c.args.change.now c.change_at-in-Abstraction.new.parts.entries c.change_at-in-Abstraction.new.types.entries
     (c.in-Err-change_at-2.ensures.changed meaning after)
 
 pub abstraction-requires-clause-ty : goal.abstraction-requires-clause-ty
@@ -166,7 +185,8 @@ abstraction-requires-clause-ty t c =
 pub abstraction-requires-clause-body : goal.abstraction-requires-clause-body
 abstraction-requires-clause-body t c =
     let work = c.requires.work in
-    let after = held-after-type work.meaning c.args.terms.now c.change_type.new.terms c.args.change.now c.args.parts.now.entries c.args.types.now.entries c.change_type.new.types.entries c.change_type.ensures.grows work.held (c.in-Ok-change_type.ensures.changed work.meaning work.held.held).held in
+    let after = held-after-type work.meaning c.args.terms.now c.change_type.new.terms c.args.change.now c.args.parts.now.entries c.args.types.now.entries c.change_type.new.types.entries
+    c.change_type.ensures.grows work.held (c.in-Ok-change_type.ensures.changed work.meaning work.held.held).held in
     is_within _ c.in-Ok-change_at-2.new_body _ (c.in-Ok-change_at-2.ensures.changed work.meaning after).answered.number
 
 pub returns-in-Ok-abstraction-clause-changed : goal.returns-in-Ok-abstraction-clause-changed
@@ -182,10 +202,14 @@ returns-in-Ok-abstraction-clause-changed t c = λ meaning held.
     let first = c.in-Ok-change_type.ensures.changed meaning held.held in
     let after = held-after-type meaning t0 t1 c.args.change.now c.args.parts.now.entries c.args.types.now.entries c.change_type.new.types.entries c.change_type.ensures.grows held first.held in
     let second = c.in-Ok-change_at-2.ensures.changed meaning after in
-    let parts = abstraction-parts t1 t2 meaning c.args.passed c.deeper-inside.result (term_at t0.terms c.args.number) (type_at t0.types c.in-Abstraction.ty) (term_at t1.terms c.in-Abstraction.body) c.in-Ok-change_type.new_ty c.in-Ok-change_at-2.new_body
-    c.change_at-in-Abstraction.ensures.grows (c.in-Abstraction.ensures.shape ∙ ap (lam (type_at t0.types c.in-Abstraction.ty)) (sym same)) (under-is t0 c.args.change.now meaning held.held.meant c.args.passed c.deeper-inside.result c.deeper-inside.ensures) first.number second.answered.number in
-    answers-made t0 t2 t3 c.args.change.now c.change_at-in-Abstraction.new.parts.entries c.remember-in-Ok-abstraction.new.parts.entries c.change_at-in-Abstraction.new.types.entries meaning c.args.passed c.args.number _ c.in-Ok-abstraction.new c.remember-in-Ok-abstraction.result
-    (IsGrown-trans t0 t1 t3 c.change_type.ensures.grows (IsGrown-trans t1 t2 t3 c.change_at-in-Abstraction.ensures.grows c.abstraction.ensures.grows)) c.abstraction.ensures.grows c.requires.number parts c.in-Ok-abstraction.ensures.number second.held
+    let parts = abstraction-parts t1 t2 meaning c.args.passed c.deeper-inside.result (term_at t0.terms c.args.number) (type_at t0.types c.in-Abstraction.ty)
+    (term_at t1.terms c.in-Abstraction.body) c.in-Ok-change_type.new_ty c.in-Ok-change_at-2.new_body
+    c.change_at-in-Abstraction.ensures.grows (c.in-Abstraction.ensures.shape ∙ ap (lam (type_at t0.types c.in-Abstraction.ty)) (sym same))
+    (under-is t0 c.args.change.now meaning held.held.meant c.args.passed c.deeper-inside.result c.deeper-inside.ensures) first.number second.answered.number in
+    answers-made t0 t2 t3 c.args.change.now c.change_at-in-Abstraction.new.parts.entries c.remember-in-Ok-abstraction.new.parts.entries c.change_at-in-Abstraction.new.types.entries meaning
+    c.args.passed c.args.number _ c.in-Ok-abstraction.new c.remember-in-Ok-abstraction.result
+    (IsGrown-trans t0 t1 t3 c.change_type.ensures.grows (IsGrown-trans t1 t2 t3 c.change_at-in-Abstraction.ensures.grows c.abstraction.ensures.grows)) c.abstraction.ensures.grows
+    c.requires.number parts c.in-Ok-abstraction.ensures.number second.held
     c.remember-in-Ok-abstraction.ensures.new c.remember-in-Ok-abstraction.ensures.refused c.remember-in-Ok-abstraction.ensures.added
 
 pub returns-in-Err-abstraction-clause-changed : goal.returns-in-Err-abstraction-clause-changed
@@ -201,6 +225,9 @@ returns-in-Err-abstraction-clause-changed t c = λ meaning held.
     let first = c.in-Ok-change_type.ensures.changed meaning held.held in
     let after = held-after-type meaning t0 t1 c.args.change.now c.args.parts.now.entries c.args.types.now.entries c.change_type.new.types.entries c.change_type.ensures.grows held first.held in
     let second = c.in-Ok-change_at-2.ensures.changed meaning after in
-    let parts = abstraction-parts t1 t2 meaning c.args.passed c.deeper-inside.result (term_at t0.terms c.args.number) (type_at t0.types c.in-Abstraction.ty) (term_at t1.terms c.in-Abstraction.body) c.in-Ok-change_type.new_ty c.in-Ok-change_at-2.new_body
-    c.change_at-in-Abstraction.ensures.grows (c.in-Abstraction.ensures.shape ∙ ap (lam (type_at t0.types c.in-Abstraction.ty)) (sym same)) (under-is t0 c.args.change.now meaning held.held.meant c.args.passed c.deeper-inside.result c.deeper-inside.ensures) first.number second.answered.number in
-    answers-refused t2 t3 c.args.change.now c.change_at-in-Abstraction.new.parts.entries c.change_at-in-Abstraction.new.types.entries meaning _ _ c.in-Err-abstraction.fault c.abstraction.ensures.grows parts c.in-Err-abstraction.ensures.refused second.held
+    let parts = abstraction-parts t1 t2 meaning c.args.passed c.deeper-inside.result (term_at t0.terms c.args.number) (type_at t0.types c.in-Abstraction.ty)
+    (term_at t1.terms c.in-Abstraction.body) c.in-Ok-change_type.new_ty c.in-Ok-change_at-2.new_body
+    c.change_at-in-Abstraction.ensures.grows (c.in-Abstraction.ensures.shape ∙ ap (lam (type_at t0.types c.in-Abstraction.ty)) (sym same))
+    (under-is t0 c.args.change.now meaning held.held.meant c.args.passed c.deeper-inside.result c.deeper-inside.ensures) first.number second.answered.number in
+    answers-refused t2 t3 c.args.change.now c.change_at-in-Abstraction.new.parts.entries c.change_at-in-Abstraction.new.types.entries meaning _ _ c.in-Err-abstraction.fault
+    c.abstraction.ensures.grows parts c.in-Err-abstraction.ensures.refused second.held

@@ -11,10 +11,13 @@ abstraction-requires-clause-body c =
 pub returns-in-Ok-clause-made : goal.returns-in-Ok-clause-made
 returns-in-Ok-clause-made c =
     let v = c.requires.variable in
-    made-abstraction c.args.terms.now c.close.new.terms c.args.variable c.variable_type-ty.result c.in-Ok.body (term_at c.args.terms.now.terms c.args.number) v.name v.ty c.abstraction.result c.abstraction.new.self.terms
-    v.is_free c.variable_type-ty.ensures.ty c.variable_type-ty.ensures.within c.in-Ok.ensures.grows (c.in-Ok.ensures.closed v.name v.ty v.is_free) c.abstraction.ensures.number c.abstraction.ensures.refused
+    made-abstraction c.args.terms.now c.close.new.terms c.args.variable c.variable_type-ty.result c.in-Ok.body (term_at c.args.terms.now.terms c.args.number) v.name v.ty c.abstraction.result
+    c.abstraction.new.self.terms
+    v.is_free c.variable_type-ty.ensures.ty c.variable_type-ty.ensures.within c.in-Ok.ensures.grows (c.in-Ok.ensures.closed v.name v.ty v.is_free) c.abstraction.ensures.number
+    c.abstraction.ensures.refused
 
 pub returns-in-Err-clause-made : goal.returns-in-Err-clause-made
 returns-in-Err-clause-made c =
     let v = c.requires.variable in
-    refused-abstraction c.args.terms.now.terms c.close.new.terms.terms c.args.variable (term_at c.args.terms.now.terms c.args.number) v.name v.ty c.in-Err.fault v.is_free (c.in-Err.ensures.closed v.name v.ty v.is_free)
+    refused-abstraction c.args.terms.now.terms c.close.new.terms.terms c.args.variable (term_at c.args.terms.now.terms c.args.number) v.name v.ty c.in-Err.fault v.is_free
+    (c.in-Err.ensures.closed v.name v.ty v.is_free)

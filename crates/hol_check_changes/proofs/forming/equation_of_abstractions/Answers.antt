@@ -10,5 +10,6 @@ returns-in-Err-abstraction_over-clause-formed c =
     let t0 = c.args.terms.now in
     let t1 = c.abstraction_over.new.terms in
     let variable = is_within t0.terms c.args.variable _ c.requires.variable.is_free in
-    let made = rw (term-grown t0 t1 c.args.variable c.abstraction_over.ensures.grows variable, term-grown t0 t1 c.args.right c.abstraction_over.ensures.grows c.requires.right) at c.in-Err-abstraction_over.ensures.made in
+    let made = rw (term-grown t0 t1 c.args.variable c.abstraction_over.ensures.grows variable, term-grown t0 t1 c.args.right c.abstraction_over.ensures.grows c.requires.right)
+    at c.in-Err-abstraction_over.ensures.made in
     right-refused (abstraction_over (term_at t0.terms c.args.variable) (term_at t0.terms c.args.left)) _ c.in-Err-abstraction_over.fault c.abstraction_over-2.new.terms.terms made

@@ -10,7 +10,8 @@ use Rattle.hol_check_changes.proofs.instance.«+instantiate_type».Goals as goal
 
 pub returns-in-Variable-clause-changed : goal.returns-in-Variable-clause-changed
 returns-in-Variable-clause-changed t c = λ theta are memo.
-    answers-variable c.args.terms.now.types c.have_one_number.ensures.types c.args.pairs.now theta are c.args.ty c.replaced.result c.requires.ty _ c.in-Variable.ensures.shape c.replaced.ensures c.args.types.now.entries memo
+    answers-variable c.args.terms.now.types c.have_one_number.ensures.types c.args.pairs.now theta are c.args.ty c.replaced.result c.requires.ty _ c.in-Variable.ensures.shape
+    c.replaced.ensures c.args.types.now.entries memo
 
 pub returns-in-Boolean-clause-changed : goal.returns-in-Boolean-clause-changed
 returns-in-Boolean-clause-changed t c = λ theta are memo.
@@ -23,7 +24,8 @@ returns-in-Declared-clause-changed t c = λ theta are memo.
 pub returns-in-Err-clause-changed : goal.returns-in-Err-clause-changed
 returns-in-Err-clause-changed t c = λ theta are memo.
     let types = c.args.terms.now.types in
-    refused-type (type_change theta (type_at types c.in-Function.domain)) (type_change theta (type_at types c.args.ty)) c.in-Err.fault c.instantiate_type.new.terms.types (type_change theta) c.instantiate_type.new.types.entries
+    refused-type (type_change theta (type_at types c.in-Function.domain)) (type_change theta (type_at types c.args.ty)) c.in-Err.fault c.instantiate_type.new.terms.types (type_change theta)
+    c.instantiate_type.new.types.entries
     (domain-smaller theta (type_at types c.args.ty) (type_at types c.in-Function.domain) (type_at types c.in-Function.codomain) c.in-Function.ensures.shape) (c.in-Err.ensures.changed theta are memo)
 
 pub instantiate_type-requires-in-Function : goal.instantiate_type-requires-in-Function
@@ -50,8 +52,10 @@ returns-in-Err-instantiate_type-clause-changed t c = λ theta are memo.
     let within : c.in-Function.codomain < length types = omega arith in
     let first = c.in-Ok.ensures.changed theta are memo in
     let second = c.in-Err-instantiate_type.ensures.changed theta (pairs-grown types now longer c.args.pairs.now theta are) first.memo in
-    refused-type (type_change theta (type_at now c.in-Function.codomain)) (type_change theta (type_at types c.args.ty)) c.in-Err-instantiate_type.fault c.instantiate_type-in-Function.new.terms.types (type_change theta) c.instantiate_type-in-Function.new.types.entries
-    (codomain-smaller theta (type_at types c.args.ty) (type_at types c.in-Function.domain) (type_at now c.in-Function.codomain) (c.in-Function.ensures.shape ∙ ap (function_type (type_at types c.in-Function.domain)) (sym (type-grown types now c.in-Function.codomain longer within)))) second
+    refused-type (type_change theta (type_at now c.in-Function.codomain)) (type_change theta (type_at types c.args.ty)) c.in-Err-instantiate_type.fault
+    c.instantiate_type-in-Function.new.terms.types (type_change theta) c.instantiate_type-in-Function.new.types.entries
+    (codomain-smaller theta (type_at types c.args.ty) (type_at types c.in-Function.domain) (type_at now c.in-Function.codomain)
+    (c.in-Function.ensures.shape ∙ ap (function_type (type_at types c.in-Function.domain)) (sym (type-grown types now c.in-Function.codomain longer within)))) second
 
 pub function_type-requires-clause-domain : goal.function_type-requires-clause-domain
 function_type-requires-clause-domain t c =
@@ -81,10 +85,12 @@ returns-in-Ok-function_type-clause-changed t c = λ theta are memo.
     let first = c.in-Ok.ensures.changed theta are memo in
     let second = c.in-Ok-instantiate_type.ensures.changed theta (pairs-grown t0 t1 longer c.args.pairs.now theta are) first.memo in
     let codomain_same = type-grown t0 t1 c.in-Function.codomain longer within in
-    let parts = function-parts t1 t2 theta (type_at t0 c.args.ty) (type_at t0 c.in-Function.domain) (type_at t0 c.in-Function.codomain) c.in-Ok.new_domain c.in-Ok-instantiate_type.new_codomain later c.in-Function.ensures.shape first.number
+    let parts = function-parts t1 t2 theta (type_at t0 c.args.ty) (type_at t0 c.in-Function.domain) (type_at t0 c.in-Function.codomain) c.in-Ok.new_domain
+    c.in-Ok-instantiate_type.new_codomain later c.in-Function.ensures.shape first.number
     (second.number ∙ ap (λ ty. Some (type_change theta ty)) codomain_same) in
     answers-made t0 t2 t3 theta c.args.ty _ c.in-Ok-function_type.new c.remember_type.result c.instantiate_type-in-Function.new.types.entries c.remember_type.new.types.entries
-    (IsLonger-trans t0 t1 t3 longer (IsLonger-trans t1 t2 t3 later last)) last known parts c.in-Ok-function_type.ensures.number second.memo c.remember_type.ensures.new c.remember_type.ensures.refused c.remember_type.ensures.added
+    (IsLonger-trans t0 t1 t3 longer (IsLonger-trans t1 t2 t3 later last)) last known parts c.in-Ok-function_type.ensures.number second.memo c.remember_type.ensures.new
+    c.remember_type.ensures.refused c.remember_type.ensures.added
 
 pub returns-in-Err-function_type-clause-changed : goal.returns-in-Err-function_type-clause-changed
 returns-in-Err-function_type-clause-changed t c = λ theta are memo.
@@ -101,6 +107,7 @@ returns-in-Err-function_type-clause-changed t c = λ theta are memo.
     let first = c.in-Ok.ensures.changed theta are memo in
     let second = c.in-Ok-instantiate_type.ensures.changed theta (pairs-grown t0 t1 longer c.args.pairs.now theta are) first.memo in
     let codomain_same = type-grown t0 t1 c.in-Function.codomain longer within in
-    let parts = function-parts t1 t2 theta (type_at t0 c.args.ty) (type_at t0 c.in-Function.domain) (type_at t0 c.in-Function.codomain) c.in-Ok.new_domain c.in-Ok-instantiate_type.new_codomain later c.in-Function.ensures.shape first.number
+    let parts = function-parts t1 t2 theta (type_at t0 c.args.ty) (type_at t0 c.in-Function.domain) (type_at t0 c.in-Function.codomain) c.in-Ok.new_domain
+    c.in-Ok-instantiate_type.new_codomain later c.in-Function.ensures.shape first.number
     (second.number ∙ ap (λ ty. Some (type_change theta ty)) codomain_same) in
     answers-refused t2 t3 theta (type_at t0 c.args.ty) _ c.in-Err-function_type.fault c.instantiate_type-in-Function.new.types.entries last parts c.in-Err-function_type.ensures.refused second.memo

@@ -20,15 +20,19 @@ returns-in-Fill-clause-changed c = λ meaning held.
 
 pub returns-in-Put-clause-changed : goal.returns-in-Put-clause-changed
 returns-in-Put-clause-changed c = λ meaning held.
-    leaf-put c.args.terms.now c.have_one_number.ensures.terms c.args.change.now c.args.types.now.entries c.in-Put.pairs.now meaning c.args.passed c.args.number c.replaced.result _ _ c.requires.number held
+    leaf-put c.args.terms.now c.have_one_number.ensures.terms c.args.change.now c.args.types.now.entries c.in-Put.pairs.now meaning c.args.passed c.args.number c.replaced.result _ _
+    c.requires.number held
     (subst (λ x. IsMeant c.args.terms.now x meaning) c.in-Put.is held.meant) c.replaced.ensures c.requires.is_free
 
 pub returns-in-Ok-clause-changed : goal.returns-in-Ok-clause-changed
 returns-in-Ok-clause-changed c = λ meaning held.
-    leaf-instance c.args.terms.now c.change_type.new.terms c.free.new.self c.args.change.now c.change_type.new.types.entries c.in-Instantiate._pairs.now meaning c.args.passed c.args.number c.args.name c.args.ty c.in-Ok.new c.free.result
-    c.change_type.ensures.grows c.free.ensures.grows c.requires.name (subst (λ x. IsMeant c.args.terms.now x meaning) c.in-Instantiate.is held.meant) c.requires.is_free (c.in-Ok.ensures.changed meaning held) c.free.ensures.number c.free.ensures.refused
+    leaf-instance c.args.terms.now c.change_type.new.terms c.free.new.self c.args.change.now c.change_type.new.types.entries c.in-Instantiate._pairs.now meaning c.args.passed c.args.number
+    c.args.name c.args.ty c.in-Ok.new c.free.result
+    c.change_type.ensures.grows c.free.ensures.grows c.requires.name (subst (λ x. IsMeant c.args.terms.now x meaning) c.in-Instantiate.is held.meant) c.requires.is_free
+    (c.in-Ok.ensures.changed meaning held) c.free.ensures.number c.free.ensures.refused
 
 pub returns-in-Err-clause-changed : goal.returns-in-Err-clause-changed
 returns-in-Err-clause-changed c = λ meaning held.
-    leaf-instance-refused c.args.terms.now c.change_type.new.terms c.args.change.now c.change_type.new.types.entries c.in-Instantiate._pairs.now meaning c.args.passed c.args.number c.args.name c.args.ty c.in-Err.fault
+    leaf-instance-refused c.args.terms.now c.change_type.new.terms c.args.change.now c.change_type.new.types.entries c.in-Instantiate._pairs.now meaning c.args.passed c.args.number
+    c.args.name c.args.ty c.in-Err.fault
     (subst (λ x. IsMeant c.args.terms.now x meaning) c.in-Instantiate.is held.meant) c.requires.is_free (c.in-Err.ensures.changed meaning held)

@@ -11,7 +11,8 @@ returns-in-Some-Some c =
     let state = state_of t0 c.args.contents.now in
     let one = c.in-Some-Some.ensures t0 c.requires.contents c.requires.made in
     let two = c.in-Some-Some.ensures' t0 c.requires.contents in
-    c.judged.ensures (abs_step c.args.variable c.args.premise) c.args.contents.now t0 c.abs.new.terms (steps.abs_step (term_at t0.terms c.in-Some-Some.variable) (sequent_in t0.terms c.in-Some-Some.premise.now)) c.requires.contents.room c.abs.ensures.grows
+    c.judged.ensures (abs_step c.args.variable c.args.premise) c.args.contents.now t0 c.abs.new.terms
+    (steps.abs_step (term_at t0.terms c.in-Some-Some.variable) (sequent_in t0.terms c.in-Some-Some.premise.now)) c.requires.contents.room c.abs.ensures.grows
     (abs-step state t0.terms c.args.variable c.args.premise c.in-Some-Some.variable c.in-Some-Some.premise.now one two) c.abs.ensures.taken
 
 pub abs-requires-clause-variable : goal.abs-requires-clause-variable

@@ -32,7 +32,8 @@ returns-in-Ok-Err c =
     let made = definition_step (name_at t1.names c.in-Ok.number) (term_at t1.terms c.in-Some.body) in
     let body = term_at t1.terms c.in-Some.body in
     let defined = subst (IsDefined made body c.define.new.terms) c.in-Ok-Err.field-0-is c.in-Ok-Err.ensures.defined in
-    refused-definition t0 t1 c.args.contents.now c.requires.contents c.args.name.now c.in-Ok.number c.args.body c.in-Some.body c.in-Ok.ensures.grows c.in-Ok.ensures.number named legal c.define.new.terms c.define.ensures.grows new c.in-Ok-Err.cause defined
+    refused-definition t0 t1 c.args.contents.now c.requires.contents c.args.name.now c.in-Ok.number c.args.body c.in-Some.body c.in-Ok.ensures.grows c.in-Ok.ensures.number named legal
+    c.define.new.terms c.define.ensures.grows new c.in-Ok-Err.cause defined
 
 pub returns-then-is_full : goal.returns-then-is_full
 returns-then-is_full c =
@@ -44,7 +45,8 @@ returns-then-is_full c =
     let made = definition_step (name_at t1.names c.in-Ok.number) (term_at t1.terms c.in-Some.body) in
     let body = term_at t1.terms c.in-Some.body in
     let defined = subst (IsDefined made body c.define.new.terms) c.in-Ok-Ok.field-0-is c.in-Ok-Ok.ensures.defined in
-    full-definition t0 t1 c.args.contents.now c.requires.contents c.args.name.now c.in-Ok.number c.args.body c.in-Some.body c.in-Ok.ensures.grows c.in-Ok.ensures.number named legal c.define.new.terms c.define.ensures.grows new c.in-Ok-Ok.given.ty c.in-Ok-Ok.given.conclusion defined (sym c.is_full.ensures ∙ c.if-is_full.true)
+    full-definition t0 t1 c.args.contents.now c.requires.contents c.args.name.now c.in-Ok.number c.args.body c.in-Some.body c.in-Ok.ensures.grows c.in-Ok.ensures.number named legal
+    c.define.new.terms c.define.ensures.grows new c.in-Ok-Ok.given.ty c.in-Ok-Ok.given.conclusion defined (sym c.is_full.ensures ∙ c.if-is_full.true)
 
 pub returns : goal.returns
 returns c =
@@ -56,7 +58,8 @@ returns c =
     let made = definition_step (name_at t1.names c.in-Ok.number) (term_at t1.terms c.in-Some.body) in
     let body = term_at t1.terms c.in-Some.body in
     let defined = subst (IsDefined made body c.define.new.terms) c.in-Ok-Ok.field-0-is c.in-Ok-Ok.ensures.defined in
-    new-definition t0 t1 c.args.contents.now c.requires.contents c.args.name.now c.in-Ok.number c.args.body c.in-Some.body c.in-Ok.ensures.grows c.in-Ok.ensures.number named legal c.define.new.terms c.define.ensures.grows new c.in-Ok-Ok.given.ty c.in-Ok-Ok.given.conclusion defined (sym c.is_full.ensures ∙ c.if-is_full.false)
+    new-definition t0 t1 c.args.contents.now c.requires.contents c.args.name.now c.in-Ok.number c.args.body c.in-Some.body c.in-Ok.ensures.grows c.in-Ok.ensures.number named legal
+    c.define.new.terms c.define.ensures.grows new c.in-Ok-Ok.given.ty c.in-Ok-Ok.given.conclusion defined (sym c.is_full.ensures ∙ c.if-is_full.false)
 
 pub is_new_name-requires : goal.is_new_name-requires
 is_new_name-requires c = is_within c.name.new.self.names c.in-Ok.number _ c.in-Ok.ensures.number

@@ -15,5 +15,6 @@ returns-in-Ok-Some c =
     let one = c.in-Some.ensures t0 c.requires.contents in
     let two = subst (FindsTermPairs state c.args.pairs.now t0.terms) c.in-Ok-Some.field-0-is c.in-Ok-Some.ensures.found in
     let taken = subst (λ l. Takes (steps.inst_step premise (term_pairs_in t0.terms l)) c.inst.result c.inst.new.terms.terms) c.deref.ensures.value c.inst.ensures.taken in
-    c.judged.ensures (inst_step c.args.premise c.args.pairs.now) c.args.contents.now t0 c.inst.new.terms (steps.inst_step premise (term_pairs_in t0.terms c.in-Ok-Some.pairs.items)) c.requires.contents.room c.inst.ensures.grows
+    c.judged.ensures (inst_step c.args.premise c.args.pairs.now) c.args.contents.now t0 c.inst.new.terms (steps.inst_step premise (term_pairs_in t0.terms c.in-Ok-Some.pairs.items))
+    c.requires.contents.room c.inst.ensures.grows
     (inst-step state t0.terms c.args.premise c.args.pairs.now c.in-Ok-Some.pairs.items c.in-Some.premise.now one two) taken

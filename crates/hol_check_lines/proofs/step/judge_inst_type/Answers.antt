@@ -15,5 +15,6 @@ returns-in-Ok-Some c =
     let one = c.in-Some.ensures t0 c.requires in
     let two = subst (FindsTypePairs state c.args.pairs.now t0.types) c.in-Ok-Some.field-0-is c.in-Ok-Some.ensures.found in
     let taken = subst (λ l. Takes (steps.inst_type_step premise (type_pairs_in t0.types l)) c.inst_type.result c.inst_type.new.terms.terms) c.deref.ensures.value c.inst_type.ensures.taken in
-    c.judged.ensures (inst_type_step c.args.premise c.args.pairs.now) c.args.contents.now t0 c.inst_type.new.terms (steps.inst_type_step premise (type_pairs_in t0.types c.in-Ok-Some.pairs.items)) c.requires.room c.inst_type.ensures.grows
+    c.judged.ensures (inst_type_step c.args.premise c.args.pairs.now) c.args.contents.now t0 c.inst_type.new.terms
+    (steps.inst_type_step premise (type_pairs_in t0.types c.in-Ok-Some.pairs.items)) c.requires.room c.inst_type.ensures.grows
     (inst_type-step state t0.terms t0.types c.args.premise c.args.pairs.now c.in-Ok-Some.pairs.items c.in-Some.premise.now one two) taken

@@ -10,5 +10,6 @@ returns-in-Some-Some c =
     let state = state_of t0 c.args.contents.now in
     let one = c.in-Some-Some.ensures t0 c.requires in
     let two = c.in-Some-Some.ensures' t0 c.requires in
-    c.judged.ensures (trans_step c.args.first c.args.second) c.args.contents.now t0 c.trans.new.terms (steps.trans_step (sequent_in t0.terms c.in-Some-Some.first.now) (sequent_in t0.terms c.in-Some-Some.second.now)) c.requires.room c.trans.ensures.grows
+    c.judged.ensures (trans_step c.args.first c.args.second) c.args.contents.now t0 c.trans.new.terms
+    (steps.trans_step (sequent_in t0.terms c.in-Some-Some.first.now) (sequent_in t0.terms c.in-Some-Some.second.now)) c.requires.room c.trans.ensures.grows
     (trans-step state t0.terms c.args.first c.args.second c.in-Some-Some.first.now c.in-Some-Some.second.now one two) c.trans.ensures.taken

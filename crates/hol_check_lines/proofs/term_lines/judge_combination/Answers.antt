@@ -10,7 +10,8 @@ takes-requires-clause-argument c = (c.in-Some-written_at.ensures c.args.terms.no
 
 pub returns-then-not-takes : goal.returns-then-not-takes
 returns-then-not-takes c =
-    no-combination c.args.terms.now c.args.contents.now c.args.function c.args.argument c.in-Some.f c.in-Some-written_at.a (c.in-Some.ensures c.args.terms.now c.requires) (c.in-Some-written_at.ensures c.args.terms.now c.requires)
+    no-combination c.args.terms.now c.args.contents.now c.args.function c.args.argument c.in-Some.f c.in-Some-written_at.a (c.in-Some.ensures c.args.terms.now c.requires)
+    (c.in-Some-written_at.ensures c.args.terms.now c.requires)
     (sym c.takes.ensures ∙ c.if-not-takes.true)
 
 pub write_combination-requires-clause-function : goal.write_combination-requires-clause-function
@@ -23,5 +24,6 @@ pub returns : goal.returns
 returns c =
     let first = c.in-Some.ensures c.args.terms.now c.requires in
     let second = c.in-Some-written_at.ensures c.args.terms.now c.requires in
-    judged-combination c.args.terms.now c.args.contents.now c.args.function c.args.argument c.in-Some.f c.in-Some-written_at.a first second c.judge_written.result c.requires (sym c.takes.ensures ∙ c.if-not-takes.false)
+    judged-combination c.args.terms.now c.args.contents.now c.args.function c.args.argument c.in-Some.f c.in-Some-written_at.a first second c.judge_written.result c.requires
+    (sym c.takes.ensures ∙ c.if-not-takes.false)
     (c.judge_written.ensures _ _ c.args.terms.now (c.write_combination.ensures _ _ first.writes second.writes))

@@ -17,6 +17,7 @@ loop-claim-preserved g c =
     let piece = string_bytes c.in_ok-piece.piece in
     let tells = subst (λ (item : LogClaim). IsClaimPiece (scope_of c.args.scope.now) c.args.wanted item piece) c.claim-item.is c.in_ok-piece.ensures in
     let wrote = subst (λ (bytes : List ℕ). Appends before after bytes) c.as_bytes.ensures.value c.in_ok-write_all.ensures.ok in (
-      piece_written (IsClaimPiece (scope_of c.args.scope.now) c.args.wanted) _ before after c.args.claims.now c.loop-claim.claim-index c.claim-item.result piece c.loop-claim-test.true c.loop-claim.invariant.0 tells wrote,
+      piece_written (IsClaimPiece (scope_of c.args.scope.now) c.args.wanted) _ before after c.args.claims.now c.loop-claim.claim-index c.claim-item.result piece c.loop-claim-test.true
+          c.loop-claim.invariant.0 tells wrote,
       c.in_ok-write_all.ensures.unfailed,
     )

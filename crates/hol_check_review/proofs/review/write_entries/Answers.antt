@@ -17,6 +17,7 @@ loop-entry-preserved g c =
     let piece = string_bytes c.in_ok-piece.piece in
     let tells = subst (λ (item : Entry). IsEntryPiece (scope_of c.args.scope.now) item piece) c.entry-item.is c.in_ok-piece.ensures in
     let wrote = subst (λ (bytes : List ℕ). Appends before after bytes) c.as_bytes.ensures.value c.in_ok-write_all.ensures.ok in (
-      piece_written (IsEntryPiece (scope_of c.args.scope.now)) _ before after c.args.entries.now c.loop-entry.entry-index c.entry-item.result piece c.loop-entry-test.true c.loop-entry.invariant.0 tells wrote,
+      piece_written (IsEntryPiece (scope_of c.args.scope.now)) _ before after c.args.entries.now c.loop-entry.entry-index c.entry-item.result piece c.loop-entry-test.true
+          c.loop-entry.invariant.0 tells wrote,
       c.in_ok-write_all.ensures.unfailed,
     )

@@ -11,4 +11,5 @@ union-requires-clause-second_ordered t c = rw c.deref-in-Ok-set_of.ensures.value
 pub returns-in-Ok-set_of-clause-all : goal.returns-in-Ok-set_of-clause-all
 returns-in-Ok-set_of-clause-all t c =
     let whole = rw (c.deref.ensures.value, c.deref-in-Ok-set_of.ensures.value) at c.union.ensures.all in
-    set_of-made c.args.terms.now.terms _ _ c.in-Ok.left.items c.in-Ok-set_of.right.items c.args.list.now c.union.result c.in-Ok.ensures.all c.in-Ok-set_of.ensures.all whole (sym c.split_at.ensures.by_index.0)
+    set_of-made c.args.terms.now.terms _ _ c.in-Ok.left.items c.in-Ok-set_of.right.items c.args.list.now c.union.result c.in-Ok.ensures.all c.in-Ok-set_of.ensures.all whole
+    (sym c.split_at.ensures.by_index.0)

@@ -10,25 +10,31 @@ use Rattle.hol_check_rules.proofs.hypotheses.union.Goals.{then-loop-left-test+el
 pub loop-left-preserved-in-Less : goal.loop-left-preserved-in-Less
 loop-left-preserved-in-Less c =
     let terms = c.args.terms.now.terms in
-    let order : nameless_cmp (term_at terms (get_or c.args.first.now c.loop-left.left 0)) (term_at terms (get_or c.args.second.now c.loop-left.right 0)) ≡ Less = cc (c.compare_terms.ensures, c.in-Less.is) in
+    let order : nameless_cmp (term_at terms (get_or c.args.first.now c.loop-left.left 0)) (term_at terms (get_or c.args.second.now c.loop-left.right 0)) ≡ Less =
+    cc (c.compare_terms.ensures, c.in-Less.is) in
     rw c.in_ok-push-in-Less.ensures.items
-    (merged-before terms c.args.first.now c.args.second.now (record { first_fits = c.requires.first; second_fits = c.requires.second; ordered = c.requires.second_ordered }) c.loop-left.left c.loop-left.right c.loop-left.all.items c.loop-left.invariant
+    (merged-before terms c.args.first.now c.args.second.now (record { first_fits = c.requires.first; second_fits = c.requires.second; ordered = c.requires.second_ordered }) c.loop-left.left
+    c.loop-left.right c.loop-left.all.items c.loop-left.invariant
     (omega arith) (omega arith) order)
 
 pub loop-left-preserved-in-Equal : goal.loop-left-preserved-in-Equal
 loop-left-preserved-in-Equal c =
     let terms = c.args.terms.now.terms in
-    let order : nameless_cmp (term_at terms (get_or c.args.first.now c.loop-left.left 0)) (term_at terms (get_or c.args.second.now c.loop-left.right 0)) ≡ Equal = cc (c.compare_terms.ensures, c.in-Equal.is) in
+    let order : nameless_cmp (term_at terms (get_or c.args.first.now c.loop-left.left 0)) (term_at terms (get_or c.args.second.now c.loop-left.right 0)) ≡ Equal =
+    cc (c.compare_terms.ensures, c.in-Equal.is) in
     rw c.in_ok-push-in-Equal.ensures.items
-    (merged-same terms c.args.first.now c.args.second.now (record { first_fits = c.requires.first; second_fits = c.requires.second; ordered = c.requires.second_ordered }) c.loop-left.left c.loop-left.right c.loop-left.all.items c.loop-left.invariant
+    (merged-same terms c.args.first.now c.args.second.now (record { first_fits = c.requires.first; second_fits = c.requires.second; ordered = c.requires.second_ordered }) c.loop-left.left
+    c.loop-left.right c.loop-left.all.items c.loop-left.invariant
     (omega arith) (omega arith) order)
 
 pub loop-left-preserved : goal.loop-left-preserved
 loop-left-preserved c =
     let terms = c.args.terms.now.terms in
-    let order : nameless_cmp (term_at terms (get_or c.args.first.now c.loop-left.left 0)) (term_at terms (get_or c.args.second.now c.loop-left.right 0)) ≡ Greater = cc (c.compare_terms.ensures, c.in-Greater.is) in
+    let order : nameless_cmp (term_at terms (get_or c.args.first.now c.loop-left.left 0)) (term_at terms (get_or c.args.second.now c.loop-left.right 0)) ≡ Greater =
+    cc (c.compare_terms.ensures, c.in-Greater.is) in
     rw c.in_ok-push-in-Greater.ensures.items
-    (merged-after terms c.args.first.now c.args.second.now (record { first_fits = c.requires.first; second_fits = c.requires.second; ordered = c.requires.second_ordered }) c.loop-left.left c.loop-left.right c.loop-left.all.items c.loop-left.invariant
+    (merged-after terms c.args.first.now c.args.second.now (record { first_fits = c.requires.first; second_fits = c.requires.second; ordered = c.requires.second_ordered }) c.loop-left.left
+    c.loop-left.right c.loop-left.all.items c.loop-left.invariant
     (omega arith) (omega arith) order)
 
 pub returns-clause-all : goal.returns-clause-all
@@ -42,4 +48,5 @@ returns-clause-all c =
     take_all _ _ (omega (arith, length-drop c.loop-left.right c.args.second.now)) in
     let items : c.extend_from_slice-2.new.self.items ≡ (c.loop-left.all.items ++ drop c.loop-left.left c.args.first.now) ++ drop c.loop-left.right c.args.second.now =
     c.in_ok-extend_from_slice-2.ensures.items ∙ (λ i. c.in_ok-extend_from_slice.ensures.items i ++ two i) ∙ ap (λ l. (c.loop-left.all.items ++ l) ++ drop c.loop-left.right c.args.second.now) one in
-    rw items (merged-last terms c.args.first.now c.args.second.now c.loop-left.left c.loop-left.right c.loop-left.all.items (record { first_fits = c.requires.first; second_fits = c.requires.second; ordered = c.requires.second_ordered }) c.requires.first_ordered c.loop-left.invariant used)
+    rw items (merged-last terms c.args.first.now c.args.second.now c.loop-left.left c.loop-left.right c.loop-left.all.items
+    (record { first_fits = c.requires.first; second_fits = c.requires.second; ordered = c.requires.second_ordered }) c.requires.first_ordered c.loop-left.invariant used)

@@ -16,10 +16,12 @@ loop-other-preserved c =
     elim c.if-not-is_same.branch [
       | then-not-is_same+in_ok-push w ↦
           (let items : c.if-not-is_same.others.items ≡ c.loop-other.others.items ++ x ∷ [] = ap (λ v. v.items) w.others-is ∙ w.in_ok-push.ensures.items in
-          rw items (kept-taken terms c.args.term c.args.list.now c.loop-other.others.items c.loop-other.other-index x c.loop-other-test.true refl (sym w.if-not-is_same.true ∙ c.is_same.ensures) c.requires.list c.loop-other.invariant))
+          rw items (kept-taken terms c.args.term c.args.list.now c.loop-other.others.items c.loop-other.other-index x c.loop-other-test.true refl
+          (sym w.if-not-is_same.true ∙ c.is_same.ensures) c.requires.list c.loop-other.invariant))
       | else-not-is_same w ↦
           (let items : c.if-not-is_same.others.items ≡ c.loop-other.others.items = ap (λ v. v.items) w.others-is in
-          rw items (left_out-taken terms c.args.term c.args.list.now c.loop-other.others.items c.loop-other.other-index x c.loop-other-test.true refl (sym w.if-not-is_same.false ∙ c.is_same.ensures) c.loop-other.invariant))
+          rw items (left_out-taken terms c.args.term c.args.list.now c.loop-other.others.items c.loop-other.other-index x c.loop-other-test.true refl
+          (sym w.if-not-is_same.false ∙ c.is_same.ensures) c.loop-other.invariant))
     ]
 
 pub returns-clause-ordered : goal.returns-clause-ordered

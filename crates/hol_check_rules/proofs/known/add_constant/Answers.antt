@@ -5,4 +5,5 @@ use Rattle.hol_check_rules.proofs.known.add_constant.Goals as goal
 
 pub returns-in-Ok-clause-added : goal.returns-in-Ok-clause-added
 returns-in-Ok-clause-added c = λ table entries entry gives knows.
-    subst (λ l. Knows table l c.args.known.now.declared.keys (entry ∷ entries)) (sym c.in-Ok.ensures.entries) (knows-constant table c.args.known.now.constants.entries c.args.known.now.declared.keys entries entry c.args.name c.args.ty gives knows)
+    subst (λ l. Knows table l c.args.known.now.declared.keys (entry ∷ entries)) (sym c.in-Ok.ensures.entries)
+    (knows-constant table c.args.known.now.constants.entries c.args.known.now.declared.keys entries entry c.args.name c.args.ty gives knows)

@@ -8,21 +8,26 @@ use Rattle.hol_check_terms.proofs.GrowthLemmas.{type-within, within-grown, term-
 use Rattle.hol_check_terms.proofs.typing.«+type_under».Goals as goal
 
 pub type_under-returns-in-Some-recall_type-clause-typed : goal.type_under-returns-in-Some-recall_type-clause-typed
-type_under-returns-in-Some-recall_type-clause-typed t c = typed-recalled c.args.terms.now c.args.binders.now c.args.known.now.entries c.args.number c.in-Some-recall_type.ty c.requires.known c.in-Some-recall_type.ensures
+type_under-returns-in-Some-recall_type-clause-typed t c = typed-recalled c.args.terms.now c.args.binders.now c.args.known.now.entries c.args.number c.in-Some-recall_type.ty c.requires.known
+    c.in-Some-recall_type.ensures
 
 pub type_under-returns-in-Some-recall_type-2-clause-typed : goal.type_under-returns-in-Some-recall_type-2-clause-typed
-type_under-returns-in-Some-recall_type-2-clause-typed t c = typed-recalled c.args.terms.now c.args.binders.now c.args.known.now.entries c.args.number c.in-Some-recall_type-2.ty c.requires.known c.in-Some-recall_type-2.ensures
+type_under-returns-in-Some-recall_type-2-clause-typed t c = typed-recalled c.args.terms.now c.args.binders.now c.args.known.now.entries c.args.number c.in-Some-recall_type-2.ty
+    c.requires.known c.in-Some-recall_type-2.ensures
 
 -- leaves
 
 pub type_under-returns-in-Free-clause-typed : goal.type_under-returns-in-Free-clause-typed
-type_under-returns-in-Free-clause-typed t c = typed-free c.args.terms.now.types _ _ _ c.in-Free.ty c.type_count-within_limit.result c.in-Free.ensures.shape c.in-Free.ensures.parts.1 c.type_count-within_limit.ensures.count c.type_count-within_limit.ensures.within_limit
+type_under-returns-in-Free-clause-typed t c = typed-free c.args.terms.now.types _ _ _ c.in-Free.ty c.type_count-within_limit.result c.in-Free.ensures.shape c.in-Free.ensures.parts.1
+    c.type_count-within_limit.ensures.count c.type_count-within_limit.ensures.within_limit
 
 pub type_under-returns-in-Constant-clause-typed : goal.type_under-returns-in-Constant-clause-typed
-type_under-returns-in-Constant-clause-typed t c = typed-const c.args.terms.now.types _ _ _ c.in-Constant.ty c.type_count-within_limit-in-Constant.result c.in-Constant.ensures.shape c.in-Constant.ensures.parts.1 c.type_count-within_limit-in-Constant.ensures.count c.type_count-within_limit-in-Constant.ensures.within_limit
+type_under-returns-in-Constant-clause-typed t c = typed-const c.args.terms.now.types _ _ _ c.in-Constant.ty c.type_count-within_limit-in-Constant.result c.in-Constant.ensures.shape
+    c.in-Constant.ensures.parts.1 c.type_count-within_limit-in-Constant.ensures.count c.type_count-within_limit-in-Constant.ensures.within_limit
 
 pub type_under-returns-in-Bound-clause-known : goal.type_under-returns-in-Bound-clause-known
-type_under-returns-in-Bound-clause-known t c = known-grown c.args.terms.now c.binder_at.new.terms c.args.binders.now c.args.known.now.entries c.binder_at.ensures.grows c.requires.binders c.requires.known
+type_under-returns-in-Bound-clause-known t c = known-grown c.args.terms.now c.binder_at.new.terms c.args.binders.now c.args.known.now.entries c.binder_at.ensures.grows c.requires.binders
+    c.requires.known
 
 -- combinations
 
@@ -32,11 +37,17 @@ type_under-type_under-requires-in-Application t c =
     let t1 = c.type_under.new.terms in
     let before : c.in-Application.argument < c.args.number = c.in-Application.ensures.parts.1 in
     let known : c.args.number < length t0.terms = c.requires.number in
-    let within : c.in-Application.argument < length t0.terms = omega arith in
-    (omega arith, (within-grown t0 t1 c.in-Application.argument c.type_under.ensures.grows within, (types-still t0.types t1.types c.type_under.ensures.grows.types c.args.binders.now c.requires.binders, c.type_under.ensures.known)))
+    let within : c.in-Application.argument < length t0.terms = omega arith in (
+      omega arith,
+      (
+        within-grown t0 t1 c.in-Application.argument c.type_under.ensures.grows within,
+        (types-still t0.types t1.types c.type_under.ensures.grows.types c.args.binders.now c.requires.binders, c.type_under.ensures.known),
+      ),
+    )
 
 pub type_under-codomain-requires : goal.type_under-codomain-requires
-type_under-codomain-requires t c = type-within c.type_under.new.terms.types c.type_under-in-Application.new.terms.types c.in-Ok.function_ty c.type_under-in-Application.ensures.grows.types (is_within _ c.in-Ok.function_ty _ c.in-Ok.ensures.typed.number)
+type_under-codomain-requires t c = type-within c.type_under.new.terms.types c.type_under-in-Application.new.terms.types c.in-Ok.function_ty c.type_under-in-Application.ensures.grows.types
+    (is_within _ c.in-Ok.function_ty _ c.in-Ok.ensures.typed.number)
 
 pub type_under-keep-requires-clause-typed : goal.type_under-keep-requires-clause-typed
 type_under-keep-requires-clause-typed t c =
@@ -45,8 +56,10 @@ type_under-keep-requires-clause-typed t c =
     let t2 = c.type_under-in-Application.new.terms in
     let t3 = c.codomain.new.terms in
     let binders = c.args.binders.now in
-    let made = application-typed t0 t1 t2 t3.types binders (term_at t0.terms c.args.number) c.args.number c.in-Application.function c.in-Application.argument c.in-Ok.function_ty c.in-Ok-type_under._argument_ty (Ok c.in-Ok-codomain.ty)
-    c.type_under.ensures.grows c.type_under-in-Application.ensures.grows c.requires.binders c.in-Application.ensures.parts.1 c.requires.number c.in-Application.ensures.shape c.in-Ok.ensures.typed c.in-Ok-type_under.ensures.typed c.in-Ok-codomain.ensures.number tt in
+    let made = application-typed t0 t1 t2 t3.types binders (term_at t0.terms c.args.number) c.args.number c.in-Application.function c.in-Application.argument c.in-Ok.function_ty
+    c.in-Ok-type_under._argument_ty (Ok c.in-Ok-codomain.ty)
+    c.type_under.ensures.grows c.type_under-in-Application.ensures.grows c.requires.binders c.in-Application.ensures.parts.1 c.requires.number c.in-Application.ensures.shape
+    c.in-Ok.ensures.typed c.in-Ok-type_under.ensures.typed c.in-Ok-codomain.ensures.number tt in
     let grown = IsGrown-trans t0 t1 t3 c.type_under.ensures.grows (IsGrown-trans t1 t2 t3 c.type_under-in-Application.ensures.grows c.in-Ok-codomain.ensures.grows) in
     typed-under_some t3.types (binder_types t0.types binders) (term_at t3.terms c.args.number) c.in-Ok-codomain.ty
     (subst (λ u. AnswersTyping (binder_types t0.types binders) u (Ok c.in-Ok-codomain.ty) t3.types) (sym (term-grown t0 t3 c.args.number grown c.requires.number)) made)
@@ -58,9 +71,12 @@ type_under-returns-in-Ok-codomain-clause-typed t c =
     let t2 = c.type_under-in-Application.new.terms in
     let t3 = c.codomain.new.terms in
     let binders = c.args.binders.now in
-    let made = application-typed t0 t1 t2 t3.types binders (term_at t0.terms c.args.number) c.args.number c.in-Application.function c.in-Application.argument c.in-Ok.function_ty c.in-Ok-type_under._argument_ty (Ok c.in-Ok-codomain.ty)
-    c.type_under.ensures.grows c.type_under-in-Application.ensures.grows c.requires.binders c.in-Application.ensures.parts.1 c.requires.number c.in-Application.ensures.shape c.in-Ok.ensures.typed c.in-Ok-type_under.ensures.typed c.in-Ok-codomain.ensures.number tt in
-    typed-kept t3.types c.keep.new.terms.types (binder_types t0.types binders) (term_at t0.terms c.args.number) c.in-Ok-codomain.ty c.keep.result c.keep.ensures.grows.types made c.keep.ensures.same c.keep.ensures.refused
+    let made = application-typed t0 t1 t2 t3.types binders (term_at t0.terms c.args.number) c.args.number c.in-Application.function c.in-Application.argument c.in-Ok.function_ty
+    c.in-Ok-type_under._argument_ty (Ok c.in-Ok-codomain.ty)
+    c.type_under.ensures.grows c.type_under-in-Application.ensures.grows c.requires.binders c.in-Application.ensures.parts.1 c.requires.number c.in-Application.ensures.shape
+    c.in-Ok.ensures.typed c.in-Ok-type_under.ensures.typed c.in-Ok-codomain.ensures.number tt in
+    typed-kept t3.types c.keep.new.terms.types (binder_types t0.types binders) (term_at t0.terms c.args.number) c.in-Ok-codomain.ty c.keep.result c.keep.ensures.grows.types made
+    c.keep.ensures.same c.keep.ensures.refused
 
 pub type_under-returns-in-Ok-codomain-clause-known : goal.type_under-returns-in-Ok-codomain-clause-known
 type_under-returns-in-Ok-codomain-clause-known t c =
@@ -70,12 +86,15 @@ type_under-returns-in-Ok-codomain-clause-known t c =
     let t3 = c.codomain.new.terms in
     let t4 = c.keep.new.terms in
     let binders = c.args.binders.now in
-    let made = application-typed t0 t1 t2 t3.types binders (term_at t0.terms c.args.number) c.args.number c.in-Application.function c.in-Application.argument c.in-Ok.function_ty c.in-Ok-type_under._argument_ty (Ok c.in-Ok-codomain.ty)
-    c.type_under.ensures.grows c.type_under-in-Application.ensures.grows c.requires.binders c.in-Application.ensures.parts.1 c.requires.number c.in-Application.ensures.shape c.in-Ok.ensures.typed c.in-Ok-type_under.ensures.typed c.in-Ok-codomain.ensures.number tt in
+    let made = application-typed t0 t1 t2 t3.types binders (term_at t0.terms c.args.number) c.args.number c.in-Application.function c.in-Application.argument c.in-Ok.function_ty
+    c.in-Ok-type_under._argument_ty (Ok c.in-Ok-codomain.ty)
+    c.type_under.ensures.grows c.type_under-in-Application.ensures.grows c.requires.binders c.in-Application.ensures.parts.1 c.requires.number c.in-Application.ensures.shape
+    c.in-Ok.ensures.typed c.in-Ok-type_under.ensures.typed c.in-Ok-codomain.ensures.number tt in
     let grown2 = IsGrown-trans t0 t1 t2 c.type_under.ensures.grows c.type_under-in-Application.ensures.grows in
     let still2 = types-still t0.types t2.types grown2.types binders c.requires.binders in
     let grown3 = IsGrown-trans t0 t2 t3 grown2 c.in-Ok-codomain.ensures.grows in
-    known-kept t0 t3 t4 binders c.type_under-in-Application.new.known.entries c.keep.new.known.entries c.args.number c.in-Ok-codomain.ty grown3 c.keep.ensures.grows (IsGrown-trans t0 t3 t4 grown3 c.keep.ensures.grows) c.requires.binders
+    known-kept t0 t3 t4 binders c.type_under-in-Application.new.known.entries c.keep.new.known.entries c.args.number c.in-Ok-codomain.ty grown3 c.keep.ensures.grows
+    (IsGrown-trans t0 t3 t4 grown3 c.keep.ensures.grows) c.requires.binders
     (types-still t0.types t3.types grown3.types binders c.requires.binders) c.requires.number made c.keep.ensures.added
     (known-grown t2 t3 binders c.type_under-in-Application.new.known.entries c.in-Ok-codomain.ensures.grows still2 c.in-Ok-type_under.ensures.known)
 
@@ -86,12 +105,14 @@ type_under-returns-in-Err-codomain-clause-known t c =
     let t2 = c.type_under-in-Application.new.terms in
     let binders = c.args.binders.now in
     let grown2 = IsGrown-trans t0 t1 t2 c.type_under.ensures.grows c.type_under-in-Application.ensures.grows in
-    known-grown t2 c.codomain.new.terms binders c.type_under-in-Application.new.known.entries c.in-Err-codomain.ensures.grows (types-still t0.types t2.types grown2.types binders c.requires.binders) c.in-Ok-type_under.ensures.known
+    known-grown t2 c.codomain.new.terms binders c.type_under-in-Application.new.known.entries c.in-Err-codomain.ensures.grows
+    (types-still t0.types t2.types grown2.types binders c.requires.binders) c.in-Ok-type_under.ensures.known
 
 pub type_under-returns-in-Err-type_under-clause-typed : goal.type_under-returns-in-Err-type_under-clause-typed
 type_under-returns-in-Err-type_under-clause-typed t c =
     let t0 = c.args.terms.now in
-    argument-refused t0 c.type_under.new.terms c.type_under-in-Application.new.terms.types c.args.binders.now (term_at t0.terms c.args.number) c.args.number c.in-Application.function c.in-Application.argument c.in-Err-type_under.fault
+    argument-refused t0 c.type_under.new.terms c.type_under-in-Application.new.terms.types c.args.binders.now (term_at t0.terms c.args.number) c.args.number c.in-Application.function
+    c.in-Application.argument c.in-Err-type_under.fault
     c.type_under.ensures.grows c.requires.binders c.in-Application.ensures.parts.1 c.requires.number c.in-Application.ensures.shape c.in-Err-type_under.ensures.typed
 
 -- abstractions
@@ -105,8 +126,10 @@ type_under-keep-requires-in-Ok-function_type-clause-typed t c =
     let t1 = c.type_of_body.new.terms in
     let t2 = c.function_type.new.self in
     let binders = binder_types t0.types c.args.binders.now in
-    let made = typed-abstraction t0.types t1.types t2.types binders (term_at t0.terms c.args.number) c.in-Abstraction.ty (term_at t0.terms c.in-Abstraction.body) c.in-Ok-type_of_body.body_ty (Ok c.in-Ok-function_type.whole)
-    c.type_of_body.ensures.grows.types c.in-Abstraction.ensures.parts.0 c.in-Abstraction.ensures.shape c.in-Ok-type_of_body.ensures.typed c.in-Ok-function_type.ensures.number c.in-Ok-function_type.ensures.within_limit tt in
+    let made = typed-abstraction t0.types t1.types t2.types binders (term_at t0.terms c.args.number) c.in-Abstraction.ty (term_at t0.terms c.in-Abstraction.body) c.in-Ok-type_of_body.body_ty
+    (Ok c.in-Ok-function_type.whole)
+    c.type_of_body.ensures.grows.types c.in-Abstraction.ensures.parts.0 c.in-Abstraction.ensures.shape c.in-Ok-type_of_body.ensures.typed c.in-Ok-function_type.ensures.number
+    c.in-Ok-function_type.ensures.within_limit tt in
     let grown = IsGrown-trans t0 t1 t2 c.type_of_body.ensures.grows c.in-Ok-function_type.ensures.grows in
     typed-under_some t2.types binders (term_at t2.terms c.args.number) c.in-Ok-function_type.whole
     (subst (λ u. AnswersTyping binders u (Ok c.in-Ok-function_type.whole) t2.types) (sym (term-grown t0 t2 c.args.number grown c.requires.number)) made)
@@ -117,9 +140,12 @@ type_under-returns-in-Ok-function_type-clause-typed t c =
     let t1 = c.type_of_body.new.terms in
     let t2 = c.function_type.new.self in
     let binders = binder_types t0.types c.args.binders.now in
-    let made = typed-abstraction t0.types t1.types t2.types binders (term_at t0.terms c.args.number) c.in-Abstraction.ty (term_at t0.terms c.in-Abstraction.body) c.in-Ok-type_of_body.body_ty (Ok c.in-Ok-function_type.whole)
-    c.type_of_body.ensures.grows.types c.in-Abstraction.ensures.parts.0 c.in-Abstraction.ensures.shape c.in-Ok-type_of_body.ensures.typed c.in-Ok-function_type.ensures.number c.in-Ok-function_type.ensures.within_limit tt in
-    typed-kept t2.types c.keep-in-Ok-function_type.new.terms.types binders (term_at t0.terms c.args.number) c.in-Ok-function_type.whole c.keep-in-Ok-function_type.result c.keep-in-Ok-function_type.ensures.grows.types made c.keep-in-Ok-function_type.ensures.same c.keep-in-Ok-function_type.ensures.refused
+    let made = typed-abstraction t0.types t1.types t2.types binders (term_at t0.terms c.args.number) c.in-Abstraction.ty (term_at t0.terms c.in-Abstraction.body) c.in-Ok-type_of_body.body_ty
+    (Ok c.in-Ok-function_type.whole)
+    c.type_of_body.ensures.grows.types c.in-Abstraction.ensures.parts.0 c.in-Abstraction.ensures.shape c.in-Ok-type_of_body.ensures.typed c.in-Ok-function_type.ensures.number
+    c.in-Ok-function_type.ensures.within_limit tt in
+    typed-kept t2.types c.keep-in-Ok-function_type.new.terms.types binders (term_at t0.terms c.args.number) c.in-Ok-function_type.whole c.keep-in-Ok-function_type.result
+    c.keep-in-Ok-function_type.ensures.grows.types made c.keep-in-Ok-function_type.ensures.same c.keep-in-Ok-function_type.ensures.refused
 
 pub type_under-returns-in-Ok-function_type-clause-known : goal.type_under-returns-in-Ok-function_type-clause-known
 type_under-returns-in-Ok-function_type-clause-known t c =
@@ -128,24 +154,30 @@ type_under-returns-in-Ok-function_type-clause-known t c =
     let t2 = c.function_type.new.self in
     let t3 = c.keep-in-Ok-function_type.new.terms in
     let binders = c.args.binders.now in
-    let made = typed-abstraction t0.types t1.types t2.types (binder_types t0.types binders) (term_at t0.terms c.args.number) c.in-Abstraction.ty (term_at t0.terms c.in-Abstraction.body) c.in-Ok-type_of_body.body_ty (Ok c.in-Ok-function_type.whole)
-    c.type_of_body.ensures.grows.types c.in-Abstraction.ensures.parts.0 c.in-Abstraction.ensures.shape c.in-Ok-type_of_body.ensures.typed c.in-Ok-function_type.ensures.number c.in-Ok-function_type.ensures.within_limit tt in
+    let made = typed-abstraction t0.types t1.types t2.types (binder_types t0.types binders) (term_at t0.terms c.args.number) c.in-Abstraction.ty (term_at t0.terms c.in-Abstraction.body)
+    c.in-Ok-type_of_body.body_ty (Ok c.in-Ok-function_type.whole)
+    c.type_of_body.ensures.grows.types c.in-Abstraction.ensures.parts.0 c.in-Abstraction.ensures.shape c.in-Ok-type_of_body.ensures.typed c.in-Ok-function_type.ensures.number
+    c.in-Ok-function_type.ensures.within_limit tt in
     let grown = IsGrown-trans t0 t1 t2 c.type_of_body.ensures.grows c.in-Ok-function_type.ensures.grows in
-    known-kept t0 t2 t3 binders c.args.known.now.entries c.keep-in-Ok-function_type.new.known.entries c.args.number c.in-Ok-function_type.whole grown c.keep-in-Ok-function_type.ensures.grows (IsGrown-trans t0 t2 t3 grown c.keep-in-Ok-function_type.ensures.grows) c.requires.binders
+    known-kept t0 t2 t3 binders c.args.known.now.entries c.keep-in-Ok-function_type.new.known.entries c.args.number c.in-Ok-function_type.whole grown c.keep-in-Ok-function_type.ensures.grows
+    (IsGrown-trans t0 t2 t3 grown c.keep-in-Ok-function_type.ensures.grows) c.requires.binders
     (types-still t0.types t2.types grown.types binders c.requires.binders) c.requires.number made c.keep-in-Ok-function_type.ensures.added
     (known-grown t0 t2 binders c.args.known.now.entries grown c.requires.binders c.requires.known)
 
 pub type_under-returns-in-Err-function_type-clause-typed : goal.type_under-returns-in-Err-function_type-clause-typed
 type_under-returns-in-Err-function_type-clause-typed t c =
     let t0 = c.args.terms.now in
-    typed-abstraction t0.types c.type_of_body.new.terms.types c.function_type.new.self.types (binder_types t0.types c.args.binders.now) (term_at t0.terms c.args.number) c.in-Abstraction.ty (term_at t0.terms c.in-Abstraction.body) c.in-Ok-type_of_body.body_ty (Err c.in-Err-function_type.fault)
+    typed-abstraction t0.types c.type_of_body.new.terms.types c.function_type.new.self.types (binder_types t0.types c.args.binders.now) (term_at t0.terms c.args.number) c.in-Abstraction.ty
+    (term_at t0.terms c.in-Abstraction.body) c.in-Ok-type_of_body.body_ty (Err c.in-Err-function_type.fault)
     c.type_of_body.ensures.grows.types c.in-Abstraction.ensures.parts.0 c.in-Abstraction.ensures.shape c.in-Ok-type_of_body.ensures.typed tt tt c.in-Err-function_type.ensures.refused
 
 pub type_under-returns-in-Err-function_type-clause-known : goal.type_under-returns-in-Err-function_type-clause-known
 type_under-returns-in-Err-function_type-clause-known t c =
     let t0 = c.args.terms.now in
     let t2 = c.function_type.new.self in
-    known-grown t0 t2 c.args.binders.now c.args.known.now.entries (IsGrown-trans t0 c.type_of_body.new.terms t2 c.type_of_body.ensures.grows c.in-Err-function_type.ensures.grows) c.requires.binders c.requires.known
+    known-grown t0 t2 c.args.binders.now c.args.known.now.entries (IsGrown-trans t0 c.type_of_body.new.terms t2 c.type_of_body.ensures.grows c.in-Err-function_type.ensures.grows)
+    c.requires.binders c.requires.known
 
 pub type_under-returns-in-Err-type_of_body-clause-known : goal.type_under-returns-in-Err-type_of_body-clause-known
-type_under-returns-in-Err-type_of_body-clause-known t c = known-grown c.args.terms.now c.type_of_body.new.terms c.args.binders.now c.args.known.now.entries c.type_of_body.ensures.grows c.requires.binders c.requires.known
+type_under-returns-in-Err-type_of_body-clause-known t c = known-grown c.args.terms.now c.type_of_body.new.terms c.args.binders.now c.args.known.now.entries c.type_of_body.ensures.grows
+    c.requires.binders c.requires.known

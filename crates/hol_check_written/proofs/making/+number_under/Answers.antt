@@ -5,54 +5,76 @@ use Rattle.hol_check_terms.proofs.GrowthLemmas.{within-grown, IsGrown-trans}
 use Rattle.hol_check_written.specs.Making.{binders_in, AreNumbered}
 use Rattle.hol_check_written.specs.declared.written.WrittenShape.TheVariants.{Variable, Application, Abstraction}
 use Rattle.hol_check_written.proofs.NamedLemmas.{free-grown}
-use Rattle.hol_check_written.proofs.MakingLemmas.{Stays-trans, binders-still, shallow-still, work-after, recalled, parts-here, variable-shallow, variable-numbers, constant-numbers, function-shallow, argument-shallow, body-shallow, kept-numbers, application-made, abstraction-made, none-numbered, covered-more, numbered-grown}
+use Rattle.hol_check_written.proofs.MakingLemmas.{Stays-trans, binders-still, shallow-still, work-after, recalled, parts-here, variable-shallow, variable-numbers, constant-numbers}
+use Rattle.hol_check_written.proofs.MakingLemmas.{function-shallow, argument-shallow, body-shallow, kept-numbers, application-made, abstraction-made, none-numbered, covered-more, numbered-grown}
 use Rattle.hol_check_written.proofs.making.«+number_under».Goals as goal
 
 pub number_under-returns-in-Some : goal.number_under-returns-in-Some
-number_under-returns-in-Some t c = recalled c.args.terms.now c.args.written.now c.args.binders.now c.args.line c.args.made.now.entries c.args.known.now.entries c.requires.work _ (slice_get-get_or c.args.written.now c.args.line _ c.requires.line) c.is_apart-is_apart.result c.in-Some.number c.is_apart-is_apart.ensures c.in-Some.ensures
+number_under-returns-in-Some t c = recalled c.args.terms.now c.args.written.now c.args.binders.now c.args.line c.args.made.now.entries c.args.known.now.entries c.requires.work _
+    (slice_get-get_or c.args.written.now c.args.line _ c.requires.line) c.is_apart-is_apart.result c.in-Some.number c.is_apart-is_apart.ensures c.in-Some.ensures
 
 -- leaves
 
 pub number_under-variable_under-requires-clause-number : goal.number_under-variable_under-requires-clause-number
-number_under-variable_under-requires-clause-number t c = parts-here c.args.terms.now c.args.written.now c.args.binders.now c.args.line c.args.made.now.entries c.args.known.now.entries c.requires.work _ (slice_get-get_or c.args.written.now c.args.line _ c.requires.line) (Variable c.in-Variable.number) c.in-Variable.is
+number_under-variable_under-requires-clause-number t c = parts-here c.args.terms.now c.args.written.now c.args.binders.now c.args.line c.args.made.now.entries c.args.known.now.entries
+    c.requires.work _ (slice_get-get_or c.args.written.now c.args.line _ c.requires.line) (Variable c.in-Variable.number) c.in-Variable.is
 
 pub number_under-variable_under-requires-clause-shallow : goal.number_under-variable_under-requires-clause-shallow
-number_under-variable_under-requires-clause-shallow t c = variable-shallow c.args.terms.now c.args.written.now c.args.binders.now c.args.line c.args.made.now.entries c.args.known.now.entries c.requires.work _ (slice_get-get_or c.args.written.now c.args.line _ c.requires.line) c.in-Variable.number c.in-Variable.is c.requires.shallow
+number_under-variable_under-requires-clause-shallow t c = variable-shallow c.args.terms.now c.args.written.now c.args.binders.now c.args.line c.args.made.now.entries c.args.known.now.entries
+    c.requires.work _ (slice_get-get_or c.args.written.now c.args.line _ c.requires.line) c.in-Variable.number c.in-Variable.is c.requires.shallow
 
 pub number_under-returns-in-Variable : goal.number_under-returns-in-Variable
-number_under-returns-in-Variable t c = variable-numbers c.args.terms.now c.args.written.now c.args.binders.now c.args.line c.args.made.now.entries c.args.known.now.entries c.requires.work _ (slice_get-get_or c.args.written.now c.args.line _ c.requires.line) c.in-Variable.number c.variable_under.new.terms c.variable_under.result c.in-Variable.is c.variable_under.ensures.grows c.variable_under.ensures.number c.variable_under.ensures.refused
+number_under-returns-in-Variable t c = variable-numbers c.args.terms.now c.args.written.now c.args.binders.now c.args.line c.args.made.now.entries c.args.known.now.entries c.requires.work _
+    (slice_get-get_or c.args.written.now c.args.line _ c.requires.line) c.in-Variable.number c.variable_under.new.terms c.variable_under.result c.in-Variable.is
+    c.variable_under.ensures.grows c.variable_under.ensures.number c.variable_under.ensures.refused
 
 pub number_under-returns-in-Constant : goal.number_under-returns-in-Constant
-number_under-returns-in-Constant t c = constant-numbers c.args.terms.now c.args.written.now c.args.binders.now c.args.line c.args.made.now.entries c.args.known.now.entries c.requires.work _ (slice_get-get_or c.args.written.now c.args.line _ c.requires.line) c.in-Constant.number c.in-Constant.is
+number_under-returns-in-Constant t c = constant-numbers c.args.terms.now c.args.written.now c.args.binders.now c.args.line c.args.made.now.entries c.args.known.now.entries c.requires.work _
+    (slice_get-get_or c.args.written.now c.args.line _ c.requires.line) c.in-Constant.number c.in-Constant.is
 
 -- combinations
 
 pub number_under-number_under-requires : goal.number_under-number_under-requires
 number_under-number_under-requires t c =
-    let parts = parts-here c.args.terms.now c.args.written.now c.args.binders.now c.args.line c.args.made.now.entries c.args.known.now.entries c.requires.work _ (slice_get-get_or c.args.written.now c.args.line _ c.requires.line) (Application c.in-Application.function c.in-Application.argument) c.in-Application.is in
+    let parts = parts-here c.args.terms.now c.args.written.now c.args.binders.now c.args.line c.args.made.now.entries c.args.known.now.entries c.requires.work _
+    (slice_get-get_or c.args.written.now c.args.line _ c.requires.line) (Application c.in-Application.function c.in-Application.argument) c.in-Application.is in
     let before : c.in-Application.function < c.args.line = parts.0 in
-    let within : c.args.line < length c.args.written.now = c.requires.line in
-    (omega arith, (omega arith, (function-shallow c.args.terms.now c.args.written.now c.args.binders.now c.args.line c.args.made.now.entries c.args.known.now.entries c.requires.work _ (slice_get-get_or c.args.written.now c.args.line _ c.requires.line) c.in-Application.function c.in-Application.argument c.in-Application.is c.requires.shallow, c.requires.work)))
-
-pub number_under-number_under-requires-in-Application : goal.number_under-number_under-requires-in-Application
-number_under-number_under-requires-in-Application t c =
-    let parts = parts-here c.args.terms.now c.args.written.now c.args.binders.now c.args.line c.args.made.now.entries c.args.known.now.entries c.requires.work _ (slice_get-get_or c.args.written.now c.args.line _ c.requires.line) (Application c.in-Application.function c.in-Application.argument) c.in-Application.is in
-    let before : c.in-Application.argument < c.args.line = parts.1 in
-    let within : c.args.line < length c.args.written.now = c.requires.line in
-    let shallow = argument-shallow c.args.terms.now c.args.written.now c.args.binders.now c.args.line c.args.made.now.entries c.args.known.now.entries c.requires.work _ (slice_get-get_or c.args.written.now c.args.line _ c.requires.line) c.in-Application.function c.in-Application.argument c.in-Application.is c.requires.shallow in (
+    let within : c.args.line < length c.args.written.now = c.requires.line in (
       omega arith,
       (
         omega arith,
         (
-          shallow-still c.args.terms.now c.number_under.new.terms c.number_under.ensures.grows c.args.written.now c.requires.work.written_are c.args.binders.now c.in-Application.argument c.requires.work.binders_are shallow,
-          work-after c.args.terms.now c.number_under.new.terms c.args.written.now c.args.binders.now c.in-Application.function c.args.made.now.entries c.args.known.now.entries c.number_under.new.made.entries c.number_under.new.known.entries c.number_under.result c.requires.work c.number_under.ensures,
+          function-shallow c.args.terms.now c.args.written.now c.args.binders.now c.args.line c.args.made.now.entries c.args.known.now.entries c.requires.work _
+              (slice_get-get_or c.args.written.now c.args.line _ c.requires.line) c.in-Application.function c.in-Application.argument c.in-Application.is c.requires.shallow,
+          c.requires.work,
+        ),
+      ),
+    )
+
+pub number_under-number_under-requires-in-Application : goal.number_under-number_under-requires-in-Application
+number_under-number_under-requires-in-Application t c =
+    let parts = parts-here c.args.terms.now c.args.written.now c.args.binders.now c.args.line c.args.made.now.entries c.args.known.now.entries c.requires.work _
+    (slice_get-get_or c.args.written.now c.args.line _ c.requires.line) (Application c.in-Application.function c.in-Application.argument) c.in-Application.is in
+    let before : c.in-Application.argument < c.args.line = parts.1 in
+    let within : c.args.line < length c.args.written.now = c.requires.line in
+    let shallow = argument-shallow c.args.terms.now c.args.written.now c.args.binders.now c.args.line c.args.made.now.entries c.args.known.now.entries c.requires.work _
+    (slice_get-get_or c.args.written.now c.args.line _ c.requires.line) c.in-Application.function c.in-Application.argument c.in-Application.is c.requires.shallow in (
+      omega arith,
+      (
+        omega arith,
+        (
+          shallow-still c.args.terms.now c.number_under.new.terms c.number_under.ensures.grows c.args.written.now c.requires.work.written_are c.args.binders.now c.in-Application.argument
+              c.requires.work.binders_are shallow,
+          work-after c.args.terms.now c.number_under.new.terms c.args.written.now c.args.binders.now c.in-Application.function c.args.made.now.entries c.args.known.now.entries
+              c.number_under.new.made.entries c.number_under.new.known.entries c.number_under.result c.requires.work c.number_under.ensures,
         ),
       ),
     )
 
 pub number_under-keep_application-requires-clause-function : goal.number_under-keep_application-requires-clause-function
 number_under-keep_application-requires-clause-function t c =
-    within-grown c.number_under.new.terms c.number_under-in-Application.new.terms c.in-Ok.new_function c.number_under-in-Application.ensures.grows (is_within c.number_under.new.terms.terms c.in-Ok.new_function _ c.in-Ok.ensures.number)
+    within-grown c.number_under.new.terms c.number_under-in-Application.new.terms c.in-Ok.new_function c.number_under-in-Application.ensures.grows
+    (is_within c.number_under.new.terms.terms c.in-Ok.new_function _ c.in-Ok.ensures.number)
 
 pub number_under-keep_application-requires-clause-argument : goal.number_under-keep_application-requires-clause-argument
 number_under-keep_application-requires-clause-argument t c = is_within c.number_under-in-Application.new.terms.terms c.in-Ok-number_under.new_argument _ c.in-Ok-number_under.ensures.number
@@ -64,13 +86,17 @@ number_under-returns-in-Ok-number_under t c =
     let t2 = c.number_under-in-Application.new.terms in
     let binders = c.args.binders.now in
     let written = c.args.written.now in
-    kept-numbers t0 t2 c.keep_application.new.terms written (binders_in t0.terms binders) c.args.line c.args.made.now.entries c.number_under-in-Application.new.made.entries c.keep_application.new.made.entries
+    kept-numbers t0 t2 c.keep_application.new.terms written (binders_in t0.terms binders) c.args.line c.args.made.now.entries c.number_under-in-Application.new.made.entries
+    c.keep_application.new.made.entries
     c.number_under-in-Application.new.known.entries c.keep_application.new.known.entries c.is_apart-is_apart.result _ c.keep_application.result
     c.requires.work.written_are c.requires.line (IsGrown-trans t0 t1 t2 c.in-Ok.ensures.grows c.in-Ok-number_under.ensures.grows) c.in-Ok-number_under.ensures.made_are
-    (subst (λ around. AreNumbered t2 written around c.number_under-in-Application.new.known.entries) (binders-still t0 t1 c.in-Ok.ensures.grows binders c.requires.work.binders_are) c.in-Ok-number_under.ensures.known_are)
+    (subst (λ around. AreNumbered t2 written around c.number_under-in-Application.new.known.entries) (binders-still t0 t1 c.in-Ok.ensures.grows binders c.requires.work.binders_are)
+    c.in-Ok-number_under.ensures.known_are)
     (Stays-trans c.args.made.now.entries c.number_under.new.made.entries c.number_under-in-Application.new.made.entries c.in-Ok.ensures.stays c.in-Ok-number_under.ensures.stays)
-    (application-made t0 t1 written binders c.args.line c.args.made.now.entries c.args.known.now.entries c.requires.work _ (slice_get-get_or written c.args.line _ c.requires.line) c.in-Ok.ensures.grows t2
-    c.in-Application.function c.in-Application.argument c.in-Ok.new_function c.in-Ok-number_under.new_argument c.in-Application.is c.in-Ok-number_under.ensures.grows c.in-Ok.ensures.number c.in-Ok-number_under.ensures.number)
+    (application-made t0 t1 written binders c.args.line c.args.made.now.entries c.args.known.now.entries c.requires.work _ (slice_get-get_or written c.args.line _ c.requires.line)
+    c.in-Ok.ensures.grows t2
+    c.in-Application.function c.in-Application.argument c.in-Ok.new_function c.in-Ok-number_under.new_argument c.in-Application.is c.in-Ok-number_under.ensures.grows c.in-Ok.ensures.number
+    c.in-Ok-number_under.ensures.number)
     (λ known. c.is_apart-is_apart.ensures known _ (c.requires.work.written_are c.args.line _ (slice_get-get_or written c.args.line _ c.requires.line)).writes.counted)
     c.keep_application.ensures
 
@@ -84,7 +110,8 @@ number_under-returns-in-Err-number_under t c =
       refused = c.in-Err-number_under.ensures.refused;
       grows = IsGrown-trans t0 t1 t2 c.in-Ok.ensures.grows c.in-Err-number_under.ensures.grows;
       made_are = c.in-Err-number_under.ensures.made_are;
-      known_are = subst (λ around. AreNumbered t2 c.args.written.now around c.number_under-in-Application.new.known.entries) (binders-still t0 t1 c.in-Ok.ensures.grows c.args.binders.now c.requires.work.binders_are) c.in-Err-number_under.ensures.known_are;
+      known_are = subst (λ around. AreNumbered t2 c.args.written.now around c.number_under-in-Application.new.known.entries)
+          (binders-still t0 t1 c.in-Ok.ensures.grows c.args.binders.now c.requires.work.binders_are) c.in-Err-number_under.ensures.known_are;
       stays = Stays-trans c.args.made.now.entries c.number_under.new.made.entries c.number_under-in-Application.new.made.entries c.in-Ok.ensures.stays c.in-Err-number_under.ensures.stays;
     }
 
@@ -92,7 +119,8 @@ number_under-returns-in-Err-number_under t c =
 
 pub number_under-number_of_body-requires : goal.number_under-number_of_body-requires
 number_under-number_of_body-requires t c =
-    let parts = parts-here c.args.terms.now c.args.written.now c.args.binders.now c.args.line c.args.made.now.entries c.args.known.now.entries c.requires.work _ (slice_get-get_or c.args.written.now c.args.line _ c.requires.line) (Abstraction c.in-Abstraction.binder c.in-Abstraction.body) c.in-Abstraction.is in
+    let parts = parts-here c.args.terms.now c.args.written.now c.args.binders.now c.args.line c.args.made.now.entries c.args.known.now.entries c.requires.work _
+    (slice_get-get_or c.args.written.now c.args.line _ c.requires.line) (Abstraction c.in-Abstraction.binder c.in-Abstraction.body) c.in-Abstraction.is in
     let before : c.in-Abstraction.body < c.args.line = parts.1 in
     let within : c.args.line < length c.args.written.now = c.requires.line in (
       omega arith,
@@ -101,7 +129,8 @@ number_under-number_of_body-requires t c =
         (
           omega arith,
           (
-            body-shallow c.args.terms.now c.args.written.now c.args.binders.now c.args.line c.args.made.now.entries c.args.known.now.entries c.requires.work _ (slice_get-get_or c.args.written.now c.args.line _ c.requires.line) c.in-Abstraction.binder c.in-Abstraction.body c.in-Abstraction.is c.requires.shallow,
+            body-shallow c.args.terms.now c.args.written.now c.args.binders.now c.args.line c.args.made.now.entries c.args.known.now.entries c.requires.work _
+                (slice_get-get_or c.args.written.now c.args.line _ c.requires.line) c.in-Abstraction.binder c.in-Abstraction.body c.in-Abstraction.is c.requires.shallow,
             record {
               written_are = c.requires.work.written_are;
               binders_are = c.requires.work.binders_are;
@@ -115,7 +144,9 @@ number_under-number_of_body-requires t c =
 
 pub number_under-variable_type-ty-requires : goal.number_under-variable_type-ty-requires
 number_under-variable_type-ty-requires t c =
-    free-grown c.args.terms.now c.number_of_body.new.terms c.in-Ok-number_of_body.ensures.grows c.in-Abstraction.binder (parts-here c.args.terms.now c.args.written.now c.args.binders.now c.args.line c.args.made.now.entries c.args.known.now.entries c.requires.work _ (slice_get-get_or c.args.written.now c.args.line _ c.requires.line) (Abstraction c.in-Abstraction.binder c.in-Abstraction.body) c.in-Abstraction.is).0
+    free-grown c.args.terms.now c.number_of_body.new.terms c.in-Ok-number_of_body.ensures.grows c.in-Abstraction.binder
+    (parts-here c.args.terms.now c.args.written.now c.args.binders.now c.args.line c.args.made.now.entries c.args.known.now.entries c.requires.work _
+    (slice_get-get_or c.args.written.now c.args.line _ c.requires.line) (Abstraction c.in-Abstraction.binder c.in-Abstraction.body) c.in-Abstraction.is).0
 
 pub number_under-keep_abstraction-requires-clause-body : goal.number_under-keep_abstraction-requires-clause-body
 number_under-keep_abstraction-requires-clause-body t c = is_within c.number_of_body.new.terms.terms c.in-Ok-number_of_body.new_body _ c.in-Ok-number_of_body.ensures.number
@@ -131,7 +162,8 @@ number_under-returns-in-Ok-number_of_body t c =
     c.requires.work.written_are c.requires.line c.in-Ok-number_of_body.ensures.grows c.in-Ok-number_of_body.ensures.made_are
     (numbered-grown t0 t1 c.in-Ok-number_of_body.ensures.grows written c.requires.work.written_are (binders_in t0.terms binders) c.args.known.now.entries c.requires.work.known_are)
     c.in-Ok-number_of_body.ensures.stays
-    (abstraction-made t0 t1 written binders c.args.line c.args.made.now.entries c.args.known.now.entries c.requires.work _ (slice_get-get_or written c.args.line _ c.requires.line) c.in-Ok-number_of_body.ensures.grows
+    (abstraction-made t0 t1 written binders c.args.line c.args.made.now.entries c.args.known.now.entries c.requires.work _ (slice_get-get_or written c.args.line _ c.requires.line)
+    c.in-Ok-number_of_body.ensures.grows
     c.in-Abstraction.binder c.in-Abstraction.body c.variable_type-ty.result c.in-Ok-number_of_body.new_body c.in-Abstraction.is c.variable_type-ty.ensures.ty c.in-Ok-number_of_body.ensures.number)
     (λ known. c.is_apart-is_apart.ensures known _ (c.requires.work.written_are c.args.line _ (slice_get-get_or written c.args.line _ c.requires.line)).writes.counted)
     c.keep_abstraction.ensures
@@ -145,7 +177,8 @@ number_under-returns-in-Err-number_of_body t c =
       refused = c.in-Err-number_of_body.ensures.refused;
       grows = c.in-Err-number_of_body.ensures.grows;
       made_are = c.in-Err-number_of_body.ensures.made_are;
-      known_are = numbered-grown t0 t1 c.in-Err-number_of_body.ensures.grows c.args.written.now c.requires.work.written_are (binders_in t0.terms c.args.binders.now) c.args.known.now.entries c.requires.work.known_are;
+      known_are = numbered-grown t0 t1 c.in-Err-number_of_body.ensures.grows c.args.written.now c.requires.work.written_are (binders_in t0.terms c.args.binders.now) c.args.known.now.entries
+          c.requires.work.known_are;
       stays = c.in-Err-number_of_body.ensures.stays;
     }
 

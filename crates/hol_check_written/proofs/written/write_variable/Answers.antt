@@ -7,7 +7,8 @@ pub returns-in-Ok : goal.returns-in-Ok
 returns-in-Ok c = record {
   answered = record {
     is_shape = refl;
-    writes = variable-writes c.args.terms.now c.type_of.new.terms c.args.number _ c.requires c.in-Ok.ensures.grows c.in-Ok.ensures.number c.in-Ok.ensures.within_limits refl refl c.one_variable.ensures;
+    writes = variable-writes c.args.terms.now c.type_of.new.terms c.args.number _ c.requires c.in-Ok.ensures.grows c.in-Ok.ensures.number c.in-Ok.ensures.within_limits refl refl
+        c.one_variable.ensures;
   };
   grows = c.in-Ok.ensures.grows;
 }

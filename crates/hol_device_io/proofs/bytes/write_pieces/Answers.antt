@@ -14,5 +14,6 @@ loop-piece-preserved g c = (
 )
 
 pub returns-clause-err : goal.returns-clause-err
-returns-clause-err g c = ends (g.W.Sink.contents c.args.writer.now) (g.W.Sink.contents c.loop-piece.writer) (g.W.Sink.contents c.write_all.new.writer) c.args.pieces.now (take c.loop-piece.held c.loop-piece.buffer) c.write_all.result
+returns-clause-err g c = ends (g.W.Sink.contents c.args.writer.now) (g.W.Sink.contents c.loop-piece.writer) (g.W.Sink.contents c.write_all.new.writer) c.args.pieces.now
+    (take c.loop-piece.held c.loop-piece.buffer) c.write_all.result
     (rw (drop_all c.loop-piece.piece-index c.args.pieces.now (search rules)) at c.loop-piece.invariant.0) c.write_all.ensures.err

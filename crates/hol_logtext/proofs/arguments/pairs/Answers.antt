@@ -10,4 +10,5 @@ loop-at-preserved c =
 
 pub returns-else-at-fields : goal.returns-else-at-fields
 returns-else-at-fields c =
-    pair_cut c.loop-at.pairs.items c.args.fields.now c.loop-at.at (record { ref_ptr = (0, 0); now = [] }) (omega (arith, c.loop-at.invariant.0, c.if-at-fields.false)) (omega (arith, c.loop-at-test.false)) c.loop-at.invariant.1
+    pair_cut c.loop-at.pairs.items c.args.fields.now c.loop-at.at (record { ref_ptr = (0, 0); now = [] }) (omega (arith, c.loop-at.invariant.0, c.if-at-fields.false))
+    (omega (arith, c.loop-at-test.false)) c.loop-at.invariant.1

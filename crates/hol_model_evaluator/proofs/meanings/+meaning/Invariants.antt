@@ -17,5 +17,6 @@ decreases-meaning l = nameless_nodes (nameless l.term.now) + theory_nodes (theor
 abbrev pub invariant-meaning-loop-element : goal.invariant-meaning-loop-element
 invariant-meaning-loop-element l =
     l.tabulated.items
-    ≡ map (λ v. models.meaning (models.constant_meaning (theory_of l.theory) (model_of l.model)) (model_of l.model) (hol_type l.ty.now ∷ types_of l.types) (v ∷ values_under l.values) (nameless l.body.now))
+    ≡ map (λ v. models.meaning (models.constant_meaning (theory_of l.theory) (model_of l.model)) (model_of l.model) (hol_type l.ty.now ∷ types_of l.types) (v ∷ values_under l.values)
+    (nameless l.body.now))
     (take l.element-index l.element-items)

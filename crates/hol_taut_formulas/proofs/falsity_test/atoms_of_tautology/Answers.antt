@@ -12,7 +12,8 @@ pub returns-in-Some : goal.returns-in-Some
 returns-in-Some c =
     let term = c.args.term.now in
     let atoms = c.add_few_atoms.new.seen.items in
-    let few : AddsFew true (atom_places (proposition term)) c.new-atoms.result.items atoms = subst (λ (b : Bool). AddsFew b (atom_places (proposition term)) c.new-atoms.result.items atoms) c.if-not-branch.false c.in_ok-add_few_atoms.ensures.ok in
+    let few : AddsFew true (atom_places (proposition term)) c.new-atoms.result.items atoms =
+    subst (λ (b : Bool). AddsFew b (atom_places (proposition term)) c.new-atoms.result.items atoms) c.if-not-branch.false c.in_ok-add_few_atoms.ensures.ok in
     let atoms_are : atoms ≡ atoms_of term = few.0 ∙ ap (λ seen. with_new_terms seen (atom_places (proposition term))) c.new-atoms.ensures.items in
     let found = row-found term atoms (option_map (λ values. values.items) c.in_ok-row.field-0) atoms_are
     (c.in_ok-row.ensures.ok ∙ ap (λ some. first_after (λ values. not (is_true_in some term values)) [] (length some - 0)) c.deref.ensures.value) in
@@ -25,7 +26,8 @@ pub returns-in-None : goal.returns-in-None
 returns-in-None c =
     let term = c.args.term.now in
     let atoms = c.add_few_atoms.new.seen.items in
-    let few : AddsFew true (atom_places (proposition term)) c.new-atoms.result.items atoms = subst (λ (b : Bool). AddsFew b (atom_places (proposition term)) c.new-atoms.result.items atoms) c.if-not-branch.false c.in_ok-add_few_atoms.ensures.ok in
+    let few : AddsFew true (atom_places (proposition term)) c.new-atoms.result.items atoms =
+    subst (λ (b : Bool). AddsFew b (atom_places (proposition term)) c.new-atoms.result.items atoms) c.if-not-branch.false c.in_ok-add_few_atoms.ensures.ok in
     let atoms_are : atoms ≡ atoms_of term = few.0 ∙ ap (λ seen. with_new_terms seen (atom_places (proposition term))) c.new-atoms.ensures.items in
     let found = row-found term atoms (option_map (λ values. values.items) c.in_ok-row.field-0) atoms_are
     (c.in_ok-row.ensures.ok ∙ ap (λ some. first_after (λ values. not (is_true_in some term values)) [] (length some - 0)) c.deref.ensures.value) in

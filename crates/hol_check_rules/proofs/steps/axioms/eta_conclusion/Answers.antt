@@ -9,4 +9,5 @@ returns-in-Ok-eta_variable-clause-formed c =
     rw (left, right) at c.equation_of.ensures.formed
 
 pub returns-in-Ok-eta_variable-clause-grows : goal.returns-in-Ok-eta_variable-clause-grows
-returns-in-Ok-eta_variable-clause-grows c = grown-twice c.args.terms.now c.eta_abstraction.new.terms c.eta_variable.new.terms c.equation_of.new.terms c.eta_abstraction.ensures.grows c.eta_variable.ensures.grows c.equation_of.ensures.grows
+returns-in-Ok-eta_variable-clause-grows c = grown-twice c.args.terms.now c.eta_abstraction.new.terms c.eta_variable.new.terms c.equation_of.new.terms c.eta_abstraction.ensures.grows
+    c.eta_variable.ensures.grows c.equation_of.ensures.grows

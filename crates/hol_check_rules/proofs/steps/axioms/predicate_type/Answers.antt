@@ -3,9 +3,11 @@ use Rattle.hol_check_rules.proofs.steps.axioms.predicate_type.Goals as goal
 
 pub returns-in-Ok-function_type-clause-named : goal.returns-in-Ok-function_type-clause-named
 returns-in-Ok-function_type-clause-named c = record {
-  number = function-named c.type_variable.new.self c.boolean.new.self c.function_type.new.self.types c.in-Ok.domain c.in-Ok-boolean.codomain c.in-Ok-function_type.number _ _ c.in-Ok.ensures.number c.boolean.ensures.grows c.in-Ok-boolean.ensures.number c.in-Ok-function_type.ensures.number;
+  number = function-named c.type_variable.new.self c.boolean.new.self c.function_type.new.self.types c.in-Ok.domain c.in-Ok-boolean.codomain c.in-Ok-function_type.number _ _
+      c.in-Ok.ensures.number c.boolean.ensures.grows c.in-Ok-boolean.ensures.number c.in-Ok-function_type.ensures.number;
   refused = tt;
 }
 
 pub returns-in-Ok-function_type-clause-grows : goal.returns-in-Ok-function_type-clause-grows
-returns-in-Ok-function_type-clause-grows c = grown-twice c.args.terms.now c.type_variable.new.self c.boolean.new.self c.function_type.new.self c.type_variable.ensures.grows c.boolean.ensures.grows c.function_type.ensures.grows
+returns-in-Ok-function_type-clause-grows c = grown-twice c.args.terms.now c.type_variable.new.self c.boolean.new.self c.function_type.new.self c.type_variable.ensures.grows
+    c.boolean.ensures.grows c.function_type.ensures.grows

@@ -14,4 +14,5 @@ returns-in-Ok-application-clause-formed c =
     rw (term-there t3.terms c.in-Ok-application.number _ c.in-Ok-application.ensures.made.number ∙ (λ i. app (predicate i) (chosen i))) at c.within_limits.ensures.formed
 
 pub returns-in-Err-application-clause-grows : goal.returns-in-Err-application-clause-grows
-returns-in-Err-application-clause-grows c = grown-twice c.args.terms.now c.choice_application.new.terms c.select_predicate.new.terms c.application.new.terms c.choice_application.ensures.grows c.select_predicate.ensures.grows c.application.ensures.grows
+returns-in-Err-application-clause-grows c = grown-twice c.args.terms.now c.choice_application.new.terms c.select_predicate.new.terms c.application.new.terms
+    c.choice_application.ensures.grows c.select_predicate.ensures.grows c.application.ensures.grows

@@ -8,16 +8,19 @@ use Rattle.hol_check_terms.proofs.GrowthLemmas.{term-there}
 
 pub returns-in-Ok-application-clause-named : goal.returns-in-Ok-application-clause-named
 returns-in-Ok-application-clause-named c = record {
-  number = application-named c.select_predicate.new.terms c.select_variable.new.terms c.application.new.self.terms c.in-Ok.predicate c.in-Ok-select_variable.argument c.in-Ok-application.number _ _ c.in-Ok.ensures.named.number c.select_variable.ensures.grows c.in-Ok-select_variable.ensures.named.number c.in-Ok-application.ensures.number;
+  number = application-named c.select_predicate.new.terms c.select_variable.new.terms c.application.new.self.terms c.in-Ok.predicate c.in-Ok-select_variable.argument
+      c.in-Ok-application.number _ _ c.in-Ok.ensures.named.number c.select_variable.ensures.grows c.in-Ok-select_variable.ensures.named.number c.in-Ok-application.ensures.number;
   refused = tt;
 }
 
 pub returns-in-Ok-application-clause-grows : goal.returns-in-Ok-application-clause-grows
-returns-in-Ok-application-clause-grows c = grown-twice c.args.terms.now c.select_predicate.new.terms c.select_variable.new.terms c.application.new.self c.select_predicate.ensures.grows c.select_variable.ensures.grows c.application.ensures.grows
+returns-in-Ok-application-clause-grows c = grown-twice c.args.terms.now c.select_predicate.new.terms c.select_variable.new.terms c.application.new.self c.select_predicate.ensures.grows
+    c.select_variable.ensures.grows c.application.ensures.grows
 
 pub returns-in-Ok-application-clause-fitting : goal.returns-in-Ok-application-clause-fitting
 returns-in-Ok-application-clause-fitting c =
-    let made = application-named c.select_predicate.new.terms c.select_variable.new.terms c.application.new.self.terms c.in-Ok.predicate c.in-Ok-select_variable.argument c.in-Ok-application.number select_predicate select_variable
+    let made = application-named c.select_predicate.new.terms c.select_variable.new.terms c.application.new.self.terms c.in-Ok.predicate c.in-Ok-select_variable.argument
+    c.in-Ok-application.number select_predicate select_variable
     c.in-Ok.ensures.named.number c.select_variable.ensures.grows c.in-Ok-select_variable.ensures.named.number c.in-Ok-application.ensures.number in
     record {
       within = is_within c.application.new.self.terms c.in-Ok-application.number select_hypothesis made;

@@ -15,7 +15,8 @@ returns-in-Ok-equation_of-clause-defined c =
     let first = c.type_of.ensures.grows in
     let second = c.constant.ensures.grows in
     let is = definition-is t0 t1 t3 first second c.args.name c.in-Ok.ty c.in-Ok-constant.constant c.args.body c.requires.name c.requires.body c.in-Ok.ensures.number c.in-Ok-constant.ensures.number in
-    let definable = sym (definable-is t0 t1 t3 first second c.args.name c.in-Ok.ty c.in-Ok-constant.constant c.args.body c.requires.name c.requires.body c.in-Ok.ensures.number c.in-Ok-constant.ensures.number)
+    let definable = sym (definable-is t0 t1 t3 first second c.args.name c.in-Ok.ty c.in-Ok-constant.constant c.args.body c.requires.name c.requires.body c.in-Ok.ensures.number
+    c.in-Ok-constant.ensures.number)
     ∙ (sym c.in-Ok-true.ensures.definable ∙ c.in-Ok-true.field-0-test) in
     let t4 = c.equation_of.new.terms in (
       definition-fits (name_at t0.names c.args.name) (term_at t0.terms c.args.body) definable (sym (ap nameless_within_limits is) ∙ c.in-Ok-equation_of.ensures.formed.fits),
@@ -24,7 +25,8 @@ returns-in-Ok-equation_of-clause-defined c =
     )
 
 pub returns-in-Ok-equation_of-clause-grows : goal.returns-in-Ok-equation_of-clause-grows
-returns-in-Ok-equation_of-clause-grows c = grown-twice c.args.terms.now c.type_of.new.terms c.constant.new.self c.equation_of.new.terms c.type_of.ensures.grows c.constant.ensures.grows c.equation_of.ensures.grows
+returns-in-Ok-equation_of-clause-grows c = grown-twice c.args.terms.now c.type_of.new.terms c.constant.new.self c.equation_of.new.terms c.type_of.ensures.grows c.constant.ensures.grows
+    c.equation_of.ensures.grows
 
 pub returns-in-Err-TooLarge-clause-defined : goal.returns-in-Err-TooLarge-clause-defined
 returns-in-Err-TooLarge-clause-defined c =
@@ -34,7 +36,8 @@ returns-in-Err-TooLarge-clause-defined c =
     let first = c.type_of.ensures.grows in
     let second = c.constant.ensures.grows in
     let is = definition-is t0 t1 t3 first second c.args.name c.in-Ok.ty c.in-Ok-constant.constant c.args.body c.requires.name c.requires.body c.in-Ok.ensures.number c.in-Ok-constant.ensures.number in
-    let definable = sym (definable-is t0 t1 t3 first second c.args.name c.in-Ok.ty c.in-Ok-constant.constant c.args.body c.requires.name c.requires.body c.in-Ok.ensures.number c.in-Ok-constant.ensures.number)
+    let definable = sym (definable-is t0 t1 t3 first second c.args.name c.in-Ok.ty c.in-Ok-constant.constant c.args.body c.requires.name c.requires.body c.in-Ok.ensures.number
+    c.in-Ok-constant.ensures.number)
     ∙ (sym c.in-Ok-true.ensures.definable ∙ c.in-Ok-true.field-0-test) in
     let formed = rw c.in-Err-TooLarge.field-0-is at c.in-Err-TooLarge.ensures.formed in
     definition-large (name_at t0.names c.args.name) (term_at t0.terms c.args.body) definable (sym (ap nameless_within_limits is) ∙ past-only _ _ formed)

@@ -17,4 +17,6 @@ returns-clause-taken c =
     let none : is_free_in_any (term_at terms c.args.variable) premise.hypotheses ≡ false = sym found ∙ c.in-Ok-false.field-0-test in
     let order : AreInOrder terms c.in-Ok.hypotheses.items premise.hypotheses = rw c.deref-2.ensures.value at c.in-Ok.ensures.all in
     let formed = rw (c.left_side-left.ensures.side, c.right_side-right.ensures.side) at c.equation_of_abstractions.ensures.formed in
-    typed-taken _ _ _ _ _ (ap not variable) (neither _ _ equation none) (c.conclude.ensures c.args.terms.now c.equation_of_abstractions.new.terms premise.hypotheses (sequents.equation_of (sequents.abstraction_over (term_at terms c.args.variable) (sequents.left_side premise.conclusion)) (sequents.abstraction_over (term_at terms c.args.variable) (sequents.right_side premise.conclusion))) c.equation_of_abstractions.ensures.grows order formed)
+    typed-taken _ _ _ _ _ (ap not variable) (neither _ _ equation none) (c.conclude.ensures c.args.terms.now c.equation_of_abstractions.new.terms premise.hypotheses
+    (sequents.equation_of (sequents.abstraction_over (term_at terms c.args.variable) (sequents.left_side premise.conclusion))
+    (sequents.abstraction_over (term_at terms c.args.variable) (sequents.right_side premise.conclusion))) c.equation_of_abstractions.ensures.grows order formed)

@@ -17,7 +17,12 @@ changed_theorem-requires-clause-meaning c =
     let theta = term_pairs_in t0.terms c.args.pairs.now in
     record {
       meaning = putting (term_instance_of theta);
-      meant = record { theta = theta; are_pairs = pairs-grown t0.terms t1.terms c.are_replacements.ensures.grows.terms c.args.pairs.now theta (are-term-pairs t0.terms c.args.pairs.now c.requires.pairs); is_meant = refl };
+      meant = record {
+        theta = theta;
+        are_pairs = pairs-grown t0.terms t1.terms c.are_replacements.ensures.grows.terms c.args.pairs.now theta
+            (are-term-pairs t0.terms c.args.pairs.now c.requires.pairs);
+        is_meant = refl;
+      };
     }
 
 pub changed_theorem-requires-clause-premise : goal.changed_theorem-requires-clause-premise
@@ -31,7 +36,13 @@ returns-in-Ok-true-clause-taken c =
     let result = c.changed_theorem.result in
     let now = c.changed_theorem.new.terms.terms in
     let taken = c.changed_theorem.ensures.taken (putting (term_instance_of theta))
-    (record { theta = theta; are_pairs = pairs-grown t0.terms t1.terms c.are_replacements.ensures.grows.terms c.args.pairs.now theta (are-term-pairs t0.terms c.args.pairs.now c.requires.pairs); is_meant = refl }) in
-    let still = subst (λ s. Takes (changed_step (changed (putting (term_instance_of theta)) 0) s) result now) (sequent-still t0 t1 c.are_replacements.ensures.grows c.args.premise.now c.requires.premise) taken in
+    (record {
+      theta = theta;
+      are_pairs = pairs-grown t0.terms t1.terms c.are_replacements.ensures.grows.terms c.args.pairs.now theta
+          (are-term-pairs t0.terms c.args.pairs.now c.requires.pairs);
+      is_meant = refl;
+    }) in
+    let still = subst (λ s. Takes (changed_step (changed (putting (term_instance_of theta)) 0) s) result now)
+    (sequent-still t0 t1 c.are_replacements.ensures.grows c.args.premise.now c.requires.premise) taken in
     typed-taken _ _ _ result now (ap not (sym c.in-Ok-true.ensures.are ∙ c.in-Ok-true.field-0-test)) refl
     (subst (λ f. Takes (changed_step f (sequent_in t0.terms c.args.premise.now)) result now) (putting-is theta) still)

@@ -24,5 +24,6 @@ returns-clause-taken c =
     let result = c.changed_theorem.result in
     let now = c.changed_theorem.new.terms.terms in
     let all : replaces_type_variables theta ≡ true = cc (c.replace_type_variables.ensures, c.if-not-replace_type_variables.false) in
-    let taken = c.changed_theorem.ensures.taken (instantiating (type_instance_of theta)) (record { theta = theta; are_pairs = are-type-pairs types c.args.pairs.now c.requires.pairs; is_meant = refl }) in
+    let taken = c.changed_theorem.ensures.taken (instantiating (type_instance_of theta))
+    (record { theta = theta; are_pairs = are-type-pairs types c.args.pairs.now c.requires.pairs; is_meant = refl }) in
     typed-taken _ _ _ result now (ap not all) refl (subst (λ f. Takes (changed_step f (sequent_in c.args.terms.now.terms c.args.premise.now)) result now) (instantiating-is theta) taken)

@@ -11,4 +11,5 @@ returns-clause-taken c =
     let one = rw c.deref.ensures.value at c.in-Ok.ensures.others in
     let two = rw c.deref-2.ensures.value at c.in-Ok-without.ensures.others in
     let order = rw (c.deref-3.ensures.value, c.deref-4.ensures.value, one, two) at c.in-Ok-union.ensures.all in
-    c.conclude.ensures c.args.terms.now c.equation_of.new.terms (without second.conclusion first.hypotheses ++ without first.conclusion second.hypotheses) _ c.equation_of.ensures.grows order c.equation_of.ensures.formed
+    c.conclude.ensures c.args.terms.now c.equation_of.new.terms (without second.conclusion first.hypotheses ++ without first.conclusion second.hypotheses) _ c.equation_of.ensures.grows order
+    c.equation_of.ensures.formed

@@ -6,9 +6,21 @@ use Rattle.hol_check_terms.proofs.terms.Terms.number_of.Goals as goal
 
 pub invariant_of-self : goal.invariant_of-self
 invariant_of-self c =
-    put-AreTerms c.self.inside.types c.self.inside.nodes.keys _ c.self.inside.typed.entries c.args.node (record { names = c.have_one_number.ensures.names; types = c.have_one_number.ensures.types }) c.self.invariant
+    put-AreTerms c.self.inside.types c.self.inside.nodes.keys _ c.self.inside.typed.entries c.args.node
+    (record { names = c.have_one_number.ensures.names; types = c.have_one_number.ensures.types }) c.self.invariant
     (subst (λ (t : TermTable). IsTermNode (type_table t) t.terms c.args.node) (sym c.self.view_is)
-    (record { placed = c.requires.placed; measured = record { height = c.requires.height; nodes = c.requires.nodes; needed = c.requires.needed; no_free = c.requires.no_free; height_fits = c.requires.height_fits; nodes_fit = c.requires.nodes_fit } }))
+    (record {
+      placed = c.requires.placed;
+      measured = record {
+        height = c.requires.height;
+        nodes = c.requires.nodes;
+        needed = c.requires.needed;
+        no_free = c.requires.no_free;
+        height_fits =
+            c.requires.height_fits;
+        nodes_fit = c.requires.nodes_fit;
+      };
+    }))
     c.number_of_node.ensures.put
 
 pub returns-clause-grows : goal.returns-clause-grows

@@ -27,7 +27,8 @@ pub returns-clause-grows : goal.returns-clause-grows
 returns-clause-grows c =
     IsLonger-trans c.args.self.now.types (types_of c.self.inside.names c.self.inside.nodes.keys) c.number_of-2.new.self.types
     (subst (λ (t : TypeTable). IsLonger t.types (types_of c.self.inside.names c.self.inside.nodes.keys)) c.self.view_is (IsLonger-same _))
-    (subst (λ (l : List HolType). IsLonger l c.number_of-2.new.self.types) (sym (types_of-later c.self.inside.names _ c.self.inside.nodes.keys c.number_of.ensures.grows c.self.invariant)) c.number_of-2.ensures.grows)
+    (subst (λ (l : List HolType). IsLonger l c.number_of-2.new.self.types) (sym (types_of-later c.self.inside.names _ c.self.inside.nodes.keys c.number_of.ensures.grows c.self.invariant))
+    c.number_of-2.ensures.grows)
 
 pub returns-clause-number : goal.returns-clause-number
 returns-clause-number c =

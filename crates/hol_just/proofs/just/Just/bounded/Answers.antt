@@ -7,7 +7,10 @@ pub invariant_of-new : goal.invariant_of-new
 invariant_of-new c =
     let same : c.deref-4.result.now ≡ c.deref-5.result.now.lines.items = search rules in
     let made = rw same at c.in_ok-lines.ensures.ok in
-    record { well_cited = cited_bounded c.args.count c.deref-5.result.now.root (flat_lines c.deref-5.result.now.lines.items) (flat_lines c.in_ok-lines.lines.items) made c.deref-5.result.now.well_cited }
+    record {
+      well_cited = cited_bounded c.args.count c.deref-5.result.now.root (flat_lines c.deref-5.result.now.lines.items) (flat_lines c.in_ok-lines.lines.items) made
+          c.deref-5.result.now.well_cited;
+    }
 
 pub returns-clause-numbers : goal.returns-clause-numbers
 returns-clause-numbers c =

@@ -43,7 +43,8 @@ returns-in-OfOther-Try c =
 
 pub returns-in-OfPlain : goal.returns-in-OfPlain
 returns-in-OfPlain c =
-    leaf-goes c.read_plain.result c.read_up_to-in-OfPlain.result c.args.at c.args.self.now c.args.tokens.now c.read_up_to-in-OfPlain.ensures (c.read_plain.ensures c.args.self.now.room) c.requires.reading
+    leaf-goes c.read_plain.result c.read_up_to-in-OfPlain.result c.args.at c.args.self.now c.args.tokens.now c.read_up_to-in-OfPlain.ensures (c.read_plain.ensures c.args.self.now.room)
+    c.requires.reading
 
 pub returns-in-OfNamed : goal.returns-in-OfNamed
 returns-in-OfNamed c =
