@@ -16,7 +16,7 @@ use hol_model::Fault;
 use hol_taut_chains::{instance, reflexive};
 use hol_taut_laws::{Law, Laws, law_theorem};
 use hol_taut_plans as plans;
-use hol_taut_plans::{Formula, Plan, Step, planned};
+use hol_taut_plans::{Formula, Plan, Rule, Step, planned};
 use hol_terms::Term;
 use std::alloc::Global;
 
@@ -85,18 +85,8 @@ fn earlier<'a>(recorder: &Recorder, made: &'a [Rec], number: usize) -> Result<&'
     }
 }
 
-// REFL.
-fn same(recorder: &mut Recorder, alloc: Global, plan: &Plan, formula: Formula) -> Result<Rec, Fault>
-    ensures continues { Continues recorder.old recorder.new result }
-{
-    match formula_of(alloc, plan, formula) {
-        Ok(formula) => reflexive(recorder, alloc, &formula),
-        Err(fault) => Err(fault),
-    }
-}
-
-// ASSUME.
-fn assumed(
+// REFL of a formula.
+fn refl_of(
     recorder: &mut Recorder,
     alloc: Global,
     plan: &Plan,
@@ -104,10 +94,21 @@ fn assumed(
 ) -> Result<Rec, Fault>
     ensures continues { Continues recorder.old recorder.new result }
 {
-    match formula_of(alloc, plan, formula) {
-        Ok(formula) => assume(recorder, alloc, &formula),
-        Err(fault) => Err(fault),
-    }
+    let formula = formula_of(alloc, plan, formula)?;
+    reflexive(recorder, alloc, &formula)
+}
+
+// ASSUME of a formula.
+fn assume_of(
+    recorder: &mut Recorder,
+    alloc: Global,
+    plan: &Plan,
+    formula: Formula,
+) -> Result<Rec, Fault>
+    ensures continues { Continues recorder.old recorder.new result }
+{
+    let formula = formula_of(alloc, plan, formula)?;
+    assume(recorder, alloc, &formula)
 }
 
 // A law at formulas.
@@ -121,78 +122,30 @@ fn law_at(
     requires laws { HasLaws recorder.old laws.now }
     ensures continues { Continues recorder.old recorder.new result }
 {
-    let formulas = match formulas {
-        Ok(formulas) => formulas,
-        Err(fault) => return Err(fault),
-    };
+    let formulas = formulas?;
     let lemma = law_theorem(recorder, laws, law);
     instance(recorder, alloc, &formulas, lemma)
 }
 
-// DEDUCT_ANTISYM_RULE.
-fn deduced(
+// A rule of two earlier theorems.
+fn by_rule(
     recorder: &mut Recorder,
     alloc: Global,
     made: &[Rec],
+    rule: Rule,
     first: usize,
     second: usize,
 ) -> Result<Rec, Fault>
     requires made { AreMade recorder.old made.now }
     ensures continues { Continues recorder.old recorder.new result }
 {
-    let first = match earlier(recorder, made, first) {
-        Ok(first) => first,
-        Err(fault) => return Err(fault),
-    };
-    let second = match earlier(recorder, made, second) {
-        Ok(second) => second,
-        Err(fault) => return Err(fault),
-    };
-    deduct_antisym(recorder, alloc, first, second)
-}
-
-// EQ_MP.
-fn led(
-    recorder: &mut Recorder,
-    alloc: Global,
-    made: &[Rec],
-    first: usize,
-    second: usize,
-) -> Result<Rec, Fault>
-    requires made { AreMade recorder.old made.now }
-    ensures continues { Continues recorder.old recorder.new result }
-{
-    let first = match earlier(recorder, made, first) {
-        Ok(first) => first,
-        Err(fault) => return Err(fault),
-    };
-    let second = match earlier(recorder, made, second) {
-        Ok(second) => second,
-        Err(fault) => return Err(fault),
-    };
-    eq_mp(recorder, alloc, first, second)
-}
-
-// TRANS.
-fn joined(
-    recorder: &mut Recorder,
-    alloc: Global,
-    made: &[Rec],
-    first: usize,
-    second: usize,
-) -> Result<Rec, Fault>
-    requires made { AreMade recorder.old made.now }
-    ensures continues { Continues recorder.old recorder.new result }
-{
-    let first = match earlier(recorder, made, first) {
-        Ok(first) => first,
-        Err(fault) => return Err(fault),
-    };
-    let second = match earlier(recorder, made, second) {
-        Ok(second) => second,
-        Err(fault) => return Err(fault),
-    };
-    trans(recorder, alloc, first, second)
+    let first = earlier(recorder, made, first)?;
+    let second = earlier(recorder, made, second)?;
+    match rule {
+        Rule::DeductAntisym => deduct_antisym(recorder, alloc, first, second),
+        Rule::EqMp => eq_mp(recorder, alloc, first, second),
+        Rule::Trans => trans(recorder, alloc, first, second),
+    }
 }
 
 // The theorem of a step, by those of the earlier ones.
@@ -210,15 +163,13 @@ fn taken(
 {
     match step {
         Step::Truth => constantly(recorder, alloc, laws, true),
-        Step::Same(formula) => same(recorder, alloc, plan, formula),
-        Step::Assumed(formula) => assumed(recorder, alloc, plan, formula),
-        Step::Instance(law, p, q) => {
+        Step::Refl(formula) => refl_of(recorder, alloc, plan, formula),
+        Step::Assume(formula) => assume_of(recorder, alloc, plan, formula),
+        Step::Inst(law, p, q) => {
             let formulas = formulas_for(alloc, plan, p, q);
             law_at(recorder, alloc, laws, law_of(law), formulas)
         }
-        Step::Deduced(first, second) => deduced(recorder, alloc, made, first, second),
-        Step::Led(first, second) => led(recorder, alloc, made, first, second),
-        Step::Joined(first, second) => joined(recorder, alloc, made, first, second),
+        Step::Rule(rule, first, second) => by_rule(recorder, alloc, made, rule, first, second),
     }
 }
 
@@ -246,10 +197,7 @@ fn all_taken(
 {
     let mut made = Vec::new(alloc);
     for step in steps {
-        let theorem = match taken(recorder, alloc, laws, plan, &made, *step) {
-            Ok(theorem) => theorem,
-            Err(fault) => return Err(fault),
-        };
+        let theorem = taken(recorder, alloc, laws, plan, &made, *step)?;
         pushed(&mut made, theorem)?;
     }
     Ok(made)
@@ -263,10 +211,7 @@ fn by_plan(recorder: &mut Recorder, alloc: Global, laws: &Laws, plan: &Plan) -> 
     let Some((last, steps)) = plan.steps().split_last() else {
         return Err(Fault::BadShape);
     };
-    let made = match all_taken(recorder, alloc, laws, plan, steps) {
-        Ok(made) => made,
-        Err(fault) => return Err(fault),
-    };
+    let made = all_taken(recorder, alloc, laws, plan, steps)?;
     taken(recorder, alloc, laws, plan, &made, *last)
 }
 
@@ -280,8 +225,6 @@ pub(crate) fn by_planned_steps(
     requires laws { HasLaws recorder.old laws.now }
     ensures continues { Continues recorder.old recorder.new result }
 {
-    match planned(alloc, term) {
-        Ok(plan) => by_plan(recorder, alloc, laws, &plan),
-        Err(fault) => Err(fault),
-    }
+    let plan = planned(alloc, term)?;
+    by_plan(recorder, alloc, laws, &plan)
 }

@@ -1,6 +1,6 @@
 // The denial of a part, and what it says of parts below it.
 use crate::planner::{Planner, Shown};
-use crate::steps::{Formula, Law, Step};
+use crate::steps::{Formula, Law, Rule, Step};
 use crate::ways::Way;
 use hol_model::Fault;
 use indexmap::IndexMap;
@@ -53,8 +53,8 @@ pub(crate) fn denied(
     formula: Formula,
     absurd: usize,
 ) -> Result<usize, Fault> {
-    let given = planner.put(Step::Instance(Law::Contr, formula, formula))?;
-    planner.put(Step::Deduced(given, absurd))
+    let given = planner.put(Step::Inst(Law::Contr, formula, formula))?;
+    planner.put(Step::Rule(Rule::DeductAntisym, given, absurd))
 }
 
 /// What gives `F` from the opposite of a value gives the value.
@@ -75,9 +75,9 @@ pub(crate) fn concluded(
 // `F`, from what shows a part and what excludes its value.
 fn opposed(value: bool, shown: usize, excluding: usize) -> Step {
     if value {
-        Step::Led(excluding, shown)
+        Step::Rule(Rule::EqMp, excluding, shown)
     } else {
-        Step::Led(shown, excluding)
+        Step::Rule(Rule::EqMp, shown, excluding)
     }
 }
 
@@ -100,13 +100,13 @@ fn told_by(planner: &Planner, at: usize) -> Result<Option<Told>, Fault> {
 
 impl Denial {
     /// Assumes the opposite of a value.
-    pub(crate) fn assumed(
+    pub(crate) fn assume(
         planner: &mut Planner,
         alloc: Global,
         at: usize,
         value: bool,
     ) -> Result<Denial, Fault> {
-        let step = planner.put(Step::Assumed(valued(at, !value)))?;
+        let step = planner.put(Step::Assume(valued(at, !value)))?;
         Ok(Denial {
             at,
             step,
@@ -155,7 +155,7 @@ impl Denial {
         let Some(value) = planner.values.known(at) else {
             return Err(Fault::BadShape);
         };
-        let instance = Step::Instance(told.law, Formula::Part(left), Formula::Part(right));
+        let instance = Step::Inst(told.law, Formula::Part(left), Formula::Part(right));
         let instance = planner.put(instance)?;
         let absurd = planner.put(opposed(value, instance, excluding))?;
         let step = concluded(planner, told.side.at, !told.side.value, absurd)?;

@@ -16,4 +16,4 @@ mod values;
 mod ways;
 
 pub use plans::{Plan, planned};
-pub use steps::{Formula, Law, Step};
+pub use steps::{Formula, Law, Rule, Step};

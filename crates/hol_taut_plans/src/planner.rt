@@ -1,9 +1,9 @@
 // Steps that show parts whose values are known.
 use crate::cubes::Cube;
 use crate::parts::Parts;
-use crate::steps::{Formula, Law, Step};
+use crate::steps::{Formula, Law, Rule, Step};
 use crate::values::Values;
-use crate::ways::{Join, Side, Way, way_to};
+use crate::ways::{Side, Way, way_to};
 use hol_model::Fault;
 use indexmap::{IndexMap, IndexSet};
 use std::alloc::Global;
@@ -143,14 +143,6 @@ impl Planner {
         }
     }
 
-    /// By a law at the sides of a part.
-    pub(crate) fn by_law(&mut self, law: Law, at: usize, premise: usize) -> Result<usize, Fault> {
-        let Some((left, right)) = self.parts.shape(at)?.sides() else {
-            return Err(Fault::BadShape);
-        };
-        self.by_instance(law, Formula::Part(left), Formula::Part(right), premise)
-    }
-
     /// By a law at two formulas.
     pub(crate) fn by_instance(
         &mut self,
@@ -159,9 +151,9 @@ impl Planner {
         q: Formula,
         premise: usize,
     ) -> Result<usize, Fault> {
-        let instance = self.put(Step::Instance(law, p, q))?;
-        let equation = self.put(Step::Deduced(premise, instance))?;
-        self.put(Step::Led(equation, premise))
+        let instance = self.put(Step::Inst(law, p, q))?;
+        let equation = self.put(Step::Rule(Rule::DeductAntisym, premise, instance))?;
+        self.put(Step::Rule(Rule::EqMp, equation, premise))
     }
 
     // Whether a side has its value as early as the part.
@@ -220,23 +212,22 @@ impl Planner {
         }
     }
 
-    // The step that takes the second side.
-    fn joined(&mut self, join: Join, first: Shown, second: Shown) -> Result<Shown, Fault> {
-        let step = match join {
-            Join::Deduced => Step::Deduced(first.step, second.step),
-            Join::Led => Step::Led(first.step, second.step),
-            Join::Joined => Step::Joined(first.step, second.step),
-        };
+    // By a rule of two theorems.
+    fn by_rule(&mut self, rule: Rule, first: Shown, second: Shown) -> Result<Shown, Fault> {
         Ok(Shown {
-            step: self.put(step)?,
+            step: self.put(Step::Rule(rule, first.step, second.step))?,
             cube: first.cube.with(second.cube),
         })
     }
 
-    // What a law gives from a side of a part.
-    fn led(&mut self, law: Law, at: usize, premise: Shown) -> Result<Shown, Fault> {
+    // By a law at the sides of a part.
+    fn by_law(&mut self, law: Law, at: usize, premise: Shown) -> Result<Shown, Fault> {
+        let Some((left, right)) = self.parts.shape(at)?.sides() else {
+            return Err(Fault::BadShape);
+        };
+        let (p, q) = (Formula::Part(left), Formula::Part(right));
         Ok(Shown {
-            step: self.by_law(law, at, premise.step)?,
+            step: self.by_instance(law, p, q, premise.step)?,
             cube: premise.cube,
         })
     }
@@ -263,23 +254,23 @@ impl Planner {
         }
         let shown = match self.way(at)? {
             Way::Constant(true) => self.plain(Step::Truth)?,
-            Way::Constant(false) => self.plain(Step::Same(Formula::Part(at)))?,
-            Way::Same(side) => self.plain(Step::Same(Formula::Part(side)))?,
+            Way::Constant(false) => self.plain(Step::Refl(Formula::Part(at)))?,
+            Way::Refl(side) => self.plain(Step::Refl(Formula::Part(side)))?,
             Way::One(law, side) => {
                 if side >= at {
                     return Err(Fault::BadShape);
                 }
                 let premise = self.show(side)?;
-                self.led(law, at, premise)?
+                self.by_law(law, at, premise)?
             }
-            Way::Two(law, side, other, join) => {
+            Way::Two(law, side, other, rule) => {
                 if side >= at || other >= at {
                     return Err(Fault::BadShape);
                 }
                 let premise = self.show(side)?;
-                let first = self.led(law, at, premise)?;
+                let first = self.by_law(law, at, premise)?;
                 let second = self.show(other)?;
-                self.joined(join, first, second)?
+                self.by_rule(rule, first, second)?
             }
             Way::Both(left, right) => {
                 if left >= at || right >= at {
@@ -287,7 +278,7 @@ impl Planner {
                 }
                 let first = self.show(left)?;
                 let second = self.show(right)?;
-                self.joined(Join::Deduced, first, second)?
+                self.by_rule(Rule::DeductAntisym, first, second)?
             }
             _ => return Err(Fault::BadShape),
         };

@@ -30,9 +30,7 @@ impl Plan {
 // The steps that a step takes.
 fn taken_by(step: Step) -> Option<(usize, usize)> {
     match step {
-        Step::Deduced(first, second) => Some((first, second)),
-        Step::Led(first, second) => Some((first, second)),
-        Step::Joined(first, second) => Some((first, second)),
+        Step::Rule(_, first, second) => Some((first, second)),
         _ => None,
     }
 }
@@ -40,15 +38,8 @@ fn taken_by(step: Step) -> Option<(usize, usize)> {
 // The same step of steps that have other numbers.
 fn renumbered(step: Step, numbers: &[usize]) -> Step {
     match step {
-        Step::Deduced(first, second) => Step::Deduced(
-            number_at(numbers, first),
-            number_at(numbers, second),
-        ),
-        Step::Led(first, second) => Step::Led(
-            number_at(numbers, first),
-            number_at(numbers, second),
-        ),
-        Step::Joined(first, second) => Step::Joined(
+        Step::Rule(rule, first, second) => Step::Rule(
+            rule,
             number_at(numbers, first),
             number_at(numbers, second),
         ),

@@ -2,7 +2,7 @@
 use crate::cubes::Cube;
 use crate::denials::{Denial, concluded, denied, valued};
 use crate::planner::{Planner, Shown};
-use crate::steps::{Formula, Step};
+use crate::steps::{Formula, Rule, Step};
 use crate::values::Fact;
 use hol_model::{ATOMS_LIMIT, Fault};
 use std::alloc::Global;
@@ -16,7 +16,7 @@ fn entered(
     fact: Fact,
     cube: Cube,
 ) -> Result<Vec<usize>, Fault> {
-    let step = planner.put(Step::Assumed(valued(fact.at, fact.value)))?;
+    let step = planner.put(Step::Assume(valued(fact.at, fact.value)))?;
     planner.set_fact(fact.at, Shown { step, cube });
     let level = planner.cubes.len();
     let now = planner.now();
@@ -41,10 +41,10 @@ fn cut(
     when_false: Shown,
 ) -> Result<Shown, Fault> {
     let fact = denied(planner, Formula::Part(at), when_true.step)?;
-    let equation = planner.put(Step::Deduced(fact, when_false.step))?;
+    let equation = planner.put(Step::Rule(Rule::DeductAntisym, fact, when_false.step))?;
     let cube = when_true.cube.with(when_false.cube);
     Ok(Shown {
-        step: planner.put(Step::Led(equation, fact))?,
+        step: planner.put(Step::Rule(Rule::EqMp, equation, fact))?,
         cube: cube.without(Cube::both(atom)),
     })
 }
@@ -108,7 +108,7 @@ pub(crate) fn settle(
     at: usize,
     value: bool,
 ) -> Result<(), Fault> {
-    let mut denial = Denial::assumed(planner, alloc, at, value)?;
+    let mut denial = Denial::assume(planner, alloc, at, value)?;
     let needed = planner
         .values
         .enter(alloc, &planner.parts, at, unknown, None, 0)?;

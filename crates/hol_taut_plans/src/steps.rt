@@ -44,21 +44,28 @@ pub enum Law {
     NotFalseElim,
 }
 
+/// A rule of two theorems.
+#[derive(Clone, Copy, PartialEq, Eq, Hash)]
+pub enum Rule {
+    /// DEDUCT_ANTISYM_RULE.
+    DeductAntisym,
+    /// EQ_MP.
+    EqMp,
+    /// TRANS.
+    Trans,
+}
+
 /// A step, with the numbers of earlier ones.
 #[derive(Clone, Copy, PartialEq, Eq, Hash)]
 pub enum Step {
     /// `T`.
     Truth,
     /// REFL.
-    Same(Formula),
+    Refl(Formula),
     /// ASSUME.
-    Assumed(Formula),
-    /// A law at two formulas.
-    Instance(Law, Formula, Formula),
-    /// DEDUCT_ANTISYM_RULE.
-    Deduced(usize, usize),
-    /// EQ_MP.
-    Led(usize, usize),
-    /// TRANS.
-    Joined(usize, usize),
+    Assume(Formula),
+    /// INST of a law, at two formulas.
+    Inst(Law, Formula, Formula),
+    /// A rule of two earlier steps.
+    Rule(Rule, usize, usize),
 }

@@ -1,3 +1,4 @@
+use Rattle.std.proofs.lemmas.Result.{err_from_is_err_and}
 use Rattle.hol_taut_laws.proofs.LawLemmas.{laws-stay}
 use Rattle.hol_taut.proofs.PlanLemmas.{continued-behind, refused-behind}
 use Rattle.hol_taut.proofs.planned.by_plan.Goals as goal
@@ -5,8 +6,10 @@ use Rattle.hol_taut.proofs.planned.by_plan.Goals as goal
 pub taken-requires-clause-laws : goal.taken-requires-clause-laws
 taken-requires-clause-laws c = laws-stay c.args.recorder.now c.all_taken.new.recorder c.args.laws.now c.all_taken.ensures.grown c.requires.laws
 
-pub returns-in-Err : goal.returns-in-Err
-returns-in-Err c = record { continues = refused-behind c.args.recorder.now c.all_taken.new.recorder c.in-Err.fault c.all_taken.ensures.grown c.all_taken.ensures.theory }
+pub returns-in_err-made : goal.returns-in_err-made
+returns-in_err-made c =
+    let p = err_from_is_err_and c.from_residual.result c.from_residual.ensures.1 in
+    record { continues = rw p.1 (refused-behind c.args.recorder.now c.all_taken.new.recorder _ c.all_taken.ensures.grown c.all_taken.ensures.theory) }
 
 pub returns : goal.returns
 returns c = record {
