@@ -11,3 +11,4 @@ pub mod AxiomLemmas
 pub mod DrawnConnectives
 pub mod InferredRules
 pub mod DrawnPrimitives
+pub mod Passing

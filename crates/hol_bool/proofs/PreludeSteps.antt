@@ -22,6 +22,7 @@ use Rattle.hol_equal.specs.Room.{FitsIf}
 use Rattle.hol_prelude.specs.declared.stored.Bool.{Bool as Stored}
 use Rattle.hol_bool.specs.PreludeInstances.{LeadsTo, Says, at_p, at_p_q, at_p_q_r}
 use Rattle.hol_equal.proofs.Sizes.{sized-equation, sized-within}
+use Rattle.hol_equal.proofs.StepLemmas.{still_made, now_made}
 use Rattle.hol_bool.proofs.RoomLemmas.{fits-within}
 use Rattle.hol_prelude.proofs.StoredLemmas.{logic-stays}
 
@@ -32,6 +33,9 @@ still_logical old new result logic continues has = logic-stays old new logic con
 -- so do formulas of the theory
 pub still_formula : (old new : Journal) (result : Result Recorded Fault) (term : NamedTerm) → Continues old new result → IsFormula old.theory term → IsFormula new.theory term
 still_formula old new result term continues formula = subst (λ (t : Theory). IsFormula t term) (sym continues.theory) formula
+
+-- and theorems of the recorder
+pub ruleset staying = (still_made, now_made, still_logical, still_formula)
 
 -- the theorem of the number says what leads from the premise to the conclusion
 pub leads-shows : (theory : Theory) (number : ℕ) (terms : List (NamedTerm × NamedTerm)) (room : Bool) (premise conclusion : Nameless)

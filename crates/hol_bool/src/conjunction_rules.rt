@@ -39,10 +39,7 @@ pub fn conjunct1(
     let Some(sides) = sides_of(recorder, logic, premise, "/\\") else {
         return Err(Fault::BadShape);
     };
-    let terms = match for_p_q(alloc, sides.left, sides.right) {
-        Ok(terms) => terms,
-        Err(fault) => return Err(fault),
-    };
+    let terms = for_p_q(alloc, sides.left, sides.right)?;
     by_theorem(
         recorder, alloc, logic, CONJUNCT1, &terms, sides.left, premise,
     )
@@ -65,10 +62,7 @@ pub fn conjunct2(
     let Some(sides) = sides_of(recorder, logic, premise, "/\\") else {
         return Err(Fault::BadShape);
     };
-    let terms = match for_p_q(alloc, sides.left, sides.right) {
-        Ok(terms) => terms,
-        Err(fault) => return Err(fault),
-    };
+    let terms = for_p_q(alloc, sides.left, sides.right)?;
     by_theorem(
         recorder,
         alloc,
@@ -99,22 +93,10 @@ pub(crate) fn joined(
 {
     let p = conclusion_of(recorder, first);
     let q = conclusion_of(recorder, second);
-    let both = match connect(alloc, "/\\", p, q) {
-        Ok(both) => both,
-        Err(fault) => return Err(fault),
-    };
-    let stated = match equivalence(alloc, q, &both) {
-        Ok(stated) => stated,
-        Err(fault) => return Err(fault),
-    };
-    let terms = match for_p_q(alloc, p, q) {
-        Ok(terms) => terms,
-        Err(fault) => return Err(fault),
-    };
-    let equation = match by_leading_theorem(recorder, alloc, logic, CONJ, &terms, &stated, first) {
-        Ok(equation) => equation,
-        Err(fault) => return Err(fault),
-    };
+    let both = connect(alloc, "/\\", p, q)?;
+    let stated = equivalence(alloc, q, &both)?;
+    let terms = for_p_q(alloc, p, q)?;
+    let equation = by_leading_theorem(recorder, alloc, logic, CONJ, &terms, &stated, first)?;
     steps::eq_mp_known(recorder, alloc, &equation, second)
 }
 

@@ -45,19 +45,10 @@ pub fn disj1(
     ensures inferred { Infers recorder.old.theory (rule_disj1 q.now) (premise.now.theorem ∷ []) (theorem_in result) }
 {
     let _type = q.ty();
-    match pass_formula(recorder, q) {
-        Ok(()) => {}
-        Err(fault) => return Err(fault),
-    }
+    pass_formula(recorder, q)?;
     let p = conclusion_of(recorder, premise);
-    let stated = match connect(alloc, "\\/", p, q) {
-        Ok(stated) => stated,
-        Err(fault) => return Err(fault),
-    };
-    let terms = match for_p_q(alloc, p, q) {
-        Ok(terms) => terms,
-        Err(fault) => return Err(fault),
-    };
+    let stated = connect(alloc, "\\/", p, q)?;
+    let terms = for_p_q(alloc, p, q)?;
     by_theorem(recorder, alloc, logic, DISJ1, &terms, &stated, premise)
 }
 
@@ -78,19 +69,10 @@ pub fn disj2(
     ensures inferred { Infers recorder.old.theory (rule_disj2 p.now) (premise.now.theorem ∷ []) (theorem_in result) }
 {
     let _type = p.ty();
-    match pass_formula(recorder, p) {
-        Ok(()) => {}
-        Err(fault) => return Err(fault),
-    }
+    pass_formula(recorder, p)?;
     let q = conclusion_of(recorder, premise);
-    let stated = match connect(alloc, "\\/", p, q) {
-        Ok(stated) => stated,
-        Err(fault) => return Err(fault),
-    };
-    let terms = match for_p_q(alloc, p, q) {
-        Ok(terms) => terms,
-        Err(fault) => return Err(fault),
-    };
+    let stated = connect(alloc, "\\/", p, q)?;
+    let terms = for_p_q(alloc, p, q)?;
     by_theorem(recorder, alloc, logic, DISJ2, &terms, &stated, premise)
 }
 
@@ -99,10 +81,7 @@ fn other_case(alloc: Global, q: &Term, r: &Term) -> Result<Term, Fault>
     ensures { (room : Room) → type_of q.now ≡ Some bool_type → type_of r.now ≡ Some bool_type → FitsIf room (image (other_case q.now r.now))
         → MakesIf room result (other_case q.now r.now) }
 {
-    let case = match connect(alloc, "==>", q, r) {
-        Ok(case) => case,
-        Err(fault) => return Err(fault),
-    };
+    let case = connect(alloc, "==>", q, r)?;
     connect(alloc, "==>", &case, r)
 }
 
@@ -130,23 +109,14 @@ fn eliminated(
         → DerivesIf room result h (image (both_cases sides.entry.left.now sides.entry.right.now r.now)) }
 {
     recorder.theory_is_legal();
-    let case = match connect(alloc, "==>", sides.left, r) {
-        Ok(case) => case,
-        Err(fault) => return Err(fault),
-    };
-    let stated = match connect(alloc, "==>", &case, rest) {
-        Ok(stated) => stated,
-        Err(fault) => return Err(fault),
-    };
-    let terms = match for_p_q_r(alloc, sides.left, sides.right, r) {
-        Ok(terms) => terms,
-        Err(fault) => return Err(fault),
-    };
+    let case = connect(alloc, "==>", sides.left, r)?;
+    let stated = connect(alloc, "==>", &case, rest)?;
+    let terms = for_p_q_r(alloc, sides.left, sides.right, r)?;
     by_theorem(recorder, alloc, logic, DISJ_CASES, &terms, &stated, theorem)
 }
 
 // From `(p ==> r) ==> s` and `r`, the `s` that is handed in, without the hypothesis `p` of the second.
-#[tactic(auto, using(hol_equal::proofs::StepLemmas::still_made, hol_equal::proofs::StepLemmas::now_made, crate::proofs::PreludeSteps::still_logical, crate::proofs::PreludeSteps::still_formula))]
+#[tactic(auto, using(crate::proofs::PreludeSteps::staying))]
 fn with_case(
     recorder: &mut Recorder,
     alloc: Global,
@@ -169,15 +139,12 @@ fn with_case(
         → FitsIf room (nameless_equation bool_type (nameless.implication (nameless.implication (image p.now) r) (image consequent.now))
         (image consequent.now)) → DerivesIf room result (without (image p.now) k ++ h) (image consequent.now) }
 {
-    let implication = match discharged(recorder, alloc, logic, p, case) {
-        Ok(implication) => implication,
-        Err(fault) => return Err(fault),
-    };
+    let implication = discharged(recorder, alloc, logic, p, case)?;
     implied(recorder, alloc, logic, consequent, whole, &implication)
 }
 
 // DISJ_CASES, with the room that it needs: from `p \/ q`, `r` and `r`, the `r` of the first case.
-#[tactic(auto, using(hol_equal::proofs::StepLemmas::still_made, hol_equal::proofs::StepLemmas::now_made, crate::proofs::PreludeSteps::still_logical, crate::proofs::PreludeSteps::still_formula))]
+#[tactic(auto, using(crate::proofs::PreludeSteps::staying))]
 fn by_cases(
     recorder: &mut Recorder,
     alloc: Global,
@@ -201,18 +168,9 @@ fn by_cases(
         → LeavesRoomIf room r → DerivesIf room result (without (image sides.entry.right.now) j ++ (without (image sides.entry.left.now) i ++ h)) r }
 {
     let r = conclusion_of(recorder, first);
-    let rest = match other_case(alloc, sides.right, r) {
-        Ok(rest) => rest,
-        Err(fault) => return Err(fault),
-    };
-    let cases = match eliminated(recorder, alloc, logic, sides, r, &rest, theorem) {
-        Ok(cases) => cases,
-        Err(fault) => return Err(fault),
-    };
-    let other = match with_case(recorder, alloc, logic, sides.left, &rest, &cases, first) {
-        Ok(other) => other,
-        Err(fault) => return Err(fault),
-    };
+    let rest = other_case(alloc, sides.right, r)?;
+    let cases = eliminated(recorder, alloc, logic, sides, r, &rest, theorem)?;
+    let other = with_case(recorder, alloc, logic, sides.left, &rest, &cases, first)?;
     with_case(recorder, alloc, logic, sides.right, r, &other, second)
 }
 

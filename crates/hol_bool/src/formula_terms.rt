@@ -100,14 +100,8 @@ pub(crate) fn connect(alloc: Global, name: &str, left: &Term, right: &Term) -> R
     ensures { (room : Room) → type_of left.now ≡ Some bool_type → type_of right.now ≡ Some bool_type
         → FitsIf room (image (connected name.now left.now right.now)) → MakesIf room result (connected name.now left.now right.now) }
 {
-    let connective = match connective_of(alloc, name, left, right) {
-        Ok(connective) => connective,
-        Err(fault) => return Err(fault),
-    };
-    let applied = match Term::mk_comb(alloc, &connective, left) {
-        Ok(applied) => applied,
-        Err(fault) => return Err(fault),
-    };
+    let connective = connective_of(alloc, name, left, right)?;
+    let applied = Term::mk_comb(alloc, &connective, left)?;
     Term::mk_comb(alloc, &applied, right)
 }
 
@@ -196,10 +190,7 @@ fn binary_constant(alloc: Global, name: &str) -> Result<Term, Fault>
 pub(crate) fn negate(alloc: Global, part: &Term) -> Result<Term, Fault>
     ensures { (room : Room) → type_of part.now ≡ Some bool_type → FitsIf room (image (negation part.now)) → MakesIf room result (negation part.now) }
 {
-    let connective = match negation_constant(alloc) {
-        Ok(connective) => connective,
-        Err(fault) => return Err(fault),
-    };
+    let connective = negation_constant(alloc)?;
     Term::mk_comb(alloc, &connective, part)
 }
 

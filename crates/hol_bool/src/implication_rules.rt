@@ -49,18 +49,9 @@ pub fn implied(
 {
     let whole = conclusion_of(recorder, first);
     let antecedent = conclusion_of(recorder, second);
-    let stated = match equivalence(alloc, whole, consequent) {
-        Ok(stated) => stated,
-        Err(fault) => return Err(fault),
-    };
-    let terms = match for_p_q(alloc, antecedent, consequent) {
-        Ok(terms) => terms,
-        Err(fault) => return Err(fault),
-    };
-    let equation = match by_theorem(recorder, alloc, logic, MP, &terms, &stated, second) {
-        Ok(equation) => equation,
-        Err(fault) => return Err(fault),
-    };
+    let stated = equivalence(alloc, whole, consequent)?;
+    let terms = for_p_q(alloc, antecedent, consequent)?;
+    let equation = by_theorem(recorder, alloc, logic, MP, &terms, &stated, second)?;
     steps::eq_mp_known(recorder, alloc, &equation, first)
 }
 
@@ -91,7 +82,7 @@ pub fn mp(
 }
 
 // From `p /\ q`, as a hypothesis, `p`.
-#[tactic(auto, using(hol_equal::proofs::StepLemmas::still_made, hol_equal::proofs::StepLemmas::now_made, crate::proofs::PreludeSteps::still_logical, crate::proofs::PreludeSteps::still_formula))]
+#[tactic(auto, using(crate::proofs::PreludeSteps::staying))]
 fn first_of_both(
     recorder: &mut Recorder,
     alloc: Global,
@@ -107,19 +98,13 @@ fn first_of_both(
     ensures names { IfOk result (λ made. made.theorem.conclusion ≡ p.now) }
     ensures derives { (room : Room) → FitsIf room (image both.now) → DerivesIf room result (image both.now ∷ []) (image p.now) }
 {
-    let assumed = match steps::assume_known(recorder, alloc, both) {
-        Ok(assumed) => assumed,
-        Err(fault) => return Err(fault),
-    };
-    let terms = match for_p_q(alloc, p, q) {
-        Ok(terms) => terms,
-        Err(fault) => return Err(fault),
-    };
+    let assumed = steps::assume_known(recorder, alloc, both)?;
+    let terms = for_p_q(alloc, p, q)?;
     by_theorem(recorder, alloc, logic, CONJUNCT1, &terms, p, &assumed)
 }
 
 // From `q`, `p /\ q <=> p` without the hypothesis `p`.
-#[tactic(auto, using(hol_equal::proofs::StepLemmas::still_made, hol_equal::proofs::StepLemmas::now_made, crate::proofs::PreludeSteps::still_logical, crate::proofs::PreludeSteps::still_formula))]
+#[tactic(auto, using(crate::proofs::PreludeSteps::staying))]
 fn absorbed(
     recorder: &mut Recorder,
     alloc: Global,
@@ -135,26 +120,17 @@ fn absorbed(
         → FitsIf room (nameless_equation bool_type (nameless.conjunction (image p.now) q) (nameless.conjunction (image p.now) q))
         → DerivesIf room result (without (image p.now) h) (nameless_equation bool_type (nameless.conjunction (image p.now) q) (image p.now)) }
 {
-    let assumed = match steps::assume_known(recorder, alloc, p) {
-        Ok(assumed) => assumed,
-        Err(fault) => return Err(fault),
-    };
-    let joined = match joined(recorder, alloc, logic, &assumed, premise) {
-        Ok(joined) => joined,
-        Err(fault) => return Err(fault),
-    };
+    let assumed = steps::assume_known(recorder, alloc, p)?;
+    let joined = joined(recorder, alloc, logic, &assumed, premise)?;
     let both = conclusion_of(recorder, &joined);
     let q = conclusion_of(recorder, premise);
-    let first = match first_of_both(recorder, alloc, logic, p, q, both) {
-        Ok(first) => first,
-        Err(fault) => return Err(fault),
-    };
+    let first = first_of_both(recorder, alloc, logic, p, q, both)?;
     steps::deduct_antisym(recorder, alloc, &joined, &first)
 }
 
 /// DISCH, with the room that it needs: from `q`, `p ==> q` without the hypothesis `p`, for a formula `p` that the theory
 /// knows.
-#[tactic(auto, using(hol_equal::proofs::StepLemmas::still_made, hol_equal::proofs::StepLemmas::now_made, crate::proofs::PreludeSteps::still_logical, crate::proofs::PreludeSteps::still_formula))]
+#[tactic(auto, using(crate::proofs::PreludeSteps::staying))]
 pub fn discharged(
     recorder: &mut Recorder,
     alloc: Global,
@@ -172,18 +148,9 @@ pub fn discharged(
         → DerivesIf room result (without (image p.now) h) (nameless.implication (image p.now) q) }
 {
     let q = conclusion_of(recorder, premise);
-    let stated = match connect(alloc, "==>", p, q) {
-        Ok(stated) => stated,
-        Err(fault) => return Err(fault),
-    };
-    let terms = match for_p_q(alloc, p, q) {
-        Ok(terms) => terms,
-        Err(fault) => return Err(fault),
-    };
-    let equation = match absorbed(recorder, alloc, logic, p, premise) {
-        Ok(equation) => equation,
-        Err(fault) => return Err(fault),
-    };
+    let stated = connect(alloc, "==>", p, q)?;
+    let terms = for_p_q(alloc, p, q)?;
+    let equation = absorbed(recorder, alloc, logic, p, premise)?;
     by_theorem(recorder, alloc, logic, DISCH, &terms, &stated, &equation)
 }
 
@@ -204,15 +171,12 @@ pub fn disch(
     ensures inferred { Infers recorder.old.theory (rule_disch p.now) (premise.now.theorem ∷ []) (theorem_in result) }
 {
     let _type = p.ty();
-    match pass_formula(recorder, p) {
-        Ok(()) => {}
-        Err(fault) => return Err(fault),
-    }
+    pass_formula(recorder, p)?;
     discharged(recorder, alloc, logic, p, premise)
 }
 
 /// UNDISCH: from `p ==> q`, `q` with the hypothesis `p`, in eight steps. Refused where the conclusion is no implication.
-#[tactic(auto, using(crate::proofs::InferredRules::infers_undisch, hol_equal::proofs::StepLemmas::still_made, hol_equal::proofs::StepLemmas::now_made, crate::proofs::PreludeSteps::still_logical, crate::proofs::PreludeSteps::still_formula))]
+#[tactic(auto, using(crate::proofs::InferredRules::infers_undisch, crate::proofs::PreludeSteps::staying))]
 pub fn undisch(
     recorder: &mut Recorder,
     alloc: Global,
@@ -228,9 +192,6 @@ pub fn undisch(
     let Some(sides) = sides_of(recorder, logic, premise, "==>") else {
         return Err(Fault::BadShape);
     };
-    let assumed = match steps::assume_known(recorder, alloc, sides.left) {
-        Ok(assumed) => assumed,
-        Err(fault) => return Err(fault),
-    };
+    let assumed = steps::assume_known(recorder, alloc, sides.left)?;
     implied(recorder, alloc, logic, sides.right, premise, &assumed)
 }

@@ -28,21 +28,9 @@ pub fn excluded_middle(
     ensures outcome { AnswersStated (theorem_in result) (image p.now ∷ []) (excluded_middle_outcome recorder.old.theory p.now) }
 {
     recorder.theory_is_legal();
-    match pass_formula(recorder, p) {
-        Ok(()) => {}
-        Err(fault) => return Err(fault),
-    }
-    let negated = match negate(alloc, p) {
-        Ok(negated) => negated,
-        Err(fault) => return Err(fault),
-    };
-    let stated = match connect(alloc, "\\/", p, &negated) {
-        Ok(stated) => stated,
-        Err(fault) => return Err(fault),
-    };
-    let terms = match for_p(alloc, p) {
-        Ok(terms) => terms,
-        Err(fault) => return Err(fault),
-    };
+    pass_formula(recorder, p)?;
+    let negated = negate(alloc, p)?;
+    let stated = connect(alloc, "\\/", p, &negated)?;
+    let terms = for_p(alloc, p)?;
     instance_of_theorem(recorder, alloc, logic, EXCLUDED_MIDDLE, &terms, &stated)
 }

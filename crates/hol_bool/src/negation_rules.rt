@@ -39,14 +39,8 @@ pub fn not_intro(
         return Err(Fault::BadShape);
     }
     recorder.theory_is_legal();
-    let stated = match negate(alloc, sides.left) {
-        Ok(stated) => stated,
-        Err(fault) => return Err(fault),
-    };
-    let terms = match for_p(alloc, sides.left) {
-        Ok(terms) => terms,
-        Err(fault) => return Err(fault),
-    };
+    let stated = negate(alloc, sides.left)?;
+    let terms = for_p(alloc, sides.left)?;
     by_theorem(recorder, alloc, logic, NOT_INTRO, &terms, &stated, premise)
 }
 
@@ -67,18 +61,9 @@ pub fn not_elim(
     let Some(part) = negated_of(recorder, logic, premise) else {
         return Err(Fault::BadShape);
     };
-    let falsity = match falsity(alloc) {
-        Ok(falsity) => falsity,
-        Err(fault) => return Err(fault),
-    };
-    let stated = match connect(alloc, "==>", part, &falsity) {
-        Ok(stated) => stated,
-        Err(fault) => return Err(fault),
-    };
-    let terms = match for_p(alloc, part) {
-        Ok(terms) => terms,
-        Err(fault) => return Err(fault),
-    };
+    let falsity = falsity(alloc)?;
+    let stated = connect(alloc, "==>", part, &falsity)?;
+    let terms = for_p(alloc, part)?;
     by_theorem(recorder, alloc, logic, NOT_ELIM, &terms, &stated, premise)
 }
 
@@ -103,13 +88,7 @@ pub fn contr(
     if !is_named(conclusion, "F") {
         return Err(Fault::BadShape);
     }
-    match pass_formula(recorder, p) {
-        Ok(()) => {}
-        Err(fault) => return Err(fault),
-    }
-    let terms = match for_p(alloc, p) {
-        Ok(terms) => terms,
-        Err(fault) => return Err(fault),
-    };
+    pass_formula(recorder, p)?;
+    let terms = for_p(alloc, p)?;
     by_leading_theorem(recorder, alloc, logic, CONTR, &terms, p, premise)
 }

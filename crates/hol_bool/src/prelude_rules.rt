@@ -44,10 +44,7 @@ pub(crate) fn by_theorem(
         → Shows premise.now.theorem h p → DerivesIf room result h (image stated.now) }
 {
     let lemma = theorem_of(recorder, logic, number);
-    let answer = match by_lemma_known(recorder, alloc, &[], terms, lemma, premise) {
-        Ok(answer) => answer,
-        Err(fault) => return Err(fault),
-    };
+    let answer = by_lemma_known(recorder, alloc, &[], terms, lemma, premise)?;
     named_known(recorder, alloc, stated, &answer)
 }
 
@@ -73,10 +70,7 @@ pub(crate) fn by_leading_theorem(
         → Shows premise.now.theorem h p → DerivesIf room result h (image stated.now) }
 {
     let lemma = theorem_of(recorder, logic, number);
-    let answer = match by_lemma_known(recorder, alloc, &[], terms, lemma, premise) {
-        Ok(answer) => answer,
-        Err(fault) => return Err(fault),
-    };
+    let answer = by_lemma_known(recorder, alloc, &[], terms, lemma, premise)?;
     named_same(recorder, alloc, stated, &answer)
 }
 
@@ -99,10 +93,7 @@ pub(crate) fn instance_of_theorem(
     ensures derives { (room : Room) → Says recorder.old.theory number terms.now room (image stated.now) → DerivesIf room result [] (image stated.now) }
 {
     let lemma = theorem_of(recorder, logic, number);
-    let answer = match instance_known(recorder, alloc, &[], terms, lemma) {
-        Ok(answer) => answer,
-        Err(fault) => return Err(fault),
-    };
+    let answer = instance_known(recorder, alloc, &[], terms, lemma)?;
     named_known(recorder, alloc, stated, &answer)
 }
 

@@ -32,18 +32,9 @@ pub fn eqt_intro(
     ensures inferred { Infers recorder.old.theory rule_eqt_intro (premise.now.theorem ∷ []) (theorem_in result) }
 {
     let conclusion = conclusion_of(recorder, premise);
-    let truth = match truth(alloc) {
-        Ok(truth) => truth,
-        Err(fault) => return Err(fault),
-    };
-    let stated = match equivalence(alloc, conclusion, &truth) {
-        Ok(stated) => stated,
-        Err(fault) => return Err(fault),
-    };
-    let terms = match for_p(alloc, conclusion) {
-        Ok(terms) => terms,
-        Err(fault) => return Err(fault),
-    };
+    let truth = truth(alloc)?;
+    let stated = equivalence(alloc, conclusion, &truth)?;
+    let terms = for_p(alloc, conclusion)?;
     by_theorem(recorder, alloc, logic, EQT_INTRO, &terms, &stated, premise)
 }
 
@@ -68,10 +59,7 @@ pub fn eqt_elim(
     if !is_named(parts.right, "T") {
         return Err(Fault::BadShape);
     }
-    let terms = match for_p(alloc, parts.left) {
-        Ok(terms) => terms,
-        Err(fault) => return Err(fault),
-    };
+    let terms = for_p(alloc, parts.left)?;
     by_theorem(
         recorder, alloc, logic, EQT_ELIM, &terms, parts.left, premise,
     )

@@ -1,6 +1,7 @@
 -- What the kernel's rules come to by image.
 use Rattle.std.proofs.Common.{◌≡◌, ℕ, List, [], ◌∷◌, ◌++◌, map, Bool, true, false, ◌&&◌, not, if◌then◌else◌, refl, sym, ◌∙◌, ap, subst, inl, inr}
 use Rattle.std.proofs.Common.{Option, Some, None, Result, Ok, Err, IfOk, OnErr, append-nil}
+use Rattle.std.specs.Result.{IsErrAnd}
 use Rattle.std.specs.Option.{is_some}
 use Rattle.std.specs.List.{list_all}
 use Rattle.std.proofs.lemmas.Slice.Eq.{bytes_eq-Decides}
@@ -534,3 +535,8 @@ still_made old new result made continues was = journals-grow.stays old new made 
 
 pub now_made : (old new : Journal) (made : Recorded) → Continues old new (Ok made) → IsMade new made
 now_made old new made continues = continues.held.made
+
+-- what `?` returns on an error
+pub passed_on : {T E : Type 0} → (result : Result T E) (fault : E) → IsErrAnd result (λ other. other ≡ fault) → result ≡ Err fault
+passed_on (Ok made) fault is = absurd is
+passed_on (Err other) fault is = ap (λ e. Err e) is

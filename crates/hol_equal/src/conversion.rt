@@ -27,22 +27,10 @@ pub fn converted(
         → first_unknown recorder.old.theory (combination (abstraction name ty body) argument.now) ≡ None
         → DerivesIf (conversion_fits name ty codomain body argument.now) result [] (conversion name ty codomain body argument.now) }
 {
-    let trivial = match Term::mk_comb(alloc, function, binder) {
-        Ok(trivial) => trivial,
-        Err(fault) => return Err(fault),
-    };
-    let equation = match steps::beta(recorder, alloc, &trivial) {
-        Ok(equation) => equation,
-        Err(fault) => return Err(fault),
-    };
-    let new = match argument.copy(alloc) {
-        Ok(new) => new,
-        Err(fault) => return Err(fault),
-    };
-    let old = match binder.copy(alloc) {
-        Ok(old) => old,
-        Err(fault) => return Err(fault),
-    };
+    let trivial = Term::mk_comb(alloc, function, binder)?;
+    let equation = steps::beta(recorder, alloc, &trivial)?;
+    let new = argument.copy(alloc)?;
+    let old = binder.copy(alloc)?;
     steps::inst(recorder, alloc, &[(new, old)], &equation)
 }
 
@@ -61,21 +49,9 @@ pub fn converted_known(
         → first_unknown recorder.old.theory (combination (abstraction name ty body) argument.now) ≡ None
         → DerivesIf (conversion_fits name ty codomain body argument.now) result [] (conversion name ty codomain body argument.now) }
 {
-    let trivial = match Term::mk_comb(alloc, function, binder) {
-        Ok(trivial) => trivial,
-        Err(fault) => return Err(fault),
-    };
-    let equation = match steps::beta_known(recorder, alloc, &trivial) {
-        Ok(equation) => equation,
-        Err(fault) => return Err(fault),
-    };
-    let new = match argument.copy(alloc) {
-        Ok(new) => new,
-        Err(fault) => return Err(fault),
-    };
-    let old = match binder.copy(alloc) {
-        Ok(old) => old,
-        Err(fault) => return Err(fault),
-    };
+    let trivial = Term::mk_comb(alloc, function, binder)?;
+    let equation = steps::beta_known(recorder, alloc, &trivial)?;
+    let new = argument.copy(alloc)?;
+    let old = binder.copy(alloc)?;
     steps::inst_known(recorder, alloc, &[(new, old)], &equation)
 }

@@ -99,22 +99,10 @@ pub fn sym(recorder: &mut Recorder, alloc: Global, premise: &Rec) -> Result<Rec,
     let Some(parts) = equation_parts(conclusion_of(recorder, premise)) else {
         return Err(Fault::NotEquation);
     };
-    let same = match steps::refl_known(recorder, alloc, parts.relation) {
-        Ok(same) => same,
-        Err(fault) => return Err(fault),
-    };
-    let applied = match steps::mk_comb(recorder, alloc, &same, premise) {
-        Ok(applied) => applied,
-        Err(fault) => return Err(fault),
-    };
-    let reflexive = match steps::refl_known(recorder, alloc, parts.left) {
-        Ok(reflexive) => reflexive,
-        Err(fault) => return Err(fault),
-    };
-    let congruence = match steps::mk_comb(recorder, alloc, &applied, &reflexive) {
-        Ok(congruence) => congruence,
-        Err(fault) => return Err(fault),
-    };
+    let same = steps::refl_known(recorder, alloc, parts.relation)?;
+    let applied = steps::mk_comb(recorder, alloc, &same, premise)?;
+    let reflexive = steps::refl_known(recorder, alloc, parts.left)?;
+    let congruence = steps::mk_comb(recorder, alloc, &applied, &reflexive)?;
     steps::eq_mp_known(recorder, alloc, &congruence, &reflexive)
 }
 
@@ -135,10 +123,7 @@ pub fn named(
     let _premise = recorder.thm(premise).concl();
     let _type = term.ty();
     recorder.theory_is_legal();
-    let reflexive = match steps::refl(recorder, alloc, term) {
-        Ok(reflexive) => reflexive,
-        Err(fault) => return Err(fault),
-    };
+    let reflexive = steps::refl(recorder, alloc, term)?;
     steps::eq_mp(recorder, alloc, &reflexive, premise)
 }
 
@@ -160,10 +145,7 @@ pub fn named_known(
     let _premise = recorder.thm(premise).concl();
     let _type = term.ty();
     recorder.theory_is_legal();
-    let reflexive = match steps::refl_known(recorder, alloc, term) {
-        Ok(reflexive) => reflexive,
-        Err(fault) => return Err(fault),
-    };
+    let reflexive = steps::refl_known(recorder, alloc, term)?;
     steps::eq_mp(recorder, alloc, &reflexive, premise)
 }
 
@@ -186,10 +168,7 @@ pub fn named_same(
     let _premise = recorder.thm(premise).concl();
     let _type = term.ty();
     recorder.theory_is_legal();
-    let reflexive = match steps::refl_known(recorder, alloc, term) {
-        Ok(reflexive) => reflexive,
-        Err(fault) => return Err(fault),
-    };
+    let reflexive = steps::refl_known(recorder, alloc, term)?;
     steps::eq_mp_known(recorder, alloc, &reflexive, premise)
 }
 
@@ -204,10 +183,7 @@ pub fn cut(recorder: &mut Recorder, alloc: Global, first: &Rec, second: &Rec) ->
 {
     let _first = recorder.thm(first).concl();
     let _second = recorder.thm(second).concl();
-    let equivalence = match steps::deduct_antisym(recorder, alloc, first, second) {
-        Ok(equivalence) => equivalence,
-        Err(fault) => return Err(fault),
-    };
+    let equivalence = steps::deduct_antisym(recorder, alloc, first, second)?;
     steps::eq_mp_known(recorder, alloc, &equivalence, first)
 }
 
@@ -226,10 +202,7 @@ pub fn add_assum(
     ensures inferred { Infers recorder.old.theory (rule_add_assum p.now) (premise.now.theorem ∷ []) (theorem_in result) }
 {
     let _type = p.ty();
-    let assumed = match steps::assume(recorder, alloc, p) {
-        Ok(assumed) => assumed,
-        Err(fault) => return Err(fault),
-    };
+    let assumed = steps::assume(recorder, alloc, p)?;
     cut(recorder, alloc, &assumed, premise)
 }
 
@@ -276,22 +249,10 @@ fn beta_converted(recorder: &mut Recorder, alloc: Global, term: &Term) -> Result
         Some(fault) => return Err(fault),
         None => {}
     }
-    let trivial = match Term::mk_comb(alloc, redex.function, redex.binder) {
-        Ok(trivial) => trivial,
-        Err(fault) => return Err(fault),
-    };
-    let converted = match steps::beta_known(recorder, alloc, &trivial) {
-        Ok(converted) => converted,
-        Err(fault) => return Err(fault),
-    };
-    let argument = match redex.argument.copy(alloc) {
-        Ok(argument) => argument,
-        Err(fault) => return Err(fault),
-    };
-    let binder = match redex.binder.copy(alloc) {
-        Ok(binder) => binder,
-        Err(fault) => return Err(fault),
-    };
+    let trivial = Term::mk_comb(alloc, redex.function, redex.binder)?;
+    let converted = steps::beta_known(recorder, alloc, &trivial)?;
+    let argument = redex.argument.copy(alloc)?;
+    let binder = redex.binder.copy(alloc)?;
     steps::inst_known(recorder, alloc, &[(argument, binder)], &converted)
 }
 
@@ -304,13 +265,7 @@ pub fn beta_conv(recorder: &mut Recorder, alloc: Global, term: &Term) -> Result<
     ensures inferred { Infers recorder.old.theory (rule_beta_conv term.now) [] (theorem_in result) }
 {
     let _type = term.ty();
-    let converted = match beta_converted(recorder, alloc, term) {
-        Ok(converted) => converted,
-        Err(fault) => return Err(fault),
-    };
-    let same = match steps::refl_known(recorder, alloc, term) {
-        Ok(same) => same,
-        Err(fault) => return Err(fault),
-    };
+    let converted = beta_converted(recorder, alloc, term)?;
+    let same = steps::refl_known(recorder, alloc, term)?;
     steps::trans_known(recorder, alloc, &same, &converted)
 }

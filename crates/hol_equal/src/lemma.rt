@@ -34,10 +34,7 @@ pub fn instance(
         → DerivesIf (list_all nameless_within_limits (map (instantiate_all types.now) (c ∷ h)
         ++ map (instance_of types.now terms.now) (c ∷ h))) result (map (instance_of types.now terms.now) h) (instance_of types.now terms.now c) }
 {
-    let typed = match steps::inst_type(recorder, alloc, types, lemma) {
-        Ok(typed) => typed,
-        Err(fault) => return Err(fault),
-    };
+    let typed = steps::inst_type(recorder, alloc, types, lemma)?;
     steps::inst(recorder, alloc, terms, &typed)
 }
 
@@ -58,10 +55,7 @@ pub fn instance_known(
         → DerivesIf (list_all nameless_within_limits (map (instantiate_all types.now) (c ∷ h)
         ++ map (instance_of types.now terms.now) (c ∷ h))) result (map (instance_of types.now terms.now) h) (instance_of types.now terms.now c) }
 {
-    let typed = match steps::inst_type(recorder, alloc, types, lemma) {
-        Ok(typed) => typed,
-        Err(fault) => return Err(fault),
-    };
+    let typed = steps::inst_type(recorder, alloc, types, lemma)?;
     steps::inst_known(recorder, alloc, terms, &typed)
 }
 
@@ -86,10 +80,7 @@ pub fn by_lemma(
         ∷ instance_of types.now terms.now p ∷ nameless_equation bool_type (instance_of types.now terms.now p) (instance_of types.now terms.now c)
         ∷ [])) result h (instance_of types.now terms.now c) }
 {
-    let stated = match instance(recorder, alloc, types, terms, lemma) {
-        Ok(stated) => stated,
-        Err(fault) => return Err(fault),
-    };
+    let stated = instance(recorder, alloc, types, terms, lemma)?;
     cut(recorder, alloc, premise, &stated)
 }
 
@@ -113,9 +104,6 @@ pub fn by_lemma_known(
         ∷ instance_of types.now terms.now p ∷ nameless_equation bool_type (instance_of types.now terms.now p) (instance_of types.now terms.now c)
         ∷ [])) result h (instance_of types.now terms.now c) }
 {
-    let stated = match instance_known(recorder, alloc, types, terms, lemma) {
-        Ok(stated) => stated,
-        Err(fault) => return Err(fault),
-    };
+    let stated = instance_known(recorder, alloc, types, terms, lemma)?;
     cut(recorder, alloc, premise, &stated)
 }

@@ -10,6 +10,7 @@ use Rattle.hol_equal.proofs.CutLemmas.{shows-itself}
 use Rattle.hol_bool.proofs.RuleAnswers.{answered-one, leads-p_q, roomy-fits}
 use Rattle.hol_bool.proofs.InferredRules.{infers_conjunct1}
 use Rattle.hol_bool.proofs.PreludeSteps.{p_q-known}
+use Rattle.hol_bool.proofs.Passing.{unchanged}
 use Rattle.hol_bool.proofs.conjunction_rules.conjunct1.Goals as goal
 
 pub returns-clause-outcome : goal.returns-clause-outcome
@@ -23,7 +24,7 @@ returns-clause-outcome c =
     (ap (λ (o : Option (NamedTerm × NamedTerm)). given o BadShape (λ sides. stated (images premise) sides.0)) (sym c.in-Some.ensures.sides))
     (λ room whole part. c.by_theorem.ensures.derives (images premise) (image premise.conclusion) room
     (leads-p_q theory 13 (conjunction p q) p a b c.deref.result.now refl refl parts.left_formula parts.right_formula
-    (c.deref.ensures.value ∙ c.in-Ok.ensures.ok) room (image premise.conclusion) (image c.in-Some.sides.left.now) (ap image parts.is) refl
+    (c.deref.ensures.value ∙ c.in_ok-terms.ensures.ok) room (image premise.conclusion) (image c.in-Some.sides.left.now) (ap image parts.is) refl
     (roomy-fits room (image premise.conclusion) whole) (roomy-fits room (image c.in-Some.sides.left.now) part))
     (shows-itself premise))
     c.by_theorem.ensures.names
@@ -34,8 +35,11 @@ returns-clause-inferred c = infers_conjunct1 c.requires.logic c.in-Some.ensures.
 pub by_theorem-requires-clause-known : goal.by_theorem-requires-clause-known
 by_theorem-requires-clause-known c =
     let parts = c.in-Some.ensures.parts in
-    p_q-known c.args.recorder.now.theory c.in-Some.sides.left.now c.in-Some.sides.right.now c.deref.result.now (c.deref.ensures.value ∙ c.in-Ok.ensures.ok) parts.left_formula parts.right_formula
+    p_q-known c.args.recorder.now.theory c.in-Some.sides.left.now c.in-Some.sides.right.now c.deref.result.now (c.deref.ensures.value ∙ c.in_ok-terms.ensures.ok) parts.left_formula parts.right_formula
 
 pub by_theorem-requires-clause-stated : goal.by_theorem-requires-clause-stated
 by_theorem-requires-clause-stated c =
     c.in-Some.ensures.parts.left_formula
+
+pub returns-in_err-terms-clause-continues : goal.returns-in_err-terms-clause-continues
+returns-in_err-terms-clause-continues c = unchanged c.args.recorder.now c.from_residual.result c.from_residual.ensures.0

@@ -11,17 +11,19 @@ use Rattle.hol_bool.proofs.ConjunctionAnswers.{mp_equation}
 use Rattle.hol_bool.proofs.ImplicationAnswers.{disch-fits}
 use Rattle.hol_bool.proofs.PreludeSteps.{still_formula}
 use Rattle.hol_bool.proofs.DisjunctionAnswers.{other-is, other-formula, disjunction-fits, other-fits, both-fits, first-case-fits, second-case-fits}
+use Rattle.hol_bool.proofs.Passing.{passed_on, unchanged}
 use Rattle.hol_bool.proofs.disjunction_rules.by_cases.Goals as goal
 
-pub returns-in-Err-clause-derives : goal.returns-in-Err-clause-derives
-returns-in-Err-clause-derives c h i j s room theorem first second left_room right_room s_room =
+pub returns-in_err-rest-clause-derives : goal.returns-in_err-rest-clause-derives
+returns-in_err-rest-clause-derives c h i j s room theorem first second left_room right_room s_room =
     let q = image c.args.sides.right.now in
     let concluded = c.conclusion_of-r.ensures in
     let r = c.conclusion_of-r.result.now in
     let formula : IsFormula c.args.recorder.now.theory r = subst (λ (t : NamedTerm). IsFormula c.args.recorder.now.theory t) (sym concluded.value) concluded.formula in
     let r_is : image r ≡ s = ap image concluded.value ∙ first.concludes in
-    c.in-Err.ensures room c.requires.right.typed formula.typed
-    (other-fits room q (image r) right_room (subst (λ (t : Nameless). LeavesRoomIf room t) (sym r_is) s_room))
+    rw (passed_on c.from_residual.result c.in_err-rest.field-0.0 c.from_residual.ensures.1)
+    (c.in_err-rest.ensures room c.requires.right.typed formula.typed
+    (other-fits room q (image r) right_room (subst (λ (t : Nameless). LeavesRoomIf room t) (sym r_is) s_room)))
 
 pub eliminated-requires-clause-r : goal.eliminated-requires-clause-r
 eliminated-requires-clause-r c =
@@ -32,52 +34,54 @@ pub eliminated-requires-clause-rest : goal.eliminated-requires-clause-rest
 eliminated-requires-clause-rest c =
     let concluded = c.conclusion_of-r.ensures in
     let formula : IsFormula c.args.recorder.now.theory c.conclusion_of-r.result.now = subst (λ (t : NamedTerm). IsFormula c.args.recorder.now.theory t) (sym concluded.value) concluded.formula in
-    other-is c.in-Ok.rest c.args.sides.right.now c.conclusion_of-r.result.now c.requires.right.typed formula.typed c.in-Ok.ensures
+    other-is c.in_ok-rest.rest c.args.sides.right.now c.conclusion_of-r.result.now c.requires.right.typed formula.typed c.in_ok-rest.ensures
 
-pub returns-in-Err-eliminated-clause-derives : goal.returns-in-Err-eliminated-clause-derives
-returns-in-Err-eliminated-clause-derives c h i j s room theorem first second left_room right_room s_room =
+pub returns-in_err-cases-clause-derives : goal.returns-in_err-cases-clause-derives
+returns-in_err-cases-clause-derives c h i j s room theorem first second left_room right_room s_room =
     let p = image c.args.sides.left.now in
     let q = image c.args.sides.right.now in
     let r = image c.conclusion_of-r.result.now in
     let r_is : r ≡ s = ap image c.conclusion_of-r.ensures.value ∙ first.concludes in
-    c.in-Err-eliminated.ensures.derives h room theorem (disjunction-fits room p q left_room right_room)
-    (both-fits room p q r left_room right_room (subst (λ (t : Nameless). LeavesRoomIf room t) (sym r_is) s_room))
+    rw (passed_on c.from_residual-in_err-cases.result c.in_err-cases.field-0.0 c.from_residual-in_err-cases.ensures.1)
+    (c.in_err-cases.ensures.derives h room theorem (disjunction-fits room p q left_room right_room)
+    (both-fits room p q r left_room right_room (subst (λ (t : Nameless). LeavesRoomIf room t) (sym r_is) s_room)))
 
 pub with_case-requires-clause-consequent : goal.with_case-requires-clause-consequent
 with_case-requires-clause-consequent c =
     let concluded = c.conclusion_of-r.ensures in
     let r = c.conclusion_of-r.result.now in
     let formula : IsFormula c.args.recorder.now.theory r = subst (λ (t : NamedTerm). IsFormula c.args.recorder.now.theory t) (sym concluded.value) concluded.formula in
-    let rest_is = other-is c.in-Ok.rest c.args.sides.right.now r c.requires.right.typed formula.typed c.in-Ok.ensures in
-    still_formula c.args.recorder.now c.eliminated.new.recorder (Ok c.in-Ok-eliminated.cases) c.in-Ok.rest c.in-Ok-eliminated.ensures.continues
-    (other-formula c.args.recorder.now c.args.logic.now c.requires.logic concluded.legal c.in-Ok.rest c.args.sides.right.now r rest_is c.requires.right formula)
+    let rest_is = other-is c.in_ok-rest.rest c.args.sides.right.now r c.requires.right.typed formula.typed c.in_ok-rest.ensures in
+    still_formula c.args.recorder.now c.eliminated.new.recorder (Ok c.in_ok-cases.cases) c.in_ok-rest.rest c.in_ok-cases.ensures.continues
+    (other-formula c.args.recorder.now c.args.logic.now c.requires.logic concluded.legal c.in_ok-rest.rest c.args.sides.right.now r rest_is c.requires.right formula)
 
-pub returns-in-Err-with_case-clause-derives : goal.returns-in-Err-with_case-clause-derives
-returns-in-Err-with_case-clause-derives c h i j s room theorem first second left_room right_room s_room =
+pub returns-in_err-other-clause-derives : goal.returns-in_err-other-clause-derives
+returns-in_err-other-clause-derives c h i j s room theorem first second left_room right_room s_room =
     let concluded = c.conclusion_of-r.ensures in
     let p = image c.args.sides.left.now in
     let q = image c.args.sides.right.now in
     let term = c.conclusion_of-r.result.now in
     let r = image term in
     let formula : IsFormula c.args.recorder.now.theory term = subst (λ (t : NamedTerm). IsFormula c.args.recorder.now.theory t) (sym concluded.value) concluded.formula in
-    let rest_is = other-is c.in-Ok.rest c.args.sides.right.now term c.requires.right.typed formula.typed c.in-Ok.ensures in
+    let rest_is = other-is c.in_ok-rest.rest c.args.sides.right.now term c.requires.right.typed formula.typed c.in_ok-rest.ensures in
     let r_is : r ≡ s = ap image concluded.value ∙ first.concludes in
     let r_room = subst (λ (t : Nameless). LeavesRoomIf room t) (sym r_is) s_room in
-    let cases = c.in-Ok-eliminated.ensures.derives h room theorem (disjunction-fits room p q left_room right_room) (both-fits room p q r left_room right_room r_room) in
+    let cases = c.in_ok-cases.ensures.derives h room theorem (disjunction-fits room p q left_room right_room) (both-fits room p q r left_room right_room r_room) in
     let here = subst (λ (t : Nameless). Shows c.args.first.now.theorem i t) (sym r_is) first in
-    c.in-Err-with_case.ensures.derives h i r room
-    (subst (λ (t : NamedTerm). Shows c.in-Ok-eliminated.cases.theorem h (nameless.implication (nameless.implication p r) (image t)))
+    rw (passed_on c.from_residual-in_err-other.result c.in_err-other.field-0.0 c.from_residual-in_err-other.ensures.1)
+    (c.in_err-other.ensures.derives h i r room
+    (subst (λ (t : NamedTerm). Shows c.in_ok-cases.cases.theorem h (nameless.implication (nameless.implication p r) (image t)))
     (sym rest_is) cases) here
     (disch-fits room p r left_room r_room)
-    (subst (λ (t : NamedTerm). FitsIf room (mp_equation (nameless.implication p r) (image t))) (sym rest_is) (first-case-fits room p q r left_room right_room r_room))
+    (subst (λ (t : NamedTerm). FitsIf room (mp_equation (nameless.implication p r) (image t))) (sym rest_is) (first-case-fits room p q r left_room right_room r_room)))
 
 pub with_case-requires-2-clause-consequent : goal.with_case-requires-2-clause-consequent
 with_case-requires-2-clause-consequent c =
     let concluded = c.conclusion_of-r.ensures in
     let r = c.conclusion_of-r.result.now in
     let formula : IsFormula c.args.recorder.now.theory r = subst (λ (t : NamedTerm). IsFormula c.args.recorder.now.theory t) (sym concluded.value) concluded.formula in
-    still_formula c.eliminated.new.recorder c.with_case.new.recorder (Ok c.in-Ok-with_case.other) r c.in-Ok-with_case.ensures.continues
-    (still_formula c.args.recorder.now c.eliminated.new.recorder (Ok c.in-Ok-eliminated.cases) r c.in-Ok-eliminated.ensures.continues formula)
+    still_formula c.eliminated.new.recorder c.with_case.new.recorder (Ok c.in_ok-other.other) r c.in_ok-other.ensures.continues
+    (still_formula c.args.recorder.now c.eliminated.new.recorder (Ok c.in_ok-cases.cases) r c.in_ok-cases.ensures.continues formula)
 
 pub returns-clause-names : goal.returns-clause-names
 returns-clause-names c =
@@ -91,19 +95,22 @@ returns-clause-derives c h i j s room theorem first second left_room right_room 
     let term = c.conclusion_of-r.result.now in
     let r = image term in
     let formula : IsFormula c.args.recorder.now.theory term = subst (λ (t : NamedTerm). IsFormula c.args.recorder.now.theory t) (sym concluded.value) concluded.formula in
-    let rest_is = other-is c.in-Ok.rest c.args.sides.right.now term c.requires.right.typed formula.typed c.in-Ok.ensures in
+    let rest_is = other-is c.in_ok-rest.rest c.args.sides.right.now term c.requires.right.typed formula.typed c.in_ok-rest.ensures in
     let r_is : r ≡ s = ap image concluded.value ∙ first.concludes in
     let r_room = subst (λ (t : Nameless). LeavesRoomIf room t) (sym r_is) s_room in
-    let cases = c.in-Ok-eliminated.ensures.derives h room theorem (disjunction-fits room p q left_room right_room) (both-fits room p q r left_room right_room r_room) in
+    let cases = c.in_ok-cases.ensures.derives h room theorem (disjunction-fits room p q left_room right_room) (both-fits room p q r left_room right_room r_room) in
     let one = subst (λ (t : Nameless). Shows c.args.first.now.theorem i t) (sym r_is) first in
     let two = subst (λ (t : Nameless). Shows c.args.second.now.theorem j t) (sym r_is) second in
     let left : List Nameless = without p i ++ h in
     let other =
-    c.in-Ok-with_case.ensures.derives h i r room
-    (subst (λ (t : NamedTerm). Shows c.in-Ok-eliminated.cases.theorem h (nameless.implication (nameless.implication p r) (image t)))
+    c.in_ok-other.ensures.derives h i r room
+    (subst (λ (t : NamedTerm). Shows c.in_ok-cases.cases.theorem h (nameless.implication (nameless.implication p r) (image t)))
     (sym rest_is) cases) one
     (disch-fits room p r left_room r_room)
     (subst (λ (t : NamedTerm). FitsIf room (mp_equation (nameless.implication p r) (image t))) (sym rest_is) (first-case-fits room p q r left_room right_room r_room)) in
     subst (λ (t : Nameless). DerivesIf room c.with_case-2.result (without q j ++ left) t) r_is
-    (c.with_case-2.ensures.derives left j r room (subst (λ (t : NamedTerm). Shows c.in-Ok-with_case.other.theorem left (image t)) rest_is other) two
+    (c.with_case-2.ensures.derives left j r room (subst (λ (t : NamedTerm). Shows c.in_ok-other.other.theorem left (image t)) rest_is other) two
     (disch-fits room q r right_room r_room) (second-case-fits room q r right_room r_room))
+
+pub returns-in_err-rest-clause-continues : goal.returns-in_err-rest-clause-continues
+returns-in_err-rest-clause-continues c = unchanged c.args.recorder.now c.from_residual.result c.from_residual.ensures.0

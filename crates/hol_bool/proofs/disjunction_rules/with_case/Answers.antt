@@ -1,12 +1,15 @@
 use Rattle.hol_model.specs.Terms.Nameless.{image}
 use Rattle.hol_model.specs.Logic.Derivable.{without}
 use Rattle.hol_model.specs.Logic.Logic as nameless
+use Rattle.hol_bool.proofs.Passing.{passed_on}
 use Rattle.hol_bool.proofs.disjunction_rules.with_case.Goals as goal
 
-pub returns-in-Err-clause-derives : goal.returns-in-Err-clause-derives
-returns-in-Err-clause-derives c h k r room whole case case_fits whole_fits = c.in-Err.ensures.derives k r room case case_fits
+pub returns-in_err-implication-clause-derives : goal.returns-in_err-implication-clause-derives
+returns-in_err-implication-clause-derives c h k r room whole case case_fits whole_fits =
+    rw (passed_on c.from_residual.result c.in_err-implication.field-0.0 c.from_residual.ensures.1)
+    (c.in_err-implication.ensures.derives k r room case case_fits)
 
 pub returns-clause-derives : goal.returns-clause-derives
 returns-clause-derives c h k r room whole case case_fits whole_fits =
     let p = image c.args.p.now in
-    c.implied.ensures.derives h (without p k) (nameless.implication p r) room whole (c.in-Ok.ensures.derives k r room case case_fits) whole_fits
+    c.implied.ensures.derives h (without p k) (nameless.implication p r) room whole (c.in_ok-implication.ensures.derives k r room case case_fits) whole_fits

@@ -11,4 +11,4 @@ pub returns : goal.returns
 returns c room typed fits =
     let part = c.args.part.now in
     made-combination c.mk_comb.result (constant not_name unary) part bool_type room (negation-typed part typed) fits
-    (subst (λ (t : NamedTerm). Answers c.mk_comb.result (combination_outcome t part)) c.in-Ok.ensures.ok c.mk_comb.ensures.outcome)
+    (subst (λ (t : NamedTerm). Answers c.mk_comb.result (combination_outcome t part)) c.in_ok-connective.ensures.ok c.mk_comb.ensures.outcome)

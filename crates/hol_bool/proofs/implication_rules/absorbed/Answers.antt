@@ -11,35 +11,38 @@ use Rattle.hol_equal.proofs.CutLemmas.{derives-where}
 use Rattle.hol_equal.proofs.LemmaLemmas.{derives-same}
 use Rattle.hol_bool.proofs.RoomLemmas.{fits-within}
 use Rattle.hol_bool.proofs.ImplicationAnswers.{disch-both-fits, disch-conj-fits, disch-absorbed-fits, absorbed-set}
+use Rattle.hol_bool.proofs.Passing.{passed_on}
 use Rattle.hol_bool.proofs.implication_rules.absorbed.Goals as goal
 
-pub returns-in-Err-joined-clause-derives : goal.returns-in-Err-joined-clause-derives
-returns-in-Err-joined-clause-derives c h q room shown fits =
+pub returns-in_err-joined-clause-derives : goal.returns-in_err-joined-clause-derives
+returns-in_err-joined-clause-derives c h q room shown fits =
     let p = image c.args.p.now in
-    c.in-Err-joined.ensures.derives (p ∷ []) h p q room (c.in-Ok.ensures.gives c.requires.formula.known) shown (disch-conj-fits room p q fits)
+    rw (passed_on c.from_residual-in_err-joined.result c.in_err-joined.field-0.0 c.from_residual-in_err-joined.ensures.1)
+    (c.in_err-joined.ensures.derives (p ∷ []) h p q room (c.in_ok-assumed.ensures.gives c.requires.formula.known) shown (disch-conj-fits room p q fits))
 
 pub conclusion_of-q-requires : goal.conclusion_of-q-requires
 conclusion_of-q-requires c =
-    still_made c.assume_known.new.recorder c.joined.new.recorder (Ok c.in-Ok-joined.joined) c.args.premise.now c.in-Ok-joined.ensures.continues
-    (still_made c.args.recorder.now c.assume_known.new.recorder (Ok c.in-Ok.assumed) c.args.premise.now c.in-Ok.ensures.continues c.requires.premise)
+    still_made c.assume_known.new.recorder c.joined.new.recorder (Ok c.in_ok-joined.joined) c.args.premise.now c.in_ok-joined.ensures.continues
+    (still_made c.args.recorder.now c.assume_known.new.recorder (Ok c.in_ok-assumed.assumed) c.args.premise.now c.in_ok-assumed.ensures.continues c.requires.premise)
 
-pub returns-in-Err-first_of_both-clause-derives : goal.returns-in-Err-first_of_both-clause-derives
-returns-in-Err-first_of_both-clause-derives c h q room shown fits =
+pub returns-in_err-first-clause-derives : goal.returns-in_err-first-clause-derives
+returns-in_err-first-clause-derives c h q room shown fits =
     let p = image c.args.p.now in
-    let joined = c.in-Ok-joined.ensures.derives (p ∷ []) h p q room (c.in-Ok.ensures.gives c.requires.formula.known) shown (disch-conj-fits room p q fits) in
+    let joined = c.in_ok-joined.ensures.derives (p ∷ []) h p q room (c.in_ok-assumed.ensures.gives c.requires.formula.known) shown (disch-conj-fits room p q fits) in
     let both_is : image c.conclusion_of-both.result.now ≡ nameless.conjunction p q = ap image c.conclusion_of-both.ensures.value ∙ joined.concludes in
-    c.in-Err-first_of_both.ensures.derives room (subst (λ (t : Nameless). FitsIf room t) (sym both_is) (disch-both-fits room p q fits))
+    rw (passed_on c.from_residual-in_err-first.result c.in_err-first.field-0.0 c.from_residual-in_err-first.ensures.1)
+    (c.in_err-first.ensures.derives room (subst (λ (t : Nameless). FitsIf room t) (sym both_is) (disch-both-fits room p q fits)))
 
 pub returns-clause-derives : goal.returns-clause-derives
 returns-clause-derives c h q room shown fits =
     let p = image c.args.p.now in
     let conj = nameless.conjunction p q in
     let whole = nameless_equation bool_type conj p in
-    let joined = c.in-Ok-joined.ensures.derives (p ∷ []) h p q room (c.in-Ok.ensures.gives c.requires.formula.known) shown (disch-conj-fits room p q fits) in
+    let joined = c.in_ok-joined.ensures.derives (p ∷ []) h p q room (c.in_ok-assumed.ensures.gives c.requires.formula.known) shown (disch-conj-fits room p q fits) in
     let both_is : image c.conclusion_of-both.result.now ≡ conj = ap image c.conclusion_of-both.ensures.value ∙ joined.concludes in
-    let first : Shows c.in-Ok-first_of_both.first.theorem (conj ∷ []) p =
-    subst (λ (t : Nameless). Shows c.in-Ok-first_of_both.first.theorem (t ∷ []) p) both_is
-    (c.in-Ok-first_of_both.ensures.derives room (subst (λ (t : Nameless). FitsIf room t) (sym both_is) (disch-both-fits room p q fits))) in
+    let first : Shows c.in_ok-first.first.theorem (conj ∷ []) p =
+    subst (λ (t : Nameless). Shows c.in_ok-first.first.theorem (t ∷ []) p) both_is
+    (c.in_ok-first.ensures.derives room (subst (λ (t : Nameless). FitsIf room t) (sym both_is) (disch-both-fits room p q fits))) in
     let left : List Nameless = without p ((p ∷ []) ++ h) ++ without conj (conj ∷ []) in
     derives-where (nameless_within_limits whole) room c.deduct_antisym.result (without p h) whole (fits-within room whole (disch-absorbed-fits room p q fits))
     (derives-same (nameless_within_limits whole) c.deduct_antisym.result left (without p h) whole (absorbed-set h p conj)

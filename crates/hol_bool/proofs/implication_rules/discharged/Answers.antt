@@ -14,22 +14,24 @@ use Rattle.hol_bool.proofs.RoomLemmas.{connected-is, connected-past}
 use Rattle.hol_bool.proofs.ImplicationAnswers.{disch_equation, disch-implication-fits, disch-leads}
 use Rattle.hol_bool.proofs.PreludeSteps.{p_q-known, still_known}
 use Rattle.hol_bool.proofs.FormulaLemmas.{connects, made-formula, formula_in}
+use Rattle.hol_bool.proofs.Passing.{passed_on, unchanged}
 use Rattle.hol_bool.proofs.implication_rules.discharged.Goals as goal
 
-pub returns-in-Err-clause-derives : goal.returns-in-Err-clause-derives
-returns-in-Err-clause-derives c h q room shown fits =
+pub returns-in_err-stated-clause-derives : goal.returns-in_err-stated-clause-derives
+returns-in_err-stated-clause-derives c h q room shown fits =
     let a = c.args.p.now in
     let b = c.args.premise.now.theorem.conclusion in
     let concluded = c.conclusion_of-q.ensures in
-    connected-past c.in-Err.fault implies_name a b a c.conclusion_of-q.result.now c.requires.formula.typed concluded.formula.typed refl concluded.value c.in-Err.ensures room
-    (disch-implication-fits room (image a) (image b) (subst (λ (t : Nameless). FitsIf room (disch_equation (image a) t)) (sym shown.concludes) fits))
+    rw (passed_on c.from_residual.result c.in_err-stated.field-0.0 c.from_residual.ensures.1)
+    (connected-past c.in_err-stated.field-0.0 implies_name a b a c.conclusion_of-q.result.now c.requires.formula.typed concluded.formula.typed refl concluded.value c.in_err-stated.ensures room
+    (disch-implication-fits room (image a) (image b) (subst (λ (t : Nameless). FitsIf room (disch_equation (image a) t)) (sym shown.concludes) fits)))
 
 pub returns-clause-names : goal.returns-clause-names
 returns-clause-names c =
     let a = c.args.p.now in
     let b = c.args.premise.now.theorem.conclusion in
     let concluded = c.conclusion_of-q.ensures in
-    let stated_is = connected-is c.in-Ok.stated implies_name a b a c.conclusion_of-q.result.now c.requires.formula.typed concluded.formula.typed refl concluded.value c.in-Ok.ensures in
+    let stated_is = connected-is c.in_ok-stated.stated implies_name a b a c.conclusion_of-q.result.now c.requires.formula.typed concluded.formula.typed refl concluded.value c.in_ok-stated.ensures in
     subst (λ (t : NamedTerm). IfOk c.by_theorem.result (λ made. made.theorem.conclusion ≡ t)) stated_is c.by_theorem.ensures.names
 
 pub returns-clause-derives : goal.returns-clause-derives
@@ -39,15 +41,15 @@ returns-clause-derives c h q room shown fits =
     let concluded = c.conclusion_of-q.ensures in
     let terms = c.deref.result.now in
     let left = without (image a) h in
-    let stated_is = connected-is c.in-Ok.stated implies_name a b a c.conclusion_of-q.result.now c.requires.formula.typed concluded.formula.typed refl concluded.value c.in-Ok.ensures in
-    let terms_are : terms ≡ at_p_q a b = c.deref.ensures.value ∙ c.in-Ok-for_p_q.ensures.ok ∙ ap (at_p_q a) concluded.value in
+    let stated_is = connected-is c.in_ok-stated.stated implies_name a b a c.conclusion_of-q.result.now c.requires.formula.typed concluded.formula.typed refl concluded.value c.in_ok-stated.ensures in
+    let terms_are : terms ≡ at_p_q a b = c.deref.ensures.value ∙ c.in_ok-terms.ensures.ok ∙ ap (at_p_q a) concluded.value in
     let fits_here = subst (λ (t : Nameless). FitsIf room (disch_equation (image a) t)) (sym shown.concludes) fits in
     let from = nameless_equation bool_type (nameless.conjunction (image a) (image b)) (image a) in
-    let leads = subst (λ (t : Theory). LeadsTo t 16 terms room from (image (implication a b))) (sym c.in-Ok-absorbed.ensures.continues.theory)
+    let leads = subst (λ (t : Theory). LeadsTo t 16 terms room from (image (implication a b))) (sym c.in_ok-equation.ensures.continues.theory)
     (disch-leads c.args.recorder.now.theory a b terms c.requires.formula concluded.formula terms_are room fits_here) in
     let equation = subst (λ (t : Nameless).
-    Shows c.in-Ok-absorbed.equation.theorem left (nameless_equation bool_type (nameless.conjunction (image a) t) (image a)))
-    (sym shown.concludes) (c.in-Ok-absorbed.ensures.derives h q room shown fits) in
+    Shows c.in_ok-equation.equation.theorem left (nameless_equation bool_type (nameless.conjunction (image a) t) (image a)))
+    (sym shown.concludes) (c.in_ok-equation.ensures.derives h q room shown fits) in
     let answer : DerivesIf room c.by_theorem.result left (nameless.implication (image a) (image b)) =
     subst (λ (t : NamedTerm). LeadsTo c.absorbed.new.recorder.theory 16 terms room from (image t) → DerivesIf room c.by_theorem.result left (image t)) stated_is
     (λ l. c.by_theorem.ensures.derives left from room l equation) leads in
@@ -59,8 +61,8 @@ by_theorem-requires-clause-known c =
     let b = c.args.premise.now.theorem.conclusion in
     let concluded = c.conclusion_of-q.ensures in
     let theory = c.args.recorder.now.theory in
-    let terms_are : c.deref.result.now ≡ at_p_q a b = c.deref.ensures.value ∙ c.in-Ok-for_p_q.ensures.ok ∙ ap (at_p_q a) concluded.value in
-    still_known c.absorbed.new.recorder.theory theory c.deref.result.now c.in-Ok-absorbed.ensures.continues.theory
+    let terms_are : c.deref.result.now ≡ at_p_q a b = c.deref.ensures.value ∙ c.in_ok-terms.ensures.ok ∙ ap (at_p_q a) concluded.value in
+    still_known c.absorbed.new.recorder.theory theory c.deref.result.now c.in_ok-equation.ensures.continues.theory
     (p_q-known theory a b c.deref.result.now terms_are c.requires.formula concluded.formula)
 
 pub by_theorem-requires-clause-stated : goal.by_theorem-requires-clause-stated
@@ -69,7 +71,13 @@ by_theorem-requires-clause-stated c =
     let a = c.args.p.now in
     let b = c.args.premise.now.theorem.conclusion in
     let concluded = c.conclusion_of-q.ensures in
-    let stated_is = connected-is c.in-Ok.stated implies_name a b a c.conclusion_of-q.result.now c.requires.formula.typed concluded.formula.typed refl concluded.value c.in-Ok.ensures in
-    formula_in c.absorbed.new.recorder.theory journal.theory c.in-Ok.stated c.in-Ok-absorbed.ensures.continues.theory
-    (made-formula journal.theory c.in-Ok.stated (implication a b) stated_is
+    let stated_is = connected-is c.in_ok-stated.stated implies_name a b a c.conclusion_of-q.result.now c.requires.formula.typed concluded.formula.typed refl concluded.value c.in_ok-stated.ensures in
+    formula_in c.absorbed.new.recorder.theory journal.theory c.in_ok-stated.stated c.in_ok-equation.ensures.continues.theory
+    (made-formula journal.theory c.in_ok-stated.stated (implication a b) stated_is
     (connects journal c.args.logic.now c.requires.logic concluded.legal implies_name refl a b c.requires.formula concluded.formula))
+
+pub returns-in_err-stated-clause-continues : goal.returns-in_err-stated-clause-continues
+returns-in_err-stated-clause-continues c = unchanged c.args.recorder.now c.from_residual.result c.from_residual.ensures.0
+
+pub returns-in_err-terms-clause-continues : goal.returns-in_err-terms-clause-continues
+returns-in_err-terms-clause-continues c = unchanged c.args.recorder.now c.from_residual-in_err-terms.result c.from_residual-in_err-terms.ensures.0

@@ -24,7 +24,7 @@ returns-clause-outcome c =
     (record { to = λ x m. m; back = λ x m. m })
     (λ room roomy. c.implied.ensures.derives (images premise) (image a ∷ []) (image a) room
     (subst (λ (t : Nameless). Shows premise (images premise) t) (ap image parts.is) (shows-itself premise))
-    (c.in-Ok.ensures.gives parts.left_formula.known)
+    (c.in_ok-assumed.ensures.gives parts.left_formula.known)
     (mp-equation-fits room (image a) (image b) (subst (λ (t : Nameless). room ≡ true → IsSized 1000 5000 t) (ap image parts.is) (roomy (image premise.conclusion) (inl refl)))
     (stated-roomy room (terms_of_theorem premise) wanted (image b) roomy)))
     c.implied.ensures.names

@@ -15,20 +15,22 @@ use Rattle.hol_bool.proofs.RuleAnswers.{answered-one, leads-p, roomy-fits}
 use Rattle.hol_bool.proofs.InferredRules.{infers_not_elim}
 use Rattle.hol_bool.proofs.PreludeSteps.{p-known}
 use Rattle.hol_bool.proofs.FormulaLemmas.{connects, falsity_is_formula, made-formula}
+use Rattle.hol_bool.proofs.Passing.{passed_on, unchanged}
 use Rattle.hol_bool.proofs.negation_rules.not_elim.Goals as goal
 
-pub returns-in-Err-connect-clause-outcome : goal.returns-in-Err-connect-clause-outcome
-returns-in-Err-connect-clause-outcome c =
+pub returns-in_err-stated-clause-outcome : goal.returns-in_err-stated-clause-outcome
+returns-in_err-stated-clause-outcome c =
     let premise = c.args.premise.now.theorem in
     let a = c.in-Some.part.now in
-    answered-one (Err c.in-Err-connect.fault) premise (implication a false_term) (not_elim_outcome premise)
+    rw (passed_on c.from_residual-in_err-stated.result c.in_err-stated.field-0.0 c.from_residual-in_err-stated.ensures.1)
+    (answered-one (Err c.in_err-stated.field-0.0) premise (implication a false_term) (not_elim_outcome premise)
     (ap (λ (o : Option NamedTerm). given o BadShape (λ part. stated (images premise) (implication part false_term))) (sym c.in-Some.ensures.found))
-    (λ room whole part. connected-past c.in-Err-connect.fault implies_name a false_term a c.in-Ok.falsity c.in-Some.ensures.part.formula.typed refl
-    refl c.in-Ok.ensures.ok c.in-Err-connect.ensures room
-    (roomy-fits room (image (implication a false_term)) part)) tt
+    (λ room whole part. connected-past c.in_err-stated.field-0.0 implies_name a false_term a c.in_ok-falsity.falsity c.in-Some.ensures.part.formula.typed refl
+    refl c.in_ok-falsity.ensures.ok c.in_err-stated.ensures room
+    (roomy-fits room (image (implication a false_term)) part)) tt)
 
-pub returns-in-Err-connect-clause-inferred : goal.returns-in-Err-connect-clause-inferred
-returns-in-Err-connect-clause-inferred c = infers_not_elim c.requires.logic c.in-Some.ensures.legal c.in-Some.ensures.formula (returns-in-Err-connect-clause-outcome c)
+pub returns-in_err-stated-clause-inferred : goal.returns-in_err-stated-clause-inferred
+returns-in_err-stated-clause-inferred c = infers_not_elim c.requires.logic c.in-Some.ensures.legal c.in-Some.ensures.formula (returns-in_err-stated-clause-outcome c)
 
 pub returns-clause-outcome : goal.returns-clause-outcome
 returns-clause-outcome c =
@@ -37,14 +39,14 @@ returns-clause-outcome c =
     let a = c.in-Some.part.now in
     let negated = c.in-Some.ensures.part in
     let terms = c.deref.result.now in
-    let stated_is = connected-is c.in-Ok-connect.stated implies_name a false_term a c.in-Ok.falsity negated.formula.typed refl refl c.in-Ok.ensures.ok c.in-Ok-connect.ensures in
+    let stated_is = connected-is c.in_ok-stated.stated implies_name a false_term a c.in_ok-falsity.falsity negated.formula.typed refl refl c.in_ok-falsity.ensures.ok c.in_ok-stated.ensures in
     answered-one c.by_theorem.result premise (implication a false_term) (not_elim_outcome premise)
     (ap (λ (o : Option NamedTerm). given o BadShape (λ part. stated (images premise) (implication part false_term))) (sym c.in-Some.ensures.found))
     (λ room whole part.
     subst (λ (s : NamedTerm). LeadsTo theory 23 terms room (image premise.conclusion) (image s) → DerivesIf room c.by_theorem.result (images premise) (image s)) stated_is
     (λ leads. c.by_theorem.ensures.derives (images premise) (image premise.conclusion) room leads (shows-itself premise))
     (leads-p theory 23 (negation p) (implication p false_term) a terms refl refl negated.formula
-    (c.deref.ensures.value ∙ c.in-Ok-for_p.ensures.ok) room (image premise.conclusion) (image (implication a false_term))
+    (c.deref.ensures.value ∙ c.in_ok-terms.ensures.ok) room (image premise.conclusion) (image (implication a false_term))
     (ap image negated.is) refl
     (roomy-fits room (image premise.conclusion) whole) (roomy-fits room (image (implication a false_term)) part)))
     (subst (λ (s : NamedTerm). IfOk c.by_theorem.result (λ made. made.theorem.conclusion ≡ s)) stated_is c.by_theorem.ensures.names)
@@ -54,14 +56,23 @@ returns-clause-inferred c = infers_not_elim c.requires.logic c.in-Some.ensures.l
 
 pub by_theorem-requires-clause-known : goal.by_theorem-requires-clause-known
 by_theorem-requires-clause-known c =
-    p-known c.args.recorder.now.theory c.in-Some.part.now c.deref.result.now (c.deref.ensures.value ∙ c.in-Ok-for_p.ensures.ok) c.in-Some.ensures.part.formula
+    p-known c.args.recorder.now.theory c.in-Some.part.now c.deref.result.now (c.deref.ensures.value ∙ c.in_ok-terms.ensures.ok) c.in-Some.ensures.part.formula
 
 pub by_theorem-requires-clause-stated : goal.by_theorem-requires-clause-stated
 by_theorem-requires-clause-stated c =
     let journal = c.args.recorder.now in
     let a = c.in-Some.part.now in
     let negated = c.in-Some.ensures.part in
-    let stated_is = connected-is c.in-Ok-connect.stated implies_name a false_term a c.in-Ok.falsity negated.formula.typed refl refl c.in-Ok.ensures.ok c.in-Ok-connect.ensures in
-    made-formula journal.theory c.in-Ok-connect.stated (implication a false_term) stated_is
+    let stated_is = connected-is c.in_ok-stated.stated implies_name a false_term a c.in_ok-falsity.falsity negated.formula.typed refl refl c.in_ok-falsity.ensures.ok c.in_ok-stated.ensures in
+    made-formula journal.theory c.in_ok-stated.stated (implication a false_term) stated_is
     (connects journal c.args.logic.now c.requires.logic c.in-Some.ensures.legal implies_name refl a false_term negated.formula
     (falsity_is_formula journal c.args.logic.now c.requires.logic c.in-Some.ensures.legal))
+
+pub returns-in_err-falsity-clause-continues : goal.returns-in_err-falsity-clause-continues
+returns-in_err-falsity-clause-continues c = unchanged c.args.recorder.now c.from_residual.result c.from_residual.ensures.0
+
+pub returns-in_err-stated-clause-continues : goal.returns-in_err-stated-clause-continues
+returns-in_err-stated-clause-continues c = unchanged c.args.recorder.now c.from_residual-in_err-stated.result c.from_residual-in_err-stated.ensures.0
+
+pub returns-in_err-terms-clause-continues : goal.returns-in_err-terms-clause-continues
+returns-in_err-terms-clause-continues c = unchanged c.args.recorder.now c.from_residual-in_err-terms.result c.from_residual-in_err-terms.ensures.0

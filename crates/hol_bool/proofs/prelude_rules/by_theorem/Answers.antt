@@ -11,20 +11,23 @@ use Rattle.hol_equal.proofs.CutLemmas.{derives-where}
 use Rattle.hol_bool.proofs.PreludeSteps.{leads-shows, way-fits, equation-fits}
 use Rattle.hol_model.specs.Logic.Theory.{Theory}
 use Rattle.hol_equal.specs.Formulas.{IsFormula}
+use Rattle.hol_bool.proofs.Passing.{passed_on}
 use Rattle.hol_bool.proofs.prelude_rules.by_theorem.Goals as goal
 
-pub returns-in-Err-clause-derives : goal.returns-in-Err-clause-derives
-returns-in-Err-clause-derives c h premise room leads shows =
+pub returns-in_err-answer-clause-derives : goal.returns-in_err-answer-clause-derives
+returns-in_err-answer-clause-derives c h premise room leads shows =
     let theory = c.args.recorder.now.theory in
     let terms = c.args.terms.now in
     let stated = image c.args.stated.now in
     let at = instance_of [] terms in
     let p = image leads.hypothesis in
     let d = image leads.stated in
-    past-room c.in-Err.fault (list_all nameless_within_limits (instantiate_all [] d ∷ instantiate_all [] p ∷ at d ∷ at p ∷ nameless_equation bool_type (at p) (at d) ∷ [])) room
-    (c.in-Err.ensures.derives refl leads.may_replace h p d (leads-shows theory c.args.number terms room premise stated leads c.theorem_of-lemma.result.now.theorem c.theorem_of-lemma.ensures.theorem)
+    rw (passed_on c.from_residual.result c.in_err-answer.field-0.0 c.from_residual.ensures.1)
+    (past-room c.in_err-answer.field-0.0 (list_all nameless_within_limits (instantiate_all [] d ∷ instantiate_all [] p ∷ at d ∷ at p ∷ nameless_equation bool_type (at p) (at d) ∷ [])) room
+    (c.in_err-answer.ensures.derives refl leads.may_replace h p d
+    (leads-shows theory c.args.number terms room premise stated leads c.theorem_of-lemma.result.now.theorem c.theorem_of-lemma.ensures.theorem)
     (subst (λ (t : Nameless). Shows c.args.premise.now.theorem h t) leads.premise_is shows))
-    (way-fits theory c.args.number terms room premise stated leads)
+    (way-fits theory c.args.number terms room premise stated leads))
 
 pub returns-clause-derives : goal.returns-clause-derives
 returns-clause-derives c h premise room leads shows =
@@ -34,12 +37,13 @@ returns-clause-derives c h premise room leads shows =
     let at = instance_of [] terms in
     let p = image leads.hypothesis in
     let d = image leads.stated in
-    let answer : Shows c.in-Ok.answer.theorem h (at d) =
-    c.in-Ok.ensures.derives refl leads.may_replace h p d (leads-shows theory c.args.number terms room premise stated leads c.theorem_of-lemma.result.now.theorem c.theorem_of-lemma.ensures.theorem)
+    let answer : Shows c.in_ok-answer.answer.theorem h (at d) =
+    c.in_ok-answer.ensures.derives refl leads.may_replace h p d
+    (leads-shows theory c.args.number terms room premise stated leads c.theorem_of-lemma.result.now.theorem c.theorem_of-lemma.ensures.theorem)
     (subst (λ (t : Nameless). Shows c.args.premise.now.theorem h t) leads.premise_is shows) in
     derives-where (nameless_within_limits (nameless_equation bool_type stated stated)) room c.named_known.result h stated
     (equation-fits room stated stated leads.conclusion_fits leads.conclusion_fits)
-    (c.named_known.ensures.derives h (subst (λ (t : Nameless). Shows c.in-Ok.answer.theorem h t) (sym leads.conclusion_is) answer))
+    (c.named_known.ensures.derives h (subst (λ (t : Nameless). Shows c.in_ok-answer.answer.theorem h t) (sym leads.conclusion_is) answer))
 
 pub named_known-requires-clause-formula : goal.named_known-requires-clause-formula
-named_known-requires-clause-formula c = subst (λ (t : Theory). IsFormula t c.args.stated.now) (sym c.in-Ok.ensures.continues.theory) c.requires.stated
+named_known-requires-clause-formula c = subst (λ (t : Theory). IsFormula t c.args.stated.now) (sym c.in_ok-answer.ensures.continues.theory) c.requires.stated

@@ -11,17 +11,19 @@ use Rattle.hol_equal.proofs.CutLemmas.{derives-where}
 use Rattle.hol_bool.proofs.PreludeSteps.{says-shows, says-fits, equation-fits}
 use Rattle.hol_model.specs.Logic.Theory.{Theory}
 use Rattle.hol_equal.specs.Formulas.{IsFormula}
+use Rattle.hol_bool.proofs.Passing.{passed_on}
 use Rattle.hol_bool.proofs.prelude_rules.instance_of_theorem.Goals as goal
 
-pub returns-in-Err-clause-derives : goal.returns-in-Err-clause-derives
-returns-in-Err-clause-derives c room says =
+pub returns-in_err-answer-clause-derives : goal.returns-in_err-answer-clause-derives
+returns-in_err-answer-clause-derives c room says =
     let theory = c.args.recorder.now.theory in
     let terms = c.args.terms.now in
     let stated = image c.args.stated.now in
     let d = image says.stated in
-    past-room c.in-Err.fault (list_all nameless_within_limits (instantiate_all [] d ∷ instance_of [] terms d ∷ [])) room
-    (c.in-Err.ensures.derives refl says.may_replace [] d (says-shows theory c.args.number terms room stated says c.theorem_of-lemma.result.now.theorem c.theorem_of-lemma.ensures.theorem))
-    (says-fits theory c.args.number terms room stated says)
+    rw (passed_on c.from_residual.result c.in_err-answer.field-0.0 c.from_residual.ensures.1)
+    (past-room c.in_err-answer.field-0.0 (list_all nameless_within_limits (instantiate_all [] d ∷ instance_of [] terms d ∷ [])) room
+    (c.in_err-answer.ensures.derives refl says.may_replace [] d (says-shows theory c.args.number terms room stated says c.theorem_of-lemma.result.now.theorem c.theorem_of-lemma.ensures.theorem))
+    (says-fits theory c.args.number terms room stated says))
 
 pub returns-clause-derives : goal.returns-clause-derives
 returns-clause-derives c room says =
@@ -29,11 +31,11 @@ returns-clause-derives c room says =
     let terms = c.args.terms.now in
     let stated = image c.args.stated.now in
     let d = image says.stated in
-    let answer : Shows c.in-Ok.answer.theorem [] (instance_of [] terms d) =
-    c.in-Ok.ensures.derives refl says.may_replace [] d (says-shows theory c.args.number terms room stated says c.theorem_of-lemma.result.now.theorem c.theorem_of-lemma.ensures.theorem) in
+    let answer : Shows c.in_ok-answer.answer.theorem [] (instance_of [] terms d) =
+    c.in_ok-answer.ensures.derives refl says.may_replace [] d (says-shows theory c.args.number terms room stated says c.theorem_of-lemma.result.now.theorem c.theorem_of-lemma.ensures.theorem) in
     derives-where (nameless_within_limits (nameless_equation bool_type stated stated)) room c.named_known.result [] stated
     (equation-fits room stated stated says.conclusion_fits says.conclusion_fits)
-    (c.named_known.ensures.derives [] (subst (λ (t : Nameless). Shows c.in-Ok.answer.theorem [] t) (sym says.conclusion_is) answer))
+    (c.named_known.ensures.derives [] (subst (λ (t : Nameless). Shows c.in_ok-answer.answer.theorem [] t) (sym says.conclusion_is) answer))
 
 pub named_known-requires-clause-formula : goal.named_known-requires-clause-formula
-named_known-requires-clause-formula c = subst (λ (t : Theory). IsFormula t c.args.stated.now) (sym c.in-Ok.ensures.continues.theory) c.requires.stated
+named_known-requires-clause-formula c = subst (λ (t : Theory). IsFormula t c.args.stated.now) (sym c.in_ok-answer.ensures.continues.theory) c.requires.stated

@@ -12,6 +12,7 @@ use Rattle.hol_bool.proofs.FormulaLemmas.{sides_as, truth-equation}
 use Rattle.hol_bool.proofs.RuleAnswers.{answered-one, leads-p, roomy-fits}
 use Rattle.hol_bool.proofs.InferredRules.{infers_eqt_elim}
 use Rattle.hol_bool.proofs.PreludeSteps.{p-known}
+use Rattle.hol_bool.proofs.Passing.{unchanged}
 use Rattle.hol_bool.proofs.truth_rules.eqt_elim.Goals as goal
 
 pub returns-clause-outcome : goal.returns-clause-outcome
@@ -29,7 +30,7 @@ returns-clause-outcome c =
     ∙ ap (λ test. unless test BadShape (stated (images premise) a)) true_right)
     (λ room whole part. c.by_theorem.ensures.derives (images premise) (image premise.conclusion) room
     (leads-p journal.theory 10 (equation p true_term) p a c.deref.result.now refl refl parts.formula
-    (c.deref.ensures.value ∙ c.in-Ok.ensures.ok) room (image premise.conclusion) (image a) parts.image_is refl
+    (c.deref.ensures.value ∙ c.in_ok-terms.ensures.ok) room (image premise.conclusion) (image a) parts.image_is refl
     (roomy-fits room (image premise.conclusion) whole) (roomy-fits room (image a) part))
     (shows-itself premise))
     c.by_theorem.ensures.names
@@ -47,7 +48,7 @@ by_theorem-requires-clause-known c =
     let dest : sides_as a b ≡ dest_equation premise.conclusion = c.in-Some.ensures.sides ∙ ap dest_equation concluded.value in
     let true_right : is_true b ≡ true = sym c.is_named.ensures ∙ c.if-not-is_named.false in
     let parts = truth-equation journal c.args.logic.now c.requires.logic concluded.legal premise concluded.theorem concluded.formula a b (sym dest) true_right in
-    p-known journal.theory a c.deref.result.now (c.deref.ensures.value ∙ c.in-Ok.ensures.ok) parts.formula
+    p-known journal.theory a c.deref.result.now (c.deref.ensures.value ∙ c.in_ok-terms.ensures.ok) parts.formula
 
 pub by_theorem-requires-clause-stated : goal.by_theorem-requires-clause-stated
 by_theorem-requires-clause-stated c =
@@ -59,3 +60,6 @@ by_theorem-requires-clause-stated c =
     let dest : sides_as a b ≡ dest_equation premise.conclusion = c.in-Some.ensures.sides ∙ ap dest_equation concluded.value in
     let true_right : is_true b ≡ true = sym c.is_named.ensures ∙ c.if-not-is_named.false in
     (truth-equation journal c.args.logic.now c.requires.logic concluded.legal premise concluded.theorem concluded.formula a b (sym dest) true_right).formula
+
+pub returns-in_err-terms-clause-continues : goal.returns-in_err-terms-clause-continues
+returns-in_err-terms-clause-continues c = unchanged c.args.recorder.now c.from_residual.result c.from_residual.ensures.0

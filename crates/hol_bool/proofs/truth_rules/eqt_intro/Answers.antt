@@ -15,21 +15,23 @@ use Rattle.hol_bool.proofs.TruthAnswers.{truth-fits}
 use Rattle.hol_bool.proofs.InferredRules.{infers_eqt_intro}
 use Rattle.hol_bool.proofs.PreludeSteps.{p-known}
 use Rattle.hol_bool.proofs.FormulaLemmas.{equation-formula, truth_is_formula, made-formula}
+use Rattle.hol_bool.proofs.Passing.{passed_on, unchanged}
 use Rattle.hol_bool.proofs.truth_rules.eqt_intro.Goals as goal
 
-pub returns-in-Err-equivalence-clause-outcome : goal.returns-in-Err-equivalence-clause-outcome
-returns-in-Err-equivalence-clause-outcome c =
+pub returns-in_err-stated-clause-outcome : goal.returns-in_err-stated-clause-outcome
+returns-in_err-stated-clause-outcome c =
     let premise = c.args.premise.now.theorem in
     let a = premise.conclusion in
     let typed = c.conclusion_of-conclusion.ensures.formula.typed in
-    let fault = c.in-Err-equivalence.fault in
-    answered-one (Err fault) premise (equation a true_term) (eqt_intro_outcome premise) refl
-    (λ room whole part. equation-past fault a true_term c.conclusion_of-conclusion.result.now c.in-Ok.truth typed refl
-    c.conclusion_of-conclusion.ensures.value c.in-Ok.ensures.ok c.in-Err-equivalence.ensures room (truth-fits room (image a) whole))
-    tt
+    let fault = c.in_err-stated.field-0.0 in
+    rw (passed_on c.from_residual-in_err-stated.result c.in_err-stated.field-0.0 c.from_residual-in_err-stated.ensures.1)
+    (answered-one (Err fault) premise (equation a true_term) (eqt_intro_outcome premise) refl
+    (λ room whole part. equation-past fault a true_term c.conclusion_of-conclusion.result.now c.in_ok-truth.truth typed refl
+    c.conclusion_of-conclusion.ensures.value c.in_ok-truth.ensures.ok c.in_err-stated.ensures room (truth-fits room (image a) whole))
+    tt)
 
-pub returns-in-Err-equivalence-clause-inferred : goal.returns-in-Err-equivalence-clause-inferred
-returns-in-Err-equivalence-clause-inferred c = infers_eqt_intro c.conclusion_of-conclusion.ensures.formula (returns-in-Err-equivalence-clause-outcome c)
+pub returns-in_err-stated-clause-inferred : goal.returns-in_err-stated-clause-inferred
+returns-in_err-stated-clause-inferred c = infers_eqt_intro c.conclusion_of-conclusion.ensures.formula (returns-in_err-stated-clause-outcome c)
 
 pub returns-clause-outcome : goal.returns-clause-outcome
 returns-clause-outcome c =
@@ -38,15 +40,15 @@ returns-clause-outcome c =
     let a = premise.conclusion in
     let formula = c.conclusion_of-conclusion.ensures.formula in
     let concludes = c.conclusion_of-conclusion.ensures.value in
-    let stated_is : c.in-Ok-equivalence.stated ≡ equation a true_term =
-    equation-is c.in-Ok-equivalence.stated a true_term c.conclusion_of-conclusion.result.now c.in-Ok.truth formula.typed refl concludes c.in-Ok.ensures.ok c.in-Ok-equivalence.ensures in
+    let stated_is : c.in_ok-stated.stated ≡ equation a true_term =
+    equation-is c.in_ok-stated.stated a true_term c.conclusion_of-conclusion.result.now c.in_ok-truth.truth formula.typed refl concludes c.in_ok-truth.ensures.ok c.in_ok-stated.ensures in
     let image_is = image-equation a true_term bool_type formula.typed in
     answered-one c.by_theorem.result premise (equation a true_term) (eqt_intro_outcome premise) refl
     (λ room whole part.
     subst (λ (s : NamedTerm). LeadsTo theory 9 c.deref.result.now room (image a) (image s) → DerivesIf room c.by_theorem.result (images premise) (image s)) stated_is
     (λ leads. c.by_theorem.ensures.derives (images premise) (image a) room leads (shows-itself premise))
     (leads-p theory 9 p (equation p true_term) a c.deref.result.now refl refl formula
-    (c.deref.ensures.value ∙ c.in-Ok-for_p.ensures.ok ∙ ap (λ (t : NamedTerm). (t, p) ∷ []) concludes) room (image a)
+    (c.deref.ensures.value ∙ c.in_ok-terms.ensures.ok ∙ ap (λ (t : NamedTerm). (t, p) ∷ []) concludes) room (image a)
     (image (equation a true_term)) refl image_is
     (roomy-fits room (image a) whole) (roomy-fits room (image (equation a true_term)) part)))
     (subst (λ (s : NamedTerm). IfOk c.by_theorem.result (λ made. made.theorem.conclusion ≡ s)) stated_is c.by_theorem.ensures.names)
@@ -58,7 +60,7 @@ pub by_theorem-requires-clause-known : goal.by_theorem-requires-clause-known
 by_theorem-requires-clause-known c =
     let concluded = c.conclusion_of-conclusion.ensures in
     p-known c.args.recorder.now.theory c.args.premise.now.theorem.conclusion c.deref.result.now
-    (c.deref.ensures.value ∙ c.in-Ok-for_p.ensures.ok ∙ ap (λ (t : NamedTerm). (t, p) ∷ []) concluded.value) concluded.formula
+    (c.deref.ensures.value ∙ c.in_ok-terms.ensures.ok ∙ ap (λ (t : NamedTerm). (t, p) ∷ []) concluded.value) concluded.formula
 
 pub by_theorem-requires-clause-stated : goal.by_theorem-requires-clause-stated
 by_theorem-requires-clause-stated c =
@@ -66,7 +68,16 @@ by_theorem-requires-clause-stated c =
     let a = c.args.premise.now.theorem.conclusion in
     let concluded = c.conclusion_of-conclusion.ensures in
     let stated_is =
-    equation-is c.in-Ok-equivalence.stated a true_term c.conclusion_of-conclusion.result.now c.in-Ok.truth concluded.formula.typed refl
-    concluded.value c.in-Ok.ensures.ok c.in-Ok-equivalence.ensures in
-    made-formula journal.theory c.in-Ok-equivalence.stated (equation a true_term) stated_is
+    equation-is c.in_ok-stated.stated a true_term c.conclusion_of-conclusion.result.now c.in_ok-truth.truth concluded.formula.typed refl
+    concluded.value c.in_ok-truth.ensures.ok c.in_ok-stated.ensures in
+    made-formula journal.theory c.in_ok-stated.stated (equation a true_term) stated_is
     (equation-formula journal.theory concluded.legal a true_term concluded.formula (truth_is_formula journal c.args.logic.now c.requires.logic concluded.legal))
+
+pub returns-in_err-truth-clause-continues : goal.returns-in_err-truth-clause-continues
+returns-in_err-truth-clause-continues c = unchanged c.args.recorder.now c.from_residual.result c.from_residual.ensures.0
+
+pub returns-in_err-stated-clause-continues : goal.returns-in_err-stated-clause-continues
+returns-in_err-stated-clause-continues c = unchanged c.args.recorder.now c.from_residual-in_err-stated.result c.from_residual-in_err-stated.ensures.0
+
+pub returns-in_err-terms-clause-continues : goal.returns-in_err-terms-clause-continues
+returns-in_err-terms-clause-continues c = unchanged c.args.recorder.now c.from_residual-in_err-terms.result c.from_residual-in_err-terms.ensures.0

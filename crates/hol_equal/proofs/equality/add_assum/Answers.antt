@@ -9,8 +9,8 @@ pub returns-clause-outcome : goal.returns-clause-outcome
 returns-clause-outcome c =
     let p = c.args.p.now in
     let premise = c.args.premise.now.theorem in
-    let is = assumed c.args.recorder.now.theory p c.in-Ok.assumed.theorem c.in-Ok.ensures.outcome in
-    add_assum-stated c.cut.result c.args.recorder.now.theory p c.in-Ok.assumed.theorem premise is
+    let is = assumed c.args.recorder.now.theory p c.in_ok-assumed.assumed.theorem c.in_ok-assumed.ensures.outcome in
+    add_assum-stated c.cut.result c.args.recorder.now.theory p c.in_ok-assumed.assumed.theorem premise is
     (c.cut.ensures.derives (image p ∷ []) (images premise) (image p) (image premise.conclusion) is.shows (shows-itself premise)) c.cut.ensures.names
 
 pub returns-clause-inferred : goal.returns-clause-inferred
