@@ -1,16 +1,11 @@
--- What `?` returns.
-use Rattle.std.proofs.Common.{◌≡◌, [], Result, Ok, Err, refl, sym, ap, append-nil}
-use Rattle.std.specs.Result.{IsErr, IsErrAnd}
+-- What `?` returns before the first step.
+use Rattle.std.proofs.Common.{◌≡◌, [], Result, Ok, Err, refl, sym, append-nil}
+use Rattle.std.specs.Result.{IsErr}
 use Rattle.hol_model.specs.declared.fault.Fault.{Fault}
 use Rattle.hol_model.proofs.Logic.Earlier.{earlier-same}
 use Rattle.hol_journal.specs.Journal.{Journal, Recorded}
 use Rattle.hol_equal.specs.Sequents.{Continues}
 
-pub passed_on : {T E : Type 0} → (result : Result T E) (fault : E) → IsErrAnd result (λ other. other ≡ fault) → result ≡ Err fault
-passed_on (Ok made) fault is = absurd is
-passed_on (Err other) fault is = ap (λ e. Err e) is
-
--- before the first step
 pub unchanged : (journal : Journal) (result : Result Recorded Fault) → IsErr result → Continues journal journal result
 unchanged journal (Ok made) is = cc
 unchanged journal (Err fault) is = record {

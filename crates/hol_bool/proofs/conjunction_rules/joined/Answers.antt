@@ -9,13 +9,13 @@ use Rattle.hol_model.proofs.Terms.Images.{image-equation}
 use Rattle.hol_prelude.specs.Prelude.{p, q}
 use Rattle.hol_equal.specs.Sequents.{Shows, DerivesIf}
 use Rattle.hol_bool.specs.PreludeInstances.{LeadsTo, at_p_q}
-use Rattle.hol_equal.proofs.StepLemmas.{equation-fits}
+use Rattle.hol_equal.proofs.StepLemmas.{equation-fits, passed_on}
 use Rattle.hol_equal.proofs.CutLemmas.{right-names, given-derives}
 use Rattle.hol_bool.proofs.RoomLemmas.{equation-is, equation-past, connected-is, connected-past, connected-typed}
 use Rattle.hol_bool.proofs.ConjunctionAnswers.{conj_equation, conj-fits-at, conj-both-fits, conj-leads}
 use Rattle.hol_bool.proofs.PreludeSteps.{where-no-room}
 use Rattle.hol_bool.proofs.FormulaLemmas.{equation-formula, connects, made-formula}
-use Rattle.hol_bool.proofs.Passing.{passed_on, unchanged}
+use Rattle.hol_bool.proofs.Passing.{unchanged}
 use Rattle.hol_bool.proofs.conjunction_rules.joined.Goals as goal
 
 pub returns-in_err-both-clause-derives : goal.returns-in_err-both-clause-derives

@@ -11,7 +11,8 @@ use Rattle.hol_bool.proofs.ConjunctionAnswers.{mp_equation}
 use Rattle.hol_bool.proofs.ImplicationAnswers.{disch-fits}
 use Rattle.hol_bool.proofs.PreludeSteps.{still_formula}
 use Rattle.hol_bool.proofs.DisjunctionAnswers.{other-is, other-formula, disjunction-fits, other-fits, both-fits, first-case-fits, second-case-fits}
-use Rattle.hol_bool.proofs.Passing.{passed_on, unchanged}
+use Rattle.hol_bool.proofs.Passing.{unchanged}
+use Rattle.hol_equal.proofs.StepLemmas.{passed_on}
 use Rattle.hol_bool.proofs.disjunction_rules.by_cases.Goals as goal
 
 pub returns-in_err-rest-clause-derives : goal.returns-in_err-rest-clause-derives

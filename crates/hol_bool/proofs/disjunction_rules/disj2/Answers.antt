@@ -13,7 +13,8 @@ use Rattle.hol_bool.proofs.DisjunctionAnswers.{disj2-answered, disj2-leads}
 use Rattle.hol_bool.proofs.InferredRules.{infers_disj2}
 use Rattle.hol_bool.proofs.PreludeSteps.{p_q-known}
 use Rattle.hol_bool.proofs.FormulaLemmas.{connects, made-formula}
-use Rattle.hol_bool.proofs.Passing.{passed_on, unchanged}
+use Rattle.hol_bool.proofs.Passing.{unchanged}
+use Rattle.hol_equal.proofs.StepLemmas.{passed_on}
 use Rattle.hol_bool.proofs.disjunction_rules.disj2.Goals as goal
 
 pub returns-in_err-stated-clause-outcome : goal.returns-in_err-stated-clause-outcome

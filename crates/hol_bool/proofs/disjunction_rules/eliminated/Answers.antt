@@ -11,7 +11,8 @@ use Rattle.hol_bool.proofs.DisjunctionAnswers.{other-typed, cases-leads}
 use Rattle.hol_bool.proofs.PreludeSteps.{p_q_r-known}
 use Rattle.hol_bool.proofs.FormulaLemmas.{connects, made-formula}
 use Rattle.hol_equal.specs.Formulas.{IsFormula}
-use Rattle.hol_bool.proofs.Passing.{passed_on, unchanged}
+use Rattle.hol_bool.proofs.Passing.{unchanged}
+use Rattle.hol_equal.proofs.StepLemmas.{passed_on}
 use Rattle.hol_bool.proofs.disjunction_rules.eliminated.Goals as goal
 
 pub returns-in_err-case-clause-derives : goal.returns-in_err-case-clause-derives

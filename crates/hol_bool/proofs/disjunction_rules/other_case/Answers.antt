@@ -4,7 +4,7 @@ use Rattle.hol_model.specs.Terms.NamedTerm.{NamedTerm}
 use Rattle.hol_model.specs.Logic.Logic.{binary, implies_name}
 use Rattle.hol_model.specs.Logic.NamedLogic.{implication}
 use Rattle.hol_bool.proofs.RoomLemmas.{MakesConnected, connected-is, connected-past, connected-typed, fits-left}
-use Rattle.hol_bool.proofs.Passing.{passed_on}
+use Rattle.hol_equal.proofs.StepLemmas.{passed_on}
 use Rattle.hol_bool.proofs.disjunction_rules.other_case.Goals as goal
 
 pub returns-in_err-case : goal.returns-in_err-case

@@ -1,7 +1,7 @@
 use Rattle.hol_model.specs.Terms.Nameless.{image}
 use Rattle.hol_model.specs.Logic.Derivable.{without}
 use Rattle.hol_model.specs.Logic.Logic as nameless
-use Rattle.hol_bool.proofs.Passing.{passed_on}
+use Rattle.hol_equal.proofs.StepLemmas.{passed_on}
 use Rattle.hol_bool.proofs.disjunction_rules.with_case.Goals as goal
 
 pub returns-in_err-implication-clause-derives : goal.returns-in_err-implication-clause-derives

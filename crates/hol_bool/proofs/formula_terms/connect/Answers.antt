@@ -7,7 +7,7 @@ use Rattle.hol_model.specs.Kernel.Outcome.{Answers}
 use Rattle.hol_model.specs.Kernel.Constructors.{combination_outcome}
 use Rattle.hol_kernel.proofs.LimitLemmas.{applied}
 use Rattle.hol_bool.proofs.RoomLemmas.{fits-function, made-combination, half-typed, connected-typed}
-use Rattle.hol_bool.proofs.Passing.{passed_on}
+use Rattle.hol_equal.proofs.StepLemmas.{passed_on}
 use Rattle.hol_bool.proofs.formula_terms.connect.Goals as goal
 
 pub returns-in_err-applied : goal.returns-in_err-applied

@@ -6,12 +6,11 @@ use Rattle.hol_model.specs.Logic.Derivable.{without, nameless_equation}
 use Rattle.hol_model.specs.Logic.Logic as nameless
 use Rattle.hol_equal.specs.Room.{FitsIf}
 use Rattle.hol_equal.specs.Sequents.{Shows}
-use Rattle.hol_equal.proofs.StepLemmas.{still_made}
+use Rattle.hol_equal.proofs.StepLemmas.{still_made, passed_on}
 use Rattle.hol_equal.proofs.CutLemmas.{derives-where}
 use Rattle.hol_equal.proofs.LemmaLemmas.{derives-same}
 use Rattle.hol_bool.proofs.RoomLemmas.{fits-within}
 use Rattle.hol_bool.proofs.ImplicationAnswers.{disch-both-fits, disch-conj-fits, disch-absorbed-fits, absorbed-set}
-use Rattle.hol_bool.proofs.Passing.{passed_on}
 use Rattle.hol_bool.proofs.implication_rules.absorbed.Goals as goal
 
 pub returns-in_err-joined-clause-derives : goal.returns-in_err-joined-clause-derives

@@ -14,7 +14,8 @@ use Rattle.hol_bool.proofs.RoomLemmas.{connected-is, connected-past}
 use Rattle.hol_bool.proofs.ImplicationAnswers.{disch_equation, disch-implication-fits, disch-leads}
 use Rattle.hol_bool.proofs.PreludeSteps.{p_q-known, still_known}
 use Rattle.hol_bool.proofs.FormulaLemmas.{connects, made-formula, formula_in}
-use Rattle.hol_bool.proofs.Passing.{passed_on, unchanged}
+use Rattle.hol_bool.proofs.Passing.{unchanged}
+use Rattle.hol_equal.proofs.StepLemmas.{passed_on}
 use Rattle.hol_bool.proofs.implication_rules.discharged.Goals as goal
 
 pub returns-in_err-stated-clause-derives : goal.returns-in_err-stated-clause-derives

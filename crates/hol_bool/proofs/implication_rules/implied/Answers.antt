@@ -8,13 +8,13 @@ use Rattle.hol_model.proofs.Terms.Images.{image-equation}
 use Rattle.hol_equal.specs.Room.{FitsIf}
 use Rattle.hol_equal.specs.Sequents.{Shows, DerivesIf}
 use Rattle.hol_bool.specs.PreludeInstances.{LeadsTo, at_p_q}
-use Rattle.hol_equal.proofs.StepLemmas.{equation-fits}
+use Rattle.hol_equal.proofs.StepLemmas.{equation-fits, passed_on}
 use Rattle.hol_equal.proofs.CutLemmas.{right-names, given-derives}
 use Rattle.hol_bool.proofs.RoomLemmas.{equation-is, equation-past}
 use Rattle.hol_bool.proofs.ConjunctionAnswers.{mp_equation, mp-leads}
 use Rattle.hol_bool.proofs.PreludeSteps.{p_q-known}
 use Rattle.hol_bool.proofs.FormulaLemmas.{equation-formula, made-formula}
-use Rattle.hol_bool.proofs.Passing.{passed_on, unchanged}
+use Rattle.hol_bool.proofs.Passing.{unchanged}
 use Rattle.hol_bool.proofs.implication_rules.implied.Goals as goal
 
 pub returns-in_err-stated-clause-derives : goal.returns-in_err-stated-clause-derives

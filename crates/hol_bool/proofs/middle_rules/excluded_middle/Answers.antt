@@ -11,7 +11,7 @@ use Rattle.hol_bool.proofs.RoomLemmas.{negation-is, negation-typed, connected-is
 use Rattle.hol_bool.proofs.RuleAnswers.{answered, says-p, roomy-fits}
 use Rattle.hol_bool.proofs.PreludeSteps.{p-known}
 use Rattle.hol_bool.proofs.FormulaLemmas.{connects, negates, made-formula}
-use Rattle.hol_bool.proofs.Passing.{passed_on}
+use Rattle.hol_equal.proofs.StepLemmas.{passed_on}
 use Rattle.hol_bool.proofs.middle_rules.excluded_middle.Goals as goal
 
 pub returns-in_err-negated-clause-outcome : goal.returns-in_err-negated-clause-outcome

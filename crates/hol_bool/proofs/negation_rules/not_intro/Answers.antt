@@ -14,7 +14,8 @@ use Rattle.hol_bool.proofs.FormulaLemmas.{false-is, negates, made-formula}
 use Rattle.hol_bool.proofs.RuleAnswers.{answered-one, leads-p, roomy-fits}
 use Rattle.hol_bool.proofs.InferredRules.{infers_not_intro}
 use Rattle.hol_bool.proofs.PreludeSteps.{p-known}
-use Rattle.hol_bool.proofs.Passing.{passed_on, unchanged}
+use Rattle.hol_bool.proofs.Passing.{unchanged}
+use Rattle.hol_equal.proofs.StepLemmas.{passed_on}
 use Rattle.hol_bool.proofs.negation_rules.not_intro.Goals as goal
 
 pub returns-in_err-stated-clause-outcome : goal.returns-in_err-stated-clause-outcome

@@ -12,7 +12,7 @@ use Rattle.hol_equal.proofs.CutLemmas.{derives-where, shows-itself}
 use Rattle.hol_bool.proofs.PreludeSteps.{leads-shows, way-fits, equation-fits}
 use Rattle.hol_model.specs.Logic.Theory.{Theory}
 use Rattle.hol_equal.specs.Formulas.{IsFormula}
-use Rattle.hol_bool.proofs.Passing.{passed_on}
+use Rattle.hol_equal.proofs.StepLemmas.{passed_on}
 use Rattle.hol_bool.proofs.prelude_rules.by_leading_theorem.Goals as goal
 
 pub returns-in_err-answer-clause-derives : goal.returns-in_err-answer-clause-derives

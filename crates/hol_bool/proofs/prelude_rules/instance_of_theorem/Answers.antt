@@ -11,7 +11,7 @@ use Rattle.hol_equal.proofs.CutLemmas.{derives-where}
 use Rattle.hol_bool.proofs.PreludeSteps.{says-shows, says-fits, equation-fits}
 use Rattle.hol_model.specs.Logic.Theory.{Theory}
 use Rattle.hol_equal.specs.Formulas.{IsFormula}
-use Rattle.hol_bool.proofs.Passing.{passed_on}
+use Rattle.hol_equal.proofs.StepLemmas.{passed_on}
 use Rattle.hol_bool.proofs.prelude_rules.instance_of_theorem.Goals as goal
 
 pub returns-in_err-answer-clause-derives : goal.returns-in_err-answer-clause-derives

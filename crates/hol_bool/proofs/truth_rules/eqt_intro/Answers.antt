@@ -15,7 +15,8 @@ use Rattle.hol_bool.proofs.TruthAnswers.{truth-fits}
 use Rattle.hol_bool.proofs.InferredRules.{infers_eqt_intro}
 use Rattle.hol_bool.proofs.PreludeSteps.{p-known}
 use Rattle.hol_bool.proofs.FormulaLemmas.{equation-formula, truth_is_formula, made-formula}
-use Rattle.hol_bool.proofs.Passing.{passed_on, unchanged}
+use Rattle.hol_bool.proofs.Passing.{unchanged}
+use Rattle.hol_equal.proofs.StepLemmas.{passed_on}
 use Rattle.hol_bool.proofs.truth_rules.eqt_intro.Goals as goal
 
 pub returns-in_err-stated-clause-outcome : goal.returns-in_err-stated-clause-outcome
