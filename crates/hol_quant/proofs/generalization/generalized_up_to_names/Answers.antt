@@ -1,7 +1,5 @@
-use Rattle.std.proofs.Common.{rules, ◌∙◌, ap, subst, sym, Err}
+use Rattle.std.proofs.Common.{rules, ◌∙◌, ap, sym}
 use Rattle.std.proofs.lemmas.Result.{err_from_is_err_and}
-use Rattle.hol_model.specs.Terms.NamedTerm.{NamedTerm}
-use Rattle.hol_model.specs.Kernel.Outcome.{Answers}
 use Rattle.hol_model.specs.Kernel.Rules.{abstraction_outcome}
 use Rattle.hol_quant.proofs.PreludeParts.{truth-shows, always-shows}
 use Rattle.hol_quant.proofs.ForAllLemmas.{abstraction-past, abstraction-is}
