@@ -38,14 +38,8 @@ fn body_at(alloc: Global, body: &Term, binder: &Term, argument: &Term) -> Result
         → argument.now ≡ variable other ty → fault ≡ Memory) }
 {
     body.well_formed();
-    let new = match argument.copy(alloc) {
-        Ok(new) => new,
-        Err(fault) => return Err(fault),
-    };
-    let old = match binder.copy(alloc) {
-        Ok(old) => old,
-        Err(fault) => return Err(fault),
-    };
+    let new = argument.copy(alloc)?;
+    let old = binder.copy(alloc)?;
     vsubst(alloc, &[(new, old)], body)
 }
 

@@ -55,14 +55,8 @@ fn is_body_with(
         → same ≡ same_term (fill (image argument.now) (close name ty (image body.now))) (image other.now)) }
     ensures err { IfErr result (λ fault. fault ≡ Memory) }
 {
-    let new = match argument.copy(alloc) {
-        Ok(new) => new,
-        Err(fault) => return Err(fault),
-    };
-    let old = match binder.copy(alloc) {
-        Ok(old) => old,
-        Err(fault) => return Err(fault),
-    };
+    let new = argument.copy(alloc)?;
+    let old = binder.copy(alloc)?;
     let _body_type = body.ty();
     let _other_type = other.ty();
     other.well_formed();
@@ -89,10 +83,7 @@ fn from_truth(
         → Shows premise.now.theorem h (nameless_equation bool_type (image formula.now) (image true_term))
         → DerivesIf room result h (image formula.now) }
 {
-    let of_formula = match formula_pair(alloc, formula) {
-        Ok(of_formula) => of_formula,
-        Err(fault) => return Err(fault),
-    };
+    let of_formula = formula_pair(alloc, formula)?;
     let terms = [of_formula];
     by_lemma(recorder, alloc, &[], &terms, lemma, premise)
 }

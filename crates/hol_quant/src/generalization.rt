@@ -54,10 +54,7 @@ pub(crate) fn equal_to_truth(
         → DerivesIf room result (images premise.now.theorem) (nameless_equation bool_type (image premise.now.theorem.conclusion) (image true_term)) }
 {
     recorder.theory_is_legal();
-    let of_formula = match formula_pair(alloc, recorder.thm(premise).concl()) {
-        Ok(of_formula) => of_formula,
-        Err(fault) => return Err(fault),
-    };
+    let of_formula = formula_pair(alloc, recorder.thm(premise).concl())?;
     let terms = [of_formula];
     by_lemma_known(recorder, alloc, &[], &terms, lemma, premise)
 }
@@ -68,18 +65,9 @@ fn universal(alloc: Global, function: &Term) -> Result<Term, Fault>
     ensures err { IfErr result (λ fault. (ty : HolType) → type_of function.now ≡ Some (predicate ty)
         → IsPast fault (nameless_within_limits (app (const forall_name (quantifier ty)) (image function.now)))) }
 {
-    let boolean = match Ty::boolean(alloc) {
-        Ok(boolean) => boolean,
-        Err(fault) => return Err(fault),
-    };
-    let ty = match Ty::fun(alloc, function.ty(), &boolean) {
-        Ok(ty) => ty,
-        Err(fault) => return Err(fault),
-    };
-    let quantifier = match Term::mk_const(alloc, "!", &ty) {
-        Ok(quantifier) => quantifier,
-        Err(fault) => return Err(fault),
-    };
+    let boolean = Ty::boolean(alloc)?;
+    let ty = Ty::fun(alloc, function.ty(), &boolean)?;
+    let quantifier = Term::mk_const(alloc, "!", &ty)?;
     Term::mk_comb(alloc, &quantifier, function)
 }
 
@@ -114,14 +102,8 @@ fn over_all(
         → DerivesIf room result (images premise.now.theorem) (for_all name ty premise.now.theorem.conclusion) }
 {
     let _formula = conclusion_of(recorder, premise);
-    let equal = match equal_to_truth(recorder, alloc, truth_lemma, premise) {
-        Ok(equal) => equal,
-        Err(fault) => return Err(fault),
-    };
-    let always = match abs(recorder, alloc, binder, &equal) {
-        Ok(always) => always,
-        Err(fault) => return Err(fault),
-    };
+    let equal = equal_to_truth(recorder, alloc, truth_lemma, premise)?;
+    let always = abs(recorder, alloc, binder, &equal)?;
     by_predicate_lemma(recorder, alloc, forall_lemma, function, binder, &always)
 }
 
@@ -143,10 +125,7 @@ pub(crate) fn generalized_up_to_names(
     let truth_lemma = theorem_of(recorder, logic, numbers::EQT_INTRO);
     let forall_lemma = theorem_of(recorder, logic, numbers::GEN);
     let formula = conclusion_of(recorder, premise);
-    let function = match Term::mk_abs(alloc, binder, formula) {
-        Ok(function) => function,
-        Err(fault) => return Err(fault),
-    };
+    let function = Term::mk_abs(alloc, binder, formula)?;
     over_all(
         recorder,
         alloc,

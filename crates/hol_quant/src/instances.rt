@@ -65,18 +65,9 @@ pub(crate) fn by_predicate_lemma(
         → Shows premise.now.theorem h (at_predicate ty function.now element.now p)
         → DerivesIf (lemma_fits ty function.now element.now p q) result h (at_predicate ty function.now element.now q) }
 {
-    let of_type = match type_pair(alloc, element) {
-        Ok(of_type) => of_type,
-        Err(fault) => return Err(fault),
-    };
-    let of_predicate = match predicate_pair(alloc, function) {
-        Ok(of_predicate) => of_predicate,
-        Err(fault) => return Err(fault),
-    };
-    let of_element = match element_pair(alloc, element) {
-        Ok(of_element) => of_element,
-        Err(fault) => return Err(fault),
-    };
+    let of_type = type_pair(alloc, element)?;
+    let of_predicate = predicate_pair(alloc, function)?;
+    let of_element = element_pair(alloc, element)?;
     let types = [of_type];
     let terms = [of_predicate, of_element];
     by_lemma(recorder, alloc, &types, &terms, lemma, premise)
@@ -112,18 +103,9 @@ pub(crate) fn by_formula_lemma(
         → Shows lemma.now.theorem (p ∷ []) q → Shows premise.now.theorem h (at_formula ty function.now formula.now p)
         → DerivesIf (formula_lemma_fits ty function.now formula.now p q) result h (at_formula ty function.now formula.now q) }
 {
-    let of_type = match type_pair(alloc, element) {
-        Ok(of_type) => of_type,
-        Err(fault) => return Err(fault),
-    };
-    let of_predicate = match predicate_pair(alloc, function) {
-        Ok(of_predicate) => of_predicate,
-        Err(fault) => return Err(fault),
-    };
-    let of_formula = match formula_pair(alloc, formula) {
-        Ok(of_formula) => of_formula,
-        Err(fault) => return Err(fault),
-    };
+    let of_type = type_pair(alloc, element)?;
+    let of_predicate = predicate_pair(alloc, function)?;
+    let of_formula = formula_pair(alloc, formula)?;
     let types = [of_type];
     let terms = [of_predicate, of_formula];
     by_lemma(recorder, alloc, &types, &terms, lemma, premise)

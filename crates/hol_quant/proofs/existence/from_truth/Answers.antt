@@ -1,4 +1,5 @@
-use Rattle.std.proofs.Common.{◌≡◌, [], ◌∷◌, List, subst, sym, refl, None}
+use Rattle.std.proofs.Common.{rules, ◌≡◌, [], ◌∷◌, List, subst, sym, refl, None}
+use Rattle.std.proofs.lemmas.Result.{err_from_is_err_and}
 use Rattle.std.specs.Prelude.{codes}
 use Rattle.std.specs.List.{list_all}
 use Rattle.hol_model.specs.Terms.HolType.{bool_type}
@@ -21,9 +22,9 @@ returns-clause-derives c room h known fits shown =
     let theory = c.args.recorder.now.theory in
     let typed = image-type formula bool_type known.typed in
     let equal = nameless_equation bool_type proposition truth in
-    let theta : List (NamedTerm × NamedTerm) = c.in-Ok.of_formula ∷ [] in
+    let theta : List (NamedTerm × NamedTerm) = c.in_ok-of_formula.of_formula ∷ [] in
     let wanted : List (NamedTerm × NamedTerm) = (formula, variable (codes "p") bool_type) ∷ [] in
-    let theta_is : theta ≡ wanted = λ i. c.in-Ok.ensures.ok i ∷ [] in
+    let theta_is : theta ≡ wanted = λ i. c.in_ok-of_formula.ensures.ok i ∷ [] in
     let passes = subst (λ (l : List (NamedTerm × NamedTerm)). replacements_refusal theory l ≡ None) (sym theta_is) (formula-passes theory formula typed known) in
     let shows = subst (λ (l : List (NamedTerm × NamedTerm)). Shows c.args.premise.now.theorem h (instance_of [] l equal)) (sym theta_is) shown in
     derives-where
@@ -34,3 +35,6 @@ returns-clause-derives c room h known fits shown =
     (instantiate_all [] proposition ∷ instantiate_all [] equal ∷ instance_of [] l proposition ∷ instance_of [] l equal ∷ nameless_equation
     bool_type (instance_of [] l equal) (instance_of [] l proposition) ∷ [])) c.by_lemma.result h (instance_of [] l proposition)) theta_is
     (c.by_lemma.ensures.derives refl passes h equal proposition c.requires.shows shows))
+
+pub returns-in_err-of_formula-clause-continues : goal.returns-in_err-of_formula-clause-continues
+returns-in_err-of_formula-clause-continues c = rw (err_from_is_err_and c.from_residual.result c.from_residual.ensures.1).1 (search rules)

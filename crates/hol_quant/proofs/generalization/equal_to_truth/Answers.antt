@@ -1,4 +1,5 @@
-use Rattle.std.proofs.Common.{◌≡◌, [], ◌∷◌, ◌∙◌, List, ap, subst, sym, refl, None}
+use Rattle.std.proofs.Common.{rules, ◌≡◌, [], ◌∷◌, ◌∙◌, List, ap, subst, sym, refl, None}
+use Rattle.std.proofs.lemmas.Result.{err_from_is_err_and}
 use Rattle.std.specs.Prelude.{codes}
 use Rattle.std.specs.List.{list_all}
 use Rattle.hol_model.specs.Terms.HolType.{bool_type}
@@ -24,9 +25,9 @@ returns-clause-derives c room fits =
     let typed = formula_of premise is_theorem in
     let known = conclusion-known c.args.recorder.now c.theory_is_legal.ensures c.args.premise.now c.requires.premise is_theorem in
     let conclusion_is : c.concl.result.now ≡ premise.conclusion = c.concl.ensures.value ∙ ap (λ (t : Theorem). t.conclusion) c.thm.ensures in
-    let theta : List (NamedTerm × NamedTerm) = c.in-Ok.of_formula ∷ [] in
+    let theta : List (NamedTerm × NamedTerm) = c.in_ok-of_formula.of_formula ∷ [] in
     let wanted : List (NamedTerm × NamedTerm) = (premise.conclusion, variable (codes "p") bool_type) ∷ [] in
-    let pair_is : c.in-Ok.of_formula ≡ (premise.conclusion, variable (codes "p") bool_type) = c.in-Ok.ensures.ok ∙ (λ i. (conclusion_is i, variable (codes "p") bool_type)) in
+    let pair_is : c.in_ok-of_formula.of_formula ≡ (premise.conclusion, variable (codes "p") bool_type) = c.in_ok-of_formula.ensures.ok ∙ (λ i. (conclusion_is i, variable (codes "p") bool_type)) in
     let theta_is : theta ≡ wanted = λ i. pair_is i ∷ [] in
     let passes = subst (λ (l : List (NamedTerm × NamedTerm)). replacements_refusal theory l ≡ None) (sym theta_is) (formula-passes theory premise.conclusion typed known) in
     let shows = subst (λ (l : List (NamedTerm × NamedTerm)). Shows premise (images premise) (instance_of [] l proposition)) (sym theta_is) (shows-itself premise) in
@@ -48,5 +49,8 @@ by_lemma_known-requires-clause-known c =
     let typed = formula_of premise is_theorem in
     let known = conclusion-known c.args.recorder.now c.theory_is_legal.ensures c.args.premise.now c.requires.premise is_theorem in
     let conclusion_is : c.concl.result.now ≡ premise.conclusion = c.concl.ensures.value ∙ ap (λ (t : Theorem). t.conclusion) c.thm.ensures in
-    let pair_is : c.in-Ok.of_formula ≡ (premise.conclusion, variable (codes "p") bool_type) = c.in-Ok.ensures.ok ∙ (λ i. (conclusion_is i, variable (codes "p") bool_type)) in
+    let pair_is : c.in_ok-of_formula.of_formula ≡ (premise.conclusion, variable (codes "p") bool_type) = c.in_ok-of_formula.ensures.ok ∙ (λ i. (conclusion_is i, variable (codes "p") bool_type)) in
     subst (λ (l : List (NamedTerm × NamedTerm)). replacements_refusal theory l ≡ None) (sym (λ i. pair_is i ∷ [])) (formula-passes theory premise.conclusion typed known)
+
+pub returns-in_err-of_formula-clause-continues : goal.returns-in_err-of_formula-clause-continues
+returns-in_err-of_formula-clause-continues c = rw (err_from_is_err_and c.from_residual.result c.from_residual.ensures.1).1 (search rules)

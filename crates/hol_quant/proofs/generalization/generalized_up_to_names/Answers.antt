@@ -1,6 +1,5 @@
-use Rattle.std.proofs.Common.{◌∙◌, ap, subst, sym, Err}
-use Rattle.hol_model.specs.Terms.NamedTerm.{NamedTerm}
-use Rattle.hol_model.specs.Kernel.Outcome.{Answers}
+use Rattle.std.proofs.Common.{rules, ◌∙◌, ap, sym}
+use Rattle.std.proofs.lemmas.Result.{err_from_is_err_and}
 use Rattle.hol_model.specs.Kernel.Rules.{abstraction_outcome}
 use Rattle.hol_quant.proofs.PreludeParts.{truth-shows, always-shows}
 use Rattle.hol_quant.proofs.ForAllLemmas.{abstraction-past, abstraction-is}
@@ -12,15 +11,21 @@ over_all-requires-clause-truth_shows c = truth-shows c.theorem_of-truth_lemma.re
 pub over_all-requires-clause-forall_shows : goal.over_all-requires-clause-forall_shows
 over_all-requires-clause-forall_shows c = always-shows c.theorem_of-forall_lemma.result.now.theorem c.theorem_of-forall_lemma.ensures.theorem
 
-pub returns-in-Err-clause-derives : goal.returns-in-Err-clause-derives
-returns-in-Err-clause-derives c name ty room may fits =
+pub returns-in_err-function-clause-derives : goal.returns-in_err-function-clause-derives
+returns-in_err-function-clause-derives c name ty room may fits =
+    let p = err_from_is_err_and c.from_residual.result c.from_residual.ensures.1 in
+    rw (p.1, p.2) (
     let p = c.args.premise.now.theorem.conclusion in
-    abstraction-past name ty p room fits c.args.binder.now may.binder_is c.conclusion_of-formula.ensures.formula.typed c.in-Err.fault
-    (subst (λ (t : NamedTerm). Answers {A = NamedTerm} (Err c.in-Err.fault) (abstraction_outcome c.args.binder.now t)) c.conclusion_of-formula.ensures.value c.in-Err.ensures.outcome)
+    abstraction-past name ty p room fits c.args.binder.now may.binder_is c.conclusion_of-formula.ensures.formula.typed _
+    (rw c.conclusion_of-formula.ensures.value at c.in_err-function.ensures.outcome)
+    )
 
 pub returns-clause-derives : goal.returns-clause-derives
 returns-clause-derives c name ty room may fits =
     let p = c.args.premise.now.theorem.conclusion in
-    let function_is = abstraction-is name ty p c.args.binder.now may.binder_is c.in-Ok.function
-    (ap (abstraction_outcome c.args.binder.now) (sym c.conclusion_of-formula.ensures.value) ∙ c.in-Ok.ensures.outcome) in
+    let function_is = abstraction-is name ty p c.args.binder.now may.binder_is c.in_ok-function.function
+    (ap (abstraction_outcome c.args.binder.now) (sym c.conclusion_of-formula.ensures.value) ∙ c.in_ok-function.ensures.outcome) in
     c.over_all.ensures.derives name ty room may function_is fits
+
+pub returns-in_err-function-clause-continues : goal.returns-in_err-function-clause-continues
+returns-in_err-function-clause-continues c = rw (err_from_is_err_and c.from_residual.result c.from_residual.ensures.1).1 (search rules)

@@ -1,4 +1,5 @@
 use Rattle.std.proofs.Common.{◌≡◌, ◌∙◌, ap, subst, sym}
+use Rattle.std.proofs.lemmas.Result.{err_from_is_err_and}
 use Rattle.hol_model.specs.Terms.HolType.{bool_type}
 use Rattle.hol_model.specs.Logic.Logic.{forall_name, predicate}
 use Rattle.hol_model.specs.Terms.NamedTerm.{NamedTerm, abstraction}
@@ -15,19 +16,25 @@ use Rattle.hol_quant.proofs.GenLemmas.{truth}
 use Rattle.hol_quant.proofs.ForAllLemmas.{binder-known, function-known, always, always-at, formula-at, body-fits, always-within, lemma-fits}
 use Rattle.hol_quant.proofs.generalization.over_all.Goals as goal
 
-pub returns-in-Err-clause-derives : goal.returns-in-Err-clause-derives
-returns-in-Err-clause-derives c name ty room may function_is fits =
+pub returns-in_err-equal-clause-derives : goal.returns-in_err-equal-clause-derives
+returns-in_err-equal-clause-derives c name ty room may function_is fits =
+    let p = err_from_is_err_and c.from_residual.result c.from_residual.ensures.1 in
+    rw (p.1, p.2) (
     let conclusion = c.args.premise.now.theorem.conclusion in
-    c.in-Err.ensures.derives room (body-fits name ty conclusion room fits c.conclusion_of-formula.ensures.formula.typed)
+    c.in_err-equal.ensures.derives room (body-fits name ty conclusion room fits c.conclusion_of-formula.ensures.formula.typed)
+    )
 
-pub returns-in-Err-abs-clause-derives : goal.returns-in-Err-abs-clause-derives
-returns-in-Err-abs-clause-derives c name ty room may function_is fits =
+pub returns-in_err-always-clause-derives : goal.returns-in_err-always-clause-derives
+returns-in_err-always-clause-derives c name ty room may function_is fits =
+    let p = err_from_is_err_and c.from_residual-in_err-always.result c.from_residual-in_err-always.ensures.1 in
+    rw (p.1, p.2) (
     let premise = c.args.premise.now.theorem in
     let p = premise.conclusion in
-    let equal = c.in-Ok.ensures.derives room (body-fits name ty p room fits c.conclusion_of-formula.ensures.formula.typed) in
-    let knows = subst (λ (th : Theory). IsKnownType th ty) (sym c.in-Ok.ensures.continues.theory) may.type_known in
-    past-room c.in-Err-abs.fault (nameless_within_limits (always name ty p)) room
-    (c.in-Err-abs.ensures.derives (images premise) name ty bool_type (image p) truth (ap image may.binder_is) knows may.fresh equal) (always-within name ty p room fits)
+    let equal = c.in_ok-equal.ensures.derives room (body-fits name ty p room fits c.conclusion_of-formula.ensures.formula.typed) in
+    let knows = subst (λ (th : Theory). IsKnownType th ty) (sym c.in_ok-equal.ensures.continues.theory) may.type_known in
+    past-room _ (nameless_within_limits (always name ty p)) room
+    (c.in_err-always.ensures.derives (images premise) name ty bool_type (image p) truth (ap image may.binder_is) knows may.fresh equal) (always-within name ty p room fits)
+    )
 
 pub returns-clause-derives : goal.returns-clause-derives
 returns-clause-derives c name ty room may function_is fits =
@@ -36,15 +43,15 @@ returns-clause-derives c name ty room may function_is fits =
     let theory = c.args.recorder.now.theory in
     let binder = c.args.binder.now in
     let made = abstraction name ty p in
-    let equal = c.in-Ok.ensures.derives room (body-fits name ty p room fits c.conclusion_of-formula.ensures.formula.typed) in
-    let knows = subst (λ (th : Theory). IsKnownType th ty) (sym c.in-Ok.ensures.continues.theory) may.type_known in
-    let always_shows = c.in-Ok-abs.ensures.derives (images premise) name ty bool_type (image p) truth (ap image may.binder_is) knows may.fresh equal in
-    let later : c.abs.new.recorder.theory ≡ theory = c.in-Ok-abs.ensures.continues.theory ∙ c.in-Ok.ensures.continues.theory in
+    let equal = c.in_ok-equal.ensures.derives room (body-fits name ty p room fits c.conclusion_of-formula.ensures.formula.typed) in
+    let knows = subst (λ (th : Theory). IsKnownType th ty) (sym c.in_ok-equal.ensures.continues.theory) may.type_known in
+    let always_shows = c.in_ok-always.ensures.derives (images premise) name ty bool_type (image p) truth (ap image may.binder_is) knows may.fresh equal in
+    let later : c.abs.new.recorder.theory ≡ theory = c.in_ok-always.ensures.continues.theory ∙ c.in_ok-equal.ensures.continues.theory in
     let function_there = subst (λ (th : Theory). IsKnown th (image c.args.function.now) (predicate ty)) (sym later)
     (subst (λ (f : NamedTerm). IsKnown theory (image f) (predicate ty)) (sym function_is) (function-known name ty p theory may.type_known c.conclusion_of-formula.ensures.formula.known)) in
     let binder_there = subst (λ (th : Theory). IsKnown th (image binder) ty) (sym later) (binder-known theory premise binder name ty may) in
-    let premise_shows = subst (λ (f : NamedTerm). Shows c.in-Ok-abs.always.theorem (images premise) (at_predicate ty f binder is_always)) (sym function_is)
-    (subst (λ (t : Nameless). Shows c.in-Ok-abs.always.theorem (images premise) t) (sym (always-at name ty p binder)) always_shows) in
+    let premise_shows = subst (λ (f : NamedTerm). Shows c.in_ok-always.always.theorem (images premise) (at_predicate ty f binder is_always)) (sym function_is)
+    (subst (λ (t : Nameless). Shows c.in_ok-always.always.theorem (images premise) t) (sym (always-at name ty p binder)) always_shows) in
     let answer = c.by_predicate_lemma.ensures.derives ty function_there binder_there (images premise) is_always (over_predicate forall_name) c.requires.forall_shows premise_shows in
     let at_abstraction = subst (λ (f : NamedTerm).
     DerivesIf (lemma_fits ty f binder is_always (over_predicate forall_name)) c.by_predicate_lemma.result (images premise)

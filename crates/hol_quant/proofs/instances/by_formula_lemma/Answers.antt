@@ -1,4 +1,5 @@
-use Rattle.std.proofs.Common.{◌≡◌, ◌∷◌, [], List, subst, sym, None}
+use Rattle.std.proofs.Common.{rules, ◌≡◌, ◌∷◌, [], List, subst, sym, None}
+use Rattle.std.proofs.lemmas.Result.{err_from_is_err_and}
 use Rattle.std.specs.Prelude.{codes}
 use Rattle.std.specs.List.{list_all}
 use Rattle.hol_model.specs.Terms.HolType.{HolType, bool_type}
@@ -23,14 +24,14 @@ returns-clause-derives c ty function_known element_known is_formula h p q shown 
     let function_typed = image-type function (predicate ty) function_known.typed in
     let element_typed = image-type element ty element_known.typed in
     let formula = c.args.formula.now in
-    let types : List (HolType × HolType) = c.in-Ok.of_type ∷ [] in
+    let types : List (HolType × HolType) = c.in_ok-of_type.of_type ∷ [] in
     let wanted_types : List (HolType × HolType) = (ty, type_a) ∷ [] in
-    let type_is : c.in-Ok.of_type ≡ (ty, type_a) = c.in-Ok.ensures.ok ty element_typed in
+    let type_is : c.in_ok-of_type.of_type ≡ (ty, type_a) = c.in_ok-of_type.ensures.ok ty element_typed in
     let types_are : types ≡ wanted_types = λ i. type_is i ∷ [] in
-    let terms : List (NamedTerm × NamedTerm) = c.in-Ok-predicate_pair.of_predicate ∷ c.in-Ok-formula_pair.of_formula ∷ [] in
+    let terms : List (NamedTerm × NamedTerm) = c.in_ok-of_predicate.of_predicate ∷ c.in_ok-of_formula.of_formula ∷ [] in
     let wanted_terms : List (NamedTerm × NamedTerm) = (function, variable (codes "P") (predicate ty)) ∷ (formula, variable (codes "q") bool_type) ∷ [] in
-    let predicate_is : c.in-Ok-predicate_pair.of_predicate ≡ (function, variable (codes "P") (predicate ty)) = c.in-Ok-predicate_pair.ensures.ok (predicate ty) function_typed in
-    let formula_is : c.in-Ok-formula_pair.of_formula ≡ (formula, variable (codes "q") bool_type) = c.in-Ok-formula_pair.ensures.ok in
+    let predicate_is : c.in_ok-of_predicate.of_predicate ≡ (function, variable (codes "P") (predicate ty)) = c.in_ok-of_predicate.ensures.ok (predicate ty) function_typed in
+    let formula_is : c.in_ok-of_formula.of_formula ≡ (formula, variable (codes "q") bool_type) = c.in_ok-of_formula.ensures.ok in
     let terms_are : terms ≡ wanted_terms = λ i. predicate_is i ∷ formula_is i ∷ [] in
     let types_pass = subst (λ (l : List (HolType × HolType)). type_replacements_refusal theory l ≡ None) (sym types_are)
     (type-passes theory ty (IsKnown-type theory (image element) ty element_known)) in
@@ -48,3 +49,12 @@ returns-clause-derives c ty function_known element_known is_formula h p q shown 
     (instantiate_all l q ∷ instantiate_all l p ∷ instance_of l terms q ∷ instance_of l terms p ∷ nameless_equation bool_type
     (instance_of l terms p) (instance_of l terms q) ∷ [])) c.by_lemma.result h (instance_of l terms q)) types_are
     (c.by_lemma.ensures.derives types_pass terms_pass h p q shown premise_there))
+
+pub returns-in_err-of_type-clause-continues : goal.returns-in_err-of_type-clause-continues
+returns-in_err-of_type-clause-continues c = rw (err_from_is_err_and c.from_residual.result c.from_residual.ensures.1).1 (search rules)
+
+pub returns-in_err-of_predicate-clause-continues : goal.returns-in_err-of_predicate-clause-continues
+returns-in_err-of_predicate-clause-continues c = rw (err_from_is_err_and c.from_residual-in_err-of_predicate.result c.from_residual-in_err-of_predicate.ensures.1).1 (search rules)
+
+pub returns-in_err-of_formula-clause-continues : goal.returns-in_err-of_formula-clause-continues
+returns-in_err-of_formula-clause-continues c = rw (err_from_is_err_and c.from_residual-in_err-of_formula.result c.from_residual-in_err-of_formula.ensures.1).1 (search rules)
