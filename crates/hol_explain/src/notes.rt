@@ -71,7 +71,7 @@ fn is_unchanged<H: Refiners>(
     Ok(is_refined && before.as_str() == behind.as_str())
 }
 
-// The place in the list of the first `REWRITE_TAC` of an expression that changes no goal.
+// The place in the list of the first `REWRITE_TAC` or `CONV_TAC` of an expression that changes no goal.
 fn first_unchanged<H: Refiners>(
     trial: &Trial<'_, H>,
     manager: &mut Manager,

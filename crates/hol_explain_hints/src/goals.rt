@@ -6,12 +6,15 @@ use crate::said::Said::{Bare, Quoted, Text, Typed};
 use crate::shapes::wanted;
 use crate::span::{Span, next_outside};
 use crate::taken::{push_given, push_untaken};
-use hol_explain_words::{Known, Message, NoMemory, Piece, given, is_refiner, sentence};
+use hol_explain_words::{Known, Message, NoMemory, Piece, given, is_refiner, line_of, sentence};
 use hol_model::Fault;
 use hol_syntax::read_sequent;
 use hol_taut_formulas::atoms;
 use hol_terms::Term;
 use std::alloc::Global;
+
+// What is said of a formula that is false for some values, where the goal has assumptions.
+const UNSEEN: &str = "; `TAUT_TAC` does not see assumptions: `HOST undisch THEN TAUT_TAC` does";
 
 // What stands between alternatives.
 const ALTERNATIVES: (&str, &str) = ("ORELSE", "ORELSE");
@@ -24,11 +27,6 @@ pub struct Part {
     subgoals: usize,
     goals: String,
     goal: Option<(Vec<Term>, Term)>,
-}
-
-/// How many goals the text of the open goals has: a line each, behind the first.
-pub fn count_of_goals(goals: &str) -> usize {
-    goals.lines().count().saturating_sub(1)
 }
 
 /// The line of the first goal in the text of the open goals: the second line.
@@ -107,17 +105,63 @@ fn push_wanted<'a>(
     }
 }
 
+// What is said behind functions of the host that fail.
+const FAILED: &str = "meson : it found no proof within its bounds; it unfolds no definitions";
+
+// Puts that the host's function behind a word fails at the end.
+fn push_failed<'a>(
+    case: &Case<'a>,
+    from: usize,
+    lead: &'a str,
+    message: &mut Message,
+) -> Result<(), NoMemory> {
+    let name = case.piece.text(from.saturating_add(1));
+    let behind = match line_of(FAILED, name) {
+        Some(behind) => behind,
+        None => "",
+    };
+    let parts = [
+        Text(lead),
+        Text("the host's "),
+        Quoted(name),
+        Text(" fails here"),
+        Text(behind),
+    ];
+    case.push(message, &parts)
+}
+
+// Puts what one of the alternatives of a part wants at the end, or that it fails; whether something is known of it.
+fn push_alternative(
+    case: &Case<'_>,
+    part: &Part,
+    span: Span,
+    is_first: bool,
+    message: &mut Message,
+) -> Result<bool, NoMemory> {
+    let lead = if is_first { ": " } else { "; " };
+    let word = case.piece.text(span.from);
+    if word == "HOST" {
+        push_failed(case, span.from, lead, message)?;
+        return Ok(true);
+    }
+    match wanted(word) {
+        Some(wanted) => {
+            push_wanted(case, part, span, (lead, wanted), message)?;
+            Ok(true)
+        }
+        None => Ok(false),
+    }
+}
+
 // Puts what the alternatives of a part want at the end, a part without alternatives being its only one.
 fn push_alternatives(case: &Case<'_>, part: &Part, message: &mut Message) -> Result<(), NoMemory> {
-    let mut lead = ": ";
+    let mut is_first = true;
     let mut from = part.span.from;
     let to = part.span.to;
     for _ in 0..case.piece.words.len() {
         let joint = next_outside(case.piece, Span { from, to }, ALTERNATIVES);
-        if let Some(wanted) = wanted(case.piece.text(from)) {
-            let span = Span { from, to: joint };
-            push_wanted(case, part, span, (lead, wanted), message)?;
-            lead = "; ";
+        if push_alternative(case, part, Span { from, to: joint }, is_first, message)? {
+            is_first = false;
         }
         if joint >= to {
             break;
@@ -155,13 +199,27 @@ fn push_row(
     }
 }
 
+// Puts that `TAUT_TAC` does not see assumptions at the end, where there are some.
+fn push_unseen(
+    case: &Case<'_>,
+    from: usize,
+    assumptions: &[Term],
+    message: &mut Message,
+) -> Result<(), NoMemory> {
+    if assumptions.is_empty() || case.piece.text(from) != "TAUT_TAC" {
+        return Ok(());
+    }
+    case.push(message, &[Text(UNSEEN)])
+}
+
 // Puts what a refiner without parts wants at the end, and what stands there. The message is on the word in question then.
 fn push_reason(
     case: &Case<'_>,
     from: usize,
-    conclusion: &Term,
+    goal: (&[Term], &Term),
     message: &mut Message,
 ) -> Result<(), NoMemory> {
+    let (assumptions, conclusion) = goal;
     let inside = from.saturating_add(1);
     let word = case.piece.text(from);
     if word == "CONV_TAC" {
@@ -171,7 +229,10 @@ fn push_reason(
         return push_endless(case, message);
     }
     match (case.fault, case.term_at(inside)) {
-        (Fault::NotTautology { row, .. }, _) => push_row(case, conclusion, row, message),
+        (Fault::NotTautology { row, .. }, _) => {
+            push_row(case, conclusion, row, message)?;
+            push_unseen(case, from, assumptions, message)
+        }
         (_, Some(witness)) if word == "EXISTS_TAC" => {
             case.teller()
                 .push_misfit(&mut message.text, conclusion, &witness.term)
@@ -201,8 +262,9 @@ fn push_part(case: &Case<'_>, part: &Part, message: &mut Message) -> Result<(), 
     match (case.fault, &part.goal) {
         (Fault::LengthMismatch, _) => push_count(part.subgoals, message),
         (Fault::BadShape | Fault::RefineFails, _) => push_alternatives(case, part, message),
-        (_, Some((_, conclusion))) if is_leaf(case, part.span) => {
-            push_reason(case, part.span.from, conclusion, message)
+        (_, Some((assumptions, conclusion))) if is_leaf(case, part.span) => {
+            let goal = (assumptions.as_slice(), conclusion);
+            push_reason(case, part.span.from, goal, message)
         }
         _ => Ok(()),
     }

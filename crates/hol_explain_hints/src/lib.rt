@@ -15,6 +15,7 @@ mod parts;
 mod place;
 mod quoted;
 mod refused;
+mod replaced;
 mod report;
 mod rules;
 mod said;
@@ -28,8 +29,10 @@ mod unlike;
 pub use arguments::{Arguments, Premise, is_looked_up, span_of};
 pub use case::Case;
 pub use expressions::{command_of, first_member, has_misfit, next_joint, next_member, unwrapped};
-pub use goals::{Part, count_of_goals, first_goal, of_part};
-pub use hol_explain_words::{Known, Message, NoMemory, Piece, between, given, no_command};
+pub use goals::{Part, first_goal, of_part};
+pub use hol_explain_words::{
+    Known, Message, NoMemory, Piece, between, count_of_goals, given, no_command,
+};
 pub use notes::{Accepted, first_kept, has_pairs, next_rewriting, push_notes, unchanged};
 pub use place::Place;
 pub use refused::{of_case, plain};

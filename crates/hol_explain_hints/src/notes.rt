@@ -3,10 +3,11 @@ use crate::arguments::{Arguments, Premise, Quotation};
 use crate::expressions::next_joint;
 use crate::goals::has_alternatives;
 use crate::names::is_theorem_place;
+use crate::replaced::push_types;
 use crate::said::Said::{Quoted, Shown, Text};
 use crate::said::{Said, Teller};
 use crate::span::Span;
-use hol_explain_words::{Kind, Known, Message, NoMemory, Piece, given};
+use hol_explain_words::{Kind, Known, Message, NoMemory, Piece, given, goes_on};
 use hol_syntax::read_term;
 use hol_terms::{Term, free_in, frees};
 use std::alloc::Global;
@@ -30,8 +31,8 @@ impl<'a> Accepted<'a> {
         }
     }
 
-    // Puts a note on what stands at an offset at the end.
-    fn push(
+    /// Puts a note on what stands at an offset at the end.
+    pub(crate) fn push(
         &self,
         notes: &mut Vec<Message>,
         at: usize,
@@ -52,19 +53,73 @@ impl<'a> Accepted<'a> {
     }
 }
 
-// Says that a goal takes the place of a proved one.
+// Says that a goal takes the place of one that was proved at a place.
+fn push_unsaved(of: &Accepted<'_>, notes: &mut Vec<Message>, place: &str) -> Result<(), NoMemory> {
+    let parts = [
+        Text("the goal that was proved in "),
+        Text(place),
+        Text(" is given up here, and its theorem is not stored: `save` stores it"),
+    ];
+    of.push(notes, of.piece.start(0), &parts)
+}
+
+// Says that a goal takes the place of one of whose proof so many goals are open.
+fn push_open(of: &Accepted<'_>, notes: &mut Vec<Message>, open: usize) -> Result<(), NoMemory> {
+    let end = if open == 1 { "" } else { "s" };
+    let said = format!(in of.alloc;
+        "the proof of the goal before is given up, with {open} open goal{end}"
+    )?;
+    of.push(notes, of.piece.start(0), &[Text(said.as_str())])
+}
+
+// Says that a new goal takes the place of a proved one, or of one whose proof was begun.
 fn push_replaced(of: &Accepted<'_>, notes: &mut Vec<Message>) -> Result<(), NoMemory> {
-    match &of.known.unsaved {
-        Some(place) if of.piece.text(0) == "goal" => {
-            let parts = [
-                Text("the goal that was proved in "),
-                Text(place.as_str()),
-                Text(" is given up here, and its theorem is not stored: `save` stores it"),
-            ];
-            of.push(notes, of.piece.start(0), &parts)
-        }
-        _ => Ok(()),
+    let proof = &of.known.proof;
+    match &proof.unsaved {
+        Some(place) => push_unsaved(of, notes, place.as_str()),
+        None if proof.open > 0 && proof.steps > 0 => push_open(of, notes, proof.open),
+        None => Ok(()),
     }
+}
+
+// Says that a command goes on with the goal of a place, where the one of another place was refused.
+fn push_older<'b>(
+    of: &Accepted<'_>,
+    notes: &mut Vec<Message>,
+    begun: &'b str,
+    refused: &'b str,
+) -> Result<(), NoMemory> {
+    let parts = [
+        Text("this goes on with the goal of "),
+        Text(begun),
+        Text(": the `goal` of "),
+        Text(refused),
+        Text(" was refused"),
+    ];
+    of.push(notes, of.piece.start(0), &parts)
+}
+
+// Says that a command goes on with the goal before one that was refused.
+fn push_continued(of: &Accepted<'_>, notes: &mut Vec<Message>) -> Result<(), NoMemory> {
+    let Some(refused) = &of.known.proof.refused else {
+        return Ok(());
+    };
+    match &of.known.proof.begun {
+        Some(begun) => push_older(of, notes, begun.as_str(), refused.as_str()),
+        None => Ok(()),
+    }
+}
+
+// Says what happens to the goal that is set.
+fn push_goal(of: &Accepted<'_>, notes: &mut Vec<Message>) -> Result<(), NoMemory> {
+    let word = of.piece.text(0);
+    if word == "goal" {
+        return push_replaced(of, notes);
+    }
+    if goes_on(word) {
+        return push_continued(of, notes);
+    }
+    Ok(())
 }
 
 /// The place in the list of the first name of a theorem under which a refused command would have stored another one.
@@ -260,21 +315,25 @@ fn push_pairs(of: &Accepted<'_>, notes: &mut Vec<Message>) -> Result<(), NoMemor
 
 /// Whether notes on an accepted command want its arguments.
 pub fn has_pairs(piece: &Piece<'_>) -> bool {
-    piece.text(0) == "thm" && piece.text(3) == "INST"
+    piece.text(0) == "thm" && matches!(piece.text(3), "INST" | "INST_TYPE")
 }
 
 /// Puts notes at the end on what is suspicious of an accepted command.
 pub fn push_notes(of: &Accepted<'_>, notes: &mut Vec<Message>) -> Result<(), NoMemory> {
-    push_replaced(of, notes)?;
+    push_goal(of, notes)?;
     push_kept(of, notes)?;
     push_variables(of, notes)?;
-    if has_pairs(of.piece) {
-        push_pairs(of, notes)?;
+    if !has_pairs(of.piece) {
+        return Ok(());
     }
-    Ok(())
+    if of.piece.text(3) == "INST" {
+        return push_pairs(of, notes);
+    }
+    push_types(of, notes)
 }
 
-/// The next `REWRITE_TAC` of an expression, outside of all brackets and no alternative, from a part on that begins at a place.
+/// The next `REWRITE_TAC` or `CONV_TAC` of an expression, outside of all brackets and no alternative, from a part on that begins at a
+/// place.
 pub fn next_rewriting(piece: &Piece<'_>, from: usize) -> Option<Span> {
     let end = piece.words.len();
     let mut start = from;
@@ -286,7 +345,8 @@ pub fn next_rewriting(piece: &Piece<'_>, from: usize) -> Option<Span> {
             from: start,
             to: next_joint(piece, start, end),
         };
-        if piece.text(start) == "REWRITE_TAC" && !has_alternatives(piece, span) {
+        let is_rewriting = matches!(piece.text(start), "REWRITE_TAC" | "CONV_TAC");
+        if is_rewriting && !has_alternatives(piece, span) {
             return Some(span);
         }
         start = span.to.saturating_add(1);
@@ -294,11 +354,12 @@ pub fn next_rewriting(piece: &Piece<'_>, from: usize) -> Option<Span> {
     None
 }
 
-/// That the `REWRITE_TAC` at a place in the list changes no goal.
+/// That the `REWRITE_TAC` or the `CONV_TAC` at a place in the list changes no goal.
 pub fn unchanged(alloc: Global, piece: &Piece<'_>, at: usize) -> Result<Message, NoMemory> {
-    Message::new(
-        alloc,
-        piece.start(at),
-        "`REWRITE_TAC` changes no goal here: none of its equations matches a part (compare names and types)",
-    )
+    let said = if piece.text(at) == "CONV_TAC" {
+        "`CONV_TAC` changes no goal here: its conversion leaves the conclusion as it is"
+    } else {
+        "`REWRITE_TAC` changes no goal here: none of its equations matches a part (compare names and types)"
+    };
+    Message::new(alloc, piece.start(at), said)
 }

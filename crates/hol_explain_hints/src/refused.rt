@@ -90,8 +90,16 @@ pub fn of_case(case: &Case<'_>, message: &mut Message) -> Result<bool, NoMemory>
     in_arguments(case, message)
 }
 
+// What is said of a `b` behind which steps stand that are not kept.
+const FORGOTTEN: &str = "only the last 256 steps are kept, and all of these are taken back";
+
 /// Says the sentence of a refused command of which no more is known.
 pub fn plain(case: &Case<'_>, message: &mut Message) -> Result<bool, NoMemory> {
     let at = if case.piece.text(0) == "thm" { 3 } else { 0 };
-    case.say(message, at, &[Text(sentence(case.fault))])
+    let said = if *case.fault == Fault::NothingToUndo && case.known.proof.steps > 0 {
+        FORGOTTEN
+    } else {
+        sentence(case.fault)
+    };
+    case.say(message, at, &[Text(said)])
 }

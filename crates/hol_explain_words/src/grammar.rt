@@ -326,6 +326,11 @@ pub(crate) fn push_words(
     Ok(())
 }
 
+/// Whether a command may begin with a word.
+pub(crate) fn is_command(word: &str) -> bool {
+    behind("command", word).is_some()
+}
+
 /// Whether a word is a refiner by itself, with its arguments.
 pub fn is_refiner(word: &str) -> bool {
     match behind("refiner", word) {

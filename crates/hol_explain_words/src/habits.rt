@@ -78,6 +78,19 @@ let ; there is no `let`: the term stands in the place of the name, or `(\\x:ty. 
 < ; a function stands before its arguments, as `lt m n`
 > ; a function stands before its arguments, as `lt n m`";
 
+// Words for the end of a session, or for help.
+const ENDINGS: &str = "quit exit help bye";
+
+/// Whether a word in any case asks for the end of a session, or for help.
+pub(crate) fn is_ending(word: &str) -> bool {
+    for known in ENDINGS.split(' ') {
+        if word.eq_ignore_ascii_case(known) {
+            return true;
+        }
+    }
+    false
+}
+
 /// What is written in the place of a word of HOL Light.
 pub(crate) fn written_for(word: &str) -> Option<&'static str> {
     line_of(HABITS, word)

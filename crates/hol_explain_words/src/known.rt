@@ -1,6 +1,7 @@
 // The names that are known where a command stands.
 use crate::no_memory::NoMemory;
 use crate::piece::{Piece, between};
+use crate::proof::Proof;
 use crate::tables::front;
 use hol_model::Fault;
 use hol_syntax::{Scope, read_term, read_type};
@@ -8,7 +9,8 @@ use hol_types::Ty;
 use std::alloc::Global;
 use strsim::osa_distance;
 
-/// What names stand for, all names of each kind, and those that refused commands would have made: each with the place behind it.
+/// What names stand for, all names of each kind, and those that refused commands would have made: each with the place behind it; and
+/// the proof under way.
 #[derive(Drop)]
 pub struct Known {
     pub scope: Scope,
@@ -20,8 +22,7 @@ pub struct Known {
     pub lost_names: Vec<String>,
     /// Names of stored theorems under which a refused command would have stored another one.
     pub kept_theorems: Vec<String>,
-    /// Where the last goal was proved, as long as its theorem is not stored.
-    pub unsaved: Option<String>,
+    pub proof: Proof,
 }
 
 // The theorems that are stored when a script begins.
@@ -99,7 +100,7 @@ impl Known {
             lost_theorems: Vec::new(alloc),
             lost_names: Vec::new(alloc),
             kept_theorems: Vec::new(alloc),
-            unsaved: None,
+            proof: Proof::none(),
         };
         known.learn_first(alloc)?;
         Ok(known)
@@ -159,11 +160,9 @@ impl Known {
         push_name(alloc, &mut self.types, name)
     }
 
-    /// An accepted command makes its names known. A new goal, or a stored theorem, leaves no theorem to be stored.
+    /// An accepted command makes its names known.
     pub fn learn(&mut self, alloc: Global, piece: &Piece<'_>) -> Result<(), NoMemory> {
-        if matches!(piece.text(0), "goal" | "save") {
-            self.unsaved = None;
-        }
+        self.proof.accept(piece.text(0));
         let name = piece.text(1);
         let behind = between(piece.bytes, piece.start(3), piece.bytes.len());
         match piece.text(0) {
@@ -184,12 +183,7 @@ impl Known {
         goals: &str,
         place: &str,
     ) -> Result<(), NoMemory> {
-        if !goals.starts_with("No subgoals") {
-            self.unsaved = None;
-        } else if piece.text(0) == "e" {
-            self.unsaved = Some(String::from_str(alloc, place)?);
-        }
-        Ok(())
+        self.proof.leave(alloc, piece.text(0), goals, place)
     }
 
     // A refused command would have stored a theorem of a name; there may be one already.
@@ -222,6 +216,7 @@ impl Known {
                 let theorem = format!(in alloc; "{name}_def")?;
                 self.miss_theorem(alloc, theorem.as_str(), place)
             }
+            "goal" => self.proof.refuse(alloc, place),
             _ => Ok(()),
         }
     }

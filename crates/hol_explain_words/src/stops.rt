@@ -1,16 +1,19 @@
 // Where a text stops being a command.
-use crate::grammar::{also_at, expected, is_choice, push_words, read};
-use crate::habits::{absent, written_for};
+use crate::grammar::{also_at, expected, is_choice, is_command, push_words, read};
+use crate::habits::{absent, is_ending, written_for};
 use crate::known::{Known, is_type_variable, nearest, push_name};
 use crate::messages::Message;
 use crate::no_memory::NoMemory;
-use crate::piece::Piece;
+use crate::piece::{Piece, between};
 use crate::scanner::Kind;
 use std::alloc::Global;
 
 // What is said of a text that keeps to the grammar and is no command.
 const OTHERWISE: &str =
     "the text is no command: it nests deeper than a command may, a number in it is too large, or a word is not of its kind";
+
+// What is said of a word for the end of a session.
+const ENDING: &str = "; the end of the input ends the session (Ctrl-D at a terminal)";
 
 // What stands at a place in the list, in three parts.
 fn found<'a>(piece: &'a Piece<'_>, at: usize) -> (&'static str, &'a str, &'static str) {
@@ -19,7 +22,7 @@ fn found<'a>(piece: &'a Piece<'_>, at: usize) -> (&'static str, &'a str, &'stati
         Kind::Quote => ("a quoted text", "", ""),
         Kind::Unclosed => ("a backquote without another behind it", "", ""),
         Kind::Odd if piece.text(at).len() == 1 => ("`", piece.text(at), "`, which begins no word"),
-        Kind::Odd => ("a byte that begins no word", "", ""),
+        Kind::Odd => ("a byte that is not ASCII", "", ""),
         _ => ("`", piece.text(at), "`"),
     }
 }
@@ -49,6 +52,36 @@ fn remark(piece: &Piece<'_>, at: usize, symbol: &str) -> Option<&'static str> {
     }
 }
 
+// Whether the word at a place in the list is the first of a line of a command, and could begin one.
+fn begins_another(piece: &Piece<'_>, at: usize) -> bool {
+    let end = piece.word(at.saturating_sub(1)).end;
+    let mut blanks = between(piece.bytes, end, piece.start(at)).iter();
+    blanks.any(|byte| *byte == b'\n') && is_command(piece.text(at))
+}
+
+// Whether parentheses stand behind the word of a command that has no arguments.
+fn is_called(piece: &Piece<'_>, at: usize) -> bool {
+    at == 1 && piece.text(1) == "(" && matches!(piece.text(0), "b" | "p")
+}
+
+// What is said of a word of a command that stands there for a mistake about commands, in three parts.
+fn slip<'a>(
+    piece: &'a Piece<'_>,
+    at: usize,
+    symbol: &str,
+) -> Option<(&'static str, &'a str, &'static str)> {
+    if symbol == "command" && is_ending(piece.text(at)) {
+        return Some((ENDING, "", ""));
+    }
+    if is_called(piece, at) {
+        return Some(("; `", piece.text(0), "` is written without `()`"));
+    }
+    if begins_another(piece, at) {
+        return Some(("; a `;;` may be missing before it", "", ""));
+    }
+    None
+}
+
 // What is written in the place of a word of HOL Light at a symbol where a message lists words.
 fn written_at(symbol: &str, word: &str) -> Option<&'static str> {
     if is_choice(symbol) {
@@ -62,12 +95,17 @@ fn written_at(symbol: &str, word: &str) -> Option<&'static str> {
 fn better<'a>(
     alloc: Global,
     words: &'a [String],
-    piece: &Piece<'_>,
+    piece: &'a Piece<'_>,
     at: usize,
     symbol: &str,
 ) -> Result<(&'static str, &'a str, &'static str), NoMemory> {
     if let Some(said) = remark(piece, at, symbol) {
         return Ok((said, "", ""));
+    }
+    if !piece.is_quote {
+        if let Some(said) = slip(piece, at, symbol) {
+            return Ok(said);
+        }
     }
     let word = piece.text(at);
     if let Some(written) = written_at(symbol, word) {
@@ -78,6 +116,7 @@ fn better<'a>(
         None => ("", "", ""),
     })
 }
+
 // The words that may stand at a symbol, where a message lists them.
 fn list_of(alloc: Global, words: &[String], symbol: &str) -> Result<String, NoMemory> {
     if !is_choice(symbol) {

@@ -5,7 +5,7 @@ use hol_model::Fault;
 use hol_test_sample_devices::push_times;
 use hol_test_sample_scripts::messages::{
     ABSENT, COMMANDS, FURTHER_NAMES, GOALS, LIMITS, LOST, MISFITS, NAMES, QUOTES, RULES, SEEN,
-    SHAPES, TERMS, WORDS,
+    SHAPES, SLIPS, TERMS, WORDS,
 };
 use std::alloc::Global;
 
@@ -38,6 +38,12 @@ const MESSAGES: &[u8] =
 b:2:2: E21 UnknownName: no theorem is stored under `EXCLUDED_MIDLE`; the nearest known name is `EXCLUDED_MIDDLE`
 b:4:1: E28 Syntax: a command ends with `;;`, and here the script ends before one
 ";
+
+// A sign of several bytes at the front of a term.
+const OTHER_BYTE: &[u8] = b"thm a = REFL `\xe2\x88\x80x:bool. x` ;;";
+
+const SAID_OF_IT: &[u8] =
+    b"s:1:15: E28 Syntax: expected a term (a name, `(`, `[`, `~`, `\\`, `!`, `?` or `@`), found a byte that is not ASCII\n";
 
 // What is said of a term that is too high.
 fn tells_the_height(alloc: Global) -> Result<bool, Fault> {
@@ -111,6 +117,11 @@ fn texts_are_explained(rt: HostRuntime) {
 }
 
 #[test]
+fn slips_are_told(rt: HostRuntime) {
+    assert!(rt; first_wrong(rt.alloc(), SLIPS) == Ok(3));
+}
+
+#[test]
 fn quotes_are_explained(rt: HostRuntime) {
     assert!(rt; first_wrong(rt.alloc(), QUOTES) == Ok(9));
 }
@@ -119,6 +130,11 @@ fn quotes_are_explained(rt: HostRuntime) {
 fn limits_are_explained(rt: HostRuntime) {
     assert!(rt; first_wrong(rt.alloc(), LIMITS) == Ok(7));
     assert!(rt; tells_the_height(rt.alloc()) == Ok(true));
+}
+
+#[test]
+fn other_bytes_are_told(rt: HostRuntime) {
+    assert!(rt; says(rt.alloc(), OTHER_BYTE, SAID_OF_IT) == Ok(true));
 }
 
 #[test]

@@ -1,7 +1,7 @@
 // Scripts as data, and what is said of their refusals.
 use hol_explain::{Origin, Refused, Script, explain, explain_refusal};
 use hol_host::{Host, NoHost};
-use hol_host_samples::liar;
+use hol_host_samples::{liar, peel};
 use hol_just::Goal;
 use hol_model::Fault;
 use hol_test_sample_devices::{Compared, Kept, Row, Rows};
@@ -27,7 +27,23 @@ pub(crate) fn first_wrong(alloc: Global, text: &str) -> Result<usize, &str> {
     Ok(text.len())
 }
 
-/// Whether this is said of a script, and no more, where the host has a refiner that lies.
+// Stores a refiner that peels under a name.
+fn store_peel(alloc: Global, host: &mut Host, name: &str) -> Result<(), Fault> {
+    let peels = Box::new(alloc, |alloc: Global, goal: &Goal| peel(alloc, goal))?;
+    host.refiner(alloc, name, peels)
+}
+
+// A refiner that lies, and two that peel.
+fn host_of(alloc: Global) -> Result<Host, Fault> {
+    let mut host = Host::new(alloc);
+    let lies = Box::new(alloc, |alloc: Global, goal: &Goal| liar(alloc, goal))?;
+    host.refiner(alloc, "liar", lies)?;
+    store_peel(alloc, &mut host, "peel")?;
+    store_peel(alloc, &mut host, "meson")?;
+    Ok(host)
+}
+
+/// Whether this is said of a script, and no more, where the host has a refiner that lies, and two that fail at `T`.
 pub(crate) fn says(alloc: Global, script: &[u8], messages: &[u8]) -> Result<bool, Fault> {
     says_in(alloc, &ORIGINS, script, messages)
 }
@@ -39,11 +55,11 @@ pub(crate) fn says_in(
     script: &[u8],
     messages: &[u8],
 ) -> Result<bool, Fault> {
-    let mut host = Host::new(alloc);
-    let lies = Box::new(alloc, |alloc: Global, goal: &Goal| liar(alloc, goal))?;
-    host.refiner(alloc, "liar", lies)?;
+    let host = host_of(alloc)?;
     let mut host_names = Vec::new(alloc);
-    host_names.push(String::from_str(alloc, "liar")?)?;
+    for name in ["liar", "peel", "meson"] {
+        host_names.push(String::from_str(alloc, name)?)?;
+    }
     let script = Script {
         origins,
         text: script,

@@ -401,6 +401,38 @@ show TRUTH
 s:1:1: E28 Syntax: a command ends with `;;`, and here the script ends before one
 ";
 
+/// Texts that are nearly commands.
+pub const SLIPS: &str = r"
+== words that end other programs
+quit ;;
+Exit ;;
+--
+s:1:1: E28 Syntax: expected a command, found `quit`; the end of the input ends the session (Ctrl-D at a terminal); the words that could stand here are `thm`, `show`, `var`, `def`, `newtype`, `newconst`, `goal`, `e`, `b`, `r`, `p`, `save`
+s:2:1: E28 Syntax: expected a command, found `Exit`; the end of the input ends the session (Ctrl-D at a terminal); the words that could stand here are `thm`, `show`, `var`, `def`, `newtype`, `newconst`, `goal`, `e`, `b`, `r`, `p`, `save`
+
+== a command in a line of its own inside another
+goal `T`
+e CONJ_TAC
+b ;;
+thm a = REFL `T` thm ;;
+goal `T /\ T` ;;
+e CONJ_TAC
+e CONJ_TAC ;;
+--
+s:2:1: E28 Syntax: expected the end of the command, found `e`; a `;;` may be missing before it
+s:4:18: E28 Syntax: expected the end of the command, found `thm`
+s:7:1: E28 Syntax: expected `THEN`, `THENL`, `ORELSE` or the end of the command, found `e`; a `;;` may be missing before it
+
+== parentheses behind a command
+b() ;;
+p( ;;
+thm a = REFL `b (` ;;
+--
+s:1:2: E28 Syntax: expected the end of the command, found `(`; `b` is written without `()`
+s:2:2: E28 Syntax: expected the end of the command, found `(`; `p` is written without `()`
+s:3:18: E28 Syntax: expected a term (a name, `(`, `[`, `~`, `\`, `!`, `?` or `@`), found the end of the quoted text
+";
+
 /// Quoted texts that are no terms.
 pub const QUOTES: &str = r"
 == no term

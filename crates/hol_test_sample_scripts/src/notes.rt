@@ -32,6 +32,54 @@ thm b = INST [`(y:bool)`, `(x:bool)`; `(y:A)`, `(x:A)`; `T`, `(p:bool)`] a ;;
 s:2:27: note: nothing is put for `(x:bool)`, which is not free in `a`; `(x:A)` is
 s:2:62: note: nothing is put for `(p:bool)`, which is not free in `a`
 
+== a conversion that changes nothing
+goal `F ==> F` ;;
+e CONV_TAC (TRY_CONV BETA_CONV) ;;
+e DISCH_TAC THEN CONV_TAC (DEPTH_CONV BETA_CONV) ;;
+e CONV_TAC NO_CONV ORELSE ALL_TAC ;;
+--
+s:2:3: note: `CONV_TAC` changes no goal here: its conversion leaves the conclusion as it is
+s:3:18: note: `CONV_TAC` changes no goal here: its conversion leaves the conclusion as it is
+
+== INST_TYPE of type variables that its theorem does not have
+thm a = REFL `(x:A)` ;;
+thm b = INST_TYPE [`bool`, `B`; `bool`, `A`] a ;;
+thm c = ADD_ASSUM `(y:C) = (y:C)` a ;;
+thm d = INST_TYPE [`bool`, `C`] c ;;
+--
+s:2:28: note: nothing is put for `B`, which is no type variable of `a`
+
+== a goal in the place of one that was refused
+goal `T /\ T` ;;
+goal `(x:A)` ;;
+e CONJ_TAC ;;
+p ;;
+goal T ;;
+b ;;
+goal `(x:A)` ;;
+goal `T` ;;
+p ;;
+--
+s:2:6: E7 NotBool: a goal is a formula, of type `bool`, and `(x:A)` has the type `A`
+s:3:1: note: this goes on with the goal of line 1: the `goal` of line 2 was refused
+s:5:6: E28 Syntax: expected a backquote with a term behind it, found `T`
+s:6:1: note: this goes on with the goal of line 1: the `goal` of line 5 was refused
+s:7:6: E7 NotBool: a goal is a formula, of type `bool`, and `(x:A)` has the type `A`
+
+== a proof that is given up
+goal `T /\ T` ;;
+e CONJ_TAC ;;
+goal `T /\ T` ;;
+e CONJ_TAC ;;
+e ACCEPT_TAC TRUTH ;;
+goal `T` ;;
+r 0 ;;
+b ;;
+goal `F` ;;
+--
+s:3:1: note: the proof of the goal before is given up, with 2 open goals
+s:6:1: note: the proof of the goal before is given up, with 1 open goal
+
 == a proved goal that is not stored
 goal `T` ;;
 e ACCEPT_TAC TRUTH ;;

@@ -50,6 +50,12 @@ e TAUT_TAC ;;
 --
 s:2:3: E26 NotTautology: the formula is false for some values of its atoms: (p:bool)=T, (q:bool)=F; the first goal there is `?- (p:bool) ==> (q:bool)`
 
+== TAUT_TAC where the goal has assumptions
+goal `(p:bool) ==> (q:bool) ==> (p:bool)` ;;
+e DISCH_TAC THEN DISCH_TAC THEN TAUT_TAC ;;
+--
+s:2:33: E26 NotTautology: the formula is false for some values of its atoms: (p:bool)=F; `TAUT_TAC` does not see assumptions: `HOST undisch THEN TAUT_TAC` does; the first goal there is `(p:bool), (q:bool) ?- (p:bool)`
+
 == refiners of assumptions, of theorems and of forms
 goal `(p:bool)` ;;
 e ASSUMPTION_TAC ;;
@@ -86,6 +92,23 @@ e CONV_TAC (ABS_CONV NO_CONV) ;;
 s:2:23: E17 ConvFails: the conversion does not apply to the term: `BETA_CONV` wants a term `(\x:ty. b) t`, and is applied to `T`; the first goal there is `?- ~T`
 s:3:23: E17 ConvFails: the conversion does not apply to the term: `(BETA_CONV THENC NO_CONV)` is applied to `T`; the first goal there is `?- ~T`
 s:4:13: E17 ConvFails: the conversion does not apply to the term: `ABS_CONV NO_CONV` wants an abstraction, and is applied to `~T`; the first goal there is `?- ~T`
+";
+
+/// Refiners of the host that fail.
+pub const FAILURES: &str = r"
+== alone
+goal `T` ;;
+e HOST peel ;;
+e HOST meson ;;
+--
+s:2:3: E18 RefineFails: the refiner does not apply to the goal: the host's `peel` fails here; the first goal there is `?- T`
+s:3:3: E18 RefineFails: the refiner does not apply to the goal: the host's `meson` fails here: it found no proof within its bounds; it unfolds no definitions; the first goal there is `?- T`
+
+== among alternatives
+goal `T` ;;
+e TRY NO_TAC THEN (HOST peel ORELSE CONJ_TAC) ;;
+--
+s:2:20: E16 BadShape: a formula does not have the form that is wanted here: the host's `peel` fails here; `CONJ_TAC` wants a goal `p /\ q`; the first goal there is `?- T`
 ";
 
 /// Theorems that refiners do not take: by their conclusion, or by a hypothesis.

@@ -1,0 +1,88 @@
+// Type variables for which a command puts a type, and which its theorem does not have.
+use crate::arguments::Premise;
+use crate::notes::Accepted;
+use crate::said::Said::{Quoted, Text, Type};
+use hol_explain_words::{Kind, Message, NoMemory, Piece, given};
+use hol_syntax::read_type;
+use hol_terms::{Term, type_vars};
+use hol_types::Ty;
+use std::alloc::Global;
+
+// Whether a type is one of these.
+fn is_one_of(types: &[Ty], ty: &Ty) -> bool {
+    for known in types {
+        if known.eq(ty) {
+            return true;
+        }
+    }
+    false
+}
+
+// Whether a term has a type variable.
+fn has(alloc: Global, term: &Term, variable: &Ty) -> Result<bool, NoMemory> {
+    match given(type_vars(alloc, term))? {
+        Some(variables) => Ok(is_one_of(&variables, variable)),
+        None => Ok(false),
+    }
+}
+
+// Whether a theorem has a type variable.
+fn occurs(alloc: Global, premise: &Premise, variable: &Ty) -> Result<bool, NoMemory> {
+    for hypothesis in &premise.hypotheses {
+        if has(alloc, hypothesis, variable)? {
+            return Ok(true);
+        }
+    }
+    has(alloc, &premise.conclusion, variable)
+}
+
+// Says that the type variable at a place in the list is none of a theorem, where it is none.
+fn push_absent<'b>(
+    of: &Accepted<'_>,
+    notes: &mut Vec<Message>,
+    at: usize,
+    variable: &'b Ty,
+    premise: &'b Premise,
+) -> Result<(), NoMemory> {
+    if occurs(of.alloc, premise, variable)? {
+        return Ok(());
+    }
+    let parts = [
+        Text("nothing is put for "),
+        Type(variable),
+        Text(", which is no type variable of "),
+        Quoted(premise.name()),
+    ];
+    of.push(notes, of.piece.start(at), &parts)
+}
+
+// The same of the type variable that the word at a place in the list quotes.
+fn push_quoted(
+    of: &Accepted<'_>,
+    notes: &mut Vec<Message>,
+    at: usize,
+    premise: &Premise,
+) -> Result<(), NoMemory> {
+    match given(read_type(of.alloc, &of.known.scope, of.piece.quoted(at)))? {
+        Some(variable) => push_absent(of, notes, at, &variable, premise),
+        None => Ok(()),
+    }
+}
+
+// Whether a quoted type variable for which a type is put stands at a place in the list.
+fn is_replaced(piece: &Piece<'_>, at: usize) -> bool {
+    piece.kind(at) == Kind::Quote && piece.text(at.saturating_sub(1)) == ","
+}
+
+/// Says which type variables of `INST_TYPE` its theorem does not have.
+pub(crate) fn push_types(of: &Accepted<'_>, notes: &mut Vec<Message>) -> Result<(), NoMemory> {
+    let Some(Some(premise)) = of.arguments.theorems.first() else {
+        return Ok(());
+    };
+    for at in 0..of.piece.words.len() {
+        if is_replaced(of.piece, at) {
+            push_quoted(of, notes, at, premise)?;
+        }
+    }
+    Ok(())
+}
