@@ -10,6 +10,7 @@ use anyhow::ensure;
 use clap::ArgMatches;
 use clap::error::ErrorKind;
 use hol_model::Fault;
+use holp_files::holds_no_log;
 
 // Whether standard input is named more than once.
 fn names_input_twice(names: &[&str]) -> bool {
@@ -35,6 +36,20 @@ fn names_input(names: &[&str]) -> bool {
     false
 }
 
+// Whether a log may not be written to a file, whose bytes would be lost. Standard error then tells so, with these words before the name.
+fn is_kept(rt: &HostRuntime, words: &str, name: Option<&str>) -> bool {
+    let Some(name) = name else {
+        return false;
+    };
+    let is_kept = holds_no_log(rt, name);
+    if is_kept {
+        let _ = eprintln!(rt;
+            "holp: {words}{name}: it exists and is no proof log; name another file"
+        );
+    }
+    is_kept
+}
+
 // `run`: the status is 0, 1 where a command of the scripts was refused, or that of a fault.
 fn run(rt: &HostRuntime, matches: &ArgMatches<'_>) -> anyhow::Result<u8> {
     let Some(names) = matches.get_strs("SCRIPT") else {
@@ -45,12 +60,16 @@ fn run(rt: &HostRuntime, matches: &ArgMatches<'_>) -> anyhow::Result<u8> {
         !names_input_twice(names),
         "- is standard input, and may stand once"
     );
+    let log = matches.get_str("log");
+    if is_kept(rt, "--log ", log) {
+        return Ok(2);
+    }
     let options = Options {
         explains: matches.get_flag("explain"),
         shows_goals: matches.get_flag("goals"),
         tells_records: matches.get_flag("json"),
     };
-    let answer = match matches.get_str("log") {
+    let answer = match log {
         Some(log) => run_scripts_with_log(rt, names, options, log),
         None => run_scripts(rt, names, options),
     };
@@ -60,6 +79,9 @@ fn run(rt: &HostRuntime, matches: &ArgMatches<'_>) -> anyhow::Result<u8> {
 // `repl`: the status is that of `run`.
 fn repl(rt: &HostRuntime, matches: &ArgMatches<'_>) -> anyhow::Result<u8> {
     let log = matches.get_str("log");
+    if is_kept(rt, "--log ", log) {
+        return Ok(2);
+    }
     let Some(names) = matches.get_strs("SCRIPT") else {
         return Ok(tell(rt, converse_over(rt, &[], log)));
     };
@@ -78,6 +100,15 @@ fn check(rt: &HostRuntime, matches: &ArgMatches<'_>) -> u8 {
         check_file(rt, log)
     };
     tell(rt, answer)
+}
+
+// `migrate`: the status is 0, 3 where the log is refused, or that of a fault.
+fn migrate(rt: &HostRuntime, matches: &ArgMatches<'_>) -> u8 {
+    let new = value(matches, "NEW");
+    if is_kept(rt, "", Some(new)) {
+        return 2;
+    }
+    tell(rt, migrate_file(rt, value(matches, "LOG"), new))
 }
 
 /// Runs the command that words name, of which the first is the program's name, and answers the exit status: 0 where all was
@@ -106,8 +137,7 @@ pub fn run_command(rt: &HostRuntime, words: &[String]) -> anyhow::Result<u8> {
         return Ok(check(rt, asked));
     }
     if let Some(asked) = matches.subcommand_matches("migrate") {
-        let answer = migrate_file(rt, value(asked, "LOG"), value(asked, "NEW"));
-        return Ok(tell(rt, answer));
+        return Ok(migrate(rt, asked));
     }
     // clap has asked for a command.
     Ok(2)

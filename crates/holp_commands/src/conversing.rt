@@ -8,6 +8,7 @@ use crate::laws::logs_are_checked;
 use crate::output::Output;
 use crate::running::create;
 use crate::scripts::open_scripts;
+use crate::words::VERSION;
 use hol_device_adapters::{IntoCall, IntoWrite};
 use hol_host::{Beside, Host};
 use hol_host_samples::{liar, liar2, peel, swap};
@@ -22,6 +23,19 @@ use std::alloc::Global;
 use std::cell::RefCell;
 use std::io::{IsTerminal, Write};
 use std::mem::forget;
+
+// What the commands at a terminal are told to stand in.
+const TERMINAL: &str = "input";
+
+// Tells at a terminal how a conversation goes on and ends.
+fn greet(rt: &HostRuntime, wants_log: bool) {
+    let ending = if wants_log {
+        ", and writes the log"
+    } else {
+        ""
+    };
+    let _ = eprintln!(rt; "holp {VERSION}. Each command ends with `;;`. Ctrl-D ends{ending}.");
+}
 
 // Converses over files that were opened under these names, of which the last is standard input, with the functions of a host, and
 // answers how many of the commands were refused. Goals are laid out on standard output, and messages written to standard error.
@@ -40,6 +54,9 @@ fn converse_with<'a, L: Sink>(
     let view = RefCell::new(View::new(alloc, b"")?);
     let feed = Feed::new(names, opened, Vec::new(alloc));
     let prompts = rt.stdin().is_terminal();
+    if prompts {
+        greet(rt, wants_log);
+    }
     let mut reader = Console::new(rt, host, &host_names, &view, feed, prompts);
     let mut writer = Output::new(rt, &[], Some(&view));
     let ended = converse(alloc, &mut reader, &mut writer, log, wants_log, host)?;
@@ -85,6 +102,10 @@ pub(crate) fn converse_over(
     names.extend_from_slice(scripts)?;
     names.push("-")?;
     let opened = open_scripts(rt, &names, true)?;
+    if rt.stdin().is_terminal() {
+        names.pop();
+        names.push(TERMINAL)?;
+    }
     let Some(log) = log else {
         let mut no_log = IntoWrite::new(Vec::new(alloc));
         return converse_hosted(rt, &names, opened, &mut no_log, false);

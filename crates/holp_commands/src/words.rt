@@ -4,6 +4,9 @@ use clap::{Arg, ArgAction, ArgMatches, Command};
 use hol_model::Fault;
 use std::alloc::Global;
 
+/// The version of the program.
+pub(crate) const VERSION: &str = "0.1.0";
+
 // An argument that names a file.
 fn file_argument<'a>(alloc: Global, name: &'a str, help: &'a str) -> Arg<'a> {
     Arg::new(alloc, name)
@@ -97,7 +100,7 @@ pub(crate) fn command_line<'a>(alloc: Global) -> Result<Command<'a>, Fault> {
         .arg(file_argument(alloc, "NEW", "The file to write"))?;
     Ok(
         Command::new(alloc, "holp")
-            .version("0.1.0")
+            .version(VERSION)
             .about("A theorem prover for higher-order logic")
             .subcommand_required(true)
             .subcommand(run)?

@@ -4,7 +4,8 @@ use hol_script_commands::cut::cut;
 use indexmap::IndexMap;
 use std::alloc::{AllocError, Global};
 
-/// The type of each name that `var` declares with one type alone, and that is no constant of the script; of others, no type.
+/// For each name that `var` declares, the type without which a variable is shown. A constant's name has no type, nor has one that
+/// several commands of a whole script declare with several types.
 #[derive(Drop)]
 pub(crate) struct Declared {
     types: IndexMap<Vec<u8>, Vec<u8>>,
@@ -47,7 +48,7 @@ fn behind_word<'a>(command: &'a [u8], word: &str) -> Option<&'a [u8]> {
 }
 
 impl Declared {
-    /// What the commands of a script declare.
+    /// What the commands of a script declare, none of which is answered yet.
     pub(crate) fn of(alloc: Global, script: &[u8]) -> Result<Declared, AllocError> {
         let mut declared = Declared {
             types: IndexMap::new(alloc),
@@ -57,48 +58,60 @@ impl Declared {
             let Some((command, behind)) = cut(rest) else {
                 break;
             };
-            declared.read(alloc, command)?;
+            declared.read(alloc, command, false)?;
             rest = behind;
         }
         Ok(declared)
     }
 
-    /// Takes up what a command declares.
-    pub(crate) fn read(&mut self, alloc: Global, command: &[u8]) -> Result<(), AllocError> {
+    /// Takes up what a command declares. Where it `replaces`, it is an accepted one, and its type takes the place of the one before.
+    pub(crate) fn read(
+        &mut self,
+        alloc: Global,
+        command: &[u8],
+        replaces: bool,
+    ) -> Result<(), AllocError> {
         if let Some(rest) = behind_word(command, "var") {
-            return self.declare(alloc, rest, b':', true);
+            return self.declare_variable(alloc, rest, replaces);
         }
         if let Some(rest) = behind_word(command, "newconst") {
-            return self.declare(alloc, rest, b':', false);
+            return self.declare_constant(alloc, rest, b':');
         }
         if let Some(rest) = behind_word(command, "def") {
-            return self.declare(alloc, rest, b'=', false);
+            return self.declare_constant(alloc, rest, b'=');
         }
         Ok(())
     }
 
-    // Declares the name before a byte with the type behind it. A name that has another type already, or is a constant, is left
-    // without one.
-    fn declare(
+    // Declares a variable. A name that is a constant's, or whose other type is not replaced, is left without a type.
+    fn declare_variable(
         &mut self,
         alloc: Global,
         text: &[u8],
-        byte: u8,
-        is_variable: bool,
+        replaces: bool,
     ) -> Result<(), AllocError> {
-        let Some((name, ty)) = split_at_byte(text, byte) else {
+        let Some((name, ty)) = split_at_byte(text, b':') else {
             return Ok(());
         };
         let name = without_spaces(alloc, name)?;
         let mut ty = without_spaces(alloc, ty)?;
-        let is_other = match self.types.get(name.as_slice()) {
-            Some(known) => known.as_slice() != ty.as_slice(),
+        let stays = match self.types.get(name.as_slice()) {
+            Some(known) => known.is_empty() || (!replaces && known.as_slice() != ty.as_slice()),
             None => false,
         };
-        if is_other || !is_variable {
+        if stays {
             ty.clear();
         }
         self.types.insert(name, ty)?;
+        Ok(())
+    }
+
+    // Leaves the name before a byte without a type.
+    fn declare_constant(&mut self, alloc: Global, text: &[u8], byte: u8) -> Result<(), AllocError> {
+        if let Some((name, _)) = split_at_byte(text, byte) {
+            let name = without_spaces(alloc, name)?;
+            self.types.insert(name, Vec::new(alloc))?;
+        }
         Ok(())
     }
 

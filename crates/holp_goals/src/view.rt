@@ -15,8 +15,11 @@ pub struct View {
     declared: Declared,
     // The front of the line that has begun.
     line: Vec<u8>,
-    // How many of the next lines are goals.
+    // How many of the next lines are goals, and those that were read before these.
     goals: usize,
+    open: Vec<Vec<u8>>,
+    // Whether the command that was answered last was refused.
+    is_refused: bool,
 }
 
 // How many goals stand behind this line.
@@ -34,6 +37,11 @@ fn goals_behind(line: &[u8]) -> usize {
         },
         None => 0,
     }
+}
+
+// Whether a line that is no goal tells of a refused command, `line N: En Name`: a name of a theorem has no space.
+fn is_refusal(line: &[u8]) -> bool {
+    line.starts_with(b"line ")
 }
 
 // Whether a byte may stand in a name.
@@ -110,12 +118,17 @@ impl View {
             declared: Declared::of(alloc, script)?,
             line: Vec::new(alloc),
             goals: 0,
+            open: Vec::new(alloc),
+            is_refused: false,
         })
     }
 
-    /// Takes up what a further command of the script declares.
+    /// Takes up what a further command of the script declares, whose whole answer was read just now.
     pub fn learn(&mut self, alloc: Global, command: &[u8]) -> Result<(), AllocError> {
-        self.declared.read(alloc, command)
+        if replace(&mut self.is_refused, false) {
+            return Ok(());
+        }
+        self.declared.read(alloc, command, true)
     }
 
     // Puts a formula at the end, without the types of variables that are declared with them.
@@ -218,19 +231,45 @@ impl View {
         Ok(())
     }
 
-    // Puts what is shown of a line at the end of a text.
+    // Puts open goals at the end of a text, the first of them last, each behind its number where there are several.
+    fn push_goals(
+        &self,
+        alloc: Global,
+        goals: &[Vec<u8>],
+        out: &mut Vec<u8>,
+    ) -> Result<(), AllocError> {
+        for before in 0..goals.len() {
+            let number = goals.len() - before;
+            if goals.len() > 1 {
+                let mut digits = Buffer::new();
+                out.extend_from_slice(b"subgoal ")?;
+                out.extend_from_slice(digits.format(number).as_bytes())?;
+                out.extend_from_slice(b":\n")?;
+            }
+            self.push_goal(alloc, &goals[number - 1], out)?;
+        }
+        Ok(())
+    }
+
+    // Puts what is shown of a line at the end of a text: of open goals, once the last of them is read.
     fn push_line(
         &mut self,
         alloc: Global,
-        line: &[u8],
+        line: Vec<u8>,
         out: &mut Vec<u8>,
     ) -> Result<(), AllocError> {
         if self.goals > 0 {
             self.goals -= 1;
-            return self.push_goal(alloc, line, out);
+            self.open.push(line)?;
+            if self.goals > 0 {
+                return Ok(());
+            }
+            let open = replace(&mut self.open, Vec::new(alloc));
+            return self.push_goals(alloc, &open, out);
         }
-        self.goals = goals_behind(line);
-        out.extend_from_slice(line)?;
+        self.goals = goals_behind(&line);
+        self.is_refused = is_refusal(&line);
+        out.extend_from_slice(&line)?;
         out.push(b'\n')?;
         Ok(())
     }
@@ -245,7 +284,7 @@ impl View {
         for byte in bytes {
             if *byte == b'\n' {
                 let line = replace(&mut self.line, Vec::new(alloc));
-                self.push_line(alloc, &line, out)?;
+                self.push_line(alloc, line, out)?;
             } else {
                 self.line.push(*byte)?;
             }
