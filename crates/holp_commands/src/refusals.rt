@@ -78,29 +78,3 @@ impl Refusals<'_> {
         }
     }
 }
-
-#[cfg(test)]
-mod tests {
-    use super::*;
-
-    // Whether this is told of a line of output.
-    fn tells(output: &str, line: usize, number: &str, name: &str) -> bool {
-        match refusal_in(output) {
-            Some(told) => told.line == line && told.number == number && told.name == name,
-            None => false,
-        }
-    }
-
-    #[test]
-    fn refusals_are_found(rt: HostRuntime) {
-        assert!(rt; tells("line 3: E16 BadShape", 3, "E16", "BadShape"));
-        let with_row = "line 12: E26 NotTautology (p:bool)=T, (q:bool)=F";
-        assert!(rt; tells(with_row, 12, "E26", "NotTautology"));
-    }
-
-    #[test]
-    fn other_lines_are_passed_over(rt: HostRuntime) {
-        assert!(rt; refusal_in("line: |- (x:bool) <=> (x:bool)").is_none());
-        assert!(rt; refusal_in("line zero ?- line zero").is_none());
-    }
-}
