@@ -1,11 +1,17 @@
 #!/usr/bin/env python3
-"""judge.py ROOT CRATE [EDIT..]: judges the crate's must-fail edits as the gate does, over the work that its checks kept"""
+"""judge.py ROOT CRATE [NAME..]: judges the crate's wrong bodies, those that the gate tries (.edit) and the others (.md) alike, over the work
+that its checks kept. Status 1: one was not refused."""
+import glob
 import os
 import sys
 
 from rtkit import crates, rt
 
 crate = next(it for it in crates(os.path.realpath(sys.argv[1])) if it.name == sys.argv[2])
-for edit in rt.edits_of(crate)[0]:
-    if not sys.argv[3:] or os.path.basename(edit)[:-5] in sys.argv[3:]:
-        print(*rt.must_fail(crate, edit, ["--jobs", "1"], f"{crate.folder}/out/incremental"), flush=True)
+missed = False
+for edit in sorted(glob.glob(f"{crate.folder}/must-fail/*")):
+    if not sys.argv[3:] or os.path.splitext(os.path.basename(edit))[0] in sys.argv[3:]:
+        came_to, said = rt.must_fail(crate, edit, ["--jobs", "1"], f"{crate.folder}/out/incremental")
+        missed = missed or came_to not in (rt.REFUSED, rt.AT_LIMIT)
+        print(said, flush=True)
+sys.exit(missed)
