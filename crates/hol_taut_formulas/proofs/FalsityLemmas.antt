@@ -9,20 +9,28 @@ use Rattle.hol_model.specs.declared.limits.TheConstants.{ATOMS_LIMIT}
 use Rattle.hol_model.specs.Terms.NamedTerm.{NamedTerm}
 use Rattle.hol_model.specs.Propositional.Propositions.{atoms_of}
 use Rattle.hol_model.specs.Propositional.Tautologies.{rows, is_true_in, falsifying_row, row_in_full, falsity_of}
-use Rattle.hol_taut_formulas.proofs.Rows.{first_after}
+use Rattle.hol_taut_formulas.specs.declared.numbered.Numbered.{Numbered}
+use Rattle.hol_taut_formulas.specs.NumberedFormulas.{is_true_at}
+use Rattle.hol_taut_formulas.specs.FalseRows.{first_falsity}
 
 option_map-itself : {A : Type 0} (x : Option A) → option_map (λ y. y) x ≡ x
 option_map-itself (Some x) = refl
 option_map-itself None = refl
 
--- the row that is found from no values
-pub row-found : (term : NamedTerm) (atoms : List NamedTerm) (found : Option (List Bool)) → atoms ≡ atoms_of term
-    → found ≡ first_after (λ values. not (is_true_in atoms term values)) [] (length atoms - length {A = Bool} []) → found ≡ falsifying_row term
-row-found term atoms found is first =
+-- the row that is found among those of no values
+pub found-of-numbers : (term : NamedTerm) (atoms : List NamedTerm) (formula : Numbered) (found : Option (List Bool))
+    → ((row : List Bool) → is_true_at row formula ≡ is_true_in atoms term row) → found ≡ first_falsity (length atoms) formula []
+    → found ≡ find (λ row. not (is_true_in atoms term row)) (rows (length atoms))
+found-of-numbers term atoms formula found means first =
     let all : length atoms - length {A = Bool} [] ≡ length atoms = omega arith in
-    first ∙ option_map-itself (find (λ row. not (is_true_in atoms term row)) (rows (length atoms - length {A = Bool} [])))
-    ∙ ap (λ n. find (λ row. not (is_true_in atoms term row)) (rows n)) all
-    ∙ ap (λ some. find (λ row. not (is_true_in some term row)) (rows (length some))) is
+    first ∙ option_map-itself (find (λ row. not (is_true_at row formula)) (rows (length atoms - length {A = Bool} [])))
+    ∙ ap (λ n. find (λ row. not (is_true_at row formula)) (rows n)) all
+    ∙ (λ i. find (λ row. not (means row i)) (rows (length atoms)))
+
+-- the row that is found, where the atoms are the formula's
+pub row-found : (term : NamedTerm) (atoms : List NamedTerm) (found : Option (List Bool)) → atoms ≡ atoms_of term
+    → found ≡ find (λ row. not (is_true_in atoms term row)) (rows (length atoms)) → found ≡ falsifying_row term
+row-found term atoms found is first = first ∙ ap (λ some. find (λ row. not (is_true_in some term row)) (rows (length some))) is
 
 many : (n : ℕ) → ATOMS_LIMIT + 1 ≤ n → nat_le n ATOMS_LIMIT ≡ false
 many n over = grind (arith, nat_tests)

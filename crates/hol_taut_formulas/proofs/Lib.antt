@@ -5,3 +5,4 @@ pub mod Rows
 mod RowWords
 mod FalsityLemmas
 mod FewTerms
+mod Places

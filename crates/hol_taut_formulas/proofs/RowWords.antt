@@ -1,7 +1,7 @@
 -- Rows as the bits of words.
 use Rattle.std.proofs.Common.{◌⊎◌, ◌*◌, ◌%◌, inl, inr, w64, ◌≡◌, ℕ, zero, suc, ◌<◌, ◌≤◌, ◌+◌, ◌-◌, ◌^◌, List, []}
-use Rattle.std.proofs.Common.{◌∷◌, ◌++◌, Bool, true, false, not, Some, None, map, drop, refl, sym, ◌∙◌, ap, ap₂, arith, if◌then◌else◌}
-use Rattle.std.specs.Prelude.{nat_eq}
+use Rattle.std.proofs.Common.{◌∷◌, ◌++◌, Bool, true, false, not, Some, None, map, drop, refl, sym, ◌∙◌, ap, ap₂, arith}
+use Rattle.std.specs.Prelude.{nat_eq, get_or}
 use lib.Count
 use Rattle.std.specs.Int.{trailing_ones}
 use Rattle.std.proofs.lemmas.Bool.{cases_lt}
@@ -9,11 +9,10 @@ use Rattle.std.proofs.lemmas.List.{map-append}
 use Rattle.std.proofs.lemmas.Nat.Bits.{bit_at-trailing_ones}
 use Rattle.std.specs.Option.{option_map}
 use Rattle.std.specs.List.{find, range_with_len}
-use Rattle.hol_model.specs.Terms.NamedTerm.{NamedTerm}
-use Rattle.hol_model.specs.Propositional.Propositions.{proposition, is_true_by}
-use Rattle.hol_model.specs.Kernel.Theorem.{are_alpha_equivalent}
-use Rattle.hol_model.specs.Propositional.Tautologies.{rows, value_in, is_true_in}
-use Rattle.hol_taut_formulas.specs.Words.{is_set, column_of, in_each_row}
+use Rattle.hol_model.specs.Propositional.Tautologies.{rows}
+use Rattle.hol_taut_formulas.specs.declared.numbered.Numbered.{Numbered}
+use Rattle.hol_taut_formulas.specs.NumberedFormulas.{truth_of, is_true_at}
+use Rattle.hol_taut_formulas.specs.Words.{is_set, in_each_row}
 use Rattle.hol_taut_formulas.specs.declared.decision.TheConstants.{MASKS}
 use Rattle.hol_taut_formulas.proofs.Bits.{is_set_all, is_set_none}
 use Rattle.hol_taut_formulas.proofs.Rows.{find-map, option_map-twice, find-none, find-first, first_after}
@@ -54,16 +53,11 @@ few_rows (suc (suc (suc (suc (suc (suc (suc n))))))) few = absurd (omega arith)
 
 -- ---- the values in a row
 
--- the value of an atom in a row is the bit of its word
-bit_of_column : (atoms : List NamedTerm) (columns : List ℕ) (b : ℕ) (term : NamedTerm) → is_set b (column_of atoms columns term) ≡ value_in atoms (map (is_set b) columns) term
-bit_of_column [] columns b term = is_set_none b
-bit_of_column (first ∷ atoms) [] b term = is_set_none b
-bit_of_column (first ∷ atoms) (column ∷ columns) b term = by (are_alpha_equivalent first term) (bit_of_column atoms columns b term)
-  where
-    by : (test : Bool) → is_set b (column_of atoms columns term) ≡ value_in atoms (map (is_set b) columns) term
-        → is_set b (if test then column else column_of atoms columns term) ≡ (if test then is_set b column else value_in atoms (map (is_set b) columns) term)
-    by true rest = refl
-    by false rest = rest
+-- the value at a place in a row is the bit of the word there
+bit_of_place : (columns : List ℕ) (b place : ℕ) → is_set b (get_or columns place 0) ≡ get_or (map (is_set b) columns) place false
+bit_of_place [] b place = is_set_none b
+bit_of_place (column ∷ columns) b zero = refl
+bit_of_place (column ∷ columns) b (suc place) = bit_of_place columns b place
 
 bit_in_each_row : (b : ℕ) → b < 64 → (row : List Bool) → map (is_set b) (map in_each_row row) ≡ row
 bit_in_each_row b within [] = refl
@@ -78,15 +72,15 @@ pub row_of_words : (row : List Bool) (n b : ℕ) → b < 64 → map (is_set b) (
 row_of_words row n b within = map-append (is_set b) (map in_each_row row) (drop (6 - n) MASKS) ∙ ap (λ values. values ++ mask_row n b) (bit_in_each_row b within row)
 
 -- a word has the values of a formula in 64 rows
-pub record HasValues (atoms : List NamedTerm) (term : NamedTerm) (columns : List ℕ) (word : ℕ) : Type 0 where
+pub record HasValues (formula : Numbered) (columns : List ℕ) (word : ℕ) : Type 0 where
   pub fits : word < 2 ^ 64
-  pub bits : (b : ℕ) → b < 64 → is_set b word ≡ is_true_by (λ atom. is_set b (column_of atoms columns atom)) (proposition term)
+  pub bits : (b : ℕ) → b < 64 → is_set b word ≡ truth_of (λ place. is_set b (get_or columns place 0)) formula
 
-value_of_bit : (atoms : List NamedTerm) (term : NamedTerm) (row : List Bool) (n word b : ℕ) → HasValues atoms term (words row n) word → b < 64
-    → is_true_in atoms term (row ++ mask_row n b) ≡ is_set b word
-value_of_bit atoms term row n word b has within =
-    ap (λ values. is_true_by (value_in atoms values) (proposition term)) (sym (row_of_words row n b within))
-    ∙ (λ i. is_true_by (λ atom. sym (bit_of_column atoms (words row n) b atom) i) (proposition term))
+value_of_bit : (formula : Numbered) (row : List Bool) (n word b : ℕ) → HasValues formula (words row n) word → b < 64
+    → is_true_at (row ++ mask_row n b) formula ≡ is_set b word
+value_of_bit formula row n word b has within =
+    ap (λ values. is_true_at values formula) (sym (row_of_words row n b within))
+    ∙ (λ i. truth_of (λ place. sym (bit_of_place (words row n) b place) i) formula)
     ∙ sym (has.bits b within)
 
 -- ---- the first row
@@ -109,29 +103,29 @@ zero_at word fits within = go (cases_lt (word + 1) (2 ^ 64))
         let none : trailing_ones w64 word ≡ 64 = ap (trailing_ones w64) same in
         absurd (omega (arith, none))
 
-search_in_word : (atoms : List NamedTerm) (term : NamedTerm) (row : List Bool) (n : ℕ) → n ≤ 6
-    → first_after (λ values. not (is_true_in atoms term values)) row n
-    ≡ option_map (λ b. row ++ mask_row n b) (find (λ b. not (is_true_in atoms term (row ++ mask_row n b))) (range_with_len 0 (2 ^ n)))
-search_in_word atoms term row n few =
-    ap (λ all. option_map (λ rest. row ++ rest) (find (λ rest. not (is_true_in atoms term (row ++ rest))) all)) (rows_are_bits n few)
-    ∙ ap (λ o. option_map (λ rest. row ++ rest) o) (find-map (λ rest. not (is_true_in atoms term (row ++ rest))) (mask_row n) (range_with_len 0 (2 ^ n)))
-    ∙ option_map-twice (λ rest. row ++ rest) (mask_row n) (find (λ b. not (is_true_in atoms term (row ++ mask_row n b))) (range_with_len 0 (2 ^ n)))
+search_in_word : (formula : Numbered) (row : List Bool) (n : ℕ) → n ≤ 6
+    → first_after (λ values. not (is_true_at values formula)) row n
+    ≡ option_map (λ b. row ++ mask_row n b) (find (λ b. not (is_true_at (row ++ mask_row n b) formula)) (range_with_len 0 (2 ^ n)))
+search_in_word formula row n few =
+    ap (λ all. option_map (λ rest. row ++ rest) (find (λ rest. not (is_true_at (row ++ rest) formula)) all)) (rows_are_bits n few)
+    ∙ ap (λ o. option_map (λ rest. row ++ rest) o) (find-map (λ rest. not (is_true_at (row ++ rest) formula)) (mask_row n) (range_with_len 0 (2 ^ n)))
+    ∙ option_map-twice (λ rest. row ++ rest) (mask_row n) (find (λ b. not (is_true_at (row ++ mask_row n b) formula)) (range_with_len 0 (2 ^ n)))
 
-pub none_in_word : (atoms : List NamedTerm) (term : NamedTerm) (row : List Bool) (n word : ℕ) → n ≤ 6 → HasValues atoms term (words row n) word
-    → 2 ^ n ≤ trailing_ones w64 word → None ≡ first_after (λ values. not (is_true_in atoms term values)) row n
-none_in_word atoms term row n word few has past =
-    sym (search_in_word atoms term row n few
-    ∙ ap (λ o. option_map (λ b. row ++ mask_row n b) o) (find-none (λ b. not (is_true_in atoms term (row ++ mask_row n b))) 0 (2 ^ n) (λ i within.
+pub none_in_word : (formula : Numbered) (row : List Bool) (n word : ℕ) → n ≤ 6 → HasValues formula (words row n) word
+    → 2 ^ n ≤ trailing_ones w64 word → None ≡ first_after (λ values. not (is_true_at values formula)) row n
+none_in_word formula row n word few has past =
+    sym (search_in_word formula row n few
+    ∙ ap (λ o. option_map (λ b. row ++ mask_row n b) o) (find-none (λ b. not (is_true_at (row ++ mask_row n b) formula)) 0 (2 ^ n) (λ i within.
     let below : i < 64 = omega (arith, few_rows n few, within) in
-    ap not (value_of_bit atoms term row n word i has below ∙ ones_before word i has.fits (omega (arith, within, past)) below))))
+    ap not (value_of_bit formula row n word i has below ∙ ones_before word i has.fits (omega (arith, within, past)) below))))
 
-pub first_in_word : (atoms : List NamedTerm) (term : NamedTerm) (row : List Bool) (n word : ℕ) → n ≤ 6 → HasValues atoms term (words row n) word
-    → trailing_ones w64 word < 2 ^ n → Some (map (is_set (trailing_ones w64 word)) (words row n)) ≡ first_after (λ values. not (is_true_in atoms term values)) row n
-first_in_word atoms term row n word few has within =
+pub first_in_word : (formula : Numbered) (row : List Bool) (n word : ℕ) → n ≤ 6 → HasValues formula (words row n) word
+    → trailing_ones w64 word < 2 ^ n → Some (map (is_set (trailing_ones w64 word)) (words row n)) ≡ first_after (λ values. not (is_true_at values formula)) row n
+first_in_word formula row n word few has within =
     let place = trailing_ones w64 word in
     let below : place < 64 = omega (arith, few_rows n few, within) in
     ap (λ values. Some values) (row_of_words row n place below)
-    ∙ sym (search_in_word atoms term row n few
-    ∙ ap (λ o. option_map (λ b. row ++ mask_row n b) o) (find-first (λ b. not (is_true_in atoms term (row ++ mask_row n b))) 0 (2 ^ n) place (omega arith) (omega (arith, within))
-    (ap not (value_of_bit atoms term row n word place has below ∙ zero_at word has.fits below))
-    (λ i before. ap not (value_of_bit atoms term row n word i has (omega (arith, before, below)) ∙ ones_before word i has.fits before (omega (arith, before, below))))))
+    ∙ sym (search_in_word formula row n few
+    ∙ ap (λ o. option_map (λ b. row ++ mask_row n b) o) (find-first (λ b. not (is_true_at (row ++ mask_row n b) formula)) 0 (2 ^ n) place (omega arith) (omega (arith, within))
+    (ap not (value_of_bit formula row n word place has below ∙ zero_at word has.fits below))
+    (λ i before. ap not (value_of_bit formula row n word i has (omega (arith, before, below)) ∙ ones_before word i has.fits before (omega (arith, before, below))))))

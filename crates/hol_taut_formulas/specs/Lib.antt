@@ -1,4 +1,5 @@
 pub mod FalseRows
 pub mod Forms
 pub mod Words
+pub mod NumberedFormulas
 pub mod FewTerms

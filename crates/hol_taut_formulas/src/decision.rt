@@ -8,9 +8,9 @@ ghost use Rattle.hol_taut_formulas.specs.FalseRows.{first_falsity};
 ghost use Rattle.hol_taut_formulas.specs.Words as spec;
 ghost use Rattle.hol_taut_formulas.specs.Words.{in_each_row};
 
+use crate::numbered::Numbered;
 use crate::values::values;
 use hol_model::Fault;
-use hol_terms::Term;
 use std::alloc::Global;
 
 // How many values a word tells the rows of.
@@ -26,27 +26,27 @@ const MASKS: [u64; 6] = [
     0x5555_5555_5555_5555,
 ];
 
-/// The first row in which a formula is false, among those that begin with these values of the first atoms.
+/// The first row of so many values in which a formula is false, among those that begin with these.
 pub(crate) fn first_false(
     alloc: Global,
-    term: &Term,
-    atoms: &[Term],
+    formula: &Numbered,
+    count: usize,
     row: &[bool],
 ) -> Result<Option<Vec<bool>>, Fault>
-    requires { length row.now ≤ length atoms.now }
-    ensures ok { IfOk result (λ found. option_map (λ values. values.items) found ≡ first_falsity atoms.now term.now row.now) }
+    requires { length row.now ≤ count }
+    ensures ok { IfOk result (λ found. option_map (λ values. values.items) found ≡ first_falsity count formula.now row.now) }
     ensures err { IfErr result (λ fault. fault ≡ Memory) }
 {
-    if atoms.len() - row.len() <= WORD_VALUES {
-        return first_false_in_word(alloc, term, atoms, row);
+    if count - row.len() <= WORD_VALUES {
+        return first_false_in_word(alloc, formula, count, row);
     }
     let with_true = with_value(alloc, row, true)?;
-    let found = first_false(alloc, term, atoms, &with_true)?;
+    let found = first_false(alloc, formula, count, &with_true)?;
     if found.is_some() {
         return Ok(found);
     }
     let with_false = with_value(alloc, row, false)?;
-    first_false(alloc, term, atoms, &with_false)
+    first_false(alloc, formula, count, &with_false)
 }
 
 // The values of a row, and one more.
@@ -63,18 +63,18 @@ fn with_value(alloc: Global, row: &[bool], value: bool) -> Result<Vec<bool>, Fau
 // The same, where a word tells all these rows.
 fn first_false_in_word(
     alloc: Global,
-    term: &Term,
-    atoms: &[Term],
+    formula: &Numbered,
+    count: usize,
     row: &[bool],
 ) -> Result<Option<Vec<bool>>, Fault>
-    requires known { length row.now ≤ length atoms.now }
-    requires few { length atoms.now - length row.now ≤ 6 }
-    ensures ok { IfOk result (λ found. option_map (λ values. values.items) found ≡ first_falsity atoms.now term.now row.now) }
+    requires known { length row.now ≤ count }
+    requires few { count - length row.now ≤ 6 }
+    ensures ok { IfOk result (λ found. option_map (λ values. values.items) found ≡ first_falsity count formula.now row.now) }
     ensures err { IfErr result (λ fault. fault ≡ Memory) }
 {
-    let left = atoms.len() - row.len();
+    let left = count - row.len();
     let columns = columns(alloc, row, left)?;
-    let word = values(term, atoms, &columns);
+    let word = values(formula, &columns);
     let place = word.trailing_ones();
     if place >= 1 << left {
         return Ok(None);

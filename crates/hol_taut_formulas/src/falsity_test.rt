@@ -1,10 +1,14 @@
 // The refusal of a formula that is no tautology.
-ghost use Rattle.std.specs.Prelude.{◌≡◌, get_or, false};
+ghost use Rattle.std.specs.Prelude.{◌≡◌, get_or, length, not, false, IfOk, IfErr};
+ghost use Rattle.std.specs.List.{find};
+ghost use Rattle.std.specs.Option.{option_map};
+ghost use Rattle.hol_model.specs.declared.fault.Fault.TheVariants.{Memory};
 ghost use Rattle.hol_model.specs.Kernel.Outcome.{AnswersSuch};
 ghost use Rattle.hol_model.specs.Propositional.Propositions.{atoms_of};
-ghost use Rattle.hol_model.specs.Propositional.Tautologies.{falsity_of, row_in_full};
+ghost use Rattle.hol_model.specs.Propositional.Tautologies.{falsity_of, is_true_in, row_in_full, rows};
 
 use crate::decision::first_false;
+use crate::numbered::numbered_formula;
 use crate::occurrences::add_few_atoms;
 use hol_model::{ATOMS_LIMIT, Fault};
 use hol_terms::Term;
@@ -19,13 +23,22 @@ pub fn atoms_of_tautology(alloc: Global, term: &Term) -> Result<Vec<Term>, Fault
     if !add_few_atoms(alloc, term, &mut atoms)? {
         return Err(Fault::TooManyAtoms);
     }
-    match first_false(alloc, term, &atoms, &[])? {
+    match first_falsity(alloc, term, &atoms)? {
         Some(row) => Err(Fault::NotTautology {
             atoms: atoms.len(),
             row: in_full(&row),
         }),
         None => Ok(atoms),
     }
+}
+
+// The first row of values of these atoms in which a formula is false.
+fn first_falsity(alloc: Global, term: &Term, atoms: &[Term]) -> Result<Option<Vec<bool>>, Fault>
+    ensures ok { IfOk result (λ found. option_map (λ values. values.items) found ≡ find (λ row. not (is_true_in atoms.now term.now row)) (rows (length atoms.now))) }
+    ensures err { IfErr result (λ fault. fault ≡ Memory) }
+{
+    let formula = numbered_formula(alloc, term, atoms)?;
+    first_false(alloc, &formula, atoms.len(), &[])
 }
 
 // The values of a row, and then `false`.

@@ -5,6 +5,7 @@ mod connective;
 mod decision;
 mod falsity_test;
 mod form;
+mod numbered;
 mod occurrences;
 mod values;
 
