@@ -24,6 +24,8 @@ use Rattle.hol_taut_laws.specs.declared.law.Law.{Law}
 use Rattle.hol_taut_laws.specs.declared.stored.Laws.{Laws}
 use Rattle.hol_taut_laws.proofs.LawLemmas.{laws-stay}
 use Rattle.hol_taut.specs.LawSteps.{LeadsTo}
+use Rattle.hol_equal.proofs.StepLemmas.{still_made, now_made}
+use Rattle.hol_taut_chains.proofs.ChainLemmas.{continued_twice}
 
 -- the laws stay
 pub still_lawful : (old new : Journal) (result : Result Recorded Fault) (laws : Laws) → Continues old new result → HasLaws old laws → HasLaws new laws
@@ -79,3 +81,6 @@ leads-p_q theory law hypothesis conclusion a b terms there small one two terms_a
       premise_fits = from_fits;
       conclusion_fits = to_fits;
     })
+
+-- for calls of the recorder one after another
+pub ruleset in_a_row = (still_made, now_made, continued_twice, still_lawful)

@@ -65,7 +65,7 @@ fn rest(recorder: &mut Recorder, alloc: Global, laws: &Laws, shortest: &Rec) -> 
 }
 
 // The formula, from its equivalence with what is left of it.
-#[tactic(auto, using(hol_equal::proofs::StepLemmas::still_made, hol_equal::proofs::StepLemmas::now_made, hol_taut_chains::proofs::ChainLemmas::continued_twice, crate::proofs::LawLemmas::still_lawful))]
+#[tactic(auto, using(crate::proofs::LawLemmas::in_a_row))]
 fn from_rest(
     recorder: &mut Recorder,
     alloc: Global,
@@ -88,7 +88,7 @@ fn from_rest(
 }
 
 // A formula, by these laws.
-#[tactic(auto, using(hol_equal::proofs::StepLemmas::still_made, hol_equal::proofs::StepLemmas::now_made, hol_taut_chains::proofs::ChainLemmas::continued_twice, crate::proofs::LawLemmas::still_lawful))]
+#[tactic(auto, using(crate::proofs::LawLemmas::in_a_row))]
 fn by_chain_laws(
     recorder: &mut Recorder,
     alloc: Global,
@@ -161,7 +161,7 @@ fn by_normal_form(
 }
 
 // The laws by which negations are taken out of chains.
-#[tactic(auto, using(hol_equal::proofs::StepLemmas::still_made, hol_equal::proofs::StepLemmas::now_made, hol_taut_chains::proofs::ChainLemmas::continued_twice, crate::proofs::LawLemmas::still_lawful))]
+#[tactic(auto, using(crate::proofs::LawLemmas::in_a_row))]
 fn without_negated(
     recorder: &mut Recorder,
     alloc: Global,
@@ -187,7 +187,7 @@ fn without_negated(
 }
 
 // From `formula <=> rest`, the formula, by the rest's normal form.
-#[tactic(auto, using(hol_equal::proofs::StepLemmas::still_made, hol_equal::proofs::StepLemmas::now_made, hol_taut_chains::proofs::ChainLemmas::continued_twice, crate::proofs::LawLemmas::still_lawful))]
+#[tactic(auto, using(crate::proofs::LawLemmas::in_a_row))]
 fn from_positive(
     recorder: &mut Recorder,
     alloc: Global,

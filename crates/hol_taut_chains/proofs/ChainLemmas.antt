@@ -3,7 +3,7 @@ use Rattle.hol_model.specs.declared.fault.Fault.{Fault}
 use Rattle.std.specs.Prelude.{Result}
 use Rattle.hol_journal.specs.Journal.{Journal, Recorded}
 use Rattle.hol_equal.specs.Sequents.{Continues}
-use Rattle.hol_equal.proofs.StepLemmas.{continues-twice, still_made}
+use Rattle.hol_equal.proofs.StepLemmas.{continues-twice, still_made, now_made}
 use Rattle.hol_taut_chains.specs.Chains.{HasChainLaws}
 use Rattle.hol_taut_chains.specs.Negations.{HasNegationLaws}
 use Rattle.hol_taut_chains.specs.declared.negations.NegationLaws.{NegationLaws}
@@ -26,3 +26,6 @@ still_negation_laws old new result laws continues has = record {
   right = still_made old new result laws.right continues has.right;
   twice = still_made old new result laws.twice continues has.twice;
 }
+
+-- for calls of the recorder one after another
+pub ruleset in_a_row = (still_made, now_made, continued_twice, still_chain_laws)

@@ -49,7 +49,7 @@ fn without_both(
 }
 
 // From `rest <=> part <=> shorter`, `(part <=> rest) <=> shorter`.
-#[tactic(auto, using(hol_equal::proofs::StepLemmas::still_made, hol_equal::proofs::StepLemmas::now_made, crate::proofs::ChainLemmas::continued_twice, crate::proofs::ChainLemmas::still_chain_laws))]
+#[tactic(auto, using(crate::proofs::ChainLemmas::in_a_row))]
 fn paired(
     recorder: &mut Recorder,
     alloc: Global,
@@ -77,7 +77,7 @@ fn paired(
 }
 
 // `chain <=> shorter`, where the part stands at two places of the chain.
-#[tactic(auto, using(hol_equal::proofs::StepLemmas::still_made, hol_equal::proofs::StepLemmas::now_made, crate::proofs::ChainLemmas::continued_twice, crate::proofs::ChainLemmas::still_chain_laws))]
+#[tactic(auto, using(crate::proofs::ChainLemmas::in_a_row))]
 fn without_pair(
     recorder: &mut Recorder,
     alloc: Global,
@@ -128,7 +128,7 @@ fn next_pair<'a>(recorder: &Recorder, shorter: &'a Rec) -> Option<(&'a Term, &'a
 }
 
 /// `chain <=> shortest`, for a part at two places of the chain, and after it for so many more.
-#[tactic(auto, using(hol_equal::proofs::StepLemmas::still_made, hol_equal::proofs::StepLemmas::now_made, crate::proofs::ChainLemmas::continued_twice, crate::proofs::ChainLemmas::still_chain_laws))]
+#[tactic(auto, using(crate::proofs::ChainLemmas::in_a_row))]
 pub(crate) fn without_pairs(
     recorder: &mut Recorder,
     alloc: Global,

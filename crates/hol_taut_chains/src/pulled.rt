@@ -72,7 +72,7 @@ fn exchanged(
 }
 
 // From `right <=> part <=> rest`, `(left <=> right) <=> (part <=> left <=> rest)`.
-#[tactic(auto, using(hol_equal::proofs::StepLemmas::still_made, hol_equal::proofs::StepLemmas::now_made, crate::proofs::ChainLemmas::continued_twice, crate::proofs::ChainLemmas::still_chain_laws))]
+#[tactic(auto, using(crate::proofs::ChainLemmas::in_a_row))]
 fn carried(
     recorder: &mut Recorder,
     alloc: Global,
@@ -100,7 +100,7 @@ fn carried(
 }
 
 // From `left <=> part <=> rest`, `(left <=> right) <=> (part <=> right <=> rest)`.
-#[tactic(auto, using(hol_equal::proofs::StepLemmas::still_made, hol_equal::proofs::StepLemmas::now_made, crate::proofs::ChainLemmas::continued_twice, crate::proofs::ChainLemmas::still_chain_laws))]
+#[tactic(auto, using(crate::proofs::ChainLemmas::in_a_row))]
 fn turned(
     recorder: &mut Recorder,
     alloc: Global,
@@ -125,7 +125,7 @@ fn turned(
 }
 
 /// `chain <=> part <=> rest`, for a part of the chain.
-#[tactic(auto, using(hol_equal::proofs::StepLemmas::still_made, hol_equal::proofs::StepLemmas::now_made, crate::proofs::ChainLemmas::continued_twice, crate::proofs::ChainLemmas::still_chain_laws))]
+#[tactic(auto, using(crate::proofs::ChainLemmas::in_a_row))]
 pub(crate) fn pulled(
     recorder: &mut Recorder,
     alloc: Global,

@@ -64,7 +64,7 @@ fn is_normal(whole: &Term, chain: &Term) -> bool {
 }
 
 // `chain <=> sorted`, where it has at most so many parts.
-#[tactic(auto, using(hol_equal::proofs::StepLemmas::still_made, hol_equal::proofs::StepLemmas::now_made, crate::proofs::ChainLemmas::continued_twice, crate::proofs::ChainLemmas::still_chain_laws))]
+#[tactic(auto, using(crate::proofs::ChainLemmas::in_a_row))]
 fn sorted(
     recorder: &mut Recorder,
     alloc: Global,
@@ -97,7 +97,7 @@ fn sorted(
 }
 
 // From `chain <=> shortest`, `chain <=> sorted`.
-#[tactic(auto, using(hol_equal::proofs::StepLemmas::still_made, hol_equal::proofs::StepLemmas::now_made, crate::proofs::ChainLemmas::continued_twice, crate::proofs::ChainLemmas::still_chain_laws))]
+#[tactic(auto, using(crate::proofs::ChainLemmas::in_a_row))]
 fn sorted_behind(
     recorder: &mut Recorder,
     alloc: Global,
@@ -120,7 +120,7 @@ fn sorted_behind(
 }
 
 /// `chain <=> normal`: without the pairs of its parts, and those that are left in the order of the whole.
-#[tactic(auto, using(hol_equal::proofs::StepLemmas::still_made, hol_equal::proofs::StepLemmas::now_made, crate::proofs::ChainLemmas::continued_twice, crate::proofs::ChainLemmas::still_chain_laws))]
+#[tactic(auto, using(crate::proofs::ChainLemmas::in_a_row))]
 pub(crate) fn normal_chain(
     recorder: &mut Recorder,
     alloc: Global,
