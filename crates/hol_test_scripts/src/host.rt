@@ -1,78 +1,31 @@
-// Scripts as data, and what their runs write.
-use hol_device_adapters::{FromRead, IntoWrite};
-use hol_host::{Host, NoHost};
+// The host of the rows.
+use hol_host::Host;
 use hol_host_samples::{liar, liar2, peel, swap};
 use hol_just::Goal;
 use hol_model::Fault;
-use hol_script::{Summary, converse, run};
 use hol_terms::Term;
-use hol_test_sample_devices::{Compared, Drips, Rows};
 use hol_test_sample_host::{
     circular, deep, foreign, guess, mute, nameless, presuming, renamed, shapeless, shared, starved,
     starved_conv, stranger, twin, twisted, vast, without_lemma, wrong,
 };
 use std::alloc::Global;
 
-/// The title of the first row of a text whose script writes something else than is expected, or how many rows there are.
-pub(crate) fn first_wrong(alloc: Global, text: &str) -> Result<usize, &str> {
-    first_wrong_as(alloc, text, false)
-}
-
-/// The same of conversations, which read byte by byte.
-pub(crate) fn first_wrong_conversation(alloc: Global, text: &str) -> Result<usize, &str> {
-    first_wrong_as(alloc, text, true)
-}
-
-fn first_wrong_as(alloc: Global, text: &str, converses: bool) -> Result<usize, &str> {
-    let mut rows = Rows::new(text);
-    for count in 0..text.len() {
-        let Some(row) = rows.next() else {
-            return Ok(count);
-        };
-        if writes_as(
-            alloc,
-            row.script.as_bytes(),
-            row.expected.as_bytes(),
-            converses,
-        ) != Ok(true)
-        {
-            return Err(row.title);
-        }
-    }
-    Ok(text.len())
-}
-
-/// Whether a script writes this, and no more, with the sample refiners and conversions and those of these tests.
-pub(crate) fn writes(alloc: Global, script: &[u8], expected: &[u8]) -> Result<bool, Fault> {
-    writes_as(alloc, script, expected, false)
-}
-
-// The same of a conversation that reads the script byte by byte, or of a run.
-fn writes_as(
-    alloc: Global,
-    script: &[u8],
-    expected: &[u8],
-    converses: bool,
-) -> Result<bool, Fault> {
-    let host = host_of_tests(alloc)?;
-    let mut writer = Compared::new(expected);
-    let mut log = IntoWrite::new(Vec::new(alloc));
-    let ended = if converses {
-        let mut reader = Drips::new(script, script.len());
-        converse(alloc, &mut reader, &mut writer, &mut log, false, &host)
-    } else {
-        let mut reader = FromRead::new(script);
-        run(alloc, &mut reader, &mut writer, &mut log, false, &host)
-    };
-    match ended {
-        Ok(_) => Ok(writer.is_whole()),
-        Err(fault) => Err(fault),
-    }
-}
-
-// The sample refiners and conversions, and those of these tests.
-fn host_of_tests(alloc: Global) -> Result<Host, Fault> {
+/// A host with the sample refiners and conversions, and with functions that answer wrongly or not at all.
+pub(crate) fn host_of_rows(alloc: Global) -> Result<Host, Fault> {
     let mut host = Host::new(alloc);
+    add_all(alloc, &mut host)?;
+    Ok(host)
+}
+
+fn add_all(alloc: Global, host: &mut Host) -> Result<(), Fault> {
+    samples(alloc, host)?;
+    misbehaving(alloc, host)?;
+    overreaching(alloc, host)?;
+    starving(alloc, host)
+}
+
+// The sample refiners and conversions, a refiner that halves a goal, and a conversion that errs.
+fn samples(alloc: Global, host: &mut Host) -> Result<(), Fault> {
     let peels = Box::new(alloc, |alloc: Global, goal: &Goal| peel(alloc, goal))?;
     host.refiner(alloc, "peel", peels)?;
     let lies = Box::new(alloc, |alloc: Global, goal: &Goal| liar(alloc, goal))?;
@@ -84,11 +37,7 @@ fn host_of_tests(alloc: Global) -> Result<Host, Fault> {
     let halves = Box::new(alloc, |alloc: Global, goal: &Goal| twin(alloc, goal))?;
     host.refiner(alloc, "twin", halves)?;
     let errs = Box::new(alloc, |alloc: Global, term: &Term| wrong(alloc, term))?;
-    host.conv(alloc, "wrong", errs)?;
-    misbehaving(alloc, &mut host)?;
-    overreaching(alloc, &mut host)?;
-    starving(alloc, &mut host)?;
-    Ok(host)
+    host.conv(alloc, "wrong", errs)
 }
 
 // Refiners and conversions that have no answer, or a wrong one.
@@ -108,8 +57,7 @@ fn misbehaving(alloc: Global, host: &mut Host) -> Result<(), Fault> {
     let twists = Box::new(alloc, |alloc: Global, term: &Term| twisted(alloc, term))?;
     host.conv(alloc, "twisted", twists)?;
     let guesses = Box::new(alloc, |alloc: Global, term: &Term| guess(alloc, term))?;
-    host.conv(alloc, "guess", guesses)?;
-    Ok(())
+    host.conv(alloc, "guess", guesses)
 }
 
 // Refiners that go by what is not there or by as much as there may be, and a conversion that renames.
@@ -127,8 +75,7 @@ fn overreaching(alloc: Global, host: &mut Host) -> Result<(), Fault> {
     let to_the_limit = Box::new(alloc, |alloc: Global, goal: &Goal| vast(alloc, goal))?;
     host.refiner(alloc, "vast", to_the_limit)?;
     let renames = Box::new(alloc, |alloc: Global, term: &Term| renamed(alloc, term))?;
-    host.conv(alloc, "renamed", renames)?;
-    Ok(())
+    host.conv(alloc, "renamed", renames)
 }
 
 // A refiner and a conversion that find no memory.
@@ -138,17 +85,5 @@ fn starving(alloc: Global, host: &mut Host) -> Result<(), Fault> {
     let starves = Box::new(alloc, |alloc: Global, term: &Term| {
         starved_conv(alloc, term)
     })?;
-    host.conv(alloc, "starved", starves)?;
-    Ok(())
-}
-
-/// What a script comes to, without a host.
-pub(crate) fn summary(alloc: Global, script: &[u8]) -> Result<Summary, Fault> {
-    let mut reader = FromRead::new(script);
-    let mut writer = IntoWrite::new(Vec::new(alloc));
-    let mut log = IntoWrite::new(Vec::new(alloc));
-    match run(alloc, &mut reader, &mut writer, &mut log, false, &NoHost) {
-        Ok(ended) => Ok(ended.progress.summary),
-        Err(fault) => Err(fault),
-    }
+    host.conv(alloc, "starved", starves)
 }

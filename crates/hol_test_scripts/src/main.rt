@@ -1,0 +1,120 @@
+//! Runs the scripts of the files that data/files.txt lists, over a host with the sample refiners and conversions and with functions
+//! that answer wrongly or not at all: each at once, and as a conversation that reads byte by byte. Prints each file's name with the
+//! number of its rows, and before it the title of each row whose script writes something else than is expected, with what it writes.
+//!
+//! A row (`hol_test_sample_devices::Rows`) expects what its script writes; in a file `.counts`, what the summary of the run counts.
+//! `{60|PIECE}` is a repetition (repetitions.rt).
+#![tactic(auto)]
+
+mod host;
+mod repetitions;
+mod runs;
+
+use crate::host::host_of_rows;
+use crate::repetitions::expanded;
+use crate::runs::{Written, run_dripping, run_whole};
+use hol_host::Host;
+use hol_script::Summary;
+use hol_test_sample_devices::{Row, Rows};
+use std::fs;
+use std::io::Write;
+use std::process::ExitCode;
+
+// A row whose repetitions are expanded.
+#[derive(Clone, Copy)]
+struct Case<'a> {
+    title: &'a str,
+    script: &'a str,
+    expected: &'a str,
+    counts: bool,
+}
+
+fn compare(rt: &HostRuntime, case: &Case<'_>, wrote: &[u8]) -> anyhow::Result<()> {
+    if wrote == case.expected.as_bytes() {
+        return Ok(());
+    }
+    println!(rt; "== {}", case.title)?;
+    rt.stdout().write_all(wrote)?;
+    Ok(())
+}
+
+fn compare_summary(rt: &HostRuntime, case: &Case<'_>, summary: &Summary) -> anyhow::Result<()> {
+    let counted = format!(in rt.alloc();
+        "accepted {}, refused {}, printed {}\n",
+        summary.accepted, summary.refused, summary.printed
+    )?;
+    compare(rt, case, counted.as_bytes())
+}
+
+fn compare_run(rt: &HostRuntime, case: &Case<'_>, written: &Written) -> anyhow::Result<()> {
+    if case.counts {
+        compare_summary(rt, case, &written.summary)
+    } else {
+        compare(rt, case, written.output.as_slice())
+    }
+}
+
+fn try_whole(rt: &HostRuntime, host: &Host, case: &Case<'_>) -> anyhow::Result<()> {
+    let written = run_whole(rt.alloc(), case.script.as_bytes(), host)?;
+    compare_run(rt, case, &written)
+}
+
+fn try_dripping(rt: &HostRuntime, host: &Host, case: &Case<'_>) -> anyhow::Result<()> {
+    let written = run_dripping(rt.alloc(), case.script.as_bytes(), host)?;
+    compare_run(rt, case, &written)
+}
+
+fn try_row(rt: &HostRuntime, host: &Host, row: &Row<'_>, counts: bool) -> anyhow::Result<()> {
+    let script = expanded(rt.alloc(), row.script)?;
+    let expected = expanded(rt.alloc(), row.expected)?;
+    let case = Case {
+        title: row.title,
+        script: script.as_str(),
+        expected: expected.as_str(),
+        counts,
+    };
+    try_whole(rt, host, &case)?;
+    try_dripping(rt, host, &case)
+}
+
+// Tries each row of a text, and answers how many there are.
+fn try_rows(rt: &HostRuntime, host: &Host, text: &str, counts: bool) -> anyhow::Result<usize> {
+    let mut rows = Rows::new(text);
+    for count in 0..text.len() {
+        let Some(row) = rows.next() else {
+            return Ok(count);
+        };
+        try_row(rt, host, &row, counts)?;
+    }
+    Ok(text.len())
+}
+
+fn try_file(rt: &HostRuntime, host: &Host, name: &str) -> anyhow::Result<()> {
+    let text = fs::read_to_string(rt, name)?;
+    let count = try_rows(rt, host, text.as_str(), name.ends_with(".counts"))?;
+    println!(rt; "{name}: {count}")?;
+    Ok(())
+}
+
+fn try_files(rt: &HostRuntime, host: &Host) -> anyhow::Result<()> {
+    let names = fs::read_to_string(rt, "files.txt")?;
+    for name in names.lines() {
+        try_file(rt, host, name)?;
+    }
+    Ok(())
+}
+
+fn run_program(rt: &HostRuntime) -> anyhow::Result<()> {
+    let host = host_of_rows(rt.alloc())?;
+    try_files(rt, &host)
+}
+
+fn main(rt: HostRuntime) -> ExitCode {
+    match run_program(&rt) {
+        Ok(()) => ExitCode::SUCCESS,
+        Err(error) => {
+            let _ = eprintln!(rt; "{error}");
+            ExitCode::from(2)
+        }
+    }
+}

@@ -1,0 +1,42 @@
+// Runs of scripts, and what they write.
+use hol_device_adapters::FromRead;
+use hol_host::Host;
+use hol_model::Fault;
+use hol_script::{Ended, Summary, converse, run};
+use hol_test_sample_devices::{Compared, Drips, Kept};
+use std::alloc::Global;
+
+/// What a run wrote, and what it counted.
+#[derive(Drop)]
+pub(crate) struct Written {
+    pub(crate) output: Vec<u8>,
+    pub(crate) summary: Summary,
+}
+
+fn written(writer: Kept, ended: Result<Ended, Fault>) -> Result<Written, Fault> {
+    match ended {
+        Ok(ended) => Ok(Written {
+            output: writer.bytes,
+            summary: ended.progress.summary,
+        }),
+        Err(fault) => Err(fault),
+    }
+}
+
+/// Runs a script over a host, and makes no log.
+pub(crate) fn run_whole(alloc: Global, script: &[u8], host: &Host) -> Result<Written, Fault> {
+    let mut reader = FromRead::new(script);
+    let mut writer = Kept::new(alloc);
+    let mut no_log = Compared::new(b"");
+    let ended = run(alloc, &mut reader, &mut writer, &mut no_log, false, host);
+    written(writer, ended)
+}
+
+/// The same as a conversation that reads byte by byte.
+pub(crate) fn run_dripping(alloc: Global, script: &[u8], host: &Host) -> Result<Written, Fault> {
+    let mut reader = Drips::new(script, script.len());
+    let mut writer = Kept::new(alloc);
+    let mut no_log = Compared::new(b"");
+    let ended = converse(alloc, &mut reader, &mut writer, &mut no_log, false, host);
+    written(writer, ended)
+}
