@@ -3,7 +3,7 @@
 //! program prints how many rows it has. A script of which something else is told is printed before that, by its title, with what is
 //! told. The ending of a file says what is told of its scripts:
 //!
-//! - `rows`: the messages and notes, over a host with a refiner that lies and two that peel.
+//! - `rows`: the messages and notes, over a host of these tests.
 //! - `files`: the same of a script that was put together from three files.
 //! - `memory`: the message on the first command, where there was no memory for it.
 //! - `records`: the records, as JSON.
@@ -19,7 +19,9 @@ use hol_host::Host;
 use hol_host_samples::{liar, peel};
 use hol_just::Goal;
 use hol_model::Fault;
+use hol_terms::Term;
 use hol_test_sample_devices::{Row, Rows};
+use hol_test_sample_host::wrong;
 use std::alloc::Global;
 use std::fs;
 use std::process::ExitCode;
@@ -116,10 +118,12 @@ fn store_peel(alloc: Global, host: &mut Host, name: &str) -> Result<(), Fault> {
     host.refiner(alloc, name, peels)
 }
 
-// Stores a refiner that lies, and two that peel.
-fn store_refiners(alloc: Global, host: &mut Host) -> Result<(), Fault> {
+// Stores a refiner that lies, two that peel, and a conversion that errs.
+fn store_functions(alloc: Global, host: &mut Host) -> Result<(), Fault> {
     let lies = Box::new(alloc, |alloc: Global, goal: &Goal| liar(alloc, goal))?;
     host.refiner(alloc, "liar", lies)?;
+    let errs = Box::new(alloc, |alloc: Global, term: &Term| wrong(alloc, term))?;
+    host.conv(alloc, "wrong", errs)?;
     store_peel(alloc, host, "peel")?;
     store_peel(alloc, host, "meson")
 }
@@ -156,7 +160,7 @@ fn tell_over(rt: &HostRuntime, host: &Host) -> Result<(), Fault> {
 
 fn tell_all(rt: &HostRuntime) -> Result<(), Fault> {
     let mut host = Host::new(rt.alloc());
-    store_refiners(rt.alloc(), &mut host)?;
+    store_functions(rt.alloc(), &mut host)?;
     tell_over(rt, &host)
 }
 
