@@ -34,6 +34,14 @@ fn say(rt: &HostRuntime, said: &str) -> Result<(), Fault> {
     }
 }
 
+// Prints how many rows a file has.
+fn say_count(rt: &HostRuntime, name: &str, count: usize) -> Result<(), Fault> {
+    match println!(rt; "{name}: {count} rows") {
+        Ok(()) => Ok(()),
+        Err(_) => Err(Fault::WriteFault),
+    }
+}
+
 // The text of a file.
 fn text_of(rt: &HostRuntime, name: &str) -> Result<String, Fault> {
     match fs::read_to_string(rt, name) {
@@ -51,7 +59,22 @@ fn say_told(rt: &HostRuntime, row: &Row<'_>, told: &[u8]) -> Result<(), Fault> {
     }
 }
 
-// Prints the notes of what is told of a script.
+// Tells the script of a row, and prints what is not as expected.
+fn compare_told(
+    rt: &HostRuntime,
+    teller: &Teller<'_>,
+    ending: &str,
+    row: &Row<'_>,
+    script: &[u8],
+) -> Result<(), Fault> {
+    let told = teller.told(ending, script)?;
+    if told.as_slice() == row.expected.as_bytes() {
+        return Ok(());
+    }
+    say_told(rt, row, &told)
+}
+
+// Prints the notes of what is told.
 fn say_notes(rt: &HostRuntime, told: &[u8]) -> Result<(), Fault> {
     let Ok(told) = str::from_utf8(told) else {
         return Err(Fault::Syntax);
@@ -64,22 +87,36 @@ fn say_notes(rt: &HostRuntime, told: &[u8]) -> Result<(), Fault> {
     Ok(())
 }
 
+// Prints the notes on a script.
+fn tell_notes(rt: &HostRuntime, teller: &Teller<'_>, script: &[u8]) -> Result<(), Fault> {
+    let told = teller.messages(script)?;
+    say_notes(rt, &told)
+}
+
 // Tells the script of a row.
+fn tell_script(
+    rt: &HostRuntime,
+    teller: &Teller<'_>,
+    ending: &str,
+    row: &Row<'_>,
+    script: &[u8],
+) -> Result<(), Fault> {
+    compare_told(rt, teller, ending, row, script)?;
+    if ending == "runs" {
+        return tell_notes(rt, teller, script);
+    }
+    Ok(())
+}
+
+// Tells a row, in whose script repetitions are written short.
 fn tell_row(
     rt: &HostRuntime,
     teller: &Teller<'_>,
     ending: &str,
     row: &Row<'_>,
 ) -> Result<(), Fault> {
-    let script = script_of(rt.alloc(), row.script)?;
-    let told = teller.told(ending, &script)?;
-    if told.as_slice() != row.expected.as_bytes() {
-        say_told(rt, row, &told)?;
-    }
-    if ending == "runs" {
-        say_notes(rt, &teller.messages(&script)?)?;
-    }
-    Ok(())
+    let script = script_of(teller.alloc, row.script)?;
+    tell_script(rt, teller, ending, row, &script)
 }
 
 // Tells the rows of a text, and answers how many there are.
@@ -99,17 +136,22 @@ fn tell_rows(
     Ok(text.len())
 }
 
-// Tells the rows of a file.
-fn tell_file(rt: &HostRuntime, teller: &Teller<'_>, name: &str) -> Result<(), Fault> {
+// Tells the rows of a file, and answers how many there are.
+fn tell_rows_of(rt: &HostRuntime, teller: &Teller<'_>, name: &str) -> Result<usize, Fault> {
     let Some((_, ending)) = name.rsplit_once('.') else {
         return Err(Fault::Syntax);
     };
     let text = text_of(rt, name)?;
-    let count = tell_rows(rt, teller, ending, &text)?;
-    match println!(rt; "{name}: {count} rows") {
-        Ok(()) => Ok(()),
-        Err(_) => Err(Fault::WriteFault),
+    tell_rows(rt, teller, ending, &text)
+}
+
+// Tells the files that are listed.
+fn tell_files(rt: &HostRuntime, teller: &Teller<'_>, names: &str) -> Result<(), Fault> {
+    for name in names.lines() {
+        let count = tell_rows_of(rt, teller, name)?;
+        say_count(rt, name, count)?;
     }
+    Ok(())
 }
 
 // Stores a refiner that peels under a name.
@@ -128,34 +170,31 @@ fn store_functions(alloc: Global, host: &mut Host) -> Result<(), Fault> {
     store_peel(alloc, host, "meson")
 }
 
-// The names of the refiners.
-fn names_of_refiners(alloc: Global) -> Result<Vec<String>, Fault> {
-    let mut names = Vec::new(alloc);
+// Appends the names of the refiners.
+fn push_names(alloc: Global, names: &mut Vec<String>) -> Result<(), Fault> {
     for name in ["liar", "peel", "meson"] {
         names.push(String::from_str(alloc, name)?)?;
     }
-    Ok(names)
+    Ok(())
 }
 
 // Tells the files of data/.
-fn tell_files(rt: &HostRuntime, teller: &Teller<'_>) -> Result<(), Fault> {
-    let files = text_of(rt, "files.txt")?;
-    for name in files.lines() {
-        tell_file(rt, teller, name)?;
-    }
-    Ok(())
+fn tell_data(rt: &HostRuntime, teller: &Teller<'_>) -> Result<(), Fault> {
+    let names = text_of(rt, "files.txt")?;
+    tell_files(rt, teller, &names)
 }
 
 // Tells them over a host.
 fn tell_over(rt: &HostRuntime, host: &Host) -> Result<(), Fault> {
     let alloc = rt.alloc();
-    let names = names_of_refiners(alloc)?;
+    let mut names = Vec::new(alloc);
+    push_names(alloc, &mut names)?;
     let teller = Teller {
         alloc,
         host,
         host_names: &names,
     };
-    tell_files(rt, &teller)
+    tell_data(rt, &teller)
 }
 
 fn tell_all(rt: &HostRuntime) -> Result<(), Fault> {

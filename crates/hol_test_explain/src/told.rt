@@ -29,6 +29,7 @@ const THREE_FILES: [Origin<'static>; 3] = [
 ];
 
 /// Tells scripts over a host.
+#[derive(Clone, Copy)]
 pub(crate) struct Teller<'a> {
     pub(crate) alloc: Global,
     pub(crate) host: &'a Host,
@@ -98,15 +99,20 @@ impl Teller<'_> {
 }
 
 // Appends the text of a record.
-fn push_text(alloc: Global, told: &mut Vec<u8>, record: &str) -> Result<(), Fault> {
-    let Ok(value) = Value::from_str(alloc, record) else {
-        return Err(Fault::Syntax);
-    };
-    let Some(text) = value.get("text").and_then(Value::as_str) else {
+fn push_text(told: &mut Vec<u8>, record: &Value) -> Result<(), Fault> {
+    let Some(text) = record.get("text").and_then(Value::as_str) else {
         return Err(Fault::Syntax);
     };
     told.extend_from_slice(text.as_bytes())?;
     Ok(())
+}
+
+// Appends the text of a record, which is a line of JSON.
+fn push_text_of(alloc: Global, told: &mut Vec<u8>, line: &str) -> Result<(), Fault> {
+    match Value::from_str(alloc, line) {
+        Ok(record) => push_text(told, &record),
+        Err(_) => Err(Fault::Syntax),
+    }
 }
 
 // Appends the texts of records, one behind another.
@@ -114,8 +120,8 @@ fn push_texts(alloc: Global, told: &mut Vec<u8>, records: &[u8]) -> Result<(), F
     let Ok(records) = str::from_utf8(records) else {
         return Err(Fault::Syntax);
     };
-    for record in records.lines() {
-        push_text(alloc, told, record)?;
+    for line in records.lines() {
+        push_text_of(alloc, told, line)?;
     }
     Ok(())
 }
