@@ -10,9 +10,8 @@ use hol_terms::Term;
 use hol_test_sample_devices::{Drips, Narrow};
 use std::alloc::Global;
 
-/// A host with the sample refiners and conversions.
-pub(crate) fn host_of_samples(alloc: Global) -> Result<Host, Fault> {
-    let mut host = Host::new(alloc);
+// Stores the sample refiners and conversions.
+fn store_samples(alloc: Global, host: &mut Host) -> Result<(), Fault> {
     let peels = Box::new(alloc, |alloc: Global, goal: &Goal| peel(alloc, goal))?;
     host.refiner(alloc, "peel", peels)?;
     let lies = Box::new(alloc, |alloc: Global, goal: &Goal| liar(alloc, goal))?;
@@ -21,6 +20,13 @@ pub(crate) fn host_of_samples(alloc: Global) -> Result<Host, Fault> {
     host.refiner(alloc, "liar2", lies_twice)?;
     let swaps = Box::new(alloc, |alloc: Global, term: &Term| swap(alloc, term))?;
     host.conv(alloc, "swap", swaps)?;
+    Ok(())
+}
+
+/// A host with the sample refiners and conversions.
+pub(crate) fn host_of_samples(alloc: Global) -> Result<Host, Fault> {
+    let mut host = Host::new(alloc);
+    store_samples(alloc, &mut host)?;
     Ok(host)
 }
 
