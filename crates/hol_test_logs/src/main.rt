@@ -22,6 +22,9 @@ use std::process::ExitCode;
 use std::{fs, io};
 use traces::{keeps_entries, trace_of};
 
+// A script of one theorem.
+const SCRIPT: &[u8] = b"thm a = REFL `(x:bool)` ;;";
+
 fn written(answer: io::Result<()>) -> Result<(), Fault> {
     match answer {
         Ok(()) => Ok(()),
@@ -45,26 +48,28 @@ fn print_wrong(rt: &HostRuntime, title: &str, answer: &[u8]) -> Result<(), Fault
 }
 
 // Prints the title of a row if its script or log comes to something else, with that.
-fn try_answer(rt: &HostRuntime, kind: &str, row: &Row<'_>, host: &Host) -> Result<(), Fault> {
-    let answer = answer(rt.alloc(), kind, row.script, host)?;
-    if is_expected(rt.alloc(), row.expected, &answer)? {
+fn try_answer(
+    rt: &HostRuntime,
+    kind: &str,
+    title: &str,
+    text: &str,
+    expected: &str,
+    host: &Host,
+) -> Result<(), Fault> {
+    let answer = answer(rt.alloc(), kind, text, host)?;
+    if is_expected(rt.alloc(), expected, &answer)? {
         return Ok(());
     }
-    print_wrong(rt, row.title, &answer)
+    print_wrong(rt, title, &answer)
 }
 
-// Tries a row with a number at each mark.
+// Tries the claims of a script with a number at each mark.
 fn try_size(rt: &HostRuntime, row: &Row<'_>, size: usize, host: &Host) -> Result<(), Fault> {
     let mut buffer = Buffer::new();
     let digits = buffer.format(size);
     let script = row.script.replace(rt.alloc(), '#', digits)?;
-    let expected = row.expected.replace(rt.alloc(), '#', digits)?;
-    let sized = Row {
-        title: row.title,
-        script: &script,
-        expected: &expected,
-    };
-    try_answer(rt, "claims", &sized, host)
+    let claims = row.expected.replace(rt.alloc(), '#', digits)?;
+    try_answer(rt, "claims", row.title, &script, &claims, host)
 }
 
 fn try_sizes(rt: &HostRuntime, row: &Row<'_>, host: &Host) -> Result<(), Fault> {
@@ -88,7 +93,7 @@ fn try_row(rt: &HostRuntime, kind: &str, row: &Row<'_>, host: &Host) -> Result<(
         "rows" => written(println!(rt; "[{}][{}][{}]", row.title, row.script, row.expected)),
         "sizes" => try_sizes(rt, row, host),
         "refused" => print_trace(rt, row, host),
-        _ => try_answer(rt, kind, row, host),
+        _ => try_answer(rt, kind, row.title, row.script, row.expected, host),
     }
 }
 
@@ -166,9 +171,8 @@ fn print_refusals(rt: &HostRuntime, host: &Host) -> Result<(), Fault> {
 
 // Prints whether entries are kept, by whether a log is wanted.
 fn print_kept(rt: &HostRuntime, host: &Host) -> Result<(), Fault> {
-    let script = b"thm a = REFL `(x:bool)` ;;";
-    let with_log = keeps_entries(rt.alloc(), script, true, host)?;
-    let without_log = keeps_entries(rt.alloc(), script, false, host)?;
+    let with_log = keeps_entries(rt.alloc(), SCRIPT, true, host)?;
+    let without_log = keeps_entries(rt.alloc(), SCRIPT, false, host)?;
     written(println!(rt; "entries kept: {with_log} with a log, {without_log} without one"))
 }
 
