@@ -1,18 +1,17 @@
-// Runs of scripts, their logs, and the claims of these.
-use hol_check::{check, write_claims};
-use hol_device_adapters::{FromRead, IntoWrite};
+// Runs of scripts, and conversations, over devices.
+ghost use Rattle.std.specs.Prelude.{◌≡◌, false};
+
 use hol_host::Host;
 use hol_host_samples::{liar, liar2, peel, swap};
 use hol_just::Goal;
-use hol_model::Fault;
-use hol_script::run;
+use hol_model::{Fault, Source};
+use hol_script::{Ended, converse, run};
 use hol_terms::Term;
-use hol_test_sample_devices::Kept;
+use hol_test_sample_devices::{Drips, Narrow};
 use std::alloc::Global;
 
-// A host with the sample refiners and conversions.
-fn host_of_samples(alloc: Global) -> Result<Host, Fault> {
-    let mut host = Host::new(alloc);
+// Stores the sample refiners and conversions.
+fn store_samples(alloc: Global, host: &mut Host) -> Result<(), Fault> {
     let peels = Box::new(alloc, |alloc: Global, goal: &Goal| peel(alloc, goal))?;
     host.refiner(alloc, "peel", peels)?;
     let lies = Box::new(alloc, |alloc: Global, goal: &Goal| liar(alloc, goal))?;
@@ -21,36 +20,111 @@ fn host_of_samples(alloc: Global) -> Result<Host, Fault> {
     host.refiner(alloc, "liar2", lies_twice)?;
     let swaps = Box::new(alloc, |alloc: Global, term: &Term| swap(alloc, term))?;
     host.conv(alloc, "swap", swaps)?;
+    Ok(())
+}
+
+/// A host with the sample refiners and conversions.
+pub(crate) fn host_of_samples(alloc: Global) -> Result<Host, Fault> {
+    let mut host = Host::new(alloc);
+    store_samples(alloc, &mut host)?;
     Ok(host)
 }
 
-// The log of a script, run over a host.
-fn log_over(alloc: Global, script: &[u8], host: &Host) -> Result<Vec<u8>, Fault> {
-    let mut reader = FromRead::new(script);
-    let mut writer = IntoWrite::new(Vec::new(alloc));
-    let mut log = Kept::new(alloc);
-    let ended = run(alloc, &mut reader, &mut writer, &mut log, true, host)?;
-    let _progress = ended.whole()?;
-    Ok(log.bytes)
+/// Whether a script is run or answered as it comes, and how many bytes its output and its log have room for.
+#[derive(Clone, Copy)]
+pub(crate) struct Setting {
+    pub is_conversation: bool,
+    pub output_room: usize,
+    pub log_room: usize,
 }
 
-/// The log of a script, run with the sample refiners and conversions.
-pub(crate) fn log_of(alloc: Global, script: &[u8]) -> Result<Vec<u8>, Fault> {
-    let host = host_of_samples(alloc)?;
-    log_over(alloc, script, &host)
+impl Setting {
+    /// Room enough for both.
+    pub(crate) fn ample(is_conversation: bool) -> Setting {
+        Setting {
+            is_conversation,
+            output_room: usize::MAX,
+            log_room: usize::MAX,
+        }
+    }
 }
 
-/// Whether a log is accepted, and its claims print as these lines.
-pub(crate) fn has_claims(alloc: Global, log: &[u8], lines: &[u8]) -> Result<bool, Fault> {
-    let mut reader = FromRead::new(log);
-    let claims = check(alloc, &mut reader)?;
-    let mut writer = Kept::new(alloc);
-    write_claims(alloc, claims.as_slice(), &mut writer)?;
-    Ok(writer.bytes.as_slice() == lines)
+/// What a run has answered: what the run or its log is refused for, and how many commands were refused and theorems printed.
+#[derive(Clone, Copy)]
+pub(crate) struct Told {
+    pub refusal: Option<Fault>,
+    pub log_refusal: Option<Fault>,
+    pub refused: u64,
+    pub printed: u64,
 }
 
-/// Whether the log of a script is accepted, and its claims print as these lines.
-pub(crate) fn claims(alloc: Global, script: &[u8], lines: &[u8]) -> Result<bool, Fault> {
-    let log = log_of(alloc, script)?;
-    has_claims(alloc, &log, lines)
+/// What a run has answered and written.
+#[derive(Drop)]
+pub(crate) struct Left {
+    pub told: Told,
+    pub output: Vec<u8>,
+    pub log: Vec<u8>,
+}
+
+impl Told {
+    /// Whether nothing is refused.
+    pub(crate) fn is_whole(&self) -> bool {
+        self.refusal == None && self.log_refusal == None
+    }
+}
+
+fn told(answer: Result<Ended, Fault>) -> Told {
+    match answer {
+        Ok(ended) => Told {
+            refusal: None,
+            log_refusal: ended.logged.err(),
+            refused: ended.progress.summary.refused,
+            printed: ended.progress.summary.printed,
+        },
+        Err(fault) => Told {
+            refusal: Some(fault),
+            log_refusal: None,
+            refused: 0,
+            printed: 0,
+        },
+    }
+}
+
+/// Runs the script of a source, with a log.
+pub(crate) fn run_source<R: Source>(
+    alloc: Global,
+    reader: &mut R,
+    setting: Setting,
+    host: &Host,
+) -> Left
+    requires unfailed { R.has_failed reader.old ≡ false }
+{
+    let mut writer = Narrow::new(alloc, setting.output_room);
+    let mut log = Narrow::new(alloc, setting.log_room);
+    let answer = if setting.is_conversation {
+        converse(alloc, reader, &mut writer, &mut log, true, host)
+    } else {
+        run(alloc, reader, &mut writer, &mut log, true, host)
+    };
+    Left {
+        told: told(answer),
+        output: writer.bytes,
+        log: log.bytes,
+    }
+}
+
+/// Runs a script, of which so many bytes can be read.
+pub(crate) fn run_script(
+    alloc: Global,
+    script: &[u8],
+    reads: usize,
+    setting: Setting,
+    host: &Host,
+) -> Left {
+    run_source(alloc, &mut Drips::new(script, reads), setting, host)
+}
+
+/// A run of a whole script, with room enough.
+pub(crate) fn run_whole(alloc: Global, script: &[u8], host: &Host) -> Left {
+    run_script(alloc, script, script.len(), Setting::ample(false), host)
 }

@@ -1,0 +1,132 @@
+// What scripts and logs come to, by the kind of their rows.
+use crate::repetitions::expand;
+use crate::runs::run_whole;
+use hol_check::{Claim, TermParts, TermView, check, check_log, write_claims, write_entries};
+use hol_device_adapters::FromRead;
+use hol_host::Host;
+use hol_model::Fault;
+use hol_test_sample_devices::Kept;
+use std::alloc::Global;
+
+// The claims of a log.
+fn claims_of(alloc: Global, log: &[u8]) -> Result<Vec<u8>, Fault> {
+    let claims = check(alloc, &mut FromRead::new(log))?;
+    let mut writer = Kept::new(alloc);
+    write_claims(alloc, claims.as_slice(), &mut writer)?;
+    Ok(writer.bytes)
+}
+
+// The entries of a log.
+fn entries_of(alloc: Global, log: &[u8]) -> Result<Vec<u8>, Fault> {
+    let checked = check_log(alloc, &mut FromRead::new(log))?;
+    let mut writer = Kept::new(alloc);
+    write_entries(alloc, checked.entries.as_slice(), &mut writer)?;
+    Ok(writer.bytes)
+}
+
+// The name of a variable, and `_` of another term.
+fn push_variable(text: &mut Vec<u8>, term: &TermView<'_>) -> Result<(), Fault> {
+    match term.parts() {
+        TermParts::Free(name, _ty) => text.extend_from_slice(name)?,
+        _ => text.push(b'_')?,
+    }
+    Ok(())
+}
+
+// The parts of a claim.
+fn push_parts(text: &mut Vec<u8>, claim: &Claim) -> Result<(), Fault> {
+    text.extend_from_slice(claim.name())?;
+    text.extend_from_slice(b": ")?;
+    for place in 0..claim.hyp_count() {
+        if let Some(hyp) = claim.hyp(place) {
+            push_variable(text, &hyp)?;
+            text.push(b' ')?;
+        }
+    }
+    text.extend_from_slice(b"|- ")?;
+    push_variable(text, &claim.concl())?;
+    text.push(b'\n')?;
+    Ok(())
+}
+
+// The parts of the claims of a log.
+fn parts_of(alloc: Global, log: &[u8]) -> Result<Vec<u8>, Fault> {
+    let claims = check(alloc, &mut FromRead::new(log))?;
+    let mut text = Vec::new(alloc);
+    for claim in &claims {
+        push_parts(&mut text, claim)?;
+    }
+    Ok(text)
+}
+
+// The line of a refusal.
+fn line_of_refusal(alloc: Global, fault: Fault) -> Result<Vec<u8>, Fault> {
+    let line = match fault {
+        Fault::LogFault { line, cause } => {
+            format!(in alloc; "refused at line {line}: {cause}\n")?
+        }
+        fault => format!(in alloc; "{fault}\n")?,
+    };
+    Ok(line.into_bytes())
+}
+
+// An answer, or the line of its refusal.
+fn lines_of(alloc: Global, answer: Result<Vec<u8>, Fault>) -> Result<Vec<u8>, Fault> {
+    match answer {
+        Ok(lines) => Ok(lines),
+        Err(fault) => line_of_refusal(alloc, fault),
+    }
+}
+
+// Appends what the checker says of each front of a log.
+fn push_fronts(alloc: Global, text: &mut Vec<u8>, log: &[u8]) -> Result<(), Fault> {
+    for length in 0..log.len() {
+        let lines = lines_of(alloc, claims_of(alloc, &log[..length]))?;
+        text.extend_from_slice(&lines)?;
+    }
+    Ok(())
+}
+
+// What the checker says of each front of a log.
+fn fronts_of(alloc: Global, log: &[u8]) -> Result<Vec<u8>, Fault> {
+    let mut text = Vec::new(alloc);
+    push_fronts(alloc, &mut text, log)?;
+    Ok(text)
+}
+
+// What the log of a script comes to.
+fn answer_of_script(
+    alloc: Global,
+    kind: &str,
+    script: &[u8],
+    host: &Host,
+) -> Result<Vec<u8>, Fault> {
+    let left = run_whole(alloc, script, host);
+    match kind {
+        "claims" => claims_of(alloc, &left.log),
+        "entries" => entries_of(alloc, &left.log),
+        _ => Ok(left.log),
+    }
+}
+
+// What a script or a log comes to.
+fn answer_of(alloc: Global, kind: &str, text: &[u8], host: &Host) -> Result<Vec<u8>, Fault> {
+    match kind {
+        "checked" => claims_of(alloc, text),
+        "fronts" => fronts_of(alloc, text),
+        "parts" => parts_of(alloc, text),
+        _ => answer_of_script(alloc, kind, text, host),
+    }
+}
+
+/// What the script or the log of a row comes to, or the line of its refusal.
+pub(crate) fn answer(alloc: Global, kind: &str, text: &str, host: &Host) -> Result<Vec<u8>, Fault> {
+    let text = expand(alloc, text)?;
+    lines_of(alloc, answer_of(alloc, kind, &text, host))
+}
+
+/// Whether an answer is what is expected.
+pub(crate) fn is_expected(alloc: Global, expected: &str, answer: &[u8]) -> Result<bool, Fault> {
+    let expected = expand(alloc, expected)?;
+    Ok(expected.as_slice() == answer)
+}
