@@ -1,0 +1,106 @@
+// A host that counts its calls.
+ghost use Rattle.std.specs.Prelude.{◌≡◌, ◌↔◌, map, Contains, IsSome};
+
+use crate::steps::{same, told, twice, unchanged};
+use hol_host::{Converters, HostFail, Refiners};
+use hol_just::{Goal, Just, Step};
+use hol_terms::Term;
+use std::alloc::Global;
+use std::cell::Cell;
+
+#[derive(Clone, Copy)]
+enum Refiner {
+    /// Every second call fails; the others leave the goal.
+    Counted,
+    /// Tells how often the counted functions were called since it told so last.
+    Told,
+    Twice,
+}
+
+#[derive(Clone, Copy)]
+enum Conversion {
+    /// Every second call fails; the others leave the term.
+    Counted,
+}
+
+const REFINERS: [(&str, Refiner); 3] = [
+    ("f", Refiner::Counted),
+    ("calls", Refiner::Told),
+    ("twice", Refiner::Twice),
+];
+
+const CONVERSIONS: [(&str, Conversion); 1] = [("f", Conversion::Counted)];
+
+// What stands under a name in a table.
+fn named<F: Copy>(table: &[(&'static str, F)], name: &str) -> Option<F>
+    ensures { IsSome result ↔ Contains (map (λ entry. entry.0.now) table.now) name.now }
+{
+    for entry in table {
+        if entry.0 == name {
+            return Some(entry.1);
+        }
+    }
+    None
+}
+
+/// The host, and how often its counted functions were called.
+#[derive(Drop)]
+pub(crate) struct Counting {
+    calls: Cell<u32>,
+}
+
+impl Counting {
+    pub(crate) fn new() -> Counting {
+        Counting {
+            calls: Cell::new(0u32),
+        }
+    }
+
+    // Counts a call; whether it is to be answered.
+    fn answers(&self) -> bool {
+        let before = self.calls.get();
+        self.calls.set(before.wrapping_add(1));
+        before % 2 == 0
+    }
+}
+
+impl Converters for Counting {
+    ghost use Rattle.hol_test_hosts.specs.declared.counting.TheConstants.{CONVERSIONS};
+
+    ghost conversions = { λ host. record {
+      names = map (λ entry. entry.0.now) CONVERSIONS;
+      converts = λ name term answer. Unit {0};
+    } };
+
+    fn convert(
+        &self,
+        alloc: Global,
+        name: &str,
+        term: &Term,
+    ) -> Option<Result<(Term, Just), HostFail>> {
+        let Conversion::Counted = named(&CONVERSIONS, name)?;
+        if self.answers() {
+            Some(same(alloc, term))
+        } else {
+            Some(Err(HostFail::Failed))
+        }
+    }
+}
+
+impl Refiners for Counting {
+    ghost use Rattle.hol_test_hosts.specs.declared.counting.TheConstants.{REFINERS};
+
+    ghost refiners = { λ host. record {
+      names = map (λ entry. entry.0.now) REFINERS;
+      refines = λ name goal answer. Unit {0};
+    } };
+
+    fn refine(&self, alloc: Global, name: &str, goal: &Goal) -> Option<Result<Step, HostFail>> {
+        match named(&REFINERS, name)? {
+            Refiner::Counted if self.answers() => Some(unchanged(alloc, goal)),
+            Refiner::Counted => Some(Err(HostFail::Failed)),
+            Refiner::Told => Some(told(alloc, self.calls.replace(0), goal)),
+            Refiner::Twice => Some(twice(alloc, goal)),
+        }
+    }
+}

@@ -1,0 +1,56 @@
+// Which entries a recorder keeps.
+use hol_journal::Recorder;
+use hol_model::Fault;
+use std::alloc::Global;
+
+// A recorder of a declared type and so many axioms.
+fn recorder_of(alloc: Global, axioms: usize) -> Result<Recorder, Fault> {
+    let mut recorder = Recorder::new(alloc)?;
+    recorder.new_type(alloc, "num")?;
+    make(alloc, &mut recorder, axioms)?;
+    Ok(recorder)
+}
+
+// So many axioms more.
+fn make(alloc: Global, recorder: &mut Recorder, axioms: usize) -> Result<(), Fault> {
+    for _ in 0..axioms {
+        recorder.eta(alloc)?;
+    }
+    Ok(())
+}
+
+// Which of the first eight entries are kept, entry 0 in the highest bit.
+fn kept(recorder: &Recorder) -> u8 {
+    let mut kept = 0u8;
+    for number in 0..8 {
+        kept <<= 1;
+        if matches!(recorder.stored(number), Ok(Some(_))) {
+            kept |= 1;
+        }
+    }
+    kept
+}
+
+/// Whether those that are given back go, and no others, and those that come later are kept at their numbers.
+pub(crate) fn gives_back(alloc: Global) -> Result<bool, Fault> {
+    let mut recorder = recorder_of(alloc, 3)?;
+    let all = kept(&recorder);
+    recorder.give_back(2);
+    let first = kept(&recorder);
+    make(alloc, &mut recorder, 2)?;
+    let later = kept(&recorder);
+    recorder.give_back(6);
+    let same = kept(&recorder);
+    recorder.give_back(0);
+    let declared = kept(&recorder);
+    Ok([all, first, later, same, declared]
+        == [0b1111_0000, 0b1100_0000, 0b1100_1100, 0b1100_1100, 0b1000_0000])
+}
+
+/// Whether none is kept where all are let go, nor any that comes later.
+pub(crate) fn forgets(alloc: Global) -> Result<bool, Fault> {
+    let mut recorder = recorder_of(alloc, 1)?;
+    recorder.forget();
+    make(alloc, &mut recorder, 1)?;
+    Ok(recorder.entries() == 3 && kept(&recorder) == 0)
+}
