@@ -10,17 +10,15 @@
 //! - `runs`: the texts of the records, one behind another, which are what a run prints. The notes are printed.
 #![tactic(auto)]
 
-mod scripts;
 mod told;
 
-use crate::scripts::script_of;
 use crate::told::Teller;
 use hol_host::Host;
 use hol_host_samples::{liar, peel};
 use hol_just::Goal;
 use hol_model::Fault;
 use hol_terms::Term;
-use hol_test_sample_devices::{Row, Rows};
+use hol_test_sample_devices::{Row, Rows, expanded};
 use hol_test_sample_host::wrong;
 use std::alloc::Global;
 use std::fs;
@@ -115,8 +113,8 @@ fn tell_row(
     ending: &str,
     row: &Row<'_>,
 ) -> Result<(), Fault> {
-    let script = script_of(teller.alloc, row.script)?;
-    tell_script(rt, teller, ending, row, &script)
+    let script = expanded(teller.alloc, row.script)?;
+    tell_script(rt, teller, ending, row, script.as_bytes())
 }
 
 // Tells the rows of a text, and answers how many there are.

@@ -1,11 +1,10 @@
 // What scripts and logs come to, by the kind of their rows.
-use crate::repetitions::expand;
 use crate::runs::run_whole;
 use hol_check::{Claim, TermParts, TermView, check, check_log, write_claims, write_entries};
 use hol_device_adapters::FromRead;
 use hol_host::Host;
 use hol_model::Fault;
-use hol_test_sample_devices::Kept;
+use hol_test_sample_devices::{Kept, expanded};
 use std::alloc::Global;
 
 // The claims of a log.
@@ -121,12 +120,12 @@ fn answer_of(alloc: Global, kind: &str, text: &[u8], host: &Host) -> Result<Vec<
 
 /// What the script or the log of a row comes to, or the line of its refusal.
 pub(crate) fn answer(alloc: Global, kind: &str, text: &str, host: &Host) -> Result<Vec<u8>, Fault> {
-    let text = expand(alloc, text)?;
-    lines_of(alloc, answer_of(alloc, kind, &text, host))
+    let text = expanded(alloc, text)?;
+    lines_of(alloc, answer_of(alloc, kind, text.as_bytes(), host))
 }
 
 /// Whether an answer is what is expected.
 pub(crate) fn is_expected(alloc: Global, expected: &str, answer: &[u8]) -> Result<bool, Fault> {
-    let expected = expand(alloc, expected)?;
-    Ok(expected.as_slice() == answer)
+    let expected = expanded(alloc, expected)?;
+    Ok(expected.as_bytes() == answer)
 }

@@ -7,7 +7,6 @@
 
 mod answers;
 mod devices;
-mod repetitions;
 mod runs;
 mod traces;
 

@@ -1,13 +1,15 @@
-//! Devices for tests and examples: they keep, compare, do not end, or break off. Rows of tests, and texts that
+//! Devices for tests and examples: they keep, do not end, or break off. Rows of tests, and texts that
 //! are put together.
 #![tactic(auto)]
 
+mod repetitions;
 mod rows;
 mod sinks;
 mod sources;
 mod texts;
 
+pub use repetitions::expanded;
 pub use rows::{Row, Rows};
-pub use sinks::{Compared, Kept, Narrow};
-pub use sources::{Drips, Endless, FailsSecond};
-pub use texts::{push_filled, push_times};
+pub use sinks::{Kept, Narrow};
+pub use sources::{Drips, Endless};
+pub use texts::push_filled;

@@ -2,7 +2,6 @@
 ghost use Rattle.std.specs.Prelude.{◌≡◌, false};
 
 use hol_model::{DeviceFail, Source};
-use std::io::Read;
 
 /// A source of line feeds without an end.
 #[derive(Drop)]
@@ -18,50 +17,6 @@ impl Source for Endless {
 
     fn failed(&self) -> bool {
         false
-    }
-}
-
-/// A source that gives these bytes, or what there is room for, and fails in the second call.
-#[derive(Drop)]
-pub struct FailsSecond<'a> {
-    first: &'a [u8],
-    called: bool,
-    failed: bool,
-}
-
-impl<'a> FailsSecond<'a> {
-    /// A source that has not been called.
-    pub fn new(first: &'a [u8]) -> FailsSecond<'a>
-        ensures { result.failed ≡ false }
-    {
-        FailsSecond {
-            first,
-            called: false,
-            failed: false,
-        }
-    }
-}
-
-impl Source for FailsSecond<'_> {
-    ghost has_failed = { λ s. s.failed };
-
-    fn pull(&mut self, buf: &mut [u8]) -> Result<usize, DeviceFail> {
-        if self.called {
-            self.failed = true;
-            return Err(DeviceFail);
-        }
-        self.called = true;
-        match self.first.read(buf) {
-            Ok(count) => Ok(count),
-            Err(_) => {
-                self.failed = true;
-                Err(DeviceFail)
-            }
-        }
-    }
-
-    fn failed(&self) -> bool {
-        self.failed
     }
 }
 

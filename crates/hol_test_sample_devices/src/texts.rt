@@ -1,14 +1,6 @@
 // Texts that are put together.
 use hol_model::Fault;
 
-/// Appends so many times the same bytes. Refused: Memory.
-pub fn push_times(text: &mut Vec<u8>, piece: &[u8], count: usize) -> Result<(), Fault> {
-    for _ in 0..count {
-        text.extend_from_slice(piece)?;
-    }
-    Ok(())
-}
-
 /// Appends a text, with these bytes at each mark `#` in it. Refused: Memory.
 pub fn push_filled(text: &mut Vec<u8>, marked: &str, piece: &[u8]) -> Result<(), Fault> {
     let mut rest = marked;

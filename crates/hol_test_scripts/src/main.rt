@@ -3,19 +3,17 @@
 //! number of its rows, and before it the title of each row whose script writes something else than is expected, with what it writes.
 //!
 //! A row (`hol_test_sample_devices::Rows`) expects what its script writes; in a file `.counts`, what the summary of the run counts.
-//! `{60|PIECE}` is a repetition (repetitions.rt).
+//! `{60|PIECE}` is a repetition (`hol_test_sample_devices::expanded`).
 #![tactic(auto)]
 
 mod host;
-mod repetitions;
 mod runs;
 
 use crate::host::host_of_rows;
-use crate::repetitions::expanded;
 use crate::runs::{Written, run_dripping, run_whole};
 use hol_host::Host;
 use hol_script::Summary;
-use hol_test_sample_devices::{Row, Rows};
+use hol_test_sample_devices::{Row, Rows, expanded};
 use std::fs;
 use std::io::Write;
 use std::process::ExitCode;

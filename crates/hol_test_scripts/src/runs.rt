@@ -3,7 +3,7 @@ use hol_device_adapters::FromRead;
 use hol_host::Host;
 use hol_model::Fault;
 use hol_script::{Ended, Summary, converse, run};
-use hol_test_sample_devices::{Compared, Drips, Kept};
+use hol_test_sample_devices::{Drips, Kept};
 use std::alloc::Global;
 
 /// What a run wrote, and what it counted.
@@ -27,7 +27,7 @@ fn written(writer: Kept, ended: Result<Ended, Fault>) -> Result<Written, Fault> 
 pub(crate) fn run_whole(alloc: Global, script: &[u8], host: &Host) -> Result<Written, Fault> {
     let mut reader = FromRead::new(script);
     let mut writer = Kept::new(alloc);
-    let mut no_log = Compared::new(b"");
+    let mut no_log = Kept::new(alloc);
     let ended = run(alloc, &mut reader, &mut writer, &mut no_log, false, host);
     written(writer, ended)
 }
@@ -36,7 +36,7 @@ pub(crate) fn run_whole(alloc: Global, script: &[u8], host: &Host) -> Result<Wri
 pub(crate) fn run_dripping(alloc: Global, script: &[u8], host: &Host) -> Result<Written, Fault> {
     let mut reader = Drips::new(script, script.len());
     let mut writer = Kept::new(alloc);
-    let mut no_log = Compared::new(b"");
+    let mut no_log = Kept::new(alloc);
     let ended = converse(alloc, &mut reader, &mut writer, &mut no_log, false, host);
     written(writer, ended)
 }

@@ -1,5 +1,6 @@
 // Parts of a text that stand in it several times.
-use std::alloc::{AllocError, Global};
+use hol_model::Fault;
+use std::alloc::Global;
 
 // The marks around a repetition that may hold others, and around one that holds none.
 const OUTER: Marks = Marks {
@@ -40,42 +41,45 @@ fn first_repetition<'a>(text: &'a str, marks: &Marks) -> Option<Repetition<'a>> 
     })
 }
 
-// Appends a piece so many times, with the number of those that are left at each `#`.
-fn push_turns(
-    out: &mut String,
-    alloc: Global,
-    piece: &str,
-    times: usize,
-) -> Result<(), AllocError> {
+// A piece with one number at each `#` and another at each `$`.
+fn numbered(alloc: Global, piece: &str, before: usize, left: usize) -> Result<String, Fault> {
+    let before = format!(in alloc; "{before}")?;
+    let left = format!(in alloc; "{left}")?;
+    let half = piece.replace(alloc, '#', before.as_str())?;
+    Ok(half.replace(alloc, '$', left.as_str())?)
+}
+
+// Appends a piece so many times.
+fn push_turns(text: &mut String, alloc: Global, piece: &str, times: usize) -> Result<(), Fault> {
     for turn in 0..times {
-        let left = format!(in alloc; "{}", times - 1 - turn)?;
-        let filled = piece.replace(alloc, '#', left.as_str())?;
-        out.push_str(filled.as_str())?;
+        let filled = numbered(alloc, piece, turn, times - 1 - turn)?;
+        text.push_str(filled.as_str())?;
     }
     Ok(())
 }
 
 fn push_expanded(
-    out: &mut String,
+    whole: &mut String,
     alloc: Global,
     text: &str,
     marks: &Marks,
-) -> Result<(), AllocError> {
+) -> Result<(), Fault> {
     let mut rest = text;
     for _ in 0..text.len() {
         let Some(part) = first_repetition(rest, marks) else {
             break;
         };
-        out.push_str(part.front)?;
-        push_turns(out, alloc, part.piece, part.times)?;
+        whole.push_str(part.front)?;
+        push_turns(whole, alloc, part.piece, part.times)?;
         rest = part.rest;
     }
-    out.push_str(rest)
+    whole.push_str(rest)?;
+    Ok(())
 }
 
 /// A text in which `{N|PIECE}` stands for the piece N times, and `{{N|PIECE}}` too, whose piece may hold the former. In a piece `#` is
-/// the number of times that are left. A brace that begins no such part ends the expansion.
-pub(crate) fn expanded(alloc: Global, text: &str) -> Result<String, AllocError> {
+/// the number of repetitions before, and `$` of those behind. A brace that begins no such part ends the expansion. Refused: Memory.
+pub fn expanded(alloc: Global, text: &str) -> Result<String, Fault> {
     let mut half = String::new(alloc);
     push_expanded(&mut half, alloc, text, &OUTER)?;
     let mut whole = String::new(alloc);
