@@ -7,7 +7,6 @@
 //! - `files`: the same of a script that was put together from three files.
 //! - `memory`: the message on the first command, where there was no memory for it.
 //! - `records`: the records, as JSON.
-//! - `runs`: the texts of the records, one behind another, which are what a run prints. The notes are printed.
 #![tactic(auto)]
 
 mod told;
@@ -72,40 +71,6 @@ fn compare_told(
     say_told(rt, row, &told)
 }
 
-// Prints the notes of what is told.
-fn say_notes(rt: &HostRuntime, told: &[u8]) -> Result<(), Fault> {
-    let Ok(told) = str::from_utf8(told) else {
-        return Err(Fault::Syntax);
-    };
-    for line in told.lines() {
-        if line.contains(": note: ") {
-            say(rt, line)?;
-        }
-    }
-    Ok(())
-}
-
-// Prints the notes on a script.
-fn tell_notes(rt: &HostRuntime, teller: &Teller<'_>, script: &[u8]) -> Result<(), Fault> {
-    let told = teller.messages(script)?;
-    say_notes(rt, &told)
-}
-
-// Tells the script of a row.
-fn tell_script(
-    rt: &HostRuntime,
-    teller: &Teller<'_>,
-    ending: &str,
-    row: &Row<'_>,
-    script: &[u8],
-) -> Result<(), Fault> {
-    compare_told(rt, teller, ending, row, script)?;
-    if ending == "runs" {
-        return tell_notes(rt, teller, script);
-    }
-    Ok(())
-}
-
 // Tells a row, in whose script repetitions are written short.
 fn tell_row(
     rt: &HostRuntime,
@@ -114,7 +79,7 @@ fn tell_row(
     row: &Row<'_>,
 ) -> Result<(), Fault> {
     let script = expanded(teller.alloc, row.script)?;
-    tell_script(rt, teller, ending, row, script.as_bytes())
+    compare_told(rt, teller, ending, row, script.as_bytes())
 }
 
 // Tells the rows of a text, and answers how many there are.

@@ -3,7 +3,6 @@ use hol_explain::{Origin, Refused, Script, explain, explain_refusal, write_recor
 use hol_host::Host;
 use hol_model::Fault;
 use hol_test_sample_devices::Kept;
-use serde_json::Value;
 use std::alloc::Global;
 
 // The file of a script.
@@ -46,8 +45,8 @@ impl Teller<'_> {
         }
     }
 
-    /// The messages and notes on a script of one file.
-    pub(crate) fn messages(&self, text: &[u8]) -> Result<Vec<u8>, Fault> {
+    // The messages and notes on a script of one file.
+    fn messages(&self, text: &[u8]) -> Result<Vec<u8>, Fault> {
         self.messages_of_files(&ONE_FILE, text)
     }
 
@@ -77,14 +76,6 @@ impl Teller<'_> {
         Ok(writer.bytes)
     }
 
-    // The texts of the records, one behind another.
-    fn texts(&self, text: &[u8]) -> Result<Vec<u8>, Fault> {
-        let records = self.records(text)?;
-        let mut told = Vec::new(self.alloc);
-        push_texts(self.alloc, &mut told, &records)?;
-        Ok(told)
-    }
-
     /// What is told of a script, by the ending of its file.
     pub(crate) fn told(&self, ending: &str, text: &[u8]) -> Result<Vec<u8>, Fault> {
         match ending {
@@ -92,36 +83,7 @@ impl Teller<'_> {
             "files" => self.messages_of_files(&THREE_FILES, text),
             "memory" => self.message_without_memory(text),
             "records" => self.records(text),
-            "runs" => self.texts(text),
             _ => Err(Fault::Syntax),
         }
     }
-}
-
-// Appends the text of a record.
-fn push_text(told: &mut Vec<u8>, record: &Value) -> Result<(), Fault> {
-    let Some(text) = record.get("text").and_then(Value::as_str) else {
-        return Err(Fault::Syntax);
-    };
-    told.extend_from_slice(text.as_bytes())?;
-    Ok(())
-}
-
-// Appends the text of a record, which is a line of JSON.
-fn push_text_of(alloc: Global, told: &mut Vec<u8>, line: &str) -> Result<(), Fault> {
-    match Value::from_str(alloc, line) {
-        Ok(record) => push_text(told, &record),
-        Err(_) => Err(Fault::Syntax),
-    }
-}
-
-// Appends the texts of records, one behind another.
-fn push_texts(alloc: Global, told: &mut Vec<u8>, records: &[u8]) -> Result<(), Fault> {
-    let Ok(records) = str::from_utf8(records) else {
-        return Err(Fault::Syntax);
-    };
-    for line in records.lines() {
-        push_text_of(alloc, told, line)?;
-    }
-    Ok(())
 }

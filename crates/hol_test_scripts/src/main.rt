@@ -2,14 +2,17 @@
 //! that answer wrongly or not at all: each at once, and as a conversation that reads byte by byte. Prints each file's name with the
 //! number of its rows, and before it the title of each row whose script writes something else than is expected, with what it writes.
 //!
-//! A row (`hol_test_sample_devices::Rows`) expects what its script writes; in a file `.counts`, what the summary of the run counts.
-//! `{60|PIECE}` is a repetition (`hol_test_sample_devices::expanded`).
+//! A row (`hol_test_sample_devices::Rows`) expects what its script writes. The texts of the records of its commands are the same, which is
+//! tried in a file `.rows`, and not in one `.runs`. In a file `.counts` it expects what the summary of the run counts. `{60|PIECE}` is a
+//! repetition (`hol_test_sample_devices::expanded`).
 #![tactic(auto)]
 
 mod host;
+mod records;
 mod runs;
 
 use crate::host::host_of_rows;
+use crate::records::texts_of_records;
 use crate::runs::{Written, run_dripping, run_whole};
 use hol_host::Host;
 use hol_script::Summary;
@@ -18,13 +21,21 @@ use std::fs;
 use std::io::Write;
 use std::process::ExitCode;
 
+// What is tried of the rows of a file.
+#[derive(Clone, Copy, PartialEq, Eq)]
+enum Kind {
+    Rows,
+    Runs,
+    Counts,
+}
+
 // A row whose repetitions are expanded.
 #[derive(Clone, Copy)]
 struct Case<'a> {
+    kind: Kind,
     title: &'a str,
     script: &'a str,
     expected: &'a str,
-    counts: bool,
 }
 
 fn compare(rt: &HostRuntime, case: &Case<'_>, wrote: &[u8]) -> anyhow::Result<()> {
@@ -45,7 +56,7 @@ fn compare_summary(rt: &HostRuntime, case: &Case<'_>, summary: &Summary) -> anyh
 }
 
 fn compare_run(rt: &HostRuntime, case: &Case<'_>, written: &Written) -> anyhow::Result<()> {
-    if case.counts {
+    if case.kind == Kind::Counts {
         compare_summary(rt, case, &written.summary)
     } else {
         compare(rt, case, written.output.as_slice())
@@ -62,34 +73,51 @@ fn try_dripping(rt: &HostRuntime, host: &Host, case: &Case<'_>) -> anyhow::Resul
     compare_run(rt, case, &written)
 }
 
-fn try_row(rt: &HostRuntime, host: &Host, row: &Row<'_>, counts: bool) -> anyhow::Result<()> {
+fn try_records(rt: &HostRuntime, host: &Host, case: &Case<'_>) -> anyhow::Result<()> {
+    if case.kind != Kind::Rows {
+        return Ok(());
+    }
+    let texts = texts_of_records(rt.alloc(), case.script.as_bytes(), host)?;
+    compare(rt, case, texts.as_slice())
+}
+
+fn try_row(rt: &HostRuntime, host: &Host, kind: Kind, row: &Row<'_>) -> anyhow::Result<()> {
     let script = expanded(rt.alloc(), row.script)?;
     let expected = expanded(rt.alloc(), row.expected)?;
     let case = Case {
+        kind,
         title: row.title,
         script: script.as_str(),
         expected: expected.as_str(),
-        counts,
     };
     try_whole(rt, host, &case)?;
-    try_dripping(rt, host, &case)
+    try_dripping(rt, host, &case)?;
+    try_records(rt, host, &case)
 }
 
 // Tries each row of a text, and answers how many there are.
-fn try_rows(rt: &HostRuntime, host: &Host, text: &str, counts: bool) -> anyhow::Result<usize> {
+fn try_rows(rt: &HostRuntime, host: &Host, kind: Kind, text: &str) -> anyhow::Result<usize> {
     let mut rows = Rows::new(text);
     for count in 0..text.len() {
         let Some(row) = rows.next() else {
             return Ok(count);
         };
-        try_row(rt, host, &row, counts)?;
+        try_row(rt, host, kind, &row)?;
     }
     Ok(text.len())
 }
 
+fn kind_of(name: &str) -> Kind {
+    match name.rsplit_once('.') {
+        Some((_, "runs")) => Kind::Runs,
+        Some((_, "counts")) => Kind::Counts,
+        _ => Kind::Rows,
+    }
+}
+
 fn try_file(rt: &HostRuntime, host: &Host, name: &str) -> anyhow::Result<()> {
     let text = fs::read_to_string(rt, name)?;
-    let count = try_rows(rt, host, text.as_str(), name.ends_with(".counts"))?;
+    let count = try_rows(rt, host, kind_of(name), text.as_str())?;
     println!(rt; "{name}: {count}")?;
     Ok(())
 }

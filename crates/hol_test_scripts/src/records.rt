@@ -1,0 +1,61 @@
+// Records of commands, and their texts.
+use hol_explain::{Origin, Script, write_records};
+use hol_host::Host;
+use hol_model::Fault;
+use hol_test_sample_devices::Kept;
+use serde_json::Value;
+use std::alloc::Global;
+
+const ORIGINS: [Origin<'static>; 1] = [Origin {
+    file: "s",
+    lines_before: 0,
+}];
+
+// The records of the commands of a script over a host.
+fn records(alloc: Global, text: &[u8], host: &Host) -> Result<Vec<u8>, Fault> {
+    let host_names = Vec::new(alloc);
+    let script = Script {
+        origins: &ORIGINS,
+        text,
+        host_names: &host_names,
+    };
+    let mut writer = Kept::new(alloc);
+    write_records(alloc, &script, host, &mut writer)?;
+    Ok(writer.bytes)
+}
+
+// Appends the text of a record.
+fn push_text(texts: &mut Vec<u8>, record: &Value) -> Result<(), Fault> {
+    let Some(text) = record.get("text").and_then(Value::as_str) else {
+        return Err(Fault::Syntax);
+    };
+    texts.extend_from_slice(text.as_bytes())?;
+    Ok(())
+}
+
+// Appends the text of a record, which is a line of JSON.
+fn push_text_of(alloc: Global, texts: &mut Vec<u8>, line: &str) -> Result<(), Fault> {
+    match Value::from_str(alloc, line) {
+        Ok(record) => push_text(texts, &record),
+        Err(_) => Err(Fault::Syntax),
+    }
+}
+
+// Appends the texts of records, one behind another.
+fn push_texts(alloc: Global, texts: &mut Vec<u8>, records: &[u8]) -> Result<(), Fault> {
+    let Ok(records) = str::from_utf8(records) else {
+        return Err(Fault::Syntax);
+    };
+    for line in records.lines() {
+        push_text_of(alloc, texts, line)?;
+    }
+    Ok(())
+}
+
+/// The texts of the records of a script's commands over a host, one behind another.
+pub(crate) fn texts_of_records(alloc: Global, text: &[u8], host: &Host) -> Result<Vec<u8>, Fault> {
+    let records = records(alloc, text, host)?;
+    let mut texts = Vec::new(alloc);
+    push_texts(alloc, &mut texts, &records)?;
+    Ok(texts)
+}
