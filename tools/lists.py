@@ -9,7 +9,6 @@
     README.md              the seconds of works, which stand in docs/BENCHMARKS.md; the number of theorems
     library/README.md      the theorems, with what holp_library prints of them, and their numbers
     library/developments   the numbers of commands and characters
-    crates/hol_test_explain/data    its runs, which are rows of crates/hol_test_scripts/data
 """
 import glob
 import os
@@ -117,9 +116,5 @@ for name, _, _ in told:
     script = " ".join(text(f"library/developments/{name}.hol").split())
     is_so.append((name, f"{script.count(';;'):,}", f"{len(script):,}"))
 compare("library/developments", told, is_so)
-for rows in sorted(glob.glob("crates/hol_test_scripts/data/*.rows")):
-    runs = rows.replace("hol_test_scripts", "hol_test_explain").replace(".rows", ".runs")
-    if os.path.exists(runs) and text(runs) != text(rows):
-        wrong.append(f"{runs}: is not {rows}")
 print("\n".join(wrong) if wrong else "all lists are as what they list")
 sys.exit(1 if wrong else 0)
