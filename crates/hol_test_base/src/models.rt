@@ -30,7 +30,7 @@ pub(crate) struct Family<'a> {
     pub(crate) claims: &'a [Claim<'a>],
 }
 
-fn numbers(alloc: Global, list: &[u32]) -> Result<Vec<Element>, AllocError> {
+fn elements_of(alloc: Global, list: &[u32]) -> Result<Vec<Element>, AllocError> {
     let mut elements = Vec::new(alloc);
     for n in list {
         elements.push(Element::number(alloc, *n)?)?;
@@ -42,7 +42,7 @@ fn carriers<'a>(alloc: Global, types: &[Numbers<'a>]) -> Result<Vec<NamedCarrier
     let mut all = Vec::new(alloc);
     for at in 0..types.len() {
         let Numbers(name, list) = types[at];
-        let elements = numbers(alloc, list)?;
+        let elements = elements_of(alloc, list)?;
         all.push(NamedCarrier { name, elements })?;
     }
     Ok(all)
@@ -148,11 +148,11 @@ fn write_models<'a>(
     others: &[Variable<'a>],
 ) -> Result<(), AllocError> {
     let [first, rest @ ..] = others else {
-        let choices = with_variables(choices, chosen.as_slice());
+        let choices = with_variables(&*choices, chosen.as_slice());
         return write_model(alloc, out, family, &choices);
     };
     let Variable(name, ty) = *first;
-    let elements = carrier(alloc, &Interpretation::Given(choices), ty)?;
+    let elements = carrier(alloc, &Interpretation::Given(&*choices), ty)?;
     for element in &elements {
         let element = element.copy()?;
         chosen.push(VariableElement { name, ty, element })?;
