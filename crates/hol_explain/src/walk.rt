@@ -388,21 +388,19 @@ fn walk_over<W: Sink, H: Refiners>(walk: &Walk<'_, H>, writer: &mut W) -> Result
 /// Runs the commands of a script once more, over a proof manager of its own, and writes a message for each that is refused:
 /// the file, and in it the line and the column of the part in question, the refusal, and what was expected and what stands there.
 /// Of one that is accepted and suspicious it writes a note: the place, and what it does that may not be meant.
-/// What the messages and notes say takes part in no promise. Refused: Memory, and WriteFault where the sink failed.
+/// What the messages and notes say takes part in no promise. Answers how many commands were refused, which are others than a run
+/// refused where a function of the host answers otherwise each time. Refused: Memory, and WriteFault where the sink failed.
 pub fn explain<W: Sink, H: Refiners>(
     alloc: Global,
     script: &Script<'_>,
     host: &H,
     writer: &mut W,
-) -> Result<(), Fault>
+) -> Result<u64, Fault>
     requires { W.has_failed writer.old ≡ false }
     ensures { IfErr result (Contains (WriteFault ∷ Memory ∷ [])) }
 {
     let walk = Walk::new(alloc, script, host);
-    match walk_over(&walk, writer) {
-        Ok(_refused) => Ok(()),
-        Err(fault) => Err(fault),
-    }
+    walk_over(&walk, writer)
 }
 
 /// Runs the commands of a script over a proof manager of its own, and writes a line of JSON for each: its file, where it begins and

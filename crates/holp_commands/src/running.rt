@@ -30,6 +30,18 @@ pub(crate) fn create(rt: &HostRuntime, name: &str) -> Result<File, Fault> {
     }
 }
 
+// Tells where messages are of other commands than the run refused.
+fn tell_other_answers(rt: &HostRuntime, refused: u64, explained: Result<u64, Fault>) {
+    match explained {
+        Ok(count) if count != refused => {
+            let _ = eprintln!(rt;
+                "note: the run refused {refused} commands, and {count} when it was done again to be explained: a function of the host answers otherwise each time"
+            );
+        }
+        _ => {}
+    }
+}
+
 // Runs a script over a host, and answers how many of its commands were refused. Where these are to be explained, what is said of
 // them, and noted of others, is written to standard error behind the run, and takes no part in how it ends.
 fn run_with<W: Sink, L: Sink>(
@@ -55,7 +67,8 @@ fn run_with<W: Sink, L: Sink>(
         drop(ended);
         let mut output = rt.stderr();
         if let Ok(writes) = Box::new(alloc, move |piece: &[u8]| output.write(piece)) {
-            let _ = explain(alloc, script, host, &mut IntoCall::new(writes));
+            let explained = explain(alloc, script, host, &mut IntoCall::new(writes));
+            tell_other_answers(rt, refused, explained);
         }
     } else {
         // The program ends, and the session goes with its memory, as one.
