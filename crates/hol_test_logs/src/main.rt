@@ -122,11 +122,17 @@ fn print_counts(
     ))
 }
 
-// Prints what runs and conversations come to.
+// Prints what runs and conversations of a session come to.
+fn print_both(rt: &HostRuntime, session: &Session<'_>, host: &Host) -> Result<(), Fault> {
+    print_counts(rt, session, false, host)?;
+    print_counts(rt, session, true, host)
+}
+
 fn print_session(rt: &HostRuntime, turns: &str, host: &Host) -> Result<(), Fault> {
-    let session = Session::new(rt.alloc(), turns, host)?;
-    print_counts(rt, &session, false, host)?;
-    print_counts(rt, &session, true, host)
+    match Session::new(rt.alloc(), turns, host) {
+        Ok(session) => print_both(rt, &session, host),
+        Err(fault) => Err(fault),
+    }
 }
 
 fn try_file(rt: &HostRuntime, name: &str, host: &Host) -> Result<(), Fault> {
