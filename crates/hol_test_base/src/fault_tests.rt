@@ -1,6 +1,6 @@
 // The texts of faults.
 use hol_model::{ATOMS_LIMIT, Cause, Fault};
-use std::alloc::AllocError;
+use std::alloc::Global;
 
 // The faults, by their numbers.
 const FAULTS: [Fault; 35] = [
@@ -47,11 +47,20 @@ const FAULTS: [Fault; 35] = [
     Fault::UnknownType,
 ];
 
-/// Writes each fault on a line.
-pub(crate) fn write_faults(out: &mut String) -> Result<(), AllocError> {
+// Whether a fault is written as its number and its name.
+fn is_written(alloc: Global, fault: &Fault) -> Result<bool, Fault> {
+    let mut written = String::new(alloc);
+    write!(written, "{fault}")?;
+    let mut expected = String::new(alloc);
+    write!(expected, "E{} {}", fault.number(), fault.name())?;
+    Ok(written.as_str() == expected.as_str())
+}
+
+#[test]
+fn each_fault_is_written_as_its_number_and_name(rt: HostRuntime) {
     for at in 0..FAULTS.len() {
         let fault = &FAULTS[at];
-        writeln!(out, "{fault}")?;
+        assert!(rt; fault.number() as usize == at + 1);
+        assert!(rt; is_written(rt.alloc(), fault) == Ok(true));
     }
-    Ok(())
 }
