@@ -73,7 +73,7 @@ impl Told {
     }
 }
 
-fn told(answer: Result<Ended, Fault>) -> Told {
+fn told_of(answer: Result<Ended, Fault>) -> Told {
     match answer {
         Ok(ended) => Told {
             refusal: None,
@@ -107,7 +107,7 @@ pub(crate) fn run_source<R: Source>(
         run(alloc, reader, &mut writer, &mut log, true, host)
     };
     Left {
-        told: told(answer),
+        told: told_of(answer),
         output: writer.bytes,
         log: log.bytes,
     }

@@ -13,7 +13,7 @@ pub(crate) struct Written {
     pub(crate) summary: Summary,
 }
 
-fn written(writer: Kept, ended: Result<Ended, Fault>) -> Result<Written, Fault> {
+fn what_is_written(writer: Kept, ended: Result<Ended, Fault>) -> Result<Written, Fault> {
     match ended {
         Ok(ended) => Ok(Written {
             output: writer.bytes,
@@ -29,7 +29,7 @@ pub(crate) fn run_whole(alloc: Global, script: &[u8], host: &Host) -> Result<Wri
     let mut writer = Kept::new(alloc);
     let mut no_log = Kept::new(alloc);
     let ended = run(alloc, &mut reader, &mut writer, &mut no_log, false, host);
-    written(writer, ended)
+    what_is_written(writer, ended)
 }
 
 /// The same as a conversation that reads byte by byte.
@@ -38,5 +38,5 @@ pub(crate) fn run_dripping(alloc: Global, script: &[u8], host: &Host) -> Result<
     let mut writer = Kept::new(alloc);
     let mut no_log = Kept::new(alloc);
     let ended = converse(alloc, &mut reader, &mut writer, &mut no_log, false, host);
-    written(writer, ended)
+    what_is_written(writer, ended)
 }
