@@ -12,13 +12,8 @@
 mod told;
 
 use crate::told::Teller;
-use hol_host::Host;
-use hol_host_samples::{liar, peel};
-use hol_just::Goal;
 use hol_model::Fault;
-use hol_terms::Term;
 use hol_test_sample_devices::{Row, Rows, expanded};
-use hol_test_sample_host::wrong;
 use std::alloc::Global;
 use std::fs;
 use std::process::ExitCode;
@@ -117,22 +112,6 @@ fn tell_files(rt: &HostRuntime, teller: &Teller<'_>, names: &str) -> Result<(), 
     Ok(())
 }
 
-// Stores a refiner that peels under a name.
-fn store_peel(alloc: Global, host: &mut Host, name: &str) -> Result<(), Fault> {
-    let peels = Box::new(alloc, |alloc: Global, goal: &Goal| peel(alloc, goal))?;
-    host.refiner(alloc, name, peels)
-}
-
-// Stores a refiner that lies, two that peel, and a conversion that errs.
-fn store_functions(alloc: Global, host: &mut Host) -> Result<(), Fault> {
-    let lies = Box::new(alloc, |alloc: Global, goal: &Goal| liar(alloc, goal))?;
-    host.refiner(alloc, "liar", lies)?;
-    let errs = Box::new(alloc, |alloc: Global, term: &Term| wrong(alloc, term))?;
-    host.conv(alloc, "wrong", errs)?;
-    store_peel(alloc, host, "peel")?;
-    store_peel(alloc, host, "meson")
-}
-
 // Appends the names of the refiners.
 fn push_names(alloc: Global, names: &mut Vec<String>) -> Result<(), Fault> {
     for name in ["liar", "peel", "meson"] {
@@ -147,23 +126,15 @@ fn tell_data(rt: &HostRuntime, teller: &Teller<'_>) -> Result<(), Fault> {
     tell_files(rt, teller, &names)
 }
 
-// Tells them over a host.
-fn tell_over(rt: &HostRuntime, host: &Host) -> Result<(), Fault> {
+fn tell_all(rt: &HostRuntime) -> Result<(), Fault> {
     let alloc = rt.alloc();
     let mut names = Vec::new(alloc);
     push_names(alloc, &mut names)?;
     let teller = Teller {
         alloc,
-        host,
         host_names: &names,
     };
     tell_data(rt, &teller)
-}
-
-fn tell_all(rt: &HostRuntime) -> Result<(), Fault> {
-    let mut host = Host::new(rt.alloc());
-    store_functions(rt.alloc(), &mut host)?;
-    tell_over(rt, &host)
 }
 
 fn main(rt: HostRuntime) -> ExitCode {

@@ -1,8 +1,8 @@
 // What is told of a script.
 use hol_explain::{Origin, Refused, Script, explain, explain_refusal, write_records};
-use hol_host::Host;
 use hol_model::Fault;
 use hol_test_sample_devices::Kept;
+use hol_test_sample_host::Samples;
 use std::alloc::Global;
 
 // The file of a script.
@@ -27,11 +27,10 @@ const THREE_FILES: [Origin<'static>; 3] = [
     },
 ];
 
-/// Tells scripts over a host.
+/// Tells scripts over the host of tests.
 #[derive(Clone, Copy)]
 pub(crate) struct Teller<'a> {
     pub(crate) alloc: Global,
-    pub(crate) host: &'a Host,
     pub(crate) host_names: &'a [String],
 }
 
@@ -54,7 +53,7 @@ impl Teller<'_> {
     fn messages_of_files(&self, origins: &[Origin<'_>], text: &[u8]) -> Result<Vec<u8>, Fault> {
         let script = self.script(origins, text);
         let mut writer = Kept::new(self.alloc);
-        explain(self.alloc, &script, self.host, &mut writer)?;
+        explain(self.alloc, &script, &Samples, &mut writer)?;
         Ok(writer.bytes)
     }
 
@@ -62,7 +61,7 @@ impl Teller<'_> {
     fn message_without_memory(&self, text: &[u8]) -> Result<Vec<u8>, Fault> {
         let script = self.script(&ONE_FILE, text);
         let refused = Refused::plain(Fault::Memory);
-        let message = explain_refusal(self.alloc, &script, self.host, &refused)?;
+        let message = explain_refusal(self.alloc, &script, &Samples, &refused)?;
         let mut told = Vec::new(self.alloc);
         told.extend_from_slice(message.as_bytes())?;
         Ok(told)
@@ -72,7 +71,7 @@ impl Teller<'_> {
     fn records(&self, text: &[u8]) -> Result<Vec<u8>, Fault> {
         let script = self.script(&ONE_FILE, text);
         let mut writer = Kept::new(self.alloc);
-        write_records(self.alloc, &script, self.host, &mut writer)?;
+        write_records(self.alloc, &script, &Samples, &mut writer)?;
         Ok(writer.bytes)
     }
 

@@ -1,10 +1,11 @@
 // A host that counts its calls.
-ghost use Rattle.std.specs.Prelude.{◌≡◌, ◌↔◌, map, Contains, IsSome};
+ghost use Rattle.std.specs.Prelude.{map};
 
 use crate::steps::{same, told, twice, unchanged};
 use hol_host::{Converters, HostFail, Refiners};
 use hol_just::{Goal, Just, Step};
 use hol_terms::Term;
+use hol_test_sample_host::named;
 use std::alloc::Global;
 use std::cell::Cell;
 
@@ -30,18 +31,6 @@ const REFINERS: [(&str, Refiner); 3] = [
 ];
 
 const CONVERSIONS: [(&str, Conversion); 1] = [("f", Conversion::Counted)];
-
-// What stands under a name in a table.
-fn named<F: Copy>(table: &[(&'static str, F)], name: &str) -> Option<F>
-    ensures { IsSome result ↔ Contains (map (λ entry. entry.0.now) table.now) name.now }
-{
-    for entry in table {
-        if entry.0 == name {
-            return Some(entry.1);
-        }
-    }
-    None
-}
 
 /// The host, and how often its counted functions were called.
 #[derive(Drop)]

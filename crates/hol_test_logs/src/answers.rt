@@ -2,7 +2,6 @@
 use crate::runs::run_whole;
 use hol_check::{Claim, TermParts, TermView, check, check_log, write_claims, write_entries};
 use hol_device_adapters::FromRead;
-use hol_host::Host;
 use hol_model::Fault;
 use hol_test_sample_devices::{Kept, expanded};
 use std::alloc::Global;
@@ -94,13 +93,8 @@ fn fronts_of(alloc: Global, log: &[u8]) -> Result<Vec<u8>, Fault> {
 }
 
 // What the log of a script comes to.
-fn answer_of_script(
-    alloc: Global,
-    kind: &str,
-    script: &[u8],
-    host: &Host,
-) -> Result<Vec<u8>, Fault> {
-    let left = run_whole(alloc, script, host);
+fn answer_of_script(alloc: Global, kind: &str, script: &[u8]) -> Result<Vec<u8>, Fault> {
+    let left = run_whole(alloc, script);
     match kind {
         "claims" => claims_of(alloc, &left.log),
         "entries" => entries_of(alloc, &left.log),
@@ -109,19 +103,19 @@ fn answer_of_script(
 }
 
 // What a script or a log comes to.
-fn answer_of(alloc: Global, kind: &str, text: &[u8], host: &Host) -> Result<Vec<u8>, Fault> {
+fn answer_of(alloc: Global, kind: &str, text: &[u8]) -> Result<Vec<u8>, Fault> {
     match kind {
         "checked" => claims_of(alloc, text),
         "fronts" => fronts_of(alloc, text),
         "parts" => parts_of(alloc, text),
-        _ => answer_of_script(alloc, kind, text, host),
+        _ => answer_of_script(alloc, kind, text),
     }
 }
 
 /// What the script or the log of a row comes to, or the line of its refusal.
-pub(crate) fn answer(alloc: Global, kind: &str, text: &str, host: &Host) -> Result<Vec<u8>, Fault> {
+pub(crate) fn answer(alloc: Global, kind: &str, text: &str) -> Result<Vec<u8>, Fault> {
     let text = expanded(alloc, text)?;
-    lines_of(alloc, answer_of(alloc, kind, text.as_bytes(), host))
+    lines_of(alloc, answer_of(alloc, kind, text.as_bytes()))
 }
 
 /// Whether an answer is what is expected.

@@ -1,7 +1,6 @@
 // Runs, conversations and the checker over devices that fail or do not end.
 use crate::runs::{Left, Setting, run_script, run_source, run_whole};
 use hol_check::check;
-use hol_host::Host;
 use hol_model::Fault;
 use hol_test_sample_devices::{Drips, Endless, Rows};
 use std::alloc::Global;
@@ -56,11 +55,11 @@ fn push_answers(answers: &mut Vec<u8>, turns: &str, count: usize) -> Result<(), 
 
 impl<'a> Session<'a> {
     /// The session of these commands and answers.
-    pub(crate) fn new(alloc: Global, turns: &'a str, host: &Host) -> Result<Session<'a>, Fault> {
+    pub(crate) fn new(alloc: Global, turns: &'a str) -> Result<Session<'a>, Fault> {
         let mut script = Vec::new(alloc);
         let mut output = Vec::new(alloc);
         push_turns(&mut script, &mut output, turns)?;
-        let left = run_whole(alloc, &script, host);
+        let left = run_whole(alloc, &script);
         Ok(Session {
             turns,
             script,
@@ -70,13 +69,13 @@ impl<'a> Session<'a> {
     }
 
     // A run of the whole script.
-    fn run(&self, alloc: Global, setting: Setting, host: &Host) -> Left {
-        run_script(alloc, &self.script, self.script.len(), setting, host)
+    fn run(&self, alloc: Global, setting: Setting) -> Left {
+        run_script(alloc, &self.script, self.script.len(), setting)
     }
 
     // Whether a run has the output and the log.
-    fn is_right(&self, alloc: Global, is_conversation: bool, host: &Host) -> bool {
-        let left = self.run(alloc, Setting::ample(is_conversation), host);
+    fn is_right(&self, alloc: Global, is_conversation: bool) -> bool {
+        let left = self.run(alloc, Setting::ample(is_conversation));
         left.told.is_whole() && left.output == self.output && left.log == self.log
     }
 
@@ -100,11 +99,10 @@ impl<'a> Session<'a> {
         alloc: Global,
         is_conversation: bool,
         reads: usize,
-        host: &Host,
     ) -> Result<bool, Fault> {
         let answers = self.answers_before(alloc, is_conversation, reads)?;
         let setting = Setting::ample(is_conversation);
-        let left = run_script(alloc, &self.script, reads, setting, host);
+        let left = run_script(alloc, &self.script, reads, setting);
         Ok(
             left.told.refusal == Some(Fault::ReadFault)
                 && left.output == answers
@@ -113,70 +111,53 @@ impl<'a> Session<'a> {
     }
 
     // Whether a run whose output has room for so many bytes writes that front of it, and no log.
-    fn stops_writing(
-        &self,
-        alloc: Global,
-        is_conversation: bool,
-        output_room: usize,
-        host: &Host,
-    ) -> bool {
+    fn stops_writing(&self, alloc: Global, is_conversation: bool, output_room: usize) -> bool {
         let setting = Setting {
             is_conversation,
             output_room,
             log_room: usize::MAX,
         };
-        let left = self.run(alloc, setting, host);
+        let left = self.run(alloc, setting);
         left.told.refusal == Some(Fault::WriteFault)
             && self.output.get(..output_room) == Some(left.output.as_slice())
             && left.log.is_empty()
     }
 
     // Whether a run whose log has room for so many bytes writes its whole output, and that front of its log.
-    fn stops_logging(
-        &self,
-        alloc: Global,
-        is_conversation: bool,
-        log_room: usize,
-        host: &Host,
-    ) -> bool {
+    fn stops_logging(&self, alloc: Global, is_conversation: bool, log_room: usize) -> bool {
         let setting = Setting {
             is_conversation,
             output_room: usize::MAX,
             log_room,
         };
-        let left = self.run(alloc, setting, host);
+        let left = self.run(alloc, setting);
         left.told.refusal == None
             && left.told.log_refusal == Some(Fault::WriteFault)
             && left.output == self.output
             && self.log.get(..log_room) == Some(left.log.as_slice())
     }
 
-    fn count_reads(
-        &self,
-        alloc: Global,
-        is_conversation: bool,
-        host: &Host,
-    ) -> Result<usize, Fault> {
+    fn count_reads(&self, alloc: Global, is_conversation: bool) -> Result<usize, Fault> {
         for reads in 0..self.script.len() {
-            if !self.stops_reading(alloc, is_conversation, reads, host)? {
+            if !self.stops_reading(alloc, is_conversation, reads)? {
                 return Ok(reads);
             }
         }
         Ok(self.script.len())
     }
 
-    fn count_writes(&self, alloc: Global, is_conversation: bool, host: &Host) -> usize {
+    fn count_writes(&self, alloc: Global, is_conversation: bool) -> usize {
         for room in 0..self.output.len() {
-            if !self.stops_writing(alloc, is_conversation, room, host) {
+            if !self.stops_writing(alloc, is_conversation, room) {
                 return room;
             }
         }
         self.output.len()
     }
 
-    fn count_logged(&self, alloc: Global, is_conversation: bool, host: &Host) -> usize {
+    fn count_logged(&self, alloc: Global, is_conversation: bool) -> usize {
         for room in 0..self.log.len() {
-            if !self.stops_logging(alloc, is_conversation, room, host) {
+            if !self.stops_logging(alloc, is_conversation, room) {
                 return room;
             }
         }
@@ -184,25 +165,20 @@ impl<'a> Session<'a> {
     }
 
     /// What runs or conversations come to.
-    pub(crate) fn counts(
-        &self,
-        alloc: Global,
-        is_conversation: bool,
-        host: &Host,
-    ) -> Result<Counts, Fault> {
-        let reads = self.count_reads(alloc, is_conversation, host)?;
+    pub(crate) fn counts(&self, alloc: Global, is_conversation: bool) -> Result<Counts, Fault> {
+        let reads = self.count_reads(alloc, is_conversation)?;
         Ok(Counts {
-            is_right: self.is_right(alloc, is_conversation, host),
+            is_right: self.is_right(alloc, is_conversation),
             reads,
-            writes: self.count_writes(alloc, is_conversation, host),
-            logged: self.count_logged(alloc, is_conversation, host),
+            writes: self.count_writes(alloc, is_conversation),
+            logged: self.count_logged(alloc, is_conversation),
         })
     }
 }
 
 /// What a run of a script without an end is refused for, where it writes nothing.
-pub(crate) fn refusal_of_endless(alloc: Global, host: &Host) -> Option<Fault> {
-    let left = run_source(alloc, &mut Endless, Setting::ample(false), host);
+pub(crate) fn refusal_of_endless(alloc: Global) -> Option<Fault> {
+    let left = run_source(alloc, &mut Endless, Setting::ample(false));
     if left.output.is_empty() && left.log.is_empty() {
         left.told.refusal
     } else {

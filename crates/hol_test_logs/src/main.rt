@@ -12,11 +12,9 @@ mod traces;
 
 use answers::{answer, is_expected};
 use devices::{Session, refusal_of_break, refusal_of_endless, refusal_of_endless_log};
-use hol_host::Host;
 use hol_model::Fault;
 use hol_test_sample_devices::{Row, Rows};
 use itoa::Buffer;
-use runs::host_of_samples;
 use std::process::ExitCode;
 use std::{fs, io};
 use traces::{keeps_entries, trace_of};
@@ -53,9 +51,8 @@ fn try_answer(
     title: &str,
     text: &str,
     expected: &str,
-    host: &Host,
 ) -> Result<(), Fault> {
-    let answer = answer(rt.alloc(), kind, text, host)?;
+    let answer = answer(rt.alloc(), kind, text)?;
     if is_expected(rt.alloc(), expected, &answer)? {
         return Ok(());
     }
@@ -63,47 +60,47 @@ fn try_answer(
 }
 
 // Tries the claims of a script with a number at each mark.
-fn try_size(rt: &HostRuntime, row: &Row<'_>, size: usize, host: &Host) -> Result<(), Fault> {
+fn try_size(rt: &HostRuntime, row: &Row<'_>, size: usize) -> Result<(), Fault> {
     let mut buffer = Buffer::new();
     let digits = buffer.format(size);
     let script = row.script.replace(rt.alloc(), '#', digits)?;
     let claims = row.expected.replace(rt.alloc(), '#', digits)?;
-    try_answer(rt, "claims", row.title, &script, &claims, host)
+    try_answer(rt, "claims", row.title, &script, &claims)
 }
 
-fn try_sizes(rt: &HostRuntime, row: &Row<'_>, host: &Host) -> Result<(), Fault> {
+fn try_sizes(rt: &HostRuntime, row: &Row<'_>) -> Result<(), Fault> {
     for size in 0..100 {
-        try_size(rt, row, size, host)?;
+        try_size(rt, row, size)?;
     }
     Ok(())
 }
 
 // Prints what refused commands leave in the log of a script.
-fn print_trace(rt: &HostRuntime, row: &Row<'_>, host: &Host) -> Result<(), Fault> {
-    let trace = trace_of(rt.alloc(), row.script, row.expected, host)?;
+fn print_trace(rt: &HostRuntime, row: &Row<'_>) -> Result<(), Fault> {
+    let trace = trace_of(rt.alloc(), row.script, row.expected)?;
     written(println!(rt;
         "{}: {} refused, {} printed, one log: {}",
         row.title, trace.refused, trace.printed, trace.is_one_log
     ))
 }
 
-fn try_row(rt: &HostRuntime, kind: &str, row: &Row<'_>, host: &Host) -> Result<(), Fault> {
+fn try_row(rt: &HostRuntime, kind: &str, row: &Row<'_>) -> Result<(), Fault> {
     match kind {
         "rows" => written(println!(rt; "[{}][{}][{}]", row.title, row.script, row.expected)),
-        "sizes" => try_sizes(rt, row, host),
-        "refused" => print_trace(rt, row, host),
-        _ => try_answer(rt, kind, row.title, row.script, row.expected, host),
+        "sizes" => try_sizes(rt, row),
+        "refused" => print_trace(rt, row),
+        _ => try_answer(rt, kind, row.title, row.script, row.expected),
     }
 }
 
 // Tries each row of a text, and answers their number.
-fn try_rows(rt: &HostRuntime, kind: &str, text: &str, host: &Host) -> Result<usize, Fault> {
+fn try_rows(rt: &HostRuntime, kind: &str, text: &str) -> Result<usize, Fault> {
     let mut rows = Rows::new(text);
     for count in 0..text.len() {
         let Some(row) = rows.next() else {
             return Ok(count);
         };
-        try_row(rt, kind, &row, host)?;
+        try_row(rt, kind, &row)?;
     }
     Ok(text.len())
 }
@@ -113,9 +110,8 @@ fn print_counts(
     rt: &HostRuntime,
     session: &Session<'_>,
     is_conversation: bool,
-    host: &Host,
 ) -> Result<(), Fault> {
-    let counts = session.counts(rt.alloc(), is_conversation, host)?;
+    let counts = session.counts(rt.alloc(), is_conversation)?;
     written(println!(rt;
         "as a conversation: {is_conversation}, right: {}, {} reads, {} bytes of output and {} bytes of the log refused in turn",
         counts.is_right, counts.reads, counts.writes, counts.logged
@@ -123,34 +119,34 @@ fn print_counts(
 }
 
 // Prints what runs and conversations of a session come to.
-fn print_both(rt: &HostRuntime, session: &Session<'_>, host: &Host) -> Result<(), Fault> {
-    print_counts(rt, session, false, host)?;
-    print_counts(rt, session, true, host)
+fn print_both(rt: &HostRuntime, session: &Session<'_>) -> Result<(), Fault> {
+    print_counts(rt, session, false)?;
+    print_counts(rt, session, true)
 }
 
-fn print_session(rt: &HostRuntime, turns: &str, host: &Host) -> Result<(), Fault> {
-    match Session::new(rt.alloc(), turns, host) {
-        Ok(session) => print_both(rt, &session, host),
+fn print_session(rt: &HostRuntime, turns: &str) -> Result<(), Fault> {
+    match Session::new(rt.alloc(), turns) {
+        Ok(session) => print_both(rt, &session),
         Err(fault) => Err(fault),
     }
 }
 
-fn try_file(rt: &HostRuntime, name: &str, host: &Host) -> Result<(), Fault> {
+fn try_file(rt: &HostRuntime, name: &str) -> Result<(), Fault> {
     let text = read(rt, name)?;
     let Some((_, kind)) = name.split_once('.') else {
         return Err(Fault::Syntax);
     };
     if kind == "turns" {
-        return print_session(rt, &text, host);
+        return print_session(rt, &text);
     }
-    let count = try_rows(rt, kind, &text, host)?;
+    let count = try_rows(rt, kind, &text)?;
     written(println!(rt; "{name}: {count} rows"))
 }
 
-fn try_files(rt: &HostRuntime, host: &Host) -> Result<(), Fault> {
+fn try_files(rt: &HostRuntime) -> Result<(), Fault> {
     let names = read(rt, "files.txt")?;
     for name in names.lines() {
-        try_file(rt, name, host)?;
+        try_file(rt, name)?;
     }
     Ok(())
 }
@@ -163,29 +159,24 @@ fn print_refusal(rt: &HostRuntime, name: &str, refusal: Option<Fault>) -> Result
 }
 
 // Prints what is refused of sources that fail or do not end.
-fn print_refusals(rt: &HostRuntime, host: &Host) -> Result<(), Fault> {
+fn print_refusals(rt: &HostRuntime) -> Result<(), Fault> {
     let alloc = rt.alloc();
-    print_refusal(
-        rt,
-        "a script without an end",
-        refusal_of_endless(alloc, host),
-    )?;
+    print_refusal(rt, "a script without an end", refusal_of_endless(alloc))?;
     print_refusal(rt, "a log without an end", refusal_of_endless_log(alloc))?;
     print_refusal(rt, "a faulty log that breaks off", refusal_of_break(alloc))
 }
 
 // Prints whether entries are kept, by whether a log is wanted.
-fn print_kept(rt: &HostRuntime, host: &Host) -> Result<(), Fault> {
-    let with_log = keeps_entries(rt.alloc(), SCRIPT, true, host)?;
-    let without_log = keeps_entries(rt.alloc(), SCRIPT, false, host)?;
+fn print_kept(rt: &HostRuntime) -> Result<(), Fault> {
+    let with_log = keeps_entries(rt.alloc(), SCRIPT, true)?;
+    let without_log = keeps_entries(rt.alloc(), SCRIPT, false)?;
     written(println!(rt; "entries kept: {with_log} with a log, {without_log} without one"))
 }
 
 fn try_all(rt: &HostRuntime) -> Result<(), Fault> {
-    let host = host_of_samples(rt.alloc())?;
-    try_files(rt, &host)?;
-    print_refusals(rt, &host)?;
-    print_kept(rt, &host)
+    try_files(rt)?;
+    print_refusals(rt)?;
+    print_kept(rt)
 }
 
 fn main(rt: HostRuntime) -> ExitCode {

@@ -1,34 +1,11 @@
 // Runs of scripts, and conversations, over devices.
 ghost use Rattle.std.specs.Prelude.{◌≡◌, false};
 
-use hol_host::Host;
-use hol_host_samples::{liar, liar2, peel, swap};
-use hol_just::Goal;
 use hol_model::{Fault, Source};
 use hol_script::{Ended, converse, run};
-use hol_terms::Term;
 use hol_test_sample_devices::{Drips, Narrow};
+use hol_test_sample_host::Samples;
 use std::alloc::Global;
-
-// Stores the sample refiners and conversions.
-fn store_samples(alloc: Global, host: &mut Host) -> Result<(), Fault> {
-    let peels = Box::new(alloc, |alloc: Global, goal: &Goal| peel(alloc, goal))?;
-    host.refiner(alloc, "peel", peels)?;
-    let lies = Box::new(alloc, |alloc: Global, goal: &Goal| liar(alloc, goal))?;
-    host.refiner(alloc, "liar", lies)?;
-    let lies_twice = Box::new(alloc, |alloc: Global, goal: &Goal| liar2(alloc, goal))?;
-    host.refiner(alloc, "liar2", lies_twice)?;
-    let swaps = Box::new(alloc, |alloc: Global, term: &Term| swap(alloc, term))?;
-    host.conv(alloc, "swap", swaps)?;
-    Ok(())
-}
-
-/// A host with the sample refiners and conversions.
-pub(crate) fn host_of_samples(alloc: Global) -> Result<Host, Fault> {
-    let mut host = Host::new(alloc);
-    store_samples(alloc, &mut host)?;
-    Ok(host)
-}
 
 /// Whether a script is run or answered as it comes, and how many bytes its output and its log have room for.
 #[derive(Clone, Copy)]
@@ -91,20 +68,15 @@ fn told_of(answer: Result<Ended, Fault>) -> Told {
 }
 
 /// Runs the script of a source, with a log.
-pub(crate) fn run_source<R: Source>(
-    alloc: Global,
-    reader: &mut R,
-    setting: Setting,
-    host: &Host,
-) -> Left
+pub(crate) fn run_source<R: Source>(alloc: Global, reader: &mut R, setting: Setting) -> Left
     requires unfailed { R.has_failed reader.old ≡ false }
 {
     let mut writer = Narrow::new(alloc, setting.output_room);
     let mut log = Narrow::new(alloc, setting.log_room);
     let answer = if setting.is_conversation {
-        converse(alloc, reader, &mut writer, &mut log, true, host)
+        converse(alloc, reader, &mut writer, &mut log, true, &Samples)
     } else {
-        run(alloc, reader, &mut writer, &mut log, true, host)
+        run(alloc, reader, &mut writer, &mut log, true, &Samples)
     };
     Left {
         told: told_of(answer),
@@ -114,17 +86,11 @@ pub(crate) fn run_source<R: Source>(
 }
 
 /// Runs a script, of which so many bytes can be read.
-pub(crate) fn run_script(
-    alloc: Global,
-    script: &[u8],
-    reads: usize,
-    setting: Setting,
-    host: &Host,
-) -> Left {
-    run_source(alloc, &mut Drips::new(script, reads), setting, host)
+pub(crate) fn run_script(alloc: Global, script: &[u8], reads: usize, setting: Setting) -> Left {
+    run_source(alloc, &mut Drips::new(script, reads), setting)
 }
 
 /// A run of a whole script, with room enough.
-pub(crate) fn run_whole(alloc: Global, script: &[u8], host: &Host) -> Left {
-    run_script(alloc, script, script.len(), Setting::ample(false), host)
+pub(crate) fn run_whole(alloc: Global, script: &[u8]) -> Left {
+    run_script(alloc, script, script.len(), Setting::ample(false))
 }

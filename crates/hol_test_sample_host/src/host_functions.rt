@@ -6,7 +6,7 @@ use hol_terms::{Term, mk_eq};
 use std::alloc::Global;
 
 /// On `p /\ p` without assumptions the subgoal `p`, once for both sides. Of other applications the step is wrong.
-pub fn twin(alloc: Global, goal: &Goal) -> Result<Step, HostFail> {
+pub(crate) fn twin(alloc: Global, goal: &Goal) -> Result<Step, HostFail> {
     let Some((_, half)) = goal.concl.dest_comb() else {
         return Err(HostFail::Failed);
     };
@@ -28,22 +28,22 @@ fn halved(alloc: Global, half: &Term) -> Result<Step, Fault> {
 }
 
 /// No step of any goal.
-pub fn mute(_alloc: Global, _goal: &Goal) -> Result<Step, HostFail> {
+pub(crate) fn mute(_alloc: Global, _goal: &Goal) -> Result<Step, HostFail> {
     Err(HostFail::Failed)
 }
 
 /// No step of any goal, for want of memory.
-pub fn starved(_alloc: Global, _goal: &Goal) -> Result<Step, HostFail> {
+pub(crate) fn starved(_alloc: Global, _goal: &Goal) -> Result<Step, HostFail> {
     Err(HostFail::Memory)
 }
 
 /// The step of the goal `T`, whatever the goal.
-pub fn stranger(alloc: Global, _goal: &Goal) -> Result<Step, HostFail> {
+pub(crate) fn stranger(alloc: Global, _goal: &Goal) -> Result<Step, HostFail> {
     proved(alloc, named(alloc, "TRUTH"))
 }
 
 /// A subgoal that is no formula.
-pub fn shapeless(alloc: Global, goal: &Goal) -> Result<Step, HostFail> {
+pub(crate) fn shapeless(alloc: Global, goal: &Goal) -> Result<Step, HostFail> {
     match to_a_predicate(alloc, &goal.concl) {
         Ok(step) => Ok(step),
         Err(fault) => Err(HostFail::from(fault)),
@@ -51,22 +51,22 @@ pub fn shapeless(alloc: Global, goal: &Goal) -> Result<Step, HostFail> {
 }
 
 /// No subgoals, by the subgoal of number 0.
-pub fn circular(alloc: Global, _goal: &Goal) -> Result<Step, HostFail> {
+pub(crate) fn circular(alloc: Global, _goal: &Goal) -> Result<Step, HostFail> {
     proved(alloc, sub(alloc, 0))
 }
 
 /// The step of the goal `T` by a tree of more than 2^1000 nodes, which stand in some 4,000 lines.
-pub fn shared(alloc: Global, _goal: &Goal) -> Result<Step, HostFail> {
+pub(crate) fn shared(alloc: Global, _goal: &Goal) -> Result<Step, HostFail> {
     proved(alloc, doubled(alloc))
 }
 
 /// The step of the goal `T` by a tree whose depth is one past the limit: no step.
-pub fn deep(alloc: Global, _goal: &Goal) -> Result<Step, HostFail> {
+pub(crate) fn deep(alloc: Global, _goal: &Goal) -> Result<Step, HostFail> {
     proved(alloc, towering(alloc))
 }
 
 /// The subgoal of the same conclusion with the assumption `p` alone, whether the goal has that assumption or not.
-pub fn presuming(alloc: Global, goal: &Goal) -> Result<Step, HostFail> {
+pub(crate) fn presuming(alloc: Global, goal: &Goal) -> Result<Step, HostFail> {
     match from_p(alloc, &goal.concl) {
         Ok(step) => Ok(step),
         Err(fault) => Err(HostFail::from(fault)),
@@ -74,7 +74,7 @@ pub fn presuming(alloc: Global, goal: &Goal) -> Result<Step, HostFail> {
 }
 
 /// The step of the goal `T`, with a subgoal that names a constant which no theory of these tests has.
-pub fn foreign(alloc: Global, goal: &Goal) -> Result<Step, HostFail> {
+pub(crate) fn foreign(alloc: Global, goal: &Goal) -> Result<Step, HostFail> {
     match beside_unknown(alloc, &goal.concl) {
         Ok(step) => Ok(step),
         Err(fault) => Err(HostFail::from(fault)),
@@ -82,17 +82,17 @@ pub fn foreign(alloc: Global, goal: &Goal) -> Result<Step, HostFail> {
 }
 
 /// No subgoals, by a theorem that is not stored.
-pub fn nameless(alloc: Global, _goal: &Goal) -> Result<Step, HostFail> {
+pub(crate) fn nameless(alloc: Global, _goal: &Goal) -> Result<Step, HostFail> {
     proved(alloc, named(alloc, "nobody"))
 }
 
 /// No subgoals, by a lemma that there is not.
-pub fn without_lemma(alloc: Global, _goal: &Goal) -> Result<Step, HostFail> {
+pub(crate) fn without_lemma(alloc: Global, _goal: &Goal) -> Result<Step, HostFail> {
     proved(alloc, lemma(alloc, 1000))
 }
 
 /// The step of the goal `T` by a tree of 2^2000 - 1 nodes, as deep as a tree may be.
-pub fn vast(alloc: Global, _goal: &Goal) -> Result<Step, HostFail> {
+pub(crate) fn vast(alloc: Global, _goal: &Goal) -> Result<Step, HostFail> {
     proved(alloc, doubled_to_the_limit(alloc))
 }
 
@@ -188,27 +188,27 @@ fn around(alloc: Global, layer: &Just, just: Just) -> Result<Just, Fault> {
 }
 
 /// The term itself, by a theorem that is no equation of the two.
-pub fn wrong(alloc: Global, term: &Term) -> Result<(Term, Just), HostFail> {
+pub(crate) fn wrong(alloc: Global, term: &Term) -> Result<(Term, Just), HostFail> {
     Ok((term.copy(alloc)?, named(alloc, "TRUTH")?))
 }
 
 /// No equation of any term, for want of memory.
-pub fn starved_conv(_alloc: Global, _term: &Term) -> Result<(Term, Just), HostFail> {
+pub(crate) fn starved_conv(_alloc: Global, _term: &Term) -> Result<(Term, Just), HostFail> {
     Err(HostFail::Memory)
 }
 
 /// `T`, by the theorem that the formula equals itself.
-pub fn twisted(alloc: Global, term: &Term) -> Result<(Term, Just), HostFail> {
+pub(crate) fn twisted(alloc: Global, term: &Term) -> Result<(Term, Just), HostFail> {
     converted(reflexive(alloc, term))
 }
 
 /// `T`, by the assumption that the formula equals it.
-pub fn guess(alloc: Global, term: &Term) -> Result<(Term, Just), HostFail> {
+pub(crate) fn guess(alloc: Global, term: &Term) -> Result<(Term, Just), HostFail> {
     converted(supposed(alloc, term))
 }
 
 /// `\y:A. y` of `\x:A. x`, and no answer of a term that binds another name.
-pub fn renamed(alloc: Global, term: &Term) -> Result<(Term, Just), HostFail> {
+pub(crate) fn renamed(alloc: Global, term: &Term) -> Result<(Term, Just), HostFail> {
     match identity_renamed(alloc, term) {
         Ok(Some(equal)) => Ok(equal),
         Ok(None) => Err(HostFail::Failed),

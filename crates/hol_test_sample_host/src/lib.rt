@@ -4,8 +4,8 @@
 #![tactic(auto)]
 
 mod host_functions;
+mod samples;
+mod table;
 
-pub use host_functions::{
-    circular, deep, foreign, guess, mute, nameless, presuming, renamed, shapeless, shared, starved,
-    starved_conv, stranger, twin, twisted, vast, without_lemma, wrong,
-};
+pub use samples::Samples;
+pub use table::named;

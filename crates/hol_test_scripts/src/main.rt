@@ -7,14 +7,11 @@
 //! repetition (`hol_test_sample_devices::expanded`).
 #![tactic(auto)]
 
-mod host;
 mod records;
 mod runs;
 
-use crate::host::host_of_rows;
 use crate::records::texts_of_records;
 use crate::runs::{Written, run_dripping, run_whole};
-use hol_host::Host;
 use hol_script::Summary;
 use hol_test_sample_devices::{Row, Rows, expanded};
 use std::fs;
@@ -63,25 +60,25 @@ fn compare_run(rt: &HostRuntime, case: &Case<'_>, written: &Written) -> anyhow::
     }
 }
 
-fn try_whole(rt: &HostRuntime, host: &Host, case: &Case<'_>) -> anyhow::Result<()> {
-    let written = run_whole(rt.alloc(), case.script.as_bytes(), host)?;
+fn try_whole(rt: &HostRuntime, case: &Case<'_>) -> anyhow::Result<()> {
+    let written = run_whole(rt.alloc(), case.script.as_bytes())?;
     compare_run(rt, case, &written)
 }
 
-fn try_dripping(rt: &HostRuntime, host: &Host, case: &Case<'_>) -> anyhow::Result<()> {
-    let written = run_dripping(rt.alloc(), case.script.as_bytes(), host)?;
+fn try_dripping(rt: &HostRuntime, case: &Case<'_>) -> anyhow::Result<()> {
+    let written = run_dripping(rt.alloc(), case.script.as_bytes())?;
     compare_run(rt, case, &written)
 }
 
-fn try_records(rt: &HostRuntime, host: &Host, case: &Case<'_>) -> anyhow::Result<()> {
+fn try_records(rt: &HostRuntime, case: &Case<'_>) -> anyhow::Result<()> {
     if case.kind != Kind::Rows {
         return Ok(());
     }
-    let texts = texts_of_records(rt.alloc(), case.script.as_bytes(), host)?;
+    let texts = texts_of_records(rt.alloc(), case.script.as_bytes())?;
     compare(rt, case, texts.as_slice())
 }
 
-fn try_row(rt: &HostRuntime, host: &Host, kind: Kind, row: &Row<'_>) -> anyhow::Result<()> {
+fn try_row(rt: &HostRuntime, kind: Kind, row: &Row<'_>) -> anyhow::Result<()> {
     let script = expanded(rt.alloc(), row.script)?;
     let expected = expanded(rt.alloc(), row.expected)?;
     let case = Case {
@@ -90,19 +87,19 @@ fn try_row(rt: &HostRuntime, host: &Host, kind: Kind, row: &Row<'_>) -> anyhow::
         script: script.as_str(),
         expected: expected.as_str(),
     };
-    try_whole(rt, host, &case)?;
-    try_dripping(rt, host, &case)?;
-    try_records(rt, host, &case)
+    try_whole(rt, &case)?;
+    try_dripping(rt, &case)?;
+    try_records(rt, &case)
 }
 
 // Tries each row of a text, and answers how many there are.
-fn try_rows(rt: &HostRuntime, host: &Host, kind: Kind, text: &str) -> anyhow::Result<usize> {
+fn try_rows(rt: &HostRuntime, kind: Kind, text: &str) -> anyhow::Result<usize> {
     let mut rows = Rows::new(text);
     for count in 0..text.len() {
         let Some(row) = rows.next() else {
             return Ok(count);
         };
-        try_row(rt, host, kind, &row)?;
+        try_row(rt, kind, &row)?;
     }
     Ok(text.len())
 }
@@ -115,28 +112,23 @@ fn kind_of(name: &str) -> Kind {
     }
 }
 
-fn try_file(rt: &HostRuntime, host: &Host, name: &str) -> anyhow::Result<()> {
+fn try_file(rt: &HostRuntime, name: &str) -> anyhow::Result<()> {
     let text = fs::read_to_string(rt, name)?;
-    let count = try_rows(rt, host, kind_of(name), text.as_str())?;
+    let count = try_rows(rt, kind_of(name), text.as_str())?;
     println!(rt; "{name}: {count}")?;
     Ok(())
 }
 
-fn try_files(rt: &HostRuntime, host: &Host) -> anyhow::Result<()> {
+fn try_files(rt: &HostRuntime) -> anyhow::Result<()> {
     let names = fs::read_to_string(rt, "files.txt")?;
     for name in names.lines() {
-        try_file(rt, host, name)?;
+        try_file(rt, name)?;
     }
     Ok(())
 }
 
-fn run_program(rt: &HostRuntime) -> anyhow::Result<()> {
-    let host = host_of_rows(rt.alloc())?;
-    try_files(rt, &host)
-}
-
 fn main(rt: HostRuntime) -> ExitCode {
-    match run_program(&rt) {
+    match try_files(&rt) {
         Ok(()) => ExitCode::SUCCESS,
         Err(error) => {
             let _ = eprintln!(rt; "{error}");

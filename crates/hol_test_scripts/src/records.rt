@@ -1,8 +1,8 @@
 // Records of commands, and their texts.
 use hol_explain::{Origin, Script, write_records};
-use hol_host::Host;
 use hol_model::Fault;
 use hol_test_sample_devices::Kept;
+use hol_test_sample_host::Samples;
 use serde_json::Value;
 use std::alloc::Global;
 
@@ -11,8 +11,8 @@ const ORIGINS: [Origin<'static>; 1] = [Origin {
     lines_before: 0,
 }];
 
-// The records of the commands of a script over a host.
-fn records(alloc: Global, text: &[u8], host: &Host) -> Result<Vec<u8>, Fault> {
+// The records of the commands of a script.
+fn records(alloc: Global, text: &[u8]) -> Result<Vec<u8>, Fault> {
     let host_names = Vec::new(alloc);
     let script = Script {
         origins: &ORIGINS,
@@ -20,7 +20,7 @@ fn records(alloc: Global, text: &[u8], host: &Host) -> Result<Vec<u8>, Fault> {
         host_names: &host_names,
     };
     let mut writer = Kept::new(alloc);
-    write_records(alloc, &script, host, &mut writer)?;
+    write_records(alloc, &script, &Samples, &mut writer)?;
     Ok(writer.bytes)
 }
 
@@ -52,9 +52,9 @@ fn push_texts(alloc: Global, texts: &mut Vec<u8>, records: &[u8]) -> Result<(), 
     Ok(())
 }
 
-/// The texts of the records of a script's commands over a host, one behind another.
-pub(crate) fn texts_of_records(alloc: Global, text: &[u8], host: &Host) -> Result<Vec<u8>, Fault> {
-    let records = records(alloc, text, host)?;
+/// The texts of the records of a script's commands, one behind another.
+pub(crate) fn texts_of_records(alloc: Global, text: &[u8]) -> Result<Vec<u8>, Fault> {
+    let records = records(alloc, text)?;
     let mut texts = Vec::new(alloc);
     push_texts(alloc, &mut texts, &records)?;
     Ok(texts)

@@ -1,9 +1,9 @@
 // Runs of scripts, and what they write.
 use hol_device_adapters::FromRead;
-use hol_host::Host;
 use hol_model::Fault;
 use hol_script::{Ended, Summary, converse, run};
 use hol_test_sample_devices::{Drips, Kept};
+use hol_test_sample_host::Samples;
 use std::alloc::Global;
 
 /// What a run wrote, and what it counted.
@@ -23,20 +23,34 @@ fn what_is_written(writer: Kept, ended: Result<Ended, Fault>) -> Result<Written,
     }
 }
 
-/// Runs a script over a host, and makes no log.
-pub(crate) fn run_whole(alloc: Global, script: &[u8], host: &Host) -> Result<Written, Fault> {
+/// Runs a script, and makes no log.
+pub(crate) fn run_whole(alloc: Global, script: &[u8]) -> Result<Written, Fault> {
     let mut reader = FromRead::new(script);
     let mut writer = Kept::new(alloc);
     let mut no_log = Kept::new(alloc);
-    let ended = run(alloc, &mut reader, &mut writer, &mut no_log, false, host);
+    let ended = run(
+        alloc,
+        &mut reader,
+        &mut writer,
+        &mut no_log,
+        false,
+        &Samples,
+    );
     what_is_written(writer, ended)
 }
 
 /// The same as a conversation that reads byte by byte.
-pub(crate) fn run_dripping(alloc: Global, script: &[u8], host: &Host) -> Result<Written, Fault> {
+pub(crate) fn run_dripping(alloc: Global, script: &[u8]) -> Result<Written, Fault> {
     let mut reader = Drips::new(script, script.len());
     let mut writer = Kept::new(alloc);
     let mut no_log = Kept::new(alloc);
-    let ended = converse(alloc, &mut reader, &mut writer, &mut no_log, false, host);
+    let ended = converse(
+        alloc,
+        &mut reader,
+        &mut writer,
+        &mut no_log,
+        false,
+        &Samples,
+    );
     what_is_written(writer, ended)
 }

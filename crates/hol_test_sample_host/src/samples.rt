@@ -1,0 +1,149 @@
+// The host of tests.
+ghost use Rattle.std.specs.Prelude.{map};
+
+use crate::host_functions::{
+    circular, deep, foreign, guess, mute, nameless, presuming, renamed, shapeless, shared, starved,
+    starved_conv, stranger, twin, twisted, vast, without_lemma, wrong,
+};
+use crate::table::named;
+use hol_host::{Converters, HostFail, Refiners};
+use hol_host_samples::{liar, liar2, peel, swap};
+use hol_just::{Goal, Just, Step};
+use hol_terms::Term;
+use std::alloc::Global;
+
+/// A refiner of tests.
+#[derive(Clone, Copy)]
+pub enum Refiner {
+    Peel,
+    Liar,
+    Liar2,
+    Twin,
+    Mute,
+    Starved,
+    Stranger,
+    Shapeless,
+    Circular,
+    Shared,
+    Deep,
+    Presuming,
+    Foreign,
+    Nameless,
+    WithoutLemma,
+    Vast,
+}
+
+/// A conversion of tests.
+#[derive(Clone, Copy)]
+pub enum Conversion {
+    Swap,
+    Wrong,
+    Starved,
+    Twisted,
+    Guess,
+    Renamed,
+}
+
+/// The refiners, each under its name, and `peel` also under that of a refiner of the program's host.
+pub const REFINERS: [(&str, Refiner); 17] = [
+    ("peel", Refiner::Peel),
+    ("meson", Refiner::Peel),
+    ("liar", Refiner::Liar),
+    ("liar2", Refiner::Liar2),
+    ("twin", Refiner::Twin),
+    ("mute", Refiner::Mute),
+    ("starved", Refiner::Starved),
+    ("stranger", Refiner::Stranger),
+    ("shapeless", Refiner::Shapeless),
+    ("circular", Refiner::Circular),
+    ("shared", Refiner::Shared),
+    ("deep", Refiner::Deep),
+    ("presuming", Refiner::Presuming),
+    ("foreign", Refiner::Foreign),
+    ("nameless", Refiner::Nameless),
+    ("without_lemma", Refiner::WithoutLemma),
+    ("vast", Refiner::Vast),
+];
+
+/// The conversions, each under its name.
+pub const CONVERSIONS: [(&str, Conversion); 6] = [
+    ("swap", Conversion::Swap),
+    ("wrong", Conversion::Wrong),
+    ("starved", Conversion::Starved),
+    ("twisted", Conversion::Twisted),
+    ("guess", Conversion::Guess),
+    ("renamed", Conversion::Renamed),
+];
+
+impl Refiner {
+    fn refine(self, alloc: Global, goal: &Goal) -> Result<Step, HostFail> {
+        match self {
+            Refiner::Peel => peel(alloc, goal),
+            Refiner::Liar => liar(alloc, goal),
+            Refiner::Liar2 => liar2(alloc, goal),
+            Refiner::Twin => twin(alloc, goal),
+            Refiner::Mute => mute(alloc, goal),
+            Refiner::Starved => starved(alloc, goal),
+            Refiner::Stranger => stranger(alloc, goal),
+            Refiner::Shapeless => shapeless(alloc, goal),
+            Refiner::Circular => circular(alloc, goal),
+            Refiner::Shared => shared(alloc, goal),
+            Refiner::Deep => deep(alloc, goal),
+            Refiner::Presuming => presuming(alloc, goal),
+            Refiner::Foreign => foreign(alloc, goal),
+            Refiner::Nameless => nameless(alloc, goal),
+            Refiner::WithoutLemma => without_lemma(alloc, goal),
+            Refiner::Vast => vast(alloc, goal),
+        }
+    }
+}
+
+impl Conversion {
+    fn convert(self, alloc: Global, term: &Term) -> Result<(Term, Just), HostFail> {
+        match self {
+            Conversion::Swap => swap(alloc, term),
+            Conversion::Wrong => wrong(alloc, term),
+            Conversion::Starved => starved_conv(alloc, term),
+            Conversion::Twisted => twisted(alloc, term),
+            Conversion::Guess => guess(alloc, term),
+            Conversion::Renamed => renamed(alloc, term),
+        }
+    }
+}
+
+/// The sample refiners and conversions, and those of tests, under the names of `REFINERS` and `CONVERSIONS`.
+#[derive(Clone, Copy, Debug)]
+pub struct Samples;
+
+impl Converters for Samples {
+    ghost use Rattle.hol_test_sample_host.specs.declared.samples.TheConstants.{CONVERSIONS};
+
+    ghost conversions = { λ host. record {
+      names = map (λ entry. entry.0.now) CONVERSIONS;
+      converts = λ name term answer. Unit {0};
+    } };
+
+    fn convert(
+        &self,
+        alloc: Global,
+        name: &str,
+        term: &Term,
+    ) -> Option<Result<(Term, Just), HostFail>> {
+        let conversion = named(&CONVERSIONS, name)?;
+        Some(conversion.convert(alloc, term))
+    }
+}
+
+impl Refiners for Samples {
+    ghost use Rattle.hol_test_sample_host.specs.declared.samples.TheConstants.{REFINERS};
+
+    ghost refiners = { λ host. record {
+      names = map (λ entry. entry.0.now) REFINERS;
+      refines = λ name goal answer. Unit {0};
+    } };
+
+    fn refine(&self, alloc: Global, name: &str, goal: &Goal) -> Option<Result<Step, HostFail>> {
+        let refiner = named(&REFINERS, name)?;
+        Some(refiner.refine(alloc, goal))
+    }
+}
