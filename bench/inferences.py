@@ -1,7 +1,7 @@
 #!/usr/bin/env python3
 """Counts the inferences of `HOST meson`: `inferences.py PROGRAM [PROBLEM ..]`.
 
-It runs each problem of `crates/hol_test_tactics/data/pelletier.hol` by itself under `valgrind --tool=callgrind`, and prints how often the
+It runs each problem of `library/tests/pelletier.hol` by itself under `valgrind --tool=callgrind`, and prints how often the
 search met a subgoal (`hol_tactics_search::search::Search::close`), over all depths that it tried and all parts of the problem. PROGRAM
 is a build of `holp` that keeps the names of its functions, as `tools/native.sh` makes it."""
 import pathlib
@@ -10,7 +10,7 @@ import subprocess
 import sys
 import tempfile
 
-PROBLEMS = pathlib.Path(__file__).resolve().parent.parent / "crates/hol_test_tactics/data/pelletier.hol"
+PROBLEMS = pathlib.Path(__file__).resolve().parent.parent / "library/tests/pelletier.hol"
 COUNTED = "hol_tactics_search::search::Search::close"
 
 

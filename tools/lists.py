@@ -90,7 +90,7 @@ def plain(shown):
 
 
 counts, total = dict(re.findall(r"(?m)^\| `(\w+)\.hol` \|.*\| (\d+) \|", text("library/README.md"))), 0
-printed = dict(re.findall(r"(?m)^(\w+): ((?:.* )?\|- .*)$", text("crates/holp_library/stdout")))
+printed = dict(re.findall(r"(?m)^(\w+): ((?:.* )?\|- .*)$", text("crates/holp_library/stdout").split("== tests/")[0]))
 page = text("library/README.md")
 chapters = re.split(r"(?m)^## .*\(`library/(\w+)\.hol`\).*$", page)
 for name, chapter in zip(chapters[1::2], chapters[2::2]):

@@ -1,28 +1,8 @@
-// Records of commands, and their texts.
-use hol_explain::{Origin, Script, write_records};
+// The texts of records of commands.
+use crate::told::records;
 use hol_model::Fault;
-use hol_test_sample_devices::Kept;
-use hol_test_sample_host::Samples;
 use serde_json::Value;
 use std::alloc::Global;
-
-const ORIGINS: [Origin<'static>; 1] = [Origin {
-    file: "s",
-    lines_before: 0,
-}];
-
-// The records of the commands of a script.
-fn records(alloc: Global, text: &[u8]) -> Result<Vec<u8>, Fault> {
-    let host_names = Vec::new(alloc);
-    let script = Script {
-        origins: &ORIGINS,
-        text,
-        host_names: &host_names,
-    };
-    let mut writer = Kept::new(alloc);
-    write_records(alloc, &script, &Samples, &mut writer)?;
-    Ok(writer.bytes)
-}
 
 // Appends the text of a record.
 fn push_text(texts: &mut Vec<u8>, record: &Value) -> Result<(), Fault> {

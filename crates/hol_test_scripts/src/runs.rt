@@ -1,4 +1,5 @@
 // Runs of scripts, and what they write.
+use crate::counting::Counting;
 use hol_device_adapters::FromRead;
 use hol_model::Fault;
 use hol_script::{Ended, Summary, converse, run};
@@ -13,7 +14,7 @@ pub(crate) struct Written {
     pub(crate) summary: Summary,
 }
 
-fn what_is_written(writer: Kept, ended: Result<Ended, Fault>) -> Result<Written, Fault> {
+fn written_by(writer: Kept, ended: Result<Ended, Fault>) -> Result<Written, Fault> {
     match ended {
         Ok(ended) => Ok(Written {
             output: writer.bytes,
@@ -36,7 +37,7 @@ pub(crate) fn run_whole(alloc: Global, script: &[u8]) -> Result<Written, Fault> 
         false,
         &Samples,
     );
-    what_is_written(writer, ended)
+    written_by(writer, ended)
 }
 
 /// The same as a conversation that reads byte by byte.
@@ -52,5 +53,24 @@ pub(crate) fn run_dripping(alloc: Global, script: &[u8]) -> Result<Written, Faul
         false,
         &Samples,
     );
-    what_is_written(writer, ended)
+    written_by(writer, ended)
+}
+
+/// What a script writes over a host that counts its calls.
+pub(crate) fn run_counting(alloc: Global, script: &[u8]) -> Result<Vec<u8>, Fault> {
+    let mut reader = FromRead::new(script);
+    let mut writer = Kept::new(alloc);
+    let mut no_log = Kept::new(alloc);
+    let ended = run(
+        alloc,
+        &mut reader,
+        &mut writer,
+        &mut no_log,
+        false,
+        &Counting::new(),
+    );
+    match ended {
+        Ok(_) => Ok(writer.bytes),
+        Err(fault) => Err(fault),
+    }
 }

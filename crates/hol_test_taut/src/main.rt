@@ -1,11 +1,15 @@
 //! How many inferences TAUT takes for the formulas of data/bounds.txt, each right behind the prelude and the laws of tautologies. A
 //! line `N: FORMULA; OTHERS` asks whether the formula takes at most N more than the others together; a line of another form is
-//! printed as it is. What TAUT answers is shown by the rows `tautologies_*` of `hol_test_scripts`.
+//! printed as it is. What TAUT answers is shown by the rows `tautologies_*` of `hol_test_scripts`. At last it prints whether the entries
+//! of a recorder that are given back go, and no others.
 #![tactic(auto)]
+
+mod entries;
 
 ghost use Rattle.std.specs.Prelude.{◌≡◌, []};
 ghost use Rattle.hol_taut_laws.specs.HasLaws.{HasLaws};
 
+use crate::entries::{forgets, gives_back};
 use hol_journal::Recorder;
 use hol_model::Fault;
 use hol_prelude::prelude;
@@ -116,11 +120,26 @@ fn print_lines(rt: &HostRuntime, text: &str) -> Result<(), Fault> {
     Ok(())
 }
 
+// Prints which entries a recorder keeps.
+fn print_entries(rt: &HostRuntime) -> Result<(), Fault> {
+    let goes = gives_back(rt.alloc())?;
+    let is_let_go = forgets(rt.alloc())?;
+    match println!(rt; "entries that are given back go: {goes}, all of them: {is_let_go}") {
+        Ok(()) => Ok(()),
+        Err(_) => Err(Fault::WriteFault),
+    }
+}
+
+fn print_all(rt: &HostRuntime, text: &str) -> Result<(), Fault> {
+    print_lines(rt, text)?;
+    print_entries(rt)
+}
+
 fn main(rt: HostRuntime) -> ExitCode {
     let Ok(text) = fs::read_to_string(&rt, "bounds.txt") else {
         return ExitCode::from(2);
     };
-    match print_lines(&rt, &text) {
+    match print_all(&rt, &text) {
         Ok(()) => ExitCode::SUCCESS,
         Err(_) => ExitCode::from(2),
     }

@@ -1,6 +1,7 @@
 //! Runs the scripts of the library (library/README.md), the problems and the developments over them, each behind the scripts that it
-//! needs, as one script, over a host with the refiners and conversions of `hol_tactics`. Prints what each writes of its own, and how
-//! many claims its log has, which the checker accepts.
+//! needs, as one script, over a host with the refiners and conversions of `hol_tactics`; and tests of these, each on goals that it
+//! refines and on goals that it does not, with Pelletier's problems 18 to 52, 56, 57, 59 and 60, and one of Los. Prints what each
+//! writes of its own, and how many claims its log has, which the checker accepts.
 #![tactic(auto)]
 
 use hol_check::check;
@@ -22,7 +23,7 @@ struct Run {
     name: &'static str,
 }
 
-const RUNS: [Run; 22] = [
+const RUNS: [Run; 25] = [
     Run {
         needed: "",
         name: "logic.hol",
@@ -110,6 +111,18 @@ const RUNS: [Run; 22] = [
     Run {
         needed: "logic.hol choice.hol functions.hol relations.hol sets.hol orders.hol",
         name: "developments/cantor.hol",
+    },
+    Run {
+        needed: "",
+        name: "tests/refiners.hol",
+    },
+    Run {
+        needed: "",
+        name: "tests/conversions.hol",
+    },
+    Run {
+        needed: "",
+        name: "tests/pelletier.hol",
     },
 ];
 

@@ -54,7 +54,7 @@ impl Counting {
 }
 
 impl Converters for Counting {
-    ghost use Rattle.hol_test_hosts.specs.declared.counting.TheConstants.{CONVERSIONS};
+    ghost use Rattle.hol_test_scripts.specs.declared.counting.TheConstants.{CONVERSIONS};
 
     ghost conversions = { λ host. record {
       names = map (λ entry. entry.0.now) CONVERSIONS;
@@ -77,7 +77,7 @@ impl Converters for Counting {
 }
 
 impl Refiners for Counting {
-    ghost use Rattle.hol_test_hosts.specs.declared.counting.TheConstants.{REFINERS};
+    ghost use Rattle.hol_test_scripts.specs.declared.counting.TheConstants.{REFINERS};
 
     ghost refiners = { λ host. record {
       names = map (λ entry. entry.0.now) REFINERS;
