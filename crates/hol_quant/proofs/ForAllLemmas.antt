@@ -39,8 +39,11 @@ limited-past fault term ty typed (inr refusal) = go (is_within_limits term) refl
     go true is refusal = cc
     go false is refusal = let large : TooLarge ≡ fault = cc in inr (sym large, past_limits-image term ty typed is)
 
+pub variable-known : (theory : Theory) (binder : NamedTerm) (name : List ℕ) (ty : HolType) → binder ≡ variable name ty → IsKnownType theory ty → IsKnown theory (image binder) ty
+variable-known theory binder name ty is known = subst (λ (t : NamedTerm). IsKnown theory (image t) ty) (sym is) (record { typed = refl; parts = known })
+
 pub binder-known : (theory : Theory) (premise : Theorem) (binder : NamedTerm) (name : List ℕ) (ty : HolType) → MayGeneralize theory premise binder name ty → IsKnown theory (image binder) ty
-binder-known theory premise binder name ty may = subst (λ (t : NamedTerm). IsKnown theory (image t) ty) (sym may.binder_is) (record { typed = refl; parts = may.type_known })
+binder-known theory premise binder name ty may = variable-known theory binder name ty may.binder_is may.type_known
 
 module _ (name : List ℕ) (ty : HolType) (body : NamedTerm) where
   function_image : image (abstraction name ty body) ≡ closed name ty body

@@ -3,13 +3,19 @@ use Rattle.std.specs.Prelude.{ℕ, List, [], ◌∷◌, Bool, codes}
 use Rattle.std.specs.List.{list_all}
 use Rattle.hol_model.specs.Terms.HolType.{HolType, bool_type}
 use Rattle.hol_model.specs.Terms.NamedTerm.{NamedTerm, variable}
-use Rattle.hol_model.specs.Terms.Nameless.{Nameless, free, const, bound, app, lam}
+use Rattle.hol_model.specs.Terms.Nameless.{Nameless, free, const, bound, app, lam, image}
 use Rattle.hol_model.specs.Terms.Measures.{nameless_within_limits}
 use Rattle.hol_model.specs.Kernel.Instantiation.{instantiate_all}
 use Rattle.hol_model.specs.Logic.Logic.{true_term, predicate, quantifier, implication, forall_term}
-use Rattle.hol_model.specs.Logic.Theory.{type_a}
+use Rattle.hol_model.specs.Logic.Theory.{Theory, IsKnown, type_a}
 use Rattle.hol_model.specs.Logic.Derivable.{nameless_equation}
 use Rattle.hol_equal.specs.Sequents.{instance_of}
+
+-- a known predicate, and a known element of its domain
+pub record AreKnown (theory : Theory) (function element : NamedTerm) : Type 0 where
+  pub ty : HolType
+  pub function_known : IsKnown theory (image function) (predicate ty)
+  pub element_known : IsKnown theory (image element) ty
 
 -- a term of the lemma with the type for `A`
 abbrev pub at_type : HolType → Nameless → Nameless

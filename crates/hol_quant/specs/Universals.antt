@@ -15,7 +15,14 @@ use Rattle.hol_equal.specs.Room.{Room, FitsIf}
 abbrev pub for_all : List ℕ → HolType → NamedTerm → Nameless
 for_all name ty body = forall_term ty (close name ty (image body))
 
--- a variable of a known type that is free in no hypothesis
+-- a variable of a known type
+pub record IsKnownVariable (theory : Theory) (term : NamedTerm) : Type 0 where
+  pub name : List ℕ
+  pub ty : HolType
+  pub is : term ≡ variable name ty
+  pub known : IsKnownType theory ty
+
+-- and one that is free in no hypothesis
 pub record MayGeneralize (theory : Theory) (premise : Theorem) (binder : NamedTerm) (name : List ℕ) (ty : HolType) : Type 0 where
   pub binder_is : binder ≡ variable name ty
   pub type_known : IsKnownType theory ty

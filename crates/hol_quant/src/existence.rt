@@ -139,6 +139,8 @@ fn witnessed(
 ) -> Result<Rec, Fault>
     requires logic { HasLogic recorder.old logic.now }
     requires premise { IsMade recorder.old premise.now }
+    requires witnessed { IsWitnessed recorder.old.theory formula.now parts.predicate.now parts.binder.now parts.body.now witness.now
+        (image premise.now.theorem.conclusion) }
     ensures continues { Continues recorder.old recorder.new result }
     ensures names { IfOk result (λ made. made.theorem.conclusion ≡ formula.now) }
     ensures derives { IsWitnessed recorder.old.theory formula.now parts.entry.predicate.now parts.entry.binder.now parts.entry.body.now witness.now

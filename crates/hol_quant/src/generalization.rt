@@ -16,8 +16,8 @@ ghost use Rattle.hol_prelude.specs.HasLogic.{HasLogic};
 ghost use Rattle.hol_equal.specs.Room.{Room, FitsIf};
 ghost use Rattle.hol_equal.specs.Sequents.{Shows, DerivesIf, IsPast, Continues};
 ghost use Rattle.hol_equal.specs.Inferred.{Infers};
-ghost use Rattle.hol_quant.specs.PredicateLemmas.{is_always, over_predicate};
-ghost use Rattle.hol_quant.specs.Universals.{for_all, MayGeneralize, FitsForAll};
+ghost use Rattle.hol_quant.specs.PredicateLemmas.{AreKnown, is_always, over_predicate};
+ghost use Rattle.hol_quant.specs.Universals.{IsKnownVariable, for_all, MayGeneralize, FitsForAll};
 
 use crate::instances::by_predicate_lemma;
 use hol_equal::{abs, by_lemma_known, conclusion_of, named_same};
@@ -96,6 +96,7 @@ fn over_all(
     requires forall_lemma { IsMade recorder.old forall_lemma.now }
     requires forall_shows { Shows forall_lemma.now.theorem (is_always ∷ []) (over_predicate forall_name) }
     requires premise { IsMade recorder.old premise.now }
+    requires known { AreKnown recorder.old.theory function.now binder.now }
     ensures continues { Continues recorder.old recorder.new result }
     ensures derives { (name : List ℕ) (ty : HolType) (room : Room) → MayGeneralize recorder.old.theory premise.now.theorem binder.now name ty
         → function.now ≡ abstraction name ty premise.now.theorem.conclusion → FitsForAll room name ty premise.now.theorem.conclusion
@@ -117,6 +118,7 @@ pub(crate) fn generalized_up_to_names(
 ) -> Result<Rec, Fault>
     requires logic { HasLogic recorder.old logic.now }
     requires premise { IsMade recorder.old premise.now }
+    requires variable { IsKnownVariable recorder.old.theory binder.now }
     ensures continues { Continues recorder.old recorder.new result }
     ensures derives { (name : List ℕ) (ty : HolType) (room : Room) → MayGeneralize recorder.old.theory premise.now.theorem binder.now name ty
         → FitsForAll room name ty premise.now.theorem.conclusion → DerivesIf room result (images premise.now.theorem)

@@ -9,9 +9,9 @@ ghost use Rattle.hol_model.specs.Logic.Theory.{IsKnown, type_a};
 ghost use Rattle.hol_journal.specs.Journal.{IsMade};
 ghost use Rattle.hol_equal.specs.Formulas.{IsFormula};
 ghost use Rattle.hol_equal.specs.Sequents.{Shows, DerivesIf, Continues};
-ghost use Rattle.hol_quant.specs.PredicateLemmas.{at_predicate, lemma_fits, at_formula, formula_lemma_fits};
+ghost use Rattle.hol_quant.specs.PredicateLemmas.{AreKnown, at_predicate, lemma_fits, at_formula, formula_lemma_fits};
 
-use hol_equal::by_lemma;
+use hol_equal::by_lemma_known;
 use hol_journal::{Rec, Recorder};
 use hol_model::Fault;
 use hol_terms::Term;
@@ -48,7 +48,8 @@ fn element_pair(alloc: Global, element: &Term) -> Result<(Term, Term), Fault>
     Ok((new, old))
 }
 
-// From the lemma's hypothesis at a predicate for `P` and an element for `x`, its conclusion there.
+// From the lemma's hypothesis at a predicate for `P` and an element for `x`, its conclusion there. The theory knows both, which
+// are not walked for it.
 pub(crate) fn by_predicate_lemma(
     recorder: &mut Recorder,
     alloc: Global,
@@ -59,6 +60,7 @@ pub(crate) fn by_predicate_lemma(
 ) -> Result<Rec, Fault>
     requires lemma { IsMade recorder.old lemma.now }
     requires premise { IsMade recorder.old premise.now }
+    requires known { AreKnown recorder.old.theory function.now element.now }
     ensures continues { Continues recorder.old recorder.new result }
     ensures derives { (ty : HolType) → IsKnown recorder.old.theory (image function.now) (predicate ty)
         → IsKnown recorder.old.theory (image element.now) ty → (h : List Nameless) (p q : Nameless) → Shows lemma.now.theorem (p ∷ []) q
@@ -70,7 +72,7 @@ pub(crate) fn by_predicate_lemma(
     let of_element = element_pair(alloc, element)?;
     let types = [of_type];
     let terms = [of_predicate, of_element];
-    by_lemma(recorder, alloc, &types, &terms, lemma, premise)
+    by_lemma_known(recorder, alloc, &types, &terms, lemma, premise)
 }
 
 // The formula, for the variable `q`.
@@ -85,7 +87,7 @@ fn formula_pair(alloc: Global, formula: &Term) -> Result<(Term, Term), Fault>
 }
 
 // From the lemma's hypothesis at a predicate for `P`, on the type of an element, and a formula for `q`, its conclusion
-// there.
+// there. The theory knows them, and they are not walked for it.
 pub(crate) fn by_formula_lemma(
     recorder: &mut Recorder,
     alloc: Global,
@@ -97,6 +99,8 @@ pub(crate) fn by_formula_lemma(
 ) -> Result<Rec, Fault>
     requires lemma { IsMade recorder.old lemma.now }
     requires premise { IsMade recorder.old premise.now }
+    requires known { AreKnown recorder.old.theory function.now element.now }
+    requires formula { IsFormula recorder.old.theory formula.now }
     ensures continues { Continues recorder.old recorder.new result }
     ensures derives { (ty : HolType) → IsKnown recorder.old.theory (image function.now) (predicate ty)
         → IsKnown recorder.old.theory (image element.now) ty → IsFormula recorder.old.theory formula.now → (h : List Nameless) (p q : Nameless)
@@ -108,5 +112,5 @@ pub(crate) fn by_formula_lemma(
     let of_formula = formula_pair(alloc, formula)?;
     let types = [of_type];
     let terms = [of_predicate, of_formula];
-    by_lemma(recorder, alloc, &types, &terms, lemma, premise)
+    by_lemma_known(recorder, alloc, &types, &terms, lemma, premise)
 }

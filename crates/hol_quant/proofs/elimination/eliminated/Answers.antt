@@ -14,8 +14,8 @@ use Rattle.hol_equal.specs.Sequents.{Shows, DerivesIf}
 use Rattle.hol_equal.proofs.CutLemmas.{shows-itself}
 use Rattle.hol_bool.proofs.PreludeSteps.{still_logical}
 use Rattle.hol_equal.proofs.Sizes.{past-room}
-use Rattle.hol_quant.specs.PredicateLemmas.{over_predicate, eliminated, at_formula, formula_lemma_fits}
-use Rattle.hol_quant.specs.Universals.{MayGeneralize}
+use Rattle.hol_quant.specs.PredicateLemmas.{AreKnown, over_predicate, eliminated, at_formula, formula_lemma_fits}
+use Rattle.hol_quant.specs.Universals.{IsKnownVariable, MayGeneralize}
 use Rattle.hol_quant.specs.Witnesses.{suffices}
 use Rattle.hol_quant.proofs.PreludeParts.{exists-shows}
 use Rattle.hol_quant.proofs.ChooseLemmas.{witness, argument-known, function-known, room, formula-at, eliminates-at, for_all-is, for_all-fits, implied-fits, cases-fit}
@@ -39,6 +39,30 @@ returns-in-Err-generalized_up_to_names-clause-derives c at is none =
     c.in-Err-generalized_up_to_names.ensures.derives at.other at.ty (room theory function binder argument at q)
     (subst (λ (th : Theory). MayGeneralize th sufficient argument at.other at.ty) (sym c.in-Ok.ensures.continues.theory) enough.may)
     (for_all-fits theory function binder argument at q sufficient.conclusion enough.typed enough.is)
+
+pub generalized_up_to_names-requires-clause-variable : goal.generalized_up_to_names-requires-clause-variable
+generalized_up_to_names-requires-clause-variable c =
+    let at = c.requires.at in
+    subst (λ (th : Theory). IsKnownVariable th c.args.argument.now) (sym c.in-Ok.ensures.continues.theory)
+    (record { name = at.other; ty = at.ty; is = at.argument_is; known = at.type_known })
+
+pub by_formula_lemma-requires-clause-known : goal.by_formula_lemma-requires-clause-known
+by_formula_lemma-requires-clause-known c =
+    let theory = c.args.recorder.now.theory in
+    let function = c.args.function.now in
+    let binder = c.args.binder.now in
+    let argument = c.args.argument.now in
+    let at = c.requires.at in
+    let later : c.generalized_up_to_names.new.recorder.theory ≡ theory = c.in-Ok-generalized_up_to_names.ensures.continues.theory ∙ c.in-Ok.ensures.continues.theory in
+    subst (λ (th : Theory). AreKnown th function argument) (sym later)
+    (record { ty = at.ty; function_known = function-known theory function binder argument at; element_known = argument-known theory function binder argument at })
+
+pub by_formula_lemma-requires-clause-formula : goal.by_formula_lemma-requires-clause-formula
+by_formula_lemma-requires-clause-formula c =
+    let later : c.generalized_up_to_names.new.recorder.theory ≡ c.args.recorder.now.theory =
+    c.in-Ok-generalized_up_to_names.ensures.continues.theory ∙ c.in-Ok.ensures.continues.theory in
+    subst (λ (t : NamedTerm). IsFormula c.generalized_up_to_names.new.recorder.theory t) (sym c.conclusion_of-formula.ensures.value)
+    (subst (λ (th : Theory). IsFormula th c.args.second.now.theorem.conclusion) (sym later) c.conclusion_of-formula.ensures.formula)
 
 pub returns-in-Err-by_formula_lemma-clause-derives : goal.returns-in-Err-by_formula_lemma-clause-derives
 returns-in-Err-by_formula_lemma-clause-derives c at is none =

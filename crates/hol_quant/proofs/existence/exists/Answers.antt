@@ -91,6 +91,27 @@ returns-then-not-is_instance-clause-inferred c =
     infers_exists c.requires.logic c.theory_is_legal.ensures c.ty-formula_type.ensures c.ty-witness_type.ensures
     (returns-then-not-is_instance-clause-outcome c)
 
+pub witnessed-requires-clause-witnessed : goal.witnessed-requires-clause-witnessed
+witnessed-requires-clause-witnessed c =
+    let theory = c.args.recorder.now.theory in
+    let formula = c.args.formula.now in
+    let witness = c.args.witness.now in
+    let premise = c.args.premise.now.theorem in
+    let parts = c.in-Some.parts in
+    let function = parts.predicate.now in
+    let binder = parts.binder.now in
+    let body = parts.body.now in
+    let start = candidate formula witness parts.quantifier.now function binder body c.in-Some.ensures.whole c.in-Some.ensures.named c.in-Some.ensures.abstraction
+    c.ty.result.now c.ty-2.result.now c.ty.ensures c.ty-2.ensures (c.eq.ensures.same.0 c.if-not-eq.false) in
+    let at = start.parts in
+    let conclusion_is : c.concl-conclusion.result.now ≡ premise.conclusion = c.concl-conclusion.ensures.value ∙ ap (λ (t : Theorem). t.conclusion) c.thm.ensures in
+    let tested = ap (λ (t : NamedTerm). same_term (fill (image witness) (close at.name at.ty (image body))) (image t)) (sym conclusion_is)
+    ∙ sym (c.in-Ok-is_body_with.ensures.ok at.name at.ty at.binder_is start.typed) ∙ c.if-not-is_instance.false in
+    let generic = logical-type c.args.recorder.now c.args.logic.now c.requires.logic c.theory_is_legal.ensures exists_name (quantifier type_a) refl in
+    witnessed-at theory generic formula witness c.ty-formula_type.result.now c.ty-formula_type.ensures c.in-Ok.ensures.ok
+    c.in-Ok-pass_known.ensures.ok parts.quantifier.now function binder body
+    c.in-Some.ensures.whole c.in-Some.ensures.named c.in-Some.ensures.abstraction at start.typed (image premise.conclusion) tested
+
 pub returns-clause-outcome : goal.returns-clause-outcome
 returns-clause-outcome c =
     let theory = c.args.recorder.now.theory in

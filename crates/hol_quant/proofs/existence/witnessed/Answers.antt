@@ -11,7 +11,7 @@ use Rattle.hol_journal.proofs.GrowthLemmas.{journals-grow}
 use Rattle.hol_equal.specs.Sequents.{Shows}
 use Rattle.hol_equal.proofs.Sizes.{past-room}
 use Rattle.hol_equal.proofs.CutLemmas.{derives-where}
-use Rattle.hol_quant.specs.PredicateLemmas.{applied, over_predicate, lemma_fits}
+use Rattle.hol_quant.specs.PredicateLemmas.{AreKnown, applied, over_predicate, lemma_fits}
 use Rattle.hol_quant.proofs.PreludeParts.{witness-shows}
 use Rattle.hol_quant.proofs.ExistsLemmas.{small, predicate_known, redex-at, formula-at, exists-lemma-within, exists-names-within}
 use Rattle.hol_quant.proofs.existence.witnessed.Goals as goal
@@ -22,6 +22,16 @@ returns-in-Err-clause-derives c at = c.in-Err.ensures.derives c.args.formula.now
 pub by_predicate_lemma-requires-clause-lemma : goal.by_predicate_lemma-requires-clause-lemma
 by_predicate_lemma-requires-clause-lemma c =
     journals-grow.stays c.args.recorder.now c.expanded.new.recorder c.theorem_of-lemma.result.now c.in-Ok.ensures.continues.grown c.theorem_of-lemma.ensures.made
+
+pub by_predicate_lemma-requires-clause-known : goal.by_predicate_lemma-requires-clause-known
+by_predicate_lemma-requires-clause-known c =
+    let theory = c.args.recorder.now.theory in
+    let function = c.args.parts.predicate.now in
+    let witness = c.args.witness.now in
+    let at = c.requires.witnessed in
+    let later : c.expanded.new.recorder.theory ≡ theory = c.in-Ok.ensures.continues.theory in
+    let function_known = predicate_known theory c.args.formula.now function c.args.parts.binder.now c.args.parts.body.now witness (image c.args.premise.now.theorem.conclusion) at in
+    subst (λ (th : Theory). AreKnown th function witness) (sym later) (record { ty = at.parts.ty; function_known = function_known; element_known = at.witness_known })
 
 pub returns-in-Err-by_predicate_lemma-clause-derives : goal.returns-in-Err-by_predicate_lemma-clause-derives
 returns-in-Err-by_predicate_lemma-clause-derives c at =

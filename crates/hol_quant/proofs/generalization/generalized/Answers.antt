@@ -1,12 +1,12 @@
 use Rattle.std.proofs.Common.{◌≡◌, ◌∙◌, ap, subst, sym, Err, IfOk}
 use Rattle.std.specs.List.{list_all}
 use Rattle.hol_model.specs.Terms.HolType.{bool_type}
-use Rattle.hol_model.specs.Logic.Logic.{forall_name, quantifier}
+use Rattle.hol_model.specs.Logic.Logic.{forall_name, predicate, quantifier}
 use Rattle.hol_model.specs.Terms.NamedTerm.{NamedTerm, constant, combination, type_of}
 use Rattle.hol_model.specs.Terms.Nameless.{Nameless, const, app, image}
 use Rattle.hol_model.specs.Terms.Measures.{nameless_within_limits}
 use Rattle.hol_model.specs.Logic.KnownTerm.{is_known}
-use Rattle.hol_model.specs.Logic.Theory.{Theory}
+use Rattle.hol_model.specs.Logic.Theory.{Theory, IsKnown}
 use Rattle.hol_model.specs.Kernel.Theorem.{Theorem}
 use Rattle.hol_model.specs.Kernel.Outcome.{Answers}
 use Rattle.hol_model.specs.Logic.Derivable.{nameless_equation}
@@ -14,6 +14,7 @@ use Rattle.hol_model.specs.Kernel.Rules.{is_free_in_hypotheses, abstraction_outc
 use Rattle.hol_model.specs.Derived.DerivedRules.{images, is_roomy, terms_of_theorem}
 use Rattle.hol_equal.specs.Sequents.{Shows, DerivesIf, IsPast}
 use Rattle.hol_equal.proofs.CutLemmas.{derives-where}
+use Rattle.hol_quant.proofs.ForAllLemmas.{variable-known, function-known}
 use Rattle.hol_quant.proofs.GenAnswers.{gen-free, gen-start, function, formula, formula_image, small, function_typed, gen-answers, gen-past, gen-fits}
 use Rattle.hol_quant.proofs.GenAnswers.{may-generalize, abstraction-past, abstraction-made, formula-within, names-within, formula-shown}
 use Rattle.hol_quant.proofs.generalization.generalized.Goals as goal
@@ -71,6 +72,29 @@ returns-in-Err-universal-clause-outcome c =
     gen-past theory premise binder name ty at c.in-Err-universal.fault (nameless_within_limits (app (const forall_name (quantifier ty)) (image (function theory premise binder name ty at))))
     (subst (λ (f : NamedTerm). IsPast c.in-Err-universal.fault (nameless_within_limits (app (const forall_name (quantifier ty)) (image f)))) made_is (c.in-Err-universal.ensures.err ty made_typed))
     (formula-within theory premise binder name ty at)
+
+pub over_all-requires-clause-known : goal.over_all-requires-clause-known
+over_all-requires-clause-known c =
+    let journal = c.args.recorder.now in
+    let theory = journal.theory in
+    let premise = c.args.premise.now.theorem in
+    let binder = c.args.binder.now in
+    let name = c.in-Some.name.now in
+    let ty = c.in-Some.ty.now in
+    let dest = sym c.in-Some.ensures.parts in
+    let hypotheses_are : c.hyps.result.now ≡ premise.hypotheses = c.hyps.ensures.value ∙ ap (λ (t : Theorem). t.hypotheses) c.thm-theorem.ensures in
+    let tested = ap (is_free_in_hypotheses name ty) (sym hypotheses_are) ∙ sym c.is_free_in_some.ensures ∙ c.if-is_free_in_some.false in
+    let known = ap (λ (th : Theory). is_known th binder) (sym c.theory.ensures) ∙ sym c.known.ensures ∙ c.if-not-known.false in
+    let is_theorem = rw c.thm-theorem.ensures at c.concl.ensures.theorem in
+    let at = gen-start journal c.theory_is_legal.ensures c.args.premise.now c.requires.premise is_theorem binder name ty dest known tested in
+    let conclusion_is : c.concl.result.now ≡ premise.conclusion = c.concl.ensures.value ∙ ap (λ (t : Theorem). t.conclusion) c.thm-theorem.ensures in
+    let made_is : c.in-Ok.function ≡ function theory premise binder name ty at = abstraction-made theory premise binder name ty at c.in-Ok.function
+    (ap (abstraction_outcome binder) (sym conclusion_is) ∙ c.in-Ok.ensures.outcome) in
+    record {
+      ty = ty;
+      function_known = subst (λ (f : NamedTerm). IsKnown theory (image f) (predicate ty)) (sym made_is) (function-known name ty premise.conclusion theory at.knows at.known);
+      element_known = variable-known theory binder name ty at.binder_is at.knows;
+    }
 
 pub returns-in-Err-over_all-clause-outcome : goal.returns-in-Err-over_all-clause-outcome
 returns-in-Err-over_all-clause-outcome c =

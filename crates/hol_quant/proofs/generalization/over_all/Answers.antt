@@ -10,7 +10,7 @@ use Rattle.hol_model.specs.Derived.DerivedRules.{images}
 use Rattle.hol_equal.specs.Sequents.{Shows, DerivesIf}
 use Rattle.hol_equal.proofs.CutLemmas.{derives-where}
 use Rattle.hol_equal.proofs.Sizes.{past-room}
-use Rattle.hol_quant.specs.PredicateLemmas.{is_always, over_predicate, at_predicate, lemma_fits}
+use Rattle.hol_quant.specs.PredicateLemmas.{AreKnown, is_always, over_predicate, at_predicate, lemma_fits}
 use Rattle.hol_quant.specs.Universals.{for_all}
 use Rattle.hol_quant.proofs.GenLemmas.{truth}
 use Rattle.hol_quant.proofs.ForAllLemmas.{binder-known, function-known, always, always-at, formula-at, body-fits, always-within, lemma-fits}
@@ -35,6 +35,11 @@ returns-in_err-always-clause-derives c name ty room may function_is fits =
     past-room _ (nameless_within_limits (always name ty p)) room
     (c.in_err-always.ensures.derives (images premise) name ty bool_type (image p) truth (ap image may.binder_is) knows may.fresh equal) (always-within name ty p room fits)
     )
+
+pub by_predicate_lemma-requires-clause-known : goal.by_predicate_lemma-requires-clause-known
+by_predicate_lemma-requires-clause-known c =
+    let later : c.abs.new.recorder.theory ≡ c.args.recorder.now.theory = c.in_ok-always.ensures.continues.theory ∙ c.in_ok-equal.ensures.continues.theory in
+    subst (λ (th : Theory). AreKnown th c.args.function.now c.args.binder.now) (sym later) c.requires.known
 
 pub returns-clause-derives : goal.returns-clause-derives
 returns-clause-derives c name ty room may function_is fits =

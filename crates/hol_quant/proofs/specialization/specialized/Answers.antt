@@ -2,7 +2,7 @@ use Rattle.std.proofs.Common.{◌≡◌, [], subst, sym, None, Err}
 use Rattle.std.specs.List.{list_all}
 use Rattle.hol_model.specs.Terms.HolType.{bool_type}
 use Rattle.hol_model.specs.Logic.Logic.{forall_name, predicate}
-use Rattle.hol_model.specs.Terms.NamedTerm.{combination, abstraction, equation}
+use Rattle.hol_model.specs.Terms.NamedTerm.{combination, abstraction}
 use Rattle.hol_model.specs.Terms.Nameless.{Nameless, app, image}
 use Rattle.hol_model.specs.Logic.Theory.{Theory, IsKnown}
 use Rattle.hol_model.specs.Kernel.Rules.{first_unknown}
@@ -60,6 +60,27 @@ returns-in-Err-clause-outcome c =
     (past-room fault (lemma_fits at.ty function term (over_predicate forall_name) applied) fits
     (c.in-Err.ensures.derives at.ty function_known term_known (images premise) (over_predicate forall_name) applied c.requires.shows premise_shows)
     (spec-lemma-within theory term premise function binder body at start.typed))
+
+pub by_predicate_lemma-requires-clause-known : goal.by_predicate_lemma-requires-clause-known
+by_predicate_lemma-requires-clause-known c =
+    let journal = c.args.recorder.now in
+    let theory = journal.theory in
+    let term = c.args.term.now in
+    let premise = c.args.premise.now.theorem in
+    let function = c.in-Some.parts.predicate.now in
+    let binder = c.in-Some.parts.binder.now in
+    let body = c.in-Some.parts.body.now in
+    let start =
+    spec-start journal c.theory_is_legal.ensures c.args.premise.now c.requires.premise c.thm.result.now c.thm.ensures c.concl-formula.ensures.theorem c.requires.generic term c.concl-formula.result.now
+    c.in-Some.parts.quantifier.now function binder body c.concl-formula.ensures.value c.in-Some.ensures.whole c.in-Some.ensures.named c.in-Some.ensures.abstraction
+    c.ty.result.now c.ty-2.result.now c.ty.ensures c.ty-2.ensures (c.eq.ensures.same.0 c.if-not-eq.false) in
+    let at = start.at in
+    let none = sym (rw c.theory.ensures at c.in-None.ensures) in
+    record {
+      ty = at.ty;
+      function_known = subst (λ (t : Nameless). IsKnown theory t (predicate at.ty)) (sym (function_image theory term premise function binder body at start.typed)) at.function_known;
+      element_known = known_term theory term at.ty none start.typed;
+    }
 
 pub converted_known-requires : goal.converted_known-requires
 converted_known-requires c =
