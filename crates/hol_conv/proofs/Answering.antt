@@ -1,9 +1,8 @@
 -- What calls come to as conversions.
-use Rattle.std.proofs.Common.{◌≡◌, ℕ, suc, ◌+◌, ◌<◌, ◌≤◌, List, [], Bool, true, false, inl, inr, refl, sym, subst, arith, add-one, Option, Some, None, Result, Ok, Err, IfOk, IsSome}
+use Rattle.std.proofs.Common.{◌≡◌, ℕ, suc, ◌+◌, ◌<◌, ◌≤◌, [], Bool, true, false, inl, inr, refl, sym, subst, arith, add-one, Option, Some, None, Result, Ok, Err, IsSome}
 use Rattle.hol_model.specs.declared.fault.Fault.{Fault}
 use Rattle.hol_model.specs.declared.fault.Fault.TheVariants.{Memory, TooLarge, NotEquation, NotAlpha}
 use Rattle.hol_model.specs.declared.limits.TheConstants.{DESCENTS_LIMIT}
-use Rattle.hol_model.specs.Terms.HolType.{HolType}
 use Rattle.hol_model.specs.Terms.NamedTerm.{NamedTerm, variable, constant, combination, abstraction, equation, is_within_limits, dest_combination, dest_abstraction}
 use Rattle.hol_model.specs.Logic.Theory.{Theory}
 use Rattle.hol_model.specs.Kernel.Outcome.{unless, given}
@@ -55,7 +54,7 @@ joined-sides theory a b joined is = left_of (dest_equation a.conclusion) is
     left_of (Some left) e = right_of left (dest_equation b.conclusion) e
     left_of None e = cc
 
-some-sides : {found : Option (NamedTerm × NamedTerm)} {sides : NamedTerm × NamedTerm} → found ≡ Some sides → IsSome found
+pub some-sides : {found : Option (NamedTerm × NamedTerm)} {sides : NamedTerm × NamedTerm} → found ≡ Some sides → IsSome found
 some-sides is = subst (λ (found : Option (NamedTerm × NamedTerm)). IsSome found) (sym is) refl
 
 no-theorem : {A : Type 0} {fault : Fault} {theorem : Theorem} → Err fault ≡ Ok theorem → A

@@ -14,6 +14,8 @@ use Rattle.hol_model.specs.Refining.Conversions as conv
 use Rattle.hol_model.specs.Refining.Conversions.{Conversion, Conversions, more, one_more, all_conv, thenc, orelsec, repeatc, try_conv, changed_conv}
 use Rattle.hol_model.specs.Refining.Conversions.{rand_conv, rator_conv, abs_conv, sub_conv, depth_conv, once_depth_conv, top_depth_conv}
 use Rattle.hol_model.specs.Refining.Conversions.{Converts, is_caught, of_argument, of_function, of_body, of_parts, if_changed, lacks_part}
+use Rattle.hol_laws_refiners.specs.Laws.{IsEquationOf}
+use Rattle.hol_laws_refiners.proofs.Equations.{conversions-answer-equations}
 use Rattle.hol_laws_refiners.proofs.Repeating.{IsFinal, onto, JoinedSoFar, joined_defined}
 use Rattle.hol_laws_refiners.proofs.Chains.{ThencSoFar}
 use Rattle.hol_laws_refiners.proofs.Spending.{converts-spends}
@@ -29,9 +31,9 @@ use Rattle.hol_conv.specs.Chains.{Tries, Links, proved_by}
 use Rattle.hol_conv.specs.declared.chain.Chain.{Chain}
 use Rattle.hol_conv.specs.declared.chain.Linked.TheVariants.{GoesOn, Ends}
 use Rattle.hol_conv.specs.declared.chain.Linked.{Linked}
-use Rattle.hol_conv.proofs.Answering.{argument-answers, function-answers, body-answers, parts-answer, tries, then-answers, thenc-goes, thenc-stops, is-equation, onto-equation, unless-memory}
+use Rattle.hol_conv.proofs.Answering.{argument-answers, function-answers, body-answers, parts-answer, tries, then-answers, thenc-goes, thenc-stops, onto-equation, unless-memory}
 use Rattle.hol_conv.proofs.Linking.{links-on, links-end, links-stop, costs}
-use Rattle.hol_conv.proofs.Asking.{carried, carried-answer, side-before, continued-twice}
+use Rattle.hol_conv.proofs.Asking.{carried-answer, side-before, continued-twice}
 
 -- the same for what a call answers
 abbrev pub AnswersAt : Theory → Store → HostConversions → ℕ → ℕ → Conversion → NamedTerm → Result Converted Fault → ℕ → Type 0
@@ -215,14 +217,14 @@ link-costs other proved t after (Err fault) chain r links = absurd links
 
 -- what is answered is an equation
 answer-equation : {theory : Theory} {store : Store} {hosts : HostConversions} {depth steps left : ℕ} {c : Conversion} {t : NamedTerm} (made : Result Converted Fault)
-    → AnswersAt theory store hosts depth steps c t made left → IfOk made (λ made. IsSome (dest_equation (theorem_of theory t made).conclusion))
-answer-equation {theory} {store} {hosts} (Ok made) r = is-equation theory store hosts r
+    → AnswersAt theory store hosts depth steps c t made left → IfOk made (λ made. IsEquationOf t (theorem_of theory t made))
+answer-equation {theory} {store} {hosts} {depth} {steps} {left} {c} {t} (Ok made) r = conversions-answer-equations hosts theory store depth steps left c t (theorem_of theory t made) r
 answer-equation (Err fault) r = tt
 
 pub link-equations : {old new : Library} {hosts : HostConversions} {depth steps left : ℕ} {c : Conversion} {t : NamedTerm} (made : Result Converted Fault) → IsContinued old new
-    → AnswersOver old hosts depth steps c t made left → IfOk made (λ made. IsSome (dest_equation (theorem_of new.recorder.theory t made).conclusion))
+    → AnswersOver old hosts depth steps c t made left → IfOk made (λ made. IsEquationOf t (theorem_of new.recorder.theory t made))
 link-equations {t} made continued r =
-    subst (λ (theory : Theory). IfOk made (λ made. IsSome (dest_equation (theorem_of theory t made).conclusion))) (sym continued.theory) (answer-equation made r)
+    subst (λ (theory : Theory). IfOk made (λ made. IsEquationOf t (theorem_of theory t made))) (sym continued.theory) (answer-equation made r)
 
 -- CHANGED_CONV
 pub changed-arm : {theory : Theory} {store : Store} {hosts : HostConversions} {depth steps left : ℕ} {c : Conversion} {t : NamedTerm} (made result : Result Converted Fault)

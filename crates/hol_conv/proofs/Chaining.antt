@@ -2,15 +2,17 @@
 use Rattle.std.proofs.Common.{◌≡◌, ℕ, suc, List, [], ◌∷◌, ◌++◌, length, append-nil, inl, inr, refl, sym, ap, ◌∙◌, subst, if◌then◌else◌, Bool, true, false, Result, Ok, Err, IfOk}
 use Rattle.std.specs.List.{All}
 use Rattle.std.proofs.lemmas.List.{map-append}
-use Rattle.std.proofs.lemmas.List.Elements.{All-weaker, All-push}
+use Rattle.std.proofs.lemmas.List.Elements.{All-nil, All-weaker, All-push}
 use Rattle.hol_model.specs.declared.fault.Fault.{Fault}
 use Rattle.hol_model.specs.declared.fault.Fault.TheVariants.{Memory, StepLimit}
 use Rattle.hol_model.specs.Terms.NamedTerm.{NamedTerm, equation, is_within_limits}
+use Rattle.hol_model.specs.Terms.Nameless.{image}
 use Rattle.hol_model.specs.Logic.Theory.{Theory}
 use Rattle.hol_model.specs.Logic.KnownTerm.{is_known}
 use Rattle.hol_model.specs.Kernel.Theorem.{Theorem}
 use Rattle.hol_model.specs.Kernel.Rules.{refl_outcome, trans_outcome}
 use Rattle.hol_model.specs.Refining.Conversions.{is_caught}
+use Rattle.hol_laws_refiners.specs.Laws.{IsEquationOf}
 use Rattle.hol_laws_refiners.proofs.Repeating.{onto, joined_from, joined-last, joined-err}
 use Rattle.hol_journal.specs.Journal.{Recorded, IsMade, theorem_in}
 use Rattle.hol_journal.proofs.GrowthLemmas.{journals-grow}
@@ -21,8 +23,9 @@ use Rattle.hol_conv_rules.specs.declared.converted.Converted.{Converted}
 use Rattle.hol_conv_rules.specs.declared.converted.Converted.TheVariants.{Changed}
 use Rattle.hol_conv_rules.specs.Converted.{same_theorem, theorem_of, answered, changed_by}
 use Rattle.hol_conv_rules.proofs.Same.{roomy-refl, roomless-refl, same-joined, same-side}
-use Rattle.hol_conv.specs.Chains.{theorems, proved_by, Reflects, without_step, by_refl, Finishes, FinishesBy, IsExtended, IsChain, IsChainFrom, BeginsAt, Settles}
+use Rattle.hol_conv.specs.Chains.{Equates, LeadTo, lead_nowhere, theorems, proved_by, Reflects, without_step, by_refl, Finishes, FinishesBy, IsExtended, IsChain, IsChainFrom, BeginsAt, Settles}
 use Rattle.hol_conv.specs.declared.chain.Chain.{Chain}
+use Rattle.hol_conv.proofs.Leading.{leads-behind}
 
 -- ---- ALL_CONV
 
@@ -82,6 +85,7 @@ made-later {old} {new} all continued made =
 chain-still : {old new : Library} {chain : Chain} → IsContinued old new → IsChain old chain → IsChain new chain
 chain-still {chain} continued is = record {
   made = made-later chain.theorems.items continued is.made;
+  lead = is.lead;
   known = subst (λ (theory : Theory). is_known theory chain.current ≡ true) (sym continued.theory) is.known;
   roomy = is.roomy;
 }
@@ -89,19 +93,38 @@ chain-still {chain} continued is = record {
 pub chain-later : {old new : Library} {t : NamedTerm} {chain : Chain} → IsContinued old new → IsChainFrom old t chain → IsChainFrom new t chain
 chain-later continued is = record { held = chain-still continued is.held; begun = is.begun }
 
+absurd-test : {A : Type 0} (test : Bool) → test ≡ false → test ≡ true → A
+absurd-test true a b = cc
+absurd-test false a b = cc
+
+-- without theorems
+pub chain-begun : {library : Library} {t : NamedTerm} (chain : Chain) → chain.theorems.items ≡ [] → chain.current ≡ t → chain.is_same ≡ false → is_known library.recorder.theory t ≡ true
+    → IsChainFrom library t chain
+chain-begun {library} {t} chain none current settled known = record {
+  held = record {
+    made = subst (λ (all : List Recorded). All (IsMade library.recorder) all) (sym none) (All-nil (IsMade library.recorder));
+    lead = subst (λ (all : List Recorded). LeadTo all (image chain.current)) (sym none) lead_nowhere;
+    known = subst (λ (u : NamedTerm). is_known library.recorder.theory u ≡ true) (sym current) known;
+    roomy = λ same. absurd-test chain.is_same settled same;
+  };
+  begun = λ empty. current;
+}
+
 -- one more theorem
-pub chain-behind : {old new : Library} (chain after : Chain) (made : Recorded) → IsContinued old new → IsChain old chain → IsMade new.recorder made
-    → after.theorems.items ≡ chain.theorems.items ++ made ∷ []
-    → is_known new.recorder.theory after.current ≡ true → after.is_same ≡ false → IsChain new after
-chain-behind {old} {new} chain after made continued is one items known settled = record {
-  made = subst (λ (all : List Recorded). All (IsMade new.recorder) all) (sym items) (All-push (IsMade new.recorder) chain.theorems.items made (made-later chain.theorems.items continued is.made) one);
+pub chain-pushed : {library : Library} (chain after : Chain) (made : Recorded) → IsChain library chain → IsMade library.recorder made
+    → after.theorems.items ≡ chain.theorems.items ++ made ∷ [] → Equates (image chain.current) (image after.current) made.theorem
+    → is_known library.recorder.theory after.current ≡ true → after.is_same ≡ false → IsChain library after
+chain-pushed {library} chain after made is one items equates known settled = record {
+  made = subst (λ (all : List Recorded). All (IsMade library.recorder) all) (sym items) (All-push (IsMade library.recorder) chain.theorems.items made is.made one);
+  lead = leads-behind made is.lead equates items;
   known = known;
   roomy = λ same. absurd-test after.is_same settled same;
 }
-  where
-    absurd-test : {A : Type 0} (test : Bool) → test ≡ false → test ≡ true → A
-    absurd-test true a b = cc
-    absurd-test false a b = cc
+
+pub chain-behind : {old new : Library} (chain after : Chain) (made : Recorded) → IsContinued old new → IsChain old chain → IsMade new.recorder made
+    → after.theorems.items ≡ chain.theorems.items ++ made ∷ [] → Equates (image chain.current) (image after.current) made.theorem
+    → is_known new.recorder.theory after.current ≡ true → after.is_same ≡ false → IsChain new after
+chain-behind chain after made continued is one items equates known settled = chain-pushed chain after made (chain-still continued is) one items equates known settled
 
 pub known-there : {old new : Library} (t : NamedTerm) → IsContinued old new → is_known old.recorder.theory t ≡ true → is_known new.recorder.theory t ≡ true
 known-there t continued known = subst (λ (theory : Theory). is_known theory t ≡ true) (sym continued.theory) known
@@ -254,3 +277,9 @@ extends-by theory old mid made answer (Err fault) settles is extends = tt
 pub begins-by : (old : Chain) (result : Result Chain Fault) → IfOk result (λ new. (t : NamedTerm) → BeginsAt t new) → IfOk result (λ new. (t : NamedTerm) → BeginsAt t old → BeginsAt t new)
 begins-by old (Ok new) begins = λ t begun. begins t
 begins-by old (Err fault) begins = tt
+
+-- of an equation of the current term before
+pub pushes-equation : {theory : Theory} (old mid : Chain) (made : Recorded) (answer : Converted) → Settles theory old mid → answer ≡ Changed made
+    → IsEquationOf old.current (theorem_of theory old.current answer) → IsEquationOf mid.current made.theorem
+pushes-equation {theory} old mid made answer settles is of =
+    subst (λ (u : NamedTerm). IsEquationOf u made.theorem) (sym settles.current) (subst (λ (answer : Converted). IsEquationOf old.current (theorem_of theory old.current answer)) is of)

@@ -4,6 +4,7 @@ pub mod Answering
 pub mod Linking
 pub mod Asking
 pub mod Expressions
+pub mod Leading
 pub mod Chaining
 pub mod Parting
 pub mod Arms

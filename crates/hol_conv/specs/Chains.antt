@@ -1,13 +1,14 @@
 -- Theorems that are joined by TRANS: each of the right side of the one before.
-use Rattle.std.specs.Prelude.{◌≡◌, ℕ, suc, List, [], ◌∷◌, ◌++◌, map, if◌then◌else◌, Bool, true, false, Result, Ok, Err, IfOk}
+use Rattle.std.specs.Prelude.{◌≡◌, ℕ, suc, List, [], ◌∷◌, ◌++◌, map, if◌then◌else◌, Bool, true, false, Some, Result, Ok, Err, IfOk}
 use Rattle.std.specs.List.{All}
 use Rattle.hol_model.specs.declared.fault.Fault.{Fault}
 use Rattle.hol_model.specs.declared.fault.Fault.TheVariants.{Memory, StepLimit}
 use Rattle.hol_model.specs.Terms.NamedTerm.{NamedTerm, equation, is_within_limits}
+use Rattle.hol_model.specs.Terms.Nameless.{Nameless, image}
 use Rattle.hol_model.specs.Logic.Theory.{Theory}
 use Rattle.hol_model.specs.Logic.KnownTerm.{is_known}
 use Rattle.hol_model.specs.Kernel.Theorem.{Theorem}
-use Rattle.hol_model.specs.Kernel.Rules.{refl_outcome}
+use Rattle.hol_model.specs.Kernel.Rules.{dest_equation, refl_outcome}
 use Rattle.hol_model.specs.Refining.Conversions.{is_caught}
 use Rattle.hol_laws_refiners.proofs.Repeating.{joined_from}
 use Rattle.hol_journal.specs.Journal.{Recorded, IsMade}
@@ -25,9 +26,30 @@ theorems all = map (λ made. made.theorem) all
 abbrev pub proved_by : Theory → Chain → List Theorem
 proved_by theory chain = theorems chain.theorems.items ++ (if chain.is_same then same_theorem theory chain.current ∷ [] else [])
 
--- the recorder made the theorems, its theory knows the current term, and there is room for that it equals itself
+-- the theorem is an equation with these sides, up to the names of bound variables
+pub record Equates (left right : Nameless) (theorem : Theorem) : Type 0 where
+  pub sides : NamedTerm × NamedTerm
+  pub is : dest_equation theorem.conclusion ≡ Some sides
+  pub left_is : image sides.0 ≡ left
+  pub right_is : image sides.1 ≡ right
+
+-- theorems that lead to a term: each is an equation of the right side of the one before, the last one's right side is the term
+pub data LeadTo : List Recorded → Nameless → Type 0 where
+  lead_nowhere : {end : Nameless} → LeadTo [] end
+  lead_on : {before : List Recorded} (made : Recorded) {middle end : Nameless} → Equates middle end made.theorem → LeadTo before middle → LeadTo (before ++ made ∷ []) end
+
+-- theorems that lead to the left side of one more
+pub record LeadUpTo (all : List Recorded) (last : Theorem) : Type 0 where
+  pub left : Nameless
+  pub right : Nameless
+  pub equates : Equates left right last
+  pub lead : LeadTo all left
+
+-- the recorder made the theorems, which lead to the current term; its theory knows that term, and there is room for that it
+-- equals itself
 pub record IsChain (library : Library) (chain : Chain) : Type 0 where
   pub made : All (IsMade library.recorder) chain.theorems.items
+  pub lead : LeadTo chain.theorems.items (image chain.current)
   pub known : is_known library.recorder.theory chain.current ≡ true
   pub roomy : chain.is_same ≡ true → is_within_limits (equation chain.current chain.current) ≡ true
 

@@ -1,13 +1,13 @@
 // Theorems that are joined by TRANS: each of the right side of the one before. That a term equals itself is not made where it
 // changes no answer.
-ghost use Rattle.std.specs.Prelude.{◌≡◌, [], true, false, Ok, IfOk, IfErr, IsSome};
+ghost use Rattle.std.specs.Prelude.{◌≡◌, [], true, false, Ok, IfOk, IfErr};
 ghost use Rattle.std.specs.List.{All};
 ghost use Rattle.hol_model.specs.declared.fault.Fault.TheVariants.{Memory};
 ghost use Rattle.hol_model.specs.Terms.NamedTerm.{NamedTerm};
 ghost use Rattle.hol_model.specs.Logic.Theory.{Theory};
 ghost use Rattle.hol_model.specs.Logic.KnownTerm.{is_known};
-ghost use Rattle.hol_model.specs.Kernel.Rules.{dest_equation};
 ghost use Rattle.hol_model.specs.Refining.Conversions as conversions;
+ghost use Rattle.hol_laws_refiners.specs.Laws.{IsEquationOf};
 ghost use Rattle.hol_laws_refiners.proofs.Repeating.{joined_from};
 ghost use Rattle.hol_journal.specs.Journal.{IsMade, theorem_in};
 ghost use Rattle.hol_theorem_library.specs.Library.{IsLibrary, IsContinued};
@@ -15,10 +15,10 @@ ghost use Rattle.hol_theorem_library.specs.declared.library.Library as library;
 ghost use Rattle.hol_conv_rules.specs.Makes.{Makes, Joins};
 ghost use Rattle.hol_conv_rules.specs.Converted.{theorem_of, answered, IsAnswerOf, MakesAnswer};
 ghost use Rattle.hol_conv.specs.Chains as chains;
-ghost use Rattle.hol_conv.specs.Chains.{proved_by, IsChain, BeginsAt, IsChainFrom, Settles, Reflects, Finishes, Tries, IsExtended, Links, LinksMade};
+ghost use Rattle.hol_conv.specs.Chains.{proved_by, LeadUpTo, IsChain, BeginsAt, IsChainFrom, Settles, Reflects, Finishes, Tries, IsExtended, Links, LinksMade};
 
 use hol_conv_rules::{
-    Converted, as_answer, only_changed, refl, right_side, theorem, trans, unchanged,
+    Converted, as_answer, only_changed, refl, right_side, theorem, trans_known, unchanged,
 };
 use hol_journal::Rec;
 use hol_model::Fault;
@@ -64,18 +64,19 @@ pub(crate) fn same(library: &Library, t: &Term, fuel: &mut Fuel) -> Result<Conve
     unchanged(t)
 }
 
-// The theorems, joined from the right to the last.
+// The theorems, joined from the right to the last. They meet, so nothing is compared.
 fn joined(library: &mut Library, alloc: Global, theorems: Vec<Rec>, last: Rec) -> Result<Rec, Fault>
     requires library { IsLibrary library.old }
     requires theorems { All (IsMade library.old.recorder) theorems.items }
     requires last { IsMade library.old.recorder last }
+    requires lead { LeadUpTo theorems.items last.theorem }
     ensures joins { Joins (joined_from library.old.recorder.theory (chains.theorems theorems.items) (Ok last.theorem)) (theorem_in result) }
     ensures makes { Makes library.old library.new result }
 {
     let mut theorems = theorems;
     let mut last = last;
     while let Some(theorem) = theorems.pop() {
-        last = match trans(library, alloc, &theorem, &last) {
+        last = match trans_known(library, alloc, &theorem, &last) {
             Ok(made) => made,
             Err(fault) => return Err(fault),
         };
@@ -188,7 +189,7 @@ fn pushed(library: &Library, alloc: Global, chain: Chain, made: Rec) -> Result<C
     requires chain { IsChain library.now chain }
     requires settled { chain.is_same ≡ false }
     requires made { IsMade library.now.recorder made }
-    requires equation { IsSome (dest_equation made.theorem.conclusion) }
+    requires equation { IsEquationOf chain.current made.theorem }
     ensures chain { IfOk result (IsChain library.now) }
     ensures extends { (theory : Theory) → IfOk result (IsExtended theory (proved_by theory chain) made.theorem) }
     ensures begun { IfOk result (λ new. (t : NamedTerm) → BeginsAt t new) }
@@ -219,7 +220,7 @@ fn extended(
     requires library { IsLibrary library.old }
     requires chain { IsChain library.old chain }
     requires answer { IsAnswerOf library.old chain.current answer }
-    requires equation { IsSome (dest_equation (theorem_of library.old.recorder.theory chain.current answer).conclusion) }
+    requires equation { IsEquationOf chain.current (theorem_of library.old.recorder.theory chain.current answer) }
     ensures library { IsLibrary library.new }
     ensures continued { IsContinued library.old library.new }
     ensures chain { IfOk result (IsChain library.new) }
@@ -260,7 +261,7 @@ pub(crate) fn link(
     requires library { IsLibrary library.old }
     requires chain { IsChainFrom library.old t.now chain }
     requires answer { IfOk answer (IsAnswerOf library.old chain.current) }
-    requires equation { IfOk answer (λ answer. IsSome (dest_equation (theorem_of library.old.recorder.theory chain.current answer).conclusion)) }
+    requires equation { IfOk answer (λ answer. IsEquationOf chain.current (theorem_of library.old.recorder.theory chain.current answer)) }
     ensures links { Links library.old.recorder.theory (proved_by library.old.recorder.theory chain) t.now chain.current
         (answered library.old.recorder.theory chain.current answer) fuel.old.left result fuel.new.left }
     ensures library { IsLibrary library.new }

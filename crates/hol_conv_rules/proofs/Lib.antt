@@ -5,3 +5,4 @@ pub mod Converting
 pub mod Preparing
 pub mod HostEquations
 pub mod Same
+pub mod Meeting

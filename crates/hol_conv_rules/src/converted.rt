@@ -6,6 +6,7 @@ ghost use Rattle.hol_model.specs.Logic.Theory.{Theory};
 ghost use Rattle.hol_model.specs.Logic.KnownTerm.{is_known};
 ghost use Rattle.hol_model.specs.Kernel.Rules.{dest_equation, refl_outcome};
 ghost use Rattle.hol_model.specs.Refining.Conversions as conversions;
+ghost use Rattle.hol_laws_refiners.specs.Laws.{IsEquationOf};
 ghost use Rattle.hol_laws_refiners.proofs.Repeating.{onto};
 ghost use Rattle.hol_journal.specs.Journal.{IsMade, theorem_in};
 ghost use Rattle.hol_theorem_library.specs.Library.{IsLibrary};
@@ -13,7 +14,7 @@ ghost use Rattle.hol_theorem_library.specs.declared.library.Library as library;
 ghost use Rattle.hol_conv_rules.specs.Makes.{Makes, Joins, IsRightSide};
 ghost use Rattle.hol_conv_rules.specs.Converted.{same_theorem, theorem_of, answered, changed_by, IsAnswerOf, IsHeldIn, MakesAnswer, from_refl, to_refl};
 
-use crate::joins::{abs, ap_term, ap_thm, if_changed, mk_comb, refl, right_side, trans};
+use crate::joins::{abs, ap_term, ap_thm, if_changed, mk_comb, refl, right_side, trans_known};
 use hol_journal::Rec;
 use hol_model::{Fault, TERM_HEIGHT_LIMIT, TERM_NODES_LIMIT, TYPE_NODES_LIMIT};
 use hol_terms::Term;
@@ -219,11 +220,12 @@ pub fn of_body(
 fn from_same(library: &mut Library, alloc: Global, t: &Term, next: &Rec) -> Result<Rec, Fault>
     requires library { IsLibrary library.old }
     requires next { IsMade library.old.recorder next.now }
+    requires equation { IsEquationOf t.now next.now.theorem }
     ensures makes { Makes library.old library.new result }
     ensures joins { Joins (from_refl library.old.recorder.theory t.now next.now.theorem) (theorem_in result) }
 {
     match refl(library, alloc, t) {
-        Ok(same) => trans(library, alloc, &same, next),
+        Ok(same) => trans_known(library, alloc, &same, next),
         Err(fault) => Err(fault),
     }
 }
@@ -232,17 +234,18 @@ fn from_same(library: &mut Library, alloc: Global, t: &Term, next: &Rec) -> Resu
 fn to_same(library: &mut Library, alloc: Global, first: &Rec, right: &Term) -> Result<Rec, Fault>
     requires library { IsLibrary library.old }
     requires first { IsMade library.old.recorder first.now }
+    requires side { IsRightSide first.now.theorem right.now }
     ensures makes { Makes library.old library.new result }
     ensures joins { Joins (to_refl library.old.recorder.theory first.now.theorem right.now) (theorem_in result) }
 {
     match refl(library, alloc, right) {
-        Ok(same) => trans(library, alloc, first, &same),
+        Ok(same) => trans_known(library, alloc, first, &same),
         Err(fault) => Err(fault),
     }
 }
 
-/// TRANS of an answer on a known term and one on its right side. A theorem is not joined for nothing: the next may have other
-/// bound names on its left side, and the first stands on an earlier theory, it may be.
+/// TRANS of an answer on a known term and one on its right side, which nothing is compared for. A theorem is not joined for
+/// nothing: the next may have other bound names on its left side, and the first stands on an earlier theory, it may be.
 pub fn then(
     library: &mut Library,
     alloc: Global,
@@ -257,6 +260,7 @@ pub fn then(
     requires side { IsRightSide (theorem_of library.old.recorder.theory t.now first.now) right.now }
     requires first { IsAnswerOf library.old t.now first.now }
     requires next { IfOk next (IsAnswerOf library.old right.now) }
+    requires equation { IfOk next (λ next. IsEquationOf right.now (theorem_of library.old.recorder.theory right.now next)) }
     ensures joins { Joins (onto library.old.recorder.theory (theorem_of library.old.recorder.theory t.now first.now) (answered library.old.recorder.theory right.now next))
         (answered library.old.recorder.theory t.now result) }
     ensures makes { MakesAnswer library.old library.new t.now result }
@@ -272,7 +276,7 @@ pub fn then(
         },
         Converted::Changed(first) => match next {
             Converted::Same => as_answer(to_same(library, alloc, first, right)),
-            Converted::Changed(next) => as_answer(trans(library, alloc, first, &next)),
+            Converted::Changed(next) => as_answer(trans_known(library, alloc, first, &next)),
         },
     }
 }

@@ -8,7 +8,7 @@ ghost use Rattle.hol_model.specs.Refining.Conversions.{binder_fault, of_argument
 ghost use Rattle.hol_model.specs.Refining.Conversions as outcome;
 ghost use Rattle.hol_journal.specs.Journal.{Journal, IsMade, theorem_in};
 ghost use Rattle.hol_theorem_library.specs.Library.{IsLibrary};
-ghost use Rattle.hol_conv_rules.specs.Makes.{Makes, Joins, IsRightSide};
+ghost use Rattle.hol_conv_rules.specs.Makes.{Makes, Joins, Meets, IsRightSide};
 
 use hol_alpha::aconv;
 use hol_equal::conclusion_of;
@@ -28,15 +28,24 @@ pub fn refl(library: &mut Library, alloc: Global, term: &Term) -> Result<Rec, Fa
     library.recorder.refl(alloc, term)
 }
 
-/// TRANS: from `a = b` and `b = c`, `a = c`. Refused as the kernel's rule.
-pub fn trans(library: &mut Library, alloc: Global, first: &Rec, second: &Rec) -> Result<Rec, Fault>
+/// TRANS: from `a = b` and `b = c`, `a = c`, whose middle terms are known to meet, so that they are not compared. Refused as the
+/// kernel's rule.
+pub fn trans_known(
+    library: &mut Library,
+    alloc: Global,
+    first: &Rec,
+    second: &Rec,
+) -> Result<Rec, Fault>
     requires library { IsLibrary library.old }
     requires first { IsMade library.old.recorder first.now }
     requires second { IsMade library.old.recorder second.now }
+    requires meets { Meets first.now.theorem second.now.theorem }
     ensures makes { Makes library.old library.new result }
     ensures joins { Joins (trans_outcome library.old.recorder.theory first.now.theorem second.now.theorem) (theorem_in result) }
 {
-    library.recorder.trans(alloc, first, second)
+    let _first = conclusion_of(&library.recorder, first);
+    let _second = conclusion_of(&library.recorder, second);
+    library.recorder.trans_known(alloc, first, second)
 }
 
 /// MK_COMB: from `f = g` and `x = y`, `f x = g y`. Refused as the kernel's rule.

@@ -1,4 +1,4 @@
-use Rattle.hol_conv.proofs.Chaining.{extends-by, begins-by}
+use Rattle.hol_conv.proofs.Chaining.{extends-by, begins-by, pushes-equation}
 use Rattle.hol_conv.proofs.chain.extended.Goals as goal
 
 pub returns-in-Changed-clause-extends : goal.returns-in-Changed-clause-extends
@@ -8,3 +8,6 @@ returns-in-Changed-clause-extends c =
 
 pub returns-in-Changed-clause-begun : goal.returns-in-Changed-clause-begun
 returns-in-Changed-clause-begun c = begins-by c.args.chain c.pushed.result c.pushed.ensures.begun
+
+pub pushed-requires-clause-equation : goal.pushed-requires-clause-equation
+pushed-requires-clause-equation c = pushes-equation c.args.chain c.in-Ok.chain c.in-Changed.made c.args.answer c.in-Ok.ensures.settles c.in-Changed.is c.requires.equation

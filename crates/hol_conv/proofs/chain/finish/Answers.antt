@@ -4,6 +4,7 @@ use Rattle.hol_model.specs.Logic.KnownTerm.{is_known}
 use Rattle.hol_model.specs.Refining.Conversions.{is_caught}
 use Rattle.hol_conv_rules.specs.Converted.{answered}
 use Rattle.hol_conv_rules.proofs.Making.{makes_then}
+use Rattle.hol_conv.proofs.Leading.{leads-up, reflects-equates}
 use Rattle.hol_conv.proofs.Chaining.{made-later, no-theorems, ends-empty, ends-joined, ends-unmade, joined-answer}
 use Rattle.hol_conv.proofs.chain.finish.Goals as goal
 
@@ -40,3 +41,6 @@ returns-in-Err-clause-finishes c =
 
 pub joined-requires-clause-theorems : goal.joined-requires-clause-theorems
 joined-requires-clause-theorems c = made-later c.args.chain.theorems.items c.in-Ok.ensures.makes.continued c.requires.chain.held.made
+
+pub joined-requires-clause-lead : goal.joined-requires-clause-lead
+joined-requires-clause-lead c = leads-up c.requires.chain.held.lead (reflects-equates c.same-last.ensures.reflects c.in-Ok.ensures.joins)

@@ -2,6 +2,7 @@ use Rattle.std.proofs.Common.{◌≡◌, ◌∷◌, [], ◌++◌, ◌∙◌, Som
 use Rattle.std.proofs.lemmas.List.Elements.{All-pop}
 use Rattle.hol_journal.specs.Journal.{IsMade}
 use Rattle.hol_conv.proofs.Asking.{continued-twice}
+use Rattle.hol_conv.proofs.Leading.{last-meets, front-leads}
 use Rattle.hol_conv.proofs.Chaining.{joined-on, joined-off, joins-as, made-later}
 use Rattle.hol_conv.proofs.chain.joined.Goals as goal
 
@@ -22,4 +23,10 @@ loop-theorem-preserved c =
       makes.library,
       made-later c.pop.new.self.items makes.continued front.0,
       makes.made,
+      front-leads _ c.pop.new.self.items c.in-Some.theorem c.loop-theorem.invariant.5 is c.in-Ok.ensures.joins,
     )
+
+pub trans_known-requires-clause-meets : goal.trans_known-requires-clause-meets
+trans_known-requires-clause-meets c =
+    let is : c.loop-theorem.theorems.items ≡ c.pop.new.self.items ++ c.in-Some.theorem ∷ [] = c.in-Some.ensures.items in
+    last-meets c.pop.new.self.items c.in-Some.theorem c.loop-theorem.invariant.5 is

@@ -1,11 +1,13 @@
 use Rattle.std.proofs.Common.{rules, ◌≡◌, true, refl}
+use Rattle.hol_conv.proofs.Leading.{refl-equates}
 use Rattle.hol_conv.proofs.Chaining.{chain-behind, known-there, settles-made}
 use Rattle.hol_conv.proofs.chain.settled.Goals as goal
 
 pub returns-in-Ok-push-clause-chain : goal.returns-in-Ok-push-clause-chain
 returns-in-Ok-push-clause-chain c =
     let makes = c.in-Ok.ensures.makes in
-    chain-behind c.args.chain _ c.in-Ok.same makes.continued c.requires.chain makes.made c.in-Ok-push.ensures.items (known-there c.args.chain.current makes.continued c.requires.chain.known) refl
+    chain-behind c.args.chain _ c.in-Ok.same makes.continued c.requires.chain makes.made c.in-Ok-push.ensures.items (refl-equates c.args.library.now.recorder.theory c.args.chain.current c.in-Ok.ensures.joins)
+    (known-there c.args.chain.current makes.continued c.requires.chain.known) refl
 
 pub returns-in-Ok-push-clause-settles : goal.returns-in-Ok-push-clause-settles
 returns-in-Ok-push-clause-settles c =

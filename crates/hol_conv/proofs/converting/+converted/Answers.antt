@@ -89,6 +89,7 @@ thenc-then-requires g t c =
       side = side-later c.args.t.now c.loop-other.made next.continued c.right_of-right.ensures.right;
       first = still-answers c.args.t.now c.loop-other.made next.continued c.loop-other.invariant.3;
       next = next.made;
+      equation = link-equations c.converted-next.result next.continued c.converted-next.ensures.converts;
     }
 
 pub thenc-returns-in-Err-then-clause-converts : goal.thenc-returns-in-Err-then-clause-converts
@@ -285,6 +286,7 @@ depth_conv-then-requires g t c =
       side = side-later c.args.t.now c.in-Ok.below here.continued c.right_of-right.ensures.right;
       first = still-answers c.args.t.now c.in-Ok.below here.continued below.made;
       next = here.made;
+      equation = link-equations c.repeatc-here.result here.continued c.repeatc-here.ensures.converts;
     }
 
 pub depth_conv-returns-in-Ok-clause-converts : goal.depth_conv-returns-in-Ok-clause-converts
@@ -390,6 +392,11 @@ top_depth_conv-sub_conv-below-requires g t c =
 pub top_depth_conv-link-requires-in-loop-chain-clause-chain : goal.top_depth_conv-link-requires-in-loop-chain-clause-chain
 top_depth_conv-link-requires-in-loop-chain-clause-chain g t c =
     chain-later c.sub_conv-below.ensures.makes.continued c.in-GoesOn.ensures.made
+
+pub top_depth_conv-link-requires-in-loop-chain-clause-equation : goal.top_depth_conv-link-requires-in-loop-chain-clause-equation
+top_depth_conv-link-requires-in-loop-chain-clause-equation g t c =
+    let below = changed-arm c.sub_conv-below.result c.changed-below.result c.sub_conv-below.ensures.converts (c.changed-below.ensures.changed _) in
+    link-equations c.changed-below.result c.sub_conv-below.ensures.makes.continued below
 
 pub top_depth_conv-returns-in-Ends-link-clause-converts : goal.top_depth_conv-returns-in-Ends-link-clause-converts
 top_depth_conv-returns-in-Ends-link-clause-converts g t c =

@@ -1,4 +1,3 @@
-use Rattle.hol_conv_rules.proofs.Making.{makes_then}
 use Rattle.hol_conv.proofs.Arms.{theorem-answers}
 use Rattle.hol_conv.proofs.Asking.{known-later, makes-after}
 use Rattle.hol_conv.proofs.converting.convert.Goals as goal

@@ -3,6 +3,7 @@ use Rattle.hol_model.specs.Terms.NamedTerm.{equation, is_within_limits}
 use Rattle.hol_conv_rules.specs.declared.converted.Converted.{Converted}
 use Rattle.hol_conv_rules.specs.Converted.{IsAnswerOf}
 use Rattle.hol_conv_rules.proofs.Same.{then-unchanged}
+use Rattle.hol_conv_rules.proofs.Meeting.{side-meets, side-as, equation-as, equation-of-same}
 use Rattle.hol_conv_rules.proofs.converted.then.Goals as goal
 
 pub returns-in-Same-next-clause-joins : goal.returns-in-Same-next-clause-joins
@@ -17,4 +18,19 @@ pub returns-in-Same-next-2-clause-makes : goal.returns-in-Same-next-2-clause-mak
 returns-in-Same-next-2-clause-makes c = c.as_answer-in-Same-next-2.ensures.made c.args.library.now c.to_same.new.library c.args.t.now c.to_same.ensures.makes
 
 pub returns-in-Changed-next-2-clause-makes : goal.returns-in-Changed-next-2-clause-makes
-returns-in-Changed-next-2-clause-makes c = c.as_answer-in-Changed-next-2.ensures.made c.args.library.now c.trans.new.library c.args.t.now c.trans.ensures.makes
+returns-in-Changed-next-2-clause-makes c = c.as_answer-in-Changed-next-2.ensures.made c.args.library.now c.trans_known.new.library c.args.t.now c.trans_known.ensures.makes
+
+pub from_same-requires-clause-equation : goal.from_same-requires-clause-equation
+from_same-requires-clause-equation c =
+    let theory = c.args.library.now.recorder.theory in
+    equation-of-same theory c.args.t.now c.args.right.now c.in-Changed-next.next.theorem (side-as theory c.args.t.now c.args.right.now c.args.first.now _ c.in-Same.is c.requires.side)
+    (equation-as theory c.args.right.now c.args.next _ (c.in-Ok.is ∙ ap Ok c.in-Changed-next.is) c.requires.equation)
+
+pub to_same-requires-clause-side : goal.to_same-requires-clause-side
+to_same-requires-clause-side c = side-as c.args.library.now.recorder.theory c.args.t.now c.args.right.now c.args.first.now _ c.in-Changed.is c.requires.side
+
+pub trans_known-requires-clause-meets : goal.trans_known-requires-clause-meets
+trans_known-requires-clause-meets c =
+    let theory = c.args.library.now.recorder.theory in
+    side-meets (side-as theory c.args.t.now c.args.right.now c.args.first.now _ c.in-Changed.is c.requires.side)
+    (equation-as theory c.args.right.now c.args.next _ (c.in-Ok.is ∙ ap Ok c.in-Changed-next-2.is) c.requires.equation)
