@@ -29,13 +29,17 @@ pub fn dest_formula(term: &Term) -> Formula<'_> {
     if let Some((name, _)) = function.dest_const() {
         return applied(name, argument);
     }
-    let Some((head, left)) = function.dest_comb() else {
-        return Formula::Atom;
-    };
-    match head.dest_const() {
-        Some((name, _)) => joined(name, left, argument),
+    match dest_applied(function) {
+        Some((name, left)) => joined(name, left, argument),
         None => Formula::Atom,
     }
+}
+
+// A constant's name and what it is applied to.
+fn dest_applied(term: &Term) -> Option<(&str, &Term)> {
+    let (head, argument) = term.dest_comb()?;
+    let (name, _) = head.dest_const()?;
+    Some((name, argument))
 }
 
 // A constant applied to one argument.
@@ -82,25 +86,34 @@ pub fn dest_eq(term: &Term) -> Option<(&Term, &Term)> {
 // What this constant joins.
 fn dest_infix<'a>(term: &'a Term, infix: &str) -> Option<(&'a Term, &'a Term)> {
     let (function, right) = term.dest_comb()?;
-    let (head, left) = function.dest_comb()?;
-    let (name, _) = head.dest_const()?;
-    if name == infix {
-        Some((left, right))
-    } else {
-        None
+    match dest_applied(function) {
+        Some((name, left)) if name == infix => Some((left, right)),
+        _ => None,
     }
+}
+
+/// Whether the term is the constant of this name.
+pub fn is_constant(term: &Term, wanted: &str) -> bool {
+    match term.dest_const() {
+        Some((name, _)) => name == wanted,
+        None => false,
+    }
+}
+
+/// `T`. Refused: Memory.
+pub fn truth(alloc: Global) -> Result<Term, Fault> {
+    constant(alloc, "T", Ty::boolean(alloc))
 }
 
 /// `F`. Refused: Memory.
 pub fn falsity(alloc: Global) -> Result<Term, Fault> {
-    Term::mk_const(alloc, "F", &Ty::boolean(alloc)?)
+    constant(alloc, "F", Ty::boolean(alloc))
 }
 
 /// `~p`. Refused: TypeMismatch unless `p` is a formula, TooLarge, Memory.
 pub fn mk_neg(alloc: Global, p: &Term) -> Result<Term, Fault> {
-    let boolean = Ty::boolean(alloc)?;
-    let not = Term::mk_const(alloc, "~", &Ty::fun(alloc, &boolean, &boolean)?)?;
-    Term::mk_comb(alloc, &not, p)
+    let ty = fun(alloc, Ty::boolean(alloc), Ty::boolean(alloc));
+    apply(alloc, constant(alloc, "~", ty), p)
 }
 
 /// `p /\ q`. Refused: TypeMismatch unless both are formulas, TooLarge, Memory.
@@ -115,11 +128,9 @@ pub fn mk_imp(alloc: Global, p: &Term, q: &Term) -> Result<Term, Fault> {
 
 // Two formulas joined by a constant.
 fn mk_infix(alloc: Global, infix: &str, p: &Term, q: &Term) -> Result<Term, Fault> {
-    let boolean = Ty::boolean(alloc)?;
-    let unary = Ty::fun(alloc, &boolean, &boolean)?;
-    let head = Term::mk_const(alloc, infix, &Ty::fun(alloc, &boolean, &unary)?)?;
-    let applied = Term::mk_comb(alloc, &head, p)?;
-    Term::mk_comb(alloc, &applied, q)
+    let unary = fun(alloc, Ty::boolean(alloc), Ty::boolean(alloc));
+    let ty = fun(alloc, Ty::boolean(alloc), unary);
+    apply(alloc, apply(alloc, constant(alloc, infix, ty), p), q)
 }
 
 /// `!x. p`. Refused: NotVariable, TypeMismatch unless `p` is a formula, TooLarge, Memory.
@@ -134,8 +145,19 @@ pub fn mk_exists(alloc: Global, variable: &Term, body: &Term) -> Result<Term, Fa
 
 // A quantifier of a variable over a formula.
 fn mk_binder(alloc: Global, binder: &str, variable: &Term, body: &Term) -> Result<Term, Fault> {
-    let boolean = Ty::boolean(alloc)?;
-    let predicate = Ty::fun(alloc, variable.ty(), &boolean)?;
-    let head = Term::mk_const(alloc, binder, &Ty::fun(alloc, &predicate, &boolean)?)?;
-    Term::mk_comb(alloc, &head, &Term::mk_abs(alloc, variable, body)?)
+    let predicate = Term::mk_abs(alloc, variable, body)?;
+    let ty = fun(alloc, predicate.type_of(alloc), Ty::boolean(alloc));
+    apply(alloc, constant(alloc, binder, ty), &predicate)
+}
+
+fn fun(alloc: Global, domain: Result<Ty, Fault>, codomain: Result<Ty, Fault>) -> Result<Ty, Fault> {
+    Ty::fun(alloc, &domain?, &codomain?)
+}
+
+fn constant(alloc: Global, name: &str, ty: Result<Ty, Fault>) -> Result<Term, Fault> {
+    Term::mk_const(alloc, name, &ty?)
+}
+
+fn apply(alloc: Global, function: Result<Term, Fault>, argument: &Term) -> Result<Term, Fault> {
+    Term::mk_comb(alloc, &function?, argument)
 }
