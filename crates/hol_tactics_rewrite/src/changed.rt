@@ -1,8 +1,8 @@
 // Equations that are made from equations of a term's parts, and one behind the other.
 
-use hol_just::{Just, Rule, step};
-use hol_model::Fault;
-use hol_tactics_forms::refl;
+use hol_host::HostFail;
+use hol_just::Just;
+use hol_tactics_forms::{Derivation, refl};
 use hol_terms::Term;
 use std::alloc::Global;
 
@@ -13,30 +13,37 @@ pub(crate) struct Changed {
     pub(crate) just: Just,
 }
 
+/// What a term becomes.
+pub(crate) fn changed_to(term: Term, just: Derivation) -> Result<Option<Changed>, HostFail> {
+    let just = just?;
+    Ok(Some(Changed { term, just }))
+}
+
 /// TRANS, where what the term became was changed again.
 pub(crate) fn trans(
     alloc: Global,
     before: Changed,
     behind: Option<Changed>,
-) -> Result<Changed, Fault> {
+) -> Result<Option<Changed>, HostFail> {
     match behind {
-        Some(behind) => {
-            let just = step(alloc, Rule::Trans, &[before.just, behind.just])?;
-            Ok(Changed {
-                term: behind.term,
-                just,
-            })
+        Some(Changed { term, just }) => {
+            changed_to(
+                term,
+                hol_tactics_forms::trans(alloc, Ok(before.just), Ok(just)),
+            )
         }
-        None => Ok(before),
+        None => Ok(Some(before)),
     }
 }
 
 /// ABS.
-pub(crate) fn abs(alloc: Global, variable: &Term, body: Changed) -> Result<Changed, Fault> {
-    let Changed { term, just } = body;
-    let term = Term::mk_abs(alloc, variable, &term)?;
-    let just = step(alloc, Rule::Abs(variable.copy(alloc)?), &[just])?;
-    Ok(Changed { term, just })
+pub(crate) fn abs(
+    alloc: Global,
+    variable: &Term,
+    body: Changed,
+) -> Result<Option<Changed>, HostFail> {
+    let term = Term::mk_abs(alloc, variable, &body.term)?;
+    changed_to(term, hol_tactics_forms::abs(alloc, variable, Ok(body.just)))
 }
 
 /// MK_COMB of what a function and an argument become, unless both stay as they are.
@@ -46,51 +53,34 @@ pub(crate) fn combined(
     left: Option<Changed>,
     argument: &Term,
     right: Option<Changed>,
-) -> Result<Option<Changed>, Fault> {
-    match left {
-        Some(left) => {
-            let right = or_same(alloc, argument, right)?;
-            Ok(Some(mk_comb(alloc, left, right)?))
+) -> Result<Option<Changed>, HostFail> {
+    match (left, right) {
+        (None, None) => Ok(None),
+        (left, right) => {
+            let left = or_same(alloc, function, left)?;
+            mk_comb(alloc, left, or_same(alloc, argument, right)?)
         }
-        None => of_argument(alloc, function, right),
-    }
-}
-
-// MK_COMB of a function and what its argument becomes, unless it stays as it is.
-fn of_argument(
-    alloc: Global,
-    function: &Term,
-    argument: Option<Changed>,
-) -> Result<Option<Changed>, Fault> {
-    match argument {
-        Some(argument) => {
-            let function = same(alloc, function)?;
-            Ok(Some(mk_comb(alloc, function, argument)?))
-        }
-        None => Ok(None),
     }
 }
 
 // MK_COMB.
-fn mk_comb(alloc: Global, function: Changed, argument: Changed) -> Result<Changed, Fault> {
+fn mk_comb(
+    alloc: Global,
+    function: Changed,
+    argument: Changed,
+) -> Result<Option<Changed>, HostFail> {
     let term = Term::mk_comb(alloc, &function.term, &argument.term)?;
-    let just = step(alloc, Rule::MkComb, &[function.just, argument.just])?;
-    Ok(Changed { term, just })
+    let just = hol_tactics_forms::mk_comb(alloc, Ok(function.just), Ok(argument.just));
+    changed_to(term, just)
 }
 
-// What a term became, or the term itself.
-fn or_same(alloc: Global, term: &Term, changed: Option<Changed>) -> Result<Changed, Fault> {
+// What a term became, or the term itself, by REFL.
+fn or_same(alloc: Global, term: &Term, changed: Option<Changed>) -> Result<Changed, HostFail> {
     match changed {
         Some(changed) => Ok(changed),
-        None => same(alloc, term),
+        None => Ok(Changed {
+            term: term.copy(alloc)?,
+            just: refl(alloc, term)?,
+        }),
     }
-}
-
-// The term itself, by REFL.
-fn same(alloc: Global, term: &Term) -> Result<Changed, Fault> {
-    let just = refl(alloc, term)?;
-    Ok(Changed {
-        term: term.copy(alloc)?,
-        just,
-    })
 }

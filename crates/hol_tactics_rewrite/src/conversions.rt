@@ -4,11 +4,11 @@ use crate::changed::Changed;
 use crate::redepth::Redepth;
 use hol_alpha::aconv;
 use hol_host::HostFail;
-use hol_just::{Just, Rule, step};
+use hol_just::Just;
 use hol_model::Fault;
-use hol_subst::vsubst;
 use hol_tactics_forms::{
-    Formula, assume, dest_eq, dest_formula, exists, from_conjunction, mk_conj, open_binder, refl,
+    Derivation, Formula, assume, beta_conv, choose, conj, deduct_antisym, dest_eq, dest_formula,
+    eq_mp, exists, from_conjunction, mk_comb, mk_conj, open_binder, refl, sym, trans, with_value,
 };
 use hol_terms::{Parts, Term, free_in, frees};
 use std::alloc::Global;
@@ -51,9 +51,8 @@ pub fn unwind(alloc: Global, term: &Term) -> Result<(Term, Just), HostFail> {
         return Err(HostFail::Failed);
     };
     let made = unwound.at(alloc, unwound.rest, unwound.value)?;
-    let back = unwound.back(alloc, term, &made)?;
-    let forth = unwound.forth(alloc, term)?;
-    let just = step(alloc, Rule::DeductAntisym, &[back, forth])?;
+    let back = unwound.back(alloc, term, &made);
+    let just = deduct_antisym(alloc, back, unwound.forth(alloc, term))?;
     Ok((made, just))
 }
 
@@ -109,52 +108,38 @@ fn value_of<'a>(variable: &Term, equation: &'a Term) -> Option<&'a Term> {
 impl Unwound<'_> {
     // A part with another term for the variable.
     fn at(&self, alloc: Global, part: &Term, value: &Term) -> Result<Term, Fault> {
-        let pairs = [(value.copy(alloc)?, self.variable.copy(alloc)?)];
-        vsubst(alloc, &pairs, part)
+        with_value(alloc, value, self.variable, part)
     }
 
     // The formula, of the rest at the value.
-    fn back(&self, alloc: Global, term: &Term, made: &Term) -> Result<Just, Fault> {
-        let same = refl(alloc, self.value)?;
-        let both = self.conj(alloc, same, assume(alloc, made)?)?;
+    fn back(&self, alloc: Global, term: &Term, made: &Term) -> Derivation {
+        let both = self.both(alloc, refl(alloc, self.value), assume(alloc, made));
         exists(alloc, term, self.value, both)
     }
 
     // CONJ of the equation and the rest, in their order.
-    fn conj(&self, alloc: Global, equation: Just, rest: Just) -> Result<Just, Fault> {
+    fn both(&self, alloc: Global, equation: Derivation, rest: Derivation) -> Derivation {
         if self.is_first {
-            step(alloc, Rule::Conj, &[equation, rest])
+            conj(alloc, equation, rest)
         } else {
-            step(alloc, Rule::Conj, &[rest, equation])
+            conj(alloc, rest, equation)
         }
     }
 
     // The rest at the value, of the formula.
-    fn forth(&self, alloc: Global, term: &Term) -> Result<Just, Fault> {
+    fn forth(&self, alloc: Global, term: &Term) -> Derivation {
         let mut avoid = frees(alloc, term)?;
         let (some, equation) = open_binder(alloc, &mut avoid, self.variable, self.equation)?;
-        let just = self.from_witness(alloc, &some, &equation)?;
-        step(alloc, Rule::Choose(some), &[assume(alloc, term)?, just])
+        let just = self.from_witness(alloc, &some, &equation);
+        choose(alloc, &some, assume(alloc, term), just)
     }
 
     // The rest at the value, of the equation and the rest at some term.
-    fn from_witness(&self, alloc: Global, some: &Term, equation: &Term) -> Result<Just, Fault> {
+    fn from_witness(&self, alloc: Global, some: &Term, equation: &Term) -> Derivation {
         let rest = self.at(alloc, self.rest, some)?;
-        let just = self.from_sides(alloc, some, equation, &rest)?;
         let both = self.mk_both(alloc, equation, &rest)?;
-        from_conjunction(alloc, &both, just)
-    }
-
-    // The rest at the value, where an equation and the rest at some term are assumed.
-    fn from_sides(
-        &self,
-        alloc: Global,
-        some: &Term,
-        equation: &Term,
-        rest: &Term,
-    ) -> Result<Just, Fault> {
-        let chain = self.same_rest(alloc, some, equation)?;
-        step(alloc, Rule::EqMp, &[chain, assume(alloc, rest)?])
+        let same = self.same_rest(alloc, some, equation);
+        from_conjunction(alloc, &both, eq_mp(alloc, same, assume(alloc, &rest)))
     }
 
     // The conjunction of an equation and the rest, in their order.
@@ -167,25 +152,22 @@ impl Unwound<'_> {
     }
 
     // That the rest at some term is the rest at the value, where an equation says that the two are equal.
-    fn same_rest(&self, alloc: Global, some: &Term, equation: &Term) -> Result<Just, Fault> {
-        let equal = value_equation(alloc, some, equation)?;
+    fn same_rest(&self, alloc: Global, some: &Term, equation: &Term) -> Derivation {
         let predicate = Term::mk_abs(alloc, self.variable, self.rest)?;
-        let middle = step(alloc, Rule::MkComb, &[refl(alloc, &predicate)?, equal])?;
-        let before = beta_of(alloc, &predicate, some)?;
-        let before = step(alloc, Rule::Sym, &[before])?;
-        let behind = beta_of(alloc, &predicate, self.value)?;
-        let chain = step(alloc, Rule::Trans, &[before, middle])?;
-        step(alloc, Rule::Trans, &[chain, behind])
+        let equal = value_equation(alloc, some, equation);
+        let middle = mk_comb(alloc, refl(alloc, &predicate), equal);
+        let before = sym(alloc, beta_of(alloc, &predicate, some));
+        let chain = trans(alloc, before, middle);
+        trans(alloc, chain, beta_of(alloc, &predicate, self.value))
     }
 }
 
 // `v = t`, of an equation of `v` and `t`.
-fn value_equation(alloc: Global, some: &Term, equation: &Term) -> Result<Just, Fault> {
-    let assumed = assume(alloc, equation)?;
+fn value_equation(alloc: Global, some: &Term, equation: &Term) -> Derivation {
     if is_left(some, equation) {
-        return Ok(assumed);
+        return assume(alloc, equation);
     }
-    step(alloc, Rule::Sym, &[assumed])
+    sym(alloc, assume(alloc, equation))
 }
 
 // Whether a term is the left side of an equation.
@@ -197,7 +179,7 @@ fn is_left(term: &Term, equation: &Term) -> bool {
 }
 
 // BETA_CONV of a predicate at an argument.
-fn beta_of(alloc: Global, predicate: &Term, argument: &Term) -> Result<Just, Fault> {
+fn beta_of(alloc: Global, predicate: &Term, argument: &Term) -> Derivation {
     let redex = Term::mk_comb(alloc, predicate, argument)?;
-    step(alloc, Rule::BetaConv(redex), &[])
+    beta_conv(alloc, &redex)
 }

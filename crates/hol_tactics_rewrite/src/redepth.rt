@@ -4,7 +4,8 @@ use crate::basic::{basic, beta_conv};
 use crate::changed::{Changed, abs, combined, trans};
 use crate::rules::{Rewrite, first_instance};
 use hol_host::HostFail;
-use hol_subst::{variant, vsubst};
+use hol_subst::variant;
+use hol_tactics_forms::with_value;
 use hol_terms::Term;
 use std::alloc::Global;
 
@@ -68,7 +69,7 @@ impl Redepth {
         match self.parts_converted(alloc, term, depth - 1)? {
             Some(inner) => {
                 let behind = self.whole_converted(alloc, &inner.term, depth - 1)?;
-                Ok(Some(trans(alloc, inner, behind)?))
+                trans(alloc, inner, behind)
             }
             None => self.whole_converted(alloc, term, depth - 1),
         }
@@ -86,7 +87,7 @@ impl Redepth {
             return Ok(None);
         };
         let behind = self.converted(alloc, &made.term, depth)?;
-        Ok(Some(trans(alloc, made, behind)?))
+        trans(alloc, made, behind)
     }
 
     // The parts converted, unless nothing changes.
@@ -118,9 +119,9 @@ impl Redepth {
         depth: u32,
     ) -> Result<Option<Changed>, HostFail> {
         let other = variant(alloc, &self.fixed, variable)?;
-        let body = vsubst(alloc, &[(other.copy(alloc)?, variable.copy(alloc)?)], body)?;
+        let body = with_value(alloc, &other, variable, body)?;
         match self.converted(alloc, &body, depth)? {
-            Some(changed) => Ok(Some(abs(alloc, &other, changed)?)),
+            Some(changed) => abs(alloc, &other, changed),
             None => Ok(None),
         }
     }
@@ -136,31 +137,42 @@ impl Redepth {
     ) -> Result<Option<Changed>, HostFail> {
         let left = self.converted(alloc, function, depth)?;
         let right = self.converted(alloc, argument, depth)?;
-        Ok(combined(alloc, function, left, argument, right)?)
+        combined(alloc, function, left, argument, right)
     }
 
     // The term by the first conversion of it as a whole, which is counted.
     fn first_counted(&mut self, alloc: Global, term: &Term) -> Result<Option<Changed>, HostFail> {
-        let Some(changed) = self.first_conversion(alloc, term)? else {
-            return Ok(None);
-        };
+        let changed = self.first_conversion(alloc, term)?;
+        if changed.is_some() {
+            self.count()?;
+        }
+        Ok(changed)
+    }
+
+    // Counts a conversion.
+    fn count(&mut self) -> Result<(), HostFail> {
         if self.left == 0 {
             return Err(HostFail::Failed);
         }
         self.left -= 1;
-        Ok(Some(changed))
+        Ok(())
     }
 
     // The term by the first rule that it is an instance of, or by a clause.
     fn first_conversion(&self, alloc: Global, term: &Term) -> Result<Option<Changed>, HostFail> {
-        if let Some(changed) = first_instance(alloc, &self.rules, &self.fixed, term)? {
-            return Ok(Some(changed));
+        match first_instance(alloc, &self.rules, &self.fixed, term)? {
+            None => self.first_clause(alloc, term),
+            changed => Ok(changed),
         }
+    }
+
+    // The term by a basic rewrite, where these are used, or by BETA_CONV.
+    fn first_clause(&self, alloc: Global, term: &Term) -> Result<Option<Changed>, HostFail> {
         if self.is_basic {
             if let Some(changed) = basic(alloc, term)? {
                 return Ok(Some(changed));
             }
         }
-        Ok(beta_conv(alloc, term)?)
+        beta_conv(alloc, term)
     }
 }

@@ -5,8 +5,8 @@ use crate::changed::Changed;
 use crate::redepth::Redepth;
 use crate::rules::Rules;
 use hol_host::HostFail;
-use hol_just::{Goal, Rule, Step, step, sub};
-use hol_tactics_forms::{dest_imp, disch, to_none, to_one};
+use hol_just::{Goal, Step};
+use hol_tactics_forms::{dest_imp, discharged, eq_mp, eqt_elim, sub, sym, to_none, to_one};
 use hol_terms::Term;
 use std::alloc::Global;
 
@@ -28,23 +28,25 @@ pub fn rewrite(alloc: Global, goal: &Goal) -> Result<Step, HostFail> {
     let mut rules = Rules::new(alloc, goal)?;
     rules.add(alloc, brought)?;
     rules.add_all(alloc, &goal.asms)?;
-    let Step { goals, just } = rewritten(alloc, goal, wanted, rules)?;
-    let just = disch(alloc, brought, just)?;
-    Ok(Step { goals, just })
+    discharged(alloc, brought, rewritten(alloc, goal, wanted, rules))
 }
 
 // The step from a conclusion to what it is rewritten to.
 fn rewritten(alloc: Global, goal: &Goal, concl: &Term, rules: Rules) -> Result<Step, HostFail> {
     let (rewrites, fixed) = rules.into_parts();
     let mut rewriting = Redepth::by_rules(rewrites, fixed);
-    let Some(changed) = rewriting.convert(alloc, concl)? else {
-        return Err(HostFail::Failed);
-    };
+    match rewriting.convert(alloc, concl)? {
+        Some(changed) => to_changed(alloc, goal, changed),
+        None => Err(HostFail::Failed),
+    }
+}
+
+// The step to what the conclusion became.
+fn to_changed(alloc: Global, goal: &Goal, changed: Changed) -> Result<Step, HostFail> {
     let Changed { term, just } = changed;
     if is_truth(&term) {
-        return Ok(to_none(alloc, step(alloc, Rule::EqtElim, &[just])?));
+        return to_none(alloc, eqt_elim(alloc, Ok(just)));
     }
-    let turned = step(alloc, Rule::Sym, &[just])?;
-    let just = step(alloc, Rule::EqMp, &[turned, sub(alloc, 0)?])?;
-    Ok(to_one(alloc, goal.with_concl(alloc, &term)?, just)?)
+    let just = eq_mp(alloc, sym(alloc, Ok(just)), sub(alloc, 0));
+    to_one(alloc, goal.with_concl(alloc, &term), just)
 }

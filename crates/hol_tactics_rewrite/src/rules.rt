@@ -1,16 +1,15 @@
 // Formulas as rules to rewrite by.
 
-use crate::basic::{eqf_intro, mk_truth};
-use crate::changed::Changed;
+use crate::basic::eqf_intro;
+use crate::changed::{Changed, changed_to};
 use hol_alpha::aconv;
 use hol_host::HostFail;
-use hol_just::{Goal, Just, Rule, step};
-use hol_match::{Match, term_match};
+use hol_just::{Goal, Just};
 use hol_model::Fault;
 use hol_subst::vsubst;
 use hol_tactics_forms::{
-    Formula, assume, copy_terms, dest_eq, dest_formula, falsity, goal_frees, keeps_types,
-    open_binder,
+    Derivation, Formula, assume, conjunct1, conjunct2, copy_terms, dest_eq, dest_formula,
+    eqt_intro, falsity, goal_frees, inst, instance, open_binder, spec, truth,
 };
 use hol_terms::Term;
 use std::alloc::Global;
@@ -76,10 +75,7 @@ impl Rules {
     /// `s = t` the left side becomes the right one, by `~p` the formula `p` becomes `F`, by another formula `p` it becomes `T`.
     pub(crate) fn add(&mut self, alloc: Global, formula: &Term) -> Result<(), HostFail> {
         let mut pending = Vec::new(alloc);
-        pending.push(Fact {
-            term: formula.copy(alloc)?,
-            just: assume(alloc, formula)?,
-        })?;
+        push_fact(alloc, formula, assume(alloc, formula), &mut pending)?;
         for _ in 0..PARTS {
             let Some(fact) = pending.pop() else {
                 return Ok(());
@@ -100,9 +96,7 @@ impl Rules {
         match dest_formula(&term) {
             Formula::ForAll(variable, body) => {
                 let (fresh, body) = open_binder(alloc, &mut self.avoid, variable, body)?;
-                let just = step(alloc, Rule::Spec(fresh), &[just])?;
-                pending.push(Fact { term: body, just })?;
-                Ok(())
+                push_fact(alloc, &body, spec(alloc, &fresh, Ok(just)), pending)
             }
             Formula::And(p, q) => add_sides(alloc, p, q, just, pending),
             _ => self.add_rewrite(rewrite_of(alloc, &term, just)?),
@@ -118,6 +112,18 @@ impl Rules {
     }
 }
 
+fn push_fact(
+    alloc: Global,
+    term: &Term,
+    just: Derivation,
+    facts: &mut Vec<Fact>,
+) -> Result<(), HostFail> {
+    let just = just?;
+    let term = term.copy(alloc)?;
+    facts.push(Fact { term, just })?;
+    Ok(())
+}
+
 // Both sides of a conjunction, the left one last.
 fn add_sides(
     alloc: Global,
@@ -126,40 +132,34 @@ fn add_sides(
     both: Just,
     pending: &mut Vec<Fact>,
 ) -> Result<(), HostFail> {
-    let first = step(alloc, Rule::Conjunct1, &[both.copy(alloc)?])?;
-    let second = step(alloc, Rule::Conjunct2, &[both])?;
-    pending.push(Fact {
-        term: q.copy(alloc)?,
-        just: second,
-    })?;
-    pending.push(Fact {
-        term: p.copy(alloc)?,
-        just: first,
-    })?;
-    Ok(())
+    let other = both.copy(alloc)?;
+    push_fact(alloc, q, conjunct2(alloc, Ok(other)), pending)?;
+    push_fact(alloc, p, conjunct1(alloc, Ok(both)), pending)
 }
 
 // The rule of a formula that is neither a conjunction nor quantified.
-fn rewrite_of(alloc: Global, term: &Term, just: Just) -> Result<Rewrite, Fault> {
+fn rewrite_of(alloc: Global, term: &Term, just: Just) -> Result<Rewrite, HostFail> {
     if let Formula::Not(p) = dest_formula(term) {
-        return Ok(Rewrite {
-            left: p.copy(alloc)?,
-            right: falsity(alloc)?,
-            just: eqf_intro(alloc, p, just)?,
-        });
+        return rewrite_by(alloc, p, falsity(alloc), eqf_intro(alloc, p, Ok(just)));
     }
     match dest_eq(term) {
-        Some((left, right)) => Ok(Rewrite {
-            left: left.copy(alloc)?,
-            right: right.copy(alloc)?,
-            just,
-        }),
-        None => Ok(Rewrite {
-            left: term.copy(alloc)?,
-            right: mk_truth(alloc)?,
-            just: step(alloc, Rule::EqtIntro, &[just])?,
-        }),
+        Some((left, right)) => rewrite_by(alloc, left, right.copy(alloc), Ok(just)),
+        None => rewrite_by(alloc, term, truth(alloc), eqt_intro(alloc, Ok(just))),
     }
+}
+
+// The rule by an equation of these sides.
+fn rewrite_by(
+    alloc: Global,
+    left: &Term,
+    right: Result<Term, Fault>,
+    just: Derivation,
+) -> Result<Rewrite, HostFail> {
+    Ok(Rewrite {
+        just: just?,
+        right: right?,
+        left: left.copy(alloc)?,
+    })
 }
 
 /// The term by the first rule that changes it, with nothing put for the fixed variables.
@@ -185,43 +185,22 @@ impl Rewrite {
         fixed: &[Term],
         term: &Term,
     ) -> Result<Option<Changed>, HostFail> {
-        let Some(terms) = self.matched(alloc, fixed, term)? else {
+        let Some(terms) = instance(alloc, fixed, &self.left, term)? else {
             return Ok(None);
         };
         let right = vsubst(alloc, &terms, &self.right)?;
         if aconv(term, &right) {
             return Ok(None);
         }
-        let just = self.inst(alloc, terms)?;
-        Ok(Some(Changed { term: right, just }))
-    }
-
-    // What is put for variables, where this makes the left side the term.
-    fn matched(
-        &self,
-        alloc: Global,
-        fixed: &[Term],
-        term: &Term,
-    ) -> Result<Option<Vec<(Term, Term)>>, HostFail> {
-        let found = match term_match(alloc, fixed, &self.left, term) {
-            Ok(found) => found,
-            Err(Fault::Memory) => return Err(HostFail::Memory),
-            Err(_) => return Ok(None),
-        };
-        let Match { types, terms } = found;
-        if keeps_types(&types) {
-            Ok(Some(terms))
-        } else {
-            Ok(None)
-        }
+        changed_to(right, self.inst(alloc, terms))
     }
 
     // INST of the equation.
-    fn inst(&self, alloc: Global, terms: Vec<(Term, Term)>) -> Result<Just, Fault> {
+    fn inst(&self, alloc: Global, terms: Vec<(Term, Term)>) -> Derivation {
         let just = self.just.copy(alloc)?;
         if terms.is_empty() {
             return Ok(just);
         }
-        step(alloc, Rule::Inst(terms), &[just])
+        inst(alloc, terms, Ok(just))
     }
 }
