@@ -2,10 +2,11 @@
 
 use hol_alpha::aconv;
 use hol_host::HostFail;
-use hol_just::{Goal, Just, Rule, Step, step, sub};
+use hol_just::{Goal, Step};
+use hol_model::Fault;
 use hol_tactics_forms::{
-    Formula, assume, dest_formula, dest_imp, disch, excluded_middle, mk_imp, mk_neg, mp, prove_hyp,
-    to_one,
+    Formula, assume, dest_formula, dest_imp, disch, disj_cases, excluded_middle, mk_imp, mk_neg,
+    mp, prove_hyp, push_copy, spec, sub, to_one, to_two,
 };
 use hol_terms::Term;
 use std::alloc::Global;
@@ -18,12 +19,13 @@ pub fn cut(alloc: Global, goal: &Goal) -> Result<Step, HostFail> {
     let Some(p) = carried(carrier) else {
         return Err(HostFail::Failed);
     };
-    let mut goals = Vec::new(alloc);
-    goals.push(goal.with_concl(alloc, p)?)?;
-    goals.push(assuming(alloc, goal, p.copy(alloc)?, wanted)?)?;
-    let just = prove_hyp(alloc, sub(alloc, 0)?, sub(alloc, 1)?)?;
-    let just = disch(alloc, carrier, just)?;
-    Ok(Step { goals, just })
+    let just = prove_hyp(alloc, sub(alloc, 0), sub(alloc, 1));
+    to_two(
+        alloc,
+        goal.with_concl(alloc, p),
+        assuming(alloc, goal, p, wanted),
+        disch(alloc, carrier, just),
+    )
 }
 
 /// ASM_CASES_TAC: on `(p <=> p) ==> g` the subgoal `g` with `p` assumed, and with `~p`. DISJ_CASES_TAC: on `p \/ q ==> g`, with
@@ -33,16 +35,41 @@ pub fn cases(alloc: Global, goal: &Goal) -> Result<Step, HostFail> {
         return Err(HostFail::Failed);
     };
     if let Formula::Or(left, right) = dest_formula(carrier) {
-        let goals = both_cases(alloc, goal, left, right, wanted)?;
-        let just = by_cases(alloc, assume(alloc, carrier)?, carrier)?;
-        return Ok(Step { goals, just });
+        let just = disj_cases(alloc, assume(alloc, carrier), sub(alloc, 0), sub(alloc, 1));
+        return to_two(
+            alloc,
+            assuming(alloc, goal, left, wanted),
+            assuming(alloc, goal, right, wanted),
+            disch(alloc, carrier, just),
+        );
     }
-    let Some(p) = carried(carrier) else {
-        return Err(HostFail::Failed);
-    };
-    let goals = both_cases(alloc, goal, p, &mk_neg(alloc, p)?, wanted)?;
-    let just = by_cases(alloc, excluded_middle(alloc, p)?, carrier)?;
-    Ok(Step { goals, just })
+    match carried(carrier) {
+        Some(p) => by_holding(alloc, goal, carrier, p, wanted),
+        None => Err(HostFail::Failed),
+    }
+}
+
+// The conclusion with `p` assumed, and with `~p`.
+fn by_holding(
+    alloc: Global,
+    goal: &Goal,
+    carrier: &Term,
+    p: &Term,
+    wanted: &Term,
+) -> Result<Step, HostFail> {
+    let denied = mk_neg(alloc, p)?;
+    let just = disj_cases(
+        alloc,
+        excluded_middle(alloc, p),
+        sub(alloc, 0),
+        sub(alloc, 1),
+    );
+    to_two(
+        alloc,
+        assuming(alloc, goal, p, wanted),
+        assuming(alloc, goal, &denied, wanted),
+        disch(alloc, carrier, just),
+    )
 }
 
 // `p` of `p <=> p`.
@@ -54,43 +81,30 @@ fn carried(carrier: &Term) -> Option<&Term> {
 }
 
 // The goal of this conclusion with one assumption more.
-fn assuming(alloc: Global, goal: &Goal, p: Term, concl: &Term) -> Result<Goal, HostFail> {
+fn assuming(alloc: Global, goal: &Goal, p: &Term, concl: &Term) -> Result<Goal, Fault> {
     let mut goal = goal.with_concl(alloc, concl)?;
-    goal.asms.push(p)?;
+    push_copy(alloc, p, &mut goal.asms)?;
     Ok(goal)
-}
-
-// The goal with the one formula assumed, and with the other.
-fn both_cases(
-    alloc: Global,
-    goal: &Goal,
-    p: &Term,
-    q: &Term,
-    concl: &Term,
-) -> Result<Vec<Goal>, HostFail> {
-    let mut goals = Vec::new(alloc);
-    goals.push(assuming(alloc, goal, p.copy(alloc)?, concl)?)?;
-    goals.push(assuming(alloc, goal, q.copy(alloc)?, concl)?)?;
-    Ok(goals)
-}
-
-// The implication from what travelled, by two subgoals and what says that there are no more cases.
-fn by_cases(alloc: Global, either: Just, carrier: &Term) -> Result<Just, HostFail> {
-    let parts = [either, sub(alloc, 0)?, sub(alloc, 1)?];
-    let just = step(alloc, Rule::DisjCases, &parts)?;
-    Ok(disch(alloc, carrier, just)?)
 }
 
 /// UNDISCH_TAC of each assumption: on `g`, with `a..`, `b` assumed, the subgoal `a.. ==> b ==> g` without assumptions.
 pub fn undisch(alloc: Global, goal: &Goal) -> Result<Step, HostFail> {
-    let mut concl = goal.concl.copy(alloc)?;
-    let mut just = sub(alloc, 0)?;
-    for assumption in goal.asms.iter().rev() {
-        concl = mk_imp(alloc, assumption, &concl)?;
-        just = step(alloc, Rule::Undisch, &[just])?;
-    }
     let asms = Vec::new(alloc);
-    Ok(to_one(alloc, Goal { asms, concl }, just)?)
+    let concl = implied(alloc, &goal.asms, &goal.concl)?;
+    let mut just = sub(alloc, 0);
+    for _ in &goal.asms {
+        just = hol_tactics_forms::undisch(alloc, just);
+    }
+    to_one(alloc, Ok(Goal { asms, concl }), just)
+}
+
+// The formula with antecedents.
+fn implied(alloc: Global, antecedents: &[Term], formula: &Term) -> Result<Term, Fault> {
+    let mut implied = formula.copy(alloc)?;
+    for antecedent in antecedents.iter().rev() {
+        implied = mk_imp(alloc, antecedent, &implied)?;
+    }
+    Ok(implied)
 }
 
 /// SPEC_ALL of what MP_TAC brought: on `(!x.. p) ==> g` the subgoal `p ==> g`, with the quantified variables free in it. Where there
@@ -103,16 +117,15 @@ pub fn spec_all(alloc: Global, goal: &Goal) -> Result<Step, HostFail> {
         return Err(HostFail::Failed);
     };
     let mut body = rule;
-    let mut spec = assume(alloc, rule)?;
+    let mut just = assume(alloc, rule);
     for _ in 0..rule.height() {
         let Formula::ForAll(variable, inner) = dest_formula(body) else {
             break;
         };
-        spec = step(alloc, Rule::Spec(variable.copy(alloc)?), &[spec])?;
+        just = spec(alloc, variable, just);
         body = inner;
     }
-    let just = mp(alloc, sub(alloc, 0)?, spec)?;
-    let just = disch(alloc, rule, just)?;
     let concl = mk_imp(alloc, body, wanted)?;
-    Ok(to_one(alloc, goal.with_concl(alloc, &concl)?, just)?)
+    let just = disch(alloc, rule, mp(alloc, sub(alloc, 0), just));
+    to_one(alloc, goal.with_concl(alloc, &concl), just)
 }

@@ -1,14 +1,13 @@
 // MATCH_MP_TAC and MATCH_ACCEPT_TAC of the theorem that MP_TAC brought, and of assumptions.
 
-use hol_alpha::aconv;
 use hol_host::HostFail;
-use hol_just::{Goal, Just, Rule, Step, step, sub};
-use hol_match::{Match, term_match};
+use hol_just::{Goal, Just, Step};
 use hol_model::Fault;
 use hol_subst::vsubst;
 use hol_tactics_forms::{
-    Formula, assume, copy_terms, dest_formula, dest_imp, disch, from_conjunction, goal_frees,
-    keeps_types, mk_conj, mk_exists, mp, open_binder, prove_hyp, to_none, to_one,
+    Derivation, Formula, assume, choose, copy_terms, dest_formula, dest_imp, disch,
+    from_conjunction, goal_frees, instance, mk_conj, mk_exists, mp, open_binder, prove_hyp,
+    push_copy, spec, sub, to_none, to_one, value_of,
 };
 use hol_terms::Term;
 use std::alloc::Global;
@@ -24,7 +23,7 @@ pub fn back(alloc: Global, goal: &Goal) -> Result<Step, HostFail> {
         return Err(HostFail::Failed);
     };
     let Step { goals, just } = match_mp_tac(alloc, goal, rule, wanted)?;
-    let just = disch(alloc, rule, just)?;
+    let just = disch(alloc, rule, Ok(just))?;
     Ok(Step { goals, just })
 }
 
@@ -46,11 +45,11 @@ pub fn accept(alloc: Global, goal: &Goal) -> Result<Step, HostFail> {
         return Err(HostFail::Failed);
     };
     let opened = Opened::new(alloc, goal, rule)?;
-    let Some(terms) = opened.matched(alloc, wanted)? else {
+    let Some(terms) = instance(alloc, &opened.fixed, &opened.result, wanted)? else {
         return Err(HostFail::Failed);
     };
     let Applied { just, .. } = opened.applied(alloc, rule, &terms, false)?;
-    Ok(to_none(alloc, disch(alloc, rule, just)?))
+    to_none(alloc, disch(alloc, rule, Ok(just)))
 }
 
 // The wanted formula from a rule and its antecedents.
@@ -58,7 +57,7 @@ fn match_mp_tac(alloc: Global, goal: &Goal, rule: &Term, wanted: &Term) -> Resul
     let mut opened = Opened::new(alloc, goal, rule)?;
     for _ in 0..ANTECEDENTS {
         opened.take_antecedent(alloc)?;
-        if let Some(terms) = opened.matched(alloc, wanted)? {
+        if let Some(terms) = instance(alloc, &opened.fixed, &opened.result, wanted)? {
             return by_antecedents(alloc, goal, rule, &opened, &terms);
         }
     }
@@ -90,25 +89,23 @@ struct Applied {
 
 impl Opened {
     // The formula without its outermost quantifiers, for a goal.
-    fn new(alloc: Global, goal: &Goal, formula: &Term) -> Result<Opened, HostFail> {
+    fn new(alloc: Global, goal: &Goal, formula: &Term) -> Result<Opened, Fault> {
         let fixed = goal_frees(alloc, goal)?;
-        let avoid = copy_terms(alloc, &fixed)?;
         let mut opened = Opened {
             taken: Vec::new(alloc),
             result: formula.copy(alloc)?,
+            avoid: copy_terms(alloc, &fixed)?,
             fixed,
-            avoid,
         };
-        opened.take_variables(alloc)?;
+        opened.take_variables(alloc, formula)?;
         Ok(opened)
     }
 
-    // Takes the outermost quantifiers off.
-    fn take_variables(&mut self, alloc: Global) -> Result<(), HostFail> {
-        let whole = self.result.copy(alloc)?;
-        for _ in 0..whole.height() {
-            let formula = self.result.copy(alloc)?;
-            let Formula::ForAll(variable, body) = dest_formula(&formula) else {
+    // Takes the outermost quantifiers of a formula off.
+    fn take_variables(&mut self, alloc: Global, formula: &Term) -> Result<(), Fault> {
+        self.result = formula.copy(alloc)?;
+        for _ in 0..formula.height() {
+            let Formula::ForAll(variable, body) = dest_formula(&self.result) else {
                 break;
             };
             let (fresh, body) = open_binder(alloc, &mut self.avoid, variable, body)?;
@@ -125,33 +122,18 @@ impl Opened {
             return Err(HostFail::Failed);
         };
         self.taken.push(Taken::Antecedent(p.copy(alloc)?))?;
-        self.result = q.copy(alloc)?;
-        self.take_variables(alloc)
-    }
-
-    // What is put for the variables that were taken off, where this makes the result the wanted formula.
-    fn matched(&self, alloc: Global, wanted: &Term) -> Result<Option<Vec<(Term, Term)>>, HostFail> {
-        let found = match term_match(alloc, &self.fixed, &self.result, wanted) {
-            Ok(found) => found,
-            Err(Fault::Memory) => return Err(HostFail::Memory),
-            Err(_) => return Ok(None),
-        };
-        let Match { types, terms } = found;
-        if keeps_types(&types) {
-            Ok(Some(terms))
-        } else {
-            Ok(None)
-        }
+        Ok(self.take_variables(alloc, q)?)
     }
 
     // The variables that were taken off, and for which nothing is put.
-    fn unknown(&self, alloc: Global, terms: &[(Term, Term)]) -> Result<Vec<Term>, HostFail> {
+    fn unknown(&self, alloc: Global, terms: &[(Term, Term)]) -> Result<Vec<Term>, Fault> {
         let mut unknown = Vec::new(alloc);
         for taken in &self.taken {
-            if let Taken::Variable(variable) = taken {
-                if !is_replaced(terms, variable) {
-                    unknown.push(variable.copy(alloc)?)?;
+            match taken {
+                Taken::Variable(variable) if value_of(terms, variable).is_none() => {
+                    push_copy(alloc, variable, &mut unknown)?;
                 }
+                _ => {}
             }
         }
         Ok(unknown)
@@ -165,27 +147,44 @@ impl Opened {
         terms: &[(Term, Term)],
         are_assumed: bool,
     ) -> Result<Applied, HostFail> {
-        let mut just = assume(alloc, rule)?;
         let mut premises = Vec::new(alloc);
+        let mut just = assume(alloc, rule);
         for taken in &self.taken {
-            match taken {
-                Taken::Variable(variable) => {
-                    let at = vsubst(alloc, terms, variable)?;
-                    just = step(alloc, Rule::Spec(at), &[just])?;
-                }
-                Taken::Antecedent(p) => {
-                    let premise = vsubst(alloc, terms, p)?;
-                    let fact = if are_assumed {
-                        assume(alloc, &premise)?
-                    } else {
-                        sub(alloc, premises.len())?
-                    };
-                    just = mp(alloc, just, fact)?;
-                    premises.push(premise)?;
-                }
+            just = taken.applied(alloc, terms, just, are_assumed, &mut premises);
+        }
+        Ok(Applied {
+            just: just?,
+            premises,
+        })
+    }
+}
+
+impl Taken {
+    // A rule at the term for the variable, or without the antecedent, which is one more premise.
+    fn applied(
+        &self,
+        alloc: Global,
+        terms: &[(Term, Term)],
+        rule: Derivation,
+        is_assumed: bool,
+        premises: &mut Vec<Term>,
+    ) -> Derivation {
+        match self {
+            Taken::Variable(variable) => {
+                let value = vsubst(alloc, terms, variable)?;
+                spec(alloc, &value, rule)
+            }
+            Taken::Antecedent(p) => {
+                let premise = vsubst(alloc, terms, p)?;
+                let fact = if is_assumed {
+                    assume(alloc, &premise)
+                } else {
+                    sub(alloc, premises.len())
+                };
+                premises.push(premise)?;
+                mp(alloc, rule, fact)
             }
         }
-        Ok(Applied { just, premises })
     }
 }
 
@@ -198,33 +197,39 @@ fn by_antecedents(
     terms: &[(Term, Term)],
 ) -> Result<Step, HostFail> {
     let unknown = opened.unknown(alloc, terms)?;
-    let applied = opened.applied(alloc, rule, terms, !unknown.is_empty())?;
-    if !unknown.is_empty() {
-        return by_values(alloc, goal, applied, &unknown);
+    let Applied { just, premises } = opened.applied(alloc, rule, terms, !unknown.is_empty())?;
+    if unknown.is_empty() {
+        return Ok(Step {
+            goals: goals_of(alloc, goal, &premises)?,
+            just,
+        });
     }
-    let Applied { just, premises } = applied;
+    by_values(alloc, goal, &unknown, &premises, just)
+}
+
+// The goals of these conclusions.
+fn goals_of(alloc: Global, goal: &Goal, concls: &[Term]) -> Result<Vec<Goal>, Fault> {
     let mut goals = Vec::new(alloc);
-    for premise in &premises {
-        goals.push(goal.with_concl(alloc, premise)?)?;
+    for concl in concls {
+        goals.push(goal.with_concl(alloc, concl)?)?;
     }
-    Ok(Step { goals, just })
+    Ok(goals)
 }
 
 // The step to one subgoal: that there are values of these variables for which the premises hold.
 fn by_values(
     alloc: Global,
     goal: &Goal,
-    applied: Applied,
     unknown: &[Term],
+    premises: &[Term],
+    just: Just,
 ) -> Result<Step, HostFail> {
-    let Applied { just, premises } = applied;
-    let mut reduced = from_all(alloc, &premises, just)?;
+    let mut reduced = from_all(alloc, premises, just)?;
     for variable in unknown.iter().rev() {
-        reduced = from_some(alloc, variable, reduced)?;
+        reduced = reduced.from_some(alloc, variable)?;
     }
-    let Reduced { formula, just } = reduced;
-    let just = prove_hyp(alloc, sub(alloc, 0)?, just)?;
-    Ok(to_one(alloc, goal.with_concl(alloc, &formula)?, just)?)
+    let just = prove_hyp(alloc, sub(alloc, 0), Ok(reduced.just));
+    to_one(alloc, goal.with_concl(alloc, &reduced.formula), just)
 }
 
 // A formula, and what is wanted from it.
@@ -245,39 +250,23 @@ fn from_all(alloc: Global, premises: &[Term], just: Just) -> Result<Reduced, Hos
         just,
     };
     for premise in rest {
-        reduced = from_both(alloc, premise, reduced)?;
+        reduced = reduced.from_both(alloc, premise)?;
     }
     Ok(reduced)
 }
 
-// From the conjunction of a premise and a formula.
-fn from_both(alloc: Global, premise: &Term, reduced: Reduced) -> Result<Reduced, Fault> {
-    let Reduced { formula, just } = reduced;
-    let both = mk_conj(alloc, premise, &formula)?;
-    let just = from_conjunction(alloc, &both, just)?;
-    Ok(Reduced {
-        formula: both,
-        just,
-    })
-}
-
-// From `?x. p` in place of `p`.
-fn from_some(alloc: Global, variable: &Term, reduced: Reduced) -> Result<Reduced, Fault> {
-    let Reduced { formula, just } = reduced;
-    let some = mk_exists(alloc, variable, &formula)?;
-    let parts = [assume(alloc, &some)?, just];
-    Ok(Reduced {
-        formula: some,
-        just: step(alloc, Rule::Choose(variable.copy(alloc)?), &parts)?,
-    })
-}
-
-// Whether something is put for the variable.
-fn is_replaced(terms: &[(Term, Term)], variable: &Term) -> bool {
-    for (_, old) in terms {
-        if aconv(old, variable) {
-            return true;
-        }
+impl Reduced {
+    // From the conjunction of a premise and the formula.
+    fn from_both(self, alloc: Global, premise: &Term) -> Result<Reduced, HostFail> {
+        let formula = mk_conj(alloc, premise, &self.formula)?;
+        let just = from_conjunction(alloc, &formula, Ok(self.just))?;
+        Ok(Reduced { formula, just })
     }
-    false
+
+    // From `?x. p` in place of `p`.
+    fn from_some(self, alloc: Global, variable: &Term) -> Result<Reduced, HostFail> {
+        let formula = mk_exists(alloc, variable, &self.formula)?;
+        let just = choose(alloc, variable, assume(alloc, &formula), Ok(self.just))?;
+        Ok(Reduced { formula, just })
+    }
 }

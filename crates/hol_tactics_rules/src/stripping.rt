@@ -1,10 +1,11 @@
 // STRIP_TAC.
 
 use hol_host::HostFail;
-use hol_just::{Goal, Just, Rule, Step, step, sub};
+use hol_just::{Goal, Step};
 use hol_tactics_forms::{
-    Formula, assume, copy_terms, dest_formula, disch, falsity, from_conjunction, goal_frees,
-    open_binder, refute, to_one,
+    Derivation, Formula, assume, choose, conj, copy_terms, dest_formula, disch, disj_cases,
+    falsity, from_conjunction, generalize, goal_frees, open_binder, push_copy, refute, sub, to_one,
+    to_two,
 };
 use hol_terms::Term;
 use std::alloc::Global;
@@ -23,12 +24,13 @@ pub fn strip(alloc: Global, goal: &Goal) -> Result<Step, HostFail> {
         Formula::And(left, right) => conj_tac(alloc, goal, left, right),
         Formula::Implies(left, right) => {
             let Step { goals, just } = strip_assume(alloc, goal, left, right)?;
-            let just = disch(alloc, left, just)?;
+            let just = disch(alloc, left, Ok(just))?;
             Ok(Step { goals, just })
         }
         Formula::Not(p) => {
-            let Step { goals, just } = strip_assume(alloc, goal, p, &falsity(alloc)?)?;
-            let just = refute(alloc, p, just)?;
+            let falsity = falsity(alloc)?;
+            let Step { goals, just } = strip_assume(alloc, goal, p, &falsity)?;
+            let just = refute(alloc, p, Ok(just))?;
             Ok(Step { goals, just })
         }
         _ => Err(HostFail::Failed),
@@ -39,31 +41,27 @@ pub fn strip(alloc: Global, goal: &Goal) -> Result<Step, HostFail> {
 fn gen_tac(alloc: Global, goal: &Goal, variable: &Term, body: &Term) -> Result<Step, HostFail> {
     let mut avoid = goal_frees(alloc, goal)?;
     let (fresh, body) = open_binder(alloc, &mut avoid, variable, body)?;
-    let just = step(alloc, Rule::Gen(fresh), &[sub(alloc, 0)?])?;
-    Ok(to_one(alloc, goal.with_concl(alloc, &body)?, just)?)
+    let just = generalize(alloc, &fresh, sub(alloc, 0));
+    to_one(alloc, goal.with_concl(alloc, &body), just)
 }
 
 // Both sides.
 fn conj_tac(alloc: Global, goal: &Goal, left: &Term, right: &Term) -> Result<Step, HostFail> {
-    let mut goals = Vec::new(alloc);
-    goals.push(goal.with_concl(alloc, left)?)?;
-    goals.push(goal.with_concl(alloc, right)?)?;
-    let just = step(alloc, Rule::Conj, &[sub(alloc, 0)?, sub(alloc, 1)?])?;
-    Ok(Step { goals, just })
+    to_two(
+        alloc,
+        goal.with_concl(alloc, left),
+        goal.with_concl(alloc, right),
+        conj(alloc, sub(alloc, 0), sub(alloc, 1)),
+    )
 }
 
 // The conclusion from the goal's assumptions and the parts of a formula.
 fn strip_assume(alloc: Global, goal: &Goal, p: &Term, concl: &Term) -> Result<Step, HostFail> {
-    let mut pending = Vec::new(alloc);
-    pending.push(p.copy(alloc)?)?;
-    let open = Open {
-        goal: goal.with_concl(alloc, concl)?,
-        pending,
-    };
     let mut stripping = Stripping {
         goals: Vec::new(alloc),
         avoid: goal_frees(alloc, goal)?,
     };
+    let open = Open::new(alloc, goal, p, concl)?;
     let just = stripping.assume_next(alloc, open, DEPTH)?;
     let Stripping { goals, .. } = stripping;
     Ok(Step { goals, just })
@@ -77,11 +75,24 @@ struct Open {
 }
 
 impl Open {
-    fn copy(&self, alloc: Global) -> Result<Open, HostFail> {
-        Ok(Open {
+    // The goal of this conclusion, which is to assume a formula.
+    fn new(alloc: Global, goal: &Goal, p: &Term, concl: &Term) -> Result<Open, HostFail> {
+        let mut open = Open {
+            goal: goal.with_concl(alloc, concl)?,
+            pending: Vec::new(alloc),
+        };
+        push_copy(alloc, p, &mut open.pending)?;
+        Ok(open)
+    }
+
+    // The same, which is to assume one formula more.
+    fn with(&self, alloc: Global, p: &Term) -> Result<Open, HostFail> {
+        let mut open = Open {
             goal: self.goal.copy(alloc)?,
             pending: copy_terms(alloc, &self.pending)?,
-        })
+        };
+        push_copy(alloc, p, &mut open.pending)?;
+        Ok(open)
     }
 }
 
@@ -95,7 +106,7 @@ struct Stripping {
 impl Stripping {
     // The conclusion, from the assumptions and the formulas that are pending.
     #[cycle(assuming)]
-    fn assume_next(&mut self, alloc: Global, open: Open, depth: u32) -> Result<Just, HostFail> {
+    fn assume_next(&mut self, alloc: Global, open: Open, depth: u32) -> Derivation {
         if depth == 0 {
             return Err(HostFail::Failed);
         }
@@ -124,13 +135,13 @@ impl Stripping {
     }
 
     // The goal as one more subgoal.
-    fn subgoal(&mut self, alloc: Global, goal: Goal) -> Result<Just, HostFail> {
+    fn subgoal(&mut self, alloc: Global, goal: Goal) -> Derivation {
         let number = self.goals.len();
         if number == GOALS {
             return Err(HostFail::Failed);
         }
         self.goals.push(goal)?;
-        Ok(sub(alloc, number)?)
+        sub(alloc, number)
     }
 
     // With both sides of a conjunction pending.
@@ -143,11 +154,11 @@ impl Stripping {
         left: &Term,
         right: &Term,
         depth: u32,
-    ) -> Result<Just, HostFail> {
-        open.pending.push(right.copy(alloc)?)?;
-        open.pending.push(left.copy(alloc)?)?;
-        let just = self.assume_next(alloc, open, depth)?;
-        Ok(from_conjunction(alloc, p, just)?)
+    ) -> Derivation {
+        push_copy(alloc, right, &mut open.pending)?;
+        push_copy(alloc, left, &mut open.pending)?;
+        let just = self.assume_next(alloc, open, depth);
+        from_conjunction(alloc, p, just)
     }
 
     // With the left side of a disjunction pending, and with the right one.
@@ -155,18 +166,15 @@ impl Stripping {
     fn assume_either(
         &mut self,
         alloc: Global,
-        mut open: Open,
+        open: Open,
         p: &Term,
         left: &Term,
         right: &Term,
         depth: u32,
-    ) -> Result<Just, HostFail> {
-        let mut other = open.copy(alloc)?;
-        open.pending.push(left.copy(alloc)?)?;
-        let first = self.assume_next(alloc, open, depth)?;
-        other.pending.push(right.copy(alloc)?)?;
-        let second = self.assume_next(alloc, other, depth)?;
-        Ok(step(alloc, Rule::DisjCases, &[assume(alloc, p)?, first, second])?)
+    ) -> Derivation {
+        let first = self.assume_next(alloc, open.with(alloc, left)?, depth)?;
+        let second = self.assume_next(alloc, open.with(alloc, right)?, depth);
+        disj_cases(alloc, assume(alloc, p), Ok(first), second)
     }
 
     // With the body of an existential formula pending, of a new variable.
@@ -174,15 +182,14 @@ impl Stripping {
     fn assume_witness(
         &mut self,
         alloc: Global,
-        mut open: Open,
+        open: Open,
         p: &Term,
         variable: &Term,
         body: &Term,
         depth: u32,
-    ) -> Result<Just, HostFail> {
+    ) -> Derivation {
         let (fresh, body) = open_binder(alloc, &mut self.avoid, variable, body)?;
-        open.pending.push(body)?;
-        let just = self.assume_next(alloc, open, depth)?;
-        Ok(step(alloc, Rule::Choose(fresh), &[assume(alloc, p)?, just])?)
+        let just = self.assume_next(alloc, open.with(alloc, &body)?, depth);
+        choose(alloc, &fresh, assume(alloc, p), just)
     }
 }

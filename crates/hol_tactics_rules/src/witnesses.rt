@@ -1,13 +1,11 @@
 // EXISTS_TAC of witnesses that are found by matching.
 
-use hol_alpha::aconv;
 use hol_host::HostFail;
-use hol_just::{Goal, Step, sub};
-use hol_match::{Match, term_match};
+use hol_just::{Goal, Step};
 use hol_model::Fault;
-use hol_subst::vsubst;
 use hol_tactics_forms::{
-    Formula, copy_terms, dest_formula, goal_frees, keeps_types, open_binder, to_one,
+    Derivation, Formula, copy_terms, dest_formula, goal_frees, instance, open_binder, push_copy,
+    sub, to_one, value_of, with_value,
 };
 use hol_terms::Term;
 use std::alloc::Global;
@@ -16,12 +14,13 @@ use std::alloc::Global;
 /// for which there are such terms for all the variables. Else it fails.
 pub fn exists(alloc: Global, goal: &Goal) -> Result<Step, HostFail> {
     let wanted = Wanted::new(alloc, goal)?;
-    for assumption in goal.asms.iter().rev() {
-        if let Some(witnesses) = wanted.witnesses(alloc, assumption)? {
-            return by_witnesses(alloc, goal, &witnesses);
-        }
+    if wanted.variables.is_empty() {
+        return Err(HostFail::Failed);
     }
-    Err(HostFail::Failed)
+    match wanted.found(alloc, &goal.asms)? {
+        Some(witnesses) => by_witnesses(alloc, goal, &witnesses),
+        None => Err(HostFail::Failed),
+    }
 }
 
 // The variables for which a goal wants witnesses, and the conjuncts that speak of them.
@@ -34,34 +33,45 @@ struct Wanted {
 }
 
 impl Wanted {
-    // What a goal wants. It fails where that is no witness.
-    fn new(alloc: Global, goal: &Goal) -> Result<Wanted, HostFail> {
-        let fixed = goal_frees(alloc, goal)?;
-        let mut avoid = copy_terms(alloc, &fixed)?;
-        let mut variables = Vec::new(alloc);
-        let mut body = goal.concl.copy(alloc)?;
-        for _ in 0..goal.concl.height() {
-            let formula = body.copy(alloc)?;
-            let Formula::Exists(variable, inner) = dest_formula(&formula) else {
+    // What a goal wants.
+    fn new(alloc: Global, goal: &Goal) -> Result<Wanted, Fault> {
+        let mut wanted = Wanted {
+            variables: Vec::new(alloc),
+            conjuncts: Vec::new(alloc),
+            fixed: goal_frees(alloc, goal)?,
+        };
+        let body = wanted.opened(alloc, &goal.concl)?;
+        add_conjuncts(alloc, &body, &mut wanted.conjuncts)?;
+        Ok(wanted)
+    }
+
+    // The formula without its outermost quantifiers, whose variables are wanted.
+    fn opened(&mut self, alloc: Global, formula: &Term) -> Result<Term, Fault> {
+        let mut avoid = copy_terms(alloc, &self.fixed)?;
+        let mut body = formula.copy(alloc)?;
+        for _ in 0..formula.height() {
+            let Formula::Exists(variable, inner) = dest_formula(&body) else {
                 break;
             };
-            let (fresh, opened) = open_binder(alloc, &mut avoid, variable, inner)?;
-            variables.push(fresh)?;
-            body = opened;
+            let (fresh, inner) = open_binder(alloc, &mut avoid, variable, inner)?;
+            self.variables.push(fresh)?;
+            body = inner;
         }
-        if variables.is_empty() {
-            return Err(HostFail::Failed);
+        Ok(body)
+    }
+
+    // The witnesses at which a conjunct is one of the formulas, the last one that there is.
+    fn found(&self, alloc: Global, formulas: &[Term]) -> Result<Option<Vec<Term>>, Fault> {
+        for formula in formulas.iter().rev() {
+            if let Some(witnesses) = self.witnesses(alloc, formula)? {
+                return Ok(Some(witnesses));
+            }
         }
-        let conjuncts = conjuncts(alloc, &body)?;
-        Ok(Wanted {
-            variables,
-            conjuncts,
-            fixed,
-        })
+        Ok(None)
     }
 
     // The witnesses at which a conjunct is the formula.
-    fn witnesses(&self, alloc: Global, formula: &Term) -> Result<Option<Vec<Term>>, HostFail> {
+    fn witnesses(&self, alloc: Global, formula: &Term) -> Result<Option<Vec<Term>>, Fault> {
         for conjunct in &self.conjuncts {
             if let Some(witnesses) = self.matched(alloc, conjunct, formula)? {
                 return Ok(Some(witnesses));
@@ -76,39 +86,31 @@ impl Wanted {
         alloc: Global,
         conjunct: &Term,
         formula: &Term,
-    ) -> Result<Option<Vec<Term>>, HostFail> {
-        let found = match term_match(alloc, &self.fixed, conjunct, formula) {
-            Ok(found) => found,
-            Err(Fault::Memory) => return Err(HostFail::Memory),
-            Err(_) => return Ok(None),
-        };
-        let Match { types, terms } = found;
-        if keeps_types(&types) {
-            values_of(alloc, &self.variables, &terms)
-        } else {
-            Ok(None)
+    ) -> Result<Option<Vec<Term>>, Fault> {
+        match instance(alloc, &self.fixed, conjunct, formula)? {
+            Some(terms) => values_of(alloc, &self.variables, &terms),
+            None => Ok(None),
         }
     }
 }
 
-// The conjuncts of a formula, from left to right.
-fn conjuncts(alloc: Global, formula: &Term) -> Result<Vec<Term>, HostFail> {
-    let mut found = Vec::new(alloc);
-    let mut rest = Vec::new(alloc);
-    rest.push(formula.copy(alloc)?)?;
+// Adds the conjuncts of a formula, from left to right.
+fn add_conjuncts(alloc: Global, formula: &Term, conjuncts: &mut Vec<Term>) -> Result<(), Fault> {
+    let mut rest: Vec<&Term> = Vec::new(alloc);
+    rest.push(formula)?;
     for _ in 0..formula.nodes() {
         let Some(next) = rest.pop() else {
             break;
         };
-        match dest_formula(&next) {
+        match dest_formula(next) {
             Formula::And(left, right) => {
-                rest.push(right.copy(alloc)?)?;
-                rest.push(left.copy(alloc)?)?;
+                rest.push(right)?;
+                rest.push(left)?;
             }
-            _ => found.push(next.copy(alloc)?)?,
+            _ => push_copy(alloc, next, conjuncts)?,
         }
     }
-    Ok(found)
+    Ok(())
 }
 
 // What is put for variables in pairs (new, old), where something is put for each.
@@ -116,43 +118,42 @@ fn values_of(
     alloc: Global,
     variables: &[Term],
     terms: &[(Term, Term)],
-) -> Result<Option<Vec<Term>>, HostFail> {
+) -> Result<Option<Vec<Term>>, Fault> {
     let mut values = Vec::new(alloc);
     for variable in variables {
         let Some(value) = value_of(terms, variable) else {
             return Ok(None);
         };
-        values.push(value.copy(alloc)?)?;
+        push_copy(alloc, value, &mut values)?;
     }
     Ok(Some(values))
 }
 
-// What is put for a variable.
-fn value_of<'a>(terms: &'a [(Term, Term)], variable: &Term) -> Option<&'a Term> {
-    for (new, old) in terms {
-        if aconv(old, variable) {
-            return Some(new);
-        }
-    }
-    None
-}
-
 // The step to the body of the goal's quantifiers at these witnesses.
 fn by_witnesses(alloc: Global, goal: &Goal, witnesses: &[Term]) -> Result<Step, HostFail> {
-    let mut proved = Vec::new(alloc);
+    let mut formulas = Vec::new(alloc);
     let mut body = goal.concl.copy(alloc)?;
     for witness in witnesses {
-        let formula = body.copy(alloc)?;
-        let Formula::Exists(variable, inner) = dest_formula(&formula) else {
-            return Err(HostFail::Failed);
-        };
-        let pair = (witness.copy(alloc)?, variable.copy(alloc)?);
-        body = vsubst(alloc, &[pair], inner)?;
-        proved.push((formula.copy(alloc)?, witness.copy(alloc)?))?;
+        push_copy(alloc, &body, &mut formulas)?;
+        body = instantiated(alloc, &body, witness)?;
     }
-    let mut just = sub(alloc, 0)?;
-    for (formula, witness) in proved.iter().rev() {
-        just = hol_tactics_forms::exists(alloc, formula, witness, just)?;
+    let just = witnessed(alloc, &formulas, witnesses);
+    to_one(alloc, goal.with_concl(alloc, &body), just)
+}
+
+// The body of an existential formula at a witness.
+fn instantiated(alloc: Global, formula: &Term, witness: &Term) -> Result<Term, HostFail> {
+    match dest_formula(formula) {
+        Formula::Exists(variable, body) => Ok(with_value(alloc, witness, variable, body)?),
+        _ => Err(HostFail::Failed),
     }
-    Ok(to_one(alloc, goal.with_concl(alloc, &body)?, just)?)
+}
+
+// The first of existential formulas, each the body of the one before it, at these witnesses, of the subgoal.
+fn witnessed(alloc: Global, formulas: &[Term], witnesses: &[Term]) -> Derivation {
+    let mut just = sub(alloc, 0);
+    for (formula, witness) in formulas.iter().zip(witnesses).rev() {
+        just = hol_tactics_forms::exists(alloc, formula, witness, just);
+    }
+    just
 }
