@@ -2,8 +2,11 @@
 
 use hol_alpha::aconv;
 use hol_host::HostFail;
-use hol_just::{Goal, Just, Rule, Step, step};
-use hol_tactics_forms::{Formula, assume, contradiction, dest_eq, dest_formula, refl, to_none};
+use hol_just::{Goal, Just, Step};
+use hol_tactics_forms::{
+    Derivation, Formula, assume, contr, contradiction, dest_eq, dest_formula, mk_comb, refl, sym,
+    to_none, trans,
+};
 use hol_terms::Term;
 use std::alloc::Global;
 
@@ -19,8 +22,7 @@ const LINES: usize = 20000;
 /// fails otherwise, and where there are more than 400 terms.
 pub fn eq(alloc: Global, goal: &Goal) -> Result<Step, HostFail> {
     let closure = Closure::of_goal(alloc, goal)?;
-    let just = closure.proved(alloc, goal)?;
-    Ok(to_none(alloc, just))
+    to_none(alloc, closure.proved(alloc, goal))
 }
 
 // Why two terms are equal.
@@ -251,7 +253,7 @@ impl<'a> Closure<'a> {
     }
 
     // The goal's conclusion, as an equation that follows, or of an assumption that denies one.
-    fn proved(&self, alloc: Global, goal: &Goal) -> Result<Just, HostFail> {
+    fn proved(&self, alloc: Global, goal: &Goal) -> Derivation {
         if let Some((left, right)) = dest_eq(&goal.concl) {
             if let Some(equal) = self.equation(alloc, left, right)? {
                 return Ok(equal);
@@ -259,7 +261,7 @@ impl<'a> Closure<'a> {
         }
         for assumption in &goal.asms {
             if let Some(falsity) = self.refutation(alloc, assumption)? {
-                return Ok(step(alloc, Rule::Contr(goal.concl.copy(alloc)?), &[falsity])?);
+                return contr(alloc, &goal.concl, Ok(falsity));
             }
         }
         Err(HostFail::Failed)
@@ -285,7 +287,10 @@ impl<'a> Closure<'a> {
             return Ok(None);
         };
         match self.equation(alloc, left, right)? {
-            Some(equal) => { Ok(Some(contradiction(alloc, assume(alloc, assumption)?, equal)?)) }
+            Some(equal) => {
+                let falsity = contradiction(alloc, assume(alloc, assumption), Ok(equal));
+                Ok(Some(falsity?))
+            }
             None => Ok(None),
         }
     }
@@ -310,13 +315,7 @@ impl<'a> Closure<'a> {
 
     // `s = t`, of two terms of one class: both lead to the first term that their paths share.
     #[cycle(explaining)]
-    fn explained(
-        &self,
-        alloc: Global,
-        first: usize,
-        second: usize,
-        depth: u32,
-    ) -> Result<Just, HostFail> {
+    fn explained(&self, alloc: Global, first: usize, second: usize, depth: u32) -> Derivation {
         if depth == 0 {
             return Err(HostFail::Failed);
         }
@@ -326,24 +325,13 @@ impl<'a> Closure<'a> {
             return Err(HostFail::Failed);
         };
         let forth = self.along(alloc, &left, meeting, depth - 1)?;
-        let back = self.along(alloc, &right, meeting, depth - 1)?;
-        let back = step(alloc, Rule::Sym, &[back])?;
-        let just = step(alloc, Rule::Trans, &[forth, back])?;
-        if just.steps() > LINES {
-            return Err(HostFail::Failed);
-        }
-        Ok(just)
+        let back = self.along(alloc, &right, meeting, depth - 1);
+        within_limit(trans(alloc, Ok(forth), sym(alloc, back)))
     }
 
     // `s = t`, where `s` is the first term of a path and `t` the one of this number on it.
     #[cycle(explaining)]
-    fn along(
-        &self,
-        alloc: Global,
-        path: &[usize],
-        last: usize,
-        depth: u32,
-    ) -> Result<Just, HostFail> {
+    fn along(&self, alloc: Global, path: &[usize], last: usize, depth: u32) -> Derivation {
         let mut just = self.reflexivity(alloc, path)?;
         for number in path {
             if *number == last {
@@ -352,32 +340,27 @@ impl<'a> Closure<'a> {
             let Some(edge) = self.edge(*number) else {
                 return Err(HostFail::Failed);
             };
-            let equal = self.by_reason(alloc, *number, edge, depth)?;
-            just = step(alloc, Rule::Trans, &[just, equal])?;
+            let equal = self.by_reason(alloc, *number, edge, depth);
+            just = trans(alloc, Ok(just), equal)?;
         }
         Ok(just)
     }
 
     // `s = s`, where `s` is the first term of a path.
-    fn reflexivity(&self, alloc: Global, path: &[usize]) -> Result<Just, HostFail> {
-        let Some(first) = path.first().copied() else {
-            return Err(HostFail::Failed);
-        };
-        match self.entries.get(first) {
-            Some(entry) => Ok(refl(alloc, &entry.term)?),
+    fn reflexivity(&self, alloc: Global, path: &[usize]) -> Derivation {
+        match self.first_entry(path) {
+            Some(entry) => refl(alloc, &entry.term),
             None => Err(HostFail::Failed),
         }
     }
 
+    fn first_entry(&self, path: &[usize]) -> Option<&Entry> {
+        self.entries.get(*path.first()?)
+    }
+
     // `s = t`, of a term and the one to which its edge goes.
     #[cycle(explaining)]
-    fn by_reason(
-        &self,
-        alloc: Global,
-        number: usize,
-        edge: Edge,
-        depth: u32,
-    ) -> Result<Just, HostFail> {
+    fn by_reason(&self, alloc: Global, number: usize, edge: Edge, depth: u32) -> Derivation {
         match edge.reason {
             Reason::Assumed(assumption, is_turned) => { self.assumed(alloc, assumption, is_turned) }
             Reason::Congruent => match (self.operands(number), self.operands(edge.to)) {
@@ -388,30 +371,32 @@ impl<'a> Closure<'a> {
     }
 
     // An equation that is assumed, turned round or not.
-    fn assumed(&self, alloc: Global, number: usize, is_turned: bool) -> Result<Just, HostFail> {
+    fn assumed(&self, alloc: Global, number: usize, is_turned: bool) -> Derivation {
         let Some(equation) = self.assumptions.get(number) else {
             return Err(HostFail::Failed);
         };
-        let just = assume(alloc, equation)?;
         if is_turned {
-            return Ok(step(alloc, Rule::Sym, &[just])?);
+            return sym(alloc, assume(alloc, equation));
         }
-        Ok(just)
+        assume(alloc, equation)
     }
 
     // `f x = g y`, of `f = g` and `x = y`.
     #[cycle(explaining)]
-    fn congruence(
-        &self,
-        alloc: Global,
-        left: Operands,
-        right: Operands,
-        depth: u32,
-    ) -> Result<Just, HostFail> {
+    fn congruence(&self, alloc: Global, left: Operands, right: Operands, depth: u32) -> Derivation {
         let functions = self.explained(alloc, left.function, right.function, depth)?;
-        let arguments = self.explained(alloc, left.argument, right.argument, depth)?;
-        Ok(step(alloc, Rule::MkComb, &[functions, arguments])?)
+        let arguments = self.explained(alloc, left.argument, right.argument, depth);
+        mk_comb(alloc, Ok(functions), arguments)
     }
+}
+
+// The justification, where it has no more lines than it may have.
+fn within_limit(just: Derivation) -> Derivation {
+    let just = just?;
+    if just.steps() > LINES {
+        return Err(HostFail::Failed);
+    }
+    Ok(just)
 }
 
 // The first of these numbers that is one of the others.

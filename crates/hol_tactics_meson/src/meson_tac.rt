@@ -4,25 +4,27 @@ use crate::rebuilding::rebuilt;
 use crate::reducing::reduce;
 use crate::splitting::split;
 use hol_host::HostFail;
-use hol_just::{Goal, Just, Step, named, splice};
-use hol_tactics_forms::{assume, ccontr, falsity, goal_frees, mk_neg, refute, to_none};
+use hol_just::{Goal, Just, Step, splice};
+use hol_tactics_forms::{
+    Derivation, assume, ccontr, falsity, goal_frees, is_constant, mk_neg, named, refute, to_none,
+    truth,
+};
 use hol_tactics_search::{COMPARISONS, Problem, Symbol, add_equality, find_refutation};
-use hol_terms::Term;
-use hol_types::Ty;
 use std::alloc::Global;
 
 /// ASM_MESON_TAC: no subgoal, where the goal follows from its assumptions by first-order reasoning with equality. Theorems are brought
-/// into the goal by MP_TAC. Redexes are reduced, as many as 2,000 in a formula. The goal is split into as many as 300. Of each the assumptions and the denied conclusion are made to clauses,
-/// in which a witness stands for what there is, and refuted by model elimination: by a first clause without affirmed literals, and each
-/// subgoal by one above it or by a clause, with iterative deepening over 1 to 59 inferences, and 30,000,000 comparisons for all goals. Terms are
-/// first order: what is applied or abstracted is matched as it stands. Where nothing is found it fails.
+/// into the goal by MP_TAC. Redexes are reduced, as many as 2,000 in a formula. The goal is split into as many as 300. Of each the
+/// assumptions and the denied conclusion are made to clauses, in which a witness stands for what there is, and refuted by model
+/// elimination: by a first clause without affirmed literals, and each subgoal by one above it or by a clause, with iterative deepening
+/// over 1 to 59 inferences, and 30,000,000 comparisons for all goals. Terms are first order: what is applied or abstracted is matched as
+/// it stands. Where nothing is found it fails.
 pub fn meson(alloc: Global, goal: &Goal) -> Result<Step, HostFail> {
     let Step { goals, just } = reduce(alloc, goal)?;
     let mut parts = Vec::new(alloc);
     for goal in &goals {
         parts.push(proved(alloc, goal)?)?;
     }
-    Ok(to_none(alloc, splice(alloc, &just, &parts)?))
+    to_spliced(alloc, &just, &parts)
 }
 
 // The step of a goal without redexes to none.
@@ -31,18 +33,24 @@ fn proved(alloc: Global, goal: &Goal) -> Result<Step, HostFail> {
     let mut parts = Vec::new(alloc);
     let mut comparisons = COMPARISONS;
     for goal in &goals {
-        let just = refuted(alloc, goal, &mut comparisons)?;
-        parts.push(to_none(alloc, just))?;
+        let just = refuted(alloc, goal, &mut comparisons);
+        parts.push(to_none(alloc, just)?)?;
     }
-    Ok(to_none(alloc, splice(alloc, &just, &parts)?))
+    to_spliced(alloc, &just, &parts)
+}
+
+// The step to none by these parts.
+fn to_spliced(alloc: Global, just: &Just, parts: &[Step]) -> Result<Step, HostFail> {
+    let just = splice(alloc, just, parts)?;
+    to_none(alloc, Ok(just))
 }
 
 // The justification of a goal without subgoals.
-fn refuted(alloc: Global, goal: &Goal, comparisons: &mut u32) -> Result<Just, HostFail> {
+fn refuted(alloc: Global, goal: &Goal, comparisons: &mut u32) -> Derivation {
     let mut problem = Problem::new(alloc);
     give_goal(alloc, &mut problem, goal)?;
-    let falsity = falsity_of(alloc, &problem, goal, comparisons)?;
-    Ok(ccontr(alloc, &goal.concl, falsity)?)
+    let falsity = falsity_of(alloc, &problem, goal, comparisons);
+    ccontr(alloc, &goal.concl, falsity)
 }
 
 // Adds the assumptions and the denied conclusion, with what holds of equality, of `T` and of `F`.
@@ -56,12 +64,7 @@ fn give_goal(alloc: Global, problem: &mut Problem, goal: &Goal) -> Result<(), Ho
 }
 
 // `F`, from the assumptions and the denied conclusion.
-fn falsity_of(
-    alloc: Global,
-    problem: &Problem,
-    goal: &Goal,
-    comparisons: &mut u32,
-) -> Result<Just, HostFail> {
+fn falsity_of(alloc: Global, problem: &Problem, goal: &Goal, comparisons: &mut u32) -> Derivation {
     let found = find_refutation(alloc, problem, comparisons)?;
     rebuilt(alloc, problem, &found, goal_frees(alloc, goal)?)
 }
@@ -69,12 +72,12 @@ fn falsity_of(
 // Adds that `T` holds and `F` does not, where they occur.
 fn add_constants(alloc: Global, problem: &mut Problem) -> Result<(), HostFail> {
     if occurs(problem, "T") {
-        let truth = Term::mk_const(alloc, "T", &Ty::boolean(alloc)?)?;
-        problem.give(alloc, truth, Some(named(alloc, "TRUTH")?))?;
+        let proof = named(alloc, "TRUTH")?;
+        problem.give(alloc, truth(alloc)?, Some(proof))?;
     }
     if occurs(problem, "F") {
         let falsity = falsity(alloc)?;
-        let proof = refute(alloc, &falsity, assume(alloc, &falsity)?)?;
+        let proof = refute(alloc, &falsity, assume(alloc, &falsity))?;
         problem.give(alloc, mk_neg(alloc, &falsity)?, Some(proof))?;
     }
     Ok(())
@@ -90,11 +93,4 @@ fn occurs(problem: &Problem, name: &str) -> bool {
         }
     }
     false
-}
-
-fn is_constant(term: &Term, name: &str) -> bool {
-    match term.dest_const() {
-        Some((other, _)) => other == name,
-        None => false,
-    }
 }

@@ -3,7 +3,7 @@
 use crate::values::{ClauseInstance, Values};
 use hol_host::HostFail;
 use hol_just::Just;
-use hol_tactics_forms::{Formula, dest_formula, prove_hyp};
+use hol_tactics_forms::{Derivation, Formula, dest_formula, prove_hyp};
 use hol_tactics_refutation::{Alternatives, Fact, Quantified, Witnesses};
 use hol_tactics_search::{Move, Part, Problem, Refutation, Route};
 use hol_terms::Term;
@@ -56,23 +56,27 @@ pub(crate) fn rebuilt<'a>(
     problem: &'a Problem,
     found: &'a Refutation,
     avoid: Vec<Term>,
-) -> Result<Just, HostFail> {
+) -> Derivation {
     let witnesses = Witnesses::new(alloc, avoid);
     let mut rebuilding = Rebuilding::new(alloc, problem, found, witnesses);
     let falsity = rebuilding.run(alloc)?;
-    let falsity = rebuilding.values.witnesses.discharged(alloc, falsity)?;
-    with_proofs(alloc, problem, falsity)
+    with_proofs(
+        alloc,
+        problem,
+        rebuilding.values.witnesses.discharged(alloc, falsity),
+    )
 }
 
 // The justification without the formulas that are given with a proof.
-fn with_proofs(alloc: Global, problem: &Problem, of: Just) -> Result<Just, HostFail> {
+fn with_proofs(alloc: Global, problem: &Problem, of: Derivation) -> Derivation {
     let mut just = of;
     for given in &problem.givens {
         if let Some(proof) = &given.proof {
-            just = prove_hyp(alloc, proof.copy(alloc)?, just)?;
+            let proof = proof.copy(alloc)?;
+            just = prove_hyp(alloc, Ok(proof), just);
         }
     }
-    Ok(just)
+    just
 }
 
 impl<'a> Rebuilding<'a> {
@@ -93,7 +97,7 @@ impl<'a> Rebuilding<'a> {
     }
 
     // `F`, from the given formulas and what is supposed of witnesses.
-    fn run(&mut self, alloc: Global) -> Result<Just, HostFail> {
+    fn run(&mut self, alloc: Global) -> Derivation {
         let start = ClauseInstance {
             clause: self.found.start,
             base: 0,
@@ -194,10 +198,14 @@ impl<'a> Rebuilding<'a> {
                 self.frames.push(Frame::Second(of, falsity))?;
                 Ok(Turn::Follow(second, route))
             }
-            Frame::Second(of, first) => Ok(Turn::Refuted(of.refuted(alloc, first, falsity)?)),
+            Frame::Second(of, first) => Ok(Turn::Refuted(of.refuted(
+                alloc,
+                Ok(first),
+                Ok(falsity),
+            )?)),
             Frame::Level(subgoal) => {
                 self.levels.pop();
-                Ok(Turn::Refuted(prove_hyp(alloc, subgoal, falsity)?))
+                Ok(Turn::Refuted(prove_hyp(alloc, Ok(subgoal), Ok(falsity))?))
             }
         }
     }

@@ -1,11 +1,12 @@
 // A goal as smaller goals, before they are refuted one by one.
 
 use hol_host::HostFail;
-use hol_just::{Goal, Just, Rule, Step, splice, step, sub};
+use hol_just::{Goal, Just, Step, splice};
 use hol_model::Fault;
 use hol_tactics_forms::{
-    Formula, assume, ccontr, contradiction, dest_formula, excluded_middle, mk_imp, mk_neg, mp,
-    refute, to_none,
+    Derivation, Formula, assume, ccontr, conj, contr, contradiction, deduct_antisym, dest_formula,
+    disj_cases, eq_mp, excluded_middle, mk_imp, mk_neg, mp, push_copy, refute, sub, sym, to_none,
+    to_two, undisch,
 };
 use hol_tactics_rules::strip;
 use hol_terms::Term;
@@ -25,12 +26,7 @@ pub(crate) fn split(alloc: Global, goal: &Goal) -> Result<Step, HostFail> {
 }
 
 // The justification of a goal by further goals at the end of the list.
-fn split_into(
-    alloc: Global,
-    goal: &Goal,
-    goals: &mut Vec<Goal>,
-    depth: u32,
-) -> Result<Just, HostFail> {
+fn split_into(alloc: Global, goal: &Goal, goals: &mut Vec<Goal>, depth: u32) -> Derivation {
     if depth == 0 || goals.len() >= GOALS {
         return left(alloc, goal, goals);
     }
@@ -39,29 +35,26 @@ fn split_into(
     };
     let mut parts = Vec::new(alloc);
     for goal in &step.goals {
-        let just = split_into(alloc, goal, goals, depth - 1)?;
-        parts.push(to_none(alloc, just))?;
+        let just = split_into(alloc, goal, goals, depth - 1);
+        parts.push(to_none(alloc, just)?)?;
     }
     Ok(splice(alloc, &step.just, &parts)?)
 }
 
 // A goal that is split no further.
-fn left(alloc: Global, goal: &Goal, goals: &mut Vec<Goal>) -> Result<Just, HostFail> {
+fn left(alloc: Global, goal: &Goal, goals: &mut Vec<Goal>) -> Derivation {
     let number = goals.len();
     goals.push(goal.copy(alloc)?)?;
-    Ok(sub(alloc, number)?)
+    sub(alloc, number)
 }
 
 // A step that splits the conclusion, or else an assumption.
 fn first_split(alloc: Global, goal: &Goal) -> Result<Option<Step>, HostFail> {
     match dest_formula(&goal.concl) {
         Formula::Iff(p, q) => Ok(Some(eq_tac(alloc, goal, p, q)?)),
-        Formula::Atom | Formula::Or(_, _) | Formula::Exists(_, _) => split_assumption(alloc, goal),
-        Formula::Not(p) => {
-            if is_atom(p) {
-                return split_assumption(alloc, goal);
-            }
-            Ok(Some(strip(alloc, goal)?))
+        Formula::Not(p) if !is_atom(p) => Ok(Some(strip(alloc, goal)?)),
+        Formula::Atom | Formula::Or(_, _) | Formula::Exists(_, _) | Formula::Not(_) => {
+            split_assumption(alloc, goal)
         }
         Formula::And(_, _) | Formula::Implies(_, _) | Formula::ForAll(_, _) => {
             Ok(Some(strip(alloc, goal)?))
@@ -71,20 +64,16 @@ fn first_split(alloc: Global, goal: &Goal) -> Result<Option<Step>, HostFail> {
 
 // EQ_TAC: an equivalence as two implications.
 fn eq_tac(alloc: Global, goal: &Goal, p: &Term, q: &Term) -> Result<Step, HostFail> {
-    let forth = goal.with_concl(alloc, &mk_imp(alloc, p, q)?)?;
-    let back = goal.with_concl(alloc, &mk_imp(alloc, q, p)?)?;
-    let mut goals = Vec::new(alloc);
-    goals.push(forth)?;
-    goals.push(back)?;
-    let just = equivalence(alloc)?;
-    Ok(Step { goals, just })
-}
-
-// `p <=> q`, of the subgoals `p ==> q` and `q ==> p`.
-fn equivalence(alloc: Global) -> Result<Just, Fault> {
-    let p = step(alloc, Rule::Undisch, &[sub(alloc, 1)?])?;
-    let q = step(alloc, Rule::Undisch, &[sub(alloc, 0)?])?;
-    step(alloc, Rule::DeductAntisym, &[p, q])
+    let forth = mk_imp(alloc, p, q)?;
+    let back = mk_imp(alloc, q, p)?;
+    let p = undisch(alloc, sub(alloc, 1));
+    let q = undisch(alloc, sub(alloc, 0));
+    to_two(
+        alloc,
+        goal.with_concl(alloc, &forth),
+        goal.with_concl(alloc, &back),
+        deduct_antisym(alloc, p, q),
+    )
 }
 
 // What an assumption gives in the two cases of a formula p: with p, and with `~p`, where it gives anything then.
@@ -133,103 +122,118 @@ fn is_quantified(term: &Term, depth: u32) -> bool {
 
 // The cases of an assumption, if a quantifier stands in it and it is an equivalence, an implication, or the denial of an equivalence or
 // of a conjunction.
-fn cases_of(alloc: Global, assumption: &Term) -> Result<Option<Cases>, Fault> {
+fn cases_of(alloc: Global, assumption: &Term) -> Result<Option<Cases>, HostFail> {
     if !is_quantified(assumption, DEPTH) {
         return Ok(None);
     }
     match dest_formula(assumption) {
-        Formula::Iff(p, q) => Ok(Some(equivalence_cases(alloc, assumption, p, q)?)),
-        Formula::Implies(p, q) => Ok(Some(implication_cases(alloc, assumption, p, q)?)),
+        Formula::Iff(p, q) => equivalence_cases(alloc, assumption, p, q),
+        Formula::Implies(p, q) => implication_cases(alloc, assumption, p, q),
         Formula::Not(denied) => denial_cases(alloc, assumption, denied),
         _ => Ok(None),
     }
 }
 
-fn denial_cases(alloc: Global, assumption: &Term, denied: &Term) -> Result<Option<Cases>, Fault> {
+fn denial_cases(
+    alloc: Global,
+    assumption: &Term,
+    denied: &Term,
+) -> Result<Option<Cases>, HostFail> {
     match dest_formula(denied) {
-        Formula::Iff(p, q) => Ok(Some(difference_cases(alloc, assumption, p, q)?)),
-        Formula::And(p, q) => Ok(Some(exclusion_cases(alloc, assumption, p, q)?)),
+        Formula::Iff(p, q) => difference_cases(alloc, assumption, p, q),
+        Formula::And(p, q) => exclusion_cases(alloc, assumption, p, q),
         _ => Ok(None),
     }
 }
 
+// The cases of p, with what they give.
+fn cases_by(
+    alloc: Global,
+    p: &Term,
+    with: Result<Derived, HostFail>,
+    without: Result<Option<Derived>, HostFail>,
+) -> Result<Option<Cases>, HostFail> {
+    Ok(Some(Cases {
+        with: with?,
+        without: without?,
+        p: p.copy(alloc)?,
+    }))
+}
+
 impl Derived {
-    // What is proved, or its negation.
-    fn new(alloc: Global, formula: &Term, just: Just) -> Result<Derived, Fault> {
-        Ok(Derived {
-            formula: formula.copy(alloc)?,
-            just,
-        })
+    // What is proved.
+    fn new(alloc: Global, formula: &Term, just: Derivation) -> Result<Derived, HostFail> {
+        let just = just?;
+        let formula = formula.copy(alloc)?;
+        Ok(Derived { formula, just })
     }
 
     // `~p`, of `F` from p.
-    fn refuted(alloc: Global, p: &Term, falsity: Just) -> Result<Derived, Fault> {
+    fn refuted(alloc: Global, p: &Term, falsity: Derivation) -> Result<Derived, HostFail> {
+        let formula = mk_neg(alloc, p)?;
         let just = refute(alloc, p, falsity)?;
-        Ok(Derived {
-            formula: mk_neg(alloc, p)?,
-            just,
-        })
+        Ok(Derived { formula, just })
     }
 }
 
+// What is derived, as there is something.
+fn some(derived: Result<Derived, HostFail>) -> Result<Option<Derived>, HostFail> {
+    Ok(Some(derived?))
+}
+
 // Of `p ==> q`: q with p.
-fn implication_cases(alloc: Global, assumption: &Term, p: &Term, q: &Term) -> Result<Cases, Fault> {
-    let just = mp(alloc, assume(alloc, assumption)?, assume(alloc, p)?)?;
-    Ok(Cases {
-        p: p.copy(alloc)?,
-        with: Derived::new(alloc, q, just)?,
-        without: None,
-    })
+fn implication_cases(
+    alloc: Global,
+    assumption: &Term,
+    p: &Term,
+    q: &Term,
+) -> Result<Option<Cases>, HostFail> {
+    let just = mp(alloc, assume(alloc, assumption), assume(alloc, p));
+    cases_by(alloc, p, Derived::new(alloc, q, just), Ok(None))
 }
 
 // Of `~(p /\ q)`: `~q` with p.
-fn exclusion_cases(alloc: Global, assumption: &Term, p: &Term, q: &Term) -> Result<Cases, Fault> {
-    let both = step(alloc, Rule::Conj, &[assume(alloc, p)?, assume(alloc, q)?])?;
-    let clash = contradiction(alloc, assume(alloc, assumption)?, both)?;
-    Ok(Cases {
-        p: p.copy(alloc)?,
-        with: Derived::refuted(alloc, q, clash)?,
-        without: None,
-    })
+fn exclusion_cases(
+    alloc: Global,
+    assumption: &Term,
+    p: &Term,
+    q: &Term,
+) -> Result<Option<Cases>, HostFail> {
+    let both = conj(alloc, assume(alloc, p), assume(alloc, q));
+    let clash = contradiction(alloc, assume(alloc, assumption), both);
+    cases_by(alloc, p, Derived::refuted(alloc, q, clash), Ok(None))
 }
 
 // Of `p <=> q`: q with p, and `~q` with `~p`.
-fn equivalence_cases(alloc: Global, assumption: &Term, p: &Term, q: &Term) -> Result<Cases, Fault> {
-    Ok(Cases {
-        p: p.copy(alloc)?,
-        with: equal_with(alloc, assumption, p, q)?,
-        without: Some(equal_without(alloc, assumption, p, q)?),
-    })
+fn equivalence_cases(
+    alloc: Global,
+    assumption: &Term,
+    p: &Term,
+    q: &Term,
+) -> Result<Option<Cases>, HostFail> {
+    let forth = eq_mp(alloc, assume(alloc, assumption), assume(alloc, p));
+    let without = equal_without(alloc, assumption, p, q);
+    cases_by(alloc, p, Derived::new(alloc, q, forth), some(without))
 }
 
-fn equal_with(alloc: Global, equal: &Term, p: &Term, q: &Term) -> Result<Derived, Fault> {
-    let premises = [assume(alloc, equal)?, assume(alloc, p)?];
-    let just = step(alloc, Rule::EqMp, &premises)?;
-    Derived::new(alloc, q, just)
-}
-
-fn equal_without(alloc: Global, equal: &Term, p: &Term, q: &Term) -> Result<Derived, Fault> {
-    let turned = step(alloc, Rule::Sym, &[assume(alloc, equal)?])?;
-    let of_right = step(alloc, Rule::EqMp, &[turned, assume(alloc, q)?])?;
-    let denied = assume(alloc, &mk_neg(alloc, p)?)?;
-    let clash = contradiction(alloc, denied, of_right)?;
+fn equal_without(alloc: Global, equal: &Term, p: &Term, q: &Term) -> Result<Derived, HostFail> {
+    let denied = mk_neg(alloc, p)?;
+    let of_right = eq_mp(alloc, sym(alloc, assume(alloc, equal)), assume(alloc, q));
+    let clash = contradiction(alloc, assume(alloc, &denied), of_right);
     Derived::refuted(alloc, q, clash)
 }
 
 // Of `~(p <=> q)`: `~q` with p, and q with `~p`.
-fn difference_cases(alloc: Global, assumption: &Term, p: &Term, q: &Term) -> Result<Cases, Fault> {
-    Ok(Cases {
-        p: p.copy(alloc)?,
-        with: different_with(alloc, assumption, p, q)?,
-        without: Some(different_without(alloc, assumption, p, q)?),
-    })
-}
-
-fn different_with(alloc: Global, different: &Term, p: &Term, q: &Term) -> Result<Derived, Fault> {
-    let premises = [assume(alloc, p)?, assume(alloc, q)?];
-    let equal = step(alloc, Rule::DeductAntisym, &premises)?;
-    let clash = contradiction(alloc, assume(alloc, different)?, equal)?;
-    Derived::refuted(alloc, q, clash)
+fn difference_cases(
+    alloc: Global,
+    assumption: &Term,
+    p: &Term,
+    q: &Term,
+) -> Result<Option<Cases>, HostFail> {
+    let equal = deduct_antisym(alloc, assume(alloc, p), assume(alloc, q));
+    let clash = contradiction(alloc, assume(alloc, assumption), equal);
+    let without = different_without(alloc, assumption, p, q);
+    cases_by(alloc, p, Derived::refuted(alloc, q, clash), some(without))
 }
 
 fn different_without(
@@ -237,61 +241,57 @@ fn different_without(
     different: &Term,
     p: &Term,
     q: &Term,
-) -> Result<Derived, Fault> {
-    let premises = [denied_gives(alloc, q, p)?, denied_gives(alloc, p, q)?];
-    let equal = step(alloc, Rule::DeductAntisym, &premises)?;
-    let clash = contradiction(alloc, assume(alloc, different)?, equal)?;
-    let just = ccontr(alloc, q, clash)?;
-    Derived::new(alloc, q, just)
+) -> Result<Derived, HostFail> {
+    let equal = deduct_antisym(alloc, denied_gives(alloc, q, p), denied_gives(alloc, p, q));
+    let clash = contradiction(alloc, assume(alloc, different), equal);
+    Derived::new(alloc, q, ccontr(alloc, q, clash))
 }
 
 // q, from p and `~p`.
-fn denied_gives(alloc: Global, p: &Term, q: &Term) -> Result<Just, Fault> {
-    let denied = assume(alloc, &mk_neg(alloc, p)?)?;
-    let clash = contradiction(alloc, denied, assume(alloc, p)?)?;
-    step(alloc, Rule::Contr(q.copy(alloc)?), &[clash])
-}
-
-// A goal, and the conclusion from a case by it.
-#[derive(Drop)]
-struct Case {
-    goal: Goal,
-    just: Just,
+fn denied_gives(alloc: Global, p: &Term, q: &Term) -> Derivation {
+    let denied = mk_neg(alloc, p)?;
+    let clash = contradiction(alloc, assume(alloc, &denied), assume(alloc, p));
+    contr(alloc, q, clash)
 }
 
 // The step to a goal for each case, in which what it gives stands before the conclusion in place of the assumption.
 fn by_cases(alloc: Global, goal: &Goal, place: usize, cases: &Cases) -> Result<Step, HostFail> {
-    let with = Case::new(alloc, goal, place, &cases.p, Some(&cases.with), 0)?;
-    let denied = mk_neg(alloc, &cases.p)?;
-    let without = Case::new(alloc, goal, place, &denied, cases.without.as_ref(), 1)?;
-    either_case(alloc, &cases.p, with, without)
+    let p = &cases.p;
+    let denied = mk_neg(alloc, p)?;
+    let without = cases.without.as_ref();
+    let holds = concluded(alloc, p, Some(&cases.with), 0);
+    let fails = concluded(alloc, &denied, without, 1);
+    to_two(
+        alloc,
+        case_goal(alloc, goal, place, p, Some(&cases.with)),
+        case_goal(alloc, goal, place, &denied, without),
+        disj_cases(alloc, excluded_middle(alloc, p), holds, fails),
+    )
 }
 
-// The step by the cases of p.
-fn either_case(alloc: Global, p: &Term, with: Case, without: Case) -> Result<Step, HostFail> {
-    let middle = excluded_middle(alloc, p)?;
-    let just = step(alloc, Rule::DisjCases, &[middle, with.just, without.just])?;
-    let mut goals = Vec::new(alloc);
-    goals.push(with.goal)?;
-    goals.push(without.goal)?;
-    Ok(Step { goals, just })
+// The goal's conclusion, from p, by the goal `derived ==> p ==> concl` of this number, which is stripped next.
+fn concluded(alloc: Global, p: &Term, derived: Option<&Derived>, number: usize) -> Derivation {
+    let implies = match derived {
+        Some(derived) => {
+            let given = derived.just.copy(alloc)?;
+            mp(alloc, sub(alloc, number), Ok(given))
+        }
+        None => sub(alloc, number),
+    };
+    mp(alloc, implies, assume(alloc, p))
 }
 
-impl Case {
-    // The case of p, by the goal `derived ==> p ==> concl` of this number, which is stripped next.
-    fn new(
-        alloc: Global,
-        goal: &Goal,
-        place: usize,
-        p: &Term,
-        derived: Option<&Derived>,
-        number: usize,
-    ) -> Result<Case, HostFail> {
-        let concl = conclusion(alloc, goal, p, derived)?;
-        let goal = without(alloc, goal, place, concl)?;
-        let just = concluded(alloc, p, derived, number)?;
-        Ok(Case { goal, just })
-    }
+// The goal `derived ==> p ==> concl` from the assumptions but the one at a place.
+fn case_goal(
+    alloc: Global,
+    goal: &Goal,
+    place: usize,
+    p: &Term,
+    derived: Option<&Derived>,
+) -> Result<Goal, Fault> {
+    let asms = others(alloc, &goal.asms, place)?;
+    let concl = conclusion(alloc, goal, p, derived)?;
+    Ok(Goal { asms, concl })
 }
 
 fn conclusion(
@@ -307,28 +307,13 @@ fn conclusion(
     }
 }
 
-// The goal's conclusion, from p.
-fn concluded(
-    alloc: Global,
-    p: &Term,
-    derived: Option<&Derived>,
-    number: usize,
-) -> Result<Just, Fault> {
-    let subgoal = sub(alloc, number)?;
-    let implies = match derived {
-        Some(derived) => mp(alloc, subgoal, derived.just.copy(alloc)?)?,
-        None => subgoal,
-    };
-    mp(alloc, implies, assume(alloc, p)?)
-}
-
-// The goal of this conclusion from the assumptions but the one at a place.
-fn without(alloc: Global, goal: &Goal, place: usize, concl: Term) -> Result<Goal, HostFail> {
-    let mut asms = Vec::new(alloc);
-    for (number, assumption) in goal.asms.iter().enumerate() {
+// The terms but the one at a place.
+fn others(alloc: Global, terms: &[Term], place: usize) -> Result<Vec<Term>, Fault> {
+    let mut others = Vec::new(alloc);
+    for (number, term) in terms.iter().enumerate() {
         if number != place {
-            asms.push(assumption.copy(alloc)?)?;
+            push_copy(alloc, term, &mut others)?;
         }
     }
-    Ok(Goal { asms, concl })
+    Ok(others)
 }

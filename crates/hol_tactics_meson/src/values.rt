@@ -1,8 +1,7 @@
 // Nodes of a refutation as terms of the logic.
 
 use hol_host::HostFail;
-use hol_subst::vsubst;
-use hol_tactics_forms::copy_terms;
+use hol_tactics_forms::{copy_terms, with_value};
 use hol_tactics_refutation::Witnesses;
 use hol_tactics_search::{Bindings, DEPTH, Instance, Node, Problem, Symbol, place_of};
 use hol_terms::Term;
@@ -204,11 +203,10 @@ fn known_applied(
 
 // The body of an abstraction at a value.
 fn body_at(alloc: Global, abstraction: &Term, value: &Term) -> Result<Term, HostFail> {
-    let Some((variable, body)) = abstraction.dest_abs() else {
-        return Err(HostFail::Failed);
-    };
-    let theta = [(value.copy(alloc)?, variable.copy(alloc)?)];
-    Ok(vsubst(alloc, &theta, body)?)
+    match abstraction.dest_abs() {
+        Some((variable, body)) => Ok(with_value(alloc, value, variable, body)?),
+        None => Err(HostFail::Failed),
+    }
 }
 
 fn applied(alloc: Global, function: Term, arguments: &[Term]) -> Result<Term, HostFail> {

@@ -2,11 +2,12 @@
 
 use crate::witnesses::{Quantified, Supposed};
 use hol_host::HostFail;
-use hol_just::{Just, Rule, step};
+use hol_just::Just;
 use hol_model::Fault;
 use hol_tactics_forms::{
-    Formula, assume, ccontr, contradiction, dest_formula, disch, exists, mk_neg, mp, prove_hyp,
-    refute,
+    Derivation, Formula, assume, ccontr, conj, conjunct1, conjunct2, contr, contradiction,
+    deduct_antisym, dest_formula, disch, disj_cases, disj1, disj2, eq_mp, exists, mk_neg, mp,
+    prove_hyp, refute, spec, sym,
 };
 use hol_terms::Term;
 use std::alloc::Global;
@@ -27,48 +28,50 @@ fn literal(alloc: Global, formula: &Term, positive: bool) -> Result<Term, Fault>
     mk_neg(alloc, formula)
 }
 
+// The formula, or its negation, assumed.
+fn assumed(alloc: Global, formula: &Term, positive: bool) -> Derivation {
+    let literal = literal(alloc, formula, positive)?;
+    assume(alloc, &literal)
+}
+
 impl Fact {
-    fn new(alloc: Global, just: Just, formula: &Term, positive: bool) -> Result<Fact, HostFail> {
+    fn new(
+        alloc: Global,
+        just: Derivation,
+        formula: &Term,
+        positive: bool,
+    ) -> Result<Fact, HostFail> {
+        let just = just?;
+        let formula = formula.copy(alloc)?;
         Ok(Fact {
             just,
-            formula: formula.copy(alloc)?,
+            formula,
             positive,
         })
     }
 
     /// What is assumed.
     pub fn assumed(alloc: Global, formula: &Term, positive: bool) -> Result<Fact, HostFail> {
-        let just = assume(alloc, &literal(alloc, formula, positive)?)?;
-        Fact::new(alloc, just, formula, positive)
+        Fact::new(alloc, assumed(alloc, formula, positive), formula, positive)
     }
 
     /// `F`, of the fact and an assumption of the opposite.
-    pub fn against_assumed(self, alloc: Global) -> Result<Just, HostFail> {
-        let Fact {
-            just,
-            formula,
-            positive,
-        } = self;
-        let opposite = assume(alloc, &literal(alloc, &formula, !positive)?)?;
-        if positive {
-            return Ok(contradiction(alloc, opposite, just)?);
+    pub fn against_assumed(self, alloc: Global) -> Derivation {
+        let opposite = assumed(alloc, &self.formula, !self.positive);
+        if self.positive {
+            contradiction(alloc, opposite, Ok(self.just))
+        } else {
+            contradiction(alloc, Ok(self.just), opposite)
         }
-        Ok(contradiction(alloc, just, opposite)?)
     }
 
     /// Of `~p`, that p fails; of `~ ~p`, that it holds.
     pub fn negated(self, alloc: Global, p: &Term) -> Result<Fact, HostFail> {
-        let Fact {
-            just,
-            formula,
-            positive,
-        } = self;
-        if positive {
-            return Fact::new(alloc, just, p, false);
+        if self.positive {
+            return Fact::new(alloc, Ok(self.just), p, false);
         }
-        let clash = contradiction(alloc, just, assume(alloc, &formula)?)?;
-        let just = ccontr(alloc, p, clash)?;
-        Fact::new(alloc, just, p, true)
+        let clash = contradiction(alloc, Ok(self.just), assume(alloc, &self.formula));
+        Fact::new(alloc, ccontr(alloc, p, clash), p, true)
     }
 
     /// Of `!x. p`, or of `~(?x. p)`, what it says of a value.
@@ -78,138 +81,109 @@ impl Fact {
         of: Quantified<'_>,
         value: &Term,
     ) -> Result<Fact, HostFail> {
-        let Fact { just, positive, .. } = self;
         let formula = of.body_at(alloc, value)?;
-        let just = if positive {
-            of_all(alloc, just, value)
+        let just = if self.positive {
+            spec(alloc, value, Ok(self.just))
         } else {
-            of_none(alloc, just, of.formula, value, &formula)
+            of_none(alloc, Ok(self.just), of.formula, value, &formula)
         };
-        Ok(Fact {
-            just: just?,
-            formula,
-            positive,
-        })
+        Fact::new(alloc, just, &formula, self.positive)
     }
 
     /// Of `?x. p`, or of `~(!x. p)`, what it says of a witness.
     pub fn at_witness(self, alloc: Global, supposed: &Supposed) -> Result<Fact, HostFail> {
-        let Fact { just, positive, .. } = self;
-        let just = if positive {
-            of_some(alloc, just, supposed)
+        let implies = assume(alloc, &supposed.hypothesis);
+        let just = if self.positive {
+            mp(alloc, implies, Ok(self.just))
         } else {
-            of_not_all(alloc, just, supposed)
+            let all = mp(alloc, implies, assume(alloc, &supposed.body_at));
+            refute(
+                alloc,
+                &supposed.body_at,
+                contradiction(alloc, Ok(self.just), all),
+            )
         };
-        Fact::new(alloc, just?, &supposed.body_at, positive)
+        Fact::new(alloc, just, &supposed.body_at, self.positive)
     }
 
     /// The first or the second of the facts that a conjunction, a denied disjunction or a denied implication is.
     pub fn side(self, alloc: Global, is_first: bool) -> Result<Fact, HostFail> {
-        let Fact {
-            just,
-            formula,
-            positive,
-        } = self;
-        match (dest_formula(&formula), positive) {
+        let just = Ok(self.just);
+        match (dest_formula(&self.formula), self.positive) {
             (Formula::And(p, q), true) => conjunct(alloc, just, p, q, is_first),
             (Formula::Or(p, q), false) => no_disjunct(alloc, just, p, q, is_first),
-            (Formula::Implies(p, q), false) => {
-                if is_first {
-                    return antecedent(alloc, just, p, q);
-                }
-                no_consequent(alloc, just, p, q)
-            }
+            (Formula::Implies(p, q), false) => of_no_implication(alloc, just, p, q, is_first),
             _ => Err(HostFail::Failed),
         }
     }
 }
 
-// SPEC: of `!x. p`, p at a value.
-fn of_all(alloc: Global, all: Just, value: &Term) -> Result<Just, HostFail> {
-    Ok(step(alloc, Rule::Spec(value.copy(alloc)?), &[all])?)
-}
-
 // Of `~(?x. p)`, that p fails at a value.
 fn of_none(
     alloc: Global,
-    none: Just,
+    none: Derivation,
     formula: &Term,
     value: &Term,
     body_at: &Term,
-) -> Result<Just, HostFail> {
-    let some = exists(alloc, formula, value, assume(alloc, body_at)?)?;
-    let clash = contradiction(alloc, none, some)?;
-    Ok(refute(alloc, body_at, clash)?)
-}
-
-// Of `?x. p`, p at a witness.
-fn of_some(alloc: Global, some: Just, supposed: &Supposed) -> Result<Just, HostFail> {
-    let implies = assume(alloc, &supposed.hypothesis)?;
-    Ok(mp(alloc, implies, some)?)
-}
-
-// Of `~(!x. p)`, that p fails at a witness.
-fn of_not_all(alloc: Global, denied: Just, supposed: &Supposed) -> Result<Just, HostFail> {
-    let implies = assume(alloc, &supposed.hypothesis)?;
-    let all = mp(alloc, implies, assume(alloc, &supposed.body_at)?)?;
-    let clash = contradiction(alloc, denied, all)?;
-    Ok(refute(alloc, &supposed.body_at, clash)?)
+) -> Derivation {
+    let some = exists(alloc, formula, value, assume(alloc, body_at));
+    refute(alloc, body_at, contradiction(alloc, none, some))
 }
 
 // Of `p /\ q`, p or q.
 fn conjunct(
     alloc: Global,
-    both: Just,
+    both: Derivation,
     p: &Term,
     q: &Term,
     is_first: bool,
 ) -> Result<Fact, HostFail> {
     if is_first {
-        let just = step(alloc, Rule::Conjunct1, &[both])?;
-        return Fact::new(alloc, just, p, true);
+        Fact::new(alloc, conjunct1(alloc, both), p, true)
+    } else {
+        Fact::new(alloc, conjunct2(alloc, both), q, true)
     }
-    let just = step(alloc, Rule::Conjunct2, &[both])?;
-    Fact::new(alloc, just, q, true)
 }
 
 // Of `~(p \/ q)`, that p or q fails.
 fn no_disjunct(
     alloc: Global,
-    neither: Just,
+    neither: Derivation,
     p: &Term,
     q: &Term,
     is_first: bool,
 ) -> Result<Fact, HostFail> {
     let part = if is_first { p } else { q };
-    let either = disjunction(alloc, p, q, is_first)?;
-    let clash = contradiction(alloc, neither, either)?;
-    let just = refute(alloc, part, clash)?;
+    let either = disjunction(alloc, p, q, is_first);
+    let just = refute(alloc, part, contradiction(alloc, neither, either));
     Fact::new(alloc, just, part, false)
 }
 
 // `p \/ q`, of p or of q, which is assumed.
-fn disjunction(alloc: Global, p: &Term, q: &Term, is_first: bool) -> Result<Just, HostFail> {
+fn disjunction(alloc: Global, p: &Term, q: &Term, is_first: bool) -> Derivation {
     if is_first {
-        let rule = Rule::Disj1(q.copy(alloc)?);
-        return Ok(step(alloc, rule, &[assume(alloc, p)?])?);
+        disj1(alloc, assume(alloc, p), q)
+    } else {
+        disj2(alloc, p, assume(alloc, q))
     }
-    let rule = Rule::Disj2(p.copy(alloc)?);
-    Ok(step(alloc, rule, &[assume(alloc, q)?])?)
 }
 
-// Of `~(p ==> q)`, p.
-fn antecedent(alloc: Global, denied: Just, p: &Term, q: &Term) -> Result<Fact, HostFail> {
-    let absurd = Fact::assumed(alloc, p, true)?.against_assumed(alloc)?;
-    let any = step(alloc, Rule::Contr(q.copy(alloc)?), &[absurd])?;
-    let implies = disch(alloc, p, any)?;
-    let just = ccontr(alloc, p, contradiction(alloc, denied, implies)?)?;
-    Fact::new(alloc, just, p, true)
-}
-
-// Of `~(p ==> q)`, that q fails.
-fn no_consequent(alloc: Global, denied: Just, p: &Term, q: &Term) -> Result<Fact, HostFail> {
-    let implies = disch(alloc, p, assume(alloc, q)?)?;
-    let just = refute(alloc, q, contradiction(alloc, denied, implies)?)?;
+// Of `~(p ==> q)`, p, or that q fails.
+fn of_no_implication(
+    alloc: Global,
+    denied: Derivation,
+    p: &Term,
+    q: &Term,
+    is_first: bool,
+) -> Result<Fact, HostFail> {
+    if is_first {
+        let absurd = contradiction(alloc, assumed(alloc, p, false), assume(alloc, p));
+        let implies = disch(alloc, p, contr(alloc, q, absurd));
+        let just = ccontr(alloc, p, contradiction(alloc, denied, implies));
+        return Fact::new(alloc, just, p, true);
+    }
+    let implies = disch(alloc, p, assume(alloc, q));
+    let just = refute(alloc, q, contradiction(alloc, denied, implies));
     Fact::new(alloc, just, q, false)
 }
 
@@ -270,110 +244,100 @@ impl Alternatives {
     }
 
     /// `F`, of `F` from each alternative.
-    pub fn refuted(self, alloc: Global, left: Just, right: Just) -> Result<Just, HostFail> {
-        let Alternatives {
-            fact: Fact {
-                just,
-                formula,
-                positive,
-            },
-            is_first,
-        } = self;
-        match (dest_formula(&formula), positive) {
-            (Formula::Or(_, _), true) => by_either(alloc, just, left, right),
+    pub fn refuted(self, alloc: Global, left: Derivation, right: Derivation) -> Derivation {
+        let just = Ok(self.fact.just);
+        match (dest_formula(&self.fact.formula), self.fact.positive) {
+            (Formula::Or(_, _), true) => disj_cases(alloc, just, left, right),
             (Formula::And(p, q), false) => no_conjunction(alloc, just, p, left, q, right),
             (Formula::Implies(p, _), true) => by_consequent(alloc, just, p, left, right),
             (Formula::Iff(p, q), true) => {
-                if is_first {
-                    return forth(alloc, just, p, left, right);
+                if self.is_first {
+                    forth(alloc, just, p, left, right)
+                } else {
+                    back(alloc, just, q, left, right)
                 }
-                back(alloc, just, q, left, right)
             }
             (Formula::Iff(p, q), false) => {
-                if is_first {
-                    return both_fail(alloc, just, p, left, q, right);
+                if self.is_first {
+                    both_fail(alloc, just, p, left, q, right)
+                } else {
+                    both_hold(alloc, just, p, left, q, right)
                 }
-                both_hold(alloc, just, p, left, q, right)
             }
             _ => Err(HostFail::Failed),
         }
     }
 }
 
-// `F`, of `p \/ q` and of `F` from p and from q.
-fn by_either(alloc: Global, either: Just, left: Just, right: Just) -> Result<Just, HostFail> {
-    Ok(step(alloc, Rule::DisjCases, &[either, left, right])?)
-}
-
 // `F`, of `p ==> q` and of `F` from `~p` and from q.
 fn by_consequent(
     alloc: Global,
-    implies: Just,
+    implies: Derivation,
     p: &Term,
-    left: Just,
-    right: Just,
-) -> Result<Just, HostFail> {
-    let p = ccontr(alloc, p, left)?;
-    let q = mp(alloc, implies, p)?;
-    Ok(prove_hyp(alloc, q, right)?)
+    left: Derivation,
+    right: Derivation,
+) -> Derivation {
+    prove_hyp(alloc, mp(alloc, implies, ccontr(alloc, p, left)), right)
 }
 
 // `F`, of `~(p /\ q)` and of `F` from `~p` and from `~q`.
 fn no_conjunction(
     alloc: Global,
-    denied: Just,
+    denied: Derivation,
     p: &Term,
-    left: Just,
+    left: Derivation,
     q: &Term,
-    right: Just,
-) -> Result<Just, HostFail> {
-    let p = ccontr(alloc, p, left)?;
-    let q = ccontr(alloc, q, right)?;
-    let both = step(alloc, Rule::Conj, &[p, q])?;
-    Ok(contradiction(alloc, denied, both)?)
+    right: Derivation,
+) -> Derivation {
+    let both = conj(alloc, ccontr(alloc, p, left), ccontr(alloc, q, right));
+    contradiction(alloc, denied, both)
 }
 
 // `F`, of `p <=> q` and of `F` from `~p` and from q.
-fn forth(alloc: Global, equal: Just, p: &Term, left: Just, right: Just) -> Result<Just, HostFail> {
-    let p = ccontr(alloc, p, left)?;
-    let q = step(alloc, Rule::EqMp, &[equal, p])?;
-    Ok(prove_hyp(alloc, q, right)?)
+fn forth(
+    alloc: Global,
+    equal: Derivation,
+    p: &Term,
+    left: Derivation,
+    right: Derivation,
+) -> Derivation {
+    prove_hyp(alloc, eq_mp(alloc, equal, ccontr(alloc, p, left)), right)
 }
 
 // `F`, of `p <=> q` and of `F` from p and from `~q`.
-fn back(alloc: Global, equal: Just, q: &Term, left: Just, right: Just) -> Result<Just, HostFail> {
-    let turned = step(alloc, Rule::Sym, &[equal])?;
-    let p = step(alloc, Rule::EqMp, &[turned, assume(alloc, q)?])?;
-    let denied = refute(alloc, q, prove_hyp(alloc, p, left)?)?;
-    Ok(prove_hyp(alloc, denied, right)?)
+fn back(
+    alloc: Global,
+    equal: Derivation,
+    q: &Term,
+    left: Derivation,
+    right: Derivation,
+) -> Derivation {
+    let p = eq_mp(alloc, sym(alloc, equal), assume(alloc, q));
+    prove_hyp(alloc, refute(alloc, q, prove_hyp(alloc, p, left)), right)
 }
 
 // `F`, of `~(p <=> q)` and of `F` from p and from q.
 fn both_fail(
     alloc: Global,
-    denied: Just,
+    denied: Derivation,
     p: &Term,
-    left: Just,
+    left: Derivation,
     q: &Term,
-    right: Just,
-) -> Result<Just, HostFail> {
-    let of_right = step(alloc, Rule::Contr(p.copy(alloc)?), &[right])?;
-    let of_left = step(alloc, Rule::Contr(q.copy(alloc)?), &[left])?;
-    let equal = step(alloc, Rule::DeductAntisym, &[of_right, of_left])?;
-    Ok(contradiction(alloc, denied, equal)?)
+    right: Derivation,
+) -> Derivation {
+    let equal = deduct_antisym(alloc, contr(alloc, p, right), contr(alloc, q, left));
+    contradiction(alloc, denied, equal)
 }
 
 // `F`, of `~(p <=> q)` and of `F` from `~p` and from `~q`.
 fn both_hold(
     alloc: Global,
-    denied: Just,
+    denied: Derivation,
     p: &Term,
-    left: Just,
+    left: Derivation,
     q: &Term,
-    right: Just,
-) -> Result<Just, HostFail> {
-    let p = ccontr(alloc, p, left)?;
-    let q = ccontr(alloc, q, right)?;
-    let equal = step(alloc, Rule::DeductAntisym, &[p, q])?;
-    Ok(contradiction(alloc, denied, equal)?)
+    right: Derivation,
+) -> Derivation {
+    let equal = deduct_antisym(alloc, ccontr(alloc, p, left), ccontr(alloc, q, right));
+    contradiction(alloc, denied, equal)
 }

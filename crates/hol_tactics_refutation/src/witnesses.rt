@@ -2,11 +2,11 @@
 
 use hol_alpha::aconv;
 use hol_host::HostFail;
-use hol_just::{Just, Rule, step};
+use hol_just::Just;
 use hol_model::Fault;
-use hol_subst::vsubst;
 use hol_tactics_forms::{
-    assume, ccontr, contradiction, disch, excluded_middle, exists, fresh, mk_exists, mk_imp, mk_neg,
+    Derivation, assume, ccontr, choose, contr, contradiction, disch, disj_cases, excluded_middle,
+    exists, fresh, generalize, mk_exists, mk_imp, mk_neg, with_value,
 };
 use hol_terms::{Term, free_in};
 use hol_types::Ty;
@@ -23,8 +23,7 @@ pub struct Quantified<'a> {
 impl<'a> Quantified<'a> {
     /// p at a value of x.
     pub fn body_at(&self, alloc: Global, value: &Term) -> Result<Term, Fault> {
-        let theta = [(value.copy(alloc)?, self.variable.copy(alloc)?)];
-        vsubst(alloc, &theta, self.body)
+        with_value(alloc, value, self.variable, self.body)
     }
 }
 
@@ -193,13 +192,18 @@ impl Witnesses {
     }
 
     // The justification without the supposition at this place.
-    fn without(&self, alloc: Global, at: usize, just: Just) -> Result<Just, HostFail> {
-        let Some(supposed) = self.supposed.get(at) else {
-            return Err(HostFail::Failed);
-        };
-        let some = supposed.witnessed(alloc)?;
-        let variable = supposed.variable.copy(alloc)?;
-        Ok(step(alloc, Rule::Choose(variable), &[some, just])?)
+    fn without(&self, alloc: Global, at: usize, just: Just) -> Derivation {
+        match self.supposed.get(at) {
+            Some(supposed) => {
+                choose(
+                    alloc,
+                    &supposed.variable,
+                    supposed.witnessed(alloc),
+                    Ok(just),
+                )
+            }
+            None => Err(HostFail::Failed),
+        }
     }
 }
 
@@ -236,7 +240,7 @@ impl Supposed {
     }
 
     // That there is a value for which it holds.
-    fn witnessed(&self, alloc: Global) -> Result<Just, Fault> {
+    fn witnessed(&self, alloc: Global) -> Derivation {
         let claim = mk_exists(alloc, &self.variable, &self.hypothesis)?;
         if self.is_existential {
             self.for_existential(alloc, &claim)
@@ -246,63 +250,47 @@ impl Supposed {
     }
 
     // The claim, of the supposition at v itself.
-    fn claimed(&self, alloc: Global, claim: &Term, supposition: Just) -> Result<Just, Fault> {
+    fn claimed(&self, alloc: Global, claim: &Term, supposition: Derivation) -> Derivation {
         exists(alloc, claim, &self.variable, supposition)
     }
 
     // `?v. (?x. p) ==> p[v/x]`: by cases of `?x. p`.
-    fn for_existential(&self, alloc: Global, claim: &Term) -> Result<Just, Fault> {
-        let holds = self.claim_if_some(alloc, claim)?;
-        let fails = self.claim_if_none(alloc, claim)?;
-        let middle = excluded_middle(alloc, &self.formula)?;
-        step(alloc, Rule::DisjCases, &[middle, holds, fails])
+    fn for_existential(&self, alloc: Global, claim: &Term) -> Derivation {
+        let holds = self.claim_if_some(alloc, claim);
+        let fails = self.claim_by_absurdity(alloc, claim, &self.formula, &self.body_at);
+        disj_cases(alloc, excluded_middle(alloc, &self.formula), holds, fails)
     }
 
     // The claim, from `?x. p`.
-    fn claim_if_some(&self, alloc: Global, claim: &Term) -> Result<Just, Fault> {
-        let implies = disch(alloc, &self.formula, assume(alloc, &self.body_at)?)?;
-        let claimed = self.claimed(alloc, claim, implies)?;
-        let some = assume(alloc, &self.formula)?;
-        step(
-            alloc,
-            Rule::Choose(self.variable.copy(alloc)?),
-            &[some, claimed],
-        )
+    fn claim_if_some(&self, alloc: Global, claim: &Term) -> Derivation {
+        let implies = disch(alloc, &self.formula, assume(alloc, &self.body_at));
+        let claimed = self.claimed(alloc, claim, implies);
+        choose(alloc, &self.variable, assume(alloc, &self.formula), claimed)
     }
 
-    // The claim, from `~(?x. p)`.
-    fn claim_if_none(&self, alloc: Global, claim: &Term) -> Result<Just, Fault> {
-        let denied = assume(alloc, &mk_neg(alloc, &self.formula)?)?;
-        let absurd = contradiction(alloc, denied, assume(alloc, &self.formula)?)?;
-        let absurd = step(alloc, Rule::Contr(self.body_at.copy(alloc)?), &[absurd])?;
-        let implies = disch(alloc, &self.formula, absurd)?;
-        self.claimed(alloc, claim, implies)
+    // The claim, that `p ==> q` at v, from `~p`.
+    fn claim_by_absurdity(&self, alloc: Global, claim: &Term, p: &Term, q: &Term) -> Derivation {
+        let denied = mk_neg(alloc, p)?;
+        let absurd = contradiction(alloc, assume(alloc, &denied), assume(alloc, p));
+        self.claimed(alloc, claim, disch(alloc, p, contr(alloc, q, absurd)))
     }
 
     // `?v. p[v/x] ==> !x. p`: if it were denied, `!x. p` would hold, and any value would do.
-    fn for_universal(&self, alloc: Global, claim: &Term) -> Result<Just, Fault> {
+    fn for_universal(&self, alloc: Global, claim: &Term) -> Derivation {
         let denied = mk_neg(alloc, claim)?;
-        let all = self.all_if_denied(alloc, claim, &denied)?;
-        let implies = disch(alloc, &self.body_at, all)?;
-        let claimed = self.claimed(alloc, claim, implies)?;
-        let clash = contradiction(alloc, assume(alloc, &denied)?, claimed)?;
-        ccontr(alloc, claim, clash)
+        let all = self.all_if_denied(alloc, claim, &denied);
+        let claimed = self.claimed(alloc, claim, disch(alloc, &self.body_at, all));
+        ccontr(
+            alloc,
+            claim,
+            contradiction(alloc, assume(alloc, &denied), claimed),
+        )
     }
 
     // `!x. p`, from the denied claim.
-    fn all_if_denied(&self, alloc: Global, claim: &Term, denied: &Term) -> Result<Just, Fault> {
-        let claimed = self.claim_if_not(alloc, claim)?;
-        let clash = contradiction(alloc, assume(alloc, denied)?, claimed)?;
-        let each = ccontr(alloc, &self.body_at, clash)?;
-        step(alloc, Rule::Gen(self.variable.copy(alloc)?), &[each])
-    }
-
-    // The claim, from `~p[v/x]`.
-    fn claim_if_not(&self, alloc: Global, claim: &Term) -> Result<Just, Fault> {
-        let denied = assume(alloc, &mk_neg(alloc, &self.body_at)?)?;
-        let absurd = contradiction(alloc, denied, assume(alloc, &self.body_at)?)?;
-        let absurd = step(alloc, Rule::Contr(self.formula.copy(alloc)?), &[absurd])?;
-        let implies = disch(alloc, &self.body_at, absurd)?;
-        self.claimed(alloc, claim, implies)
+    fn all_if_denied(&self, alloc: Global, claim: &Term, denied: &Term) -> Derivation {
+        let claimed = self.claim_by_absurdity(alloc, claim, &self.body_at, &self.formula);
+        let clash = contradiction(alloc, assume(alloc, denied), claimed);
+        generalize(alloc, &self.variable, ccontr(alloc, &self.body_at, clash))
     }
 }

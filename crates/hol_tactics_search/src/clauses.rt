@@ -239,23 +239,10 @@ impl Problem {
         if depth == 0 {
             return Err(HostFail::Failed);
         }
-        let below = depth - 1;
-        let first = self.routes_of_two(
-            alloc,
-            with_sign(p, !positive),
-            with_sign(q, true),
-            false,
-            scope,
-            below,
-        )?;
-        let second = self.routes_of_two(
-            alloc,
-            with_sign(p, positive),
-            with_sign(q, false),
-            false,
-            scope,
-            below,
-        )?;
+        let (is_p, is_q) = (with_sign(p, positive), with_sign(q, true));
+        let (no_p, no_q) = (with_sign(p, !positive), with_sign(q, false));
+        let first = self.routes_of_two(alloc, no_p, is_q, false, scope, depth - 1)?;
+        let second = self.routes_of_two(alloc, is_p, no_q, false, scope, depth - 1)?;
         self.facts(alloc, &first, &second)
     }
 
@@ -312,13 +299,11 @@ impl Problem {
         if depth == 0 {
             return Err(HostFail::Failed);
         }
-        scope.push(Scoped {
-            variable: variable.copy(alloc)?,
-            node,
-        })?;
-        let routes = self.routes_of(alloc, body, scope, depth - 1)?;
+        let variable = variable.copy(alloc)?;
+        scope.push(Scoped { variable, node })?;
+        let routes = self.routes_of(alloc, body, scope, depth - 1);
         scope.pop();
-        Ok(routes)
+        routes
     }
 
     // The symbol and the node of a witness for the variable of a formula, as a function of the quantified variables that stand in it.

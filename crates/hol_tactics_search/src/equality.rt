@@ -3,9 +3,12 @@
 use crate::first_order::{Symbol, Terms};
 use crate::problem::Problem;
 use hol_host::HostFail;
-use hol_just::{Just, Rule, step};
+use hol_just::Just;
 use hol_model::Fault;
-use hol_tactics_forms::{assume, disch, fresh, mk_forall, mk_imp, refl};
+use hol_tactics_forms::{
+    Derivation, assume, disch, eq_mp, fresh, generalize, mk_comb, mk_forall, mk_imp, push_copy,
+    refl, sym, trans,
+};
 use hol_terms::{Term, frees, mk_eq};
 use hol_types::Ty;
 use std::alloc::Global;
@@ -22,14 +25,6 @@ struct Applied {
 #[derive(Drop)]
 struct Fact {
     formula: Term,
-    proof: Just,
-}
-
-// `left = right`, with its proof.
-#[derive(Drop)]
-struct Equation {
-    left: Term,
-    right: Term,
     proof: Just,
 }
 
@@ -54,19 +49,23 @@ fn add_axioms(
     heads: &[Applied],
 ) -> Result<(), HostFail> {
     for ty in types {
-        give(alloc, problem, reflexive(alloc, ty)?)?;
-        give(alloc, problem, transitive(alloc, ty)?)?;
+        give(alloc, problem, reflexive(alloc, ty))?;
+        give(alloc, problem, transitive(alloc, ty))?;
     }
     for head in heads {
         if contains_any(types, &head.arguments) {
-            give(alloc, problem, respected(alloc, head, types)?)?;
+            give(alloc, problem, respected(alloc, head, types))?;
         }
     }
     Ok(())
 }
 
-fn give(alloc: Global, problem: &mut Problem, fact: Fact) -> Result<(), HostFail> {
-    let Fact { formula, proof } = fact;
+fn give(
+    alloc: Global,
+    problem: &mut Problem,
+    fact: Result<Fact, HostFail>,
+) -> Result<(), HostFail> {
+    let Fact { formula, proof } = fact?;
     problem.give(alloc, formula, Some(proof))
 }
 
@@ -74,20 +73,39 @@ fn give(alloc: Global, problem: &mut Problem, fact: Fact) -> Result<(), HostFail
 fn equated_types(alloc: Global, terms: &Terms) -> Result<Vec<Ty>, HostFail> {
     let mut types = Vec::new(alloc);
     for symbol in terms.symbols() {
-        if let Symbol::Known { term, .. } = symbol {
-            if let Some(side) = equated_type(term) {
-                types.push(side.copy(alloc)?)?;
-            }
+        if let Some(side) = equated_by(symbol) {
+            push_type(alloc, side, &mut types)?;
         }
     }
     Ok(types)
 }
 
+fn push_type(alloc: Global, ty: &Ty, types: &mut Vec<Ty>) -> Result<(), HostFail> {
+    types.push(ty.copy(alloc)?)?;
+    Ok(())
+}
+
+// The type of the sides, where the symbol is equality.
+fn equated_by(symbol: &Symbol) -> Option<&Ty> {
+    match symbol {
+        Symbol::Known { term, .. } => equated_type(term),
+        Symbol::Witness { .. } => None,
+    }
+}
+
 // The type of the sides, where the term is equality.
 fn equated_type(term: &Term) -> Option<&Ty> {
-    let (name, ty) = term.dest_const()?;
-    let (side, _) = ty.dest_fun()?;
-    if name == "=" { Some(side) } else { None }
+    match term.dest_const() {
+        Some(("=", ty)) => domain(ty),
+        _ => None,
+    }
+}
+
+fn domain(ty: &Ty) -> Option<&Ty> {
+    match ty.dest_fun() {
+        Some((domain, _)) => Some(domain),
+        None => None,
+    }
 }
 
 // Each symbol but equality that is applied, with the most arguments that it has.
@@ -95,36 +113,46 @@ fn applied_heads(alloc: Global, terms: &Terms) -> Result<Vec<Applied>, HostFail>
     let most = terms.most_arguments(alloc)?;
     let mut heads = Vec::new(alloc);
     for (symbol, arguments) in terms.symbols().iter().zip(&most) {
-        if let Symbol::Known {
-            term,
-            parameters: 0,
-        } = symbol
-        {
-            if *arguments > 0 && equated_type(term).is_none() {
-                heads.push(Applied::new(alloc, term, *arguments)?)?;
-            }
+        if let Some(term) = applied_term(symbol, *arguments) {
+            heads.push(Applied::new(alloc, term, *arguments)?)?;
         }
     }
     Ok(heads)
 }
 
+// What the symbol stands for, where it is applied to so many arguments and no equality.
+fn applied_term(symbol: &Symbol, arguments: u32) -> Option<&Term> {
+    match symbol {
+        Symbol::Known {
+            term,
+            parameters: 0,
+        } if arguments > 0 && equated_type(term).is_none() => Some(term),
+        _ => None,
+    }
+}
+
 impl Applied {
     // A term with so many arguments.
     fn new(alloc: Global, head: &Term, count: u32) -> Result<Applied, HostFail> {
-        let mut arguments = Vec::new(alloc);
-        let mut result = head.ty();
-        for _ in 0..count {
-            let Some((argument, rest)) = result.dest_fun() else {
-                return Err(HostFail::Failed);
-            };
-            arguments.push(argument.copy(alloc)?)?;
-            result = rest;
-        }
-        Ok(Applied {
+        let mut applied = Applied {
             head: head.copy(alloc)?,
-            arguments,
-            result: result.copy(alloc)?,
-        })
+            arguments: Vec::new(alloc),
+            result: head.type_of(alloc)?,
+        };
+        for _ in 0..count {
+            applied.add_argument(alloc)?;
+        }
+        Ok(applied)
+    }
+
+    // One argument more.
+    fn add_argument(&mut self, alloc: Global) -> Result<(), HostFail> {
+        let ty = self.result.copy(alloc)?;
+        let Some((domain, codomain)) = ty.dest_fun() else {
+            return Err(HostFail::Failed);
+        };
+        self.result = codomain.copy(alloc)?;
+        push_type(alloc, domain, &mut self.arguments)
     }
 }
 
@@ -143,118 +171,68 @@ fn add_results(alloc: Global, heads: &[Applied], types: &mut Vec<Ty>) -> Result<
             && contains_any(types, &head.arguments)
             && !contains(types, &head.result)
         {
-            types.push(head.result.copy(alloc)?)?;
+            push_type(alloc, &head.result, types)?;
         }
     }
     Ok(())
 }
 
-impl Fact {
-    // Of `q`, `p ==> q`.
-    fn discharged(self, alloc: Global, p: &Term) -> Result<Fact, Fault> {
-        let Fact { formula, proof } = self;
-        let proof = disch(alloc, p, proof)?;
-        let formula = mk_imp(alloc, p, &formula)?;
-        Ok(Fact { formula, proof })
-    }
+// A formula with its proof, where there are both.
+fn fact_of(formula: Result<Term, Fault>, proof: Derivation) -> Result<Fact, HostFail> {
+    let formula = formula?;
+    let proof = proof?;
+    Ok(Fact { formula, proof })
+}
 
-    // Of `p`, `!x. p`.
-    fn generalized(self, alloc: Global, x: &Term) -> Result<Fact, Fault> {
-        let Fact { formula, proof } = self;
-        let proof = step(alloc, Rule::Gen(x.copy(alloc)?), &[proof])?;
-        let formula = mk_forall(alloc, x, &formula)?;
-        Ok(Fact { formula, proof })
-    }
+// Of `q`, `p ==> q`.
+fn discharged(alloc: Global, p: &Term, of: Result<Fact, HostFail>) -> Result<Fact, HostFail> {
+    let of = of?;
+    fact_of(mk_imp(alloc, p, &of.formula), disch(alloc, p, Ok(of.proof)))
+}
+
+// Of `p`, `!x. p`.
+fn generalized(alloc: Global, x: &Term, of: Result<Fact, HostFail>) -> Result<Fact, HostFail> {
+    let of = of?;
+    fact_of(
+        mk_forall(alloc, x, &of.formula),
+        generalize(alloc, x, Ok(of.proof)),
+    )
 }
 
 // `!x. x = x`.
-fn reflexive(alloc: Global, ty: &Ty) -> Result<Fact, Fault> {
+fn reflexive(alloc: Global, ty: &Ty) -> Result<Fact, HostFail> {
     let x = Term::mk_var(alloc, "x", ty)?;
-    let formula = mk_eq(alloc, &x, &x)?;
-    let proof = refl(alloc, &x)?;
-    Fact { formula, proof }.generalized(alloc, &x)
+    generalized(alloc, &x, fact_of(mk_eq(alloc, &x, &x), refl(alloc, &x)))
 }
 
 // `!x. !y. !z. x = y ==> x = z ==> y = z`.
-fn transitive(alloc: Global, ty: &Ty) -> Result<Fact, Fault> {
+fn transitive(alloc: Global, ty: &Ty) -> Result<Fact, HostFail> {
     let x = Term::mk_var(alloc, "x", ty)?;
     let y = Term::mk_var(alloc, "y", ty)?;
     let z = Term::mk_var(alloc, "z", ty)?;
-    transitive_at(alloc, &x, &y, &z)?
-        .generalized(alloc, &z)?
-        .generalized(alloc, &y)?
-        .generalized(alloc, &x)
+    let of_z = generalized(alloc, &z, transitive_at(alloc, &x, &y, &z));
+    generalized(alloc, &x, generalized(alloc, &y, of_z))
 }
 
 // `x = y ==> x = z ==> y = z`.
-fn transitive_at(alloc: Global, x: &Term, y: &Term, z: &Term) -> Result<Fact, Fault> {
+fn transitive_at(alloc: Global, x: &Term, y: &Term, z: &Term) -> Result<Fact, HostFail> {
     let first = mk_eq(alloc, x, y)?;
     let second = mk_eq(alloc, x, z)?;
-    let formula = mk_eq(alloc, y, z)?;
-    let proof = joined(alloc, &first, &second)?;
-    Fact { formula, proof }
-        .discharged(alloc, &second)?
-        .discharged(alloc, &first)
+    let proof = trans(
+        alloc,
+        sym(alloc, assume(alloc, &first)),
+        assume(alloc, &second),
+    );
+    let joined = fact_of(mk_eq(alloc, y, z), proof);
+    discharged(alloc, &first, discharged(alloc, &second, joined))
 }
 
-// `y = z`, of the assumptions `x = y` and `x = z`.
-fn joined(alloc: Global, first: &Term, second: &Term) -> Result<Just, Fault> {
-    let turned = step(alloc, Rule::Sym, &[assume(alloc, first)?])?;
-    step(alloc, Rule::Trans, &[turned, assume(alloc, second)?])
-}
-
-impl Equation {
-    // `term = term`.
-    fn same(alloc: Global, term: &Term) -> Result<Equation, Fault> {
-        Ok(Equation {
-            left: term.copy(alloc)?,
-            right: term.copy(alloc)?,
-            proof: refl(alloc, term)?,
-        })
-    }
-
-    // `left = right`, assumed.
-    fn assumed(alloc: Global, left: &Term, right: &Term) -> Result<Equation, Fault> {
-        let equation = mk_eq(alloc, left, right)?;
-        Ok(Equation {
-            left: left.copy(alloc)?,
-            right: right.copy(alloc)?,
-            proof: assume(alloc, &equation)?,
-        })
-    }
-
-    // MK_COMB: of `f = g` and `x = y`, `f x = g y`.
-    fn applied(&self, alloc: Global, argument: &Equation) -> Result<Equation, Fault> {
-        let premises = [self.proof.copy(alloc)?, argument.proof.copy(alloc)?];
-        let proof = step(alloc, Rule::MkComb, &premises)?;
-        Ok(Equation {
-            left: Term::mk_comb(alloc, &self.left, &argument.left)?,
-            right: Term::mk_comb(alloc, &self.right, &argument.right)?,
-            proof,
-        })
-    }
-
-    // The equation.
-    fn as_fact(&self, alloc: Global) -> Result<Fact, Fault> {
-        Ok(Fact {
-            formula: mk_eq(alloc, &self.left, &self.right)?,
-            proof: self.proof.copy(alloc)?,
-        })
-    }
-
-    // Of an equation of formulas, that the left one implies the right one.
-    fn as_implication(&self, alloc: Global) -> Result<Fact, Fault> {
-        let premises = [self.proof.copy(alloc)?, assume(alloc, &self.left)?];
-        let proof = step(alloc, Rule::EqMp, &premises)?;
-        let formula = self.right.copy(alloc)?;
-        Fact { formula, proof }.discharged(alloc, &self.left)
-    }
-}
-
-// An equation with the premises that it is proved from, its variables, and those that were free before.
+// An equation with its proof, the premises that this is from, its variables, and with them those that were free before.
 #[derive(Drop)]
 struct Congruence {
-    equation: Equation,
+    left: Term,
+    right: Term,
+    proof: Just,
     premises: Vec<Term>,
     variables: Vec<Term>,
     avoid: Vec<Term>,
@@ -262,44 +240,61 @@ struct Congruence {
 
 impl Congruence {
     // `head = head`.
-    fn new(alloc: Global, head: &Term) -> Result<Congruence, Fault> {
+    fn new(alloc: Global, head: &Term) -> Result<Congruence, HostFail> {
         Ok(Congruence {
-            equation: Equation::same(alloc, head)?,
+            left: head.copy(alloc)?,
+            right: head.copy(alloc)?,
+            proof: refl(alloc, head)?,
+            avoid: frees(alloc, head)?,
             premises: Vec::new(alloc),
             variables: Vec::new(alloc),
-            avoid: frees(alloc, head)?,
         })
     }
 
-    fn fresh(&mut self, alloc: Global, name: &str, ty: &Ty) -> Result<Term, Fault> {
-        let variable = fresh(alloc, &mut self.avoid, &Term::mk_var(alloc, name, ty)?)?;
-        self.variables.push(variable.copy(alloc)?)?;
+    fn fresh(&mut self, alloc: Global, name: &str, ty: &Ty) -> Result<Term, HostFail> {
+        let named = Term::mk_var(alloc, name, ty)?;
+        let variable = fresh(alloc, &mut self.avoid, &named)?;
+        push_copy(alloc, &variable, &mut self.variables)?;
         Ok(variable)
     }
 
-    fn apply(&mut self, alloc: Global, argument: &Equation) -> Result<(), Fault> {
-        self.equation = self.equation.applied(alloc, argument)?;
+    // MK_COMB: the sides applied to x and y, which are equal.
+    fn apply(
+        &mut self,
+        alloc: Global,
+        x: &Term,
+        y: &Term,
+        equal: Derivation,
+    ) -> Result<(), HostFail> {
+        let proof = self.proof.copy(alloc)?;
+        self.proof = mk_comb(alloc, Ok(proof), equal)?;
+        self.left = Term::mk_comb(alloc, &self.left, x)?;
+        self.right = Term::mk_comb(alloc, &self.right, y)?;
         Ok(())
     }
 
     // Applies both sides to the same variable.
-    fn apply_same(&mut self, alloc: Global, ty: &Ty) -> Result<(), Fault> {
+    fn apply_same(&mut self, alloc: Global, ty: &Ty) -> Result<(), HostFail> {
         let x = self.fresh(alloc, "x", ty)?;
-        let argument = Equation::same(alloc, &x)?;
-        self.apply(alloc, &argument)
+        self.apply(alloc, &x, &x, refl(alloc, &x))
     }
 
     // Applies the sides to two variables, by the premise that these are equal.
-    fn apply_equal(&mut self, alloc: Global, ty: &Ty) -> Result<(), Fault> {
+    fn apply_equal(&mut self, alloc: Global, ty: &Ty) -> Result<(), HostFail> {
         let y = self.fresh(alloc, "y", ty)?;
         let x = self.fresh(alloc, "x", ty)?;
-        let argument = Equation::assumed(alloc, &x, &y)?;
-        self.premises.push(mk_eq(alloc, &x, &y)?)?;
-        self.apply(alloc, &argument)
+        let premise = mk_eq(alloc, &x, &y)?;
+        push_copy(alloc, &premise, &mut self.premises)?;
+        self.apply(alloc, &x, &y, assume(alloc, &premise))
     }
 
     // Applies the sides to arguments of these types; at some there are equations.
-    fn apply_all(&mut self, alloc: Global, arguments: &[Ty], equated: &[Ty]) -> Result<(), Fault> {
+    fn apply_all(
+        &mut self,
+        alloc: Global,
+        arguments: &[Ty],
+        equated: &[Ty],
+    ) -> Result<(), HostFail> {
         for argument in arguments {
             if contains(equated, argument) {
                 self.apply_equal(alloc, argument)?;
@@ -310,28 +305,34 @@ impl Congruence {
         Ok(())
     }
 
-    // The fact of the equation, with its premises as antecedents and its variables bound.
-    fn closed(&self, alloc: Global, of: Fact) -> Result<Fact, Fault> {
+    // The equation; of one of formulas, that the left one implies the right one.
+    fn concluded(&self, alloc: Global, are_formulas: bool) -> Result<Fact, HostFail> {
+        let proof = self.proof.copy(alloc)?;
+        if are_formulas {
+            let right = eq_mp(alloc, Ok(proof), assume(alloc, &self.left));
+            return discharged(alloc, &self.left, fact_of(self.right.copy(alloc), right));
+        }
+        fact_of(mk_eq(alloc, &self.left, &self.right), Ok(proof))
+    }
+
+    // A fact with the premises as antecedents and the variables bound.
+    fn closed(&self, alloc: Global, of: Result<Fact, HostFail>) -> Result<Fact, HostFail> {
         let mut fact = of;
         for premise in self.premises.iter().rev() {
-            fact = fact.discharged(alloc, premise)?;
+            fact = discharged(alloc, premise, fact);
         }
         for variable in &self.variables {
-            fact = fact.generalized(alloc, variable)?;
+            fact = generalized(alloc, variable, fact);
         }
-        Ok(fact)
+        fact
     }
 }
 
 // `!x. !y. x = y ==> .. ==> f x .. = f y ..`, of a predicate `.. ==> P x .. ==> P y ..`. An argument of a type without equations is
 // the same on both sides.
-fn respected(alloc: Global, head: &Applied, types: &[Ty]) -> Result<Fact, Fault> {
+fn respected(alloc: Global, head: &Applied, types: &[Ty]) -> Result<Fact, HostFail> {
     let mut congruence = Congruence::new(alloc, &head.head)?;
     congruence.apply_all(alloc, &head.arguments, types)?;
-    let fact = if head.result.is_bool() {
-        congruence.equation.as_implication(alloc)
-    } else {
-        congruence.equation.as_fact(alloc)
-    };
-    congruence.closed(alloc, fact?)
+    let fact = congruence.concluded(alloc, head.result.is_bool());
+    congruence.closed(alloc, fact)
 }

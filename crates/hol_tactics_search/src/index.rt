@@ -58,13 +58,19 @@ impl Index {
             all: Row::new(alloc),
         };
         for others in 0..longest(problem) {
-            for (number, clause) in problem.clauses.iter().enumerate() {
-                if clause.literals.len() == others + 1 {
-                    index.add_clause(problem, number, clause)?;
-                }
-            }
+            index.add_clauses(problem, others)?;
         }
         Ok(index)
+    }
+
+    // Adds the clauses of one literal and so many others.
+    fn add_clauses(&mut self, problem: &Problem, others: usize) -> Result<(), HostFail> {
+        for (number, clause) in problem.clauses.iter().enumerate() {
+            if clause.literals.len().checked_sub(1) == Some(others) {
+                self.add_clause(problem, number, clause)?;
+            }
+        }
+        Ok(())
     }
 
     fn add_clause(

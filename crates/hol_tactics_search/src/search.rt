@@ -71,6 +71,28 @@ struct Group {
     next: Option<usize>,
 }
 
+// Subgoals one behind another: the first one, and how many.
+#[derive(Clone, Copy)]
+struct Run {
+    first: usize,
+    count: usize,
+}
+
+impl Group {
+    // The first subgoals, so many, and the others.
+    fn cut(&self, count: usize) -> (Run, Run) {
+        let first = Run {
+            first: self.first,
+            count,
+        };
+        let others = Run {
+            first: self.first.saturating_add(count),
+            count: self.count.saturating_sub(count),
+        };
+        (first, others)
+    }
+}
+
 // A group of one subgoal, with their numbers.
 #[derive(Clone, Copy)]
 struct Open {
@@ -143,16 +165,7 @@ pub fn find_refutation(
     comparisons: &mut u32,
 ) -> Result<Refutation, HostFail> {
     let index = Index::of(alloc, problem)?;
-    let mut search = Search::new(alloc, problem, &index, *comparisons);
-    let start = search.deepened()?;
-    let moves = search.in_order(alloc, start)?;
-    let Search { bindings, .. } = search;
-    *comparisons = comparisons.saturating_sub(bindings.spent());
-    Ok(Refutation {
-        start,
-        moves,
-        bindings,
-    })
+    Search::new(alloc, problem, &index, *comparisons).refutation(alloc, comparisons)
 }
 
 // Whether each literal of a clause is denied: among those that cannot hold together there is such a clause.
@@ -177,6 +190,18 @@ impl<'a> Search<'a> {
             bindings: Bindings::new(alloc),
             first: None,
         }
+    }
+
+    // The refutation. What was compared is taken from the comparisons.
+    fn refutation(mut self, alloc: Global, comparisons: &mut u32) -> Result<Refutation, HostFail> {
+        let start = self.deepened()?;
+        let moves = self.in_order(alloc, start)?;
+        *comparisons = comparisons.saturating_sub(self.bindings.spent());
+        Ok(Refutation {
+            start,
+            moves,
+            bindings: self.bindings,
+        })
     }
 
     // The first clause of a refutation that has as few inferences as can be.
@@ -336,34 +361,31 @@ impl<'a> Search<'a> {
     // with less than the other, and whether this is the first or the second is a choice.
     fn halved(&mut self, number: usize, group: Group, untried: Untried) -> Result<bool, HostFail> {
         let room = group.limit.saturating_sub(self.subgoals.len());
-        let is_second = matches!(untried, Untried::Second);
-        if room >= ROOM && !is_second {
-            let choice = self.choice(number, Untried::Second);
-            self.choices.push(choice)?;
-        }
-        self.first = group.next;
-        let Group {
-            first,
-            count,
-            limit,
-            ..
-        } = group;
-        if room < ROOM {
-            self.add_group(first.saturating_add(1), count.saturating_sub(1), limit)?;
-            self.add_group(first, 1, limit)?;
-            return Ok(true);
-        }
-        let half = count / 2;
-        let second = first.saturating_add(half);
-        let others = count.saturating_sub(half);
         let less = self.subgoals.len().saturating_add(room / PARTS);
-        if is_second {
-            self.add_group(first, half, limit)?;
-            self.add_group(second, others, less)?;
-        } else {
-            self.add_group(second, others, limit)?;
-            self.add_group(first, half, less)?;
+        self.first = group.next;
+        if room < ROOM {
+            let (one, others) = group.cut(1);
+            return self.add_two(others, group.limit, one, group.limit);
         }
+        let (half, others) = group.cut(group.count / 2);
+        if matches!(untried, Untried::Second) {
+            return self.add_two(half, group.limit, others, less);
+        }
+        let choice = self.choice(number, Untried::Second);
+        self.choices.push(choice)?;
+        self.add_two(others, group.limit, half, less)
+    }
+
+    // Puts a group with its limit, and another one that is met before it.
+    fn add_two(
+        &mut self,
+        last: Run,
+        limit: usize,
+        first: Run,
+        first_limit: usize,
+    ) -> Result<bool, HostFail> {
+        self.add_group(last.first, last.count, limit)?;
+        self.add_group(first.first, first.count, first_limit)?;
         Ok(true)
     }
 
@@ -545,10 +567,7 @@ impl<'a> Search<'a> {
 
 // Whether the literal at a place is the used one, which stands behind the subgoal that was met by it.
 fn is_used(used: Option<(usize, usize)>, place: usize) -> bool {
-    match used {
-        Some((_, literal)) => literal == place,
-        None => false,
-    }
+    matches!(used, Some((_, literal)) if literal == place)
 }
 
 fn parent_of(used: Option<(usize, usize)>) -> Option<usize> {

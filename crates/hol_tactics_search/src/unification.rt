@@ -43,26 +43,9 @@ pub(crate) struct Mark {
     trail: usize,
 }
 
-// How two nodes stand to each other at their heads.
-#[derive(Clone, Copy)]
-enum Heads {
-    Agree,
-    Differ,
-    // The first one is a variable without a value; its place comes first.
-    Unset(usize, Instance, Instance),
-}
-
 // The place of a variable's value.
 fn place(base: usize, number: usize) -> usize {
     base.saturating_add(number)
-}
-
-// Whether a node is the variable at a place.
-fn is_variable_at(node: Node, base: usize, at: usize) -> bool {
-    match node {
-        Node::Variable(number) => place(base, number) == at,
-        _ => false,
-    }
 }
 
 impl Bindings {
@@ -167,18 +150,7 @@ impl Bindings {
         a: Instance,
         b: Instance,
     ) -> Result<bool, HostFail> {
-        self.pairs.clear();
-        self.pairs.push((a, b))?;
-        for _ in 0..PAIRS {
-            let Some((a, b)) = self.pairs.pop() else {
-                return Ok(true);
-            };
-            match self.compared(terms, a, b)? {
-                Heads::Agree => {}
-                Heads::Differ | Heads::Unset(_, _, _) => return Ok(false),
-            }
-        }
-        Ok(false)
+        self.meet(terms, a, b, false)
     }
 
     /// Makes two nodes equal by values for variables. Where it answers that they cannot be, or are too large, some may be set.
@@ -188,54 +160,55 @@ impl Bindings {
         a: Instance,
         b: Instance,
     ) -> Result<bool, HostFail> {
+        self.meet(terms, a, b, true)
+    }
+
+    // Whether two nodes are equal, by values that may be set for it or not.
+    fn meet(
+        &mut self,
+        terms: &Terms,
+        a: Instance,
+        b: Instance,
+        may_set: bool,
+    ) -> Result<bool, HostFail> {
         self.pairs.clear();
         self.pairs.push((a, b))?;
         for _ in 0..PAIRS {
             let Some((a, b)) = self.pairs.pop() else {
                 return Ok(true);
             };
-            match self.compared(terms, a, b)? {
-                Heads::Agree => {}
-                Heads::Differ => return Ok(false),
-                Heads::Unset(at, variable, term) => {
-                    if !self.bind(terms, at, variable, term)? {
-                        return Ok(false);
-                    }
-                }
+            if !self.meet_heads(terms, a, b, may_set)? {
+                return Ok(false);
             }
         }
         Ok(false)
     }
 
-    // Compares two nodes at their heads. The parts of two applications are left to be compared.
-    fn compared(&mut self, terms: &Terms, a: Instance, b: Instance) -> Result<Heads, HostFail> {
+    // The same of their heads. The parts of two applications are left to be compared.
+    fn meet_heads(
+        &mut self,
+        terms: &Terms,
+        a: Instance,
+        b: Instance,
+        may_set: bool,
+    ) -> Result<bool, HostFail> {
         self.spend();
         let a = self.resolved(terms, a);
         let b = self.resolved(terms, b);
-        let (left, right) = (terms.node(a.node), terms.node(b.node));
-        if let Node::Variable(number) = left {
-            let at = place(a.base, number);
-            if is_variable_at(right, b.base, at) {
-                return Ok(Heads::Agree);
+        match (terms.node(a.node), terms.node(b.node)) {
+            (Node::Variable(x), Node::Variable(y)) if place(a.base, x) == place(b.base, y) => {
+                Ok(true)
             }
-            return Ok(Heads::Unset(at, a, b));
-        }
-        if let Node::Variable(number) = right {
-            return Ok(Heads::Unset(place(b.base, number), b, a));
-        }
-        match (left, right) {
-            (Node::Symbol(x), Node::Symbol(y)) => {
-                if x == y {
-                    return Ok(Heads::Agree);
-                }
-                Ok(Heads::Differ)
-            }
+            (Node::Variable(_), _) | (_, Node::Variable(_)) if !may_set => Ok(false),
+            (Node::Variable(x), _) => self.bind(terms, place(a.base, x), a, b),
+            (_, Node::Variable(y)) => self.bind(terms, place(b.base, y), b, a),
+            (Node::Symbol(x), Node::Symbol(y)) => Ok(x == y),
             (Node::Apply(f, x), Node::Apply(g, y)) => {
                 self.pairs.push((a.part(x), b.part(y)))?;
                 self.pairs.push((a.part(f), b.part(g)))?;
-                Ok(Heads::Agree)
+                Ok(true)
             }
-            _ => Ok(Heads::Differ),
+            _ => Ok(false),
         }
     }
 
