@@ -2,7 +2,6 @@
 #![tactic(auto)]
 
 mod conversions;
-mod forms;
 mod refiners;
 
 use conversions::double_negation;

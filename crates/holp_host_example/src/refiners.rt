@@ -1,23 +1,23 @@
 // Refiners. Nothing is claimed of what they answer: it is tested before it is used.
 
-use crate::forms::{dest_implication, operands};
 use hol_host::HostFail;
-use hol_just::{Goal, Rule, Step, named, splice, step, sub};
+use hol_just::{Goal, Step, spliced_step};
 use hol_match::term_match;
 use hol_subst::vsubst;
+use hol_tactics_forms::{
+    Derivation, Formula, assume, conj, dest_formula, dest_imp, mp, named, spec, sub, to_none,
+    to_one, to_two,
+};
 use hol_terms::{Term, frees};
 use std::alloc::Global;
 
 /// From the last assumption `!x.. p ==> q` whose `q` is the goal at some terms for `x..`, the subgoal `p` at these terms
 /// (HOL Light's FIRST_ASSUM MATCH_MP_TAC). Else it fails.
 pub(crate) fn back(alloc: Global, goal: &Goal) -> Result<Step, HostFail> {
-    let count = goal.asms.len();
-    for i in 0..count {
-        if let Some(assumption) = goal.asms.get(count - 1 - i) {
-            match back_by(alloc, goal, assumption) {
-                Err(HostFail::Failed) => {}
-                answer => return answer,
-            }
+    for assumption in goal.asms.iter().rev() {
+        match back_by(alloc, goal, assumption) {
+            Err(HostFail::Failed) => {}
+            answer => return answer,
         }
     }
     Err(HostFail::Failed)
@@ -25,74 +25,88 @@ pub(crate) fn back(alloc: Global, goal: &Goal) -> Result<Step, HostFail> {
 
 // The same from this assumption.
 fn back_by(alloc: Global, goal: &Goal, assumption: &Term) -> Result<Step, HostFail> {
-    let Some(rule) = dest_implication(alloc, assumption)? else {
+    let Some((premise, result)) = dest_imp(body_of(assumption)) else {
         return Err(HostFail::Failed);
     };
     let fixed = frees(alloc, assumption)?;
-    let found = term_match(alloc, &fixed, &rule.result, &goal.concl)?;
-    if found.types.len() > 0 {
+    let found = term_match(alloc, &fixed, result, &goal.concl)?;
+    if !found.types.is_empty() {
         return Err(HostFail::Failed);
     }
-    let mut just = step(alloc, Rule::Assume(assumption.copy(alloc)?), &[])?;
-    for variable in &rule.bound {
-        let at = vsubst(alloc, &found.terms, variable)?;
-        just = step(alloc, Rule::Spec(at), &[just])?;
+    let premise = vsubst(alloc, &found.terms, premise)?;
+    let implies = specialized(alloc, assumption, &found.terms);
+    let just = mp(alloc, implies, sub(alloc, 0));
+    to_one(alloc, goal.with_concl(alloc, &premise), just)
+}
+
+// `p` of `!x.. p`.
+fn body_of(formula: &Term) -> &Term {
+    let mut body = formula;
+    for _ in 0..formula.height() {
+        let Formula::ForAll(_, inner) = dest_formula(body) else {
+            break;
+        };
+        body = inner;
     }
-    let just = step(alloc, Rule::Mp, &[just, sub(alloc, 0)?])?;
-    let premise = vsubst(alloc, &found.terms, &rule.premise)?;
-    let mut goals = Vec::new(alloc);
-    goals.push(goal.with_concl(alloc, &premise)?)?;
-    Ok(Step { goals, just })
+    body
+}
+
+// `p` at these terms for `x..`, of the assumption `!x.. p`.
+fn specialized(alloc: Global, assumption: &Term, terms: &[(Term, Term)]) -> Derivation {
+    let mut just = assume(alloc, assumption);
+    let mut body = assumption;
+    for _ in 0..assumption.height() {
+        let Formula::ForAll(variable, inner) = dest_formula(body) else {
+            break;
+        };
+        let value = vsubst(alloc, terms, variable)?;
+        just = spec(alloc, &value, just);
+        body = inner;
+    }
+    just
 }
 
 /// On `p1 /\ (p2 /\ ..)`, whatever the parentheses, a subgoal for each conjunct. It leaves another goal as it is.
 pub(crate) fn conjuncts(alloc: Global, goal: &Goal) -> Result<Step, HostFail> {
     let mut whole = unchanged(alloc, goal)?;
     for _ in 0..goal.concl.height() {
-        let mut parts = Vec::new(alloc);
-        let mut goals = Vec::new(alloc);
-        for open in &whole.goals {
-            let part = both(alloc, open)?;
-            for subgoal in &part.goals {
-                goals.push(subgoal.copy(alloc)?)?;
-            }
-            parts.push(part)?;
-        }
-        if goals.len() == whole.goals.len() {
+        let count = whole.goals.len();
+        whole = split(alloc, whole)?;
+        if whole.goals.len() == count {
             break;
         }
-        let just = splice(alloc, &whole.just, &parts)?;
-        whole = Step { goals, just };
     }
     Ok(whole)
 }
 
+// Each subgoal split by `both`.
+fn split(alloc: Global, whole: Step) -> Result<Step, HostFail> {
+    let mut parts = Vec::new(alloc);
+    for goal in &whole.goals {
+        parts.push(both(alloc, goal)?)?;
+    }
+    Ok(spliced_step(alloc, whole.just, parts)?)
+}
+
 /// No subgoals, and why: because `T` holds. That is a reason for the goal `T` alone.
 pub(crate) fn admit(alloc: Global, _goal: &Goal) -> Result<Step, HostFail> {
-    Ok(Step {
-        goals: Vec::new(alloc),
-        just: named(alloc, "TRUTH")?,
-    })
+    to_none(alloc, named(alloc, "TRUTH"))
 }
 
 // On `p /\ q` the subgoals `p` and `q`; else the goal.
 fn both(alloc: Global, goal: &Goal) -> Result<Step, HostFail> {
-    let Some((left, right)) = operands(&goal.concl, "/\\") else {
+    let Formula::And(left, right) = dest_formula(&goal.concl) else {
         return unchanged(alloc, goal);
     };
-    let mut goals = Vec::new(alloc);
-    goals.push(goal.with_concl(alloc, left)?)?;
-    goals.push(goal.with_concl(alloc, right)?)?;
-    let just = step(alloc, Rule::Conj, &[sub(alloc, 0)?, sub(alloc, 1)?])?;
-    Ok(Step { goals, just })
+    to_two(
+        alloc,
+        goal.with_concl(alloc, left),
+        goal.with_concl(alloc, right),
+        conj(alloc, sub(alloc, 0), sub(alloc, 1)),
+    )
 }
 
 // The step that leaves the goal.
 fn unchanged(alloc: Global, goal: &Goal) -> Result<Step, HostFail> {
-    let mut goals = Vec::new(alloc);
-    goals.push(goal.copy(alloc)?)?;
-    Ok(Step {
-        goals,
-        just: sub(alloc, 0)?,
-    })
+    to_one(alloc, goal.copy(alloc), sub(alloc, 0))
 }
