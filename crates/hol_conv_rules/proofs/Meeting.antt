@@ -1,7 +1,6 @@
 -- Equations that meet, and so fit.
 use Rattle.std.proofs.Common.{◌≡◌, [], inl, inr, refl, sym, ◌∙◌, subst, Result, Ok, Err, IfOk}
 use Rattle.hol_model.specs.declared.fault.Fault.{Fault}
-use Rattle.hol_model.specs.Terms.HolType.{HolType}
 use Rattle.hol_model.specs.Terms.NamedTerm.{NamedTerm, equation}
 use Rattle.hol_model.specs.Terms.Nameless.{Nameless, HasType, image}
 use Rattle.hol_model.specs.Logic.Theory.{Theory, IsLegal}
@@ -13,12 +12,10 @@ use Rattle.hol_laws_refiners.specs.Laws.{IsEquationOf}
 use Rattle.hol_laws_refiners.proofs.Equations.{equation-sides}
 use Rattle.hol_laws_refiners.proofs.FormulaParts.{equation-parts}
 use Rattle.hol_kernel.specs.Fits.{TransFits}
-use Rattle.hol_journal.specs.Journal.{Recorded}
 use Rattle.hol_journal.proofs.Showing.{refused-is, concluded-is}
 use Rattle.hol_equal.specs.Formulas.{IsFormula}
 use Rattle.hol_conv_rules.specs.Makes.{Joins, Meets, IsRightSide}
 use Rattle.hol_conv_rules.specs.declared.converted.Converted.{Converted}
-use Rattle.hol_conv_rules.specs.declared.converted.Converted.TheVariants.{Same, Changed}
 use Rattle.hol_conv_rules.specs.Converted.{same_theorem, theorem_of}
 use Rattle.hol_conv_rules.proofs.Same.{same-side, side-same}
 
