@@ -1,5 +1,6 @@
 // The grammar of commands, and how far a text keeps to it.
 use crate::known::push_name;
+use crate::messages::Message;
 use crate::no_memory::NoMemory;
 use crate::piece::Piece;
 use crate::tables::{front, line_of_pair};
@@ -344,12 +345,15 @@ pub fn is_before_theorem(word: &str) -> bool {
     behind("refiner", word) == Some("stored") || behind("conversion", word) == Some("theorem")
 }
 
-/// Where the conversion that begins at a place in the list ends.
-pub fn end_of_conversion(alloc: Global, piece: &Piece<'_>, from: usize) -> Result<usize, NoMemory> {
-    let reading = read(alloc, piece, from, "conversion")?;
-    Ok(if reading.missing.is_some() {
-        piece.words.len()
-    } else {
-        reading.at
-    })
+/// Where the conversion that begins at a place in the list ends. A message is told where there was no memory to read it.
+pub fn end_of_conversion(
+    alloc: Global,
+    piece: &Piece<'_>,
+    from: usize,
+    message: &mut Message,
+) -> usize {
+    match message.made(read(alloc, piece, from, "conversion")) {
+        Some(Reading { at, missing: None }) => at,
+        _ => piece.words.len(),
+    }
 }

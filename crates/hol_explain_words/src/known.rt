@@ -1,4 +1,5 @@
 // The names that are known where a command stands.
+use crate::messages::Message;
 use crate::no_memory::NoMemory;
 use crate::piece::{Piece, between};
 use crate::proof::Proof;
@@ -46,7 +47,7 @@ F bool
 const NAME_LENGTH: usize = 64;
 
 /// What a call that is told by its fault answers, where there is one, and that there was no memory.
-pub fn given<T: Drop>(answer: Result<T, Fault>) -> Result<Option<T>, NoMemory> {
+fn given<T: Drop>(answer: Result<T, Fault>) -> Result<Option<T>, NoMemory> {
     match answer {
         Ok(value) => Ok(Some(value)),
         Err(Fault::Memory) => Err(NoMemory),
@@ -260,30 +261,32 @@ fn reach(name: &str) -> usize {
     }
 }
 
-/// The first of the names that differ from a name in case alone, or of those that are nearest to it, where one is near.
-pub fn nearest<'a>(
+/// The first of the names that differ from a name in case alone, or of those that are nearest to it, where one is near. A message is
+/// told where there was no memory to look for it.
+pub(crate) fn nearest<'a>(
     alloc: Global,
     first: &'a [String],
     second: &'a [String],
     name: &str,
-) -> Result<Option<&'a str>, NoMemory> {
+    message: &mut Message,
+) -> Option<&'a str> {
     if name.len() > NAME_LENGTH {
-        return Ok(None);
+        return None;
     }
     let mut found = None;
     let mut least = reach(name).saturating_add(1);
     for known in first.iter().chain(second) {
         let candidate = known.as_str();
         if is_same_word(name, candidate) {
-            return Ok(Some(candidate));
+            return Some(candidate);
         }
         if candidate.len() <= NAME_LENGTH {
-            let distance = osa_distance(alloc, name, candidate)?;
+            let distance = message.made(osa_distance(alloc, name, candidate))?;
             if distance < least {
                 found = Some(candidate);
                 least = distance;
             }
         }
     }
-    Ok(found)
+    found
 }

@@ -16,8 +16,8 @@ mod tables;
 
 pub use grammar::{end_of_conversion, is_before_theorem, is_refiner};
 pub use habits::absent;
-pub use known::{Known, given, is_among};
-pub use messages::{Message, Unknown, push_unknown};
+pub use known::{Known, is_among};
+pub use messages::{Message, Unknown};
 pub use no_memory::NoMemory;
 pub use piece::{Piece, between, text_of};
 pub use proof::{Proof, count_of_goals, goes_on};

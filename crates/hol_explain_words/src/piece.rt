@@ -88,20 +88,4 @@ impl Piece<'_> {
     pub fn start(&self, at: usize) -> usize {
         self.word(at).start
     }
-
-    /// The places in the list of the words of a kind, from one place on.
-    pub fn places_of(
-        &self,
-        alloc: Global,
-        kind: Kind,
-        from: usize,
-    ) -> Result<Vec<usize>, NoMemory> {
-        let mut places = Vec::new(alloc);
-        for at in from..self.words.len() {
-            if self.kind(at) == kind {
-                places.push(at)?;
-            }
-        }
-        Ok(places)
-    }
 }

@@ -1,5 +1,5 @@
 // Where a text stops being a command.
-use crate::grammar::{also_at, expected, is_choice, is_command, push_words, read};
+use crate::grammar::{Reading, also_at, expected, is_choice, is_command, push_words, read};
 use crate::habits::{absent, is_ending, written_for};
 use crate::known::{Known, is_type_variable, nearest, push_name};
 use crate::messages::Message;
@@ -16,7 +16,7 @@ const OTHERWISE: &str =
 const ENDING: &str = "; the end of the input ends the session (Ctrl-D at a terminal)";
 
 // What stands at a place in the list, in three parts.
-fn found<'a>(piece: &'a Piece<'_>, at: usize) -> (&'static str, &'a str, &'static str) {
+fn found<'a>(piece: &'a Piece<'_>, at: usize) -> (&'a str, &'a str, &'a str) {
     match piece.kind(at) {
         Kind::End => ("the end of the ", piece.called, ""),
         Kind::Quote => ("a quoted text", "", ""),
@@ -27,17 +27,20 @@ fn found<'a>(piece: &'a Piece<'_>, at: usize) -> (&'static str, &'a str, &'stati
     }
 }
 
-// The words that may stand at a symbol.
-fn words_at(alloc: Global, known: &Known, symbol: &str) -> Result<Vec<String>, NoMemory> {
-    let mut words = Vec::new(alloc);
+// Puts the words that may stand at a symbol at the end.
+fn push_words_at(
+    alloc: Global,
+    known: &Known,
+    symbol: &str,
+    words: &mut Vec<String>,
+) -> Result<(), NoMemory> {
     if symbol == "type" {
         for name in &known.types {
-            push_name(alloc, &mut words, name.as_str())?;
+            push_name(alloc, words, name.as_str())?;
         }
     }
-    push_words(alloc, &mut words, symbol)?;
-    push_words(alloc, &mut words, also_at(symbol))?;
-    Ok(words)
+    push_words(alloc, words, symbol)?;
+    push_words(alloc, words, also_at(symbol))
 }
 
 // What is said of a word that does not stand at a symbol for a mistake.
@@ -65,11 +68,10 @@ fn is_called(piece: &Piece<'_>, at: usize) -> bool {
 }
 
 // What is said of a word of a command that stands there for a mistake about commands, in three parts.
-fn slip<'a>(
-    piece: &'a Piece<'_>,
-    at: usize,
-    symbol: &str,
-) -> Option<(&'static str, &'a str, &'static str)> {
+fn slip<'a>(piece: &'a Piece<'_>, at: usize, symbol: &str) -> Option<(&'a str, &'a str, &'a str)> {
+    if piece.is_quote {
+        return None;
+    }
     if symbol == "command" && is_ending(piece.text(at)) {
         return Some((ENDING, "", ""));
     }
@@ -91,88 +93,90 @@ fn written_at(symbol: &str, word: &str) -> Option<&'static str> {
     }
 }
 
-// What is better than the word at a place in the list, which stands at a symbol, in three parts.
-fn better<'a>(
+// Puts what is written in the place of a word at a symbol at the end, or the nearest of the words that may stand there.
+fn push_other_word(
     alloc: Global,
-    words: &'a [String],
-    piece: &'a Piece<'_>,
-    at: usize,
+    words: &[String],
     symbol: &str,
-) -> Result<(&'static str, &'a str, &'static str), NoMemory> {
-    if let Some(said) = remark(piece, at, symbol) {
-        return Ok((said, "", ""));
-    }
-    if !piece.is_quote {
-        if let Some(said) = slip(piece, at, symbol) {
-            return Ok(said);
-        }
-    }
-    let word = piece.text(at);
+    word: &str,
+    message: &mut Message,
+) {
     if let Some(written) = written_at(symbol, word) {
-        return Ok(("; in its place is written ", written, ""));
+        message.push_texts(&["; in its place is written ", written]);
+    } else if let Some(near) = nearest(alloc, words, &[], word, message) {
+        message.push_texts(&["; the nearest known word is `", near, "`"]);
     }
-    Ok(match nearest(alloc, words, &[], word)? {
-        Some(near) => ("; the nearest known word is `", near, "`"),
-        None => ("", "", ""),
-    })
 }
 
-// The words that may stand at a symbol, where a message lists them.
-fn list_of(alloc: Global, words: &[String], symbol: &str) -> Result<String, NoMemory> {
-    if !is_choice(symbol) {
-        return Ok(String::new(alloc));
-    }
-    let list = words.join(alloc, "`, `")?;
-    Ok(format!(in alloc; "; the words that could stand here are `{list}`")?)
-}
-
-// What is better than the word at a place in the list, which stands at a symbol, and what may stand there.
-fn advice(
+// Puts what is better at the end than the word at a place in the list, which stands at a symbol.
+fn push_better(
     alloc: Global,
-    known: &Known,
+    words: &[String],
     piece: &Piece<'_>,
     at: usize,
     symbol: &str,
-) -> Result<String, NoMemory> {
-    let words = words_at(alloc, known, symbol)?;
-    let list = list_of(alloc, &words, symbol)?;
-    let (lead, better, end) = better(alloc, &words, piece, at, symbol)?;
-    Ok(format!(in alloc; "{lead}{better}{end}{list}")?)
+    message: &mut Message,
+) {
+    if let Some(said) = remark(piece, at, symbol) {
+        message.push_str(said);
+    } else if let Some((lead, word, end)) = slip(piece, at, symbol) {
+        message.push_texts(&[lead, word, end]);
+    } else {
+        push_other_word(alloc, words, symbol, piece.text(at), message);
+    }
 }
 
-// What could stand at a place in the list, and what stands there.
+// Puts the words that may stand at a symbol at the end, where a message lists them.
+fn push_list(alloc: Global, words: &[String], symbol: &str, message: &mut Message) {
+    if is_choice(symbol) {
+        message.push_str("; the words that could stand here are `");
+        message.push_made(words.join(alloc, "`, `"));
+        message.push_str("`");
+    }
+}
+
+// Says what could stand at a place in the list, and what stands there.
 fn missing(
     alloc: Global,
     known: &Known,
     piece: &Piece<'_>,
     at: usize,
     symbol: &str,
-) -> Result<Message, NoMemory> {
-    let expected = expected(symbol);
+    message: &mut Message,
+) {
     let (lead, found, end) = found(piece, at);
-    let advice = advice(alloc, known, piece, at, symbol)?;
-    Ok(Message {
-        at: piece.start(at),
-        text: format!(in alloc; "expected {expected}, found {lead}{found}{end}{advice}")?,
-    })
+    message.at = piece.start(at);
+    message.push_texts(&["expected ", expected(symbol), ", found "]);
+    message.push_texts(&[lead, found, end]);
+    let mut words = Vec::new(alloc);
+    let _pushed = message.made(push_words_at(alloc, known, symbol, &mut words));
+    push_better(alloc, &words, piece, at, symbol, message);
+    push_list(alloc, &words, symbol, message);
 }
 
-// Where the quoted text at a place in the list stops being a term or a type.
+// Says where the quoted text at a place in the list stops being a term or a type, where it does.
 fn in_quote(
     alloc: Global,
     known: &Known,
     piece: &Piece<'_>,
     at: usize,
     symbol: &'static str,
-) -> Result<Option<Message>, NoMemory> {
-    let inside = Piece::of_quote(alloc, piece.quoted(at))?;
-    let reading = read(alloc, &inside, 0, symbol)?;
-    match reading.missing {
-        Some(symbol) => {
-            let message = missing(alloc, known, &inside, reading.at, symbol)?;
-            Ok(Some(message.in_quote_at(piece.start(at))))
+    message: &mut Message,
+) {
+    let Some(inside) = message.made(Piece::of_quote(alloc, piece.quoted(at))) else {
+        return;
+    };
+    match message.made(read(alloc, &inside, 0, symbol)) {
+        Some(
+            Reading {
+                at: stop,
+                missing: Some(symbol),
+            },
+        ) => {
+            missing(alloc, known, &inside, stop, symbol, message);
+            message.enter_quote(piece.start(at));
         }
-        None => Ok(None),
+        _ => {}
     }
 }
 
@@ -181,13 +185,8 @@ fn is_wrongly_replaced(piece: &Piece<'_>, at: usize) -> bool {
     piece.text(at.saturating_sub(1)) == "," && !is_type_variable(piece.quoted(at).trim_ascii())
 }
 
-// Where the first faulty quoted text among the first words, so many, stops being a term or a type.
-fn in_quotes(
-    alloc: Global,
-    known: &Known,
-    piece: &Piece<'_>,
-    count: usize,
-) -> Result<Option<Message>, NoMemory> {
+// Says where the first faulty quoted text among the first words, so many, stops being a term or a type.
+fn in_quotes(alloc: Global, known: &Known, piece: &Piece<'_>, count: usize, message: &mut Message) {
     let is_type = piece.text(3) == "INST_TYPE";
     let symbol = if is_type {
         "quoted_type"
@@ -195,28 +194,35 @@ fn in_quotes(
         "quoted_term"
     };
     for at in 0..count {
-        if piece.kind(at) != Kind::Quote {
-            continue;
-        }
-        if let Some(message) = in_quote(alloc, known, piece, at, symbol)? {
-            return Ok(Some(message));
-        }
-        if is_type && is_wrongly_replaced(piece, at) {
-            return Ok(Some(missing(alloc, known, piece, at, "type_variable")?));
+        if piece.kind(at) == Kind::Quote && message.is_empty() {
+            in_quote(alloc, known, piece, at, symbol, message);
+            if is_type && message.is_empty() && is_wrongly_replaced(piece, at) {
+                missing(alloc, known, piece, at, "type_variable", message);
+            }
         }
     }
-    Ok(None)
 }
 
-/// Where a text that is refused as no command stops being one, what could stand there, and what does.
-pub fn no_command(alloc: Global, known: &Known, piece: &Piece<'_>) -> Result<Message, NoMemory> {
-    let reading = read(alloc, piece, 0, "command")?;
-    let count = reading.at.min(piece.words.len());
-    if let Some(message) = in_quotes(alloc, known, piece, count)? {
-        return Ok(message);
+/// Says where a text that is refused as no command stops being one, what could stand there, and what does.
+pub fn no_command(alloc: Global, known: &Known, piece: &Piece<'_>, message: &mut Message) {
+    let Some(reading) = message.made(read(alloc, piece, 0, "command")) else {
+        return;
+    };
+    in_quotes(
+        alloc,
+        known,
+        piece,
+        reading.at.min(piece.words.len()),
+        message,
+    );
+    if !message.is_empty() {
+        return;
     }
     match reading.missing {
-        Some(symbol) => missing(alloc, known, piece, reading.at, symbol),
-        None => Message::new(alloc, piece.start(0), OTHERWISE),
+        Some(symbol) => missing(alloc, known, piece, reading.at, symbol, message),
+        None => {
+            message.at = piece.start(0);
+            message.push_str(OTHERWISE);
+        }
     }
 }
